@@ -2,6 +2,8 @@
 //! naively. Every line's readings and what was told are looked up in the whole log, and every
 //! moment of a run is tried in turn. See tests/moments.
 //!
+//! Some worked logs come first, with the verdict that each must have.
+//!
 //! `moments COUNT SEED`: the last line is 'N passed, M failed'.
 use dvg_moment::MomentJudge;
 use std::process::ExitCode;
@@ -125,13 +127,18 @@ impl Naive<'_> {
     /// The line that began the run which is open after so many lines.
     fn open_run(&self, lines: usize) -> Option<usize> {
         let ends = |line: &Line| matches!(line, Done(..) | Ended | Reset);
-        let last = self.log[..lines].iter().rposition(|line| *line == Started || ends(line))?;
+        let last = self.log[..lines]
+            .iter()
+            .rposition(|line| *line == Started || ends(line))?;
         (self.log[last] == Started).then_some(last)
     }
 
     /// Whether some of these lines reads this byte.
     fn is_read(&self, from: usize, to: usize, address: usize) -> bool {
-        self.reads[from..to].iter().flatten().any(|read| read.0 == address)
+        self.reads[from..to]
+            .iter()
+            .flatten()
+            .any(|read| read.0 == address)
     }
 
     /// Whether the moment after `moment` lines is one of the run that line `start` began, up to
@@ -142,9 +149,9 @@ impl Naive<'_> {
             self.changed[line].is_none_or(|address| !self.is_read(start, line, address))
         });
         let reads_then = (moment..lines).all(|line| {
-            self.reads[line].iter().all(|(address, _)| {
-                !self.changed[moment..line].contains(&Some(*address))
-            })
+            self.reads[line]
+                .iter()
+                .all(|(address, _)| !self.changed[moment..line].contains(&Some(*address)))
         });
         stands && reads_then
     }
@@ -232,6 +239,190 @@ fn read(chance: &mut Chance, system: &System, memory: &[u8], word: usize, log: &
     }
 }
 
+/// A worked log: what it shows, its lines, whether the run of its last line is torn, and whether
+/// that line contradicts.
+struct Worked(&'static str, &'static [Line], bool, bool);
+
+/// Words 1 and 2 are a display list in one buffer, at bytes 2 to 5.
+const WORKED: [Worked; 16] = [
+    Worked(
+        "both words change between their readings",
+        &[
+            Started,
+            Fetched(1, 0x0101),
+            Wrote(2, 5),
+            Wrote(4, 7),
+            Done(2, 0x0107),
+        ],
+        true,
+        false,
+    ),
+    Worked(
+        "all is written ahead of the reading",
+        &[
+            Started,
+            Wrote(2, 5),
+            Wrote(4, 7),
+            Fetched(1, 0x0105),
+            Done(2, 0x0107),
+        ],
+        false,
+        false,
+    ),
+    Worked(
+        "all is written after its reading",
+        &[Started, Fetched(1, 0x0101), Wrote(2, 5), Done(2, 0x0101)],
+        false,
+        false,
+    ),
+    Worked(
+        "one word is written ahead, while the other stands",
+        &[Started, Fetched(1, 0x0101), Wrote(4, 7), Done(2, 0x0107)],
+        false,
+        false,
+    ),
+    Worked(
+        "a word is read twice, and changes between",
+        &[Started, Fetched(1, 0x0101), Wrote(2, 5), Done(1, 0x0105)],
+        true,
+        false,
+    ),
+    Worked(
+        "what was told is written again",
+        &[Started, Fetched(1, 0x0101), Wrote(2, 1), Done(1, 0x0101)],
+        false,
+        false,
+    ),
+    Worked(
+        "a byte comes back to what it was, which is two changes",
+        &[
+            Started,
+            Fetched(1, 0x0101),
+            Wrote(2, 5),
+            Wrote(2, 1),
+            Done(1, 0x0101),
+        ],
+        true,
+        false,
+    ),
+    Worked(
+        "a byte of which nothing was told is written, maybe as it was: called torn",
+        &[
+            Started,
+            Fetched(1, 0x0101),
+            Wrote(2, 5),
+            Wrote(4, 1),
+            Done(2, 0x0101),
+        ],
+        true,
+        false,
+    ),
+    Worked(
+        "the same, where it was told: a run has read it before",
+        &[
+            Started,
+            Fetched(2, 0x0101),
+            Ended,
+            Started,
+            Fetched(1, 0x0101),
+            Wrote(2, 5),
+            Wrote(4, 1),
+            Done(2, 0x0101),
+        ],
+        false,
+        false,
+    ),
+    Worked(
+        "the same, but what was told is void since a reset",
+        &[
+            Started,
+            Fetched(2, 0x0101),
+            Reset,
+            Started,
+            Fetched(1, 0x0101),
+            Wrote(2, 5),
+            Wrote(4, 1),
+            Done(2, 0x0101),
+        ],
+        true,
+        false,
+    ),
+    Worked(
+        "the high byte is written, then the low one, between their readings: both stood there",
+        &[
+            Started,
+            Low(1, 1),
+            Wrote(3, 5),
+            Wrote(2, 5),
+            Done(1, 0x0501),
+        ],
+        false,
+        false,
+    ),
+    Worked(
+        "the low byte is written, then the high one, between their readings: they never did",
+        &[
+            Started,
+            Low(1, 1),
+            Wrote(2, 5),
+            Wrote(3, 5),
+            Done(1, 0x0501),
+        ],
+        true,
+        false,
+    ),
+    Worked(
+        "what is written outside the RAM changes nothing",
+        &[
+            Started,
+            Fetched(1, 0x0101),
+            Wrote(2, 5),
+            Wrote(0x800, 7),
+            Done(0x400, 0x0107),
+        ],
+        false,
+        false,
+    ),
+    Worked(
+        "a HALT of which no word is told: the log before it is judged",
+        &[
+            Started,
+            Fetched(1, 0x0101),
+            Wrote(2, 5),
+            Wrote(4, 7),
+            Fetched(2, 0x0107),
+            Ended,
+        ],
+        true,
+        false,
+    ),
+    Worked(
+        "what was read can't be what was written",
+        &[Started, Wrote(2, 5), Done(1, 0x0101)],
+        false,
+        true,
+    ),
+    Worked(
+        "what is read tells, too",
+        &[Started, Fetched(1, 0x0101), Done(1, 0x0102)],
+        false,
+        true,
+    ),
+];
+
+/// What is wrong with a worked log's verdict, or with the definition's.
+fn misjudged(Worked(_, log, torn, contradicts): &Worked) -> Option<String> {
+    let mut judge = MomentJudge::new();
+    let mut last = (false, None);
+    for line in *log {
+        last = tell(&mut judge, *line);
+    }
+    if last != (*contradicts, Some(*torn)) {
+        return Some(format!("contradicts {}, torn {:?}", last.0, last.1));
+    }
+    agree(log, &mut Seen::default()).err()
+}
+
 /// What was seen.
 #[derive(Default)]
 struct Seen {
@@ -277,9 +468,13 @@ fn agree(log: &[Line], seen: &mut Seen) -> Result<(), String> {
     for (at, line) in log.iter().enumerate() {
         let (contradicts, torn) = tell(&mut judge, *line);
         let lines = if *line == Ended { at } else { at + 1 };
-        let wanted = naive.open_run(at).is_some_and(|start| naive.is_torn(start, lines));
+        let wanted = naive
+            .open_run(at)
+            .is_some_and(|start| naive.is_torn(start, lines));
         if torn.is_some_and(|torn| torn != wanted) {
-            return Err(format!("line {at}: torn {torn:?}, and {wanted} by the definition"));
+            return Err(format!(
+                "line {at}: torn {torn:?}, and {wanted} by the definition"
+            ));
         }
         if contradicts != naive.contradicts(at) {
             return Err(format!("line {at}: contradicts {contradicts}"));
@@ -289,7 +484,9 @@ fn agree(log: &[Line], seen: &mut Seen) -> Result<(), String> {
         seen.torn += u64::from(torn == Some(true));
         seen.contradictions += u64::from(contradicts);
     }
-    let wanted = naive.open_run(log.len()).is_some_and(|start| naive.is_torn(start, log.len()));
+    let wanted = naive
+        .open_run(log.len())
+        .is_some_and(|start| naive.is_torn(start, log.len()));
     if judge.is_torn() != wanted {
         return Err(format!("the end: torn {}", judge.is_torn()));
     }
@@ -297,13 +494,22 @@ fn agree(log: &[Line], seen: &mut Seen) -> Result<(), String> {
 }
 
 fn main() -> ExitCode {
-    let words: Vec<u64> = std::env::args().skip(1).filter_map(|word| word.parse().ok()).collect();
+    let words: Vec<u64> = std::env::args()
+        .skip(1)
+        .filter_map(|word| word.parse().ok())
+        .collect();
     let [count, seed] = words[..] else {
         eprintln!("usage: moments COUNT SEED");
         return ExitCode::from(64);
     };
     let mut seen = Seen::default();
     let mut failed = 0;
+    for worked in &WORKED {
+        if let Some(why) = misjudged(worked) {
+            failed += 1;
+            println!("FAILED: {}: {why}", worked.0);
+        }
+    }
     for number in 0..count {
         let mut chance = Chance(0x9E37_79B9_7F4A_7C15 ^ (seed + number + 1));
         for _ in 0..8 {
@@ -317,12 +523,18 @@ fn main() -> ExitCode {
             }
         }
     }
-    let Seen { lines, halted, torn, contradictions } = seen;
+    let Seen {
+        lines,
+        halted,
+        torn,
+        contradictions,
+    } = seen;
     println!("{lines} lines, {halted} runs ended, {torn} torn, {contradictions} contradictions");
     if count >= 1000 && (torn == 0 || torn == halted || contradictions == 0) {
         failed += 1;
         println!("FAILED: these logs show too little");
     }
-    println!("{} passed, {failed} failed", count.saturating_sub(failed));
+    let all = count + WORKED.len() as u64;
+    println!("{} passed, {failed} failed", all.saturating_sub(failed));
     ExitCode::from(u8::from(failed > 0))
 }

@@ -1,5 +1,5 @@
 -- When a reading contradicts what was told.
-use Rattle.std.proofs.Common.{◌≡◌, ◌≢◌, ℕ, zero, suc, ◌+◌, ◌*◌, ◌/◌, ◌%◌, ◌<◌, ◌≤◌, ◌⊎◌, inl, inr, List, [], ◌∷◌, length, refl, sym, ◌∙◌, ap, subst, Option, Some, None, Bool, true, false, get_or, arith}
+use Rattle.std.proofs.Common.{◌≡◌, ◌≢◌, ℕ, ◌+◌, ◌*◌, ◌/◌, ◌%◌, ◌<◌, ◌⊎◌, inl, inr, refl, sym, ◌∙◌, ap, Some, None, Bool, true, false, get_or, arith}
 use Rattle.std.specs.Prelude.{◌==◌, ◌&&◌, if◌then◌else◌, not, IsTrue, ◌↔◌}
 use Rattle.std.proofs.lemmas.Bool.{cases_lt}
 use Rattle.std.proofs.lemmas.Bool.Decides.{eqb_tells}
@@ -8,8 +8,8 @@ use Rattle.std.proofs.lemmas.Option.{none-some, same_Some}
 use Rattle.dvg_log.specs.declared.entry.Entry.TheVariants.{Low}
 use Rattle.dvg_log.specs.Log.{Log, waiting}
 use Rattle.dvg_moment.specs.declared.judge.MomentJudge.{MomentJudge}
-use Rattle.dvg_moment.specs.Moment.{waits, word_reads, reads, told}
-use Rattle.dvg_moment.specs.Judging.{StandsAfter, Contradicts}
+use Rattle.dvg_moment.specs.Moment.{waits, word_reads, reads, told, Contradicts}
+use Rattle.dvg_moment.specs.Judging.{StandsAfter}
 use Rattle.dvg_moment.specs.own.Steps.{is_some_of}
 use Rattle.dvg_moment.proofs.Standing.{low_waits}
 use Rattle.dvg_moment.proofs.Reading.{equal, low_reads, low_at, some_read, high_reads}

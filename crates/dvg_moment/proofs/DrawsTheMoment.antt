@@ -16,11 +16,11 @@ use Rattle.dvg_gen.specs.Told.{Told, Fed, Newest, Leaves, starts, takes, Drew, r
 use Rattle.dvg_gen.proofs.Standing.{open_goes}
 use Rattle.dvg_gen.proofs.Same.{leaves_same}
 use Rattle.dvg_gen.proofs.Replies.{drew_finished, wants_open}
-use Rattle.dvg_driver.specs.declared.action.Action.TheVariants.{Peek, Wrote, Read, Sent, Idle}
+use Rattle.dvg_driver.specs.declared.action.Action.TheVariants.{Wrote}
 use Rattle.dvg_log.specs.Events.{Happening}
-use Rattle.dvg_log.specs.declared.event.Event.TheVariants.{Offer, Redraw, Tick, Strobe, Fetch, ResetGen, ResetCpu, ResetAll}
+use Rattle.dvg_log.specs.declared.event.Event.TheVariants.{Tick, Strobe, Fetch, ResetGen, ResetAll}
 use Rattle.dvg_log.specs.Entries.{Shown}
-use Rattle.dvg_log.specs.declared.entry.Entry.TheVariants.{Offered, Refused, Busy, Asked, NothingPublished, Acted, Started, NoStrobe, Low, Fetched, Done, Broke, Still, Cleared}
+use Rattle.dvg_log.specs.declared.entry.Entry.TheVariants.{Acted, Started, Low, Fetched, Done, Broke, Cleared}
 use Rattle.dvg_log.specs.Log.{Line, ◌⟼◌, Log, Throughout, ram, waiting, low_byte, meets, history, open_run}
 use Rattle.dvg_log.specs.Legal.{IsWanted, IsFetch, Fits}
 use Rattle.dvg_theorem.specs.Law.{Finishes}

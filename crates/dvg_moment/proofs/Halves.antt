@@ -1,5 +1,5 @@
 -- In which half, or where else, the runs of legal logs read, and where is written meanwhile.
-use Rattle.std.proofs.Common.{◌≡◌, ◌≢◌, ℕ, suc, ◌+◌, ◌/◌, ◌≤◌, ◌<◌, ◌⊎◌, inl, inr, List, [], ◌∷◌, length, refl, sym, ◌∙◌, ap, subst, Some, Bool, true, false, nat_le, nat_lt, nat_eq, arith}
+use Rattle.std.proofs.Common.{◌≡◌, ◌≢◌, ℕ, suc, ◌+◌, ◌/◌, ◌≤◌, ◌⊎◌, inl, inr, List, [], ◌∷◌, length, refl, sym, ◌∙◌, ap, subst, Some, Bool, true, false, nat_le, nat_lt, nat_eq, arith}
 use Rattle.std.proofs.lemmas.Option.{none-some, same_Some}
 use Rattle.std.proofs.lemmas.Bool.{leb-true}
 use Rattle.dvg_mem.specs.declared.half.Half.{Half}
@@ -18,7 +18,7 @@ use Rattle.dvg_log.specs.declared.entry.Entry.TheVariants.{Acted}
 use Rattle.dvg_log.specs.Log.{◌⟼◌, Log, history, open_run, life, free_half, before_flip}
 use Rattle.dvg_log.specs.Legal.{IsWanted, IsLegal}
 use Rattle.dvg_theorem.proofs.Bytes.{byte}
-use Rattle.dvg_theorem.proofs.Drawing.{LeadsTo, drawing, leads_same, in_ram}
+use Rattle.dvg_theorem.proofs.Drawing.{LeadsTo, drawing, leads_same}
 use Rattle.dvg_theorem.proofs.Headline.{never_torn}
 use Rattle.dvg_theorem.proofs.Kept.{KeptBy, HasFlipped, kept, same_place, first_at}
 use Rattle.dvg_theorem.proofs.Later.{memory_is, shows}

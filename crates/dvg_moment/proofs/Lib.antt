@@ -11,3 +11,4 @@ pub mod Latest
 pub mod Steps
 pub mod Standing
 pub mod Contradicting
+pub mod Torn

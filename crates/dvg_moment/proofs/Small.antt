@@ -1,6 +1,6 @@
 -- What is written in legal logs is bytes, so each of them is played.
-use Rattle.std.proofs.Common.{◌≡◌, ℕ, suc, ◌+◌, ◌*◌, ◌/◌, ◌%◌, ◌<◌, ◌≤◌, List, [], ◌∷◌, ◌++◌, refl, sym, ◌∙◌, subst, Option, Some, None, Bool, true, false, arith}
-use Rattle.std.specs.Prelude.{if◌then◌else◌, ℤ, pos, negsuc, flat_map}
+use Rattle.std.proofs.Common.{◌≡◌, ℕ, suc, ◌*◌, ◌<◌, ◌≤◌, List, [], ◌∷◌, ◌++◌, subst, Some, Bool, true, false, arith}
+use Rattle.std.specs.Prelude.{ℤ, pos, negsuc, flat_map}
 use Rattle.std.specs.List.{AllByRecursion}
 use Rattle.std.proofs.lemmas.List.Elements.{recursion_from_All}
 use Rattle.std.proofs.lemmas.Option.{none-some, same_Some}
@@ -26,8 +26,8 @@ use Rattle.dvg_driver.proofs.Places.{life_place, place_before}
 use Rattle.dvg_log.specs.Events.{Happening}
 use Rattle.dvg_log.specs.declared.event.Event.TheVariants.{Offer, Redraw, Tick, Strobe, Fetch, ResetGen, ResetCpu, ResetAll}
 use Rattle.dvg_log.specs.Entries.{Shown}
-use Rattle.dvg_log.specs.declared.entry.Entry.TheVariants.{Offered, Refused, Busy, Asked, NothingPublished, Acted, Started, NoStrobe, Low, Fetched, Done, Broke, Still, Cleared}
-use Rattle.dvg_log.specs.Log.{◌⟼◌, Log, Throughout, life, free_half}
+use Rattle.dvg_log.specs.declared.entry.Entry.TheVariants.{Offered, Refused, Busy, Asked, NothingPublished, Acted, Started, NoStrobe, Cleared}
+use Rattle.dvg_log.specs.Log.{◌⟼◌, Log, life, free_half}
 use Rattle.dvg_log.specs.Legal.{Always, IsLegal}
 use Rattle.dvg_theorem.proofs.Local.{at_size}
 use Rattle.dvg_theorem.proofs.Writes.{written}

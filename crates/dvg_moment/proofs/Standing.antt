@@ -1,8 +1,8 @@
 -- A judge that was told one more line stands after it.
 use Rattle.std.proofs.Common.{◌≡◌, ◌≢◌, ℕ, ◌+◌, ◌*◌, ◌/◌, ◌%◌, ◌<◌, ◌≤◌, ◌⊎◌, inl, inr, List, [], ◌∷◌, ◌++◌, length, refl, sym, ◌∙◌, ap, subst, Option, Some, None, Bool, true, false, get_or, replicate, arith}
-use Rattle.std.specs.Prelude.{◌==◌, ◌&&◌, if◌then◌else◌, not, IsTrue, ◌↔◌, option_map, slice_set}
+use Rattle.std.specs.Prelude.{◌==◌, ◌&&◌, if◌then◌else◌, IsTrue, ◌↔◌, option_map, slice_set}
 use Rattle.std.specs.Option.{option_or}
-use Rattle.std.proofs.lemmas.Bool.{cases_lt, false≢true, true≢false}
+use Rattle.std.proofs.lemmas.Bool.{false≢true, true≢false}
 use Rattle.std.proofs.lemmas.Bool.Decides.{eqb_tells}
 use Rattle.std.proofs.lemmas.List.{length-set, get_or-replicate, length-replicate}
 use Rattle.std.proofs.lemmas.Option.{none-some, same_Some}
@@ -16,7 +16,7 @@ use Rattle.dvg_log.specs.Log.{Line, ◌⟼◌, Log, waiting, open_run}
 use Rattle.dvg_moment.specs.declared.judge.Phase.{Phase}
 use Rattle.dvg_moment.specs.declared.judge.Phase.TheVariants.{Closed, Whole, Past, Torn}
 use Rattle.dvg_moment.specs.declared.judge.MomentJudge.{MomentJudge}
-use Rattle.dvg_moment.specs.Moment.{waits, word_reads, told, reads, Changes, HasRead, HasChanged, StillStands, OfOneMoment, IsOfOneMoment}
+use Rattle.dvg_moment.specs.Moment.{waits, word_reads, told, reads, Changes, HasRead, StillStands, OfOneMoment, IsOfOneMoment}
 use Rattle.dvg_moment.specs.Judging.{is_marked, IsPast, IsTorn, StandsSo, StandsAfter}
 use Rattle.dvg_moment.specs.own.Steps.{is_some_of, phase_after, after_read, after_word, after_change, after_told, after_write, after_end}
 use Rattle.dvg_moment.proofs.Latest.{whole_on, moment_before, is_latest, past_on, torn_on, still_of_one}

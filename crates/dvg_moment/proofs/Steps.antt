@@ -1,25 +1,23 @@
 -- How a judge's steps keep up with a log.
-use Rattle.std.proofs.Common.{◌≡◌, ◌≢◌, ℕ, ◌+◌, ◌*◌, ◌/◌, ◌%◌, ◌<◌, ◌≤◌, ◌⊎◌, inl, inr, List, [], ◌∷◌, ◌++◌, length, refl, sym, ◌∙◌, ap, subst, Option, Some, None, Bool, true, false, nat_lt, get_or, replicate, arith}
-use Rattle.std.specs.Prelude.{◌==◌, ◌&&◌, ◌||◌, if◌then◌else◌, not, IsTrue, ◌↔◌, option_map, slice_set, slice_index_or}
+use Rattle.std.proofs.Common.{◌≡◌, ◌≢◌, ℕ, ◌<◌, ◌⊎◌, inl, inr, List, [], ◌∷◌, ◌++◌, length, refl, sym, ◌∙◌, ap, subst, Option, Some, None, Bool, true, false, nat_lt, get_or, arith}
+use Rattle.std.specs.Prelude.{◌==◌, ◌||◌, if◌then◌else◌, IsTrue, ◌↔◌, slice_set}
 use Rattle.std.specs.Option.{option_or}
 use Rattle.std.proofs.lemmas.Bool.{cases_lt, lt-ltb, le-ltb, false≢true, true≢false}
 use Rattle.std.proofs.lemmas.Bool.Decides.{eqb_tells}
-use Rattle.std.proofs.lemmas.List.{length-set, get_or-set_same, get_or-set_other, get_or-replicate, length-replicate}
-use Rattle.std.proofs.lemmas.Option.{none-some, same_Some}
-use Rattle.dvg_gen.specs.declared.stroke.Stroke.{Stroke}
+use Rattle.std.proofs.lemmas.List.{length-set, get_or-set_same, get_or-set_other}
+use Rattle.std.proofs.lemmas.Option.{none-some}
 use Rattle.dvg_driver.specs.declared.action.Action.TheVariants.{Wrote}
 use Rattle.dvg_log.specs.Events.{Happening}
-use Rattle.dvg_log.specs.declared.event.Event.TheVariants.{Tick, Strobe, Fetch, ResetGen, ResetAll}
 use Rattle.dvg_log.specs.Entries.{Shown}
-use Rattle.dvg_log.specs.declared.entry.Entry.TheVariants.{Acted, Started, Low, Fetched, Done}
-use Rattle.dvg_log.specs.Log.{Line, ◌⟼◌, Log, waiting, open_run}
+use Rattle.dvg_log.specs.declared.entry.Entry.TheVariants.{Acted, Started}
+use Rattle.dvg_log.specs.Log.{◌⟼◌, Log}
 use Rattle.dvg_moment.specs.declared.judge.Phase.{Phase}
 use Rattle.dvg_moment.specs.declared.judge.Phase.TheVariants.{Closed, Whole, Past, Torn}
 use Rattle.dvg_moment.specs.declared.judge.MomentJudge.{MomentJudge}
-use Rattle.dvg_moment.specs.Moment.{told, reads, Changes, HasRead, HasChanged, StillStands, IsMoment, OfOneMoment}
-use Rattle.dvg_moment.specs.Judging.{is_marked, IsPast, StandsSo}
+use Rattle.dvg_moment.specs.Moment.{told, reads, Changes, HasChanged}
+use Rattle.dvg_moment.specs.Judging.{is_marked, StandsSo}
 use Rattle.dvg_moment.specs.own.Steps.{phase_after, after_read}
-use Rattle.dvg_moment.proofs.Latest.{whole_on, moment_before, is_latest, past_on, past_torn, torn_on}
+use Rattle.dvg_moment.proofs.Latest.{whole_on, past_on, past_torn, torn_on}
 
 abbrev pub IsSized : MomentJudge → Type 0
 IsSized judge = (length judge.told ≡ 0x800) × (length judge.read ≡ 0x800) × (length judge.changed ≡ 0x800)

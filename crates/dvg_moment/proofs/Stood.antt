@@ -1,5 +1,5 @@
 -- Each word that a run of a legal log fetched stands in memory at the moment at which word zero is fetched.
-use Rattle.std.proofs.Common.{◌≡◌, ℕ, ◌+◌, ◌*◌, ◌/◌, ◌≤◌, ◌⊎◌, inl, inr, List, [], ◌∷◌, ◌++◌, refl, sym, ◌∙◌, ap, subst, Some, arith}
+use Rattle.std.proofs.Common.{◌≡◌, ℕ, ◌+◌, ◌*◌, ◌/◌, ◌≤◌, ◌⊎◌, inl, inr, List, [], ◌∷◌, refl, sym, ◌∙◌, ap, subst, Some, arith}
 use Rattle.std.specs.Prelude.{slice_index}
 use Rattle.std.specs.List.{AllByRecursion}
 use Rattle.std.proofs.lemmas.Bool.{le-ltb}
@@ -8,11 +8,10 @@ use Rattle.dvg_mem.specs.declared.half.Half.{Half}
 use Rattle.dvg_mem.specs.Areas.{IsInHalf}
 use Rattle.dvg_mem.specs.Memory.{IsImage, fetched}
 use Rattle.dvg_gen.specs.declared.stroke.Stroke.{Stroke}
-use Rattle.dvg_driver.specs.declared.action.Action.TheVariants.{Peek, Wrote, Read, Sent, Idle}
 use Rattle.dvg_log.specs.Events.{Happening}
-use Rattle.dvg_log.specs.declared.event.Event.TheVariants.{Offer, Redraw, Tick, Strobe, Fetch, ResetGen, ResetCpu, ResetAll}
+use Rattle.dvg_log.specs.declared.event.Event.TheVariants.{Fetch, ResetGen, ResetAll}
 use Rattle.dvg_log.specs.Entries.{Shown}
-use Rattle.dvg_log.specs.declared.entry.Entry.TheVariants.{Offered, Refused, Busy, Asked, NothingPublished, Acted, Started, NoStrobe, Low, Fetched, Done, Broke, Still, Cleared}
+use Rattle.dvg_log.specs.declared.entry.Entry.TheVariants.{Started, Fetched, Done, Broke}
 use Rattle.dvg_log.specs.Log.{Line, ◌⟼◌, Log, Throughout, ram, history, open_run, at_zero}
 use Rattle.dvg_log.specs.Legal.{Always, IsWanted, IsLegal}
 use Rattle.dvg_theorem.proofs.Bytes.{byte}

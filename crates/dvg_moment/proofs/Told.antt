@@ -7,13 +7,13 @@ use Rattle.std.proofs.lemmas.Bool.Decides.{eqb_tells}
 use Rattle.dvg_mem.specs.Memory.{fetched_byte}
 use Rattle.dvg_frame.specs.declared.op.OpKind.{OpKind}
 use Rattle.dvg_frame.specs.Steps.{Closed}
-use Rattle.dvg_driver.specs.declared.action.Action.TheVariants.{Peek, Wrote, Read, Sent, Idle}
+use Rattle.dvg_driver.specs.declared.action.Action.TheVariants.{Wrote}
 use Rattle.dvg_driver.specs.Script
 use Rattle.dvg_driver.specs.Script.{Did, IsWhole, frame_writes}
 use Rattle.dvg_driver.specs.Place.{Place, Start, Resting, Writing, next_place, place_of_life}
 use Rattle.dvg_driver.proofs.Places.{whole_rests, life_place, place_before}
-use Rattle.dvg_log.specs.declared.event.Event.TheVariants.{Offer, Redraw, Tick, Strobe, Fetch, ResetGen, ResetCpu, ResetAll}
-use Rattle.dvg_log.specs.declared.entry.Entry.TheVariants.{Offered, Refused, Busy, Asked, NothingPublished, Acted, Started, NoStrobe, Low, Fetched, Done, Broke, Still, Cleared}
+use Rattle.dvg_log.specs.declared.event.Event.TheVariants.{Offer, Redraw, Tick, Fetch, ResetCpu, ResetAll}
+use Rattle.dvg_log.specs.declared.entry.Entry.TheVariants.{Offered, Asked, Acted, Low, Fetched, Done, Cleared}
 use Rattle.dvg_log.specs.Log.{◌⟼◌, Log, ram, waiting, low_byte, life, free_half, before_flip}
 use Rattle.dvg_log.specs.Legal.{IsLegal}
 use Rattle.dvg_theorem.proofs.Bytes.{byte, low_met}

@@ -1,5 +1,5 @@
 -- What a log tells of the RAM is true, whoever drives.
-use Rattle.std.proofs.Common.{◌≡◌, ℕ, zero, suc, ◌+◌, ◌*◌, ◌/◌, ◌%◌, ◌<◌, inl, inr, List, [], ◌∷◌, ◌++◌, length, refl, sym, ◌∙◌, ap, subst, Option, Some, None, Bool, true, false, arith}
+use Rattle.std.proofs.Common.{◌≡◌, ℕ, ◌+◌, ◌*◌, ◌/◌, ◌%◌, ◌<◌, inl, inr, List, [], ◌∷◌, ◌++◌, length, refl, sym, ◌∙◌, ap, subst, Option, Some, None, Bool, true, false, arith}
 use Rattle.std.specs.Prelude.{◌==◌, ◌&&◌, if◌then◌else◌, option_map, is_some, slice_index, slice_set}
 use Rattle.std.specs.Option.{option_or}
 use Rattle.std.proofs.lemmas.Bool.{lt-ltb}
@@ -8,17 +8,17 @@ use Rattle.std.proofs.lemmas.Bool.Decides.{eqb_tells}
 use Rattle.dvg_code.specs.Words.{word_in}
 use Rattle.dvg_mem.specs.Memory.{IsImage, fetched, fetched_byte}
 use Rattle.dvg_gen.specs.Bytes.{Whole, met, word_of}
-use Rattle.dvg_driver.specs.declared.action.Action.TheVariants.{Peek, Wrote, Read, Sent, Idle}
+use Rattle.dvg_driver.specs.declared.action.Action.TheVariants.{Wrote}
 use Rattle.dvg_log.specs.Events.{Happening}
-use Rattle.dvg_log.specs.declared.event.Event.TheVariants.{Offer, Redraw, Tick, Strobe, Fetch, ResetGen, ResetCpu, ResetAll}
+use Rattle.dvg_log.specs.declared.event.Event.TheVariants.{Tick, Fetch, ResetGen, ResetAll}
 use Rattle.dvg_log.specs.Entries.{Shown}
-use Rattle.dvg_log.specs.declared.entry.Entry.TheVariants.{Offered, Refused, Busy, Asked, NothingPublished, Acted, Started, NoStrobe, Low, Fetched, Done, Broke, Still, Cleared}
+use Rattle.dvg_log.specs.declared.entry.Entry.TheVariants.{Acted, Started, Low, Fetched, Done, Broke}
 use Rattle.dvg_log.specs.Log.{◌⟼◌, Log, Throughout, ram, waiting, low_byte, meets, history}
 use Rattle.dvg_log.specs.Legal.{IsWanted}
 use Rattle.dvg_theorem.proofs.Bytes.{byte, low_met, word_met}
 use Rattle.dvg_theorem.proofs.Kept.{byte_other, byte_here}
-use Rattle.dvg_moment.specs.Moment.{stands, told, waits, word_reads, Changes, HasChanged, StillStands, ReadsThen, IsMoment}
-use Rattle.dvg_moment.specs.Played.{IsPlayed, DrewItsMoment, DrawsTheMoment}
+use Rattle.dvg_moment.specs.Moment.{stands, told, waits, word_reads, Contradicts, Changes, HasChanged, StillStands, ReadsThen, IsMoment}
+use Rattle.dvg_moment.specs.Played.{IsPlayed, DrewItsMoment, DrawsTheMoment, NeverContradicts}
 use Rattle.dvg_moment.proofs.DrawsTheMoment.{AreBytes, are_bytes, wanted_same, low_part, high_part, draws_the_moment}
 
 -- bytes that are fetched are small
@@ -138,6 +138,22 @@ module _ (R image : List ℕ) (small : IsImage image) where
   changes log event (Acted (Wrote b w)) p q a c = absurd q
   changes log event entry p q a c = absurd c
 
+  -- what is read is what stands there, and so is what was told
+  agrees : (log : Log) (event : Happening) (entry : Shown) → Throughout (IsPlayed R image) log → IsPlayed R image log event entry → ¬ Contradicts log entry
+  agrees log Fetch (Low x b) p q c = c.6 (sym (told_true ((Fetch ⟼ Low x b) ∷ log) (q, p) c.0 c.3 c.1 (ap (λ read. option_or read (told log c.0)) c.4)) ∙ told_true log p c.0 c.3 c.2 c.5)
+  agrees log Fetch (Fetched x w) p q c =
+      c.6 (sym (told_true ((Fetch ⟼ Fetched x w) ∷ log) (q, p) c.0 c.3 c.1 (ap (λ read. option_or read (told log c.0)) c.4)) ∙ told_true log p c.0 c.3 c.2 c.5)
+  agrees log Fetch (Done x w drew) p q c =
+      c.6 (sym (told_true ((Fetch ⟼ Done x w drew) ∷ log) (q, p) c.0 c.3 c.1 (ap (λ read. option_or read (told log c.0)) c.4)) ∙ told_true log p c.0 c.3 c.2 c.5)
+  agrees log event (Low x b) p q c = absurd q
+  agrees log event (Fetched x w) p q c = absurd q
+  agrees log event (Done x w drew) p q c = absurd q
+  agrees log event entry p q c = none-some c.1 c.4
+
+  pub all_agree : (log : Log) → Throughout (IsPlayed R image) log → Throughout (λ log event entry. ¬ Contradicts log entry) log
+  all_agree [] p = tt
+  all_agree ((event ⟼ entry) ∷ log) p = (agrees log event entry p.1 p.0, all_agree log p.1)
+
   changed : (part moment : Log) → Throughout (IsPlayed R image) (part ++ moment) → (a : ℕ) → HasChanged (stands image) a part moment → HasChanged told a part moment
   changed [] moment p a c = absurd c
   changed ((event ⟼ entry) ∷ part) moment p a (inl c) = inl (changes (part ++ moment) event entry p.1 p.0 a c)
@@ -175,3 +191,6 @@ module _ (R image : List ℕ) (small : IsImage image) where
 
 pub told_is_enough : DrawsTheMoment (λ image. told)
 told_is_enough R image log small p = all_is_enough R image small log p (draws_the_moment R image log small p)
+
+pub never_contradicts : NeverContradicts
+never_contradicts R image log small p = all_agree R image small log p

@@ -1,21 +1,15 @@
 -- What a judge keeps of a log, and what it answers.
-use Rattle.std.specs.Prelude.{◌≡◌, ◌≢◌, ℕ, ◌<◌, ◌++◌, List, [], ◌∷◌, length, slice_index_or, Option, Some, None}
+use Rattle.std.specs.Prelude.{◌≡◌, ◌≢◌, ℕ, ◌<◌, ◌++◌, List, [], ◌∷◌, length, slice_index_or, None}
 use Rattle.std.specs.Prelude.{option_map, Bool, false, IsTrue, ◌↔◌}
-use Rattle.dvg_log.specs.Entries.{Shown}
 use Rattle.dvg_log.specs.Log.{Line, Log, waiting, open_run}
 use Rattle.dvg_moment.specs.declared.judge.Phase.{Phase}
 use Rattle.dvg_moment.specs.declared.judge.Phase.TheVariants.{Closed, Whole, Past, Torn}
 use Rattle.dvg_moment.specs.declared.judge.MomentJudge.{MomentJudge}
-use Rattle.dvg_moment.specs.Moment.{reads, told, HasRead, HasChanged, StillStands, IsMoment, OfOneMoment}
+use Rattle.dvg_moment.specs.Moment.{told, HasRead, HasChanged, StillStands, IsMoment, OfOneMoment}
 
 -- a run is open, and is of no moment
 abbrev pub IsTorn : Log → Type 0
 IsTorn log = (open_run log ≢ None) × ¬ OfOneMoment told log
-
--- a line reads a byte of the RAM as another than the log told
-abbrev pub Contradicts : Log → Shown → Type 0
-Contradicts log entry = (a byte other : ℕ) × (a < 0x800) × (reads log entry a ≡ Some byte)
-    × (told log a ≡ Some other) × (byte ≢ other)
 
 -- whether byte a is marked
 abbrev pub is_marked : List Bool → ℕ → Bool

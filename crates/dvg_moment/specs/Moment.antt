@@ -42,6 +42,11 @@ told ((ResetAll bytes ⟼ entry) ∷ log) a = None
 told ((event ⟼ Acted (Wrote b byte)) ∷ log) a = if a == b then Some byte else told log a
 told ((event ⟼ entry) ∷ log) a = option_or (reads log entry a) (told log a)
 
+-- a line reads a byte of the RAM as another than the log told
+abbrev pub Contradicts : Log → Shown → Type 0
+Contradicts log entry = (a byte other : ℕ) × (a < 0x800) × (reads log entry a ≡ Some byte)
+    × (told log a ≡ Some other) × (byte ≢ other)
+
 -- a byte of the RAM changes where one is written that isn't known to be what stood there
 abbrev pub Changes : Known → ℕ → Log → Shown → Type 0
 Changes known a log (Acted (Wrote b byte)) = (a ≡ b) × (a < 0x800) × (known log a ≢ Some byte)

@@ -12,9 +12,9 @@ use Rattle.dvg_log.specs.Entries.{Shown}
 use Rattle.dvg_log.specs.declared.entry.Entry.TheVariants.{Offered, Refused, Busy, Asked, NothingPublished, Acted}
 use Rattle.dvg_log.specs.declared.entry.Entry.TheVariants.{Started, NoStrobe, Done, Cleared}
 use Rattle.dvg_log.specs.Log.{◌⟼◌, Log, Throughout, ram, history, open_run}
-use Rattle.dvg_log.specs.Legal.{Always, Fits}
+use Rattle.dvg_log.specs.Legal.{Fits}
 use Rattle.dvg_theorem.specs.Law.{Finishes}
-use Rattle.dvg_moment.specs.Moment.{Known, stands, told, IsMoment}
+use Rattle.dvg_moment.specs.Moment.{Known, stands, Contradicts, IsMoment}
 
 -- the generator fetches what is in memory then; what the driver does, and when strobes arrive, is left open
 abbrev pub IsPlayed : List ℕ → List ℕ → Log → Happening → Shown → Type 0
@@ -47,6 +47,11 @@ DrewItsMoment known R image log event entry = Unit {0}
 abbrev pub DrawsTheMoment : (List ℕ → Known) → Type 0
 DrawsTheMoment known = (R image : List ℕ) (log : Log) → IsImage image → Throughout (IsPlayed R image) log
     → Throughout (DrewItsMoment (known image) R image) log
+
+-- whoever drives, nothing that is read contradicts what the log told
+abbrev pub NeverContradicts : Type 0
+NeverContradicts = (R image : List ℕ) (log : Log) → IsImage image → Throughout (IsPlayed R image) log
+    → Throughout (λ log event entry. ¬ Contradicts log entry) log
 
 -- the newest run of a log is of a moment of which this holds
 abbrev pub HasMoment : List ℕ → Log → (Log → Type 0) → Type 0

@@ -1,16 +1,17 @@
 //! A judge of logs, whoever made them: is each run of one moment?
 ghost use Rattle.std.specs.Prelude.{◌≡◌, ◌≢◌, ◌<◌, ◌↔◌, ◌∷◌, [], List, ℕ, IsTrue, None};
-ghost use Rattle.std.specs.Prelude.{Some, slice_index_or};
+ghost use Rattle.std.specs.Prelude.{Some, false, slice_index_or};
 ghost use Rattle.dvg_driver.specs.declared.action.Action.TheVariants.{Idle, Wrote};
 ghost use Rattle.dvg_gen.specs.declared.stroke.Stroke.{Stroke};
 ghost use Rattle.dvg_log.specs.declared.entry.Entry.TheVariants.{Acted, Cleared, Done, Fetched};
 ghost use Rattle.dvg_log.specs.declared.entry.Entry.TheVariants.{Low, Started};
 ghost use Rattle.dvg_log.specs.declared.event.Event.TheVariants.{Fetch, ResetAll, ResetGen};
 ghost use Rattle.dvg_log.specs.declared.event.Event.TheVariants.{Strobe, Tick};
+ghost use Rattle.dvg_log.specs.Legal.{IsLegal};
 ghost use Rattle.dvg_log.specs.Log.{Log, ◌⟼◌};
-ghost use Rattle.dvg_moment.specs.Judging.{Contradicts, IsTorn, StandsAfter, is_marked};
+ghost use Rattle.dvg_moment.specs.Judging.{IsTorn, StandsAfter, is_marked};
 ghost use Rattle.dvg_moment.specs.declared.judge.Phase.TheVariants.{Torn};
-ghost use Rattle.dvg_moment.specs.Moment.{IsOfOneMoment, told};
+ghost use Rattle.dvg_moment.specs.Moment.{Contradicts, IsOfOneMoment, told};
 ghost use Rattle.dvg_moment.specs.own.Steps.{after_change, after_end, after_read, after_word};
 ghost use Rattle.dvg_moment.specs.own.Steps.{after_write, is_some_of};
 
@@ -201,6 +202,11 @@ impl MomentJudge {
             → StandsAfter self.new ((Fetch ⟼ Done address word strokes) ∷ log) }
         ensures torn { (strokes : List Stroke) (log : Log) → StandsAfter self.old log
             → IsTrue result ↔ ¬ IsOfOneMoment told log Fetch (Done address word strokes) }
+
+        // No run of a legal log is torn.
+        ensures legal { (R image : List ℕ) (strokes : List Stroke) (log : Log)
+            → StandsAfter self.old log
+            → IsLegal R image ((Fetch ⟼ Done address word strokes) ∷ log) → result ≡ false }
     {
         self.read_word(address, word);
         let torn = self.has_no_moment();

@@ -1,7 +1,10 @@
 //! Laws of the definitions alone. Each is the contract of a function that does nothing.
 ghost use Rattle.dvg_log.specs.Legal.{Always};
+ghost use Rattle.dvg_log.specs.Log.{Log};
+ghost use Rattle.dvg_moment.specs.Judging.{IsTorn};
 ghost use Rattle.dvg_moment.specs.Moment.{IsOfOneMoment, stands, told};
-ghost use Rattle.dvg_moment.specs.Played.{DrawsTheMoment, DrewAMoment, IsPlayed, StoodThen};
+ghost use Rattle.dvg_moment.specs.Played.{DrawsTheMoment, DrewAMoment, IsPlayed};
+ghost use Rattle.dvg_moment.specs.Played.{NeverContradicts, StoodThen};
 
 /// In every legal log each run that reaches HALT is of one moment: there is a moment of the run
 /// such that no byte which the run reads changes between that moment and its reading. `world` says
@@ -39,4 +42,15 @@ pub fn told_is_enough()
 /// that hold whoever drives are of legal logs, too.
 pub fn legal_is_played()
     ensures { Always IsPlayed }
+{}
+
+/// Whoever drives, nothing that is read contradicts what the log told. So where a reading does, a
+/// writer isn't in the log, or the log isn't that of such a generator.
+pub fn never_contradicts()
+    ensures { NeverContradicts }
+{}
+
+/// There is a log whose open run is torn.
+pub fn some_run_is_torn()
+    ensures { (log : Log) × IsTorn log }
 {}

@@ -1,6 +1,5 @@
-use Rattle.std.proofs.Common.{◌≡◌, ◌*◌, ◌+◌, ◌/◌, ◌%◌, false, true, refl, sym, ◌∙◌, subst, true≢false}
+use Rattle.std.proofs.Common.{◌*◌, ◌+◌, ◌/◌, ◌%◌, refl, sym, ◌∙◌, subst, true≢false}
 use Rattle.std.specs.Prelude.{IsTrue, ◌↔◌}
-use Rattle.dvg_moment.specs.own.Steps.{is_some_of}
 use Rattle.dvg_moment.proofs.Contradicting.{IsAnother, low_found, high_answer}
 use Rattle.dvg_moment.proofs.judge.MomentJudge.contradicts_word.Goals as goal
 use Rattle.dvg_moment.proofs.judge.MomentJudge.contradicts_word.Goals.{else-not-waits-via-then-not-waits+else-is_told_as_another, else-not-waits-via-else-not-waits}
