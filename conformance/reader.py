@@ -1,0 +1,122 @@
+#!/usr/bin/env python3
+"""Plays the runs of a folder with a DVG written from README.md alone, and compares what comes of each
+with its file: reader.py [FOLDER]. Says the first line that differs of each run that does, and has
+status 1 then. Tested, not proved."""
+import os
+import sys
+
+PLACES = 4096 * 512
+MOST = 1000  # words of a run: those of the files are shorter
+RAM, ROM = range(0x000, 0x400), range(0x800, 0xC00)
+
+
+class Broke(Exception):
+    """What a run breaks by."""
+
+
+class Generator:
+    """A DVG after power on: what it fetched, and what it drew."""
+
+    def __init__(self, memory):
+        self.memory = memory
+        self.x = self.y = self.scale = 0
+        self.at, self.calls = 0, []
+        self.lines, self.strokes = [], []
+
+    def peek(self):
+        """The word that is next."""
+        if self.at not in RAM and self.at not in ROM:
+            raise Broke('no memory there')
+        return self.memory[self.at]
+
+    def take(self):
+        """Fetches that word, and goes on to the one after it."""
+        word = self.peek()
+        if len(self.lines) == MOST:
+            raise Broke('no end')
+        self.lines.append('fetched %03X %04X' % (self.at, word))
+        self.at = (self.at + 1) % 4096
+        return word
+
+    def move(self, scale, dx, dy, intensity):
+        x0, y0 = self.x, self.y
+        power = (scale + self.scale) % 16
+        if power < 10:
+            self.x = (self.x + dx * 2 ** power) % PLACES
+            self.y = (self.y + dy * 2 ** power) % PLACES
+        if intensity > 0:
+            self.strokes.append('stroke %d %d %d %d %d' % (x0, y0, self.x, self.y, intensity))
+
+    def step(self):
+        """One instruction. Returns whether the run goes on."""
+        opcode = self.peek() >> 12
+        if opcode == 0xC and len(self.calls) == 4:
+            raise Broke('fifth call')
+        if opcode == 0xD and not self.calls:
+            raise Broke('return without a call')
+        word = self.take()
+        if opcode <= 9:
+            second = self.take()
+            self.move(opcode, signed(second, 10, second & 0x3FF), signed(word, 10, word & 0x3FF),
+                      second >> 12)
+        elif opcode == 0xA:
+            second = self.take()
+            self.x, self.y = (second & 0xFFF) * 512, (word & 0xFFF) * 512
+            self.scale = second >> 12
+        elif opcode == 0xC:
+            self.calls.append(self.at)
+            self.at = word & 0xFFF
+        elif opcode == 0xD:
+            self.at = self.calls.pop()
+        elif opcode == 0xE:
+            self.at = word & 0xFFF
+        elif opcode == 0xF:
+            self.move(2 + (word >> 11 & 1) + 2 * (word >> 3 & 1),
+                      signed(word, 2, (word & 3) * 256), signed(word, 10, (word >> 8 & 3) * 256),
+                      word >> 4 & 15)
+        return opcode != 0xB
+
+    def run(self):
+        """All lines of a run."""
+        try:
+            while self.step():
+                pass
+            end = 'halted'
+        except Broke as why:
+            end = 'broke %03X %s' % (self.at, why)
+        return self.lines + [end] + self.strokes
+
+
+def signed(word, sign, size):
+    """The number of this size whose sign is this bit of a word."""
+    return -size if word >> sign & 1 else size
+
+
+def read_memory(name):
+    with open(name, encoding='ascii') as file:
+        pairs = [line[1:].split() for line in file]
+    return {int(address, 16): int(word, 16) for address, word in pairs}
+
+
+def main():
+    folder = sys.argv[1] if len(sys.argv) > 1 else os.path.join(os.path.dirname(__file__), 'vectors')
+    names = sorted(name[:-4] for name in os.listdir(folder) if name.endswith('.hex'))
+    wrong = 0
+    for name in names:
+        path = os.path.join(folder, name)
+        try:
+            mine = Generator(read_memory(path + '.hex')).run()
+        except KeyError as address:
+            mine = ['fetched %03X, which no run fetches' % address.args]
+        with open(path + '.run', encoding='ascii') as file:
+            theirs = file.read().splitlines()
+        if mine != theirs:
+            wrong += 1
+            number = next((i for i, pair in enumerate(zip(mine, theirs)) if pair[0] != pair[1]),
+                          min(len(mine), len(theirs)))
+            print('%s.run line %d: %s' % (name, number + 1, ' '.join(mine[number:number + 1])))
+    print('%d runs, %d differ' % (len(names), wrong))
+    sys.exit(wrong > 0 or not names)
+
+
+main()
