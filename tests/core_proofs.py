@@ -3,10 +3,10 @@
 
     core_proofs.py FOLDER [NUMBER..]      a folder in which core_mistakes.py planted them
 
-Of each mistake core/cells writes the cells anew, in a copy of dvg_core or of dvg_board, without the clocks
-of Icarus Verilog, and the prover must refuse a law of the crate. A mistake that does no harm is passed over where it is refused, too: a proof may
-name a wire. What the crates stand on must be proved: `./prove dvg_board`. The last line is 'N passed,
-M failed'."""
+Of each mistake core/cells writes the cells anew, in a copy of dvg_core or of dvg_board without the clocks
+of Icarus Verilog, and the prover must refuse a law of the crate. The Verilog as it is must be proved
+there. A mistake that does no harm may be refused, too, as a proof may name a wire. What the crates stand
+on must be proved: `./prove dvg_board`. The last line is 'N passed, M failed'."""
 
 import os
 import re
@@ -31,6 +31,10 @@ def load(name):
     return module
 
 
+# The words by which a crate is checked.
+words_for = load("wrong_bodies").words_for
+
+
 def is_changed(planted, file):
     """Whether a planted copy isn't the file of core/."""
     with open(f"{planted}/{file}", "rb") as copy, open(f"{texts.TOP}/core/{file}", "rb") as here:
@@ -53,14 +57,14 @@ def make_room(room, crate):
     os.makedirs(f"{room}/out/incremental", exist_ok=True)
 
 
-def refusal(room, crate, words, planted):
+def refusal(room, crate, planted):
     """What refuses a crate that has the cells of this Verilog: laws and a proof, or None."""
     made = subprocess.run([f"{texts.TOP}/core/cells", crate, planted], capture_output=True, text=True)
     if made.returncode:
         return made.stderr.strip().rpartition("\n")[2]
     with open(f"{room}/{CELLS[crate]}", "w", encoding="utf-8") as file:
         file.write(made.stdout)
-    ran = subprocess.run(words, cwd=room, stdin=subprocess.DEVNULL, stdout=subprocess.PIPE,
+    ran = subprocess.run(words_for(crate), cwd=room, stdin=subprocess.DEVNULL, stdout=subprocess.PIPE,
                          stderr=subprocess.STDOUT, encoding="utf-8", errors="replace", timeout=600)
     if re.search(r"(?m)^logic=proved", ran.stdout):
         return None
@@ -71,20 +75,28 @@ def refusal(room, crate, words, planted):
     return f"NOTHING: {ran.stdout[-300:]}"
 
 
+def try_cells(suite, name, crate, planted, room, wanted):
+    """Has a crate checked with the cells of this Verilog. The verdict must be one that is wanted."""
+    start = time.monotonic()
+    make_room(room, crate)
+    why = refusal(room, crate, planted)
+    print(f"{name}: {f'refused by {why}' if why else 'proved'}, {time.monotonic() - start:.0f} s", flush=True)
+    found = "proved" if why is None else "not judged" if why.startswith("NOTHING") else "refused"
+    suite.expect(name, [("verdict", found if found in wanted else wanted[0], found)])
+
+
 def main(folder, *numbers):
-    suite, words_for = texts.Suite(), load("wrong_bodies").words_for
+    suite = texts.Suite()
+    for crate in CELLS:
+        try_cells(suite, f"{crate} as it is", crate, f"{texts.TOP}/core", f"{folder}/room", ["proved"])
     with open(f"{folder}/mistakes", encoding="utf-8") as lines:
         mistakes = [line.rstrip("\n").split(" ", 2) for line in lines]
     for number, bench, name in mistakes:
-        if numbers and number not in numbers:
-            continue
-        planted, start = f"{folder}/planted/{number}", time.monotonic()
-        crate = "dvg_core" if is_changed(planted, "dvg_core.v") else "dvg_board"
-        make_room(f"{folder}/room", crate)
-        why = refusal(f"{folder}/room", crate, words_for(crate), planted)
-        print(f"{name}: {f'refused by {why}' if why else 'proved'}, {time.monotonic() - start:.0f} s", flush=True)
-        refused = why is not None and not why.startswith("NOTHING")
-        suite.expect(name, [("refused", "True", str(refused or bench == "none"))])
+        if not numbers or number in numbers:
+            planted = f"{folder}/planted/{number}"
+            crate = "dvg_core" if is_changed(planted, "dvg_core.v") else "dvg_board"
+            wanted = ["refused", "proved"] if bench == "none" else ["refused"]
+            try_cells(suite, name, crate, planted, f"{folder}/room", wanted)
     suite.end()
 
 
