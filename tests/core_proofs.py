@@ -3,10 +3,10 @@
 
     core_proofs.py FOLDER [NUMBER..]      a folder in which core_mistakes.py planted them
 
-Of each mistake core/cells writes the cells anew, in a copy of dvg_core or of dvg_board without the clocks
-of Icarus Verilog and the example, and the prover must refuse a law of the crate. The Verilog as it is must
-be proved there. A mistake that does no harm may be refused, too, as a proof may name a wire. What the crates stand
-on must be proved: `./prove dvg_board`. The last line is 'N passed, M failed'."""
+Of each mistake core/cells writes the cells anew, in a copy of dvg_core or of dvg_board, and the prover must
+refuse a law of the crate, without its examples and the clocks of Icarus Verilog. The Verilog as it is must
+be proved there. A mistake that does no harm may be refused, too, as a proof may name a wire. What the
+crates stand on must be proved: `./prove dvg_board`. The last line is 'N passed, M failed'."""
 
 import os
 import re
@@ -21,8 +21,6 @@ import texts
 
 CELLS = {"dvg_core": "specs/Core.antt", "dvg_board": "specs/Board.antt"}
 LAWS = {"dvg_core": ["core_refines"], "dvg_board": ["board_keeps", "board_answers"]}
-# What is left out: other proofs by which a wrong cell would be refused.
-EXAMPLES = {"dvg_core": "draws_some", "dvg_board": "some_board"}
 
 
 def load(name):
@@ -45,18 +43,10 @@ def is_changed(planted, file):
 
 
 def make_room(room, crate):
-    """A copy of a crate with the proofs of its laws alone, and with what is kept of them."""
+    """A copy of a crate, with what is kept of its proof."""
     shutil.rmtree(room, ignore_errors=True)
     for part in "src", "specs", "proofs":
         shutil.copytree(f"{texts.TOP}/crates/{crate}/{part}", f"{room}/{part}")
-    shutil.rmtree(f"{room}/proofs/{EXAMPLES[crate]}")
-    with open(f"{room}/proofs/Lib.antt", encoding="utf-8") as file:
-        text = file.read()
-    for module in "ClockVectors", "Example":
-        os.remove(f"{room}/proofs/{module}.antt")
-        text = text.replace(f"mod {module}\n", "")
-    with open(f"{room}/proofs/Lib.antt", "w", encoding="utf-8") as file:
-        file.write(text)
     kept = f"{texts.TOP}/crates/{crate}/out/incremental"
     if os.path.isdir(kept):
         shutil.copytree(kept, f"{room}/out/incremental")
