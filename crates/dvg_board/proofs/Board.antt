@@ -538,11 +538,11 @@ silent R image log Redraw NothingPublished s f = (refl, λ e. e)
 silent R image log Redraw Busy s f = (refl, λ e. e)
 silent R image log Redraw Asked s f = (refl, λ e. e)
 silent R image log ResetCpu Cleared s f = (refl, λ e. e)
-silent R image log Tick shown s f = absurd s
-silent R image log (Offer F) shown s f = absurd f
-silent R image log Redraw shown s f = absurd f
-silent R image log ResetCpu shown s f = absurd f
-silent R image log event shown s f = absurd s
+silent R image log Tick _ s f = absurd s
+silent R image log (Offer F) _ s f = absurd f
+silent R image log Redraw _ s f = absurd f
+silent R image log ResetCpu _ s f = absurd f
+silent R image log event _ s f = absurd s
 
 abbrev OnBoard : List ℕ → List ℕ → (ℕ → ℕ) → Log → List Bus → Type 0
 OnBoard R image held log older = IsBoard FitsScript R image held log older
@@ -550,7 +550,7 @@ OnBoard R image held log older = IsBoard FitsScript R image held log older
 rom_of : {R image : List ℕ} {held : ℕ → ℕ} {log : Log} {older : List Bus} → OnBoard R image held log older → IsRom R
 rom_of (powers rom is_image same) = rom
 rom_of (clocks bus whole is_board is served look change) = rom_of is_board
-rom_of (acts is_board is_event is_silent fits) = rom_of is_board
+rom_of (acts is_board is_event is_silent as_asked) = rom_of is_board
 
 pub holds : {R image : List ℕ} {held : ℕ → ℕ} {log : Log} {older : List Bus} → OnBoard R image held log older
     → Holds R image held log older
