@@ -25,6 +25,13 @@ module _ (judge : MomentJudge) (log : Log) (s : StandsAfter judge log) where
     | inr l ↦ absurd (none-some other (sym (get_or_past judge.told at None (let n = s.sizes.0 in omega arith)) ∙ e))
   ]
 
+  -- what is known was told
+  pub told_known : (at byte : ℕ) → get_or judge.told at None ≡ Some byte → (at < 0x800) × (told log at ≢ None)
+  told_known at byte e = let w = within at byte e in (w.0, λ n. none-some byte (sym n ∙ w.1))
+
+  pub none_told : (at : ℕ) → get_or judge.told at None ≡ None → ¬ ((at < 0x800) × (told log at ≢ None))
+  none_told at e t = t.1 (sym (s.tells at t.0) ∙ e)
+
   pub low_contradicts : (address byte : ℕ) → IsAnother judge (2 * address) byte ↔ Contradicts log (Low address byte)
   low_contradicts address byte = (
     (λ k. let w = within (2 * address) k.0 k.1 in (2 * address, byte, k.0, w.0, low_reads log address byte, w.1, k.2)),

@@ -18,7 +18,7 @@ use Rattle.dvg_log.specs.Legal.{IsWanted}
 use Rattle.dvg_theorem.proofs.Bytes.{byte, low_met, word_met}
 use Rattle.dvg_theorem.proofs.Kept.{byte_other, byte_here}
 use Rattle.dvg_moment.specs.Moment.{stands, told, waits, word_reads, Contradicts, Changes, HasChanged, StillStands, ReadsThen, IsMoment}
-use Rattle.dvg_moment.specs.Played.{IsPlayed, DrewItsMoment, DrawsTheMoment, NeverContradicts}
+use Rattle.dvg_moment.specs.Played.{IsPlayed, DrewItsMoment, DrawsTheMoment, NeverContradicts, ErrsUntold}
 use Rattle.dvg_moment.proofs.DrawsTheMoment.{AreBytes, are_bytes, wanted_same, low_part, high_part, draws_the_moment}
 
 -- bytes that are fetched are small
@@ -138,6 +138,15 @@ module _ (R image : List ℕ) (small : IsImage image) where
   changes log event (Acted (Wrote b w)) p q a c = absurd q
   changes log event entry p q a c = absurd c
 
+  -- what changes by what is told, and not in memory, wasn't told
+  untold : (log : Log) (entry : Shown) (a : ℕ) → Throughout (IsPlayed R image) log → Changes told a log entry → ¬ Changes (stands image) a log entry → told log a ≡ None
+  untold log (Acted (Wrote b w)) a p c n = by (told log a) refl
+    where
+      by : (known : Option ℕ) → told log a ≡ known → known ≡ None
+      by None e = refl
+      by (Some v) e = absurd (n (c.0, c.1, λ same. c.2 (e ∙ (ap Some (sym (told_true log p a c.1 v e)) ∙ same))))
+  untold log entry a p c n = absurd c
+
   -- what is read is what stands there, and so is what was told
   agrees : (log : Log) (event : Happening) (entry : Shown) → Throughout (IsPlayed R image) log → IsPlayed R image log event entry → ¬ Contradicts log entry
   agrees log Fetch (Low x b) p q c = c.6 (sym (told_true ((Fetch ⟼ Low x b) ∷ log) (q, p) c.0 c.3 c.1 (ap (λ read. option_or read (told log c.0)) c.4)) ∙ told_true log p c.0 c.3 c.2 c.5)
@@ -194,3 +203,6 @@ told_is_enough R image log small p = all_is_enough R image small log p (draws_th
 
 pub never_contradicts : NeverContradicts
 never_contradicts R image log small p = all_agree R image small log p
+
+pub errs_untold : ErrsUntold
+errs_untold R image log entry a small p c n = untold R image small log entry a p c n

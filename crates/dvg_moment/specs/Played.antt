@@ -1,5 +1,5 @@
 -- Logs of any driver, and what a run of one moment draws.
-use Rattle.std.specs.Prelude.{◌≡◌, ℕ, suc, ◌<◌, List, ◌∷◌, Some, length}
+use Rattle.std.specs.Prelude.{◌≡◌, ℕ, suc, ◌<◌, List, ◌∷◌, Some, None, length}
 use Rattle.std.specs.List.{AllByRecursion}
 use Rattle.dvg_mem.specs.Memory.{IsImage, fetched}
 use Rattle.dvg_gen.specs.declared.beam.Beam.{Beam}
@@ -14,7 +14,7 @@ use Rattle.dvg_log.specs.declared.entry.Entry.TheVariants.{Started, NoStrobe, Do
 use Rattle.dvg_log.specs.Log.{◌⟼◌, Log, Throughout, ram, history, open_run}
 use Rattle.dvg_log.specs.Legal.{Fits}
 use Rattle.dvg_theorem.specs.Law.{Finishes}
-use Rattle.dvg_moment.specs.Moment.{Known, stands, Contradicts, IsMoment}
+use Rattle.dvg_moment.specs.Moment.{Known, stands, told, Contradicts, Changes, IsMoment}
 
 -- the generator fetches what is in memory then; what the driver does, and when strobes arrive, is left open
 abbrev pub IsPlayed : List ℕ → List ℕ → Log → Happening → Shown → Type 0
@@ -52,6 +52,12 @@ DrawsTheMoment known = (R image : List ℕ) (log : Log) → IsImage image → Th
 abbrev pub NeverContradicts : Type 0
 NeverContradicts = (R image : List ℕ) (log : Log) → IsImage image → Throughout (IsPlayed R image) log
     → Throughout (λ log event entry. ¬ Contradicts log entry) log
+
+-- whoever drives, a write that changes a byte by what the log told, and none in memory, is of a byte that wasn't told
+abbrev pub ErrsUntold : Type 0
+ErrsUntold = (R image : List ℕ) (log : Log) (entry : Shown) (a : ℕ) → IsImage image
+    → Throughout (IsPlayed R image) log → Changes told a log entry → ¬ Changes (stands image) a log entry
+    → told log a ≡ None
 
 -- the newest run of a log is of a moment of which this holds
 abbrev pub HasMoment : List ℕ → Log → (Log → Type 0) → Type 0

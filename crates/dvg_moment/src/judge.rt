@@ -249,6 +249,18 @@ impl MomentJudge {
             → StandsAfter self.now ((Tick ⟼ Acted Idle) ∷ log) }
     {}
 
+    /// Whether the log told of the byte at this byte address of the RAM. Where it didn't, a write is
+    /// a change, whatever stood there.
+    pub fn is_told(&self, address: u16) -> bool
+        ensures { (log : Log) → StandsAfter self.now log
+            → IsTrue result ↔ ((address < 0x800) × (told log address ≢ None)) }
+    {
+        match self.known(usize::from(address)) {
+            Some(_) => true,
+            None => false,
+        }
+    }
+
     // Whether of the byte at a byte address another one was told.
     fn is_told_as_another(&self, at: usize, byte: u8) -> bool
         ensures { IsTrue result

@@ -3,8 +3,8 @@ ghost use Rattle.dvg_log.specs.Legal.{Always};
 ghost use Rattle.dvg_log.specs.Log.{Log};
 ghost use Rattle.dvg_moment.specs.Judging.{IsTorn};
 ghost use Rattle.dvg_moment.specs.Moment.{IsOfOneMoment, stands, told};
-ghost use Rattle.dvg_moment.specs.Played.{DrawsTheMoment, DrewAMoment, IsPlayed};
-ghost use Rattle.dvg_moment.specs.Played.{NeverContradicts, StoodThen};
+ghost use Rattle.dvg_moment.specs.Played.{DrawsTheMoment, DrewAMoment, ErrsUntold};
+ghost use Rattle.dvg_moment.specs.Played.{IsPlayed, NeverContradicts, StoodThen};
 
 /// In every legal log each run that reaches HALT is of one moment: there is a moment of the run
 /// such that no byte which the run reads changes between that moment and its reading. `world` says
@@ -48,6 +48,12 @@ pub fn legal_is_played()
 /// writer isn't in the log, or the log isn't that of such a generator.
 pub fn never_contradicts()
     ensures { NeverContradicts }
+{}
+
+/// Whoever drives: a write that changes a byte by what the log told, and changes nothing in memory,
+/// is of a byte that the log told nothing of. By no other write a run is called torn that isn't.
+pub fn errs_untold()
+    ensures { ErrsUntold }
 {}
 
 /// There is a log whose open run is torn.

@@ -178,6 +178,15 @@ impl MomentJudge {
     /// Is told of a line that says nothing of memory or of a run.
     pub fn passed(&self) {}
 
+    /// Whether the log told of the byte at this byte address of the RAM. Where it didn't, a write is
+    /// a change, whatever stood there.
+    pub fn is_told(&self, address: u16) -> bool {
+        match self.known(usize::from(address)) {
+            Some(_) => true,
+            None => false,
+        }
+    }
+
     // Whether of the byte at a byte address another one was told.
     fn is_told_as_another(&self, at: usize, byte: u8) -> bool {
         match self.known(at) {

@@ -3,6 +3,7 @@
 
 extern crate plain_std as std;
 
+pub mod examples;
 mod judge;
 
 pub use judge::MomentJudge;
