@@ -4,8 +4,6 @@
 
 #define PLACES 0x1FFFFF /* 4,096 units of 512 */
 
-unsigned own_word(unsigned at);
-
 static int x, y, scale;
 
 static int with_sign(unsigned size, unsigned sign)

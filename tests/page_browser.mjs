@@ -573,7 +573,8 @@ async function testLogShown(name, log) {
     await tab.value('document.getElementById("run").disabled'));
 }
 
-// A log of 100,000 events: how long a step of its rows takes while one drags and walks.
+// A log of 100,000 events: how long a step of its rows takes while one drags and walks, in the
+// page's own script, and with layout and paint; and how long it is from one frame to the next.
 async function testLongLog() {
   await openPage();
   const lines = [];
@@ -587,8 +588,10 @@ async function testLongLog() {
   }
   await tab.drop('screen', put('long.log', `${lines.join('\n')}\n`));
   expect('a long log is judged', true, await comesWith('judged', 'not torn: '));
-  const times = await tab.value(`new Promise((done) => {
-    const rows = document.getElementById('rows'), times = [];
+  const before = await taskTime();
+  const { times, frames } = await tab.value(`new Promise((done) => {
+    const rows = document.getElementById('rows'), times = [], frames = [];
+    const sorted = (list) => list.sort((a, b) => a - b);
     const send = (type, x) => rows.dispatchEvent(new PointerEvent(type,
       { clientX: x, clientY: rows.getBoundingClientRect().y + 30, pointerId: 1, bubbles: true }));
     rows.setPointerCapture = () => {};
@@ -597,13 +600,16 @@ async function testLongLog() {
     let last = null, k = 0;
     const next = () => {
       const begin = performance.now();
+      if (last !== null) frames.push(begin - last);
+      last = begin;
       send('pointermove', 600 - 9 * k);
       times.push(performance.now() - begin);
       if (++k < 120) requestAnimationFrame(next);
-      else { send('pointerup', 600); done(times.sort((a, b) => a - b)); }
+      else { send('pointerup', 600); done({ times: sorted(times), frames: sorted(frames) }); }
     };
     next();
   })`);
+  const task = (await taskTime() - before) / 120;
   const walk = await tab.value(`(() => {
     const begin = performance.now();
     for (let k = 0; k < 50; k++) document.getElementById('back').click();
@@ -611,7 +617,10 @@ async function testLongLog() {
   })()`);
   const [median, most, step] = [times[60], times[114], walk].map((time) => time.toFixed(1));
   console.log(`browser: a drag over ${lines.length} events takes ${median} ms at the median, `
-    + `${most} ms or less in 19 of 20; a step back ${step} ms`);
+    + `${most} ms or less in 19 of 20; with layout and paint ${task.toFixed(1)} ms of the main `
+    + `thread on average; frames come each ${frames[59].toFixed(1)} ms, `
+    + `${frames[113].toFixed(1)} ms or less in 19 of 20; a step back ${step} ms`);
+  expect('a frame of a drag works less than ten times 8 ms', true, task <= 80);
   expect('a drag takes less than ten times 8 ms', true, times[60] <= 80);
   expect('a step back takes less than ten times 30 ms', true, walk <= 300);
 }

@@ -1,21 +1,11 @@
 /* For a DVG that runs a whole list at once, and reads its words itself: the three functions of
- * mine.h, by one of yours. `make MINE='at_once.c yours.c'`. Tested, not proved.
- *
- * Yours has own_run, asks own_word for each word that it fetches, in the order of its fetches, and
- * calls drew (mine.h) for each stroke:
- *
- *     void own_run(bool power_on)      a start strobe; with `power_on` the power comes before it. It
- *                                      returns after a HALT
- *     unsigned own_word(unsigned at)   the word at this address, 000 to FFF
+ * mine.h, by own_run, which is yours. `make MINE='at_once.c yours.c'`. Tested, not proved.
  *
  * Where a start strobe comes amid a run, own_run begins anew, and the call of own_word before it
- * never returns: so keep in variables outside of own_run what a run keeps, as the beam. */
+ * never returns. So keep outside of own_run what stays from run to run, as the beam. */
 #include "mine.h"
 #include <stdlib.h>
 #include <ucontext.h>
-
-void own_run(bool power_on);
-unsigned own_word(unsigned at);
 
 static ucontext_t kit, own;         /* what goes on where the other one waits */
 static char own_stack[1 << 18];

@@ -3,6 +3,7 @@
  *
  *     compare [BYTES [SEED]]    random memories, until as many bytes were compared; 1,000,000
  *     compare --image FILE..    images: the 2,048 bytes of a RAM, and 2,048 or 4,096 of a ROM
+ *     compare --units ..        either of them, with strokes in whole units (units.h)
  *
  * The port hands out strokes after a HALT alone. So each run gets one: after some words the kit
  * hands both sides B000 in place of the memory's words. A fifth call, a return without a call and
@@ -12,6 +13,7 @@
  * Status 0: no difference; 1: a difference; 2: memory or a file failed; 64: arguments. */
 #include "dvg.h"
 #include "mine.h"
+#include "units.h"
 #include <stdio.h>
 #include <stdlib.h>
 #include <string.h>
@@ -42,6 +44,7 @@ struct outcome {
 static dvg *port;
 static dvg_stroke strokes[MOST_STROKES]; /* of mine, in the run that is open */
 static unsigned drawn;
+static bool in_units;
 static uint64_t random_state;
 static unsigned long stopped_at_stack, stopped_at_hole, halts;
 
@@ -103,10 +106,10 @@ static void compare_wanted(struct outcome *outcome, enum mine_state state)
 /* Compares the strokes of a run that halted. */
 static void compare_strokes(struct outcome *outcome)
 {
-    uint64_t count = dvg_strokes(port);
+    uint64_t count = in_units ? units_strokes() : dvg_strokes(port);
     uint64_t number;
     for (number = 0; number < count || number < drawn; number++) {
-        dvg_stroke a = dvg_stroke_at(port, number);
+        dvg_stroke a = in_units ? units_stroke((unsigned)number) : dvg_stroke_at(port, number);
         dvg_stroke b = {0, 0, 0, 0, 0};
         if (number < drawn && number < MOST_STROKES) {
             b = strokes[number];
@@ -148,6 +151,9 @@ static dvg_answer hand_byte(const struct test *test, struct outcome *outcome)
         outcome->at[outcome->words] = answer.address;
         outcome->word[outcome->words] = answer.value;
         outcome->words++;
+        if (in_units) {
+            units_word(answer.value);
+        }
     }
     outcome->broke = dvg_break_of(answer);
     compare_wanted(outcome, state_of(answer));
@@ -161,6 +167,9 @@ static void run_once(const struct test *test, struct outcome *outcome, bool powe
     unsigned byte;
     enum mine_state state = MINE_RUNS;
     dvg_strobe(port);
+    if (in_units) {
+        units_start();
+    }
     mine_start(power_on);
     drawn = 0;
     outcome->words = 0;
@@ -402,7 +411,7 @@ static void make_random(struct test *test)
     if (number_below(8) == 0) {
         test->words[0] = (int32_t)(0xE000 | (0xFF0 + number_below(16)));
     }
-    test->interrupted = number_below(2) ? 1 + number_below(60) : 0;
+    test->interrupted = number_below(2) && !in_units ? 1 + number_below(60) : 0;
     test->most = 1 + number_below(MOST_RUN);
 }
 
@@ -473,16 +482,24 @@ static int compare_random(struct test *test, unsigned long most_bytes)
 int main(int count, char **arguments)
 {
     static struct test test;
-    unsigned long bytes = count > 1 ? strtoul(arguments[1], NULL, 10) : 1000000;
-    bool images = count > 2 && strcmp(arguments[1], "--image") == 0;
+    unsigned long bytes;
+    bool images;
     int status;
+    if (count > 1 && strcmp(arguments[1], "--units") == 0) {
+        in_units = true;
+        count--;
+        arguments++;
+    }
+    bytes = count > 1 ? strtoul(arguments[1], NULL, 10) : 1000000;
+    images = count > 2 && strcmp(arguments[1], "--image") == 0;
     random_state = count > 2 ? strtoull(arguments[2], NULL, 10) : 1;
     if (!images && (count > 3 || bytes == 0 || random_state == 0)) {
-        fputs("compare [BYTES [SEED]], both above 0, or compare --image FILE..\n", stderr);
+        fputs("compare [--units] [BYTES [SEED]], both above 0, or [--units] --image FILE..\n",
+              stderr);
         return 64;
     }
     random_state *= 0x9E3779B97F4A7C15u;
-    if (dvg_new(&port) != 0) {
+    if (dvg_new(&port) != 0 || !units_open()) {
         return 2;
     }
     status = images ? compare_images(&test, arguments + 2) : compare_random(&test, bytes);

@@ -5,6 +5,10 @@
 #include <stdbool.h>
 #include <stdint.h>
 
+#ifdef __cplusplus
+extern "C" {
+#endif
+
 /* How a generator stands after a byte. */
 enum mine_state { MINE_RUNS, MINE_HALTED, MINE_STACK_OVER, MINE_STACK_UNDER, MINE_HOLE };
 
@@ -26,7 +30,18 @@ void mine_byte(int byte);
 struct mine_wanted mine_wants(void);
 
 /* The kit's: call it for each line or dot that is drawn (z above 0), in the order drawn. Places are
- * in 1/512 of a screen unit, 0 to 2,097,151. */
+ * in 1/512 of a screen unit, 0 to 2,097,151; with --units in whole ones, 0 to 4,095. */
 void drew(uint32_t x0, uint32_t y0, uint32_t x1, uint32_t y1, unsigned z);
+
+/* For a DVG that runs a whole list at once, and reads its words itself: at_once.c has yours 1 to 3,
+ * and own_run is yours. A start strobe comes; with `power_on` the power comes before it. It returns
+ * after a HALT. For each word that it fetches, in order, it asks own_word, which is at_once.c's, by
+ * the word's address, 000 to FFF. */
+void own_run(bool power_on);
+unsigned own_word(unsigned at);
+
+#ifdef __cplusplus
+}
+#endif
 
 #endif
