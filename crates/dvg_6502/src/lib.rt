@@ -3,9 +3,10 @@
 //! There is no code here. Each law is the contract of a function that does nothing.
 #![tactic(auto)]
 
-ghost use Rattle.dvg_6502.specs.Calls.{CallsLive, OfferAnswers, OneLife, RedrawAnswers};
+ghost use Rattle.dvg_6502.specs.Calls.{CallsLive, OfferAnswers, OneLife, OpenAnswers, RedrawAnswers};
 ghost use Rattle.dvg_6502.specs.Decided.{Decides};
-ghost use Rattle.dvg_6502.specs.Joined.{BoardKeeps, SomeCalls, SomeLogs};
+ghost use Rattle.dvg_6502.specs.Programs.{Hindsight};
+ghost use Rattle.dvg_6502.specs.Joined.{BoardKeeps, SomeBuilding, SomeCalls, SomeLogs};
 ghost use Rattle.dvg_6502.specs.Routines.{OfferRefuses, OfferTakes, RedrawRefuses, RedrawTakes};
 ghost use Rattle.dvg_6502.specs.Routines.{ResetRefines, TickRefines};
 ghost use Rattle.dvg_6502.specs.Build.{BuildsScript, BuiltAccepted, CloseTakes, IdleTicks};
@@ -53,14 +54,17 @@ pub fn redraw()
 /// Over all calls since a reset, with any memory at first, also interrupted ones, where nobody else
 /// writes the driver's bytes, its code, the hardware or a table that is being written: the accesses of
 /// the hardware, in their order, with the frames and redraws that were taken, are a life of the script.
+/// A frame that the program builds counts as taken at `dvg_open`.
 pub fn calls_live()
     ensures { CallsLive }
 {}
 
 /// There are such calls: after the boot a frame's table is offered, and taken, and an NMI that counts
-/// comes amid that. So there are such logs, over each ROM and each first memory image.
+/// comes amid that; or a frame of one LABS is built. So there are such logs, over each ROM and each first
+/// memory image.
 pub fn some_calls()
     ensures calls { SomeCalls }
+    ensures building { SomeBuilding }
     ensures logs { SomeLogs }
 {}
 
@@ -69,16 +73,25 @@ pub fn one_life()
     ensures { OneLife }
 {}
 
-/// Of all calls, an offer is taken exactly where the life is whole, and a redraw where it has a
-/// flip, too.
+/// What a program builds is known in hindsight: where each call that puts a part brings the words of an
+/// operation, the first one of a LABS, there are drafts with which its calls are as the laws speak of them:
+/// of a frame that is given up what was put, and a HALT.
+pub fn hindsight()
+    ensures { Hindsight }
+{}
+
+/// Of all calls, an offer or `dvg_open` is taken exactly where the life is whole, and a redraw where it
+/// has a flip, too.
 pub fn answers()
     ensures offer { OfferAnswers }
+    ensures opens { OpenAnswers }
     ensures redraw { RedrawAnswers }
 {}
 
 /// A log whose driver's lines are accesses and answers of the machine code is legal, and keeps the
 /// headline: no byte is written in the half being drawn, and each picture is that of the frame
-/// newest published.
+/// newest published. Of a frame that the program builds each shape that it calls is one that the check
+/// accepts when it is called once.
 pub fn board_keeps()
     ensures { BoardKeeps }
 {}
