@@ -3,7 +3,7 @@ use Rattle.std.proofs.Common.{◌≡◌, ℕ, suc, inl, inr, ◌+◌, ◌-◌, �
 use Rattle.std.proofs.Common.{◌++◌, length, refl, sym, ap, ◌∙◌, subst, arith, Some, leb-true, le-leb, drop}
 use Rattle.std.proofs.Math.Seq.{drop-append_seam}
 use Rattle.std.proofs.lemmas.Bool.{ne_eqb, leb-false}
-use Rattle.std.specs.Prelude.{Option, None, nat_eq, nat_le, nat_lt, ◌⊎◌, ◌&&◌, ◌||◌, if◌then◌else◌}
+use Rattle.std.specs.Prelude.{Option, None, nat_eq, nat_le, nat_lt, ◌⊎◌, ◌||◌, if◌then◌else◌}
 use Rattle.dvg_mem.specs.declared.half.Half.{Half}
 use Rattle.dvg_mem.specs.Areas.{other, half_of_high}
 use Rattle.dvg_frame.specs.Bytes.{addressed}
@@ -13,7 +13,7 @@ use Rattle.dvg_driver.specs.Place.{Place, Start, Booting, Resting, Writing, Wait
 use Rattle.dvg_driver.specs.Stands.{byte1_of}
 use Rattle.dvg_6502.specs.Processor.{Cpu, run, at_return}
 use Rattle.dvg_6502.specs.Board.{seen, goal_in}
-use Rattle.dvg_6502.specs.Holds.{Holds, HoldsPlace, IsFeeding}
+use Rattle.dvg_6502.specs.Holds.{HoldsPlace, IsFeeding}
 use Rattle.dvg_6502.specs.Routines.{Enters, Part, Put, Pair, Labs, begins, put_by}
 use Rattle.dvg_6502.specs.Calls.{Puts, Close, AreShown, Brings, put_on}
 use Rattle.dvg_6502.specs.Build.{IsBuilding, put_items, written}

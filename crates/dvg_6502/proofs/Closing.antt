@@ -13,7 +13,7 @@ use Rattle.dvg_6502.specs.Code.{dvg_open, dvg_pair, dvg_labs, dvg_close}
 use Rattle.dvg_6502.specs.Board.{IsLoaded, seen, goal_in}
 use Rattle.dvg_6502.specs.Holds.{Holds, publish_byte}
 use Rattle.dvg_6502.specs.Routines.{Enters}
-use Rattle.dvg_6502.specs.Build.{IsBuilding, Builds, Opens, Closes, OpenTakes, PairTakes, LabsTakes, CloseTakes}
+use Rattle.dvg_6502.specs.Build.{IsBuilding, Opens, Closes, OpenTakes, PairTakes, LabsTakes, CloseTakes}
 use Rattle.dvg_6502.specs.Build.{Idles, IdleTicks}
 use Rattle.dvg_6502.proofs.Running.{Comes, by, at, returned}
 use Rattle.dvg_6502.proofs.Memory.{AreSmall, page_in, laid, page_of, loaded, put_small, state_is}

@@ -1,8 +1,8 @@
 -- A boot and an offer, over a memory of zeros with the code and a table.
-use Rattle.std.proofs.Common.{◌≡◌, ℕ, zero, suc, ◌+◌, ◌-◌, ◌%◌, ◌<◌, Bool, true, false, eqb-true, List, [], ◌∷◌}
+use Rattle.std.proofs.Common.{◌≡◌, ℕ, zero, suc, ◌+◌, ◌%◌, ◌<◌, Bool, true, false, eqb-true, List, [], ◌∷◌}
 use Rattle.std.proofs.Common.{◌++◌, refl, sym, ap, ◌∙◌, arith, inl}
 use Rattle.std.proofs.lemmas.List.Elements.{All-cons, All-nil}
-use Rattle.std.specs.Prelude.{◌||◌, ◌&&◌, nat_eq, nat_le, nat_lt, if◌then◌else◌, slice_index, pos}
+use Rattle.std.specs.Prelude.{◌||◌, nat_eq, if◌then◌else◌, slice_index, pos}
 use Rattle.dvg_code.specs.declared.instr.Instr.TheVariants.{Labs, Vctr}
 use Rattle.dvg_mem.specs.declared.half.Half.TheVariants.{H1}
 use Rattle.dvg_frame.specs.declared.op.OpKind.{OpKind}

@@ -1,5 +1,5 @@
 -- For the calls of a program that builds there are drafts.
-use Rattle.std.proofs.Common.{◌≡◌, ℕ, suc, ◌+◌, ◌*◌, ◌<◌, ◌≤◌, Bool, true, false, not, List, [], ◌∷◌, ◌++◌, length, refl}
+use Rattle.std.proofs.Common.{◌≡◌, ℕ, ◌+◌, ◌<◌, ◌≤◌, Bool, true, false, not, List, [], ◌∷◌, ◌++◌, length, refl}
 use Rattle.std.proofs.Common.{sym, ap, ◌∙◌, subst, arith, Some, Option, None, drop, leb-true}
 use Rattle.std.proofs.Math.Seq.{drop-append_seam}
 use Rattle.std.proofs.lemmas.Bool.{leb-false}
@@ -9,16 +9,17 @@ use Rattle.dvg_frame.specs.declared.op.OpKind.TheVariants.{Halt as Stop}
 use Rattle.dvg_driver.specs.Script.{Item}
 use Rattle.dvg_6502.specs.Processor.{Cpu, run, at_return}
 use Rattle.dvg_6502.specs.Amid.{AreHarmless, guards, is_kept}
-use Rattle.dvg_6502.specs.Tables.{HasTable, table_of}
+use Rattle.dvg_6502.specs.Tables.{table_of}
 use Rattle.dvg_6502.specs.Routines.{Enters, Part, begins, put_by}
 use Rattle.dvg_6502.specs.Calls.{Routine, Reset, Tick, Ticks, Run, Offer, Redraw, Open, Puts, Close, Call, after}
 use Rattle.dvg_6502.specs.Calls.{has_returned, is_taken, is_offered, entry, bounds, taken_bounds, put_on, frame_of, frame_after, Brings}
-use Rattle.dvg_6502.specs.Calls.{IsUntouched, IsLeftAlone, Follows, UnlessReset, IsSessionBy, IsSession}
+use Rattle.dvg_6502.specs.Calls.{IsLeftAlone, Follows, UnlessReset, IsSessionBy, IsSession, TicksReturn}
 use Rattle.dvg_6502.specs.Build.{IsPut}
 use Rattle.dvg_6502.specs.Programs.{IsLabs, Tells, renamed, with_drafts, BuildsOnly, AreBuilt, Hindsight}
 use Rattle.dvg_6502.proofs.Plain as plain
-use Rattle.dvg_6502.proofs.Built.{holds_in}
-use Rattle.dvg_6502.proofs.BuildCalls.{Ended, puts_room, puts_over, close_some}
+use Rattle.dvg_6502.proofs.TicksRun.{ticks_return}
+use Rattle.dvg_6502.proofs.Built.{holds_in, holds_goes}
+use Rattle.dvg_6502.proofs.BuildCalls.{puts_room, puts_over, close_some}
 use Rattle.dvg_6502.proofs.Interrupted.{plain_of, bridge, facts_of, unless_map}
 use Rattle.dvg_6502.proofs.Drafts.{Fits, shortest, shortest_fits, fits_more, table_on, ends_some, buildable, is_built}
 
@@ -87,6 +88,19 @@ held call older olds enters follows session =
           subst (λ frame. holds_in ends.0 ends.1 frame call.from.mem facts.standing.0) (sym facts.frame) facts.standing.2,
         ),
       ),
+    )
+
+pub ticks_come_back : TicksReturn
+ticks_come_back from others [] session = absurd (session 0).3.0
+ticks_come_back from others (older ∷ olds) session =
+    let call : Call = record { routine = Ticks; from = from; steps = 0; others = others } in
+    let first = session 0 in
+    let was = held call older olds first.0 first.3.0 first.3.1 in
+    let done = ticks_return (holds_in was.0 was.1.0 (frame_of (older ∷ olds))) from was.0 was.1.0 was.1.1.0
+    (holds_goes was.0 was.1.0 (frame_of (older ∷ olds))) first.0.entry first.0.a first.0.s was.1.1.1 in (
+      done.0,
+      (bridge (record { routine = Ticks; from = from; steps = done.0; others = others }) (older ∷ olds)
+          (session done.0)).returned ∙ done.1,
     )
 
 -- one call more; what it brings is told of the drafts that were found
@@ -546,39 +560,39 @@ module _ (R : List ℕ) (from : Cpu) (steps : ℕ) (others : ℕ → ℕ → ℕ
       → ((f : Option (ℕ × List ℕ)) → frame_after routine (call_of routine) f ≡ f)
       → ((f : Option (ℕ × List ℕ)) → Brings routine from f) → BuildsOnly R routine
       → ((P : Type 0) → P → UnlessReset routine P) → Finds R (call_of routine) calls
-  quiet routine enters alone before keeps stays brings builds unless =
-      subst (λ l. Finds R (call_of routine) l) (sym before.2)
-      (quiet_finds R (call_of routine) before.0 before.1 enters
-      (subst (λ l. IsLeftAlone (call_of routine) l) before.2 alone) before.3 before.4 keeps stays brings builds unless)
+  quiet routine enters alone first keeps stays brings builds unless =
+      subst (λ l. Finds R (call_of routine) l) (sym first.2)
+      (quiet_finds R (call_of routine) first.0 first.1 enters
+      (subst (λ l. IsLeftAlone (call_of routine) l) first.2 alone) first.3 first.4 keeps stays brings builds unless)
 
   one_finds : (routine : Routine) → Enters from (entry routine) → Tells R routine from (frame_of calls)
       → IsLeftAlone (call_of routine) calls → UnlessReset routine (Prior R (call_of routine) calls)
       → Finds R (call_of routine) calls
-  one_finds Reset enters tells alone before = reset_finds R from steps others calls enters alone
-  one_finds Tick enters tells alone before =
-      quiet Tick enters alone before refl (λ f. refl) (λ f. tt) tt (λ P is. is)
-  one_finds Ticks enters tells alone before =
-      quiet Ticks enters alone before refl (λ f. refl) (λ f. tt) tt (λ P is. is)
-  one_finds Run enters tells alone before =
-      quiet Run enters alone before refl (λ f. refl) (λ f. tt) tt (λ P is. is)
-  one_finds (Offer F) enters tells alone before =
-      quiet (Offer F) enters alone before refl (λ f. refl) (λ f. tells) tt (λ P is. is)
-  one_finds Redraw enters tells alone before =
-      quiet Redraw enters alone before refl (λ f. refl) (λ f. tt) tt (λ P is. is)
-  one_finds (Open F) enters tells alone before =
-      subst (λ l. Finds R (call_of (Open F)) l) (sym before.2)
-      (open_finds R F from steps others before.0 before.1 enters
-      (subst (λ l. IsLeftAlone (call_of (Open F)) l) before.2 alone) before.3 before.4)
-  one_finds (Puts part) enters tells alone before =
-      subst (λ l. Finds R (call_of (Puts part)) l) (sym before.2)
-      (puts_find R part from steps others before.0 before.1 enters
-      (subst (λ l. IsLeftAlone (call_of (Puts part)) l) before.2 alone) before.3
-      (subst (λ l. Tells R (Puts part) from (frame_of l)) before.2 tells) before.4)
-  one_finds Close enters tells alone before =
-      subst (λ l. Finds R (call_of Close) l) (sym before.2)
-      (close_finds R from steps others before.0 before.1 enters
-      (subst (λ l. IsLeftAlone (call_of Close) l) before.2 alone) before.3
-      (subst (λ l. Tells R Close from (frame_of l)) before.2 tells) before.4)
+  one_finds Reset enters tells alone first = reset_finds R from steps others calls enters alone
+  one_finds Tick enters tells alone first =
+      quiet Tick enters alone first refl (λ f. refl) (λ f. tt) tt (λ P is. is)
+  one_finds Ticks enters tells alone first =
+      quiet Ticks enters alone first refl (λ f. refl) (λ f. tt) tt (λ P is. is)
+  one_finds Run enters tells alone first =
+      quiet Run enters alone first refl (λ f. refl) (λ f. tt) tt (λ P is. is)
+  one_finds (Offer F) enters tells alone first =
+      quiet (Offer F) enters alone first refl (λ f. refl) (λ f. tells) tt (λ P is. is)
+  one_finds Redraw enters tells alone first =
+      quiet Redraw enters alone first refl (λ f. refl) (λ f. tt) tt (λ P is. is)
+  one_finds (Open F) enters tells alone first =
+      subst (λ l. Finds R (call_of (Open F)) l) (sym first.2)
+      (open_finds R F from steps others first.0 first.1 enters
+      (subst (λ l. IsLeftAlone (call_of (Open F)) l) first.2 alone) first.3 first.4)
+  one_finds (Puts part) enters tells alone first =
+      subst (λ l. Finds R (call_of (Puts part)) l) (sym first.2)
+      (puts_find R part from steps others first.0 first.1 enters
+      (subst (λ l. IsLeftAlone (call_of (Puts part)) l) first.2 alone) first.3
+      (subst (λ l. Tells R (Puts part) from (frame_of l)) first.2 tells) first.4)
+  one_finds Close enters tells alone first =
+      subst (λ l. Finds R (call_of Close) l) (sym first.2)
+      (close_finds R from steps others first.0 first.1 enters
+      (subst (λ l. IsLeftAlone (call_of Close) l) first.2 alone) first.3
+      (subst (λ l. Tells R Close from (frame_of l)) first.2 tells) first.4)
 
 all_find : (R : List ℕ) (call : Call) (calls : List Call) → IsSessionBy (Tells R) (call ∷ calls) → Finds R call calls
 all_find R call [] session =

@@ -7,7 +7,7 @@ use Rattle.dvg_6502.specs.Board.{IsLoaded, seen, is_own}
 use Rattle.dvg_6502.specs.Amid.{is_kept, are_steady}
 use Rattle.dvg_6502.specs.Routines.{Enters, Part, Put, Pair, Labs, begins}
 use Rattle.dvg_6502.proofs.Running.{Comes, by, at, returned}
-use Rattle.dvg_6502.proofs.Memory.{AreSmall, laid, page_of, page_in, known, loaded, put_small, both_true, state_is}
+use Rattle.dvg_6502.proofs.Memory.{laid, page_of, page_in, known, loaded, put_small, both_true, state_is}
 use Rattle.dvg_6502.proofs.FedByte.{compared}
 use Rattle.dvg_6502.proofs.Masks.{opened, mixed}
 use Rattle.dvg_6502.proofs.Steady.{steady_all, code_kept}

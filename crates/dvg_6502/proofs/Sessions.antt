@@ -12,15 +12,15 @@ use Rattle.dvg_frame.specs.Layout.{laid}
 use Rattle.dvg_driver.specs.declared.action.Action.{Action}
 use Rattle.dvg_driver.specs.declared.action.Action.TheVariants.{Peek, Wrote, Read, Sent, Idle}
 use Rattle.dvg_driver.specs.Script.{Item, Offered, Asked, Did, IsWhole, has_flip, frame_writes, word_zero}
-use Rattle.dvg_driver.specs.Place.{Place, Start, Booting, Resting, Writing, Waiting, Sending, place_of_life, next_place}
+use Rattle.dvg_driver.specs.Place.{Place, Start, Resting, Writing, Waiting, place_of_life, next_place}
 use Rattle.dvg_driver.specs.Stands.{Stage, StandsAfter, KnowsHalf, byte1_of}
 use Rattle.dvg_driver.proofs.Places.{whole_rests, some_same}
 use Rattle.dvg_driver.proofs.Shapes.{place_life, rests_whole}
 use Rattle.dvg_6502.specs.Processor.{Cpu, Access, Reads, Writes, run, at_return}
 use Rattle.dvg_6502.specs.Board.{IsLoaded, seen, tells_halted, goal_in}
-use Rattle.dvg_6502.specs.Holds.{Holds, HoldsPlace, publish_byte}
+use Rattle.dvg_6502.specs.Holds.{Holds, HoldsPlace}
 use Rattle.dvg_6502.specs.Tables.{HasTable, table_of}
-use Rattle.dvg_6502.specs.Routines.{Enters, Shows, Answers, IsBusy, Part, begins, put_by}
+use Rattle.dvg_6502.specs.Routines.{Enters, Shows, Answers, Part, begins, put_by}
 use Rattle.dvg_6502.specs.Calls
 use Rattle.dvg_6502.specs.Calls.{Routine, AreShown, put_on}
 use Rattle.dvg_6502.proofs.Plain
@@ -33,7 +33,7 @@ use Rattle.dvg_6502.proofs.Ticking.{append_none}
 use Rattle.dvg_6502.proofs.Going.{Claim, GoesTo}
 use Rattle.dvg_6502.proofs.TickCall.{tick_goes}
 use Rattle.dvg_6502.proofs.TicksRun.{ticks_go}
-use Rattle.dvg_6502.proofs.Offering.{reset_refines, offer_is_taken, offer_is_refused, redraw_is_taken}
+use Rattle.dvg_6502.proofs.Offering.{reset_refines, offer_is_taken, redraw_is_taken}
 use Rattle.dvg_6502.proofs.Offering.{redraw_is_refused}
 use Rattle.dvg_6502.proofs.Building.{goal_is}
 use Rattle.dvg_6502.proofs.Closing.{open_steadily, open_is_taken}

@@ -1,5 +1,5 @@
 -- dvg_ticks: this many ticks.
-use Rattle.std.proofs.Common.{◌≡◌, ◌≢◌, ℕ, zero, suc, inl, inr, ◌+◌, ◌%◌, ◌<◌, ◌≤◌, Bool, true, false, List, [], ◌∷◌}
+use Rattle.std.proofs.Common.{◌≡◌, ◌≢◌, ℕ, zero, suc, inl, inr, ◌+◌, ◌%◌, ◌<◌, ◌≤◌, Bool, true, false, List, ◌∷◌}
 use Rattle.std.proofs.Common.{◌++◌, refl, sym, ap, ◌∙◌, subst, arith, leb-true}
 use Rattle.std.proofs.lemmas.Bool.{ne_eqb}
 use Rattle.std.specs.Prelude.{nat_eq, nat_le, nat_lt, ◌⊎◌}
@@ -159,6 +159,40 @@ module _ (P : Claim) (begin stop : ℕ) (goes : GoesByTicks P begin stop) (q : �
             (omega (arith, most)) next_pc next_q (next_count ∙ down) next_stood,
       ))
 
+  -- they come to their end
+  ticks_end : (n : ℕ) (cpu : Cpu) (life : List Item) → n ≤ 255 → cpu.pc ≡ 0x6862 → cpu.s ≡ q
+      → cpu.mem 0x1F ≡ suc n % 256 → P cpu.mem life → (k : ℕ) × (at_return q (run q k cpu) ≡ true)
+  ticks_end zero cpu life most at_pc at_q count stood =
+      let t = tick_call_to P begin stop goes q false cpu life q_small at_pc at_q stood in
+      let mid = run q t.steps cpu in
+      let is = ap (run q 2) (sym (state_is mid 0x6865 q t.pc t.stack (goes.loaded mid.mem (t.made.items ++ life) t.stood)))
+      ∙ last q mid.a mid.x mid.y mid.n mid.z mid.c mid.v mid.mem mid.flags mid.log
+      (ap (λ m. nat_eq ((m + 255) % 256) 0) (t.kept ∙ count)) in (
+        2 + t.steps,
+        ap (at_return q) (run_more q t.steps 2 cpu ∙ is)
+            ∙ returned q (then_at q mid.a mid.x mid.y mid.n mid.z mid.c mid.v mid.mem mid.flags mid.log 0x6869 true) refl refl,
+      )
+  ticks_end (suc n) cpu life most at_pc at_q count stood =
+      let t = tick_call_to P begin stop goes q false cpu life q_small at_pc at_q stood in
+      let mid = run q t.steps cpu in
+      let down : (mid.mem 0x1F + 255) % 256 ≡ suc n % 256 = lower n (mid.mem 0x1F) (t.kept ∙ count) most in
+      let is = ap (run q 2) (sym (state_is mid 0x6865 q t.pc t.stack (goes.loaded mid.mem (t.made.items ++ life) t.stood)))
+      ∙ again q mid.a mid.x mid.y mid.n mid.z mid.c mid.v mid.mem mid.flags mid.log
+      (ne_eqb ((mid.mem 0x1F + 255) % 256) 0 (some n (mid.mem 0x1F) (t.kept ∙ count) most)) in
+      let next = then_at q mid.a mid.x mid.y mid.n mid.z mid.c mid.v mid.mem mid.flags mid.log 0x6862 false in
+      let rest = ticks_end n next (t.made.items ++ life) (omega (arith, most)) refl refl down
+      (count_stood P begin stop goes mid.mem ((mid.mem 0x1F + 255) % 256) (t.made.items ++ life) (omega arith) t.stood) in (
+        rest.0 + (2 + t.steps),
+        ap (at_return q) (run_more q (2 + t.steps) rest.0 cpu
+            ∙ ap (run q rest.0) (run_more q t.steps 2 cpu ∙ is)) ∙ rest.1,
+      )
+    where
+      lower : (n m : ℕ) → m ≡ suc (suc n) % 256 → suc n ≤ 255 → (m + 255) % 256 ≡ suc n % 256
+      lower n m count most = omega (arith, count, most)
+
+      some : (n m : ℕ) → m ≡ suc (suc n) % 256 → suc n ≤ 255 → (m + 255) % 256 ≢ 0
+      some n m count most none = absurd (omega (arith, count, most, none))
+
 -- a call of dvg_ticks
 pub ticks_go : (P : Claim) (k : ℕ) (cpu : Cpu) (begin stop : ℕ) (life : List Item) → GoesByTicks P begin stop
     → cpu.pc ≡ 0x6860 → cpu.a < 256 → cpu.s < 256 → P cpu.mem life → GoesTo P cpu.s k cpu begin stop life
@@ -168,6 +202,25 @@ ticks_go P k cpu begin stop life goes at_pc a_small s_small stood =
     (idle_stretch cpu.s from 1 begin stop life (goes.placed cpu.mem life stood) refl (λ tables. refl)) (omega arith) refl
     (λ j less. ticks_left P begin stop goes cpu.s s_small ((cpu.a + 255) % 256) j (run cpu.s 1 from) life
     (omega arith) refl refl (omega (arith, a_small)) counted))
+  where
+    from : Cpu
+    from = at 0x6860 cpu.a cpu.x cpu.y cpu.s cpu.n cpu.z cpu.c cpu.v (laid (page_in cpu.mem) cpu.mem) cpu.flags cpu.log
+
+    is : from ≡ cpu
+    is = state_is cpu 0x6860 cpu.s at_pc refl (goes.loaded cpu.mem life stood)
+
+    counted : P (run cpu.s 1 from).mem life
+    counted = subst (λ (m : ℕ → ℕ). P m life) (sym (put_out 0x1F cpu.a (page_in cpu.mem) cpu.mem refl refl))
+        (count_stood P begin stop goes cpu.mem cpu.a life a_small stood)
+
+-- it returns
+pub ticks_return : (P : Claim) (cpu : Cpu) (begin stop : ℕ) (life : List Item) → GoesByTicks P begin stop
+    → cpu.pc ≡ 0x6860 → cpu.a < 256 → cpu.s < 256 → P cpu.mem life
+    → (k : ℕ) × (at_return cpu.s (run cpu.s k cpu) ≡ true)
+ticks_return P cpu begin stop life goes at_pc a_small s_small stood =
+    let rest = ticks_end P begin stop goes cpu.s s_small ((cpu.a + 255) % 256) (run cpu.s 1 from) life
+    (omega arith) refl refl (omega (arith, a_small)) counted in
+    (rest.0 + 1, ap (at_return cpu.s) (ap (run cpu.s (rest.0 + 1)) (sym is) ∙ run_more cpu.s 1 rest.0 from) ∙ rest.1)
   where
     from : Cpu
     from = at 0x6860 cpu.a cpu.x cpu.y cpu.s cpu.n cpu.z cpu.c cpu.v (laid (page_in cpu.mem) cpu.mem) cpu.flags cpu.log

@@ -3,7 +3,7 @@
 //! There is no code here. Each law is the contract of a function that does nothing.
 #![tactic(auto)]
 
-ghost use Rattle.dvg_6502.specs.Calls.{CallsLive, OfferAnswers, OneLife, OpenAnswers, RedrawAnswers};
+ghost use Rattle.dvg_6502.specs.Calls.{CallsLive, OfferAnswers, OneLife, OpenAnswers, RedrawAnswers, TicksReturn};
 ghost use Rattle.dvg_6502.specs.Decided.{Decides};
 ghost use Rattle.dvg_6502.specs.Programs.{Hindsight};
 ghost use Rattle.dvg_6502.specs.Joined.{BoardKeeps, SomeBuilding, SomeCalls, SomeLogs};
@@ -66,6 +66,11 @@ pub fn some_calls()
     ensures calls { SomeCalls }
     ensures building { SomeBuilding }
     ensures logs { SomeLogs }
+{}
+
+/// A call of `dvg_ticks` returns, also amid interrupts.
+pub fn ticks_return()
+    ensures { TicksReturn }
 {}
 
 /// Calls make at most one life.
