@@ -59,9 +59,9 @@ pub fn calls_live()
     ensures { CallsLive }
 {}
 
-/// There are such calls: after the boot a frame's table is offered, and taken, and an NMI that counts
-/// comes amid that; or a frame of one LABS is built. So there are such logs, over each ROM and each first
-/// memory image.
+/// There are such calls: after the boot a frame's table is offered, and taken, and an NMI that
+/// counts comes amid that; or a frame of one LABS is built. And there are such logs, over each ROM
+/// and each first memory image.
 pub fn some_calls()
     ensures calls { SomeCalls }
     ensures building { SomeBuilding }
@@ -78,15 +78,15 @@ pub fn one_life()
     ensures { OneLife }
 {}
 
-/// What a program builds is known in hindsight: where each call that puts a part brings the words of an
-/// operation, the first one of a LABS, there are drafts with which its calls are as the laws speak of them:
-/// of a frame that is given up what was put, and a HALT.
+/// What a program builds is known in hindsight: where each call that puts a part brings the words
+/// of an operation, the first one of a LABS, there are drafts with which its calls are as the laws
+/// speak of them: what was put, and a HALT, also where a frame is given up.
 pub fn hindsight()
     ensures { Hindsight }
 {}
 
-/// Of all calls, an offer or `dvg_open` is taken exactly where the life is whole, and a redraw where it
-/// has a flip, too.
+/// Of all calls, an offer or `dvg_open` is taken exactly where the life is whole, and a redraw where
+/// it has a flip, too.
 pub fn answers()
     ensures offer { OfferAnswers }
     ensures opens { OpenAnswers }
@@ -95,8 +95,8 @@ pub fn answers()
 
 /// A log whose driver's lines are accesses and answers of the machine code is legal, and keeps the
 /// headline: no byte is written in the half being drawn, and each picture is that of the frame
-/// newest published. Of a frame that the program builds each shape that it calls is one that the check
-/// accepts when it is called once.
+/// newest published. Of a frame that the program builds each shape that it calls is one that the
+/// check accepts when it is called once.
 pub fn board_keeps()
     ensures { BoardKeeps }
 {}
