@@ -75,22 +75,17 @@ table_on R op ops put ends =
     ∙ ap (λ l. l ++ bytes (words_of ops)) (sym (one_table R op put))
     ∙ ap (λ l. table_of (op ∷ []) ++ l) (sym (table_is R ops ends))
 
+-- an operation more has more bytes
+more : (R : List ℕ) (op : OpKind) (ops : List OpKind) → IsPut R op → IsEnding R ops → 2 ≤ length (table_of ops)
+    → 2 ≤ length (table_of (op ∷ ops))
+more R op ops put ends some =
+    let is = ap length (table_on R op ops put ends) in
+    let both = length-append (table_of (op ∷ [])) (table_of ops) in omega (arith, is, both, some)
+
 pub ends_some : (R : List ℕ) (ops : List OpKind) → IsEnding R ops → 2 ≤ length (table_of ops)
 ends_some R [] ends = absurd ends
 ends_some R (Draw instr ∷ ops) ends = more R (Draw instr) ops ends.0 ends.1 (ends_some R ops ends.1)
-  where
-    more : (R : List ℕ) (op : OpKind) (ops : List OpKind) → IsPut R op → IsEnding R ops → 2 ≤ length (table_of ops)
-        → 2 ≤ length (table_of (op ∷ ops))
-    more R op ops put ends some =
-        let is = ap length (table_on R op ops put ends) in
-        let both = length-append (table_of (op ∷ [])) (table_of ops) in omega (arith, is, both, some)
 ends_some R (CallRom a ∷ ops) ends = more R (CallRom a) ops ends.0 ends.1 (ends_some R ops ends.1)
-  where
-    more : (R : List ℕ) (op : OpKind) (ops : List OpKind) → IsPut R op → IsEnding R ops → 2 ≤ length (table_of ops)
-        → 2 ≤ length (table_of (op ∷ ops))
-    more R op ops put ends some =
-        let is = ap length (table_on R op ops put ends) in
-        let both = length-append (table_of (op ∷ [])) (table_of ops) in omega (arith, is, both, some)
 ends_some R (JumpRom a ∷ ops) ends = absurd ends.0
 ends_some R (Call j ∷ ops) ends = absurd ends.0
 ends_some R (Jump j ∷ ops) ends = absurd ends.0
