@@ -2,7 +2,7 @@
 use Rattle.std.proofs.Common.{◌≡◌, ℕ, suc, Bool, true, false, refl, ap, ◌∙◌}
 use Rattle.std.specs.Prelude.{nat_eq, ◌&&◌, ◌||◌}
 use Rattle.dvg_6502.specs.Processor.{Cpu, run, at_return}
-use Rattle.dvg_6502.specs.Amid.{ComesOut, CameOut, amid, guards, is_kept_building, are_steady, is_code}
+use Rattle.dvg_6502.specs.Amid.{ComesOut, CameOut, amid, guards, is_kept, is_kept_building, are_steady, is_code}
 use Rattle.dvg_6502.proofs.AmidRun.{came_out}
 use Rattle.dvg_6502.proofs.Steady.{steady_all, code_kept, last_kept}
 
@@ -34,3 +34,9 @@ pub alike_if : (cpu : Cpu) (steps : ℕ) → at_return cpu.s (run cpu.s steps cp
     → ComesOut (guards is_kept_building cpu.s) cpu
 alike_if cpu steps back steady there =
     comes_out is_kept_building cpu steps (code_kept (λ b. false)) back steady there
+
+-- up to its end a call leaves byte 001 as it is, and takes guarded bytes alone
+pub record Keeping (cpu : Cpu) (steps : ℕ) : Type 0 where
+  pub byte1 : (run cpu.s steps cpu).mem 0x4001 ≡ cpu.mem 0x4001
+  pub steady : (tables : ℕ → Bool) → are_steady (is_kept tables) cpu.s steps cpu ≡ true
+  pub there : is_code (run cpu.s steps cpu).pc ≡ true

@@ -1,21 +1,30 @@
 -- What dvg_put does, by the frame that is being built.
 use Rattle.std.proofs.Common.{◌≡◌, ℕ, suc, ◌+◌, ◌*◌, ◌%◌, ◌<◌, ◌≤◌, Bool, true, false, List, [], ◌∷◌, length}
 use Rattle.std.proofs.Common.{refl, sym, ap, ◌∙◌, subst, arith, leb-true, eqb-true}
-use Rattle.std.proofs.lemmas.Bool.{eqb-false}
-use Rattle.std.specs.Prelude.{nat_eq, nat_le}
+use Rattle.std.proofs.lemmas.Bool.{eqb-false, ne_eqb}
+use Rattle.std.specs.Prelude.{nat_eq, nat_le, if◌then◌else◌}
 use Rattle.dvg_mem.specs.declared.half.Half.{Half}
 use Rattle.dvg_mem.specs.declared.half.Half.TheVariants.{H0, H1}
 use Rattle.dvg_mem.specs.Areas.{base, other}
 use Rattle.dvg_6502.specs.Processor.{Cpu, Writes, put, run}
+use Rattle.dvg_6502.specs.Code.{dvg_put}
 use Rattle.dvg_6502.specs.Board.{IsLoaded, goal_in}
+use Rattle.dvg_6502.specs.Routines.{Enters}
 use Rattle.dvg_6502.specs.Build.{IsBuilding, Builds, PutTakes}
 use Rattle.dvg_6502.proofs.Running.{Comes, at, returned}
-use Rattle.dvg_6502.proofs.Memory.{AreSmall, page_in, laid, page_of, loaded, put_small, in_page, in_code}
+use Rattle.dvg_6502.proofs.Memory.{AreSmall, page_in, laid, page_of, loaded, put_small, in_page, in_code, state_is}
 use Rattle.dvg_6502.proofs.StoredByte.{carried}
 use Rattle.dvg_6502.proofs.TableTick.{in_ram, carried_small}
-use Rattle.dvg_6502.proofs.TicksRun.{state_is}
-use Rattle.dvg_6502.proofs.Alike.{alike_if}
+use Rattle.dvg_6502.proofs.Alike.{alike_if, Keeping}
 use Rattle.dvg_6502.proofs.BuildRun.{put_room, is_full}
+
+-- a part is put, by a call that keeps byte 001 and takes guarded bytes alone
+abbrev pub BuildsSo : (cpu : Cpu) (half : Half) (flipped : Bool) (now rest : List ℕ) → Type 0
+BuildsSo cpu half flipped now rest = (did : Builds cpu half flipped now rest) × Keeping cpu did.steps
+
+pub builds_so : (cpu : Cpu) (half : Half) (flipped : Bool) (now rest : List ℕ) → (did : Builds cpu half flipped now rest)
+    → Keeping cpu did.steps → BuildsSo cpu half flipped now rest
+builds_so cpu half flipped now rest did keeping = (did, keeping)
 
 pub base_low : (half : Half) → (1 ≤ base half) × (base half ≤ 0x201)
 base_low H0 = (omega arith, omega arith)
@@ -176,23 +185,37 @@ module _ (a x y s : ℕ) (n z c v : Bool) (mem flags : ℕ → ℕ) (load : IsLo
     fits = let f = building.fits in omega (arith, moved.1, f);
   }
 
-  builds : Builds (from 7) half flipped (a ∷ x ∷ []) rest
-  builds = record {
-    steps = comes.steps;
-    returns = returned s (run s comes.steps (from 7)) comes.returns comes.stack;
-    carry = comes.carry;
-    shows = comes.accesses;
-    goes_on = ap goal_in comes.memory ∙ omega (arith, moved.3);
-    building = subst (λ (m : ℕ → ℕ). IsBuilding m half flipped rest) (sym comes.memory) built;
-    alike = alike_if (from 7) comes.steps (returned s (run s comes.steps (from 7)) comes.returns comes.stack)
-        (comes.steady (λ b. false) refl) comes.there;
-    loaded = subst IsLoaded (sym comes.memory) (loaded page (put (suc goal) x (put goal a mem)) page_small
-        (put_small (suc goal) x (put goal a mem) x_small (put_small goal a mem a_small load.bytes)));
-  }
+  byte1 : final 0x4001 ≡ mem 0x4001
+  byte1 = ap (λ (t : Bool). if t then x else put goal a mem 0x4001)
+      (ne_eqb 0x4001 (suc goal) (λ same. absurd (omega (arith, same, low))))
+      ∙ ap (λ (t : Bool). if t then a else mem 0x4001) (ne_eqb 0x4001 goal (λ same. absurd (omega (arith, same, low))))
 
-pub put_takes : PutTakes
-put_takes cpu half flipped rest enters building more =
-    subst (λ (k : Cpu). Builds k half flipped (cpu.a ∷ cpu.x ∷ []) rest)
+  builds : BuildsSo (from 7) half flipped (a ∷ x ∷ []) rest
+  builds = (
+    record {
+      steps = comes.steps;
+      returns = returned s (run s comes.steps (from 7)) comes.returns comes.stack;
+      carry = comes.carry;
+      shows = comes.accesses;
+      goes_on = ap goal_in comes.memory ∙ omega (arith, moved.3);
+      building = subst (λ (m : ℕ → ℕ). IsBuilding m half flipped rest) (sym comes.memory) built;
+      alike = alike_if (from 7) comes.steps (returned s (run s comes.steps (from 7)) comes.returns comes.stack)
+          (comes.steady (λ b. false) refl) comes.there;
+      loaded = subst IsLoaded (sym comes.memory) (loaded page (put (suc goal) x (put goal a mem)) page_small
+          (put_small (suc goal) x (put goal a mem) x_small (put_small goal a mem a_small load.bytes)));
+    },
+    record {
+      byte1 = ap (λ (m : ℕ → ℕ). m 0x4001) comes.memory ∙ byte1;
+      steady = λ tables. comes.steady tables refl;
+      there = comes.there;
+    },
+  )
+
+pub put_steadily : (cpu : Cpu) (half : Half) (flipped : Bool) (rest : List ℕ) → Enters cpu dvg_put
+    → IsBuilding cpu.mem half flipped (cpu.a ∷ cpu.x ∷ rest) → 2 ≤ length rest
+    → BuildsSo cpu half flipped (cpu.a ∷ cpu.x ∷ []) rest
+put_steadily cpu half flipped rest enters building more =
+    subst (λ (k : Cpu). BuildsSo k half flipped (cpu.a ∷ cpu.x ∷ []) rest)
     (ap (λ p. at 0x6957 cpu.a cpu.x cpu.y cpu.s cpu.n cpu.z cpu.c cpu.v
     (laid (page_of p (cpu.mem 0x11) (cpu.mem 0x12) (cpu.mem 0x13) (cpu.mem 0x14) (cpu.mem 0x15) (cpu.mem 0x16)
     (cpu.mem 0x17) (cpu.mem 0x18) (cpu.mem 0x19) (cpu.mem 0x1A)) cpu.mem) cpu.flags []) (sym building.phase)
@@ -200,3 +223,6 @@ put_takes cpu half flipped rest enters building more =
     (sym enters.log) ∙ state_is cpu 0x6957 cpu.s enters.entry refl enters.loaded)
     (builds cpu.a cpu.x cpu.y cpu.s cpu.n cpu.z cpu.c cpu.v cpu.mem cpu.flags enters.loaded enters.a enters.x half flipped
     rest building more)
+
+pub put_takes : PutTakes
+put_takes cpu half flipped rest enters building more = (put_steadily cpu half flipped rest enters building more).0

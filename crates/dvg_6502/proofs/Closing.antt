@@ -1,5 +1,5 @@
 -- What dvg_open, dvg_pair, dvg_labs and dvg_close do, by the frame that is being built.
-use Rattle.std.proofs.Common.{◌≡◌, ℕ, suc, inl, inr, ◌+◌, ◌*◌, ◌%◌, ◌<◌, ◌≤◌, Bool, true, false, not, List, [], ◌∷◌}
+use Rattle.std.proofs.Common.{◌≡◌, ℕ, suc, inl, inr, ◌+◌, ◌*◌, ◌%◌, ◌<◌, ◌≤◌, Bool, true, false, not, List, [], ◌∷◌, ◌++◌}
 use Rattle.std.proofs.Common.{length, refl, sym, ap, ◌∙◌, subst, arith, leb-true}
 use Rattle.std.proofs.lemmas.Bool.{ne_eqb}
 use Rattle.std.specs.Prelude.{nat_eq, nat_le, if◌then◌else◌, bit_and, bit_or, bit_xor, ◌/◌}
@@ -7,24 +7,24 @@ use Rattle.dvg_mem.specs.declared.half.Half.{Half}
 use Rattle.dvg_mem.specs.declared.half.Half.TheVariants.{H0, H1}
 use Rattle.dvg_mem.specs.Areas.{base, other, high}
 use Rattle.dvg_driver.specs.Script.{word_zero}
-use Rattle.dvg_driver.specs.Place.{Writing}
+use Rattle.dvg_driver.specs.Place.{Resting, Writing}
 use Rattle.dvg_6502.specs.Processor.{Cpu, Access, Reads, Writes, put, run, at_return}
+use Rattle.dvg_6502.specs.Code.{dvg_open, dvg_pair, dvg_labs, dvg_close}
 use Rattle.dvg_6502.specs.Board.{IsLoaded, seen, goal_in}
 use Rattle.dvg_6502.specs.Holds.{Holds, publish_byte}
 use Rattle.dvg_6502.specs.Routines.{Enters}
-use Rattle.dvg_6502.specs.Build.{IsBuilding, Builds, Opens, Closes, OpenTakes, PairTakes, LabsTakes, CloseTakes}
+use Rattle.dvg_6502.specs.Build.{IsBuilding, Opens, Closes, OpenTakes, PairTakes, LabsTakes, CloseTakes}
 use Rattle.dvg_6502.specs.Build.{Idles, IdleTicks}
 use Rattle.dvg_6502.proofs.Running.{Comes, by, at, returned}
-use Rattle.dvg_6502.proofs.Memory.{AreSmall, page_in, laid, page_of, loaded, put_small}
+use Rattle.dvg_6502.proofs.Memory.{AreSmall, page_in, laid, page_of, loaded, put_small, state_is}
 use Rattle.dvg_6502.proofs.StoredByte.{carried}
 use Rattle.dvg_6502.proofs.TableTick.{in_ram, carried_small}
-use Rattle.dvg_6502.proofs.TicksRun.{state_is}
 use Rattle.dvg_6502.proofs.OfferRun.{free_of, high_of}
 use Rattle.dvg_6502.proofs.BuildRun.{is_full}
-use Rattle.dvg_6502.proofs.Alike.{alike_if}
+use Rattle.dvg_6502.proofs.Alike.{alike_if, Keeping}
 use Rattle.dvg_6502.proofs.Masks.{opened, mixed}
 use Rattle.dvg_6502.proofs.PairRun.{Place, pair_room, labs_run, open_takes, close_ends}
-use Rattle.dvg_6502.proofs.Building.{goal_low, goal_high, place_low, on_word}
+use Rattle.dvg_6502.proofs.Building.{BuildsSo, builds_so, goal_low, goal_high, place_low, on_word}
 
 -- an address of the vector RAM is one where a byte is stored
 pub place_of : (p q : ℕ) → q ≡ p → 0x4002 ≤ p → p < 0x4800 → Place q
@@ -220,15 +220,30 @@ module _ (a x y s : ℕ) (n z c v : Bool) (mem flags : ℕ → ℕ) (log : List 
   moved_on : goal_in (laid page new) ≡ goal + 4
   moved_on = omega (arith, two.3, one.3)
 
-pub pair_takes : PairTakes
-pair_takes cpu half flipped rest enters building more =
+  pub byte1 : laid page new 0x4001 ≡ mem 0x4001
+  byte1 = kept (suc (suc (suc goal))) b3 (put (suc (suc goal)) b2 (put (suc goal) b1 (put goal b0 mem))) (omega (arith, low))
+      ∙ kept (suc (suc goal)) b2 (put (suc goal) b1 (put goal b0 mem)) (omega (arith, low))
+      ∙ kept (suc goal) b1 (put goal b0 mem) (omega (arith, low)) ∙ kept goal b0 mem low
+    where
+      kept : (p b : ℕ) (m : ℕ → ℕ) → 0x4002 ≤ p → put p b m 0x4001 ≡ m 0x4001
+      kept p b m far = ap (λ (t : Bool). if t then b else m 0x4001)
+          (ne_eqb 0x4001 p (λ same. absurd (omega (arith, same, far))))
+
+pub pair_steadily : (cpu : Cpu) (half : Half) (flipped : Bool) (rest : List ℕ) → Enters cpu dvg_pair
+    → let now = cpu.mem 0x1B ∷ cpu.mem 0x1C ∷ cpu.mem 0x1D ∷ cpu.mem 0x1E ∷ [] in
+    IsBuilding cpu.mem half flipped (now ++ rest) → 2 ≤ length rest → BuildsSo cpu half flipped now rest
+pair_steadily cpu half flipped rest enters building more =
     let b0 = cpu.mem 0x1B in
     let b1 = cpu.mem 0x1C in
     let b2 = cpu.mem 0x1D in
     let b3 = cpu.mem 0x1E in
     let did = comes cpu.a cpu.x cpu.y cpu.s cpu.n cpu.z cpu.c cpu.v cpu.mem cpu.flags [] enters.loaded half flipped b0 b1
     b2 b3 rest refl refl refl refl building more in
-    subst (λ (k : Cpu). Builds k half flipped (b0 ∷ b1 ∷ b2 ∷ b3 ∷ []) rest) (entered cpu 0x6989 7 enters building.phase)
+    subst (λ (k : Cpu). BuildsSo k half flipped (b0 ∷ b1 ∷ b2 ∷ b3 ∷ []) rest) (entered cpu 0x6989 7 enters building.phase)
+    (builds_so (at 0x6989 cpu.a cpu.x cpu.y cpu.s cpu.n cpu.z cpu.c cpu.v
+    (laid (page_of 7 (cpu.mem 0x11) (cpu.mem 0x12) (cpu.mem 0x13) (cpu.mem 0x14) (cpu.mem 0x15) (cpu.mem 0x16)
+    (cpu.mem 0x17) (cpu.mem 0x18) (cpu.mem 0x19) (cpu.mem 0x1A)) cpu.mem) cpu.flags []) half flipped
+    (b0 ∷ b1 ∷ b2 ∷ b3 ∷ []) rest
     (record {
       steps = did.steps;
       returns = comes_back did;
@@ -244,6 +259,16 @@ pair_takes cpu half flipped rest enters building more =
           (new_loaded cpu.a cpu.x cpu.y cpu.s cpu.n cpu.z cpu.c cpu.v cpu.mem cpu.flags []
           enters.loaded half flipped b0 b1 b2 b3 rest refl refl refl refl building more);
     })
+    (record {
+      byte1 = ap (λ (m : ℕ → ℕ). m 0x4001) did.memory
+          ∙ byte1 cpu.a cpu.x cpu.y cpu.s cpu.n cpu.z cpu.c cpu.v cpu.mem cpu.flags [] enters.loaded half flipped b0 b1
+          b2 b3 rest refl refl refl refl building more;
+      steady = λ tables. did.steady tables refl;
+      there = did.there;
+    }))
+
+pub pair_takes : PairTakes
+pair_takes cpu half flipped rest enters building more = (pair_steadily cpu half flipped rest enters building more).0
 
 -- dvg_labs
 module _ (a x y s : ℕ) (n z c v : Bool) (mem flags : ℕ → ℕ) (load : IsLoaded mem) (a_small : a < 256)
@@ -299,38 +324,48 @@ module _ (a x y s : ℕ) (n z c v : Bool) (mem flags : ℕ → ℕ) (load : IsLo
     fits = building.fits;
   }
 
-  labs_builds : Builds start half flipped (mem 0x1B ∷ h ∷ mem 0x1D ∷ l ∷ []) rest
+  labs_builds : BuildsSo start half flipped (mem 0x1B ∷ h ∷ mem 0x1D ∷ l ∷ []) rest
   labs_builds =
       let did = by s 8 start _ s false _ _
       (labs_run s a x y s n z c v (page_of 7 (mem 0x11) (mem 0x12) (mem 0x13) (mem 0x14) (mem 0x15) (mem 0x16) (mem 0x17)
       (mem 0x18) (mem 0x19) (mem 0x1A)) mem flags []) (λ tables is. refl)
       (comes h x y s (nat_le 128 h) (nat_eq h 0) c v set flags log4 set_load half flipped (mem 0x1B) h (mem 0x1D) l rest
-      refl refl refl refl set_building more) in
-      record {
-        steps = did.steps;
-        returns = comes_back did;
-        carry = did.carry;
-        shows = did.accesses;
-        alike = alike_if start did.steps (comes_back did) (did.steady (λ b. false) refl) did.there;
-        goes_on = ap goal_in did.memory ∙ moved_on h x y s (nat_le 128 h) (nat_eq h 0) c v set flags log4 set_load half
-            flipped (mem 0x1B) h (mem 0x1D) l rest refl refl refl refl set_building more;
-        building = subst (λ (m : ℕ → ℕ). IsBuilding m half flipped rest) (sym did.memory)
-            (built h x y s (nat_le 128 h) (nat_eq h 0) c v set flags log4 set_load half flipped (mem 0x1B) h (mem 0x1D) l
-            rest refl refl refl refl set_building more);
-        loaded = subst IsLoaded (sym did.memory)
-            (new_loaded h x y s (nat_le 128 h) (nat_eq h 0) c v set flags log4 set_load half flipped (mem 0x1B) h
-            (mem 0x1D) l rest refl refl refl refl set_building more);
-      }
+      refl refl refl refl set_building more) in (
+        record {
+          steps = did.steps;
+          returns = comes_back did;
+          carry = did.carry;
+          shows = did.accesses;
+          alike = alike_if start did.steps (comes_back did) (did.steady (λ b. false) refl) did.there;
+          goes_on = ap goal_in did.memory ∙ moved_on h x y s (nat_le 128 h) (nat_eq h 0) c v set flags log4 set_load half
+              flipped (mem 0x1B) h (mem 0x1D) l rest refl refl refl refl set_building more;
+          building = subst (λ (m : ℕ → ℕ). IsBuilding m half flipped rest) (sym did.memory)
+              (built h x y s (nat_le 128 h) (nat_eq h 0) c v set flags log4 set_load half flipped (mem 0x1B) h (mem 0x1D) l
+              rest refl refl refl refl set_building more);
+          loaded = subst IsLoaded (sym did.memory)
+              (new_loaded h x y s (nat_le 128 h) (nat_eq h 0) c v set flags log4 set_load half flipped (mem 0x1B) h
+              (mem 0x1D) l rest refl refl refl refl set_building more);
+        },
+        record {
+          byte1 = ap (λ (m : ℕ → ℕ). m 0x4001) did.memory
+              ∙ byte1 h x y s (nat_le 128 h) (nat_eq h 0) c v set flags log4 set_load half flipped (mem 0x1B) h (mem 0x1D)
+              l rest refl refl refl refl set_building more;
+          steady = λ tables. did.steady tables refl;
+          there = did.there;
+        },
+      )
 
-pub labs_takes : LabsTakes
-labs_takes cpu half flipped rest enters building more =
+pub labs_steadily : (cpu : Cpu) (half : Half) (flipped : Bool) (rest : List ℕ) → Enters cpu dvg_labs
+    → let now = cpu.mem 0x1B ∷ (0xA0 + cpu.mem 0x1C % 16) ∷ cpu.mem 0x1D ∷ (16 * (cpu.a / 16) + cpu.mem 0x1E % 16) ∷ [] in
+    IsBuilding cpu.mem half flipped (now ++ rest) → 2 ≤ length rest → BuildsSo cpu half flipped now rest
+labs_steadily cpu half flipped rest enters building more =
     let h = opened (cpu.mem 0x1C) (enters.loaded.bytes 0x1C) in
     let l = mixed cpu.a (cpu.mem 0x1E) enters.a (enters.loaded.bytes 0x1E) in
-    subst (λ h'. Builds cpu half flipped (cpu.mem 0x1B ∷ h' ∷ cpu.mem 0x1D ∷ (16 * (cpu.a / 16) + cpu.mem 0x1E % 16) ∷ [])
+    subst (λ h'. BuildsSo cpu half flipped (cpu.mem 0x1B ∷ h' ∷ cpu.mem 0x1D ∷ (16 * (cpu.a / 16) + cpu.mem 0x1E % 16) ∷ [])
     rest) h
-    (subst (λ l'. Builds cpu half flipped
+    (subst (λ l'. BuildsSo cpu half flipped
     (cpu.mem 0x1B ∷ bit_or (bit_and (cpu.mem 0x1C) 0x0F) 0xA0 ∷ cpu.mem 0x1D ∷ l' ∷ []) rest) l
-    (subst (λ (k : Cpu). Builds k half flipped
+    (subst (λ (k : Cpu). BuildsSo k half flipped
     (cpu.mem 0x1B ∷ bit_or (bit_and (cpu.mem 0x1C) 0x0F) 0xA0 ∷ cpu.mem 0x1D ∷
     bit_xor (bit_and (bit_xor cpu.a (cpu.mem 0x1E)) 0xF0) (cpu.mem 0x1E) ∷ []) rest)
     (entered cpu 0x6979 7 enters building.phase)
@@ -340,21 +375,36 @@ labs_takes cpu half flipped rest enters building more =
     (subst (λ h'. IsBuilding cpu.mem half flipped
     (cpu.mem 0x1B ∷ h' ∷ cpu.mem 0x1D ∷ (16 * (cpu.a / 16) + cpu.mem 0x1E % 16) ∷ rest)) (sym h) building)) more)))
 
+pub labs_takes : LabsTakes
+labs_takes cpu half flipped rest enters building more = (labs_steadily cpu half flipped rest enters building more).0
+
 -- dvg_open
-pub open_is_taken : OpenTakes
-open_is_taken cpu begin stop half flipped first rest enters holds some fits = by half refl
+abbrev pub OpensSo : (cpu : Cpu) (half : Half) (flipped : Bool) (rest : List ℕ) → Type 0
+OpensSo cpu half flipped rest = (did : Opens cpu half flipped rest) × Keeping cpu did.steps
+
+opens_so : (cpu : Cpu) (half : Half) (flipped : Bool) (rest : List ℕ) → (did : Opens cpu half flipped rest)
+    → Keeping cpu did.steps → OpensSo cpu half flipped rest
+opens_so cpu half flipped rest did keeping = (did, keeping)
+
+pub open_steadily : (cpu : Cpu) (begin stop : ℕ) (half : Half) (flipped first : Bool) (rest : List ℕ)
+    → Enters cpu dvg_open → Holds cpu.mem begin stop (record { place = Resting first; half = half; flipped = flipped })
+    → 2 ≤ length rest → length rest ≤ 1022 → OpensSo cpu half flipped rest
+open_steadily cpu begin stop half flipped first rest enters holds some fits = by half refl
   where
     at_half : (h : Bool) → cpu.mem 0x11 ≡ free_of h → free_of h ≡ high (other half) → high_of h < 256 → free_of h < 256
-        → 256 * high_of h + 2 ≡ 0x4000 + 2 * base (other half) → Opens cpu half flipped rest
+        → 256 * high_of h + 2 ≡ 0x4000 + 2 * base (other half) → OpensSo cpu half flipped rest
     at_half h free is small f_small place =
         let did = open_takes cpu.s cpu.a cpu.x cpu.y cpu.s cpu.n cpu.z cpu.c cpu.v (cpu.mem 0x12) (cpu.mem 0x13)
         (cpu.mem 0x14) (cpu.mem 0x15) (cpu.mem 0x16) (cpu.mem 0x17) (cpu.mem 0x18) (cpu.mem 0x19) (cpu.mem 0x1A) cpu.mem
         cpu.flags [] h in
         let bytes = enters.loaded.bytes in
-        subst (λ (k : Cpu). Opens k half flipped rest) (entered cpu 0x6924 2 enters holds.place.0)
-        (subst (λ f. Opens (at 0x6924 cpu.a cpu.x cpu.y cpu.s cpu.n cpu.z cpu.c cpu.v
+        subst (λ (k : Cpu). OpensSo k half flipped rest) (entered cpu 0x6924 2 enters holds.place.0)
+        (subst (λ f. OpensSo (at 0x6924 cpu.a cpu.x cpu.y cpu.s cpu.n cpu.z cpu.c cpu.v
         (laid (page_of 2 f (cpu.mem 0x12) (cpu.mem 0x13) (cpu.mem 0x14) (cpu.mem 0x15) (cpu.mem 0x16)
         (cpu.mem 0x17) (cpu.mem 0x18) (cpu.mem 0x19) (cpu.mem 0x1A)) cpu.mem) cpu.flags []) half flipped rest) (sym free)
+        (opens_so (at 0x6924 cpu.a cpu.x cpu.y cpu.s cpu.n cpu.z cpu.c cpu.v
+        (laid (page_of 2 (free_of h) (cpu.mem 0x12) (cpu.mem 0x13) (cpu.mem 0x14) (cpu.mem 0x15) (cpu.mem 0x16)
+        (cpu.mem 0x17) (cpu.mem 0x18) (cpu.mem 0x19) (cpu.mem 0x1A)) cpu.mem) cpu.flags []) half flipped rest
         (record {
           steps = did.steps;
           returns = comes_back did;
@@ -400,15 +450,27 @@ open_is_taken cpu begin stop half flipped first rest enters holds some fits = by
                   ),
                 ),
               ) bytes);
-        }))
+        })
+        (record {
+          byte1 = ap (λ (m : ℕ → ℕ). m 0x4001) did.memory;
+          steady = λ tables. did.steady tables refl;
+          there = did.there;
+        })))
 
-    by : (now : Half) → half ≡ now → Opens cpu half flipped rest
+    by : (now : Half) → half ≡ now → OpensSo cpu half flipped rest
     by H0 is = at_half true (holds.place.1 ∙ ap (λ k. high (other k)) is) (sym (ap (λ k. high (other k)) is))
         (omega arith) (omega arith) (ap (λ k. 0x4000 + 2 * base (other k)) (sym is))
     by H1 is = at_half false (holds.place.1 ∙ ap (λ k. high (other k)) is) (sym (ap (λ k. high (other k)) is))
         (omega arith) (omega arith) (ap (λ k. 0x4000 + 2 * base (other k)) (sym is))
 
+pub open_is_taken : OpenTakes
+open_is_taken cpu begin stop half flipped first rest enters holds some fits =
+    (open_steadily cpu begin stop half flipped first rest enters holds some fits).0
+
 -- dvg_close
+abbrev pub ClosesSo : (cpu : Cpu) (half : Half) (flipped : Bool) → Type 0
+ClosesSo cpu half flipped = (did : Closes cpu half flipped) × Keeping cpu did.steps
+
 module _ (a x y s : ℕ) (n z c v : Bool) (mem flags : ℕ → ℕ) (load : IsLoaded mem) (half : Half) (flipped : Bool)
     (building : IsBuilding mem half flipped (0 ∷ 0xB0 ∷ [])) where
   abbrev end : ℕ
@@ -473,42 +535,57 @@ module _ (a x y s : ℕ) (n z c v : Bool) (mem flags : ℕ → ℕ) (load : IsLo
     );
   }
 
-  closes : Closes (at 0x6A00 a x y s n z c v (laid (shut 7) mem) flags []) half flipped
-  closes = record {
-    steps = shuts.steps;
-    returns = comes_back shuts;
-    carry = shuts.carry;
-    shows = shuts.accesses;
-    alike = alike_if _ shuts.steps (comes_back shuts) (shuts.steady (λ b. false) refl) shuts.there;
-    holds = λ begin stop. subst (λ (m : ℕ → ℕ). Holds m begin stop
-        (record { place = Writing (word_zero (other half) (not flipped)); half = half; flipped = flipped }))
-        (sym shuts.memory) (closes_at flipped refl begin stop);
-    loaded = subst IsLoaded (sym shuts.memory) (loaded (shut (mem 0x12)) ended (
-      load.bytes 0x12,
-      (
-        load.bytes 0x11,
+  closes : ClosesSo (at 0x6A00 a x y s n z c v (laid (shut 7) mem) flags []) half flipped
+  closes = (
+    record {
+      steps = shuts.steps;
+      returns = comes_back shuts;
+      carry = shuts.carry;
+      shows = shuts.accesses;
+      alike = alike_if _ shuts.steps (comes_back shuts) (shuts.steady (λ b. false) refl) shuts.there;
+      holds = λ begin stop. subst (λ (m : ℕ → ℕ). Holds m begin stop
+          (record { place = Writing (word_zero (other half) (not flipped)); half = half; flipped = flipped }))
+          (sym shuts.memory) (closes_at flipped refl begin stop);
+      loaded = subst IsLoaded (sym shuts.memory) (loaded (shut (mem 0x12)) ended (
+        load.bytes 0x12,
         (
-          load.bytes 0x12,
+          load.bytes 0x11,
           (
-            load.bytes 0x13,
+            load.bytes 0x12,
             (
-              load.bytes 0x14,
+              load.bytes 0x13,
               (
-                load.bytes 0x15,
-                (load.bytes 0x16, (load.bytes 0x17, (load.bytes 0x18, (load.bytes 0x19, (load.bytes 0x1A, tt))))),
+                load.bytes 0x14,
+                (
+                  load.bytes 0x15,
+                  (load.bytes 0x16, (load.bytes 0x17, (load.bytes 0x18, (load.bytes 0x19, (load.bytes 0x1A, tt))))),
+                ),
               ),
             ),
           ),
         ),
-      ),
-    )
-        (put_small (suc end) 0xB0 (put end 0 mem) (omega arith) (put_small end 0 mem (omega arith) load.bytes)));
-  }
+      )
+          (put_small (suc end) 0xB0 (put end 0 mem) (omega arith) (put_small end 0 mem (omega arith) load.bytes)));
+    },
+    record {
+      byte1 = ap (λ (m : ℕ → ℕ). m 0x4001) shuts.memory
+          ∙ ap (λ (t : Bool). if t then 0xB0 else put end 0 mem 0x4001)
+          (ne_eqb 0x4001 (suc end) (λ same. absurd (omega (arith, same, end_low))))
+          ∙ ap (λ (t : Bool). if t then 0 else mem 0x4001)
+          (ne_eqb 0x4001 end (λ same. absurd (omega (arith, same, end_low))));
+      steady = λ tables. shuts.steady tables refl;
+      there = shuts.there;
+    },
+  )
+
+pub close_steadily : (cpu : Cpu) (half : Half) (flipped : Bool) → Enters cpu dvg_close
+    → IsBuilding cpu.mem half flipped (0 ∷ 0xB0 ∷ []) → ClosesSo cpu half flipped
+close_steadily cpu half flipped enters building =
+    subst (λ (k : Cpu). ClosesSo k half flipped) (entered cpu 0x6A00 7 enters building.phase)
+    (closes cpu.a cpu.x cpu.y cpu.s cpu.n cpu.z cpu.c cpu.v cpu.mem cpu.flags enters.loaded half flipped building)
 
 pub close_takes : CloseTakes
-close_takes cpu half flipped enters building =
-    subst (λ (k : Cpu). Closes k half flipped) (entered cpu 0x6A00 7 enters building.phase)
-    (closes cpu.a cpu.x cpu.y cpu.s cpu.n cpu.z cpu.c cpu.v cpu.mem cpu.flags enters.loaded half flipped building)
+close_takes cpu half flipped enters building = (close_steadily cpu half flipped enters building).0
 
 -- a tick that changes nothing
 module _ (a x y s : ℕ) (n z c v : Bool) (mem flags : ℕ → ℕ) where

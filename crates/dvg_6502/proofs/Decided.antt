@@ -6,10 +6,9 @@ use Rattle.dvg_6502.specs.Board.{IsLoaded, seen}
 use Rattle.dvg_6502.specs.Amid.{is_code, are_steady}
 use Rattle.dvg_6502.specs.Decided.{IsDecided, IsRefusing, IsTaking, Decides}
 use Rattle.dvg_6502.proofs.Running.{at, returned, run_more, steady_more}
-use Rattle.dvg_6502.proofs.Memory.{laid, page_in}
+use Rattle.dvg_6502.proofs.Memory.{laid, page_in, state_is}
 use Rattle.dvg_6502.proofs.FedByte.{compared}
 use Rattle.dvg_6502.proofs.Alike.{comes_out}
-use Rattle.dvg_6502.proofs.TicksRun.{state_is}
 
 -- a run that ends so is decided
 decided : (cpu end : Cpu) (c : Bool) (steps : ℕ) → run cpu.s steps cpu ≡ end → at_return cpu.s end ≡ true → end.c ≡ c

@@ -13,12 +13,11 @@ use Rattle.dvg_6502.specs.Board.{IsLoaded, seen, goal_in}
 use Rattle.dvg_6502.specs.Amid.{is_kept, is_code, are_steady}
 use Rattle.dvg_6502.specs.Holds.{HoldsPlace, IsFeeding, publish_byte}
 use Rattle.dvg_6502.proofs.Running.{at, run_more, returned, steady_more}
-use Rattle.dvg_6502.proofs.Memory.{laid, page_of, page_in, known}
+use Rattle.dvg_6502.proofs.Memory.{laid, page_of, page_in, known, state_is}
 use Rattle.dvg_6502.proofs.StoredByte.{phase_then}
 use Rattle.dvg_6502.proofs.Standing.{Stood}
-use Rattle.dvg_6502.proofs.Going.{Goes, Stretch, finish, go_on, append_items, append_logs, shown_both}
+use Rattle.dvg_6502.proofs.Going.{Goes, Stretch, stood_in, idle_stretch, finish, go_on, append_items, append_logs, shown_both}
 use Rattle.dvg_6502.proofs.TickCall.{Turned, tick_call}
-use Rattle.dvg_6502.proofs.TicksRun.{idle_stretch, state_is}
 use Rattle.dvg_6502.proofs.BurstRun.{Reaches, pc_then}
 use Rattle.dvg_6502.proofs.BurstWord as word
 use Rattle.dvg_6502.proofs.BurstWord.{Bursts}
@@ -137,7 +136,7 @@ module _ (q : ℕ) (q_small : q < 256) (a x y : ℕ) (n z c v : Bool) (mem flags
   idles is = record {
     steps = 4;
     some = omega arith;
-    made = idle_stretch q (from 2) 4 begin stop life mem stood refl (λ tables. refl);
+    made = idle_stretch q (from 2) 4 begin stop life (stood.stage.place, stood.stands.place) refl (λ tables. refl);
     next = inl ((returned q (run q 4 (from 2)) refl refl, refl), stood_as 2 is);
   }
 
@@ -146,7 +145,7 @@ module _ (q : ℕ) (q_small : q < 256) (a x y : ℕ) (n z c v : Bool) (mem flags
       → (run q 6 (from phase)).mem ≡ laid (page phase) mem → seen (run q 6 (from phase)).log ≡ seen log
       → ((tables : ℕ → Bool) → are_steady (is_kept tables) q 6 (from phase) ≡ true) → Goal phase
   ticks phase is pc s memory quiet steady = ticked q q_small (from phase) begin stop life 6 (omega arith)
-      (idle_stretch q (from phase) 6 begin stop life mem stood quiet steady) pc s
+      (idle_stretch q (from phase) 6 begin stop life (stood.stage.place, stood.stands.place) quiet steady) pc s
       (subst (λ (m : ℕ → ℕ). Stood m begin stop life) (sym memory) (stood_as phase is))
 
   -- a table is being written: a tick where its next byte is a high one, and else the loop
@@ -166,7 +165,7 @@ module _ (q : ℕ) (q_small : q < 256) (a x y : ℕ) (n z c v : Bool) (mem flags
       record {
         steps = 6;
         some = omega arith;
-        made = idle_stretch q (from 0x80) 6 begin stop life mem stood (ap (λ (k : Cpu). seen k.log) six)
+        made = idle_stretch q (from 0x80) 6 begin stop life (stood.stage.place, stood.stands.place) (ap (λ (k : Cpu). seen k.log) six)
             (λ tables. refl);
         next = inr (ap (at_return q) six, (false, subst (λ (k : Cpu). Bursts q k begin stop life) (sym six) bursts));
       }
@@ -409,8 +408,8 @@ rounds (suc fuel) k less there q cpu begin stop life q_small here = by one.next 
         → ((j : ℕ) → j < fuel → (there : Bool) (q : ℕ) (cpu : Cpu) (begin stop : ℕ) (life : List Item) → q < 256
         → Here there q cpu begin stop life → Goes q j cpu begin stop life)
         → Goes q k cpu begin stop life
-    by (inl done) more = finish q k cpu begin stop life one.steps one.made done.0.0 done.0.1 done.1
-    by (inr next) more = go_on q k cpu begin stop life one.steps one.made one.some next.0
+    by (inl done) more = finish (stood_in begin stop) q k cpu begin stop life one.steps one.made done.0.0 done.0.1 done.1
+    by (inr next) more = go_on (stood_in begin stop) q k cpu begin stop life one.steps one.made one.some next.0
         (λ j below. more j (omega (arith, less, below)) next.1.0 q (run q one.steps cpu) begin stop
         (one.made.items ++ life) q_small next.1.1)
 

@@ -1,10 +1,11 @@
 -- A boot and an offer, over a memory of zeros with the code and a table.
-use Rattle.std.proofs.Common.{◌≡◌, ℕ, zero, suc, ◌+◌, ◌-◌, ◌%◌, ◌<◌, Bool, true, false, eqb-true, List, [], ◌∷◌}
-use Rattle.std.proofs.Common.{refl, sym, ap, ◌∙◌, arith, cond}
+use Rattle.std.proofs.Common.{◌≡◌, ℕ, zero, suc, ◌+◌, ◌%◌, ◌<◌, Bool, true, false, eqb-true, List, [], ◌∷◌}
+use Rattle.std.proofs.Common.{◌++◌, refl, sym, ap, ◌∙◌, arith, inl}
 use Rattle.std.proofs.lemmas.List.Elements.{All-cons, All-nil}
-use Rattle.std.specs.Prelude.{◌||◌, ◌&&◌, nat_eq, nat_le, nat_lt, if◌then◌else◌, slice_index, pos}
+use Rattle.std.specs.Prelude.{◌||◌, nat_eq, if◌then◌else◌, slice_index, pos}
 use Rattle.dvg_code.specs.declared.instr.Instr.TheVariants.{Labs, Vctr}
 use Rattle.dvg_mem.specs.declared.half.Half.TheVariants.{H1}
+use Rattle.dvg_frame.specs.declared.op.OpKind.{OpKind}
 use Rattle.dvg_frame.specs.declared.op.OpKind.TheVariants.{Draw, Halt}
 use Rattle.dvg_frame.specs.Ops.{IsOp, IsDraft}
 use Rattle.dvg_frame.specs.Faults.{Accepts}
@@ -14,38 +15,18 @@ use Rattle.dvg_6502.specs.Processor.{Cpu, put, run}
 use Rattle.dvg_6502.specs.Amid.{AreHarmless, guards, is_kept}
 use Rattle.dvg_6502.specs.Board.{is_hardware}
 use Rattle.dvg_6502.specs.Tables.{HasTable, table_of}
+use Rattle.dvg_6502.specs.Routines
 use Rattle.dvg_6502.specs.Routines.{Enters}
 use Rattle.dvg_6502.specs.Calls
 use Rattle.dvg_6502.specs.Calls.{Call, IsUntouched, IsSession, IsLifeOf}
-use Rattle.dvg_6502.specs.Build.{IsPut}
-use Rattle.dvg_6502.specs.Joined.{stroke, SomeCalls, SomeLogs}
+use Rattle.dvg_6502.specs.Build.{IsPut, put_items}
+use Rattle.dvg_6502.specs.Joined.{stroke, SomeCalls, SomeBuilding, SomeLogs}
 use Rattle.dvg_6502.proofs.Running.{at}
+use Rattle.dvg_6502.proofs.ExampleFrame as built
+use Rattle.dvg_6502.proofs.ExampleFrame.{world, world_small}
 use Rattle.dvg_6502.proofs.BuiltFrame.{built_accepted}
 use Rattle.dvg_6502.proofs.Interrupted.{still_harmless, once, once_harmless}
 use Rattle.dvg_6502.proofs.Memory.{laid, page_of, put_page, loaded, AreSmall}
-
--- the table's bytes: the number of words, and the words
-abbrev table : List ℕ
-table = 5 ∷ 0 ∷ 0x00 ∷ 0xA2 ∷ 0x00 ∷ 0x02 ∷ 0x00 ∷ 0x90 ∷ 0x64 ∷ 0x70 ∷ 0x00 ∷ 0xB0 ∷ []
-
-abbrev world : ℕ → ℕ
-world b = if nat_le 0x5000 b && nat_lt b 0x500C then slice_index table (b - 0x5000) else 0
-
-byte_of : (t : Bool) (i : ℕ) → cond t (slice_index table i) 0 < 256
-byte_of false i = omega arith
-byte_of true zero = omega arith
-byte_of true (suc zero) = omega arith
-byte_of true (suc (suc zero)) = omega arith
-byte_of true (suc (suc (suc zero))) = omega arith
-byte_of true (suc (suc (suc (suc zero)))) = omega arith
-byte_of true (suc (suc (suc (suc (suc zero))))) = omega arith
-byte_of true (suc (suc (suc (suc (suc (suc zero)))))) = omega arith
-byte_of true (suc (suc (suc (suc (suc (suc (suc zero))))))) = omega arith
-byte_of true (suc (suc (suc (suc (suc (suc (suc (suc zero)))))))) = omega arith
-byte_of true (suc (suc (suc (suc (suc (suc (suc (suc (suc zero))))))))) = omega arith
-byte_of true (suc (suc (suc (suc (suc (suc (suc (suc (suc (suc zero)))))))))) = omega arith
-byte_of true (suc (suc (suc (suc (suc (suc (suc (suc (suc (suc (suc zero))))))))))) = omega arith
-byte_of true (suc (suc (suc (suc (suc (suc (suc (suc (suc (suc (suc (suc i)))))))))))) = omega arith
 
 abbrev page : (phase free publish : ℕ) → List ℕ
 page phase free publish = page_of phase free publish 0 0 0 0 0 0 0 0
@@ -93,7 +74,7 @@ enters pc x phase free publish few a b c = record {
   entry = refl;
   log = refl;
   loaded = loaded (page phase free publish) world (small phase free publish a b c)
-      (λ b. byte_of (nat_le 0x5000 b && nat_lt b 0x500C) (b - 0x5000));
+      world_small;
   a = omega arith;
   x = few;
   s = omega arith;
@@ -258,9 +239,81 @@ answered = record {
   carry = refl;
 }
 
+-- after that boot a frame is built: a LABS, and the HALT
+abbrev places_and_halt : List OpKind
+places_and_halt = Draw (Labs 512 512 0) ∷ Halt ∷ []
+
+abbrev opening : Call
+opening = quiet (Calls.Open places_and_halt) 16 (built.state 0x6924 2 0 0 world)
+
+abbrev putting : Call
+putting = quiet (Calls.Puts Routines.Labs) 30 (built.state 0x6979 7 2 0x44 world)
+
+abbrev closing : Call
+closing = quiet Calls.Close 12 (built.state 0x6A00 7 6 0x44 built.labs)
+
+session_open : IsSession (opening ∷ look ∷ peek ∷ reset ∷ [])
+session_open = (
+  built.enters 0x6924 2 0 0 world world_small (omega arith) (omega arith) (omega arith),
+  record { alike = refl; some = omega arith; fits = omega arith },
+  alone (guards (is_kept (Calls.is_table opening (look ∷ peek ∷ reset ∷ []))) 0xFF) 16 opening.from,
+  ((refl, untouched (look ∷ peek ∷ reset ∷ []) (run 0xFF 8 look.from).mem (memory 2 0xE2 3) after_look), session_look),
+)
+
+session_labs : IsSession (putting ∷ opening ∷ look ∷ peek ∷ reset ∷ [])
+session_labs = (
+  built.enters 0x6979 7 2 0x44 world world_small (omega arith) (omega arith) (omega arith),
+  (λ less. (0x00 ∷ 0xB0 ∷ [], refl, omega arith)),
+  alone (guards (is_kept (Calls.is_table putting (opening ∷ look ∷ peek ∷ reset ∷ []))) 0xFF) 30 putting.from,
+  (
+    (refl, untouched (opening ∷ look ∷ peek ∷ reset ∷ []) (run 0xFF 16 opening.from).mem putting.from.mem built.after_open),
+    session_open,
+  ),
+)
+
+session_close : IsSession (closing ∷ putting ∷ opening ∷ look ∷ peek ∷ reset ∷ [])
+session_close = (
+  built.enters 0x6A00 7 6 0x44 built.labs built.labs_small (omega arith) (omega arith) (omega arith),
+  refl,
+  alone (guards (is_kept (Calls.is_table closing (putting ∷ opening ∷ look ∷ peek ∷ reset ∷ []))) 0xFF) 12 closing.from,
+  (
+    (refl, untouched (putting ∷ opening ∷ look ∷ peek ∷ reset ∷ []) (run 0xFF 30 putting.from).mem closing.from.mem built.after_labs),
+    session_labs,
+  ),
+)
+
+life_open : IsLifeOf (opening ∷ look ∷ peek ∷ reset ∷ [])
+    (Offered H1 places_and_halt ∷ Did (Read true) ∷ Did Peek ∷ [])
+life_open = (Offered H1 places_and_halt ∷ [], Did (Read true) ∷ Did Peek ∷ [], refl, (refl, refl), life_look)
+
+life_labs : IsLifeOf (putting ∷ opening ∷ look ∷ peek ∷ reset ∷ [])
+    (put_items 0x4402 (0x00 ∷ 0xA2 ∷ 0x00 ∷ 0x02 ∷ [])
+    ++ Offered H1 places_and_halt ∷ Did (Read true) ∷ Did Peek ∷ [])
+life_labs = (
+  put_items 0x4402 (0x00 ∷ 0xA2 ∷ 0x00 ∷ 0x02 ∷ []),
+  Offered H1 places_and_halt ∷ Did (Read true) ∷ Did Peek ∷ [],
+  refl,
+  (refl, (refl, (refl, (refl, tt)))),
+  life_open,
+)
+
+pub some_building : SomeBuilding
+some_building = (
+  closing,
+  putting ∷ opening ∷ look ∷ peek ∷ reset ∷ [],
+  session_close,
+  (
+    put_items 0x4406 (0x00 ∷ 0xB0 ∷ []),
+    put_items 0x4402 (0x00 ∷ 0xA2 ∷ 0x00 ∷ 0x02 ∷ []) ++ Offered H1 places_and_halt ∷ Did (Read true) ∷ Did Peek ∷ [],
+    refl,
+    (refl, (refl, tt)),
+    life_labs,
+  ),
+)
+
 pub some_logs : SomeLogs
 some_logs R image rom is = (
-  (accepted R, answered),
+  inl (accepted R, answered),
   draft,
   (
     ((look ∷ peek ∷ reset ∷ [], session_look, life_look), refl),

@@ -37,15 +37,40 @@ abbrev pub Keeps : (begin stop q k : ℕ) → Cpu → Type 0
 Keeps begin stop q k cpu =
     (tables : ℕ → Bool) → Covers tables begin stop → are_steady (is_kept tables) q k cpu ≡ true
 
--- what k steps of a call make of a life; where it has returned, a driver stands
-pub record Goes (q k : ℕ) (cpu : Cpu) (begin stop : ℕ) (life : List Item) : Type 0 where
+-- what may hold of a memory after a life
+abbrev pub Claim : Type 1
+Claim = (ℕ → ℕ) → List Item → Type 0
+
+-- what k steps of a call make of a life; where it has returned, this holds
+pub record GoesTo (P : Claim) (q k : ℕ) (cpu : Cpu) (begin stop : ℕ) (life : List Item) : Type 0 where
   pub items : List Item
   pub accesses : List Access
   pub logged : seen (run q k cpu).log ≡ accesses ++ seen cpu.log
   pub shown : AreShown items accesses
   pub placed : (place : Place) × (place_of_life (items ++ life) ≡ Some place)
-  pub stands : at_return q (run q k cpu) ≡ true → Stood (run q k cpu).mem begin stop (items ++ life)
+  pub stands : at_return q (run q k cpu) ≡ true → P (run q k cpu).mem (items ++ life)
   pub steady : Keeps begin stop q k cpu
+
+-- the same, where a driver stands
+abbrev pub stood_in : (begin stop : ℕ) → Claim
+stood_in begin stop mem life = Stood mem begin stop life
+
+abbrev pub Goes : (q k : ℕ) → Cpu → (begin stop : ℕ) → List Item → Type 0
+Goes q k cpu begin stop life = GoesTo (stood_in begin stop) q k cpu begin stop life
+
+-- what holds may be said less exactly
+pub goes_as : (P Q : Claim) (q k : ℕ) (cpu : Cpu) (begin stop : ℕ) (life : List Item)
+    → ((mem : ℕ → ℕ) (after : List Item) → P mem after → Q mem after) → GoesTo P q k cpu begin stop life
+    → GoesTo Q q k cpu begin stop life
+goes_as P Q q k cpu begin stop life weaken goes = record {
+  items = goes.items;
+  accesses = goes.accesses;
+  logged = goes.logged;
+  shown = goes.shown;
+  placed = goes.placed;
+  stands = λ here. weaken (run q k cpu).mem (goes.items ++ life) (goes.stands here);
+  steady = goes.steady;
+}
 
 -- a stretch of steps, and what it makes of a life
 pub record Stretch (begin stop q : ℕ) (cpu : Cpu) (steps : ℕ) (life : List Item) : Type 0 where
@@ -56,11 +81,24 @@ pub record Stretch (begin stop q : ℕ) (cpu : Cpu) (steps : ℕ) (life : List I
   pub placed : (place : Place) × (place_of_life (items ++ life) ≡ Some place)
   pub steady : Keeps begin stop q steps cpu
 
-module _ (q k : ℕ) (cpu : Cpu) (begin stop : ℕ) (life : List Item) (steps : ℕ)
+-- a stretch that touches no hardware
+abbrev pub idle_stretch : (q : ℕ) (cpu : Cpu) (k begin stop : ℕ) (life : List Item)
+    → (place : Place) × (place_of_life life ≡ Some place) → seen (run q k cpu).log ≡ seen cpu.log
+    → ((tables : ℕ → Bool) → are_steady (is_kept tables) q k cpu ≡ true) → Stretch begin stop q cpu k life
+idle_stretch q cpu k begin stop life placed quiet steady = record {
+  items = [];
+  accesses = [];
+  shown = tt;
+  placed = placed;
+  logged = quiet;
+  steady = λ tables covers. steady tables;
+}
+
+module _ (P : Claim) (q k : ℕ) (cpu : Cpu) (begin stop : ℕ) (life : List Item) (steps : ℕ)
     (made : Stretch begin stop q cpu steps life) where
   -- within the stretch
   part : GoesOn (seen (run q steps cpu).log) (seen (run q k cpu).log) → (at_return q (run q k cpu) ≡ true → ⊥)
-      → Keeps begin stop q k cpu → Goes q k cpu begin stop life
+      → Keeps begin stop q k cpu → GoesTo P q k cpu begin stop life
   part on unreturned all =
       let base = run_on q k cpu in
       let now = seen base.0 in
@@ -82,15 +120,15 @@ module _ (q k : ℕ) (cpu : Cpu) (begin stop : ℕ) (life : List Item) (steps : 
 
   -- the call returns at the stretch's end
   pub finish : at_return q (run q steps cpu) ≡ true → is_code (run q steps cpu).pc ≡ true
-      → Stood (run q steps cpu).mem begin stop (made.items ++ life)
-      → Goes q k cpu begin stop life
+      → P (run q steps cpu).mem (made.items ++ life)
+      → GoesTo P q k cpu begin stop life
   finish there code stood = by (at_return q (run q k cpu)) refl
     where
       all : Keeps begin stop q k cpu
       all tables covers = steady_all (is_kept tables) q steps k cpu (made.steady tables covers) there
           (code_kept tables (run q steps cpu).pc code)
 
-      by : (t : Bool) → at_return q (run q k cpu) ≡ t → Goes q k cpu begin stop life
+      by : (t : Bool) → at_return q (run q k cpu) ≡ t → GoesTo P q k cpu begin stop life
       by true here =
           let same = same_end q k steps cpu here there in
           record {
@@ -99,26 +137,26 @@ module _ (q k : ℕ) (cpu : Cpu) (begin stop : ℕ) (life : List Item) (steps : 
             logged = ap (λ (c : Cpu). seen c.log) same ∙ made.logged;
             shown = made.shown;
             placed = made.placed;
-            stands = λ again. subst (λ (c : Cpu). Stood c.mem begin stop (made.items ++ life)) (sym same) stood;
+            stands = λ again. subst (λ (c : Cpu). P c.mem (made.items ++ life)) (sym same) stood;
             steady = all;
           }
       by false unfinished = inside (within q k steps cpu there)
         where
           inside : (run q k cpu ≡ run q steps cpu) ⊎ GoesOn (seen (run q steps cpu).log) (seen (run q k cpu).log)
-              → Goes q k cpu begin stop life
+              → GoesTo P q k cpu begin stop life
           inside (inl same) = absurd (let e = ap (at_return q) same ∙ there in cc)
           inside (inr on) = part on (λ here. absurd (cc)) all
 
   -- the call goes on from the stretch's end
   pub go_on : 1 ≤ steps → at_return q (run q steps cpu) ≡ false
-      → ((j : ℕ) → j < k → Goes q j (run q steps cpu) begin stop (made.items ++ life)) → Goes q k cpu begin stop life
+      → ((j : ℕ) → j < k → GoesTo P q j (run q steps cpu) begin stop (made.items ++ life)) → GoesTo P q k cpu begin stop life
   go_on some open_yet rest = by (split k steps)
     where
       all : Keeps begin stop q k cpu
       all tables covers = steady_on (is_kept tables) q steps k cpu (made.steady tables covers)
           (λ j is. (rest j (omega (arith, is, some))).steady tables covers)
 
-      by : Splits k steps → Goes q k cpu begin stop life
+      by : Splits k steps → GoesTo P q k cpu begin stop life
       by (inl less) =
           let more = run_on q less.0 (run q k cpu) in
           let to_end : run q steps cpu ≡ run q less.0 (run q k cpu) = ap (λ j. run q j cpu) less.1
@@ -143,8 +181,8 @@ module _ (q k : ℕ) (cpu : Cpu) (begin stop : ℕ) (life : List Item) (steps : 
             placed = (on.placed.0, ap place_of_life (append_items on.items made.items life) ∙ on.placed.1);
             stands = λ here.
                 let there : at_return q (run q above.0 (run q steps cpu)) ≡ true = sym (ap (at_return q) same) ∙ here in
-                subst (λ l. Stood (run q k cpu).mem begin stop l) (sym (append_items on.items made.items life))
-                (subst (λ (c : Cpu). Stood c.mem begin stop (on.items ++ (made.items ++ life))) (sym same)
+                subst (λ l. P (run q k cpu).mem l) (sym (append_items on.items made.items life))
+                (subst (λ (c : Cpu). P c.mem (on.items ++ (made.items ++ life))) (sym same)
                 (on.stands there));
             steady = all;
           }

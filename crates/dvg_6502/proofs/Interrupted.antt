@@ -1,35 +1,39 @@
 -- Calls that others interrupt are as calls that nobody interrupts.
 use Rattle.std.proofs.Common.{◌≡◌, ℕ, zero, suc, ◌+◌, ◌*◌, ◌<◌, ◌≤◌, Bool, true, false, not, List, [], ◌∷◌, ◌++◌}
 use Rattle.std.proofs.Common.{length, refl, sym, ap, ◌∙◌, subst, arith, le-leb}
-use Rattle.std.specs.Prelude.{nat_eq, nat_le, nat_lt, ◌&&◌, ◌||◌, if◌then◌else◌}
+use Rattle.std.specs.Prelude.{Option, Some, None, nat_eq, nat_le, nat_lt, ◌&&◌, ◌||◌, if◌then◌else◌}
 use Rattle.dvg_mem.specs.declared.half.Half.TheVariants.{H0}
 use Rattle.dvg_mem.specs.Areas.{other, half_of_high}
 use Rattle.dvg_frame.specs.declared.op.OpKind.{OpKind}
 use Rattle.dvg_driver.specs.Script.{Item, Offered, Asked}
-use Rattle.dvg_driver.specs.Place.{Place, Start, Booting, Resting, Writing, Waiting, Sending}
+use Rattle.dvg_driver.specs.Place.{Resting}
 use Rattle.dvg_6502.specs.Processor.{Cpu, Access, run, turn, at_return}
 use Rattle.dvg_6502.specs.Amid.{is_work, amid, changed, AreHarmless, guards, is_kept, is_code, are_steady, all_in, CameOut}
 use Rattle.dvg_6502.specs.Board.{IsLoaded, seen, is_own, is_ram, is_hardware}
-use Rattle.dvg_6502.specs.Holds.{HoldsPlace, publish_byte}
+use Rattle.dvg_6502.specs.Holds.{Holds}
 use Rattle.dvg_6502.specs.Tables.{HasTable, table_of}
-use Rattle.dvg_6502.specs.Routines.{Enters, IsBusy}
+use Rattle.dvg_6502.specs.Routines.{Enters, put_by}
 use Rattle.dvg_6502.specs.Calls as calls
 use Rattle.dvg_6502.specs.Calls.{Routine}
 use Rattle.dvg_6502.proofs.Plain as plain
 use Rattle.dvg_6502.proofs.Acting.{Covers}
 use Rattle.dvg_6502.proofs.AmidRun.{came_out}
-use Rattle.dvg_6502.proofs.Steady.{last_kept}
+use Rattle.dvg_6502.proofs.Steady.{last_kept, steady_all, code_kept}
 use Rattle.dvg_6502.proofs.Standing.{Stood}
-use Rattle.dvg_6502.proofs.Offering.{resets_steadily, refuses_steadily, takes_steadily, redraw_refuses_steadily}
+use Rattle.dvg_6502.proofs.Offering.{resets_steadily, takes_steadily, redraw_refuses_steadily}
 use Rattle.dvg_6502.proofs.Offering.{redraw_takes_steadily}
 use Rattle.dvg_6502.proofs.TicksRun.{ticks_go}
-use Rattle.dvg_6502.proofs.DvgRun.{run_goes}
+use Rattle.dvg_6502.proofs.TickCall.{tick_goes}
+use Rattle.dvg_6502.proofs.Closing.{open_steadily}
+use Rattle.dvg_6502.proofs.Refusing.{refused_steady, offer_refused, open_refused, redraw_refused}
+use Rattle.dvg_6502.proofs.Built.{holds_in, by_rest, holds_goes, run_goes_on}
+use Rattle.dvg_6502.proofs.BuildCalls.{puts_end, close_ends}
 use Rattle.dvg_6502.proofs.Sessions as sessions
 
--- what stands before a call
-abbrev Standing : Cpu → List plain.Call → Type 0
+-- what holds before a call
+abbrev pub Standing : Cpu → List plain.Call → Type 0
 Standing from olds = (life : List Item) × plain.IsLifeOf olds life
-    × Stood from.mem (plain.bounds olds).0 (plain.bounds olds).1 life
+    × holds_in (plain.bounds olds).0 (plain.bounds olds).1 (plain.frame_of olds) from.mem life
 
 -- each call takes guarded bytes alone
 module _ (from : Cpu) (k : ℕ) (olds : List plain.Call) (tables : ℕ → Bool) where
@@ -41,15 +45,12 @@ module _ (from : Cpu) (k : ℕ) (olds : List plain.Call) (tables : ℕ → Bool)
 
   offer_steady : (F : List OpKind) → Enters from 0x68FE → HasTable from.mem (from.a + 256 * from.x) F
       → ((b : ℕ) → calls.is_offered (calls.Offer F) from b ≡ true → tables b ≡ true) → Covered → Steady
-  offer_steady F enters table offered covered = by stood.stage.place refl
+  offer_steady F enters table offered covered =
+      by_rest from.mem (plain.bounds olds).0 (plain.bounds olds).1 (plain.frame_of olds) covered.0.0 Steady
+      (λ busy. refused_steady tables from k (offer_refused from enters busy))
+      (λ none stood first is held. (takes_steadily tables from (plain.bounds olds).0 (plain.bounds olds).1 stood.stage.half
+      stood.stage.flipped first F heads enters held table).steady k) covered.0.2
     where
-      stood : Stood from.mem (plain.bounds olds).0 (plain.bounds olds).1 covered.0.0
-      stood = covered.0.2
-
-      busy : IsBusy stood.stage.place → Steady
-      busy is = (refuses_steadily tables from (plain.bounds olds).0 (plain.bounds olds).1 stood.stage enters stood.holds
-          is).steady k
-
       t : ℕ
       t = from.a + 256 * from.x
 
@@ -65,64 +66,62 @@ module _ (from : Cpu) (k : ℕ) (olds : List plain.Call) (tables : ℕ → Bool)
       heads = ap (λ (u : Bool). u && (tables (from.a + 256 * from.x + 1) && true)) (offered_at t (omega arith) (omega arith))
           ∙ ap (λ (u : Bool). u && true) (offered_at (t + 1) (omega arith) (omega arith))
 
-      by : (place : Place) → stood.stage.place ≡ place → Steady
-      by Start is = busy (subst IsBusy (sym is) tt)
-      by Booting is = busy (subst IsBusy (sym is) tt)
-      by (Resting first) is = (takes_steadily tables from (plain.bounds olds).0 (plain.bounds olds).1 stood.stage.half
-          stood.stage.flipped first F heads enters
-          (record {
-            flipped = stood.holds.flipped;
-            place = subst (λ place. HoldsPlace from.mem (plain.bounds olds).0 (plain.bounds olds).1 place
-                stood.stage.half stood.stage.flipped) is stood.holds.place;
-          }) table).steady k
-      by (Writing writes) is = busy (subst IsBusy (sym is) tt)
-      by (Waiting first) is = busy (subst IsBusy (sym is) tt)
-      by (Sending first) is = busy (subst IsBusy (sym is) tt)
-
   redraw_steady : Enters from 0x6943 → Covered → Steady
-  redraw_steady enters covered = by stood.stage.flipped refl stood.stage.place refl
+  redraw_steady enters covered =
+      by_rest from.mem (plain.bounds olds).0 (plain.bounds olds).1 (plain.frame_of olds) covered.0.0 Steady
+      (λ busy. refused_steady tables from k (redraw_refused from enters busy))
+      (λ none stood first is held. by stood first held stood.stage.flipped refl) covered.0.2
     where
-      stood : Stood from.mem (plain.bounds olds).0 (plain.bounds olds).1 covered.0.0
-      stood = covered.0.2
-
-      busy : (stood.stage.flipped ≡ true → IsBusy stood.stage.place) → Steady
-      busy is = (redraw_refuses_steadily tables from (plain.bounds olds).0 (plain.bounds olds).1 stood.stage enters
-          stood.holds is).steady k
-
-      by : (flipped : Bool) → stood.stage.flipped ≡ flipped → (place : Place) → stood.stage.place ≡ place → Steady
-      by false set place is = busy (λ flipped. absurd (let e = sym set ∙ flipped in cc))
-      by true set Start is = busy (λ flipped. subst IsBusy (sym is) tt)
-      by true set Booting is = busy (λ flipped. subst IsBusy (sym is) tt)
-      by true set (Resting first) is =
+      by : (stood : Stood from.mem (plain.bounds olds).0 (plain.bounds olds).1 covered.0.0) (first : Bool)
+          → Holds from.mem (plain.bounds olds).0 (plain.bounds olds).1
+          (record { place = Resting first; half = stood.stage.half; flipped = stood.stage.flipped })
+          → (flipped : Bool) → stood.stage.flipped ≡ flipped → Steady
+      by stood first held false unset =
+          (redraw_refuses_steadily tables from (plain.bounds olds).0 (plain.bounds olds).1 stood.stage enters
+          stood.holds (λ set. absurd (let e = sym unset ∙ set in cc))).steady k
+      by stood first held true set =
           (redraw_takes_steadily tables from (plain.bounds olds).0 (plain.bounds olds).1 stood.stage.half first enters
-          (record {
-            flipped = stood.holds.flipped ∙ ap publish_byte set;
-            place = subst (λ (t : Bool). HoldsPlace from.mem (plain.bounds olds).0 (plain.bounds olds).1 (Resting first)
-                stood.stage.half t) set
-                (subst (λ place. HoldsPlace from.mem (plain.bounds olds).0 (plain.bounds olds).1 place stood.stage.half
-                stood.stage.flipped) is stood.holds.place);
-          })).steady k
-      by true set (Writing writes) is = busy (λ flipped. subst IsBusy (sym is) tt)
-      by true set (Waiting first) is = busy (λ flipped. subst IsBusy (sym is) tt)
-      by true set (Sending first) is = busy (λ flipped. subst IsBusy (sym is) tt)
+          (subst (λ (t : Bool). Holds from.mem (plain.bounds olds).0 (plain.bounds olds).1
+          (record { place = Resting first; half = stood.stage.half; flipped = t })) set held)).steady k
 
-  call_steady : (routine : Routine) → Enters from (calls.entry routine) → calls.OffersTable routine from
+  open_steady : (F : List OpKind) → Enters from 0x6924 → calls.IsBuildable F → Covered → Steady
+  open_steady F enters fit covered =
+      by_rest from.mem (plain.bounds olds).0 (plain.bounds olds).1 (plain.frame_of olds) covered.0.0 Steady
+      (λ busy. refused_steady tables from k (open_refused from enters busy))
+      (λ none stood first is held.
+      let did = open_steadily from (plain.bounds olds).0 (plain.bounds olds).1 stood.stage.half stood.stage.flipped first
+      (table_of F) enters held fit.some fit.fits in
+      steady_all (is_kept tables) from.s did.0.steps k from (did.1.steady tables) did.0.returns
+      (code_kept tables (run from.s did.0.steps from).pc did.1.there)) covered.0.2
+
+  call_steady : (routine : Routine) → Enters from (calls.entry routine)
+      → calls.UnlessReset routine (calls.Brings routine from (plain.frame_of olds))
       → ((b : ℕ) → calls.is_offered routine from b ≡ true → tables b ≡ true) → calls.UnlessReset routine Covered
       → Steady
-  call_steady calls.Reset enters table offered covered = (resets_steadily tables from 0 0 H0 enters).steady k
-  call_steady calls.Tick enters table offered covered =
-      (sessions.tick_goes from k olds covered.0.0 covered.0.1 enters covered.0.2).steady tables covered.1
-  call_steady calls.Ticks enters table offered covered =
-      (ticks_go k from (plain.bounds olds).0 (plain.bounds olds).1 covered.0.0 enters.entry enters.a enters.s
-      covered.0.2).steady tables covered.1
-  call_steady calls.Run enters table offered covered =
-      (run_goes k from (plain.bounds olds).0 (plain.bounds olds).1 covered.0.0 enters.entry enters.s
-      covered.0.2).steady tables covered.1
-  call_steady (calls.Offer F) enters table offered covered = offer_steady F enters table offered covered
-  call_steady calls.Redraw enters table offered covered = redraw_steady enters covered
+  call_steady calls.Reset enters brings offered covered = (resets_steadily tables from 0 0 H0 enters).steady k
+  call_steady calls.Tick enters brings offered covered =
+      (tick_goes (holds_in (plain.bounds olds).0 (plain.bounds olds).1 (plain.frame_of olds)) k from (plain.bounds olds).0
+      (plain.bounds olds).1 covered.0.0 (holds_goes (plain.bounds olds).0 (plain.bounds olds).1 (plain.frame_of olds))
+      enters.entry covered.0.2).steady tables covered.1
+  call_steady calls.Ticks enters brings offered covered =
+      (ticks_go (holds_in (plain.bounds olds).0 (plain.bounds olds).1 (plain.frame_of olds)) k from (plain.bounds olds).0
+      (plain.bounds olds).1 covered.0.0 (holds_goes (plain.bounds olds).0 (plain.bounds olds).1 (plain.frame_of olds))
+      enters.entry enters.a enters.s covered.0.2).steady tables covered.1
+  call_steady calls.Run enters brings offered covered =
+      (run_goes_on k from (plain.bounds olds).0 (plain.bounds olds).1 (plain.frame_of olds) covered.0.0 enters.entry
+      enters.s covered.0.2).steady tables covered.1
+  call_steady (calls.Offer F) enters brings offered covered = offer_steady F enters brings offered covered
+  call_steady calls.Redraw enters brings offered covered = redraw_steady enters covered
+  call_steady (calls.Open F) enters brings offered covered = open_steady F enters brings covered
+  call_steady (calls.Puts part) enters brings offered covered =
+      ((puts_end part from (plain.bounds olds).0 (plain.bounds olds).1 (plain.frame_of olds) covered.0.0 enters brings
+      covered.0.2).1.goes k).steady tables covered.1
+  call_steady calls.Close enters brings offered covered =
+      ((close_ends from (plain.bounds olds).0 (plain.bounds olds).1 (plain.frame_of olds) covered.0.0 enters brings
+      covered.0.2).1.goes k).steady tables covered.1
 
 -- the same call, which nobody interrupts
-abbrev plain_of : calls.Call → plain.Call
+abbrev pub plain_of : calls.Call → plain.Call
 plain_of call = record { routine = call.routine; from = call.from; steps = call.steps }
 
 -- what a call adds, by its log and whether it is taken
@@ -133,6 +132,10 @@ AddsAs calls.Run from log taken items = calls.AreShown items (seen log)
 AddsAs (calls.Offer F) from log taken items = (seen log ≡ [])
     × (items ≡ (if taken then Offered (other (half_of_high (from.mem 0x4001))) F ∷ [] else []))
 AddsAs calls.Redraw from log taken items = (seen log ≡ []) × (items ≡ (if taken then Asked ∷ [] else []))
+AddsAs (calls.Open F) from log taken items = (seen log ≡ [])
+    × (items ≡ (if taken then Offered (other (half_of_high (from.mem 0x4001))) F ∷ [] else []))
+AddsAs (calls.Puts part) from log taken items = calls.AreShown items (seen log)
+AddsAs calls.Close from log taken items = calls.AreShown items (seen log)
 AddsAs calls.Reset from log taken items = (seen log ≡ []) × (items ≡ [])
 
 to_new : (routine : Routine) (call : calls.Call) (items : List Item)
@@ -143,6 +146,9 @@ to_new calls.Ticks call items is = is
 to_new calls.Run call items is = is
 to_new (calls.Offer F) call items is = is
 to_new calls.Redraw call items is = is
+to_new (calls.Open F) call items is = is
+to_new (calls.Puts part) call items is = is
+to_new calls.Close call items is = is
 
 of_new : (routine : Routine) (call : calls.Call) (items : List Item) → calls.Adds routine call items
     → AddsAs routine call.from (calls.after call).log (calls.is_taken call) items
@@ -152,6 +158,9 @@ of_new calls.Ticks call items is = is
 of_new calls.Run call items is = is
 of_new (calls.Offer F) call items is = is
 of_new calls.Redraw call items is = is
+of_new (calls.Open F) call items is = is
+of_new (calls.Puts part) call items is = is
+of_new calls.Close call items is = is
 
 to_old : (routine : Routine) (call : plain.Call) (items : List Item)
     → AddsAs routine call.from (plain.after call).log (plain.is_taken call) items → plain.Adds routine call items
@@ -161,6 +170,9 @@ to_old calls.Ticks call items is = is
 to_old calls.Run call items is = is
 to_old (calls.Offer F) call items is = is
 to_old calls.Redraw call items is = is
+to_old (calls.Open F) call items is = is
+to_old (calls.Puts part) call items is = is
+to_old calls.Close call items is = is
 
 of_old : (routine : Routine) (call : plain.Call) (items : List Item) → plain.Adds routine call items
     → AddsAs routine call.from (plain.after call).log (plain.is_taken call) items
@@ -170,6 +182,9 @@ of_old calls.Ticks call items is = is
 of_old calls.Run call items is = is
 of_old (calls.Offer F) call items is = is
 of_old calls.Redraw call items is = is
+of_old (calls.Open F) call items is = is
+of_old (calls.Puts part) call items is = is
+of_old calls.Close call items is = is
 
 since_as : (routine : Routine) (old : List Item) (P Q : Type 0) → (P → Q) → calls.SinceReset routine old P
     → calls.SinceReset routine old Q
@@ -179,15 +194,21 @@ since_as calls.Ticks old P Q f is = f is
 since_as calls.Run old P Q f is = f is
 since_as (calls.Offer F) old P Q f is = f is
 since_as calls.Redraw old P Q f is = f is
+since_as (calls.Open F) old P Q f is = f is
+since_as (calls.Puts part) old P Q f is = f is
+since_as calls.Close old P Q f is = f is
 
 -- what holds unless a reset begins
-unless_map : (routine : Routine) (P Q : Type 0) → (P → Q) → calls.UnlessReset routine P → calls.UnlessReset routine Q
+pub unless_map : (routine : Routine) (P Q : Type 0) → (P → Q) → calls.UnlessReset routine P → calls.UnlessReset routine Q
 unless_map calls.Reset P Q f is = tt
 unless_map calls.Tick P Q f is = f is
 unless_map calls.Ticks P Q f is = f is
 unless_map calls.Run P Q f is = f is
 unless_map (calls.Offer F) P Q f is = f is
 unless_map calls.Redraw P Q f is = f is
+unless_map (calls.Open F) P Q f is = f is
+unless_map (calls.Puts part) P Q f is = f is
+unless_map calls.Close P Q f is = f is
 
 since_lives : (routine : Routine) (old : List Item) (P Q : List Item → Type 0)
     → calls.UnlessReset routine ((items : List Item) → P items → Q items) → calls.SinceReset routine old (P old)
@@ -198,12 +219,16 @@ since_lives calls.Ticks old P Q f is = f old is
 since_lives calls.Run old P Q f is = f old is
 since_lives (calls.Offer F) old P Q f is = f old is
 since_lives calls.Redraw old P Q f is = f old is
+since_lives (calls.Open F) old P Q f is = f old is
+since_lives (calls.Puts part) old P Q f is = f old is
+since_lives calls.Close old P Q f is = f old is
 
 -- calls, and the same calls which nobody interrupts
 pub record Bridge (call : calls.Call) (more : List calls.Call) : Type 0 where
   pub rest : List plain.Call
   pub session : plain.IsSession (plain_of call ∷ rest)
   pub bounds : calls.bounds (call ∷ more) ≡ plain.bounds (plain_of call ∷ rest)
+  pub frame : calls.frame_of (call ∷ more) ≡ plain.frame_of (plain_of call ∷ rest)
   pub same : CameOut (guards (is_kept (calls.is_table call more)) call.from.s) (plain.after (plain_of call))
       (calls.after call)
   pub returned : calls.has_returned call ≡ plain.has_returned (plain_of call)
@@ -213,13 +238,14 @@ pub record Bridge (call : calls.Call) (more : List calls.Call) : Type 0 where
       ((items : List Item) → calls.IsLifeOf more items → plain.IsLifeOf rest items)
 
 -- what is known of the calls before one
-record Facts (call : calls.Call) (more : List calls.Call) (rest : List plain.Call) : Type 0 where
-  standing : Standing call.from rest
-  bounds : calls.bounds more ≡ plain.bounds rest
-  follows : plain.Follows (plain_of call) rest
-  session : plain.IsSession rest
-  forth : (items : List Item) → calls.IsLifeOf more items → plain.IsLifeOf rest items
-  back : (items : List Item) → plain.IsLifeOf rest items → calls.IsLifeOf more items
+pub record Facts (call : calls.Call) (more : List calls.Call) (rest : List plain.Call) : Type 0 where
+  pub standing : Standing call.from rest
+  pub bounds : calls.bounds more ≡ plain.bounds rest
+  pub frame : calls.frame_of more ≡ plain.frame_of rest
+  pub follows : plain.Follows (plain_of call) rest
+  pub session : plain.IsSession rest
+  pub forth : (items : List Item) → calls.IsLifeOf more items → plain.IsLifeOf rest items
+  pub back : (items : List Item) → plain.IsLifeOf rest items → calls.IsLifeOf more items
 
 left_true : (t u : Bool) → t ≡ true → (t || u) ≡ true
 left_true true u is = refl
@@ -238,7 +264,8 @@ within low high b l h = both (nat_le low b) (nat_lt b high) (le-leb low b l) (le
 
 -- one call, with what is known of those before it
 module _ (call : calls.Call) (more : List calls.Call) (rest : List plain.Call)
-    (enters : Enters call.from (calls.entry call.routine)) (table : calls.OffersTable call.routine call.from)
+    (enters : Enters call.from (calls.entry call.routine))
+    (brings : calls.Brings call.routine call.from (calls.frame_of more))
     (alone : calls.IsLeftAlone call more) (facts : calls.UnlessReset call.routine (Facts call more rest)) where
   abbrev tables : ℕ → Bool
   tables = calls.is_table call more
@@ -249,8 +276,14 @@ module _ (call : calls.Call) (more : List calls.Call) (rest : List plain.Call)
   abbrev pl : Cpu
   pl = plain.after old
 
+  -- what it brings, where nobody interrupts
+  brings_now : calls.UnlessReset call.routine (calls.Brings call.routine call.from (plain.frame_of rest))
+  brings_now = unless_map call.routine (Facts call more rest)
+      (calls.Brings call.routine call.from (plain.frame_of rest))
+      (λ f. subst (λ l. calls.Brings call.routine call.from l) f.frame brings) facts
+
   steady : (k : ℕ) → are_steady (is_kept tables) call.from.s k call.from ≡ true
-  steady k = call_steady call.from k rest tables call.routine enters table
+  steady k = call_steady call.from k rest tables call.routine enters brings_now
       (λ b is. right_true (nat_le (calls.bounds more).0 b && nat_lt b (calls.bounds more).1)
       (calls.is_offered call.routine call.from b) is)
       (unless_map call.routine (Facts call more rest) (Covered call.from k rest tables) (λ f. (
@@ -290,6 +323,39 @@ module _ (call : calls.Call) (more : List calls.Call) (rest : List plain.Call)
       ap (λ (u : Bool). if u then (t, t + length (table_of F)) else calls.bounds more) taken
       ∙ ap (λ (p : ℕ × ℕ). if plain.is_taken old then (t, t + length (table_of F)) else p) is
   bounds_as calls.Redraw is = is
+  bounds_as (calls.Open F) is = is
+  bounds_as (calls.Puts part) is = is
+  bounds_as calls.Close is = is
+
+  frame_as : (routine : Routine) → calls.UnlessReset routine (calls.frame_of more ≡ plain.frame_of rest)
+      → calls.frame_after routine call (calls.frame_of more) ≡ plain.frame_after routine old (plain.frame_of rest)
+  frame_as calls.Reset is = refl
+  frame_as calls.Tick is = is
+  frame_as calls.Ticks is = is
+  frame_as calls.Run is = is
+  frame_as (calls.Offer F) is = is
+  frame_as calls.Redraw is = is
+  frame_as (calls.Open F) is = ap (λ (u : Bool). if u then Some (0, table_of F) else calls.frame_of more) taken
+      ∙ ap (λ (frame : Option (ℕ × List ℕ)). if plain.is_taken old then Some (0, table_of F) else frame) is
+  frame_as (calls.Puts part) is =
+      ap (λ (u : Bool). if u then calls.put_on (put_by part call.from) (calls.frame_of more) else calls.frame_of more) taken
+      ∙ ap (λ (frame : Option (ℕ × List ℕ)). if plain.is_taken old then calls.put_on (put_by part call.from) frame
+      else frame) is
+  frame_as calls.Close is = ap (λ (u : Bool). if u then None else calls.frame_of more) taken
+      ∙ ap (λ (frame : Option (ℕ × List ℕ)). if plain.is_taken old then None else frame) is
+
+  -- at a reset nothing is brought
+  brings_as : (routine : Routine) → calls.UnlessReset routine (calls.Brings routine call.from (plain.frame_of rest))
+      → calls.Brings routine call.from (plain.frame_of rest)
+  brings_as calls.Reset is = tt
+  brings_as calls.Tick is = is
+  brings_as calls.Ticks is = is
+  brings_as calls.Run is = is
+  brings_as (calls.Offer F) is = is
+  brings_as calls.Redraw is = is
+  brings_as (calls.Open F) is = is
+  brings_as (calls.Puts part) is = is
+  brings_as calls.Close is = is
 
   forth_lives : calls.UnlessReset call.routine
       ((items : List Item) → calls.IsLifeOf more items → plain.IsLifeOf rest items)
@@ -306,12 +372,14 @@ module _ (call : calls.Call) (more : List calls.Call) (rest : List plain.Call)
     rest = rest;
     session = (
       enters,
-      table,
+      brings_as call.routine brings_now,
       unless_map call.routine (Facts call more rest)
           (plain.Follows old rest × plain.IsSession rest) (λ f. (f.follows, f.session)) facts,
     );
     bounds = bounds_as call.routine (unless_map call.routine (Facts call more rest)
         (calls.bounds more ≡ plain.bounds rest) (λ f. f.bounds) facts);
+    frame = frame_as call.routine (unless_map call.routine (Facts call more rest)
+        (calls.frame_of more ≡ plain.frame_of rest) (λ f. f.frame) facts);
     same = same;
     returned = returned;
     forth = λ items life. (
@@ -345,6 +413,9 @@ covers_after calls.Tick call bounds b low high = left_true _ false (within bound
 covers_after calls.Ticks call bounds b low high = left_true _ false (within bounds.0 bounds.1 b low high)
 covers_after calls.Run call bounds b low high = left_true _ false (within bounds.0 bounds.1 b low high)
 covers_after calls.Redraw call bounds b low high = left_true _ false (within bounds.0 bounds.1 b low high)
+covers_after (calls.Open F) call bounds b low high = left_true _ false (within bounds.0 bounds.1 b low high)
+covers_after (calls.Puts part) call bounds b low high = left_true _ false (within bounds.0 bounds.1 b low high)
+covers_after calls.Close call bounds b low high = left_true _ false (within bounds.0 bounds.1 b low high)
 covers_after (calls.Offer F) call bounds b low high = by (calls.is_taken call) low high
   where
     t : ℕ
@@ -371,12 +442,13 @@ kept_table tables b is = right_true (is_own b) _ (right_true (is_work b) _ (righ
     (right_true (is_hardware b) (tables b) is)))
 
 -- what is known of the calls before one, by the newest of them
-facts_of : (call older : calls.Call) (olds : List calls.Call) → IsLoaded call.from.mem
+pub facts_of : (call older : calls.Call) (olds : List calls.Call) → IsLoaded call.from.mem
     → calls.Follows call (older ∷ olds) → (bridge : Bridge older olds)
     → Facts call (older ∷ olds) (plain_of older ∷ bridge.rest)
 facts_of call older olds load follows bridge = record {
-  standing = (was.life, was.is_life, was.stood);
+  standing = (was.life, was.is_life, was.holds);
   bounds = bridge.bounds;
+  frame = bridge.frame;
   follows = still;
   session = bridge.session;
   forth = bridge.forth;
@@ -426,6 +498,9 @@ prior calls.Ticks call more is = is
 prior calls.Run call more is = is
 prior (calls.Offer F) call more is = is
 prior calls.Redraw call more is = is
+prior (calls.Open F) call more is = is
+prior (calls.Puts part) call more is = is
+prior calls.Close call more is = is
 
 pub bridge : (call : calls.Call) (more : List calls.Call) → calls.IsSession (call ∷ more) → Bridge call more
 unfolding Prior
@@ -455,6 +530,9 @@ one_as calls.Ticks from log is_taken one other a b = sessions.one_shown (seen lo
 one_as calls.Run from log is_taken one other a b = sessions.one_shown (seen log) one other a b
 one_as (calls.Offer F) from log is_taken one other a b = a.1 ∙ sym b.1
 one_as calls.Redraw from log is_taken one other a b = a.1 ∙ sym b.1
+one_as (calls.Open F) from log is_taken one other a b = a.1 ∙ sym b.1
+one_as (calls.Puts part) from log is_taken one other a b = sessions.one_shown (seen log) one other a b
+one_as calls.Close from log is_taken one other a b = sessions.one_shown (seen log) one other a b
 
 pub one_life : calls.OneLife
 one_life [] one other a b = absurd a
@@ -487,6 +565,12 @@ pub offer_answers : calls.OfferAnswers
 offer_answers F life = let old = sessions.offer_answers F life in (
   λ a. old.0 (answered (calls.Offer F) false life (λ P is. is) a),
   λ a. old.1 (answered (calls.Offer F) true life (λ P is. is) a),
+)
+
+pub open_answers : calls.OpenAnswers
+open_answers F life = let old = sessions.open_answers F life in (
+  λ a. old.0 (answered (calls.Open F) false life (λ P is. is) a),
+  λ a. old.1 (answered (calls.Open F) true life (λ P is. is) a),
 )
 
 pub redraw_answers : calls.RedrawAnswers

@@ -35,11 +35,16 @@ pub mod BuiltFrame
 pub mod BuildScript
 pub mod Building
 pub mod Closing
+pub mod Refusing
+pub mod Built
 pub mod Decided
+pub mod BuildCalls
 pub mod Whole
-mod ExampleFrame
+pub mod ExampleFrame
 pub mod Plain
 pub mod Sessions
 pub mod Interrupted
+pub mod Drafts
+pub mod Programs
 pub mod Joined
 pub mod Example

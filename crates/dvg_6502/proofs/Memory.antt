@@ -5,9 +5,10 @@ use Rattle.std.proofs.Common.{get_or-set_same, get_or-set_other}
 use Rattle.std.proofs.lemmas.Bool.{ne_eqb}
 use Rattle.std.specs.Prelude.{nat_eq, nat_le, nat_lt, if◌then◌else◌, ◌&&◌, slice_index}
 use Rattle.std.proofs.Math.Path.{fun_ext}
-use Rattle.dvg_6502.specs.Processor.{put}
+use Rattle.dvg_6502.specs.Processor.{Cpu, put}
 use Rattle.dvg_6502.specs.Code.{code}
 use Rattle.dvg_6502.specs.Board.{IsLoaded}
+use Rattle.dvg_6502.proofs.Running.{at}
 
 abbrev pub in_page : ℕ → Bool
 in_page b = nat_le 0x10 b && nat_lt b 0x1B
@@ -210,3 +211,22 @@ out_of_page q low =
     let a : nat_le 0x10 q ≡ true = le-leb 0x10 q (omega arith) in
     let b : nat_lt q 0x1B ≡ false = le_not (suc q) 0x1B (omega arith) in
     rw (a, b) refl
+
+-- any state, by its place
+pub state_is : (cpu : Cpu) (pc s : ℕ) → cpu.pc ≡ pc → cpu.s ≡ s → IsLoaded cpu.mem
+    → at pc cpu.a cpu.x cpu.y s cpu.n cpu.z cpu.c cpu.v (laid (page_in cpu.mem) cpu.mem) cpu.flags cpu.log ≡ cpu
+state_is cpu pc s at_pc at_s load =
+    ap (λ (m : ℕ → ℕ). at pc cpu.a cpu.x cpu.y s cpu.n cpu.z cpu.c cpu.v m cpu.flags cpu.log) (sym (known cpu.mem load))
+    ∙ ap (λ t. at pc cpu.a cpu.x cpu.y t cpu.n cpu.z cpu.c cpu.v cpu.mem cpu.flags cpu.log) (sym at_s)
+    ∙ ap (λ p. at p cpu.a cpu.x cpu.y cpu.s cpu.n cpu.z cpu.c cpu.v cpu.mem cpu.flags cpu.log) (sym at_pc)
+
+-- the same, of a known phase
+pub phase_is : (cpu : Cpu) (pc phase : ℕ) → cpu.pc ≡ pc → cpu.mem 0x10 ≡ phase → IsLoaded cpu.mem
+    → at pc cpu.a cpu.x cpu.y cpu.s cpu.n cpu.z cpu.c cpu.v
+    (laid (page_of phase (cpu.mem 0x11) (cpu.mem 0x12) (cpu.mem 0x13) (cpu.mem 0x14) (cpu.mem 0x15) (cpu.mem 0x16)
+    (cpu.mem 0x17) (cpu.mem 0x18) (cpu.mem 0x19) (cpu.mem 0x1A)) cpu.mem) cpu.flags cpu.log ≡ cpu
+phase_is cpu pc phase at_pc is load =
+    ap (λ p. at pc cpu.a cpu.x cpu.y cpu.s cpu.n cpu.z cpu.c cpu.v
+    (laid (page_of p (cpu.mem 0x11) (cpu.mem 0x12) (cpu.mem 0x13) (cpu.mem 0x14) (cpu.mem 0x15) (cpu.mem 0x16)
+    (cpu.mem 0x17) (cpu.mem 0x18) (cpu.mem 0x19) (cpu.mem 0x1A)) cpu.mem) cpu.flags cpu.log) (sym is)
+    ∙ state_is cpu pc cpu.s at_pc refl load

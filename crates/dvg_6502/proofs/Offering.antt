@@ -64,7 +64,7 @@ from_is cpu entry at_entry load =
     ∙ ap (λ p. at p cpu.a cpu.x cpu.y cpu.s cpu.n cpu.z cpu.c cpu.v cpu.mem cpu.flags cpu.log) (sym at_entry)
 
 -- a driver that doesn't rest isn't idle
-not_idle : (mem : ℕ → ℕ) (begin stop : ℕ) (place : Place) (half : Half) (flipped : Bool)
+pub not_idle : (mem : ℕ → ℕ) (begin stop : ℕ) (place : Place) (half : Half) (flipped : Bool)
     → HoldsPlace mem begin stop place half flipped → IsBusy place → nat_eq (mem 0x10) 2 ≡ false
 not_idle mem begin stop Start half flipped holds busy = ap (λ p. nat_eq p 2) holds.0
 not_idle mem begin stop Booting half flipped holds busy = ap (λ p. nat_eq p 2) holds.0

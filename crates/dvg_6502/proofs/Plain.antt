@@ -1,15 +1,15 @@
 -- Calls that nobody interrupts.
 use Rattle.std.specs.Prelude.{◌≡◌, ℕ, ◌+◌, ◌*◌, ◌<◌, ◌≤◌, ◌&&◌, Bool, true, false, not, List, [], ◌∷◌, ◌++◌, length}
-use Rattle.std.specs.Prelude.{if◌then◌else◌}
+use Rattle.std.specs.Prelude.{Option, None, Some, if◌then◌else◌}
 use Rattle.dvg_mem.specs.Areas.{other, half_of_high}
 use Rattle.dvg_frame.specs.declared.op.OpKind.{OpKind}
 use Rattle.dvg_driver.specs.Script.{Item, Offered, Asked, IsLife, IsWhole, has_flip}
 use Rattle.dvg_6502.specs.Processor.{Cpu, run, at_return}
 use Rattle.dvg_6502.specs.Board.{seen, is_own, is_ram, byte1_place, phase_in}
 use Rattle.dvg_6502.specs.Tables.{table_of}
-use Rattle.dvg_6502.specs.Routines.{Enters}
-use Rattle.dvg_6502.specs.Calls.{Routine, Reset, Tick, Ticks, Run, Offer, Redraw, entry, OffersTable, UnlessReset}
-use Rattle.dvg_6502.specs.Calls.{AreShown, SinceReset}
+use Rattle.dvg_6502.specs.Routines.{Enters, put_by}
+use Rattle.dvg_6502.specs.Calls.{Routine, Reset, Tick, Ticks, Run, Offer, Redraw, Open, Puts, Close, entry, Brings}
+use Rattle.dvg_6502.specs.Calls.{put_on, UnlessReset, AreShown, SinceReset}
 
 -- a call, from the processor at its entry, after this many steps
 pub record Call : Type 0 where
@@ -40,6 +40,18 @@ abbrev pub bounds : List Call → ℕ × ℕ
 bounds [] = (0, 0)
 bounds (call ∷ calls) = taken_bounds call.routine call (bounds calls)
 
+-- of the frame that is being built, how many bytes were put, and those that are still to come
+abbrev pub frame_after : Routine → Call → Option (ℕ × List ℕ) → Option (ℕ × List ℕ)
+frame_after (Open F) call frame = if is_taken call then Some (0, table_of F) else frame
+frame_after (Puts part) call frame = if is_taken call then put_on (put_by part call.from) frame else frame
+frame_after Close call frame = if is_taken call then None else frame
+frame_after Reset call frame = None
+frame_after routine call frame = frame
+
+abbrev pub frame_of : List Call → Option (ℕ × List ℕ)
+frame_of [] = None
+frame_of (call ∷ calls) = frame_after call.routine call (frame_of calls)
+
 -- what nobody else writes between two calls: the driver's bytes, the vector RAM, and a table while it is being
 -- written (DVG_WRITE)
 pub record IsUntouched (calls : List Call) (before now : ℕ → ℕ) : Type 0 where
@@ -56,7 +68,7 @@ Follows call (older ∷ calls) = (has_returned older ≡ true) × IsUntouched (o
 abbrev pub IsSession : List Call → Type 0
 IsSession [] = ⊥
 IsSession (call ∷ calls) =
-    Enters call.from (entry call.routine) × OffersTable call.routine call.from
+    Enters call.from (entry call.routine) × Brings call.routine call.from (frame_of calls)
     × UnlessReset call.routine (Follows call calls × IsSession calls)
 
 -- the items that a call adds to a life: its actions, or what it takes; a frame goes to the half that is free
@@ -68,6 +80,11 @@ Adds (Offer F) call items =
     (seen (after call).log ≡ [])
     × (items ≡ (if is_taken call then Offered (other (half_of_high (call.from.mem byte1_place))) F ∷ [] else []))
 Adds Redraw call items = (seen (after call).log ≡ []) × (items ≡ (if is_taken call then Asked ∷ [] else []))
+Adds (Open F) call items =
+    (seen (after call).log ≡ [])
+    × (items ≡ (if is_taken call then Offered (other (half_of_high (call.from.mem byte1_place))) F ∷ [] else []))
+Adds (Puts part) call items = AreShown items (seen (after call).log)
+Adds Close call items = AreShown items (seen (after call).log)
 Adds Reset call items = (seen (after call).log ≡ []) × (items ≡ [])
 
 -- the life that calls make: what each adds, the newest first
@@ -98,6 +115,11 @@ pub record IsAnswered (routine : Routine) (c : Bool) (life : List Item) : Type 0
 abbrev pub OfferAnswers : Type 0
 OfferAnswers = (F : List OpKind) (life : List Item) →
     (IsAnswered (Offer F) false life → IsWhole life) × (IsAnswered (Offer F) true life → ¬ IsWhole life)
+
+-- a frame is begun by dvg_open there, too
+abbrev pub OpenAnswers : Type 0
+OpenAnswers = (F : List OpKind) (life : List Item) →
+    (IsAnswered (Open F) false life → IsWhole life) × (IsAnswered (Open F) true life → ¬ IsWhole life)
 
 -- a redraw is taken exactly where it is whole and has a flip
 abbrev pub RedrawAnswers : Type 0

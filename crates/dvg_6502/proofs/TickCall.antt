@@ -1,23 +1,25 @@
 -- A tick that another routine calls, from its JSR to its RTS.
 use Rattle.std.proofs.Common.{◌≡◌, ◌≢◌, ℕ, suc, inl, inr, ◌+◌, ◌*◌, ◌%◌, ◌<◌, ◌≤◌, Bool, true, false, List, ◌∷◌, ◌++◌}
-use Rattle.std.proofs.Common.{refl, sym, ap, ◌∙◌, subst, arith, eq-eqb, le-leb, leb-true}
+use Rattle.std.proofs.Common.{refl, sym, ap, ◌∙◌, subst, arith, Some, eq-eqb, le-leb, leb-true}
 use Rattle.std.proofs.lemmas.Bool.{ne_eqb}
 use Rattle.std.specs.Prelude.{nat_eq, nat_le, nat_lt, ◌⊎◌, ◌&&◌, if◌then◌else◌}
 use Rattle.dvg_driver.specs.declared.action.Action.{Action}
 use Rattle.dvg_driver.specs.declared.action.Action.TheVariants.{Peek, Wrote, Read, Sent, Idle}
 use Rattle.dvg_driver.specs.Script.{Item}
+use Rattle.dvg_driver.specs.Place.{Place, place_of_life}
 use Rattle.dvg_6502.specs.Processor.{Cpu, Access, Writes, Return, put, run, turn, does, decoded, opcodes}
-use Rattle.dvg_6502.specs.Board.{IsLoaded, seen, is_own}
-use Rattle.dvg_6502.specs.Amid.{is_kept, is_steady, are_steady}
+use Rattle.dvg_6502.specs.Board.{IsLoaded, seen, is_own, is_ram, is_hardware}
+use Rattle.dvg_6502.specs.Amid.{is_kept, is_code, is_steady, are_steady}
 use Rattle.dvg_6502.specs.Routines.{acted}
-use Rattle.dvg_6502.proofs.Running.{at, run_more, steady_more, and_true}
-use Rattle.dvg_6502.proofs.Memory.{AreSmall, laid, page_in, in_page, in_code, known, loaded, put_out, put_small}
+use Rattle.dvg_6502.specs.Calls.{AreShown}
+use Rattle.dvg_6502.proofs.Running.{at, run_more, returned, steady_more, and_true}
+use Rattle.dvg_6502.proofs.Memory.{AreSmall, laid, page_in, in_page, in_code, known, loaded, put_out, put_small, state_is}
 use Rattle.dvg_6502.proofs.Memory.{both_true, le_not}
-use Rattle.dvg_6502.proofs.Acting.{Acts, Covers}
+use Rattle.dvg_6502.proofs.Acting.{Covers}
 use Rattle.dvg_6502.proofs.Steady.{rts_steady, code_kept}
 use Rattle.dvg_6502.proofs.Ticking.{acts}
 use Rattle.dvg_6502.proofs.Standing.{Stood, stood_on, stood_tick, items_of, shown_items}
-use Rattle.dvg_6502.proofs.Going.{Stretch}
+use Rattle.dvg_6502.proofs.Going.{Claim, GoesTo, Keeps, Stretch, stood_in, finish}
 
 -- what was put somewhere is found there
 found : (p v : ℕ) (page : List ℕ) (mem : ℕ → ℕ) → in_page p ≡ false → in_code p ≡ false → laid page (put p v mem) p ≡ v
@@ -55,15 +57,91 @@ abbrev back_of : Bool → ℕ
 back_of true = 0x17
 back_of false = 0x64
 
+-- a tick, from its entry to its RTS, and what it makes of a life
+pub record TickMakes (P : Claim) (q : ℕ) (cpu : Cpu) (begin stop : ℕ) (life : List Item) : Type 0 where
+  pub steps : ℕ
+  pub items : List Item
+  pub events : List Access
+  pub returns : (run q steps cpu).mem (run q steps cpu).pc ≡ 0x60
+  pub stack : (run q steps cpu).s ≡ cpu.s
+  pub accesses : seen (run q steps cpu).log ≡ events ++ seen cpu.log
+  pub shown : AreShown items events
+  pub placed : (place : Place) × (place_of_life (items ++ life) ≡ Some place)
+  pub after : P (run q steps cpu).mem (items ++ life)
+  pub low : (b : ℕ) → is_own b ≡ false → b < 0x3000 → (run q steps cpu).mem b ≡ cpu.mem b
+  pub steady : Keeps begin stop q steps cpu
+  pub there : is_code (run q steps cpu).pc ≡ true
+
+-- what holds of a loaded memory after a life that has a place, stays where others leave the driver alone, and from which
+-- a tick goes on
+pub record GoesByTicks (P : Claim) (begin stop : ℕ) : Type 0 where
+  pub loaded : (mem : ℕ → ℕ) (life : List Item) → P mem life → IsLoaded mem
+  pub placed : (mem : ℕ → ℕ) (life : List Item) → P mem life → (place : Place) × (place_of_life life ≡ Some place)
+  pub stays : (mem now : ℕ → ℕ) (life : List Item) → P mem life → IsLoaded now
+      → ((b : ℕ) → is_own b ≡ true → now b ≡ mem b) → ((b : ℕ) → is_ram b ≡ true → now b ≡ mem b)
+      → (mem 0x10 ≡ 0x80 → (b : ℕ) → begin ≤ b → b < stop → 0x200 ≤ b → is_hardware b ≡ false → now b ≡ mem b)
+      → P now life
+  pub ticks : (q : ℕ) (cpu : Cpu) (life : List Item) → cpu.pc ≡ 0x686A → P cpu.mem life
+      → TickMakes P q cpu begin stop life
+
+-- a tick of a driver that stands after a life
+pub stood_ticks : (begin stop q : ℕ) (cpu : Cpu) (life : List Item) → cpu.pc ≡ 0x686A → Stood cpu.mem begin stop life
+    → TickMakes (stood_in begin stop) q cpu begin stop life
+stood_ticks begin stop q cpu life at_pc stood =
+    let did = acts q cpu begin stop stood.stage stood.peeked life at_pc stood.loaded stood.holds stood.stands in
+    let new = stood_tick q cpu begin stop stood.peeked life stood.byte1 did in
+    record {
+      steps = did.steps;
+      items = items_of did.action;
+      events = did.events;
+      returns = did.returns;
+      stack = did.stack;
+      accesses = did.accesses;
+      shown = shown_items did.action did.events did.shows;
+      placed = (new.stage.place, new.stands.place);
+      after = new;
+      low = λ b own low. did.kept b own (λ same. absurd (omega arith)) ∙ acted_out did.action cpu.mem b (omega arith);
+      steady = did.steady;
+      there = did.there;
+    }
+
+pub stood_goes : (begin stop : ℕ) → GoesByTicks (stood_in begin stop) begin stop
+stood_goes begin stop = record {
+  loaded = λ mem life stood. stood.loaded;
+  placed = λ mem life stood. (stood.stage.place, stood.stands.place);
+  stays = λ mem now life stood. stood_on mem now begin stop life stood;
+  ticks = stood_ticks begin stop;
+}
+
+-- a call of dvg_tick
+pub tick_goes : (P : Claim) (k : ℕ) (cpu : Cpu) (begin stop : ℕ) (life : List Item) → GoesByTicks P begin stop
+    → cpu.pc ≡ 0x686A → P cpu.mem life → GoesTo P cpu.s k cpu begin stop life
+tick_goes P k cpu begin stop life goes at_pc holds =
+    let did = goes.ticks cpu.s cpu life at_pc holds in
+    finish P cpu.s k cpu begin stop life did.steps
+    (record {
+      items = did.items;
+      accesses = did.events;
+      logged = did.accesses;
+      shown = did.shown;
+      placed = did.placed;
+      steady = did.steady;
+    })
+    (returned cpu.s (run cpu.s did.steps cpu) did.returns did.stack) did.there did.after
+
 -- a call of the tick from there, to its return
-pub record Turned (q : ℕ) (site : Bool) (cpu : Cpu) (begin stop : ℕ) (life : List Item) : Type 0 where
+pub record TurnedTo (P : Claim) (q : ℕ) (site : Bool) (cpu : Cpu) (begin stop : ℕ) (life : List Item) : Type 0 where
   pub steps : ℕ
   pub some : 1 ≤ steps
   pub made : Stretch begin stop q cpu steps life
   pub pc : (run q steps cpu).pc ≡ site_of site + 3
   pub stack : (run q steps cpu).s ≡ q
-  pub stood : Stood (run q steps cpu).mem begin stop (made.items ++ life)
+  pub stood : P (run q steps cpu).mem (made.items ++ life)
   pub kept : (run q steps cpu).mem 0x1F ≡ cpu.mem 0x1F
+
+-- the same, of a driver that stands
+abbrev pub Turned : (q : ℕ) (site : Bool) → Cpu → (begin stop : ℕ) → List Item → Type 0
+Turned q site cpu begin stop life = TurnedTo (stood_in begin stop) q site cpu begin stop life
 
 -- a return within a call
 rts : (q : ℕ) (cpu : Cpu) → cpu.mem cpu.pc ≡ 0x60 → nat_eq cpu.s q ≡ false → turn q cpu ≡ does Return cpu
@@ -71,9 +149,9 @@ rts q cpu opcode inner =
     ap (λ b. if (nat_eq b 0x60 && nat_eq cpu.s q) then cpu else does (decoded opcodes b) cpu) opcode
     ∙ ap (λ (t : Bool). if t then cpu else does Return cpu) inner
 
-module _ (q a x y : ℕ) (n z c v : Bool) (mem flags : ℕ → ℕ) (log : List Access) (load : IsLoaded mem)
-    (q_small : q < 256) (site : Bool) (begin stop : ℕ) (life : List Item)
-    (stood : Stood mem begin stop life) where
+module _ (P : Claim) (begin stop : ℕ) (goes : GoesByTicks P begin stop) (q a x y : ℕ) (n z c v : Bool)
+    (mem flags : ℕ → ℕ) (log : List Access) (load : IsLoaded mem) (q_small : q < 256) (site : Bool) (life : List Item)
+    (stood : P mem life) where
   abbrev p0 : ℕ
   p0 = 0x100 + q % 256
 
@@ -165,16 +243,16 @@ module _ (q a x y : ℕ) (n z c v : Bool) (mem flags : ℕ → ℕ) (log : List 
   load' = loaded page stacked small
       (put_small p1 (back_of site) (put p0 0x68 mem) (back_small site) (put_small p0 0x68 mem (omega arith) load.bytes))
 
-  stood' : Stood (laid page stacked) begin stop life
-  stood' = stood_on mem (laid page stacked) begin stop life stood load'
+  stood' : P (laid page stacked) life
+  stood' = goes.stays mem (laid page stacked) life stood load'
       (λ b own. let high = leb-true (suc b) 0x1B (both_true (nat_le 0x10 b) (nat_lt b 0x1B) own).1 in
       elsewhere b (inl (omega arith)))
       (λ b ram. let low = leb-true 0x4000 b (both_true (nat_le 0x4000 b) (nat_lt b 0x4800) ram).0 in
       elsewhere b (inr (omega arith)))
       (λ writing b low high far device. elsewhere b (inr far))
 
-  did : Acts q start begin stop stood'.peeked life
-  did = acts q start begin stop stood'.stage stood'.peeked life refl load' stood'.holds stood'.stands
+  did : TickMakes P q start begin stop life
+  did = goes.ticks q start life refl stood'
 
   abbrev fin : Cpu
   fin = run q did.steps start
@@ -186,8 +264,7 @@ module _ (q a x y : ℕ) (n z c v : Bool) (mem flags : ℕ → ℕ) (log : List 
   not_q = ap (λ s. nat_eq s q) inner_is ∙ ne_eqb inner q (λ same. absurd (omega arith))
 
   kept_low : (b : ℕ) → is_own b ≡ false → b < 0x3000 → fin.mem b ≡ laid page stacked b
-  kept_low b own low = did.kept b own (λ same. absurd (omega arith))
-      ∙ acted_out did.action (laid page stacked) b (omega arith)
+  kept_low b own low = did.low b own low
 
   not_own : (p : ℕ) → 0x1B ≤ p → is_own p ≡ false
   not_own p low = let a : nat_le 0x10 p ≡ true = le-leb 0x10 p (omega arith) in
@@ -238,38 +315,36 @@ module _ (q a x y : ℕ) (n z c v : Bool) (mem flags : ℕ → ℕ) (log : List 
       ∙ and_true (is_steady (is_kept tables) q fin) true
       (rts_steady (is_kept tables) q fin (code_kept tables fin.pc did.there) did.returns not_q home) refl)
 
-  new : Stood fin.mem begin stop (items_of did.action ++ life)
-  new = stood_tick q start begin stop stood'.peeked life stood'.byte1 did
-
-  turned : Turned q site from begin stop life
+  turned : TurnedTo P q site from begin stop life
   turned = record {
     steps = 1 + (did.steps + 1);
     some = omega arith;
     made = record {
-      items = items_of did.action;
+      items = did.items;
       accesses = did.events;
       logged = ap (λ (k : Cpu). seen k.log) ends ∙ did.accesses ∙ ap (λ l. did.events ++ l) quiet;
-      shown = shown_items did.action did.events did.shows;
-      placed = (new.stage.place, new.stands.place);
+      shown = did.shown;
+      placed = did.placed;
       steady = all_steady;
     };
     pc = ap (λ (k : Cpu). k.pc) ends ∙ end_pc;
     stack = ap (λ (k : Cpu). k.s) ends ∙ omega (arith, inner_is);
-    stood = subst (λ (k : Cpu). Stood k.mem begin stop (items_of did.action ++ life)) (sym ends) new;
+    stood = subst (λ (k : Cpu). P k.mem (did.items ++ life)) (sym ends) did.after;
     kept = ap (λ (k : Cpu). k.mem 0x1F) ends ∙ kept_low 0x1F refl (omega arith) ∙ elsewhere 0x1F (inl (omega arith))
         ∙ ap (λ (m : ℕ → ℕ). m 0x1F) (known mem load);
   }
 
 -- from any state at one of the two places
+pub tick_call_to : (P : Claim) (begin stop : ℕ) → GoesByTicks P begin stop → (q : ℕ) (site : Bool) (cpu : Cpu)
+    (life : List Item) → q < 256 → cpu.pc ≡ site_of site → cpu.s ≡ q → P cpu.mem life
+    → TurnedTo P q site cpu begin stop life
+tick_call_to P begin stop goes q site cpu life q_small at_site at_q stood =
+    let load = goes.loaded cpu.mem life stood in
+    subst (λ (k : Cpu). TurnedTo P q site k begin stop life) (state_is cpu (site_of site) q at_site at_q load)
+    (turned P begin stop goes q cpu.a cpu.x cpu.y cpu.n cpu.z cpu.c cpu.v cpu.mem cpu.flags cpu.log load q_small site life
+    stood)
+
 pub tick_call : (q : ℕ) (site : Bool) (cpu : Cpu) (begin stop : ℕ) (life : List Item) → q < 256
     → cpu.pc ≡ site_of site → cpu.s ≡ q → Stood cpu.mem begin stop life → Turned q site cpu begin stop life
 tick_call q site cpu begin stop life q_small at_site at_q stood =
-    let is : at (site_of site) cpu.a cpu.x cpu.y q cpu.n cpu.z cpu.c cpu.v
-    (laid (page_in cpu.mem) cpu.mem) cpu.flags cpu.log ≡ cpu =
-    ap (λ (m : ℕ → ℕ). at (site_of site) cpu.a cpu.x cpu.y q cpu.n cpu.z cpu.c cpu.v m cpu.flags cpu.log)
-    (sym (known cpu.mem stood.loaded))
-    ∙ ap (λ s. at (site_of site) cpu.a cpu.x cpu.y s cpu.n cpu.z cpu.c cpu.v cpu.mem cpu.flags cpu.log) (sym at_q)
-    ∙ ap (λ p. at p cpu.a cpu.x cpu.y cpu.s cpu.n cpu.z cpu.c cpu.v cpu.mem cpu.flags cpu.log) (sym at_site) in
-    subst (λ (k : Cpu). Turned q site k begin stop life) is
-    (turned q cpu.a cpu.x cpu.y cpu.n cpu.z cpu.c cpu.v cpu.mem cpu.flags cpu.log stood.loaded q_small site begin stop
-    life stood)
+    tick_call_to (stood_in begin stop) begin stop (stood_goes begin stop) q site cpu life q_small at_site at_q stood

@@ -1,5 +1,5 @@
 -- dvg_ticks: this many ticks.
-use Rattle.std.proofs.Common.{◌≡◌, ◌≢◌, ℕ, zero, suc, inl, inr, ◌+◌, ◌%◌, ◌<◌, ◌≤◌, Bool, true, false, List, [], ◌∷◌}
+use Rattle.std.proofs.Common.{◌≡◌, ◌≢◌, ℕ, zero, suc, inl, inr, ◌+◌, ◌%◌, ◌<◌, ◌≤◌, Bool, true, false, List, ◌∷◌}
 use Rattle.std.proofs.Common.{◌++◌, refl, sym, ap, ◌∙◌, subst, arith, leb-true}
 use Rattle.std.proofs.lemmas.Bool.{ne_eqb}
 use Rattle.std.specs.Prelude.{nat_eq, nat_le, nat_lt, ◌⊎◌}
@@ -8,10 +8,9 @@ use Rattle.dvg_6502.specs.Processor.{Cpu, Access, Reads, Writes, put, run, at_re
 use Rattle.dvg_6502.specs.Board.{IsLoaded, seen}
 use Rattle.dvg_6502.specs.Amid.{is_kept, is_code, are_steady}
 use Rattle.dvg_6502.proofs.Running.{at, run_more, returned, steady_more}
-use Rattle.dvg_6502.proofs.Memory.{AreSmall, laid, page_in, known, loaded, put_out, put_small, both_true}
-use Rattle.dvg_6502.proofs.Standing.{Stood, stood_on}
-use Rattle.dvg_6502.proofs.Going.{Goes, Stretch, finish, go_on}
-use Rattle.dvg_6502.proofs.TickCall.{Turned, tick_call, past_low}
+use Rattle.dvg_6502.proofs.Memory.{AreSmall, laid, page_in, known, loaded, put_out, put_small, both_true, state_is}
+use Rattle.dvg_6502.proofs.Going.{Claim, GoesTo, Stretch, idle_stretch, finish, go_on}
+use Rattle.dvg_6502.proofs.TickCall.{GoesByTicks, TurnedTo, tick_call_to, past_low}
 
 -- a stretch, and steps after it that touch no hardware
 abbrev pub extend : (begin stop q : ℕ) (cpu : Cpu) (k more : ℕ) (life : List Item) → Stretch begin stop q cpu k life
@@ -26,27 +25,6 @@ extend begin stop q cpu k more life made quiet steady = record {
   logged = ap (λ (c : Cpu). seen c.log) (run_more q k more cpu) ∙ quiet ∙ made.logged;
   steady = λ tables covers. steady_more (is_kept tables) q k more cpu (made.steady tables covers) (steady tables);
 }
-
--- a stretch that touches no hardware
-abbrev pub idle_stretch : (q : ℕ) (cpu : Cpu) (k begin stop : ℕ) (life : List Item) (mem : ℕ → ℕ)
-    → Stood mem begin stop life → seen (run q k cpu).log ≡ seen cpu.log
-    → ((tables : ℕ → Bool) → are_steady (is_kept tables) q k cpu ≡ true) → Stretch begin stop q cpu k life
-idle_stretch q cpu k begin stop life mem stood quiet steady = record {
-  items = [];
-  accesses = [];
-  shown = tt;
-  placed = (stood.stage.place, stood.stands.place);
-  logged = quiet;
-  steady = λ tables covers. steady tables;
-}
-
--- any state, by its place
-pub state_is : (cpu : Cpu) (pc s : ℕ) → cpu.pc ≡ pc → cpu.s ≡ s → IsLoaded cpu.mem
-    → at pc cpu.a cpu.x cpu.y s cpu.n cpu.z cpu.c cpu.v (laid (page_in cpu.mem) cpu.mem) cpu.flags cpu.log ≡ cpu
-state_is cpu pc s at_pc at_s load =
-    ap (λ (m : ℕ → ℕ). at pc cpu.a cpu.x cpu.y s cpu.n cpu.z cpu.c cpu.v m cpu.flags cpu.log) (sym (known cpu.mem load))
-    ∙ ap (λ t. at pc cpu.a cpu.x cpu.y t cpu.n cpu.z cpu.c cpu.v cpu.mem cpu.flags cpu.log) (sym at_s)
-    ∙ ap (λ p. at p cpu.a cpu.x cpu.y cpu.s cpu.n cpu.z cpu.c cpu.v cpu.mem cpu.flags cpu.log) (sym at_pc)
 
 pub page_small : (mem : ℕ → ℕ) → IsLoaded mem → AreSmall (page_in mem)
 page_small mem load = (
@@ -69,21 +47,22 @@ page_small mem load = (
   ),
 )
 
--- what stands where only the count of dvg_ticks was changed
-count_stood : (mem : ℕ → ℕ) (r begin stop : ℕ) (life : List Item) → r < 256 → Stood mem begin stop life
-    → Stood (laid (page_in mem) (put 0x1F r mem)) begin stop life
-count_stood mem r begin stop life small stood = stood_on mem (laid (page_in mem) (put 0x1F r mem)) begin stop life stood
-    (loaded (page_in mem) (put 0x1F r mem) (page_small mem stood.loaded)
-    (put_small 0x1F r mem small stood.loaded.bytes))
+-- what holds where only the count of dvg_ticks was changed
+count_stood : (P : Claim) (begin stop : ℕ) → GoesByTicks P begin stop → (mem : ℕ → ℕ) (r : ℕ) (life : List Item)
+    → r < 256 → P mem life → P (laid (page_in mem) (put 0x1F r mem)) life
+count_stood P begin stop goes mem r life small stood = goes.stays mem (laid (page_in mem) (put 0x1F r mem)) life stood
+    (loaded (page_in mem) (put 0x1F r mem) (page_small mem load) (put_small 0x1F r mem small load.bytes))
     (λ b own. let high = leb-true (suc b) 0x1B (both_true (nat_le 0x10 b) (nat_lt b 0x1B) own).1 in
     same b (λ is. absurd (omega arith)))
     (λ b ram. let low = leb-true 0x4000 b (both_true (nat_le 0x4000 b) (nat_lt b 0x4800) ram).0 in
     same b (λ is. absurd (omega arith)))
     (λ writing b low high far device. same b (λ is. absurd (omega arith)))
   where
+    load : IsLoaded mem
+    load = goes.loaded mem life stood
+
     same : (b : ℕ) → b ≢ 0x1F → laid (page_in mem) (put 0x1F r mem) b ≡ mem b
-    same b not = past_low 0x1F r (page_in mem) mem refl refl b not
-        ∙ sym (ap (λ (m : ℕ → ℕ). m b) (known mem stood.loaded))
+    same b not = past_low 0x1F r (page_in mem) mem refl refl b not ∙ sym (ap (λ (m : ℕ → ℕ). m b) (known mem load))
 
 -- after a tick: the count goes down, and says whether it was the last one
 module _ (q a x y : ℕ) (n z c v : Bool) (mem flags : ℕ → ℕ) (log : List Access) where
@@ -110,15 +89,15 @@ module _ (q a x y : ℕ) (n z c v : Bool) (mem flags : ℕ → ℕ) (log : List 
   again is = run_more q 1 1 from ∙ ap (run q 1) (counts false is)
 
 -- the ticks that are left
-module _ (q begin stop : ℕ) (q_small : q < 256) where
+module _ (P : Claim) (begin stop : ℕ) (goes : GoesByTicks P begin stop) (q : ℕ) (q_small : q < 256) where
   -- what follows a tick: the count was the last one, or there are more
   abbrev Follows : (cpu : Cpu) (after : List Item) → Type 0
   Follows cpu after = (nat_eq ((cpu.mem 0x1F + 255) % 256) 0 ≡ true) ⊎ ((nat_eq ((cpu.mem 0x1F + 255) % 256) 0 ≡ false)
       × ((j : ℕ) (next : Cpu) → next.pc ≡ 0x6862 → next.s ≡ q → next.mem 0x1F ≡ (cpu.mem 0x1F + 255) % 256
-      → Stood next.mem begin stop after → Goes q j next begin stop after))
+      → P next.mem after → GoesTo P q j next begin stop after))
 
-  one_tick : (k : ℕ) (cpu : Cpu) (life : List Item) → (t : Turned q false cpu begin stop life)
-      → Follows cpu (t.made.items ++ life) → Goes q k cpu begin stop life
+  one_tick : (k : ℕ) (cpu : Cpu) (life : List Item) → (t : TurnedTo P q false cpu begin stop life)
+      → Follows cpu (t.made.items ++ life) → GoesTo P q k cpu begin stop life
   one_tick k cpu life t follows = by follows
     where
       mid : Cpu
@@ -126,7 +105,7 @@ module _ (q begin stop : ℕ) (q_small : q < 256) where
 
       from_is : at 0x6865 mid.a mid.x mid.y q mid.n mid.z mid.c mid.v
           (laid (page_in mid.mem) mid.mem) mid.flags mid.log ≡ mid
-      from_is = state_is mid 0x6865 q t.pc t.stack t.stood.loaded
+      from_is = state_is mid 0x6865 q t.pc t.stack (goes.loaded mid.mem (t.made.items ++ life) t.stood)
 
       r : ℕ
       r = (mid.mem 0x1F + 255) % 256
@@ -137,8 +116,8 @@ module _ (q begin stop : ℕ) (q_small : q < 256) where
       end : ℕ → Bool → Cpu
       end pc z = then_at q mid.a mid.x mid.y mid.n mid.z mid.c mid.v mid.mem mid.flags mid.log pc z
 
-      left : Stood (laid (page_in mid.mem) (put 0x1F r mid.mem)) begin stop (t.made.items ++ life)
-      left = count_stood mid.mem r begin stop (t.made.items ++ life) (omega arith) t.stood
+      left : P (laid (page_in mid.mem) (put 0x1F r mid.mem)) (t.made.items ++ life)
+      left = count_stood P begin stop goes mid.mem r (t.made.items ++ life) (omega arith) t.stood
 
       made : (pc : ℕ) (z : Bool) → run q 2 mid ≡ end pc z → Stretch begin stop q cpu (2 + t.steps) life
       made pc z is = extend begin stop q cpu t.steps 2 life t.made (ap (λ (c : Cpu). seen c.log) is)
@@ -147,31 +126,31 @@ module _ (q begin stop : ℕ) (q_small : q < 256) where
       whole : (pc : ℕ) (z : Bool) → run q 2 mid ≡ end pc z → run q (2 + t.steps) cpu ≡ end pc z
       whole pc z is = run_more q t.steps 2 cpu ∙ is
 
-      by : Follows cpu (t.made.items ++ life) → Goes q k cpu begin stop life
+      by : Follows cpu (t.made.items ++ life) → GoesTo P q k cpu begin stop life
       by (inl none) =
           let is = ap (run q 2) (sym from_is)
           ∙ last q mid.a mid.x mid.y mid.n mid.z mid.c mid.v mid.mem mid.flags mid.log
           (ap (λ m. nat_eq m 0) (sym count_is) ∙ none) in
-          finish q k cpu begin stop life (2 + t.steps) (made 0x6869 true is)
+          finish P q k cpu begin stop life (2 + t.steps) (made 0x6869 true is)
           (ap (at_return q) (whole 0x6869 true is) ∙ returned q (end 0x6869 true) refl refl)
           (ap (λ (c : Cpu). is_code c.pc) (whole 0x6869 true is))
-          (subst (λ (c : Cpu). Stood c.mem begin stop (t.made.items ++ life)) (sym (whole 0x6869 true is)) left)
+          (subst (λ (c : Cpu). P c.mem (t.made.items ++ life)) (sym (whole 0x6869 true is)) left)
       by (inr more) =
           let is = ap (run q 2) (sym from_is)
           ∙ again q mid.a mid.x mid.y mid.n mid.z mid.c mid.v mid.mem mid.flags mid.log
           (ap (λ m. nat_eq m 0) (sym count_is) ∙ more.0) in
-          go_on q k cpu begin stop life (2 + t.steps) (made 0x6862 false is) (omega arith)
+          go_on P q k cpu begin stop life (2 + t.steps) (made 0x6862 false is) (omega arith)
           (ap (at_return q) (whole 0x6862 false is))
-          (λ j less. subst (λ (c : Cpu). Goes q j c begin stop (t.made.items ++ life)) (sym (whole 0x6862 false is))
+          (λ j less. subst (λ (c : Cpu). GoesTo P q j c begin stop (t.made.items ++ life)) (sym (whole 0x6862 false is))
           (more.1 j (end 0x6862 false) refl refl (sym count_is) left))
 
   ticks_left : (n k : ℕ) (cpu : Cpu) (life : List Item) → n ≤ 255 → cpu.pc ≡ 0x6862 → cpu.s ≡ q
-      → cpu.mem 0x1F ≡ suc n % 256 → Stood cpu.mem begin stop life → Goes q k cpu begin stop life
+      → cpu.mem 0x1F ≡ suc n % 256 → P cpu.mem life → GoesTo P q k cpu begin stop life
   ticks_left zero k cpu life most at_pc at_q count stood =
-      one_tick k cpu life (tick_call q false cpu begin stop life q_small at_pc at_q stood)
+      one_tick k cpu life (tick_call_to P begin stop goes q false cpu life q_small at_pc at_q stood)
       (inl (ap (λ m. nat_eq ((m + 255) % 256) 0) count))
   ticks_left (suc n) k cpu life most at_pc at_q count stood =
-      let t = tick_call q false cpu begin stop life q_small at_pc at_q stood in
+      let t = tick_call_to P begin stop goes q false cpu life q_small at_pc at_q stood in
       let down : (cpu.mem 0x1F + 255) % 256 ≡ suc n % 256 = omega (arith, count, most) in
       let some : (cpu.mem 0x1F + 255) % 256 ≢ 0 = λ none. absurd (omega (arith, down, most, none)) in
       one_tick k cpu life t (inr (
@@ -180,23 +159,75 @@ module _ (q begin stop : ℕ) (q_small : q < 256) where
             (omega (arith, most)) next_pc next_q (next_count ∙ down) next_stood,
       ))
 
+  -- they come to their end
+  ticks_end : (n : ℕ) (cpu : Cpu) (life : List Item) → n ≤ 255 → cpu.pc ≡ 0x6862 → cpu.s ≡ q
+      → cpu.mem 0x1F ≡ suc n % 256 → P cpu.mem life → (k : ℕ) × (at_return q (run q k cpu) ≡ true)
+  ticks_end zero cpu life most at_pc at_q count stood =
+      let t = tick_call_to P begin stop goes q false cpu life q_small at_pc at_q stood in
+      let mid = run q t.steps cpu in
+      let is = ap (run q 2) (sym (state_is mid 0x6865 q t.pc t.stack (goes.loaded mid.mem (t.made.items ++ life) t.stood)))
+      ∙ last q mid.a mid.x mid.y mid.n mid.z mid.c mid.v mid.mem mid.flags mid.log
+      (ap (λ m. nat_eq ((m + 255) % 256) 0) (t.kept ∙ count)) in (
+        2 + t.steps,
+        ap (at_return q) (run_more q t.steps 2 cpu ∙ is)
+            ∙ returned q (then_at q mid.a mid.x mid.y mid.n mid.z mid.c mid.v mid.mem mid.flags mid.log 0x6869 true) refl refl,
+      )
+  ticks_end (suc n) cpu life most at_pc at_q count stood =
+      let t = tick_call_to P begin stop goes q false cpu life q_small at_pc at_q stood in
+      let mid = run q t.steps cpu in
+      let down : (mid.mem 0x1F + 255) % 256 ≡ suc n % 256 = lower n (mid.mem 0x1F) (t.kept ∙ count) most in
+      let is = ap (run q 2) (sym (state_is mid 0x6865 q t.pc t.stack (goes.loaded mid.mem (t.made.items ++ life) t.stood)))
+      ∙ again q mid.a mid.x mid.y mid.n mid.z mid.c mid.v mid.mem mid.flags mid.log
+      (ne_eqb ((mid.mem 0x1F + 255) % 256) 0 (some n (mid.mem 0x1F) (t.kept ∙ count) most)) in
+      let next = then_at q mid.a mid.x mid.y mid.n mid.z mid.c mid.v mid.mem mid.flags mid.log 0x6862 false in
+      let rest = ticks_end n next (t.made.items ++ life) (omega (arith, most)) refl refl down
+      (count_stood P begin stop goes mid.mem ((mid.mem 0x1F + 255) % 256) (t.made.items ++ life) (omega arith) t.stood) in (
+        rest.0 + (2 + t.steps),
+        ap (at_return q) (run_more q (2 + t.steps) rest.0 cpu
+            ∙ ap (run q rest.0) (run_more q t.steps 2 cpu ∙ is)) ∙ rest.1,
+      )
+    where
+      lower : (n m : ℕ) → m ≡ suc (suc n) % 256 → suc n ≤ 255 → (m + 255) % 256 ≡ suc n % 256
+      lower n m count most = omega (arith, count, most)
+
+      some : (n m : ℕ) → m ≡ suc (suc n) % 256 → suc n ≤ 255 → (m + 255) % 256 ≢ 0
+      some n m count most none = absurd (omega (arith, count, most, none))
+
 -- a call of dvg_ticks
-pub ticks_go : (k : ℕ) (cpu : Cpu) (begin stop : ℕ) (life : List Item) → cpu.pc ≡ 0x6860 → cpu.a < 256 → cpu.s < 256
-    → Stood cpu.mem begin stop life → Goes cpu.s k cpu begin stop life
-ticks_go k cpu begin stop life at_pc a_small s_small stood =
-    subst (λ (c : Cpu). Goes cpu.s k c begin stop life) is
-    (go_on cpu.s k from begin stop life 1 (idle_stretch cpu.s from 1 begin stop life cpu.mem stood refl (λ tables. refl))
-    (omega arith) refl
-    (λ j less. ticks_left cpu.s begin stop s_small ((cpu.a + 255) % 256) j (run cpu.s 1 from) life
+pub ticks_go : (P : Claim) (k : ℕ) (cpu : Cpu) (begin stop : ℕ) (life : List Item) → GoesByTicks P begin stop
+    → cpu.pc ≡ 0x6860 → cpu.a < 256 → cpu.s < 256 → P cpu.mem life → GoesTo P cpu.s k cpu begin stop life
+ticks_go P k cpu begin stop life goes at_pc a_small s_small stood =
+    subst (λ (c : Cpu). GoesTo P cpu.s k c begin stop life) is
+    (go_on P cpu.s k from begin stop life 1
+    (idle_stretch cpu.s from 1 begin stop life (goes.placed cpu.mem life stood) refl (λ tables. refl)) (omega arith) refl
+    (λ j less. ticks_left P begin stop goes cpu.s s_small ((cpu.a + 255) % 256) j (run cpu.s 1 from) life
     (omega arith) refl refl (omega (arith, a_small)) counted))
   where
     from : Cpu
     from = at 0x6860 cpu.a cpu.x cpu.y cpu.s cpu.n cpu.z cpu.c cpu.v (laid (page_in cpu.mem) cpu.mem) cpu.flags cpu.log
 
     is : from ≡ cpu
-    is = state_is cpu 0x6860 cpu.s at_pc refl stood.loaded
+    is = state_is cpu 0x6860 cpu.s at_pc refl (goes.loaded cpu.mem life stood)
 
-    counted : Stood (run cpu.s 1 from).mem begin stop life
-    counted = subst (λ (m : ℕ → ℕ). Stood m begin stop life)
-        (sym (put_out 0x1F cpu.a (page_in cpu.mem) cpu.mem refl refl))
-        (count_stood cpu.mem cpu.a begin stop life a_small stood)
+    counted : P (run cpu.s 1 from).mem life
+    counted = subst (λ (m : ℕ → ℕ). P m life) (sym (put_out 0x1F cpu.a (page_in cpu.mem) cpu.mem refl refl))
+        (count_stood P begin stop goes cpu.mem cpu.a life a_small stood)
+
+-- it returns
+pub ticks_return : (P : Claim) (cpu : Cpu) (begin stop : ℕ) (life : List Item) → GoesByTicks P begin stop
+    → cpu.pc ≡ 0x6860 → cpu.a < 256 → cpu.s < 256 → P cpu.mem life
+    → (k : ℕ) × (at_return cpu.s (run cpu.s k cpu) ≡ true)
+ticks_return P cpu begin stop life goes at_pc a_small s_small stood =
+    let rest = ticks_end P begin stop goes cpu.s s_small ((cpu.a + 255) % 256) (run cpu.s 1 from) life
+    (omega arith) refl refl (omega (arith, a_small)) counted in
+    (rest.0 + 1, ap (at_return cpu.s) (ap (run cpu.s (rest.0 + 1)) (sym is) ∙ run_more cpu.s 1 rest.0 from) ∙ rest.1)
+  where
+    from : Cpu
+    from = at 0x6860 cpu.a cpu.x cpu.y cpu.s cpu.n cpu.z cpu.c cpu.v (laid (page_in cpu.mem) cpu.mem) cpu.flags cpu.log
+
+    is : from ≡ cpu
+    is = state_is cpu 0x6860 cpu.s at_pc refl (goes.loaded cpu.mem life stood)
+
+    counted : P (run cpu.s 1 from).mem life
+    counted = subst (λ (m : ℕ → ℕ). P m life) (sym (put_out 0x1F cpu.a (page_in cpu.mem) cpu.mem refl refl))
+        (count_stood P begin stop goes cpu.mem cpu.a life a_small stood)

@@ -1,5 +1,5 @@
 -- Calls one after the other build a whole frame.
-use Rattle.std.proofs.Common.{◌≡◌, ℕ, suc, inl, inr, ◌+◌, ◌*◌, ◌%◌, ◌≤◌, Bool, true, false, not, List, [], ◌∷◌, ◌++◌}
+use Rattle.std.proofs.Common.{◌≡◌, ℕ, suc, inl, inr, ◌+◌, ◌*◌, ◌≤◌, Bool, true, false, not, List, [], ◌∷◌, ◌++◌}
 use Rattle.std.proofs.Common.{length, refl, sym, ap, ◌∙◌, subst, arith, append_assoc, length-append}
 use Rattle.std.proofs.lemmas.List.{append-nil}
 use Rattle.std.proofs.Common.{Some, ◌-◌}
@@ -15,12 +15,13 @@ use Rattle.dvg_6502.specs.Processor.{Cpu, Writes, run, at_return}
 use Rattle.dvg_6502.specs.Amid.{ComesOut, guards, is_kept_building}
 use Rattle.dvg_6502.specs.Board.{seen, is_own, goal_in}
 use Rattle.dvg_6502.specs.Holds.{Holds, IsFeeding}
-use Rattle.dvg_6502.specs.Routines.{Enters}
+use Rattle.dvg_6502.specs.Routines.{Enters, Part, Put, Pair, Labs, begins, put_by}
 use Rattle.dvg_6502.specs.Build.{IsBuilding, Builds, Closes, written}
-use Rattle.dvg_6502.specs.Whole.{Part, Put, Pair, Labs, begins, put_by, Done, end_of, IsDone, Parts, memory_after}
+use Rattle.dvg_6502.specs.Whole.{Done, end_of, IsDone, Parts, memory_after}
 use Rattle.dvg_6502.specs.Whole.{AreDone, bytes_put, seen_of, BuildsFrame, BuildsLife}
 use Rattle.dvg_6502.proofs.Growing.{same_end}
 use Rattle.dvg_6502.proofs.Standing.{holds_on}
+use Rattle.dvg_6502.proofs.Built.{building_on, goal_on}
 use Rattle.dvg_6502.proofs.BuildScript.{builds_script}
 use Rattle.dvg_6502.proofs.Building.{put_takes}
 use Rattle.dvg_6502.proofs.Closing.{open_is_taken, pair_takes, labs_takes, close_takes}
@@ -32,35 +33,6 @@ written_append a (x ∷ xs) ys = let e : suc a + length xs ≡ a + suc (length x
     ap (λ l. l ++ Writes a x ∷ []) (written_append (suc a) xs ys
     ∙ ap (λ p. written p ys ++ written (suc a) xs) e)
     ∙ append_assoc (written (a + suc (length xs)) ys) (written (suc a) xs) (Writes a x ∷ [])
-
--- the driver's bytes alone matter to what is being built
-building_on : (mem now : ℕ → ℕ) (half : Half) (flipped : Bool) (rest : List ℕ)
-    → ((b : ℕ) → is_own b ≡ true → now b ≡ mem b) → IsBuilding mem half flipped rest → IsBuilding now half flipped rest
-building_on mem now half flipped rest own b =
-    let p13 = own 0x13 refl in
-    let p15 = own 0x15 refl in
-    let p16 = own 0x16 refl in
-    let page = b.page in
-    let begun = b.begun in
-    let fits = b.fits in
-    record {
-      phase = own 0x10 refl ∙ b.phase;
-      free = own 0x11 refl ∙ b.free;
-      publish = own 0x12 refl ∙ b.publish;
-      low = own 0x14 refl ∙ b.low;
-      page = omega (arith, p15, p16, page);
-      even = ap (λ n. n % 2) p13 ∙ b.even;
-      begun = omega (arith, p13, p16, begun);
-      some = b.some;
-      fits = omega (arith, p13, p16, fits);
-    }
-
-goal_on : (mem now : ℕ → ℕ) → ((b : ℕ) → is_own b ≡ true → now b ≡ mem b) → goal_in now ≡ goal_in mem
-goal_on mem now own =
-    let p13 = own 0x13 refl in
-    let p14 = own 0x14 refl in
-    let p15 = own 0x15 refl in
-    omega (arith, p13, p14, p15)
 
 own_kept : (b : ℕ) → is_own b ≡ true → is_kept_building b ≡ true
 own_kept b is = left_true (is_own b) _ is

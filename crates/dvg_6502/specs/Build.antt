@@ -123,6 +123,11 @@ IsPut R (Draw instr) = act_of instr ≡ Moves instr
 IsPut R (CallRom a) = Accepts (calls_one a) R
 IsPut R op = ⊥
 
+-- what a program may build: a LABS, then what it may put, then the HALT, of at most 511 words
+abbrev pub IsBuilt : List ℕ → List OpKind → Type 0
+IsBuilt R F = (x y scale : ℕ) × (ops : List OpKind) × (F ≡ Draw (Labs x y scale) ∷ ops ++ Stop ∷ [])
+    × All (IsPut R) ops × (size F ≤ 511)
+
 -- the check accepts a LABS, then what a program may put, then the HALT
 abbrev pub BuiltAccepted : Type 0
 BuiltAccepted = (R : List ℕ) (x y scale : ℕ) (ops : List OpKind) → All (IsPut R) ops

@@ -1,17 +1,20 @@
 -- Many calls of the routines, and the life that their accesses make.
 use Rattle.std.specs.Prelude.{◌≡◌, ℕ, ◌+◌, ◌*◌, ◌<◌, ◌≤◌, ◌&&◌, Bool, true, false, not, List, [], ◌∷◌, ◌++◌, length}
-use Rattle.std.specs.Prelude.{if◌then◌else◌, ◌||◌, nat_le, nat_lt}
+use Rattle.std.specs.Prelude.{Option, None, Some, drop, if◌then◌else◌, ◌||◌, nat_le, nat_lt}
+use Rattle.dvg_mem.specs.declared.half.Half.TheVariants.{H1}
 use Rattle.dvg_mem.specs.Areas.{other, half_of_high}
 use Rattle.dvg_frame.specs.declared.op.OpKind.{OpKind}
+use Rattle.dvg_frame.specs.Bytes.{bytes}
+use Rattle.dvg_frame.specs.Layout.{laid}
 use Rattle.dvg_driver.specs.Script.{Item, Offered, Asked, Did, IsLife, IsWhole, has_flip}
 use Rattle.dvg_6502.specs.Processor.{Cpu, Access, at_return}
 use Rattle.dvg_6502.specs.Amid.{amid, AreHarmless, guards, is_kept}
-use Rattle.dvg_6502.specs.Code.{dvg_reset, dvg_tick, dvg_ticks, dvg_run, dvg_offer, dvg_redraw}
+use Rattle.dvg_6502.specs.Code.{dvg_reset, dvg_tick, dvg_ticks, dvg_run, dvg_offer, dvg_redraw, dvg_open, dvg_close}
 use Rattle.dvg_6502.specs.Board.{seen, is_own, is_ram, byte1_place, phase_in}
 use Rattle.dvg_6502.specs.Tables.{HasTable, table_of}
-use Rattle.dvg_6502.specs.Routines.{Enters, Shows}
+use Rattle.dvg_6502.specs.Routines.{Enters, Shows, Part, begins, put_by}
 
--- what is called; an offer is of a draft's table
+-- what is called; an offer is of a draft's table, and dvg_open of the draft that is built from there on
 pub data Routine : Type 0 where
   Reset : Routine
   Tick : Routine
@@ -19,6 +22,9 @@ pub data Routine : Type 0 where
   Run : Routine
   Offer : List OpKind → Routine
   Redraw : Routine
+  Open : List OpKind → Routine
+  Puts : Part → Routine
+  Close : Routine
 
 -- where a routine begins
 abbrev pub entry : Routine → ℕ
@@ -28,6 +34,9 @@ entry Ticks = dvg_ticks
 entry Run = dvg_run
 entry (Offer F) = dvg_offer
 entry Redraw = dvg_redraw
+entry (Open F) = dvg_open
+entry (Puts part) = begins part
+entry Close = dvg_close
 
 -- a call, from the processor at its entry, after this many steps; others may interrupt it, and each step finds the
 -- memory that they leave
@@ -48,10 +57,38 @@ has_returned call = at_return call.from.s (after call)
 abbrev pub is_taken : Call → Bool
 is_taken call = has_returned call && not (after call).c
 
--- what is offered is a table, at A and X
-abbrev pub OffersTable : Routine → Cpu → Type 0
-OffersTable (Offer F) cpu = HasTable cpu.mem (cpu.a + 256 * cpu.x) F
-OffersTable routine cpu = Unit {0}
+-- these bytes of a frame are put
+abbrev pub put_on : List ℕ → Option (ℕ × List ℕ) → Option (ℕ × List ℕ)
+put_on now None = None
+put_on now (Some frame) = Some (frame.0 + length now, drop (length now) frame.1)
+
+-- of the frame that is being built, how many bytes were put, and those that are still to come
+abbrev pub frame_after : Routine → Call → Option (ℕ × List ℕ) → Option (ℕ × List ℕ)
+frame_after (Open F) call frame = if is_taken call then Some (0, table_of F) else frame
+frame_after (Puts part) call frame = if is_taken call then put_on (put_by part call.from) frame else frame
+frame_after Close call frame = if is_taken call then None else frame
+frame_after Reset call frame = None
+frame_after routine call frame = frame
+
+abbrev pub frame_of : List Call → Option (ℕ × List ℕ)
+frame_of [] = None
+frame_of (call ∷ calls) = frame_after call.routine call (frame_of calls)
+
+-- a draft that can be built: of at most 511 words, and laid alike in both halves, as it calls and jumps to the ROM alone
+pub record IsBuildable (F : List OpKind) : Type 0 where
+  pub alike : bytes (laid H1 F) ≡ table_of F
+  pub some : 2 ≤ length (table_of F)
+  pub fits : length (table_of F) ≤ 1022
+
+-- what a call brings: a table, at A and X; a draft that can be built; of the frame that is being built, where it has room
+-- for that and the HALT, what is next, with more after it; or its HALT
+abbrev pub Brings : Routine → Cpu → Option (ℕ × List ℕ) → Type 0
+Brings (Offer F) cpu frame = HasTable cpu.mem (cpu.a + 256 * cpu.x) F
+Brings (Open F) cpu frame = IsBuildable F
+Brings (Puts part) cpu (Some frame) = frame.0 + length (put_by part cpu) ≤ 1020
+    → (more : List ℕ) × (frame.1 ≡ put_by part cpu ++ more) × (2 ≤ length more)
+Brings Close cpu (Some frame) = frame.1 ≡ 0x00 ∷ 0xB0 ∷ []
+Brings routine cpu frame = Unit {0}
 
 -- where the words of the table that was taken last begin and end
 abbrev pub taken_bounds : Routine → Call → ℕ × ℕ → ℕ × ℕ
@@ -99,12 +136,16 @@ abbrev pub UnlessReset : Routine → Type 0 → Type 0
 UnlessReset Reset premise = Unit {0}
 UnlessReset routine premise = premise
 
--- calls since a reset; the newest one may be unfinished
+-- calls since a reset, each of which brings what it must; the newest one may be unfinished
+abbrev pub IsSessionBy : (Routine → Cpu → Option (ℕ × List ℕ) → Type 0) → List Call → Type 0
+IsSessionBy brings [] = ⊥
+IsSessionBy brings (call ∷ calls) =
+    Enters call.from (entry call.routine) × brings call.routine call.from (frame_of calls) × IsLeftAlone call calls
+    × UnlessReset call.routine (Follows call calls × IsSessionBy brings calls)
+
+-- the calls that the laws speak of
 abbrev pub IsSession : List Call → Type 0
-IsSession [] = ⊥
-IsSession (call ∷ calls) =
-    Enters call.from (entry call.routine) × OffersTable call.routine call.from × IsLeftAlone call calls
-    × UnlessReset call.routine (Follows call calls × IsSession calls)
+IsSession calls = IsSessionBy Brings calls
 
 -- accesses of the hardware as actions, one by one
 abbrev pub AreShown : List Item → List Access → Type 0
@@ -121,6 +162,11 @@ Adds (Offer F) call items =
     (seen (after call).log ≡ [])
     × (items ≡ (if is_taken call then Offered (other (half_of_high (call.from.mem byte1_place))) F ∷ [] else []))
 Adds Redraw call items = (seen (after call).log ≡ []) × (items ≡ (if is_taken call then Asked ∷ [] else []))
+Adds (Open F) call items =
+    (seen (after call).log ≡ [])
+    × (items ≡ (if is_taken call then Offered (other (half_of_high (call.from.mem byte1_place))) F ∷ [] else []))
+Adds (Puts part) call items = AreShown items (seen (after call).log)
+Adds Close call items = AreShown items (seen (after call).log)
 Adds Reset call items = (seen (after call).log ≡ []) × (items ≡ [])
 
 -- a reset begins a life
@@ -158,7 +204,18 @@ abbrev pub OfferAnswers : Type 0
 OfferAnswers = (F : List OpKind) (life : List Item) →
     (IsAnswered (Offer F) false life → IsWhole life) × (IsAnswered (Offer F) true life → ¬ IsWhole life)
 
+-- a frame is begun by dvg_open there, too
+abbrev pub OpenAnswers : Type 0
+OpenAnswers = (F : List OpKind) (life : List Item) →
+    (IsAnswered (Open F) false life → IsWhole life) × (IsAnswered (Open F) true life → ¬ IsWhole life)
+
 -- a redraw is taken exactly where it is whole and has a flip
 abbrev pub RedrawAnswers : Type 0
 RedrawAnswers = (life : List Item) → (IsAnswered Redraw false life → (has_flip life ≡ true) × IsWhole life)
     × (IsAnswered Redraw true life → has_flip life ≡ true → ¬ IsWhole life)
+
+-- a call of dvg_ticks returns, as long as it is in a session after each number of steps
+abbrev pub TicksReturn : Type 0
+TicksReturn = (from : Cpu) (others : ℕ → ℕ → ℕ) (calls : List Call)
+    → ((n : ℕ) → IsSession (record { routine = Ticks; from = from; steps = n; others = others } ∷ calls))
+    → (n : ℕ) × (has_returned (record { routine = Ticks; from = from; steps = n; others = others }) ≡ true)

@@ -1,5 +1,5 @@
 -- The board in the world: logs whose driver's lines are accesses and answers of the machine code.
-use Rattle.std.specs.Prelude.{◌≡◌, ℕ, true, false, List, [], ◌∷◌, is_none, pos}
+use Rattle.std.specs.Prelude.{◌≡◌, ◌⊎◌, ℕ, Bool, true, false, List, [], ◌∷◌, ◌++◌, is_none, pos}
 use Rattle.dvg_code.specs.declared.instr.Instr.TheVariants.{Labs, Vctr}
 use Rattle.dvg_mem.specs.declared.half.Half.TheVariants.{H1}
 use Rattle.dvg_mem.specs.Memory.{IsImage, IsRom}
@@ -17,6 +17,7 @@ use Rattle.dvg_log.specs.declared.entry.Entry.TheVariants.{Offered, Busy, Asked,
 use Rattle.dvg_log.specs.Log.{◌⟼◌, Log, Throughout, open_run, life}
 use Rattle.dvg_log.specs.Legal.{IsLegal, Fits}
 use Rattle.dvg_log.specs.Headline.{KeepsHeadline}
+use Rattle.dvg_6502.specs.Build.{IsBuilt, put_items}
 use Rattle.dvg_6502.specs.Calls
 use Rattle.dvg_6502.specs.Calls.{Call, after, IsSession, IsLifeOf, IsAnswered}
 
@@ -24,13 +25,18 @@ use Rattle.dvg_6502.specs.Calls.{Call, after, IsSession, IsLifeOf, IsAnswered}
 abbrev pub IsMade : List Item → Type 0
 IsMade items = (calls : List Call) × IsSession calls × IsLifeOf calls items
 
+-- what a draft is answered: by dvg_offer, where it is checked before; or by dvg_open, where a program then builds it
+abbrev pub IsTold : List ℕ → List OpKind → Bool → List Item → Type 0
+IsTold R F c items = (Accepts F R × IsAnswered (Calls.Offer F) c items)
+    ⊎ (IsBuilt R F × IsAnswered (Calls.Open F) c items)
+
 -- an event gets this entry: the driver's are what the machine code does, and the others as they are in each legal log
 abbrev pub FitsBoard : List ℕ → List ℕ → Log → Happening → Shown → Type 0
 -- an access of the hardware; where the code reads the flag, it shows whether no run is open
 FitsBoard R image log Tick (Acted action) = IsMade (Did action ∷ life image log) × Tells action (is_none (open_run log))
--- an answer of dvg_offer, for a draft that is checked before: C clear, or C set
-FitsBoard R image log (Offer F) Offered = Accepts F R × IsAnswered (Calls.Offer F) false (life image log)
-FitsBoard R image log (Offer F) Busy = Accepts F R × IsAnswered (Calls.Offer F) true (life image log)
+-- an answer of dvg_offer or dvg_open: C clear, or C set
+FitsBoard R image log (Offer F) Offered = IsTold R F false (life image log)
+FitsBoard R image log (Offer F) Busy = IsTold R F true (life image log)
 -- an answer of dvg_redraw: C clear, or C set, where the log says why
 FitsBoard R image log Redraw Asked = IsAnswered Calls.Redraw false (life image log)
 FitsBoard R image log Redraw Busy = IsAnswered Calls.Redraw true (life image log) × (has_flip (life image log) ≡ true)
@@ -58,6 +64,12 @@ abbrev pub SomeCalls : Type 0
 SomeCalls = (call : Call) × (calls : List Call) × IsSession (call ∷ calls)
     × IsLifeOf (call ∷ calls) (Script.Offered H1 stroke ∷ Did (Read true) ∷ Did Peek ∷ [])
     × (call.from.mem 0 ≡ 0) × ((after call).mem 0 ≡ 1)
+
+-- there are calls that build: after such a boot dvg_open, dvg_labs and dvg_close build a frame of one LABS
+abbrev pub SomeBuilding : Type 0
+SomeBuilding = (call : Call) × (calls : List Call) × IsSession (call ∷ calls)
+    × IsLifeOf (call ∷ calls) (put_items 0x4406 (0x00 ∷ 0xB0 ∷ []) ++ (put_items 0x4402 (0x00 ∷ 0xA2 ∷ 0x00 ∷ 0x02 ∷ [])
+    ++ Script.Offered H1 (Draw (Labs 512 512 0) ∷ Halt ∷ []) ∷ Did (Read true) ∷ Did Peek ∷ []))
 
 -- and there are logs of the board in which that frame is taken, over each ROM and each first image
 abbrev pub SomeLogs : Type 0

@@ -10,4 +10,5 @@ pub mod Calls
 pub mod Build
 pub mod Whole
 pub mod Decided
+pub mod Programs
 pub mod Joined

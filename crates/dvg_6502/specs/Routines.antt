@@ -1,5 +1,6 @@
 -- What each call of a routine does, from its entry to its return.
-use Rattle.std.specs.Prelude.{◌≡◌, ◌≢◌, ℕ, ◌+◌, ◌*◌, ◌<◌, Bool, true, false, not, List, [], ◌∷◌, length}
+use Rattle.std.specs.Prelude.{◌≡◌, ◌≢◌, ℕ, ◌+◌, ◌*◌, ◌/◌, ◌%◌, ◌<◌, Bool, true, false, not, List, [], ◌∷◌}
+use Rattle.std.specs.Prelude.{length}
 use Rattle.dvg_mem.specs.declared.half.Half.{Half}
 use Rattle.dvg_mem.specs.Areas.{other}
 use Rattle.dvg_frame.specs.declared.op.OpKind.{OpKind}
@@ -9,7 +10,7 @@ use Rattle.dvg_driver.specs.Script.{Item, Did, frame_writes}
 use Rattle.dvg_driver.specs.Place.{Place, Start, Resting, Writing, Waiting}
 use Rattle.dvg_driver.specs.Stands.{Stage, StandsAfter, Tells, peeked_after}
 use Rattle.dvg_6502.specs.Processor.{Cpu, Access, Reads, Writes, put, run, at_return, flag_place}
-use Rattle.dvg_6502.specs.Code.{dvg_reset, dvg_tick, dvg_offer, dvg_redraw}
+use Rattle.dvg_6502.specs.Code.{dvg_reset, dvg_tick, dvg_offer, dvg_redraw, dvg_put, dvg_pair, dvg_labs}
 use Rattle.dvg_6502.specs.Board.{seen, is_own, byte1_place, strobe_place, tells_halted, IsLoaded}
 use Rattle.dvg_6502.specs.Holds.{Holds}
 use Rattle.dvg_6502.specs.Tables.{HasTable, table_of}
@@ -100,3 +101,21 @@ RedrawTakes = (cpu : Cpu) (begin stop : ℕ) (half : Half) (first : Bool) → En
 abbrev pub RedrawRefuses : Type 0
 RedrawRefuses = (cpu : Cpu) (begin stop : ℕ) (stage : Stage) → Enters cpu dvg_redraw → Holds cpu.mem begin stop stage
     → (stage.flipped ≡ true → IsBusy stage.place) → Answers cpu true begin stop stage
+
+-- a routine that puts a part of a frame
+pub data Part : Type 0 where
+  Put : Part
+  Pair : Part
+  Labs : Part
+
+abbrev pub begins : Part → ℕ
+begins Put = dvg_put
+begins Pair = dvg_pair
+begins Labs = dvg_labs
+
+-- the bytes that it puts
+abbrev pub put_by : Part → Cpu → List ℕ
+put_by Put cpu = cpu.a ∷ cpu.x ∷ []
+put_by Pair cpu = cpu.mem 0x1B ∷ cpu.mem 0x1C ∷ cpu.mem 0x1D ∷ cpu.mem 0x1E ∷ []
+put_by Labs cpu =
+    cpu.mem 0x1B ∷ (0xA0 + cpu.mem 0x1C % 16) ∷ cpu.mem 0x1D ∷ (16 * (cpu.a / 16) + cpu.mem 0x1E % 16) ∷ []

@@ -1,5 +1,5 @@
 -- Whole frames that a program builds, by calls one after the other, which others may interrupt.
-use Rattle.std.specs.Prelude.{Some, ◌≡◌, ℕ, ◌+◌, ◌*◌, ◌/◌, ◌%◌, ◌≤◌, Bool, true, false, not, List, [], ◌∷◌, ◌++◌, length}
+use Rattle.std.specs.Prelude.{Some, ◌≡◌, ℕ, ◌+◌, ◌*◌, ◌≤◌, Bool, true, false, not, List, [], ◌∷◌, ◌++◌, length}
 use Rattle.dvg_mem.specs.declared.half.Half.{Half}
 use Rattle.dvg_mem.specs.declared.half.Half.TheVariants.{H0}
 use Rattle.dvg_mem.specs.Areas.{base, other}
@@ -11,29 +11,11 @@ use Rattle.dvg_driver.specs.Place.{Resting, Writing, place_of_life}
 use Rattle.dvg_6502.specs.Processor.{Cpu, Access, at_return}
 use Rattle.dvg_6502.specs.Amid.{amid, AreHarmless, guards, is_kept_building}
 use Rattle.dvg_6502.specs.Board.{seen, is_own}
-use Rattle.dvg_6502.specs.Code.{dvg_open, dvg_put, dvg_pair, dvg_labs, dvg_close}
+use Rattle.dvg_6502.specs.Code.{dvg_open, dvg_close}
 use Rattle.dvg_6502.specs.Holds.{Holds}
-use Rattle.dvg_6502.specs.Routines.{Enters}
+use Rattle.dvg_6502.specs.Routines.{Enters, Part, begins, put_by}
 use Rattle.dvg_6502.specs.Build.{put_items, written}
 use Rattle.dvg_6502.specs.Calls.{AreShown}
-
--- a routine that puts a part of a frame
-pub data Part : Type 0 where
-  Put : Part
-  Pair : Part
-  Labs : Part
-
-abbrev pub begins : Part → ℕ
-begins Put = dvg_put
-begins Pair = dvg_pair
-begins Labs = dvg_labs
-
--- the bytes that it puts
-abbrev pub put_by : Part → Cpu → List ℕ
-put_by Put cpu = cpu.a ∷ cpu.x ∷ []
-put_by Pair cpu = cpu.mem 0x1B ∷ cpu.mem 0x1C ∷ cpu.mem 0x1D ∷ cpu.mem 0x1E ∷ []
-put_by Labs cpu =
-    cpu.mem 0x1B ∷ (0xA0 + cpu.mem 0x1C % 16) ∷ cpu.mem 0x1D ∷ (16 * (cpu.a / 16) + cpu.mem 0x1E % 16) ∷ []
 
 -- a call that has returned: from the processor at its entry, after this many steps, with the memory that each step finds
 pub record Done : Type 0 where

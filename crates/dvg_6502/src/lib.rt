@@ -3,9 +3,10 @@
 //! There is no code here. Each law is the contract of a function that does nothing.
 #![tactic(auto)]
 
-ghost use Rattle.dvg_6502.specs.Calls.{CallsLive, OfferAnswers, OneLife, RedrawAnswers};
+ghost use Rattle.dvg_6502.specs.Calls.{CallsLive, OfferAnswers, OneLife, OpenAnswers, RedrawAnswers, TicksReturn};
 ghost use Rattle.dvg_6502.specs.Decided.{Decides};
-ghost use Rattle.dvg_6502.specs.Joined.{BoardKeeps, SomeCalls, SomeLogs};
+ghost use Rattle.dvg_6502.specs.Programs.{Hindsight};
+ghost use Rattle.dvg_6502.specs.Joined.{BoardKeeps, SomeBuilding, SomeCalls, SomeLogs};
 ghost use Rattle.dvg_6502.specs.Routines.{OfferRefuses, OfferTakes, RedrawRefuses, RedrawTakes};
 ghost use Rattle.dvg_6502.specs.Routines.{ResetRefines, TickRefines};
 ghost use Rattle.dvg_6502.specs.Build.{BuildsScript, BuiltAccepted, CloseTakes, IdleTicks};
@@ -53,15 +54,23 @@ pub fn redraw()
 /// Over all calls since a reset, with any memory at first, also interrupted ones, where nobody else
 /// writes the driver's bytes, its code, the hardware or a table that is being written: the accesses of
 /// the hardware, in their order, with the frames and redraws that were taken, are a life of the script.
+/// A frame that the program builds counts as taken at `dvg_open`.
 pub fn calls_live()
     ensures { CallsLive }
 {}
 
-/// There are such calls: after the boot a frame's table is offered, and taken, and an NMI that counts
-/// comes amid that. So there are such logs, over each ROM and each first memory image.
+/// There are such calls: after the boot a frame's table is offered, and taken, and an NMI that
+/// counts comes amid that; or a frame of one LABS is built. And there are such logs, over each ROM
+/// and each first memory image.
 pub fn some_calls()
     ensures calls { SomeCalls }
+    ensures building { SomeBuilding }
     ensures logs { SomeLogs }
+{}
+
+/// A call of `dvg_ticks` returns, also amid interrupts.
+pub fn ticks_return()
+    ensures { TicksReturn }
 {}
 
 /// Calls make at most one life.
@@ -69,16 +78,25 @@ pub fn one_life()
     ensures { OneLife }
 {}
 
-/// Of all calls, an offer is taken exactly where the life is whole, and a redraw where it has a
-/// flip, too.
+/// What a program builds is known in hindsight: where each call that puts a part brings the words
+/// of an operation, the first one of a LABS, there are drafts with which its calls are as the laws
+/// speak of them: what was put, and a HALT, also where a frame is given up.
+pub fn hindsight()
+    ensures { Hindsight }
+{}
+
+/// Of all calls, an offer or `dvg_open` is taken exactly where the life is whole, and a redraw where
+/// it has a flip, too.
 pub fn answers()
     ensures offer { OfferAnswers }
+    ensures opens { OpenAnswers }
     ensures redraw { RedrawAnswers }
 {}
 
 /// A log whose driver's lines are accesses and answers of the machine code is legal, and keeps the
 /// headline: no byte is written in the half being drawn, and each picture is that of the frame
-/// newest published.
+/// newest published. Of a frame that the program builds each shape that it calls is one that the
+/// check accepts when it is called once.
 pub fn board_keeps()
     ensures { BoardKeeps }
 {}

@@ -1,0 +1,294 @@
+-- Calls that build a frame, and what they make of a life.
+use Rattle.std.proofs.Common.{◌≡◌, ℕ, suc, inl, inr, ◌+◌, ◌-◌, ◌*◌, ◌%◌, ◌<◌, ◌≤◌, Bool, true, false, not, List, [], ◌∷◌}
+use Rattle.std.proofs.Common.{◌++◌, length, refl, sym, ap, ◌∙◌, subst, arith, Some, leb-true, le-leb, drop}
+use Rattle.std.proofs.Math.Seq.{drop-append_seam}
+use Rattle.std.proofs.lemmas.Bool.{ne_eqb, leb-false}
+use Rattle.std.specs.Prelude.{Option, None, nat_eq, nat_le, nat_lt, ◌⊎◌, ◌||◌, if◌then◌else◌}
+use Rattle.dvg_mem.specs.declared.half.Half.{Half}
+use Rattle.dvg_mem.specs.Areas.{other, half_of_high}
+use Rattle.dvg_frame.specs.Bytes.{addressed}
+use Rattle.dvg_driver.specs.declared.action.Action.TheVariants.{Wrote}
+use Rattle.dvg_driver.specs.Script.{Item, Did, word_zero, has_flip}
+use Rattle.dvg_driver.specs.Place.{Place, Start, Booting, Resting, Writing, Waiting, Sending, place_of_life}
+use Rattle.dvg_driver.specs.Stands.{byte1_of}
+use Rattle.dvg_6502.specs.Processor.{Cpu, run, at_return}
+use Rattle.dvg_6502.specs.Board.{seen, goal_in}
+use Rattle.dvg_6502.specs.Holds.{HoldsPlace, IsFeeding}
+use Rattle.dvg_6502.specs.Routines.{Enters, Part, Put, Pair, Labs, begins, put_by}
+use Rattle.dvg_6502.specs.Calls.{Puts, Close, AreShown, Brings, put_on}
+use Rattle.dvg_6502.specs.Build.{IsBuilding, put_items, written}
+use Rattle.dvg_6502.proofs.Running.{returned}
+use Rattle.dvg_6502.proofs.Memory.{both_true}
+use Rattle.dvg_6502.proofs.Growing.{same_end}
+use Rattle.dvg_6502.proofs.Ticking.{append_none}
+use Rattle.dvg_6502.proofs.Standing.{Stood}
+use Rattle.dvg_6502.proofs.Going.{GoesTo, append_items, finish}
+use Rattle.dvg_6502.proofs.BuildScript.{builds_script}
+use Rattle.dvg_6502.proofs.Building.{BuildsSo, goal_is, goal_low, put_steadily}
+use Rattle.dvg_6502.proofs.Closing.{ClosesSo, pair_steadily, labs_steadily, close_steadily}
+use Rattle.dvg_6502.proofs.Refusing.{Refuses, puts_refused, puts_full, last_of, close_refused}
+use Rattle.dvg_6502.proofs.Built.{Built, holds_in, place_now, holds_on}
+
+-- a call to its end: its steps go on a life, and it returns with this C; then this frame is being built, if any
+pub record Ended (cpu : Cpu) (begin stop : ℕ) (c : Bool) (frame : Option (ℕ × List ℕ)) (life : List Item) : Type 0 where
+  pub carry : (k : ℕ) → at_return cpu.s (run cpu.s k cpu) ≡ true → (run cpu.s k cpu).c ≡ c
+  pub goes : (k : ℕ) → GoesTo (holds_in begin stop frame) cpu.s k cpu begin stop life
+
+-- a refused call
+pub refused_holds : (cpu : Cpu) (begin stop : ℕ) (frame : Option (ℕ × List ℕ)) (life : List Item) → (did : Refuses cpu)
+    → holds_in begin stop frame cpu.mem life → holds_in begin stop frame did.memory life
+refused_holds cpu begin stop frame life did holds = holds_on begin stop frame cpu.mem did.memory life holds did.loaded did.own
+    (λ b ram. let low = leb-true 0x4000 b (both_true (nat_le 0x4000 b) (nat_lt b 0x4800) ram).0 in
+    did.far b (omega (arith, low))) (λ writing b low high far device. did.far b far)
+
+refused_ends : (cpu : Cpu) (begin stop : ℕ) (frame : Option (ℕ × List ℕ)) (life : List Item) → cpu.log ≡ [] → Refuses cpu
+    → holds_in begin stop frame cpu.mem life → Ended cpu begin stop true frame life
+refused_ends cpu begin stop frame life no_log did holds =
+    let back = returned cpu.s (run cpu.s did.comes.steps cpu) did.comes.returns did.comes.stack in
+    record {
+      carry = λ k here. ap (λ (j : Cpu). j.c) (same_end cpu.s k did.comes.steps cpu here back) ∙ did.comes.carry;
+      goes = λ k. finish (holds_in begin stop frame) cpu.s k cpu begin stop life did.comes.steps
+          (record {
+            items = [];
+            accesses = [];
+            logged = did.comes.accesses ∙ sym (ap seen no_log);
+            shown = tt;
+            placed = place_now begin stop frame cpu.mem life holds;
+            steady = λ tables covers. did.comes.steady tables refl;
+          })
+          back did.comes.there
+          (subst (λ (m : ℕ → ℕ). holds_in begin stop frame m life) (sym did.comes.memory)
+          (refused_holds cpu begin stop frame life did holds));
+    }
+
+-- what is written amid a frame is no flip, and not byte 001
+put_quiet : (a : ℕ) (now : List ℕ) (peeked : ℕ) (life : List Item) → 0x4002 ≤ a
+    → (byte1_of peeked (put_items a now ++ life) ≡ byte1_of peeked life)
+    × (has_flip (put_items a now ++ life) ≡ has_flip life)
+put_quiet a [] peeked life low = (refl, refl)
+put_quiet a (byte ∷ now) peeked life low =
+    let item = Did (Wrote (a - 0x4000) byte) in
+    let more = put_quiet (suc a) now peeked (item ∷ life) (omega (arith, low)) in
+    let away : nat_eq (a - 0x4000) 1 ≡ false = ne_eqb (a - 0x4000) 1 (λ e. absurd (omega (arith, e, low))) in
+    let joined = append_items (put_items (suc a) now) (item ∷ []) life in (
+      ap (byte1_of peeked) joined ∙ more.0 ∙ ap (λ (t : Bool). if t then byte else byte1_of peeked life) away,
+      ap has_flip joined ∙ more.1 ∙ ap (λ (t : Bool). t || has_flip life) away,
+    )
+
+-- no frame is being built where a driver stands
+pub not_building : (mem : ℕ → ℕ) (begin stop : ℕ) (life : List Item) → Stood mem begin stop life
+    → nat_eq (mem 0x10) 7 ≡ false
+not_building mem begin stop life stood = by stood.stage.place stood.holds.place
+  where
+    by : (place : Place) → HoldsPlace mem begin stop place stood.stage.half stood.stage.flipped
+        → nat_eq (mem 0x10) 7 ≡ false
+    by Start h = ap (λ p. nat_eq p 7) h.0
+    by Booting h = ap (λ p. nat_eq p 7) h.0
+    by (Resting first) h = ap (λ p. nat_eq p 7) h.0
+    by (Writing writes) h = writing h.1
+      where
+        writing : IsFeeding mem begin stop stood.stage.half stood.stage.flipped writes
+            ⊎ ((mem 0x10 ≡ 3) × (writes ≡ word_zero (other stood.stage.half) true))
+            ⊎ ((mem 0x10 ≡ 4) × (writes ≡ word_zero (other stood.stage.half) false)) → nat_eq (mem 0x10) 7 ≡ false
+        writing (inl feeds) = ap (λ p. nat_eq p 7) feeds.phase
+        writing (inr (inl is)) = ap (λ p. nat_eq p 7) is.0
+        writing (inr (inr is)) = ap (λ p. nat_eq p 7) is.0
+    by (Waiting first) h = ap (λ p. nat_eq p 7) h.0
+    by (Sending first) h = ap (λ p. nat_eq p 7) h.0
+
+-- a part that is put
+module _ (cpu : Cpu) (begin stop count : ℕ) (now more : List ℕ) (life : List Item)
+    (no_log : cpu.log ≡ []) (built : Built cpu.mem (count, now ++ more) life) (did : BuildsSo cpu built.half built.flipped now more) where
+  abbrev goal : ℕ
+  goal = goal_in cpu.mem
+
+  abbrev end : Cpu
+  end = run cpu.s did.0.steps cpu
+
+  low : 0x4002 ≤ goal
+  low = goal_low cpu.mem built.half built.flipped (now ++ more) built.loaded built.building
+
+  script : AreShown (put_items goal now) (written goal now)
+      × (place_of_life (put_items goal now ++ life)
+      ≡ Some (Writing (addressed (goal + length now - 0x4000) more ++ word_zero (other built.half) (not built.flipped))))
+  script = builds_script goal now more (other built.half) (not built.flipped) life low built.stands.place
+
+  quiet : (byte1_of built.peeked (put_items goal now ++ life) ≡ byte1_of built.peeked life)
+      × (has_flip (put_items goal now ++ life) ≡ has_flip life)
+  quiet = put_quiet goal now built.peeked life low
+
+  after : Built end.mem (count + length now, more) (put_items goal now ++ life)
+  after = record {
+    half = built.half;
+    flipped = built.flipped;
+    peeked = built.peeked;
+    stands = record {
+      place = script.1 ∙ ap (λ p. Some (Writing (addressed (p - 0x4000) more
+          ++ word_zero (other built.half) (not built.flipped)))) (sym did.0.goes_on);
+      half = built.stands.half ∙ ap half_of_high (sym quiet.0);
+      flipped = quiet.1 ∙ built.stands.flipped;
+    };
+    building = did.0.building;
+    put =
+        let then_at = goal_is end.mem built.half built.flipped more did.0.loaded did.0.building in
+        let from_at = goal_is cpu.mem built.half built.flipped (now ++ more) built.loaded built.building in
+        let on = did.0.goes_on in
+        let is = built.put in
+        omega (arith, then_at, from_at, on, is);
+    byte1 = did.1.byte1 ∙ built.byte1 ∙ sym quiet.0;
+    loaded = did.0.loaded;
+  }
+
+  put_ends : Ended cpu begin stop false (Some (count + length now, more)) life
+  put_ends = record {
+    carry = λ k here. ap (λ (j : Cpu). j.c) (same_end cpu.s k did.0.steps cpu here did.0.returns) ∙ did.0.carry;
+    goes = λ k. finish (holds_in begin stop (Some (count + length now, more))) cpu.s k cpu begin stop life did.0.steps
+        (record {
+          items = put_items goal now;
+          accesses = written goal now;
+          logged = did.0.shows ∙ sym (append_none (written goal now))
+              ∙ ap (λ l. written goal now ++ seen l) (sym no_log);
+          shown = script.0;
+          placed = (_, script.1);
+          steady = λ tables covers. did.1.steady tables;
+        })
+        did.0.returns did.1.there after;
+  }
+
+part_builds : (part : Part) (cpu : Cpu) (half : Half) (flipped : Bool) (more : List ℕ) → Enters cpu (begins part)
+    → IsBuilding cpu.mem half flipped (put_by part cpu ++ more) → 2 ≤ length more
+    → BuildsSo cpu half flipped (put_by part cpu) more
+part_builds Put cpu half flipped more enters building some = put_steadily cpu half flipped more enters building some
+part_builds Pair cpu half flipped more enters building some = pair_steadily cpu half flipped more enters building some
+part_builds Labs cpu half flipped more enters building some = labs_steadily cpu half flipped more enters building some
+
+-- where there is no room, the last page is full
+no_room : (part : Part) (cpu : Cpu) (pages place left : ℕ) → place < 256 → place % 2 ≡ 0 → 2 ≤ left
+    → 256 * pages + place + left ≤ 1024 → 1022 < 256 * pages + place + length (put_by part cpu)
+    → (nat_le 3 pages ≡ true) × (nat_le (last_of part) place ≡ true)
+no_room Put cpu pages place left small even some fits above =
+    (le-leb 3 pages (omega (arith, small, above)), le-leb 0xFE place (omega (arith, small, even, some, fits, above)))
+no_room Pair cpu pages place left small even some fits above =
+    (le-leb 3 pages (omega (arith, small, above)), le-leb 0xFC place (omega (arith, small, even, some, fits, above)))
+no_room Labs cpu pages place left small even some fits above =
+    (le-leb 3 pages (omega (arith, small, above)), le-leb 0xFC place (omega (arith, small, even, some, fits, above)))
+
+-- a call that puts a part: no frame is being built, it has room, or it is full
+pub puts_none : (part : Part) (cpu : Cpu) (begin stop : ℕ) (life : List Item) → Enters cpu (begins part)
+    → Stood cpu.mem begin stop life → Ended cpu begin stop true None life
+puts_none part cpu begin stop life enters stood = refused_ends cpu begin stop None life enters.log
+    (puts_refused part cpu enters (not_building cpu.mem begin stop life stood)) stood
+
+pub puts_room : (part : Part) (cpu : Cpu) (begin stop : ℕ) (frame : ℕ × List ℕ) (more : List ℕ) (life : List Item)
+    → Enters cpu (begins part) → Built cpu.mem frame life → frame.1 ≡ put_by part cpu ++ more → 2 ≤ length more
+    → Ended cpu begin stop false (put_on (put_by part cpu) (Some frame)) life
+puts_room part cpu begin stop frame more life enters built is some =
+    let built' : Built cpu.mem (frame.0, put_by part cpu ++ more) life =
+    subst (λ l. Built cpu.mem (frame.0, l) life) is built in
+    subst (λ l. Ended cpu begin stop false (Some (frame.0 + length (put_by part cpu), l)) life)
+    (sym (ap (drop (length (put_by part cpu))) is ∙ drop-append_seam (put_by part cpu) more))
+    (put_ends cpu begin stop frame.0 (put_by part cpu) more life enters.log built'
+    (part_builds part cpu built'.half built'.flipped more enters built'.building some))
+
+pub puts_over : (part : Part) (cpu : Cpu) (begin stop : ℕ) (frame : ℕ × List ℕ) (life : List Item)
+    → Enters cpu (begins part) → Built cpu.mem frame life → 1020 < frame.0 + length (put_by part cpu)
+    → Ended cpu begin stop true (Some frame) life
+puts_over part cpu begin stop frame life enters built above =
+    let put = built.put in
+    let full = no_room part cpu (cpu.mem 0x16) (cpu.mem 0x13) (length frame.1) (built.loaded.bytes 0x13)
+    built.building.even built.building.some built.building.fits (omega (arith, above, put)) in
+    refused_ends cpu begin stop (Some frame) life enters.log
+    (puts_full part cpu enters built.building.phase full.0 full.1) built
+
+-- its end, with the frame that is left
+abbrev pub Ends : (cpu : Cpu) (begin stop : ℕ) (taken frame : Option (ℕ × List ℕ)) (life : List Item) → Type 0
+Ends cpu begin stop taken frame life = (c : Bool) × Ended cpu begin stop c (if c then frame else taken) life
+
+pub puts_end : (part : Part) (cpu : Cpu) (begin stop : ℕ) (frame : Option (ℕ × List ℕ)) (life : List Item)
+    → Enters cpu (begins part) → Brings (Puts part) cpu frame → holds_in begin stop frame cpu.mem life
+    → Ends cpu begin stop (put_on (put_by part cpu) frame) frame life
+puts_end part cpu begin stop None life enters brings stood = (true, puts_none part cpu begin stop life enters stood)
+puts_end part cpu begin stop (Some frame) life enters brings built =
+    by (nat_le (frame.0 + length (put_by part cpu)) 1020) refl
+  where
+    by : (t : Bool) → nat_le (frame.0 + length (put_by part cpu)) 1020 ≡ t
+        → Ends cpu begin stop (put_on (put_by part cpu) (Some frame)) (Some frame) life
+    by true is =
+        let next = brings (leb-true (frame.0 + length (put_by part cpu)) 1020 is) in
+        (false, puts_room part cpu begin stop frame next.0 life enters built next.1 next.2)
+    by false is = (
+      true,
+      puts_over part cpu begin stop frame life enters built (leb-false (frame.0 + length (put_by part cpu)) 1020 is),
+    )
+
+-- the HALT
+module _ (cpu : Cpu) (begin stop count : ℕ) (life : List Item) (no_log : cpu.log ≡ [])
+    (built : Built cpu.mem (count, 0x00 ∷ 0xB0 ∷ []) life) (did : ClosesSo cpu built.half built.flipped) where
+  abbrev halt : List ℕ
+  halt = 0x00 ∷ 0xB0 ∷ []
+
+  abbrev here : ℕ
+  here = goal_in cpu.mem
+
+  here_low : 0x4002 ≤ here
+  here_low = goal_low cpu.mem built.half built.flipped halt built.loaded built.building
+
+  ends : AreShown (put_items here halt) (written here halt)
+      × (place_of_life (put_items here halt ++ life)
+      ≡ Some (Writing (word_zero (other built.half) (not built.flipped))))
+  ends = builds_script here halt [] (other built.half) (not built.flipped) life here_low built.stands.place
+
+  unseen : (byte1_of built.peeked (put_items here halt ++ life) ≡ byte1_of built.peeked life)
+      × (has_flip (put_items here halt ++ life) ≡ has_flip life)
+  unseen = put_quiet here halt built.peeked life here_low
+
+  closed : Stood (run cpu.s did.0.steps cpu).mem begin stop (put_items here halt ++ life)
+  closed = record {
+    stage = record {
+      place = Writing (word_zero (other built.half) (not built.flipped));
+      half = built.half;
+      flipped = built.flipped;
+    };
+    peeked = built.peeked;
+    stands = record {
+      place = ends.1;
+      half = built.stands.half ∙ ap half_of_high (sym unseen.0);
+      flipped = unseen.1 ∙ built.stands.flipped;
+    };
+    holds = did.0.holds begin stop;
+    byte1 = did.1.byte1 ∙ built.byte1 ∙ sym unseen.0;
+    loaded = did.0.loaded;
+  }
+
+  closes : Ended cpu begin stop false None life
+  closes = record {
+    carry = λ k back. ap (λ (j : Cpu). j.c) (same_end cpu.s k did.0.steps cpu back did.0.returns) ∙ did.0.carry;
+    goes = λ k. finish (holds_in begin stop None) cpu.s k cpu begin stop life did.0.steps
+        (record {
+          items = put_items here halt;
+          accesses = written here halt;
+          logged = did.0.shows ∙ ap (λ l. written here halt ++ seen l) (sym no_log);
+          shown = ends.0;
+          placed = (_, ends.1);
+          steady = λ tables covers. did.1.steady tables;
+        })
+        did.0.returns did.1.there closed;
+  }
+
+pub close_none : (cpu : Cpu) (begin stop : ℕ) (life : List Item) → Enters cpu 0x6A00 → Stood cpu.mem begin stop life
+    → Ended cpu begin stop true None life
+close_none cpu begin stop life enters stood = refused_ends cpu begin stop None life enters.log
+    (close_refused cpu enters (not_building cpu.mem begin stop life stood)) stood
+
+pub close_some : (cpu : Cpu) (begin stop : ℕ) (frame : ℕ × List ℕ) (life : List Item) → Enters cpu 0x6A00
+    → Built cpu.mem frame life → frame.1 ≡ 0x00 ∷ 0xB0 ∷ [] → Ended cpu begin stop false None life
+close_some cpu begin stop frame life enters built is =
+    let built' : Built cpu.mem (frame.0, 0x00 ∷ 0xB0 ∷ []) life = subst (λ l. Built cpu.mem (frame.0, l) life) is built in
+    closes cpu begin stop frame.0 life enters.log built'
+    (close_steadily cpu built'.half built'.flipped enters built'.building)
+
+pub close_ends : (cpu : Cpu) (begin stop : ℕ) (frame : Option (ℕ × List ℕ)) (life : List Item) → Enters cpu 0x6A00
+    → Brings Close cpu frame → holds_in begin stop frame cpu.mem life → Ends cpu begin stop None frame life
+close_ends cpu begin stop None life enters brings stood = (true, close_none cpu begin stop life enters stood)
+close_ends cpu begin stop (Some frame) life enters brings built =
+    (false, close_some cpu begin stop frame life enters built brings)
