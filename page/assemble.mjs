@@ -14,8 +14,13 @@ const IMPORT = /^import \{[^}]*\} from '\.\/([a-z]+\.mjs)';\n/gm;
 function textsOf(folder, end) {
   const place = `${page}../examples/${folder}/`;
   const names = readdirSync(place).filter((name) => end === null || end.test(name)).sort();
-  return Object.fromEntries(names.map((name) => [name.replace('.draft', ''),
-    readFileSync(place + name, 'utf8')]));
+  return Object.fromEntries(names.map((name) => [name, readFileSync(place + name, 'utf8')]));
+}
+
+// The frames of examples/frames, by their names without `.sketch`.
+function framesOfExamples() {
+  return Object.fromEntries(Object.entries(textsOf('frames', /\.sketch$/))
+    .map(([name, text]) => [name.replace('.sketch', ''), text]));
 }
 
 // The sketches of examples/; where one has shapes by their outlines, as board/outline.awk writes
@@ -30,7 +35,7 @@ function sketches() {
 
 // What the page needs beside its sources: dvg.wasm, and the examples.
 function built() {
-  const frames = textsOf('frames', /\.draft$/);
+  const frames = framesOfExamples();
   const files = { ...sketches(), ...textsOf('logs', /\.log$/), ...textsOf('traces', null) };
   const wasm = readFileSync(`${page}dvg.wasm`).toString('base64');
   const listing = readFileSync(`${page}driver.listing`, 'utf8');

@@ -3,11 +3,13 @@
 what it doesn't know.
 
     core_cells.py FOLDER [CLOCKS]      a folder to work in, and how many clocks [default: 10000]
+    core_cells.py FOLDER --write       writes the clocks that the prover computes
 
 The cells are computed here, by the meaning that each kind has, over random clocks since power-up of
 dvg_core and of dvg_board. The pins after each clock must be those that Icarus Verilog has, and those of
-Verilator. Then texts are planted in the Verilog that core/cells must refuse. The last line is 'N passed,
-M failed'."""
+Verilator. Some clocks of Icarus Verilog are given to the prover, too, which computes them by the
+definition of the cells: proofs/ClockVectors.antt of both crates must be what is written here. Then texts
+are planted in the Verilog that core/cells must refuse. The last line is 'N passed, M failed'."""
 
 import os
 import random
@@ -202,6 +204,42 @@ def expect_clocks(suite, what, circuit, programs, folder, count):
     print(f"{what}: {count} clocks by the cells are those of {' and '.join(name for name, _ in programs)}")
 
 
+# How many clocks the prover computes.
+VECTORS = 200
+HEAD = """-- Clocks since power-up, as Icarus Verilog reads core/{name}.v.
+-- tests/core_cells.py writes this file; Vectors.antt says what its numbers are.
+use Rattle.std.proofs.Common.{{◌≡◌, ℕ, true, List, [], ◌∷◌, refl}}
+use Rattle.{name}.proofs.Vectors.{{all_pass}}
+
+abbrev clocks : List (List ℕ)
+clocks =
+"""
+
+
+def vectors(name, circuit, program, folder):
+    """Clocks of Icarus Verilog for the prover: a list of numbers each, the driven pins and then the others."""
+    random.seed(61)
+    driven = []
+    for _ in range(VECTORS):
+        driven.append(circuit.any_pins())
+        circuit.play(driven[-1])
+    with open(f"{folder}/vectors", "w", encoding="ascii") as file:
+        file.writelines(f"{number_of(pins, circuit.WIDTHS):x}\n" for pins in driven)
+    _, said, _ = run(*program, f"+pins={folder}/vectors", f"+count={VECTORS}")
+    shown = [line.split() for line in said.splitlines() if re.fullmatch(r"\d+( \d+)+", line)]
+    assert len(shown) == VECTORS
+    rows = ([str(pins[it]) for it in circuit.WIDTHS] + line for pins, line in zip(driven, shown))
+    lines = "".join(f"    ({' ∷ '.join(row)} ∷ []) ∷\n" for row in rows)
+    return HEAD.format(name=name) + lines + "    []\n\npub pass : all_pass clocks ≡ true\npass = refl\n"
+
+
+def expect_vectors(suite, name, text):
+    """The clocks that the prover is given are those that are made here."""
+    with open(f"{texts.TOP}/crates/{name}/proofs/ClockVectors.antt", encoding="utf-8") as file:
+        anew = "" if file.read() == text else "make it anew: tests/core_cells.py FOLDER --write"
+    suite.expect(f"crates/{name}/proofs/ClockVectors.antt", [("what to do", "", anew)])
+
+
 # What is planted: the module, what is taken away, what is put there, and what core/cells says of it.
 REFUSED = [
     ("dvg_core", "at + 12'd1", "at * 12'd3", "$mul: this kind isn't known"),
@@ -241,18 +279,30 @@ def expect_refusals(suite, folder):
             ("why", says, says if says in why else why[-300:])])
 
 
-def main(folder, count=10000):
+def circuits():
+    """Each circuit by its cells, with its name and what the benches are told of it."""
+    core, board = (run(CELLS, name)[1] for name in ("dvg_core", "dvg_board"))
+    return [("dvg_core", [], lambda: Core(core)), ("dvg_board", ["-DBOARD"], lambda: Board(board, Core(core)))]
+
+
+def main(folder, word="10000"):
     suite = texts.Suite()
-    random.seed(1979)
-    core_text, board_text = (run(CELLS, name)[1] for name in ("dvg_core", "dvg_board"))
     files = [f"{texts.TOP}/core/dvg_core.v", f"{texts.TOP}/core/dvg_board.v"]
-    for name, defines, circuit in ("dvg_core", [], Core(core_text)), \
-            ("dvg_board", ["-DBOARD"], Board(board_text, Core(core_text))):
+    for name, defines, circuit in circuits():
         place = f"{folder}/{name}"
         os.makedirs(place)
-        expect_clocks(suite, name, circuit, readers(place, defines, files), place, count)
-    expect_refusals(suite, folder)
-    suite.end()
+        programs = readers(place, defines, files)
+        text = vectors(name, circuit(), programs[0][1], place)
+        if word == "--write":
+            with open(f"{texts.TOP}/crates/{name}/proofs/ClockVectors.antt", "w", encoding="utf-8") as file:
+                file.write(text)
+            continue
+        expect_vectors(suite, name, text)
+        random.seed(1979)
+        expect_clocks(suite, name, circuit(), programs, place, int(word))
+    if word != "--write":
+        expect_refusals(suite, folder)
+        suite.end()
 
 
-main(sys.argv[1], *map(int, sys.argv[2:]))
+main(*sys.argv[1:])

@@ -112,7 +112,7 @@ function runProgram(args, input) {
   return spawnSync(program, args, { input, maxBuffer: 1 << 28 }).stdout.toString();
 }
 
-const example = (name) => readFileSync(`${top}examples/frames/${name}.draft`, 'utf8');
+const example = (name) => readFileSync(`${top}examples/frames/${name}.sketch`, 'utf8');
 const linesOf = (text) => operationsOf(plainDraft(text));
 const drafts = [linesOf(example('score')), linesOf(example('rocks'))];
 const reel = () => reelOf([drafts[0]], [drafts[1]]);
@@ -251,7 +251,7 @@ function testDrafts() {
   const cases = readdirSync(folder).filter((name) => name.startsWith('labels'))
     .map((name) => `${folder}/${name}/input`)
     .filter((file) => existsSync(file)).concat(readdirSync(`${top}examples/frames`)
-      .filter((name) => name.endsWith('.draft')).map((name) => `${top}examples/frames/${name}`));
+      .filter((name) => name.endsWith('.sketch')).map((name) => `${top}examples/frames/${name}`));
   for (const file of cases) {
     const text = splitRom(readFileSync(file, 'utf8')).draft;
     const awk = spawnSync('awk', ['-f', `${top}tests/labels.awk`], { input: text });
@@ -413,7 +413,7 @@ function testRecordings() {
 // A dump's run is the one of `dvg picture`.
 function testDumps() {
   for (const name of ['ship', 'digits', 'rocks']) {
-    const sketch = `${top}examples/frames/${name}.draft`;
+    const sketch = `${top}examples/frames/${name}.sketch`;
     const bytes = spawnSync(`${top}examples/tools/dump`, [sketch]).stdout;
     const board = boardOfDump(engine, name, new Uint8Array(bytes));
     const output = runProgram(['picture'], bytes).trim().split('\n');

@@ -75,7 +75,7 @@ export function romOf(text) {
   return { text: lines.map((line) => `${line}\n`).join(''), lines: lines.length, bytes, first };
 }
 
-/* A text of a ROM and a draft, as examples/frames/rom_shapes.draft, apart. */
+/* A text of a ROM and a draft, as examples/frames/rom_shapes.sketch, apart. */
 export function splitRom(text) {
   const lines = text.split('\n');
   const last = lines.findLastIndex((line) => /^\s*(map|rom)\s/.test(line));

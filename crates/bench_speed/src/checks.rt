@@ -26,7 +26,7 @@ pub struct Passed {
 }
 
 impl Passed {
-    /// Where nothing was checked yet.
+    /// Returns the sums before the first check.
     fn none() -> Passed {
         Passed {
             passed: 0,
@@ -35,7 +35,7 @@ impl Passed {
         }
     }
 
-    /// With one more draft that passed.
+    /// Returns the sums with one more draft that passed, of `words` words and the bound `bound`.
     fn with_draft(self, words: u16, bound: u64) -> Passed {
         Passed {
             passed: self.passed.wrapping_add(1),
@@ -45,7 +45,7 @@ impl Passed {
     }
 }
 
-/// What stands in a ROM of this many bytes: blank SVECs, and a HALT as word number `words - 1`.
+/// Returns the `N` bytes of a ROM: blank SVECs, and a HALT as word number `words - 1`.
 fn bytes<const N: usize>(words: usize) -> [u8; N] {
     let mut bytes = [0x00; N];
     for k in 0..N / 2 {
@@ -54,7 +54,8 @@ fn bytes<const N: usize>(words: usize) -> [u8; N] {
     bytes
 }
 
-/// The smallest ROM that has this many words. None where there is no memory.
+/// Returns the smallest ROM that has `words` words, in memory of `alloc`. Returns `None` where an
+/// allocation fails.
 fn rom(alloc: Global, words: usize) -> Option<Rom> {
     let made = if words > MEMORY_BYTES / 2 {
         Rom::new(alloc, &bytes::<LARGE_ROM_BYTES>(words))
@@ -64,7 +65,7 @@ fn rom(alloc: Global, words: usize) -> Option<Rom> {
     made.ok()
 }
 
-/// The draft that comes to the ROM's first word at each depth, 0 to 4.
+/// Returns the draft that comes to the ROM's first word, at `first`, at each depth, 0 to 4.
 fn nested(first: u16) -> Option<Draft> {
     let mut draft = Draft::new();
     put(&mut draft, labs(0, 0, 0)?)?;
@@ -76,7 +77,7 @@ fn nested(first: u16) -> Option<Draft> {
     Some(draft)
 }
 
-/// A short draft: after the LABS, a call of the return at its end, a short vector and HALT.
+/// Returns a short draft: after the LABS, a call of the return at its end, a short vector and HALT.
 fn short() -> Option<Draft> {
     let vector = draw(Instr::Svec {
         scale: 3,
@@ -93,8 +94,8 @@ fn short() -> Option<Draft> {
     Some(draft)
 }
 
-/// Checks the nested draft over a ROM of which it comes to this many words, with new tables each
-/// time. None where there is no memory.
+/// Checks the nested draft over a ROM of which it comes to `words` words, with new tables each
+/// time. Memory is taken from `alloc`. Returns `None` where an allocation fails.
 pub fn check_often(alloc: Global, words: usize) -> Option<Passed> {
     let rom = rom(alloc, words)?;
     let draft = nested(rom.first())?;
@@ -107,7 +108,8 @@ pub fn check_often(alloc: Global, words: usize) -> Option<Passed> {
     Some(passed)
 }
 
-/// Checks the short draft with one checker, which keeps its tables. None where there is no memory.
+/// Checks the short draft with one checker, which keeps its tables. Memory is taken from `alloc`.
+/// Returns `None` where an allocation fails.
 pub fn check_short(alloc: Global) -> Option<Passed> {
     let rom = rom(alloc, 1)?;
     let draft = short()?;

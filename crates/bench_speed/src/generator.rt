@@ -4,7 +4,7 @@ use dvg_gen::{Generator, Step, Stroke};
 use std::alloc::Global;
 use std::mem;
 
-/// How many steps are made: of each 29, one start and 28 bytes taken, so 2,000,000 bytes in all.
+/// The number of steps: of each 29, one start and 28 bytes taken, so 2,000,000 bytes in all.
 const STEPS: u32 = 2_071_429;
 
 /// The display list, from word zero on: LABS, a vector, a call, a blank move, a short vector and
@@ -24,7 +24,7 @@ pub struct Totals {
 }
 
 impl Totals {
-    /// With the strokes of one more run.
+    /// Returns the totals with `strokes`, those of one more run.
     fn with_run(self, strokes: &[Stroke]) -> Totals {
         let mut totals = self;
         totals.runs = totals.runs.wrapping_add(1);
@@ -36,13 +36,15 @@ impl Totals {
     }
 }
 
-/// The low or the high byte of a word of the list.
+/// Returns the high byte of the word at `address` of the list where `high` is true, otherwise the
+/// low one.
 fn byte_at(address: u16, high: bool) -> Option<u8> {
     let [low_byte, high_byte] = LIST.get(usize::from(address))?.to_le_bytes();
     Some(if high { high_byte } else { low_byte })
 }
 
-/// Takes the bytes of the list's words, and starts again after each run.
+/// Takes the bytes of the list's words, and starts again after each run. Memory is taken from
+/// `alloc`. Returns what was drawn, or `OutOfMemory` where an allocation fails.
 pub fn draw(alloc: Global) -> Result<Totals, OutOfMemory> {
     let mut generator = Generator::new(alloc);
     let mut drawn = Vec::new(alloc);

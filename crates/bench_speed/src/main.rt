@@ -13,7 +13,7 @@ use runs::{judge_often, run_often};
 use std::{env, io};
 use ticks::tick_often;
 
-/// Runs the generator.
+/// Runs the generator, and prints what it drew.
 fn run_generator(rt: &HostRuntime) -> io::Result<()> {
     match draw(rt.alloc()) {
         Ok(totals) => println!(rt;
@@ -24,7 +24,7 @@ fn run_generator(rt: &HostRuntime) -> io::Result<()> {
     }
 }
 
-/// Writes what checks showed.
+/// Prints `passed`, what checks showed.
 fn write_passed(rt: &HostRuntime, passed: Option<Passed>) -> io::Result<()> {
     match passed {
         Some(passed) => println!(rt;
@@ -35,7 +35,7 @@ fn write_passed(rt: &HostRuntime, passed: Option<Passed>) -> io::Result<()> {
     }
 }
 
-/// Runs the driver.
+/// Runs the driver, and prints what it did.
 fn run_driver(rt: &HostRuntime) -> io::Result<()> {
     match tick_often(rt.alloc()) {
         Some(ticked) => println!(rt;
@@ -46,7 +46,7 @@ fn run_driver(rt: &HostRuntime) -> io::Result<()> {
     }
 }
 
-/// Runs the world.
+/// Runs the world, and prints what its logs show.
 fn run_world(rt: &HostRuntime) -> io::Result<()> {
     match run_often(rt.alloc()) {
         Some(shown) => println!(rt;
@@ -57,7 +57,7 @@ fn run_world(rt: &HostRuntime) -> io::Result<()> {
     }
 }
 
-/// Judges a log.
+/// Judges a log, and prints what was found.
 fn run_judge(rt: &HostRuntime) -> io::Result<()> {
     match judge_often(rt.alloc()) {
         Some(judged) => println!(rt; "{} not torn, {}", judged.whole, judged.sum),

@@ -9,7 +9,7 @@ use dvg_mem::{Flat, Image, MEMORY_BYTES, Rom};
 use dvg_world::{Entry, Event, first_torn, run};
 use std::alloc::Global;
 
-/// How many events there are.
+/// The number of events.
 const EVENTS: usize = 65_536;
 
 /// How often they are run.
@@ -25,7 +25,7 @@ struct Random {
 }
 
 impl Random {
-    /// A number below `limit`.
+    /// Returns a number below `limit`, which isn't 0.
     fn below(&mut self, limit: u64) -> u64
         requires { 0 < limit }
         ensures { result < limit }
@@ -47,7 +47,7 @@ pub struct Shown {
 }
 
 impl Shown {
-    /// With one more entry.
+    /// Returns the sums with `entry`, one more.
     fn with_entry(self, entry: &Entry) -> Shown {
         let mut shown = self;
         match entry {
@@ -62,7 +62,7 @@ impl Shown {
     }
 }
 
-/// A draft of this many short vectors.
+/// Returns a draft of `vectors` short vectors.
 fn small_draft(vectors: u64) -> Option<Draft> {
     let short = draw(Instr::Svec {
         scale: 3,
@@ -79,7 +79,8 @@ fn small_draft(vectors: u64) -> Option<Draft> {
     Some(draft)
 }
 
-/// A random event: most are ticks and fetches.
+/// Returns an event that is chosen by `random`: most are ticks and fetches. Memory is taken from
+/// `alloc`.
 fn event(alloc: Global, random: &mut Random) -> Option<Event> {
     let kind = random.below(64);
     Some(match kind {
@@ -102,8 +103,8 @@ fn event(alloc: Global, random: &mut Random) -> Option<Event> {
     })
 }
 
-/// Mixed events. A fetch of a low byte is followed by one of a high byte, where there is room for
-/// both.
+/// Returns mixed events, in memory of `alloc`. A fetch of a low byte is followed by one of a high
+/// byte, where there is room for both.
 fn mixed_events(alloc: Global) -> Option<Vec<Event>> {
     let mut random = Random { state: 1979 };
     let mut events = Vec::new(alloc);
@@ -121,7 +122,8 @@ fn mixed_events(alloc: Global) -> Option<Vec<Event>> {
     Some(events)
 }
 
-/// Runs the events from a RAM of zeros. None where there is no memory.
+/// Runs the events from a RAM of zeros. Memory is taken from `alloc`. Returns `None` where an
+/// allocation fails.
 pub fn run_often(alloc: Global) -> Option<Shown> {
     let events = mixed_events(alloc)?;
     let image = Image::new(alloc, &[0; MEMORY_BYTES]).ok()?;
@@ -149,7 +151,7 @@ pub struct Judged {
 }
 
 /// Judges the log of the events, first whole, and then each time with one more line left out at its
-/// front. None where there is no memory.
+/// front. Memory is taken from `alloc`. Returns `None` where an allocation fails.
 pub fn judge_often(alloc: Global) -> Option<Judged> {
     let events = mixed_events(alloc)?;
     let image = Image::new(alloc, &[0; MEMORY_BYTES]).ok()?;
@@ -168,7 +170,7 @@ pub fn judge_often(alloc: Global) -> Option<Judged> {
     Some(judged)
 }
 
-/// A ROM of RTSL.
+/// Returns the bytes of a ROM of RTSL.
 fn returns() -> [u8; MEMORY_BYTES] {
     let mut bytes = [0x00; MEMORY_BYTES];
     for k in 0..MEMORY_BYTES / 2 {

@@ -19,7 +19,7 @@ pub struct Ticked {
 }
 
 impl Ticked {
-    /// With one more write.
+    /// Returns the sums with one more write, of `byte` at `address`.
     fn with_write(self, address: u16, byte: u8) -> Ticked {
         let product = u32::from(address) * u32::from(byte);
         Ticked {
@@ -30,8 +30,8 @@ impl Ticked {
     }
 }
 
-/// A draft of 511 words: a LABS, then calls, vectors and short vectors by turns, and HALT before a
-/// return.
+/// Returns a draft of 511 words: a LABS, then calls, vectors and short vectors by turns, and HALT
+/// before a return.
 fn full_draft() -> Option<Draft> {
     let call = Op::new(OpKind::Call(382))?;
     let vector = draw(Instr::Vctr {
@@ -62,7 +62,7 @@ fn full_draft() -> Option<Draft> {
 }
 
 /// Ticks, and offers the frame again wherever the driver is idle. The flag always shows halted.
-/// None where there is no memory.
+/// Memory is taken from `alloc`. Returns `None` where an allocation fails.
 pub fn tick_often(alloc: Global) -> Option<Ticked> {
     let rom = Rom::new(alloc, &[0; MEMORY_BYTES]).ok()?;
     let draft = full_draft()?;

@@ -94,7 +94,7 @@ pub const PAST_END: &str = "no operation past BFF, the last word of the ROM";
 pub const OVERLAP: &str =
     "no word of another section: .rom without an address begins after all others";
 
-/// What is expected of a line that this token begins, or nothing where it may not begin one.
+/// Returns what is expected of a line that `token` begins, or nothing where it may not begin one.
 pub fn form_of(token: &[u8]) -> &'static str {
     for form in &FORMS {
         if form.token.as_bytes() == token {
@@ -104,7 +104,7 @@ pub fn form_of(token: &[u8]) -> &'static str {
     ""
 }
 
-/// Whether it is the token of an operation.
+/// Whether `token` is that of an operation.
 pub fn is_operation(token: &[u8]) -> bool {
     for form in FORMS.iter().take(OPERATIONS) {
         if form.token.as_bytes() == token {
@@ -114,7 +114,7 @@ pub fn is_operation(token: &[u8]) -> bool {
     false
 }
 
-/// Writes tokens of the table, each after a comma but the first.
+/// Writes the first `count` tokens of the table, each after a comma but the first.
 pub fn write_openings<W: fmt::Write>(f: &mut fmt::Formatter<W>, count: usize) -> fmt::Result {
     for (number, form) in FORMS.iter().take(count).enumerate() {
         if number > 0 {

@@ -25,12 +25,12 @@ const MISUSE: u8 = 64;
 /// The most bytes of output that are kept, to be written together.
 const OUTPUT_BYTES: usize = 65_536;
 
-/// The program's arguments. They need not be text, and memory may be refused.
+/// Returns the program's arguments. They need not be text, and an allocation can fail.
 fn arguments(rt: &HostRuntime) -> io::Result<Vec<String>> {
     Ok(env::args(rt)?.collect(rt.alloc())?)
 }
 
-/// What the arguments ask for.
+/// Returns what `arguments` ask for.
 fn asked(rt: &HostRuntime, arguments: &[String]) -> Result<Job, Error> {
     let mut texts = Vec::new(rt.alloc());
     for argument in arguments {
@@ -39,20 +39,20 @@ fn asked(rt: &HostRuntime, arguments: &[String]) -> Result<Job, Error> {
     job(rt.alloc(), texts.as_slice())
 }
 
-/// Writes a help text on standard output.
+/// Writes `text`, a help text, on standard output.
 fn help(rt: &HostRuntime, text: &Error) -> io::Result<()> {
     let mut output = io::writer(rt);
     write!(output, "{text}")?;
     output.flush()
 }
 
-/// Says on standard error why the program could not do a job.
+/// Prints `fault`, for which the program could not do a job, on standard error.
 fn complain(rt: &HostRuntime, fault: ToolFault) {
     let _ = eprintln!(rt; "dvg: {fault}");
 }
 
-/// Writes the help that was asked for, or why the arguments ask for nothing. Answers the exit
-/// status.
+/// Prints `error`: the help that was asked for, or why the arguments ask for nothing. Returns the
+/// exit status.
 fn answer_arguments(rt: &HostRuntime, error: &Error) -> u8 {
     match error.kind() {
         ErrorKind::DisplayHelp | ErrorKind::DisplayVersion => {
@@ -69,7 +69,7 @@ fn answer_arguments(rt: &HostRuntime, error: &Error) -> u8 {
     arguments_status(error)
 }
 
-/// Does a job from a reader to standard output.
+/// Does `job` from `input` to standard output.
 fn run<R: Read + Drop>(rt: &HostRuntime, job: Job, input: R) -> Result<Done<Global>, ToolFault> {
     let Ok(output) = BufWriter::with_capacity(rt.alloc(), OUTPUT_BYTES, io::writer(rt)) else {
         return Err(ToolFault::Memory);
@@ -80,8 +80,8 @@ fn run<R: Read + Drop>(rt: &HostRuntime, job: Job, input: R) -> Result<Done<Glob
     finish(answer, &mut writer)
 }
 
-/// Says on standard error what is wrong with the text of a sketch: the fault with its line, and
-/// what was expected there.
+/// Prints on standard error what is wrong with `text`, the text of a sketch: `fault` with its line,
+/// and what was expected there.
 fn complain_of_sketch(rt: &HostRuntime, text: &[u8], fault: TextFault) {
     if let Ok(small) = text.to_ascii_lowercase(rt.alloc()) {
         if let Some(explained) = explain(fault, text, small.as_slice()) {
@@ -92,7 +92,7 @@ fn complain_of_sketch(rt: &HostRuntime, text: &[u8], fault: TextFault) {
     complain(rt, ToolFault::Text(fault));
 }
 
-/// Says on standard error what came of a job, where there is something to say.
+/// Prints on standard error what came of a job, `answer`, where there is something to print.
 fn say(rt: &HostRuntime, answer: &Result<Done<Global>, ToolFault>) {
     match answer {
         Ok(Done::Refused(refusal)) => {
@@ -106,15 +106,15 @@ fn say(rt: &HostRuntime, answer: &Result<Done<Global>, ToolFault>) {
     }
 }
 
-/// Does a job, and says what came of it. Answers the exit status.
+/// Does `job`, and prints what came of it. Returns the exit status.
 fn do_job(rt: &HostRuntime, job: Job) -> u8 {
     let answer = run(rt, job, rt.stdin());
     say(rt, &answer);
     status(&answer)
 }
 
-/// Does a job that reads a sketch, and says what came of it. Its text is kept to explain a fault.
-/// Answers the exit status.
+/// Does `job`, which reads a sketch, and prints what came of it. The text of the sketch is kept to
+/// explain a fault. Returns the exit status.
 fn do_sketch(rt: &HostRuntime, job: Job) -> u8 {
     let mut input = Watched::new(rt.stdin());
     let text = match read_up_to(rt.alloc(), &mut input, MOST_TEXT_BYTES) {
@@ -132,7 +132,7 @@ fn do_sketch(rt: &HostRuntime, job: Job) -> u8 {
     status(&answer)
 }
 
-/// Does what the arguments ask for. Answers the exit status.
+/// Does what `arguments` ask for. Returns the exit status.
 fn do_arguments(rt: &HostRuntime, arguments: &[String]) -> u8 {
     match asked(rt, arguments) {
         Ok(job @ (Job::Render { .. } | Job::RenderCheck | Job::Lay { .. })) => do_sketch(rt, job),
@@ -141,7 +141,7 @@ fn do_arguments(rt: &HostRuntime, arguments: &[String]) -> u8 {
     }
 }
 
-/// Says why the arguments can't be read. Answers the exit status.
+/// Prints why the arguments can't be read, by `error`. Returns the exit status.
 fn refuse_arguments(rt: &HostRuntime, error: &io::Error) -> u8 {
     if error.kind() == io::ErrorKind::OutOfMemory {
         complain(rt, ToolFault::Memory);

@@ -23,7 +23,7 @@ pub enum Rows {
 }
 
 impl Place {
-    /// Before the first line.
+    /// Returns the place before the first line.
     fn top() -> Place {
         Place {
             begin: 0,
@@ -31,7 +31,8 @@ impl Place {
         }
     }
 
-    /// Where the line of this number stands, which comes next.
+    /// Returns the place of the next line, `line`, which has this `number`. `self` is that of the
+    /// line before.
     fn next(self, number: usize, line: &[u8]) -> Place {
         match head_of(line) {
             Some(Head::Frame(_)) => Place {
@@ -46,7 +47,7 @@ impl Place {
         }
     }
 
-    /// The rows of the same section, or of all sections of the ROM.
+    /// Returns the rows of the same section, or of all sections of the ROM.
     pub fn rows(self) -> Rows {
         if self.is_rom {
             Rows::OfRom
@@ -55,7 +56,7 @@ impl Place {
         }
     }
 
-    /// Whether a line that stands here is among these rows.
+    /// Whether a line that stands here is among `rows`.
     fn is_among(self, rows: Rows) -> bool {
         match rows {
             Rows::OfRom => self.is_rom,
@@ -65,19 +66,19 @@ impl Place {
     }
 }
 
-/// The section that a line begins.
+/// Returns the section that `line` begins.
 pub fn head_of(line: &[u8]) -> Option<Head<'_>> {
     let tokens = tokens_of(line)?;
     read_head(tokens.as_slice())
 }
 
-/// The row that a line spells.
+/// Returns the row that `line` spells.
 pub fn row_of(line: &[u8]) -> Option<Row<'_>> {
     let tokens = tokens_of(line)?;
     read_row(tokens.as_slice())
 }
 
-/// Whether a line is a row that gives this name.
+/// Whether `line` is a row that gives `name`.
 fn gives(line: &[u8], name: &[u8]) -> bool {
     match row_of(line) {
         Some(
@@ -90,7 +91,7 @@ fn gives(line: &[u8], name: &[u8]) -> bool {
     }
 }
 
-/// Whether a line begins a frame of this name.
+/// Whether `line` begins a frame called `name`.
 fn begins_frame(line: &[u8], name: &[u8]) -> bool {
     match head_of(line) {
         Some(Head::Frame(Some(given))) => given == name,
@@ -98,7 +99,7 @@ fn begins_frame(line: &[u8], name: &[u8]) -> bool {
     }
 }
 
-/// The line of this number, counted from 1.
+/// Returns line `number` of `text`, counted from 1. It is empty where there is none.
 pub fn line_at(text: &[u8], number: usize) -> &[u8] {
     for (index, line) in text.split(|byte| *byte == b'\n').enumerate() {
         if index.saturating_add(1) == number {
@@ -108,7 +109,7 @@ pub fn line_at(text: &[u8], number: usize) -> &[u8] {
     &[]
 }
 
-/// Where the line of this number stands.
+/// Returns where line `number` of `text` stands, counted from 1.
 pub fn place_of(text: &[u8], number: usize) -> Place {
     let mut place = Place::top();
     for (index, line) in text.split(|byte| *byte == b'\n').enumerate() {
@@ -121,7 +122,7 @@ pub fn place_of(text: &[u8], number: usize) -> Place {
     place
 }
 
-/// The first line that gives a name, among these rows.
+/// Returns the number of the first line of `text` that gives `name`, among `rows`.
 pub fn first_given(text: &[u8], name: &[u8], rows: Rows) -> Option<usize> {
     let mut place = Place::top();
     for (index, line) in text.split(|byte| *byte == b'\n').enumerate() {
@@ -134,7 +135,7 @@ pub fn first_given(text: &[u8], name: &[u8], rows: Rows) -> Option<usize> {
     None
 }
 
-/// The first line that begins a frame of a name.
+/// Returns the number of the first line of `text` that begins a frame called `name`.
 pub fn first_frame(text: &[u8], name: &[u8]) -> Option<usize> {
     for (index, line) in text.split(|byte| *byte == b'\n').enumerate() {
         if begins_frame(line, name) {

@@ -1,4 +1,5 @@
-//! The 6502 code of the driver, proved from its bytes: each routine does what the script says.
+//! The 6502 code of the driver, proved from its bytes: each routine does what the script says, but
+//! for dvg_copy and dvg_vector, of which no law speaks: they are tested.
 //! There is no code here. Each law is the contract of a function that does nothing.
 #![tactic(auto)]
 

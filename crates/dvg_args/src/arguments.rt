@@ -15,7 +15,8 @@ use clap::error::ErrorKind;
 use clap::{ArgMatches, Error};
 use std::alloc::Global;
 
-// The job of a subcommand whose options can't be refused.
+// Returns the job of the subcommand `name`, whose options in `found` can't be refused. Returns
+// `None` where `name` is none of these subcommands.
 fn plain_job(name: &str, found: &ArgMatches) -> Option<Job>
     ensures some { IfSome result (λ j. IsJob j (Some (name.now, rows_of (found_of found.now)))) }
     ensures none { IsNone result → ¬ IsPlainName name.now }
@@ -33,7 +34,8 @@ fn plain_job(name: &str, found: &ArgMatches) -> Option<Job>
     }
 }
 
-// The job that a subcommand asks for, or how its options are refused.
+// Returns the job that the subcommand `name` asks for with the options in `found`, or the kind of
+// error by which they are refused.
 fn asked(name: &str, found: &ArgMatches) -> Result<Job, ErrorKind>
     requires { IsJobName name.now }
     ensures ok { IfOk result (λ j. IsJob j (Some (name.now, rows_of (found_of found.now)))) }
@@ -60,8 +62,8 @@ fn asked(name: &str, found: &ArgMatches) -> Result<Job, ErrorKind>
     }
 }
 
-// The job of a matching that entered a subcommand, where that is one, or how its options are
-// refused.
+// Returns the job of the subcommand that `matches` entered, or the kind of error by which its
+// options are refused.
 fn entered(matches: &ArgMatches) -> Result<Job, ErrorKind>
     requires some { has_subcommand matches.now ≡ true }
     requires name { IfSome (subcommand_name_of matches.now) IsJobName }
@@ -74,7 +76,7 @@ fn entered(matches: &ArgMatches) -> Result<Job, ErrorKind>
     asked(entered.0, entered.1)
 }
 
-// The matching of arguments, which enters a subcommand where they are taken.
+// Matches `arguments`. Arguments that are taken enter a subcommand.
 fn matched<'a>(alloc: Global, arguments: &'a [&'a str]) -> Result<ArgMatches<'a>, Error>
     ensures some { IfOk result (λ m. has_subcommand m ≡ true) }
     ensures rows { IfOk result (λ m.
@@ -86,22 +88,22 @@ fn matched<'a>(alloc: Global, arguments: &'a [&'a str]) -> Result<ArgMatches<'a>
     command(alloc)?.try_get_matches_from(arguments)
 }
 
-/// What the arguments ask for: the subcommand and the options that they match. The first argument
-/// is the program's name, and may be anything.
+/// Returns what `arguments` ask for: the subcommand and the options that they match. The first
+/// argument is the program's name, and may be anything.
 ///
-/// An error is help or the version that the arguments ask for (`DisplayHelp`, `DisplayVersion`), a
-/// refusal of arguments that ask for nothing the program can do, or want of memory (`OutOfMemory`).
-/// Its text is its `Display`.
+/// An error is help or the version that `arguments` ask for (`DisplayHelp`, `DisplayVersion`), a
+/// refusal of arguments that ask for nothing the program can do, or a failed allocation
+/// (`OutOfMemory`). Its text is its `Display`.
 pub fn job<'a>(alloc: Global, arguments: &'a [&'a str]) -> Result<Job, Error>
     ensures ok { IfOk result (λ j.
         IsJob j (subcommand_of dvg_app (map (λ w. w.now) arguments.entry.now))) }
 
-    // Arguments that are taken fail only for want of memory.
+    // Arguments that are taken fail only where an allocation fails.
     ensures err { IfErr result (λ e. TakesArguments (map (λ w. w.now) arguments.entry.now)
         → kind_of e ≡ ErrorKind.OutOfMemory) }
 
-    // A job is answered only where the arguments come to no kind of error; an error has one of the
-    // kinds that they come to, or memory ran out.
+    // A job is returned only where the arguments come to no kind of error. An error has one of the
+    // kinds that they come to, or an allocation failed.
     ensures kinds { FailsBy (arguments_fault (map (λ w. w.now) arguments.entry.now)) result }
 {
     let matches = match matched(alloc, arguments) {

@@ -10,7 +10,8 @@ use crate::help;
 use clap::{Arg, ArgAction, Command};
 use std::alloc::{AllocError, Global};
 
-// A command with its help: what it does, how it is called, and what it reads and writes.
+// Returns the command `name` with its help: `about` says what it does, `usage` how it is called,
+// and `details` what it reads and writes.
 fn helped<'a>(
     alloc: Global,
     name: &'a str,
@@ -27,7 +28,7 @@ fn helped<'a>(
         .after_help(details)
 }
 
-// An option that is given or not.
+// Returns the option `--option`, which is given or not. `details` is its help.
 fn flag<'a>(alloc: Global, option: &'a str, details: &'a str) -> Arg<'a>
     ensures rule { rule_of result ≡ flag option.entry.now }
     ensures local { result.global ≡ false }
@@ -38,7 +39,8 @@ fn flag<'a>(alloc: Global, option: &'a str, details: &'a str) -> Arg<'a>
         .action(ArgAction::SetTrue)
 }
 
-// An option that takes a value.
+// Returns the option `--option`, which takes a value. The help calls that `value`, and says
+// `details`.
 fn valued<'a>(alloc: Global, option: &'a str, value: &'a str, details: &'a str) -> Arg<'a>
     ensures rule { rule_of result ≡ valued option.entry.now }
     ensures local { result.global ≡ false }
@@ -50,7 +52,8 @@ fn valued<'a>(alloc: Global, option: &'a str, value: &'a str, details: &'a str) 
         .action(ArgAction::Set)
 }
 
-// The command with one more option, which is given or not.
+// Returns the command `part` with one more option, `--option`, which is given or not. Returns
+// `AllocError` where an allocation fails.
 fn with_flag<'a>(
     alloc: Global,
     part: Command<'a>,
@@ -65,7 +68,8 @@ fn with_flag<'a>(
     part.arg(flag(alloc, option, details))
 }
 
-// The command with one more option, which takes a value.
+// Returns the command `part` with one more option, `--option`, which takes a value. Returns
+// `AllocError` where an allocation fails.
 fn with_value<'a>(
     alloc: Global,
     part: Command<'a>,
@@ -81,7 +85,7 @@ fn with_value<'a>(
     part.arg(valued(alloc, option, value, details))
 }
 
-// The command with the size and the rate of pictures as further options.
+// Returns the command `part` with the size and the rate of pictures as further options.
 fn showing<'a>(alloc: Global, part: Command<'a>) -> Result<Command<'a>, AllocError>
     requires { (fields_of part).has_globals ≡ false }
     ensures app { IfOk result (λ c. app_of c ≡ spec.showing (app_of part.entry)) }
@@ -92,7 +96,7 @@ fn showing<'a>(alloc: Global, part: Command<'a>) -> Result<Command<'a>, AllocErr
     with_value(alloc, with_scale, "rate", "N", rate)
 }
 
-// The subcommand `list`.
+// Returns the subcommand `list`.
 fn list_command<'a>(alloc: Global) -> Result<Command<'a>, AllocError>
     ensures app { IfOk result (λ c. app_of c ≡ list_app) }
     ensures local { IfOk result (λ c. (fields_of c).has_globals ≡ false) }
@@ -103,7 +107,7 @@ fn list_command<'a>(alloc: Global) -> Result<Command<'a>, AllocError>
     with_value(alloc, list, "at", "HHH", at)
 }
 
-// The subcommand `picture`.
+// Returns the subcommand `picture`.
 fn picture_command<'a>(alloc: Global) -> Result<Command<'a>, AllocError>
     ensures app { IfOk result (λ c. app_of c ≡ picture_app) }
     ensures local { IfOk result (λ c. (fields_of c).has_globals ≡ false) }
@@ -117,7 +121,7 @@ fn picture_command<'a>(alloc: Global) -> Result<Command<'a>, AllocError>
     with_value(alloc, with_svg, "scale", "N", help::SCALE)
 }
 
-// The subcommand `check`.
+// Returns the subcommand `check`.
 fn check_command<'a>(alloc: Global) -> Result<Command<'a>, AllocError>
     ensures app { IfOk result (λ c. app_of c ≡ check_app) }
     ensures local { IfOk result (λ c. (fields_of c).has_globals ≡ false) }
@@ -129,7 +133,7 @@ fn check_command<'a>(alloc: Global) -> Result<Command<'a>, AllocError>
     with_flag(alloc, check, "bound", bound)
 }
 
-// The subcommand `play`.
+// Returns the subcommand `play`.
 fn play_command<'a>(alloc: Global) -> Result<Command<'a>, AllocError>
     ensures app { IfOk result (λ c. app_of c ≡ play_app) }
     ensures local { IfOk result (λ c. (fields_of c).has_globals ≡ false) }
@@ -144,7 +148,7 @@ fn play_command<'a>(alloc: Global) -> Result<Command<'a>, AllocError>
     showing(alloc, with_svg)
 }
 
-// The subcommand `render`.
+// Returns the subcommand `render`.
 fn render_command<'a>(alloc: Global) -> Result<Command<'a>, AllocError>
     ensures app { IfOk result (λ c. app_of c ≡ render_app) }
     ensures local { IfOk result (λ c. (fields_of c).has_globals ≡ false) }
@@ -156,7 +160,7 @@ fn render_command<'a>(alloc: Global) -> Result<Command<'a>, AllocError>
     showing(alloc, with_check)
 }
 
-// The subcommand `lay`.
+// Returns the subcommand `lay`.
 fn lay_command<'a>(alloc: Global) -> Result<Command<'a>, AllocError>
     ensures app { IfOk result (λ c. app_of c ≡ lay_app) }
     ensures local { IfOk result (λ c. (fields_of c).has_globals ≡ false) }
@@ -173,7 +177,7 @@ fn lay_command<'a>(alloc: Global) -> Result<Command<'a>, AllocError>
     with_flag(alloc, with_rom, "equates", equates)
 }
 
-// The program without its subcommands.
+// Returns the program's command without its subcommands.
 fn program<'a>(alloc: Global) -> Command<'a>
     ensures app { app_of result ≡ program_app }
     ensures local { (fields_of result).has_globals ≡ false }
@@ -184,7 +188,7 @@ fn program<'a>(alloc: Global) -> Command<'a>
         .subcommand_required(true)
 }
 
-// The program with one more subcommand.
+// Returns the command `program` with `part` as one more subcommand.
 fn with_part<'a>(program: Command<'a>, part: Command<'a>) -> Result<Command<'a>, AllocError>
     requires program { (fields_of program).has_globals ≡ false }
     requires part { (fields_of part).has_globals ≡ false }
@@ -195,7 +199,8 @@ fn with_part<'a>(program: Command<'a>, part: Command<'a>) -> Result<Command<'a>,
     program.subcommand(part)
 }
 
-/// The program's command.
+/// Returns the program's command, with its memory from `alloc`. Returns `AllocError` where an
+/// allocation fails.
 pub(crate) fn command<'a>(alloc: Global) -> Result<Command<'a>, AllocError>
     ensures app { IfOk result (λ c. app_of c ≡ dvg_app) }
     ensures local { IfOk result (λ c. (fields_of c).has_globals ≡ false) }

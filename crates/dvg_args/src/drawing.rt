@@ -10,8 +10,8 @@ use crate::task::Job;
 use clap::ArgMatches;
 use clap::error::ErrorKind;
 
-/// What the option of `list` asks for. It is refused where it isn't three hexadecimal digits
-/// (`InvalidValue`).
+/// Returns what the option of `list` in `found` asks for. A value that isn't three hexadecimal
+/// digits is refused (`InvalidValue`).
 pub(crate) fn list_job(found: &ArgMatches) -> Result<Job, ErrorKind>
     ensures ok { IfOk result (λ j. IsJob j (Some (codes "list", rows_of (found_of found.now)))) }
     ensures kinds { Refuses result (list_fault (rows_of (found_of found.now))) }
@@ -25,7 +25,9 @@ pub(crate) fn list_job(found: &ArgMatches) -> Result<Job, ErrorKind>
     }
 }
 
-// How pictures are shown as SVG, if they are.
+// Returns the size and the rate that the options in `found` give, or the defaults. Refused are
+// `--svg` with `--all` (`ArgumentConflict`), a size or a rate without `--svg`
+// (`MissingRequiredArgument`), and a number out of range (`InvalidValue`).
 fn svg_shown(found: &ArgMatches) -> Result<Shown, ErrorKind>
     ensures ok { IfOk result (Shows (rows_of (found_of found.now))) }
     ensures kinds { Refuses result (svg_fault (rows_of (found_of found.now))) }
@@ -46,9 +48,9 @@ fn svg_shown(found: &ArgMatches) -> Result<Shown, ErrorKind>
     }
 }
 
-/// What the options of `picture` ask for. They are refused where `--svg` and `--all` are given
-/// (`ArgumentConflict`), a size without `--svg` (`MissingRequiredArgument`), or one that isn't a
-/// number from 10 to 400 (`InvalidValue`).
+/// Returns what the options of `picture` in `found` ask for. Refused are `--svg` with `--all`
+/// (`ArgumentConflict`), a size without `--svg` (`MissingRequiredArgument`), and a size that isn't
+/// a number from 10 to 400 (`InvalidValue`).
 pub(crate) fn picture_job(found: &ArgMatches) -> Result<Job, ErrorKind>
     ensures ok { IfOk result (λ j.
         IsJob j (Some (codes "picture", rows_of (found_of found.now)))) }
@@ -68,8 +70,8 @@ pub(crate) fn picture_job(found: &ArgMatches) -> Result<Job, ErrorKind>
     })
 }
 
-/// What the options of `play` ask for. They are refused as those of `picture` are. A rate is
-/// refused as a size is, and where it isn't a number from 1 to 60.
+/// Returns what the options of `play` in `found` ask for. They are refused as those of `picture`
+/// are. A rate is refused as a size is, and where it isn't a number from 1 to 60.
 pub(crate) fn play_job(found: &ArgMatches) -> Result<Job, ErrorKind>
     ensures ok { IfOk result (λ j. IsJob j (Some (codes "play", rows_of (found_of found.now)))) }
     ensures kinds { Refuses result (svg_fault (rows_of (found_of found.now))) }
@@ -92,8 +94,8 @@ pub(crate) fn play_job(found: &ArgMatches) -> Result<Job, ErrorKind>
     })
 }
 
-/// What the options of `render` ask for. They are refused where a size or a rate is none
-/// (`InvalidValue`), even beside `--check`, which they don't concern.
+/// Returns what the options of `render` in `found` ask for. A size or a rate that is out of range
+/// is refused (`InvalidValue`), even with `--check`, which they don't concern.
 pub(crate) fn render_job(found: &ArgMatches) -> Result<Job, ErrorKind>
     ensures ok { IfOk result (λ j. IsJob j (Some (codes "render", rows_of (found_of found.now)))) }
     ensures kinds { Refuses result (render_fault (rows_of (found_of found.now))) }

@@ -1,15 +1,16 @@
 //! The help texts, and the version.
 
-/// The program's version.
-pub(crate) const VERSION: &str = "0.9.0";
+/// The program's version, and that it was proved before it was built. In the plain form of the
+/// sources the stand-in of clap prints that it wasn't.
+pub(crate) const VERSION: &str = "0.9.0 (proved)";
 
 /// How the program is called.
 pub(crate) const USAGE: &str = "dvg COMMAND [OPTIONS] < INPUT";
 
-/// What the option of a size says.
+/// The help of the option for a size.
 pub(crate) const SCALE: &str = "Show pictures in this size in percent, 10 to 400 [default: 100]";
 
-/// What the program's help says after its commands.
+/// What the program's help prints after its commands.
 pub(crate) const PROGRAM: &str =
     "Each command reads standard input and writes standard output. `dvg help COMMAND`
 tells what a command reads and writes, with its limits and an example.

@@ -3,13 +3,13 @@
 ghost use Rattle.dvg_args.specs.Laws.{HelpArguments, OtherArguments, RefusedOptions};
 ghost use Rattle.dvg_args.specs.Laws.{SketchJobArguments, TextJobArguments, UnrefusedOptions};
 
-/// The arguments of each job that reads no sketch, after any name of the program, are taken and ask
-/// for that job.
+/// Arguments that ask for a job that reads no sketch, after any name of the program, are taken and
+/// ask for that job.
 pub fn text_job_arguments()
     ensures { TextJobArguments }
 {}
 
-/// So are the arguments of each job that reads a sketch.
+/// Arguments that ask for a job that reads a sketch are taken, too, and ask for that job.
 pub fn sketch_job_arguments()
     ensures { SketchJobArguments }
 {}
@@ -30,8 +30,8 @@ pub fn refused_options()
 {}
 
 /// Where no option is given that a subcommand may refuse, nothing is refused after the matching. So
-/// arguments that the command takes without these options, as `play --all --banked`, fail only for
-/// want of memory.
+/// arguments that the command takes without these options, as `play --all --banked`, fail only
+/// where an allocation fails.
 pub fn unrefused_options()
     ensures { UnrefusedOptions }
 {}

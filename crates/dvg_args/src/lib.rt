@@ -2,9 +2,9 @@
 //! arguments ask for.
 //!
 //! The arguments are read by `clap`, with a command that `specs/Arguments.antt` shows whole. A job
-//! is answered only where clap's own matching gives it, and an error only of a kind that the
+//! is returned only where clap's own matching gives it, and an error only of a kind that the
 //! arguments can come to; help that was asked for is such an error, too. That options exclude each
-//! other, which wants which, and which values they take, are this crate's own rules, after the
+//! other, which needs which, and which values they take, are this crate's own rules, after the
 //! matching.
 #![tactic(auto)]
 

@@ -15,38 +15,38 @@ pub enum LayForm {
     Equates,
 }
 
-/// What the program is to do. A size of pictures is in percent, 10 to 400, and a rate is how many
+/// What the program has to do. `percent` is a size of pictures, 10 to 400, and `rate` is how many
 /// are shown a second, 1 to 60.
 #[derive(Clone, Copy, Debug, PartialEq, Eq)]
 pub enum Job {
     /// List the instructions of words.
     List,
-    /// List the instructions of words, of which the first stands at this word address, 000 to FFF.
+    /// List the instructions of words. The first stands at the word address `address`, 000 to FFF.
     ListAt {
         address: u16,
     },
     /// Write a ROM as text.
     Rom,
-    /// Show what a dump of the memory draws, with every instruction that is run or the picture
-    /// alone.
+    /// Show what a dump of the memory draws. With `all`, each instruction that is run is listed,
+    /// too.
     Picture {
         all: bool,
     },
-    /// Draw what a dump of the memory draws as SVG, of a size.
+    /// Draw what a dump of the memory draws as SVG, in the size `percent`.
     PictureSvg {
         percent: u16,
     },
-    /// Check the draft of a text, and give the bound of a good one or leave it out.
+    /// Check the draft of a text. With `bound`, the bound of a good one is printed, too.
     Check {
         bound: bool,
     },
-    /// Play a trace, with every entry or its pictures alone, over a RAM that is kept in banks or in
-    /// one array.
+    /// Play a trace, with every entry where `all` is set, else its pictures alone. With `banked`
+    /// the RAM is kept in banks, else in one array.
     Play {
         all: bool,
         banked: bool,
     },
-    /// Play a trace, and draw its pictures as SVG, of a size and a rate.
+    /// Play a trace, and draw its pictures as SVG, in the size `percent` and at the rate `rate`.
     PlaySvg {
         banked: bool,
         percent: u16,
@@ -54,14 +54,14 @@ pub enum Job {
     },
     /// Say whether a log tears a picture.
     Torn,
-    /// Draw the frames of a sketch as SVG, of a size and a rate.
+    /// Draw the frames of a sketch as SVG, in the size `percent` and at the rate `rate`.
     Render {
         percent: u16,
         rate: u16,
     },
     /// Check the frames of a sketch.
     RenderCheck,
-    /// Lay out the frames, the ROM or the names of a sketch.
+    /// Lay out the frames, the ROM or the names of a sketch, as `form` says.
     Lay {
         form: LayForm,
     },

@@ -21,8 +21,8 @@ pub struct Handle {
     unused: u8,
 }
 
-/// Makes a device, and hands it to C: 0, and the pointer to it in `out`; 2 for want of memory, and
-/// `out` is as it was.
+/// Makes a device, and hands it to C. Returns 0 after writing the device's pointer to `out`, or 2
+/// where an allocation fails, and then `out` is as it was. Memory is taken from `alloc`.
 #[unsafe(no_mangle)]
 pub extern "C" fn dvg_new(alloc: Global, out: &mut *mut Handle) -> u32
     ensures* { (⌜ result ≡ 0 ⌝ ∗ ∃ₛ
@@ -38,14 +38,15 @@ pub extern "C" fn dvg_new(alloc: Global, out: &mut *mut Handle) -> u32
     }
 }
 
-// A new device in a box of its own.
+// Returns a new device in a box of its own, in memory of `alloc`, or `None` where an allocation
+// fails.
 fn made(alloc: Global) -> Option<Box<Device>>
     ensures { IfSome result (λ device. IsNew device.value) }
 {
     Box::new(alloc, Device::new(alloc)).ok()
 }
 
-/// One request, and its answer.
+/// Lets the device at `at` do `request`, and returns the number of the reply.
 #[unsafe(no_mangle)]
 pub unsafe extern "C" fn dvg_turn(at: *mut Handle, request: u64) -> u64
     ghost device: { Held }
@@ -56,7 +57,7 @@ pub unsafe extern "C" fn dvg_turn(at: *mut Handle, request: u64) -> u64
     (*(at as *mut Device)).turn(request)
 }
 
-/// Frees a device with all that it has.
+/// Frees the device at `at`, with all that it has. Its memory goes back to `alloc`.
 #[unsafe(no_mangle)]
 pub unsafe extern "C" fn dvg_free(alloc: Global, at: *mut Handle)
     ghost device: { Held }
@@ -65,5 +66,5 @@ pub unsafe extern "C" fn dvg_free(alloc: Global, at: *mut Handle)
     freed(Box::from_raw(alloc, at as *mut Device));
 }
 
-// The box is dropped here.
+// Drops `_device`, the box.
 fn freed(_device: Box<Device>) {}

@@ -25,7 +25,7 @@ impl Model for Code {
 }
 
 impl Code {
-    /// The instruction, or None where a field is out of its range.
+    /// Returns `instr` as a `Code`, or `None` exactly where a field of it is out of its range.
     pub fn new(instr: Instr) -> Option<Code>
         ensures in_range { IsSome result ↔ InRange instr }
         ensures value { IfSome result (λ code. code ≡ instr) }
@@ -37,7 +37,7 @@ impl Code {
         }
     }
 
-    /// An instruction that the caller knows to be in range.
+    /// Returns `instr` as a `Code`, which the caller knows to be in range.
     pub fn within(instr: Instr) -> Code
         requires { InRange instr }
         ensures { result ≡ instr }
@@ -45,7 +45,7 @@ impl Code {
         Code { instr }
     }
 
-    /// The instruction, which is in range.
+    /// Returns the instruction, which is in range.
     pub fn instr(&self) -> Instr
         ensures value { result ≡ self.now }
         ensures in_range { InRange result }
@@ -53,7 +53,7 @@ impl Code {
         self.instr
     }
 
-    /// How many words it has: a VCTR and a LABS have two, all others one.
+    /// Returns the number of words: 2 for a VCTR and a LABS, 1 for all others.
     pub fn word_count(&self) -> u16
         ensures value { result ≡ word_count self.now }
         ensures bound { result ≤ 2 }
@@ -65,7 +65,7 @@ impl Code {
     }
 }
 
-// Whether each field is in range.
+// Returns whether each field of `instr` is in range.
 fn is_in_range(instr: Instr) -> bool
     ensures { IsTrue result ↔ InRange instr }
 {
@@ -80,7 +80,7 @@ fn is_in_range(instr: Instr) -> bool
     }
 }
 
-// Whether no move of a vector is larger than `most`, and its intensity has four bits.
+// Returns whether the magnitudes of `dx` and `dy` are at most `most`, and `z` has four bits.
 fn is_move(most: u16, dx: i16, dy: i16, z: u8) -> bool
     ensures { IsTrue result ↔ ((unsigned_abs dx ≤ most) × (unsigned_abs dy ≤ most) × (z ≤ 15)) }
 {

@@ -22,7 +22,7 @@ pub enum CodeFault {
     Cut,
 }
 
-// This many bits of a word, from this one up.
+// Returns `count` bits of `word`, from bit `from` up. Both numbers are below 16.
 fn bits(word: u16, from: u32, count: u32) -> u16
     requires from { from < 16 }
     requires count { count < 16 }
@@ -31,7 +31,7 @@ fn bits(word: u16, from: u32, count: u32) -> u16
     (word >> from) & ((1 << count) - 1)
 }
 
-// The number with this sign bit and this magnitude.
+// Returns `magnitude`, which is below 1,024, or its negative where `sign` isn't 0.
 fn signed(sign: u16, magnitude: u16) -> i16
     requires { magnitude < 1024 }
     ensures { result ≡ spec.signed sign magnitude }
@@ -43,7 +43,7 @@ fn signed(sign: u16, magnitude: u16) -> i16
     }
 }
 
-// What two words spell, where the first has an opcode of 0 to 9.
+// Returns what `first` and `second` spell, where `first` has an opcode of 0 to 9.
 fn read_vctr(first: u16, second: u16) -> Code
     requires { first < 0xA000 }
     ensures { Spells result (first ∷ second ∷ []) }
@@ -58,7 +58,7 @@ fn read_vctr(first: u16, second: u16) -> Code
     })
 }
 
-// What two words spell, where the first has the opcode A.
+// Returns what `first` and `second` spell, where `first` has the opcode A.
 fn read_labs(first: u16, second: u16) -> Code
     requires low { 0xA000 ≤ first }
     requires high { IsFirst first }
@@ -71,7 +71,7 @@ fn read_labs(first: u16, second: u16) -> Code
     })
 }
 
-// What two words spell, where the first has an opcode of 0 to A.
+// Returns what `first` and `second` spell, where `first` has an opcode of 0 to A.
 fn read_two(first: u16, second: u16) -> Code
     requires { IsFirst first }
     ensures { Spells result (first ∷ second ∷ []) }
@@ -83,7 +83,7 @@ fn read_two(first: u16, second: u16) -> Code
     }
 }
 
-// What a word with the opcode F spells.
+// Returns what `word` spells, where it has the opcode F.
 fn read_short(word: u16) -> Code
     requires { 0xF000 ≤ word }
     ensures { Spells result (word ∷ []) }
@@ -99,7 +99,7 @@ fn read_short(word: u16) -> Code
     })
 }
 
-// What a word with an opcode of B to F spells.
+// Returns what `word` spells, where it has an opcode of B to F.
 fn read_one(word: u16) -> Code
     requires { 0xB000 ≤ word }
     ensures { Spells result (word ∷ []) }
@@ -113,7 +113,7 @@ fn read_one(word: u16) -> Code
     }
 }
 
-/// The instruction that the front of the words spells, and its number of words.
+/// Returns the instruction that the front of `words` spells, and its number of words.
 ///
 /// | Opcode | Instruction | First word | Second word |
 /// |---|---|---|---|
@@ -130,6 +130,9 @@ fn read_one(word: u16) -> Code
 /// A sign bit of 1 means negative: sign and magnitude, where minus zero reads as zero. Bit 11 of
 /// both words of a VCTR and bits 11 to 0 of HALT and RTSL are ignored (this project's own choice),
 /// so there are spellings that aren't canonical, and they are read all the same.
+///
+/// Returns `Empty` exactly where there is no word, and `Cut` exactly where there is one, of opcode
+/// 0 to A, whose second word is missing.
 #[inline(always)]
 pub fn decode(words: &[u16]) -> Result<(Code, usize), CodeFault>
     ensures spelled { IfOk result (λ read. Fronts words.now read.0 read.1) }

@@ -11,7 +11,7 @@ use arrayvec::ArrayVec;
 /// The words of one instruction.
 pub type Words = ArrayVec<u16, 2>;
 
-// The sign bit that is written for a number.
+// Returns the sign bit that is written for `n`: 1 where it is negative, else 0.
 fn sign_of(n: i16) -> u16
     ensures value { result ≡ sign_bit n }
     ensures is_bit { result < 2 }
@@ -19,7 +19,8 @@ fn sign_of(n: i16) -> u16
     if n < 0 { 1 } else { 0 }
 }
 
-// The word of four bits, a sign bit and a magnitude.
+// Returns the word of the four bits `top`, and of the sign bit and the magnitude of `n`, which is
+// -1023 to 1023.
 fn long_word(top: u8, n: i16) -> u16
     requires top { top < 16 }
     requires magnitude { unsigned_abs n ≤ 1023 }
@@ -28,7 +29,8 @@ fn long_word(top: u8, n: i16) -> u16
     4096 * u16::from(top) + 1024 * sign_of(n) + n.unsigned_abs()
 }
 
-// The word of a short vector.
+// Returns the word of a short vector with these fields, which are in range: the scale `scale`, the
+// moves `dx` and `dy`, and the intensity `z`.
 fn short_word(scale: u8, dx: i8, dy: i8, z: u8) -> u16
     requires in_range { InRange (Instr.Svec scale dx dy z) }
     ensures { canon (Instr.Svec scale dx dy z) ≡ result ∷ [] }
@@ -44,7 +46,7 @@ fn short_word(scale: u8, dx: i8, dy: i8, z: u8) -> u16
         + u16::from(dx.unsigned_abs())
 }
 
-// One word.
+// Returns `word` alone.
 fn one_word(word: u16) -> Words
     ensures { result.items ≡ word ∷ [] }
 {
@@ -53,7 +55,7 @@ fn one_word(word: u16) -> Words
     words
 }
 
-// Two words.
+// Returns `first` and then `second`.
 fn two_words(first: u16, second: u16) -> Words
     ensures { result.items ≡ first ∷ second ∷ [] }
 {
@@ -63,7 +65,7 @@ fn two_words(first: u16, second: u16) -> Words
     words
 }
 
-/// The canonical words of an instruction: every ignored bit is 0, and so is the sign of a magnitude
+/// Returns the canonical words of `code`: every ignored bit is 0, and so is the sign of a magnitude
 /// of zero (this project's own choice).
 #[tactic(auto, using(crate::proofs::Reading::written_spells))]
 pub fn encode(code: &Code) -> Words
@@ -81,7 +83,7 @@ pub fn encode(code: &Code) -> Words
     }
 }
 
-/// Whether the words are what `encode` writes for some instruction.
+/// Returns whether `words` are what `encode` writes for some instruction.
 pub fn is_canonical(words: &[u16]) -> bool
     ensures { IsTrue result ↔ IsCanonical words.now }
 {

@@ -27,7 +27,7 @@ impl<'a> Listing<'a> {
     ghost use Rattle.std.specs.Iterator.Runs.{EachRunFrom};
     ghost use Rattle.dvg_code.specs.Listing.{IsListing, NextListed, place_of, words_left};
 
-    /// The instructions of these words.
+    /// Returns an iterator over the instructions of `words`, from place 0 on.
     pub fn new(words: &'a [u16]) -> Listing<'a>
         ensures words { words_left result ≡ words.entry.now }
         ensures place { place_of result ≡ 0 }

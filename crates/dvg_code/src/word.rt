@@ -4,7 +4,7 @@ ghost use Rattle.dvg_code.specs.Words.{word_in};
 
 use byteorder::{ByteOrder, LittleEndian};
 
-/// Word number `k` of the bytes, of which the low byte comes first.
+/// Returns word `k` of `bytes`: byte `2k` (low) and byte `2k + 1` (high), which must be there.
 pub fn word_at(bytes: &[u8], k: usize) -> u16
     requires { 2 * k + 1 < length bytes.now }
     ensures { result ≡ word_in bytes.now k }

@@ -33,7 +33,9 @@ impl Model for Cabinet {
 }
 
 impl Cabinet {
-    // A world over a ROM of these bytes, with this first image of its RAM. None for want of memory.
+    // Returns a world over a ROM of the bytes `rom`, whose RAM first holds the bytes `image`.
+    // Memory is taken from `alloc`. Returns `None` where an allocation fails, or `image` or `rom`
+    // has a wrong length.
     pub(crate) fn new(alloc: Global, image: &[u8], rom: &[u8]) -> Option<Cabinet>
         ensures { IfSome result (λ cabinet. WorldAfter rom.now image.now [] cabinet) }
     {
@@ -43,8 +45,9 @@ impl Cabinet {
         Some(Cabinet { world, image })
     }
 
-    // The world begins anew over a ROM of these bytes, with this first image. False for want of
-    // memory.
+    // Begins the world anew, over a ROM of the bytes `rom`. Its RAM first holds the bytes `image`,
+    // whose length must be 2,048. Memory is taken, from `alloc`, only for a ROM of another size.
+    // Returns `false` where an allocation fails, or `rom` has a wrong length.
     pub(crate) fn begin_anew(&mut self, alloc: Global, image: &[u8], rom: &[u8]) -> bool
         requires { length image.now ≡ 2048 }
         ensures { MatchBool result (WorldAfter rom.now image.now [] self.new) (Unit {0}) }
@@ -53,7 +56,7 @@ impl Cabinet {
         self.world.begin_anew(alloc, rom, &self.image).is_ok()
     }
 
-    // The driver of the world does one action.
+    // Lets the driver of the world do one action. Returns the reply.
     #[inline(always)]
     pub(crate) fn tick(&mut self) -> Reply
         ensures { (drawn : List Stroke) → Happens Tick self.old self.new drawn drawn result }
@@ -61,8 +64,8 @@ impl Cabinet {
         tick_world(&mut self.world)
     }
 
-    // The generator of the world fetches one byte. The strokes are those of the newest run that
-    // came to a HALT.
+    // Lets the generator of the world fetch one byte. Returns the reply. `picture` has the strokes
+    // of the newest run that came to a HALT.
     #[inline(always)]
     pub(crate) fn fetch(&mut self, picture: &mut Vec<Stroke>) -> Reply
         ensures { Happens Fetch self.old self.new picture.old.items picture.new.items result
@@ -71,8 +74,8 @@ impl Cabinet {
         fetch_in_world(&mut self.world, picture)
     }
 
-    // Asks the world, with this draft and these staged bytes. The strokes are those of the newest
-    // run that came to a HALT.
+    // Lets the world do `request`, with `draft` and the staged bytes `staged`. Returns the reply.
+    // `picture` has the strokes of the newest run that came to a HALT.
     #[inline(always)]
     pub(crate) fn ask(
         &mut self,

@@ -9,7 +9,8 @@ use dvg_frame::Draft;
 use dvg_log::Entry;
 use dvg_world::Desk;
 
-// A driver at its desk does one action.
+// Lets the driver of `desk` do one action. Returns the reply. `halted` is the HALT flag, and
+// `byte1` is byte 001 of the RAM.
 #[inline(always)]
 pub(crate) fn tick_driver(desk: &mut Desk, halted: bool, byte1: u8) -> Reply
     ensures rom { desk.new.rom ≡ desk.old.rom }
@@ -18,7 +19,7 @@ pub(crate) fn tick_driver(desk: &mut Desk, halted: bool, byte1: u8) -> Reply
     Reply::Came(Entry::Acted(desk.tick(halted, byte1)))
 }
 
-// Asks a driver at its desk, with this draft.
+// Lets the driver of `desk` do `request`, with `draft`. Returns the reply.
 #[inline(always)]
 pub(crate) fn ask_driver(desk: &mut Desk, request: Request, draft: &Draft) -> Reply
     ensures rom { desk.new.rom ≡ desk.old.rom }

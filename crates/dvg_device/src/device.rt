@@ -64,7 +64,7 @@ impl Model for Device {
 }
 
 impl Device {
-    /// A device in which nothing is open.
+    /// Returns a device in which nothing is open. It will take its memory from `alloc`.
     pub fn new(alloc: Global) -> Device
         ensures { result ≡ closed }
     {
@@ -79,8 +79,8 @@ impl Device {
         }
     }
 
-    /// One request, as a number of 64 bits, and its answer. `Request` says which requests there
-    /// are, and `Reply` which answers.
+    /// Does `request`, a number of 64 bits, and returns the number of the reply. `Request` says
+    /// which requests there are, and `Reply` which replies.
     pub fn turn(&mut self, request: u64) -> u64
         ensures turned { Turned self.old request self.new result }
     {
@@ -92,7 +92,7 @@ impl Device {
         }
     }
 
-    /// One request, and its answer.
+    /// Does `request`, and returns the reply.
     #[inline(always)]
     pub fn answer(&mut self, request: Request) -> Reply
         ensures answered { Answered request self.old self.new result }
@@ -114,7 +114,7 @@ impl Device {
         }
     }
 
-    // Adds an operation to the draft.
+    // Adds `operation` to the draft.
     fn push(&mut self, operation: Operation) -> Reply
         ensures { PushAnswers operation self.old self.new result }
     {
@@ -127,7 +127,7 @@ impl Device {
         }
     }
 
-    // Takes the operations of the draft away.
+    // Removes the operations of the draft.
     fn clear_draft(&mut self) -> Reply
         ensures { Answered Request.ClearDraft self.old self.new result }
     {
@@ -135,7 +135,7 @@ impl Device {
         Reply::Came(Entry::Cleared)
     }
 
-    // Stages a byte this many times.
+    // Stages `byte` `count` times.
     fn stage(&mut self, byte: u8, count: u16) -> Reply
         ensures { StageAnswers byte count self.old self.new result }
     {
@@ -149,7 +149,7 @@ impl Device {
         }
     }
 
-    // Takes the staged bytes away, with their memory.
+    // Removes the staged bytes, with their memory.
     fn unstage(&mut self) -> Reply
         ensures { Answered Request.Unstage self.old self.new result }
     {
@@ -157,21 +157,21 @@ impl Device {
         Reply::Came(Entry::Cleared)
     }
 
-    // The memory of a world that was open before, if there is some.
+    // Takes the memory of a world that was open before, if there is some.
     fn take_spare_world(&mut self) -> Option<Box<Cabinet>>
         ensures { self.new ≡ self.old }
     {
         self.spare_world.take()
     }
 
-    // The memory of a driver that was open before, if there is some.
+    // Takes the memory of a driver that was open before, if there is some.
     fn take_spare_desk(&mut self) -> Option<Box<Desk>>
         ensures { self.new ≡ self.old }
     {
         self.spare_desk.take()
     }
 
-    // Opens a world.
+    // Opens a world over the staged bytes.
     #[inline(never)]
     fn open_world(&mut self) -> Reply
         ensures { Answered Request.OpenWorld self.old self.new result }
@@ -186,7 +186,7 @@ impl Device {
         }
     }
 
-    // Opens a driver.
+    // Opens a driver over the staged bytes.
     #[inline(never)]
     fn open_driver(&mut self) -> Reply
         ensures { Answered Request.OpenDriver self.old self.new result }
@@ -208,7 +208,7 @@ impl Device {
         self.open(Part::Generator(Generator::new(self.alloc)))
     }
 
-    // Opens this, in which nothing was drawn yet. The memory of what was open stays, for the next
+    // Opens `part`, in which nothing was drawn yet. The memory of what was open stays, for the next
     // one of its kind.
     fn open(&mut self, part: Part) -> Reply
         ensures opened { result ≡ Reply.Opened }
@@ -220,7 +220,7 @@ impl Device {
         Reply::Opened
     }
 
-    // Keeps the memory of what was open.
+    // Keeps the memory of `before`, which was open.
     fn keep(&mut self, before: Part)
         ensures { self.new ≡ self.old }
     {
@@ -240,7 +240,7 @@ impl Device {
         Reply::Closed
     }
 
-    // A stroke of the newest run that came to a HALT.
+    // Returns stroke `i` of the newest run that came to a HALT, if there is one.
     fn stroke(&self, i: u64) -> Option<Stroke>
         ensures { result ≡ slice_get self.now.picture i }
     {
@@ -251,7 +251,7 @@ impl Device {
         }
     }
 
-    // Where a stroke begins.
+    // Returns where stroke `i` begins, or 0, 0 where there is none.
     fn stroke_from(&self, i: u64) -> Reply
         ensures { result ≡ begins (slice_get self.now.picture i) }
     {
@@ -261,7 +261,7 @@ impl Device {
         }
     }
 
-    // Where a stroke ends.
+    // Returns where stroke `i` ends, or 0, 0 where there is none.
     fn stroke_to(&self, i: u64) -> Reply
         ensures { result ≡ ends (slice_get self.now.picture i) }
     {
@@ -271,7 +271,7 @@ impl Device {
         }
     }
 
-    // A stroke's intensity.
+    // Returns the intensity of stroke `i`, or 0 where there is none.
     fn stroke_intensity(&self, i: u64) -> Reply
         ensures { result ≡ shines (slice_get self.now.picture i) }
     {
@@ -281,7 +281,8 @@ impl Device {
         }
     }
 
-    // What is open does a tick.
+    // Lets what is open do a tick. A driver alone reads `halted`, the HALT flag, and `byte1`, byte
+    // 001 of a RAM.
     #[inline(always)]
     fn tick(&mut self, halted: bool, byte1: u8) -> Reply
         ensures { PartAnswers self.old.open_part (Request.Tick halted byte1) self.old self.new
@@ -295,7 +296,7 @@ impl Device {
         }
     }
 
-    // What is open fetches a byte, or is handed this one, or a hole.
+    // Lets what is open fetch a byte. A generator alone is handed `byte`, where `None` is a hole.
     #[inline(always)]
     fn fetch(&mut self, byte: Option<u8>) -> Reply
         ensures { PartAnswers self.old.open_part (Request.Fetch byte) self.old self.new result }
@@ -308,7 +309,7 @@ impl Device {
         }
     }
 
-    // Asks what is open.
+    // Lets what is open do `request`.
     #[inline(always)]
     fn ask(&mut self, request: Request) -> Reply
         ensures { PartAnswers self.old.open_part request self.old self.new result }
@@ -325,7 +326,7 @@ impl Device {
     }
 }
 
-// What is answered where nothing is open.
+// Returns the reply to `request` where nothing is open.
 fn unopened(request: Request) -> Reply
     ensures { result ≡ unopened request }
 {
@@ -335,15 +336,16 @@ fn unopened(request: Request) -> Reply
     }
 }
 
-// Whether a number is one of two.
+// Returns whether `n` is `small` or `large`.
 fn is_one_of(n: usize, small: usize, large: usize) -> bool
     ensures { IsTrue result ↔ IsOneOf n small large }
 {
     n == small || n == large
 }
 
-// A world over the ROM of the bytes after the first 2,048, with those as the first image of its
-// RAM, in this memory where there is some. None for want of memory.
+// Returns a world whose RAM first holds the first 2,048 of `staged`, over a ROM of the others. It
+// lies in the memory of `spare` where there is some, otherwise in memory of `alloc`. Returns `None`
+// where an allocation fails, or `staged` has a wrong length.
 fn new_world(alloc: Global, staged: &[u8], spare: Option<Box<Cabinet>>) -> Option<Box<Cabinet>>
     ensures { IfSome result (λ world. WorldAfter (drop 2048 staged.now)
         (take 2048 staged.now) [] world.value) }
@@ -359,8 +361,9 @@ fn new_world(alloc: Global, staged: &[u8], spare: Option<Box<Cabinet>>) -> Optio
     }
 }
 
-// A driver alone over the ROM of these bytes, in this memory where there is some. None for want of
-// memory.
+// Returns a driver alone over a ROM of the bytes `rom`. It lies in the memory of `spare` where
+// there is some, otherwise in memory of `alloc`. Returns `None` where an allocation fails, or `rom`
+// has a wrong length.
 fn new_desk(alloc: Global, rom: &[u8], spare: Option<Box<Desk>>) -> Option<Box<Desk>>
     ensures { IfSome result (λ desk. IsNewDriver rom.now (Driver desk.value)) }
 {
@@ -370,7 +373,8 @@ fn new_desk(alloc: Global, rom: &[u8], spare: Option<Box<Desk>>) -> Option<Box<D
     }
 }
 
-// The same in the memory of this one.
+// Like `new_desk`, in the memory of `desk`. A ROM of the bytes `rom` takes memory from `alloc` only
+// where it has another size.
 fn renewed_desk(alloc: Global, rom: &[u8], mut desk: Box<Desk>) -> Option<Box<Desk>>
     ensures { IfSome result (λ desk. IsNewDriver rom.now (Driver desk.value)) }
 {
@@ -380,7 +384,7 @@ fn renewed_desk(alloc: Global, rom: &[u8], mut desk: Box<Desk>) -> Option<Box<De
     }
 }
 
-// The same in new memory.
+// Like `new_desk`, in new memory of `alloc`, over a ROM of the bytes `rom`.
 fn boxed_desk(alloc: Global, rom: &[u8]) -> Option<Box<Desk>>
     ensures { IfSome result (λ desk. IsNewDriver rom.now (Driver desk.value)) }
 {

@@ -12,8 +12,9 @@ use dvg_log::Entry;
 use dvg_mem::{Flat, Image, MEMORY_BYTES};
 use dvg_world::World;
 
-// Asks a world, with this draft and these staged bytes. The strokes are those of the newest run
-// that came to a HALT. The image is the room for that of a reset of the whole system.
+// Lets `world` do `request`, with `draft` and the staged bytes `staged`. Returns the reply.
+// `picture` has the strokes of the newest run that came to a HALT. `image` is the room for that of
+// a reset of the whole system.
 #[inline(always)]
 pub(crate) fn ask_world(
     world: &mut World<Flat>,
@@ -39,7 +40,7 @@ pub(crate) fn ask_world(
     }
 }
 
-// The driver of a world does one action.
+// Lets the driver of `world` do one action. Returns the reply.
 #[inline(always)]
 pub(crate) fn tick_world(world: &mut World<Flat>) -> Reply
     ensures { (drawn : List Stroke) → Happens Tick world.old world.new drawn drawn result }
@@ -47,8 +48,8 @@ pub(crate) fn tick_world(world: &mut World<Flat>) -> Reply
     Reply::Came(Entry::Acted(world.act()))
 }
 
-// The generator of a world fetches one byte. The strokes are those of the newest run that came to a
-// HALT.
+// Lets the generator of `world` fetch one byte. Returns the reply. `picture` has the strokes of the
+// newest run that came to a HALT.
 #[inline(always)]
 pub(crate) fn fetch_in_world(world: &mut World<Flat>, picture: &mut Vec<Stroke>) -> Reply
     ensures { Happens Fetch world.old world.new picture.old.items picture.new.items result
@@ -60,7 +61,8 @@ pub(crate) fn fetch_in_world(world: &mut World<Flat>, picture: &mut Vec<Stroke>)
     }
 }
 
-// Resets the whole system, where the staged bytes are those of an image.
+// Resets the whole system of `world`, where the bytes `staged` are those of an image, which is made
+// in `image`. Returns the reply. `picture` has the strokes of the newest run that came to a HALT.
 fn reset_all(
     world: &mut World<Flat>,
     image: &mut Image,

@@ -1,15 +1,15 @@
 //! Both ends of the vector RAM, and each end alone, asked by plain numbers: for callers whose code
 //! isn't proved, in other languages too.
 //!
-//! A `Device` is asked by a number of 64 bits, and answers one (`turn`). Nothing is required of a
-//! caller: each number is a request, in each order, and each has an answer. What opens in a device
-//! is one of three:
+//! A `Device` is asked by a number of 64 bits, and returns one (`turn`). Nothing is required of a
+//! caller: each number is a request, in each order, and each has a reply. What opens in a device is
+//! one of three:
 //!
 //! - a *world*: both ends, over a RAM and a ROM that it holds;
-//! - a *driver* alone: it is handed the HALT flag and byte 001 of a RAM, and answers what is to be
+//! - a *driver* alone: it is handed the HALT flag and byte 001 of a RAM, and returns what is to be
 //!   written there;
-//! - a *generator* alone: it says which byte it wants, is handed that byte, and answers the strokes
-//!   of a whole run.
+//! - a *generator* alone: it says which byte it takes next, is handed that byte, and returns the
+//!   strokes of a whole run.
 //!
 //! `Request` and `Reply` say the same by types, with the numbers of each; a caller in Rattle asks
 //! by `answer`. That requests and replies are numbers, and which, is this project's own choice.

@@ -10,7 +10,8 @@ use dvg_gen::{Generator, Stroke};
 use dvg_log::Entry;
 use std::alloc::Global;
 
-// Asks a generator. The strokes are those of the newest run that came to a HALT.
+// Lets `generator` do `request`. Returns the reply. `picture` has the strokes of the newest run
+// that came to a HALT.
 #[inline(always)]
 pub(crate) fn ask_generator(
     generator: &mut Generator<Global>,
@@ -35,7 +36,7 @@ pub(crate) fn ask_generator(
     }
 }
 
-// Which byte it wants.
+// Returns the reply that says which byte `generator` takes next.
 fn wanted(generator: &Generator<Global>) -> Reply
     ensures { OfHistories generator.now (λ history low run. result ≡ wanting (wants run) low) }
 {
@@ -45,7 +46,8 @@ fn wanted(generator: &Generator<Global>) -> Reply
     }
 }
 
-// Hands it a byte, or a hole.
+// Hands `byte` to `generator`, where `None` is a hole. Returns the reply. The strokes of a finished
+// run replace those in `picture`.
 #[inline(always)]
 pub(crate) fn fetch(
     generator: &mut Generator<Global>,

@@ -33,8 +33,8 @@ pub struct Operation {
 }
 
 impl Operation {
-    /// The operation. None exactly where the kind is over 8, or a field that counts is out of its
-    /// range.
+    /// Returns the operation, or `None` exactly where the kind is over 8, or a field that counts is
+    /// out of its range.
     pub fn op(self) -> Option<Op>
         ensures { MatchOption result ((op : OpKind) → ¬ Names self op) (Names self) }
     {
@@ -52,7 +52,7 @@ impl Operation {
         }
     }
 
-    // The fields as those of a VCTR.
+    // Returns the fields as those of a VCTR.
     fn vctr(self) -> Instr
         ensures { result ≡ vctr_of self }
     {
@@ -64,7 +64,7 @@ impl Operation {
         }
     }
 
-    // The fields as those of a LABS.
+    // Returns the fields as those of a LABS.
     fn labs(self) -> Instr
         ensures { result ≡ labs_of self }
     {
@@ -75,7 +75,7 @@ impl Operation {
         }
     }
 
-    // An SVEC of the fields, where they are in range.
+    // Returns an SVEC of the fields, where they are in range.
     fn svec(self) -> Option<Op>
         ensures { MatchOption result (¬ IsOp (Draw (svec_of self)))
             (λ op. (op ≡ Draw (svec_of self)) × IsOp op) }
@@ -95,7 +95,7 @@ impl Operation {
     }
 }
 
-// The operation that draws by an instruction, where a draft may hold it.
+// Returns the operation that executes `instr`, where a draft may hold it.
 fn drawing(instr: Instr) -> Option<Op>
     ensures { MatchOption result (¬ IsOp (Draw instr)) (λ op. (op ≡ Draw instr) × IsOp op) }
 {

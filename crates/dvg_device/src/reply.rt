@@ -1,4 +1,4 @@
-//! What a device answers.
+//! What a device replies.
 ghost use Rattle.std.specs.Prelude.{◌≡◌};
 ghost use Rattle.dvg_log.specs.Entries.{shown_of};
 ghost use Rattle.dvg_device.specs.Replies.{acted, came, number_of, packed, picture_by, placed};
@@ -9,8 +9,8 @@ use dvg_frame::{FrameFault, Place};
 use dvg_gen::Stroke;
 use dvg_log::Entry;
 
-/// What a device answers. As a number, its lowest byte is the kind, which stands first here, an
-/// address stands in bits 8 to 23, and a value from bit 24 on; but an answer to a question about
+/// What a device replies. As a number, its lowest byte is the kind, which stands first here, an
+/// address stands in bits 8 to 23, and a value from bit 24 on; but the reply to a question about
 /// strokes is what was asked for, and nothing else.
 #[derive(Clone, Copy, Debug, PartialEq, Eq)]
 pub enum Reply {
@@ -51,8 +51,8 @@ pub enum Reply {
     WrongSize,
     /// 24: nothing is open, or not any more.
     Closed,
-    /// 25: a generator wants a byte of the word at this address, the high one (1) or the low one
-    /// (0).
+    /// 25: a generator takes a byte of the word at this address next, the high one (1) or the low
+    /// one (0).
     Wants(u16, bool),
     /// This many strokes.
     Count(u64),
@@ -68,7 +68,7 @@ pub enum Reply {
 }
 
 impl Reply {
-    /// The number of a reply.
+    /// Returns the number of the reply.
     #[inline(always)]
     pub fn number(self) -> u64
         ensures { result ≡ number_of self }
@@ -93,7 +93,7 @@ impl Reply {
     }
 }
 
-// The number of what came of a request.
+// Returns the number of `entry`, what came of a request.
 #[inline(always)]
 fn came(entry: Entry<()>) -> u64
     ensures { result ≡ came entry }
@@ -116,7 +116,7 @@ fn came(entry: Entry<()>) -> u64
     }
 }
 
-// The number of a kind, an address and a value.
+// Returns the number of `kind`, `address` and `value`.
 #[inline(always)]
 fn packed(kind: u8, address: u16, value: u16) -> u64
     ensures { result ≡ packed kind address value }
@@ -124,7 +124,8 @@ fn packed(kind: u8, address: u16, value: u16) -> u64
     u64::from(kind) + 0x100 * u64::from(address) + 0x100_0000 * u64::from(value)
 }
 
-// The number of a fault at the place that it names, if it names one.
+// Returns the number of a refusal with the fault number `fault`, at `place`, if the fault names
+// one.
 fn placed(fault: u8, place: Option<Place>) -> u64
     ensures { result ≡ placed fault place }
 {
@@ -135,14 +136,14 @@ fn placed(fault: u8, place: Option<Place>) -> u64
     }
 }
 
-// The number of a refusal.
+// Returns the number of a refusal with `fault`.
 fn refusal(fault: FrameFault) -> u64
     ensures { result ≡ refusal fault }
 {
     placed(fault.number(), fault.place())
 }
 
-// The number of an action.
+// Returns the number of `action`.
 #[inline(always)]
 fn acted(action: Action) -> u64
     ensures { result ≡ acted action }
@@ -157,8 +158,8 @@ fn acted(action: Action) -> u64
     }
 }
 
-// The reply to an event, by its entry. The strokes of a run that came to a HALT take the place of
-// those before them.
+// Returns the reply to an event whose entry is `entry`. The strokes of a run that came to a HALT
+// replace those in `picture`.
 #[inline(always)]
 pub(crate) fn answered(entry: Entry, picture: &mut Vec<Stroke>) -> Reply
     ensures answered { result ≡ answered_by (shown_of entry) }

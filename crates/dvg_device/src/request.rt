@@ -1,12 +1,12 @@
-//! What a device can be asked for.
+//! What a device is asked for.
 ghost use Rattle.std.specs.Prelude.{◌≡◌};
 ghost use Rattle.dvg_device.specs.Requests.{operation_of, request_of};
 
 use crate::operation::Operation;
 
-/// What a device can be asked for. As a number, its lowest byte is the code, which stands first
-/// here, and what it brings stands above: a flag in bit 8, a byte in bits 16 to 23, a count in bits
-/// 24 to 39, and the number of a stroke from bit 8 on. Bits that mean nothing may have any value.
+/// What a device is asked for. As a number, its lowest byte is the code, which stands first here,
+/// and what it brings stands above: a flag in bit 8, a byte in bits 16 to 23, a count in bits 24 to
+/// 39, and the number of a stroke from bit 8 on. Bits that mean nothing may have any value.
 #[derive(Clone, Copy, Debug, PartialEq, Eq)]
 pub enum Request {
     /// 0: the driver is handed the draft.
@@ -25,7 +25,7 @@ pub enum Request {
     /// no effect unless the driver has sent one.
     Strobe,
     /// 4: the generator fetches a byte: the low byte of a word, and then its high byte. A generator
-    /// alone is handed this one, or None, by the flag, where no memory answers; a world reads its
+    /// alone is handed this one, or `None`, by the flag, where no memory answers; a world reads its
     /// own.
     Fetch(Option<u8>),
     /// 5: a reset of the generator alone.
@@ -60,7 +60,7 @@ pub enum Request {
     /// 15: what is open ends, and its memory is given back, with that of the staged bytes and of
     /// the strokes. The draft is empty again.
     Close,
-    /// 16: which byte does a generator alone want?
+    /// 16: which byte does a generator alone take next?
     Wants,
     /// 17: how many strokes did the newest run draw that came to a HALT?
     CountStrokes,
@@ -75,7 +75,7 @@ pub enum Request {
 }
 
 impl Request {
-    /// The request that a number is.
+    /// Returns the request that `number` is.
     #[inline(always)]
     pub fn of(number: u64) -> Request
         ensures { result ≡ request_of number }
@@ -115,7 +115,7 @@ impl Request {
     }
 }
 
-// The operation in a number.
+// Returns the operation in `number`.
 fn operation(number: u64) -> Operation
     ensures { result ≡ operation_of number }
 {

@@ -17,7 +17,7 @@ use dvg_svg::{Show, write_svgs};
 use std::alloc::Allocator;
 use std::io::{Read, Write};
 
-// Draws a sketch that was read.
+// Draws `sketch`, which was read. Returns `Memory` where an allocation fails.
 fn draw_read<A: Allocator + Copy>(alloc: A, sketch: &Sketch<'_, A>) -> Result<Drawn<A>, ToolFault>
     requires inside { AreInside sketch.now }
     requires read { (text : List ℕ) × IsReadOf text sketch.now }
@@ -40,7 +40,7 @@ fn draw_read<A: Allocator + Copy>(alloc: A, sketch: &Sketch<'_, A>) -> Result<Dr
     }
 }
 
-// The engine: it finds what comes of drawing the sketch of a text.
+// The engine that finds what comes of drawing the sketch of a text.
 #[derive(Drop)]
 struct DrawEngine {
     show: Show,
@@ -81,16 +81,16 @@ impl<A: Allocator + Copy> Engine<A> for DrawEngine {
     }
 }
 
-/// Reads a sketch as text, which is a draft with names, of one or more frames and with operations
-/// of the ROM, and writes the pictures of its frames as one SVG, in which they are shown in turn.
-/// It answers the pictures, or why a frame is refused; of a refused one nothing is written (the
-/// formats are this project's own choice).
+/// Reads a sketch as text from `reader`: a draft with names, of one or more frames and with
+/// operations of the ROM. Writes the pictures of its frames to `writer` as one SVG, in which they
+/// are shown in turn, in the size and at the rate of `show`. Returns the pictures, or why a frame
+/// is refused; of a refused one nothing is written (the formats are this project's own choice).
 ///
 /// - A fault of the text: that of the first line at fault. `TooLong`, the text has more than
 ///   1,048,576 bytes, of which no more than 1,048,577 are taken, comes before all others, and
 ///   `UnknownName` after them.
 /// - `Reader`, `Writer`: that stream failed. After `Writer` a beginning of the text went out.
-/// - `Memory`: a growth was refused.
+/// - `Memory`: an allocation failed.
 ///
 /// Where it stops before it writes, which is at any fault but `Writer`, the writer is as it was.
 #[inline(never)]

@@ -13,8 +13,8 @@ use dvg_mem::{Half, Rom};
 use dvg_theorem::laws::undisturbed;
 use std::alloc::Allocator;
 
-/// The strokes of a frame's picture, by a run of the generator over a memory that has the frame. A
-/// growth may be refused.
+/// Returns the strokes of the picture of `frame`, by a run of the generator over a memory of the
+/// frame and `rom`. Returns `OutOfMemory` where an allocation fails.
 pub(crate) fn picture_of<A: Allocator + Copy>(
     alloc: A,
     rom: Rom<A>,

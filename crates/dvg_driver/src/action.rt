@@ -4,7 +4,7 @@
 /// write or sends the strobe afterwards.
 #[derive(Clone, Copy, Debug, PartialEq, Eq)]
 pub enum Action {
-    /// It looked at byte 001 of the RAM, which tells the current half.
+    /// It looked at byte 001 of the RAM, which names the current half.
     Peek,
     /// It writes this byte at this byte address of the RAM, 000 to 7FF.
     Wrote(u16, u8),

@@ -63,7 +63,7 @@ impl Model for Driver {
 }
 
 impl Driver {
-    /// A driver that was just reset.
+    /// Returns a driver that was just reset.
     pub fn new() -> Driver
         ensures { (peeked : ℕ) → StandsAfter result peeked [] }
     {
@@ -75,7 +75,7 @@ impl Driver {
         }
     }
 
-    /// Forgets everything, also a frame that is being written.
+    /// Resets the driver: it forgets everything, even a frame that is being written.
     pub fn reset(&mut self)
         ensures { (peeked : ℕ) → StandsAfter self.new peeked [] }
     {
@@ -84,7 +84,7 @@ impl Driver {
         self.flipped = false;
     }
 
-    /// Whether it is idle, and so would take a frame.
+    /// Returns whether the driver is idle, and so would take a frame.
     pub fn is_idle(&self) -> bool
         ensures { (peeked : ℕ) (life : List Item) → StandsAfter self.now peeked life
             → (IsTrue result ↔ IsWhole life) }
@@ -95,9 +95,8 @@ impl Driver {
         }
     }
 
-    /// Takes a frame, which the next ticks write into the free half and publish. It is refused
-    /// exactly where the driver isn't idle; the frame is dropped then, and nothing else has
-    /// changed.
+    /// Takes `frame`, which the next ticks write into the free half and publish. Returns `Busy`
+    /// exactly where the driver isn't idle; `frame` is dropped then, and nothing else has changed.
     pub fn offer(&mut self, frame: Frame) -> Result<(), DriverFault>
         ensures accepted { (peeked : ℕ) (life : List Item) → StandsAfter self.old peeked life
             → (IsOk result ↔ IsWhole life) }
@@ -117,8 +116,9 @@ impl Driver {
         }
     }
 
-    /// Takes a checked draft, as `offer` takes its frame. The draft is copied only where it is
-    /// taken, into the memory that the driver has.
+    /// Takes `checked`, as `offer` takes its frame. The draft is copied only where it is taken,
+    /// into the memory that the driver has. Returns `Busy` exactly where the driver isn't idle, and
+    /// then nothing has changed.
     pub fn offer_checked(&mut self, checked: &Checked) -> Result<(), DriverFault>
         ensures accepted { (peeked : ℕ) (life : List Item) → StandsAfter self.old peeked life
             → (IsOk result ↔ IsWhole life) }
@@ -138,9 +138,9 @@ impl Driver {
         }
     }
 
-    /// Asks for the published frame once more. It is refused as `NothingPublished` exactly where
-    /// the driver hasn't flipped since its reset, and else as `Busy` exactly where it isn't idle.
-    /// Nothing has changed then.
+    /// Asks for the published frame once more. Returns `NothingPublished` exactly where the driver
+    /// hasn't flipped since its reset, otherwise `Busy` exactly where it isn't idle. After an error
+    /// nothing has changed.
     pub fn redraw(&mut self) -> Result<(), DriverFault>
         ensures accepted { (peeked : ℕ) (life : List Item) → StandsAfter self.old peeked life →
             (IsOk result ↔ ((has_flip life ≡ true) × IsWhole life)) }
@@ -162,9 +162,9 @@ impl Driver {
         }
     }
 
-    /// Does the next action of the script. `halted` is the HALT flag, and `byte1` is byte 001 of
-    /// the RAM; what isn't read has no effect. The caller does the write of a `Wrote`, and sends
-    /// the strobe of a `Sent`.
+    /// Does the next action of the script, and returns it. `halted` is the HALT flag, and `byte1`
+    /// is byte 001 of the RAM; what isn't read has no effect. The caller does the write of a
+    /// `Wrote`, and sends the strobe of a `Sent`.
     #[inline(always)]
     pub fn tick(&mut self, halted: bool, byte1: u8) -> Action
         ensures stands { (peeked : ℕ) (life : List Item) → StandsAfter self.old peeked life →
@@ -178,7 +178,7 @@ impl Driver {
         self.act(halted, byte1)
     }
 
-    // Does the next action.
+    // Does the next action, and returns it. `halted` and `byte1` are those of `tick`.
     #[inline(always)]
     fn act(&mut self, halted: bool, byte1: u8) -> Action
         ensures stands { (peeked : ℕ) (life : List Item) → StandsAfter self.old peeked life →
@@ -236,7 +236,7 @@ impl Driver {
     }
 }
 
-// Begins a cursor over the bytes of a checked draft's frame.
+// Makes `cursor` begin with the bytes of the frame of `checked`, laid out for `half`.
 fn begin(cursor: &mut Option<Cursor>, checked: &Checked, half: Half)
     ensures items { items_of cursor.new
         ≡ addressed (2 * base half) (bytes (laid half checked.now.operations)) }
@@ -248,7 +248,7 @@ fn begin(cursor: &mut Option<Cursor>, checked: &Checked, half: Half)
     }
 }
 
-// The next byte, if one is still to come, with its address.
+// Returns the next byte of `cursor`, with its address before it, if one is still to come.
 #[inline(always)]
 fn next_of(cursor: &mut Option<Cursor>) -> Option<(u16, u8)>
     ensures given { IfSome result (λ item. items_of cursor.old ≡ item ∷ items_of cursor.new) }

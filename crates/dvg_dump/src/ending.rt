@@ -10,7 +10,7 @@ use std::alloc::{Allocator, Global};
 pub enum Ending<A: Allocator = Global> {
     /// A HALT ended it.
     Finished {
-        /// How many words were fetched, HALT and word zero included: 1 to 65,536.
+        /// The number of words that were fetched, HALT and word zero included: 1 to 65,536.
         words: u32,
         /// The strokes, in the order drawn.
         strokes: Vec<Stroke, A>,
@@ -26,7 +26,7 @@ pub enum Ending<A: Allocator = Global> {
     Endless,
 }
 
-/// What a run's end is called.
+/// How a run ends, by name alone.
 #[derive(Clone, Copy, Debug, PartialEq, Eq)]
 pub enum Outcome {
     /// A HALT ended it: there is a picture.
@@ -38,7 +38,7 @@ pub enum Outcome {
 }
 
 impl<A: Allocator> Ending<A> {
-    /// What the end is called.
+    /// Returns how the run ends, by name alone.
     pub fn outcome(&self) -> Outcome
         ensures { result ≡ outcome_of (end_of self.now) }
     {

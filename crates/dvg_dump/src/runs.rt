@@ -33,7 +33,8 @@ pub struct Traced<A: Allocator = Global> {
     pub ending: Ending<A>,
 }
 
-// The generator takes a word, its low byte first, or a hole.
+// Hands `word` to `generator`, its low byte first, where `None` is a hole. Returns what it led to,
+// or `OutOfMemory` where an allocation fails.
 fn take_word<A: Allocator + Copy>(
     generator: &mut Generator<A>,
     word: Option<u16>,
@@ -54,10 +55,10 @@ fn take_word<A: Allocator + Copy>(
 }
 
 impl<A: Allocator + Copy> Dump<A> {
-    /// The run of a new generator over this memory, and how it ends.
+    /// Runs a new generator over this memory, and returns how the run ends.
     ///
-    /// An error is want of memory, of which the strokes take some, one by one. A run that draws
-    /// none is never refused.
+    /// Returns `OutOfMemory` where an allocation fails. The strokes take memory, one by one; a run
+    /// that draws none never fails.
     pub fn run(&self) -> Result<Ending<A>, OutOfMemory>
         ensures ends { IfOk result (λ ending. (visits : List Visit)
             × Ends (memory_of self.now) visits (end_of ending)) }
@@ -66,7 +67,7 @@ impl<A: Allocator + Copy> Dump<A> {
         Ok(self.run_telling(false)?.ending)
     }
 
-    /// The same run, with the instructions that were run. These take memory, too.
+    /// Runs as `run` does. Returns also the instructions that were run, which take memory, too.
     pub fn run_traced(&self) -> Result<Traced<A>, OutOfMemory>
         ensures { IfOk result (λ traced. TellsRun true (memory_of self.now) traced.ran.items
             (end_of traced.ending)) }
@@ -74,8 +75,8 @@ impl<A: Allocator + Copy> Dump<A> {
         self.run_telling(true)
     }
 
-    /// The same run, with the instructions that were run where that is asked for, and else with
-    /// none.
+    /// Runs as `run` does. Where `traces` is true, returns also the instructions that were run,
+    /// otherwise none.
     pub fn run_telling(&self, traces: bool) -> Result<Traced<A>, OutOfMemory>
         ensures tells { IfOk result (λ traced. TellsRun traces (memory_of self.now) traced.ran.items
             (end_of traced.ending)) }
@@ -89,7 +90,7 @@ impl<A: Allocator + Copy> Dump<A> {
         })
     }
 
-    // How the run ends, of which the tracer is told.
+    // Runs to the end, reports each word to `tracer`, and returns how the run ended.
     fn run_beside(&self, tracer: &mut Tracer<A>) -> Result<Ending<A>, OutOfMemory>
         requires { tracer.old ≡ fresh tracer.old.traces }
         ensures tells { IfOk result (λ ending. TellsRun tracer.old.traces
@@ -117,7 +118,7 @@ impl<A: Allocator + Copy> Dump<A> {
         Ok(Ending::Endless)
     }
 
-    // The generator takes the word at an address, and the tracer is told of it.
+    // Lets `generator` take the word at `address`, and reports it to `tracer`.
     fn step(
         &self,
         address: u16,

@@ -1,4 +1,4 @@
-//! What follows a generator from word to word and tells its instructions.
+//! What follows a generator from word to word and records its instructions.
 ghost use Rattle.std.specs.Prelude.{◌≡◌, IfOk, IsOk, None, Some, false, length, nat_eq, true};
 ghost use Rattle.std.specs.Cmp.Lexicographic.{pointwise};
 ghost use Rattle.dvg_code.specs.Cutting.{Fronts, IsCut};
@@ -18,7 +18,7 @@ use std::marker::Model;
 #[derive(Drop)]
 pub(crate) struct Tracer<A: Allocator> {
     traces: bool,
-    /// The first word of an instruction that wants a second one.
+    /// The first word of an instruction that needs a second one.
     held: Option<u16>,
     /// The address where the newest instruction began.
     address: u16,
@@ -48,7 +48,7 @@ struct Spelled {
     canonical: bool,
 }
 
-// What words spell; None where they are one that wants a second one.
+// Returns what `words` spell, or `None` where they are one that needs a second one.
 #[inline(always)]
 fn read(words: &[u16]) -> Option<Spelled>
     ensures found { (code : Instr) → Fronts words.now code (length words.now)
@@ -67,7 +67,8 @@ fn read(words: &[u16]) -> Option<Spelled>
     }
 }
 
-// What a word completes, after the first word that is held; None where it wants a second one.
+// Returns what `word` completes, after `held`, the first word, if there is one. Returns `None`
+// where `word` needs a second one.
 #[inline(always)]
 fn completed(held: Option<u16>, word: u16) -> Option<Spelled>
     ensures found { (code : Instr) → Completes held word code
@@ -84,7 +85,8 @@ fn completed(held: Option<u16>, word: u16) -> Option<Spelled>
 }
 
 impl<A: Allocator> Tracer<A> {
-    /// A tracer of a run that begins.
+    /// Returns a tracer of a run that begins. Where `traces` is true, it keeps the instructions, in
+    /// memory of `alloc`.
     pub(crate) fn new(alloc: A, traces: bool) -> Tracer<A>
         ensures { result ≡ fresh traces }
     {
@@ -97,14 +99,15 @@ impl<A: Allocator> Tracer<A> {
         }
     }
 
-    /// What was recorded.
+    /// Returns what was recorded.
     pub(crate) fn into_ran(self) -> Vec<Ran, A>
         ensures { result.items ≡ self.ran }
     {
         self.ran
     }
 
-    /// The run fetched a word at an address, or met a hole there.
+    /// Notes that the run fetched `word` at `address`, or met a hole there. Returns `OutOfMemory`
+    /// where an allocation fails.
     pub(crate) fn take(&mut self, address: u16, word: Option<u16>) -> Result<(), OutOfMemory>
         ensures traces { IfOk result (λ _. TracesWord address word self.old self.new) }
         ensures room { self.old.traces ≡ false → IsOk result }
@@ -118,7 +121,7 @@ impl<A: Allocator> Tracer<A> {
         self.take_word(address, word)
     }
 
-    // The run fetched a word at an address.
+    // Notes that the run fetched `word` at `address`.
     #[inline(always)]
     fn take_word(&mut self, address: u16, word: u16) -> Result<(), OutOfMemory>
         requires { self.old.traces ≡ true }
@@ -134,7 +137,7 @@ impl<A: Allocator> Tracer<A> {
         }
     }
 
-    // Where the instruction began to which a word at an address belongs.
+    // Returns where the instruction began to which the word at `address` belongs.
     fn began(&self, address: u16) -> u16
         ensures { result ≡ began self.now.held address self.now.address }
     {
@@ -144,7 +147,7 @@ impl<A: Allocator> Tracer<A> {
         }
     }
 
-    // The instruction that was read was run.
+    // Records the instruction `read`, which was run.
     #[inline(always)]
     fn tell(&mut self, read: Spelled) -> Result<(), OutOfMemory>
         ensures { IfOk result (λ _. self.new ≡ recorded self.old (ran_by self.old read)) }

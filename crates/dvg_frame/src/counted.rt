@@ -18,7 +18,7 @@ pub(crate) const COUNTS: usize = MAX_OPS + 1;
 #[derive(Drop)]
 pub(crate) struct Counted<'a> {
     draft: &'a Draft,
-    /// How many words the operations before each one have, and then how many all have.
+    /// For each operation the number of words before it, and then the number of all words.
     words_before: &'a [u16],
 }
 
@@ -32,7 +32,7 @@ impl<'a> Model for Counted<'a> {
 }
 
 impl<'a> Counted<'a> {
-    // A draft with its table.
+    // Returns `draft` with its table `words_before`.
     pub(crate) fn of(draft: &'a Draft, words_before: &'a [u16]) -> Counted<'a>
         requires { IsCounted draft.now words_before.now }
         ensures { result ≡ draft.now }
@@ -43,7 +43,7 @@ impl<'a> Counted<'a> {
         }
     }
 
-    // How many operations there are.
+    // Returns the number of operations.
     pub(crate) fn len(&self) -> usize
         ensures value { result ≡ length self.now }
         ensures draft { IsDraft self.now }
@@ -51,7 +51,7 @@ impl<'a> Counted<'a> {
         self.draft.len()
     }
 
-    // The operation of this number.
+    // Returns operation `i`, which must be there.
     pub(crate) fn op(&self, i: usize) -> Op
         requires { i < length self.now }
         ensures { slice_get self.now i ≡ Some result }
@@ -59,7 +59,7 @@ impl<'a> Counted<'a> {
         self.draft.op(i)
     }
 
-    // How many words the operations before this number have.
+    // Returns the number of words that the operations before number `i` have.
     pub(crate) fn words_before(&self, i: usize) -> u16
         requires { i < length self.now }
         ensures value { result ≡ size (take i self.now) }
@@ -70,7 +70,8 @@ impl<'a> Counted<'a> {
     }
 }
 
-// How many words stand before each operation, and how many there are in all.
+// Returns for each operation of `draft` the number of words before it, and then the number of all
+// words.
 pub(crate) fn words_before_each(draft: &Draft) -> ArrayVec<u16, COUNTS>
     ensures { IsCounted draft.now result.items }
 {

@@ -16,18 +16,19 @@ use std::marker::Model;
 #[derive(Drop)]
 pub struct Cursor {
     frame: Frame,
-    /// How many words stand before each operation of the frame, and how many there are in all.
+    /// For each operation of the frame the number of words before it, and then the number of all
+    /// words.
     words_before: ArrayVec<u16, COUNTS>,
     half: Half,
     /// The words at hand: those of the operation before number `op`.
     words: Words,
-    /// How many bytes of the words at hand were given.
+    /// The number of bytes of the words at hand that were given.
     given: u16,
     /// The number of the operation that comes after the words at hand.
     op: u16,
     /// The address of the next byte.
     address: u16,
-    /// How many bytes are still to come.
+    /// The number of bytes that are still to come.
     left: u16,
 }
 
@@ -50,7 +51,7 @@ impl Cursor {
     ghost use Rattle.dvg_frame.specs.Bytes.{IsBehindWordZero, addressed, bytes};
     ghost use Rattle.dvg_frame.specs.Layout.{laid};
 
-    /// A cursor over the bytes of the frame, laid out for this half.
+    /// Returns a cursor over the bytes of `frame`, laid out for `half`.
     pub fn new(frame: Frame, half: Half) -> Cursor
         ensures items { result ≡ addressed (2 * base half) (bytes (laid half frame.operations)) }
         ensures in_ram { All IsBehindWordZero result }
@@ -69,7 +70,7 @@ impl Cursor {
         }
     }
 
-    /// Begins anew, with the bytes of a checked draft's frame, laid out for this half. The draft is
+    /// Begins anew, with the bytes of the frame of `checked`, laid out for `half`. The draft is
     /// copied into the memory that the cursor has: the time is linear in its operations, and in
     /// those of the frame that the cursor kept.
     pub fn restart(&mut self, checked: &Checked, half: Half)
@@ -87,7 +88,7 @@ impl Cursor {
         self.left = 2 * self.frame.len_words();
     }
 
-    /// How many items are still to come.
+    /// Returns the number of items that are still to come.
     pub fn left(&self) -> u16
         ensures { result ≡ length self.now }
     {

@@ -41,7 +41,7 @@ pub enum FrameFault {
 }
 
 impl FrameFault {
-    /// The number of the fault in texts and answers: 1 to 9 (this project's own choice).
+    /// Returns the number of the fault in texts and replies: 1 to 9 (this project's own choice).
     pub fn number(self) -> u8
         ensures { result ≡ number_of self }
     {
@@ -58,7 +58,7 @@ impl FrameFault {
         }
     }
 
-    /// The place that the fault names, if it names one.
+    /// Returns the place that the fault names, if it names one.
     pub fn place(self) -> Option<Place>
         ensures { result ≡ place_of self }
     {

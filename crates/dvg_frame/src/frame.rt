@@ -43,7 +43,7 @@ impl Model for Frame {
 }
 
 impl Frame {
-    // The frame of a checked draft, which is copied.
+    // Returns the frame of `checked`, whose draft is copied.
     pub(crate) fn of(checked: &Checked) -> Frame
         ensures { result ≡ checked.now }
     {
@@ -56,7 +56,7 @@ impl Frame {
         }
     }
 
-    // Becomes the frame of a checked draft, in the memory that it has.
+    // Becomes the frame of `checked`, in the memory that it has.
     pub(crate) fn copy_from(&mut self, checked: &Checked)
         ensures { self.new ≡ checked.now }
     {
@@ -65,7 +65,7 @@ impl Frame {
         self.bound = checked.bound;
     }
 
-    /// How many words the frame has in a half, at most 511.
+    /// Returns the number of words that the frame has in a half, at most 511.
     pub fn len_words(&self) -> u16
         ensures value { result ≡ layout.size self.now.operations }
         ensures laid { (half : Half) → length (layout.laid half self.now.operations) ≡ result }
@@ -76,9 +76,9 @@ impl Frame {
         self.words
     }
 
-    /// How many words the whole run of the frame fetches, from word zero to its HALT. This holds
-    /// for any run of it that nobody interrupts, over the ROM that it was checked with. It is below
-    /// 2^63.
+    /// Returns the number of words that the whole run of the frame fetches, from word zero to its
+    /// HALT. It is below 2^63. This holds for any run of the frame that nobody interrupts, over the
+    /// ROM that it was checked with.
     pub fn bound(&self) -> u64
         ensures value { result ≡ self.now.bound }
         ensures small { result < 2 ^ 63 }
@@ -86,9 +86,10 @@ impl Frame {
         self.bound
     }
 
-    /// Byte `k` of the frame's words in this half, the low byte of each word first. Byte 0 stands
-    /// at twice the word address of the half's first word. The time is linear in the operations; a
-    /// `Cursor` gives all bytes, each in constant time.
+    /// Returns byte `k` of the frame's words in `half`, the low byte of each word first. Byte 0
+    /// stands at twice the word address of the half's first word. `k` must be below twice the
+    /// number of words. The time is linear in the operations; a `Cursor` gives all bytes, each in
+    /// constant time.
     pub fn byte(&self, half: Half, k: u16) -> u8
         requires { k < 2 * layout.size self.now.operations }
         ensures { slice_get (bytes (layout.laid half self.now.operations)) k ≡ Some result }
@@ -98,15 +99,15 @@ impl Frame {
         byte_of(word_at(&counted, half, k / 2), k)
     }
 
-    // How many words stand before each of its operations, and how many there are in all.
+    // Returns for each operation the number of words before it, and then the number of all words.
     pub(crate) fn words_before_each(&self) -> ArrayVec<u16, COUNTS>
         ensures { IsCounted self.now.operations result.items }
     {
         words_before_each(&self.draft)
     }
 
-    // The words of the operation of this number, laid out for a half, by how many words stand
-    // before each.
+    // Returns the words of operation `i`, laid out for `half`. `words_before` has the number of
+    // words before each operation.
     pub(crate) fn spelling(&self, words_before: &[u16], half: Half, i: u16) -> Words
         requires counted { IsCounted self.now.operations words_before.now }
         requires within { i < length self.now.operations }
@@ -121,15 +122,15 @@ impl Frame {
     }
 }
 
-// The byte of this word that is byte `k` of a list of words: the low one where `k` is even, else
-// the high one.
+// Returns the byte of `word` that is byte `k` of a list of words: the low one where `k` is even,
+// otherwise the high one.
 pub(crate) fn byte_of(word: u16, k: u16) -> u8
     ensures { slice_get (bytes (word ∷ [])) (k % 2) ≡ Some result }
 {
     word.to_le_bytes()[usize::from(k % 2)]
 }
 
-// Word n of the draft's layout for a half.
+// Returns word `n` of the layout of `draft` for `half`.
 fn word_at(draft: &Counted, half: Half, n: u16) -> u16
     requires begins { Begins draft.now }
     requires within { n < layout.size draft.now }
@@ -146,7 +147,7 @@ fn word_at(draft: &Counted, half: Half, n: u16) -> u16
     unreachable!()
 }
 
-// The words of operation i, laid out for a half.
+// Returns the words of operation `i` of `draft`, laid out for `half`.
 fn spelling(draft: &Counted, half: Half, i: usize) -> Words
     requires begins { Begins draft.now }
     requires within { i < length draft.now }
@@ -155,7 +156,7 @@ fn spelling(draft: &Counted, half: Half, i: usize) -> Words
     encode(&code_of(draft, half, draft.op(i).kind()))
 }
 
-// The instruction of an operation.
+// Returns the instruction of the operation `kind` of `draft`, laid out for `half`.
 fn code_of(draft: &Counted, half: Half, kind: OpKind) -> Code
     requires op { IsOp kind }
     requires names { ¬ NamesNone (length draft.now) kind }
@@ -173,7 +174,7 @@ fn code_of(draft: &Counted, half: Half, kind: OpKind) -> Code
     }
 }
 
-// The word address of an operation.
+// Returns the word address of operation `j` of `draft`, laid out for `half`.
 fn address(draft: &Counted, half: Half, j: u16) -> u16
     requires { j < length draft.now }
     ensures value { result ≡ layout.at half draft.now j }

@@ -1,4 +1,4 @@
-//! Laws of the check's answer. Each is the contract of a function that does nothing else.
+//! Laws of the check's result. Each is the contract of a function that does nothing else.
 ghost use Rattle.dvg_frame.specs.Laws.{AcceptedStays, GrownStays, LoopsComeBack, OneAnswer};
 ghost use Rattle.dvg_frame.specs.Laws.{OneFault, OnePicture};
 
@@ -12,7 +12,7 @@ pub fn accepted_stays()
     ensures { AcceptedStays }
 {}
 
-/// Exactly one answer of the check holds of each draft over each ROM: a frame, or a fault.
+/// Each draft has exactly one result of the check over each ROM: a frame, or a fault.
 pub fn one_answer()
     ensures { OneAnswer }
 {}

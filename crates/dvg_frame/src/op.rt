@@ -55,8 +55,8 @@ impl Default for Op {
 }
 
 impl Op {
-    /// The operation. None exactly for a `Draw` of an instruction other than VCTR, SVEC or LABS,
-    /// and for a `CallRom` or `JumpRom` whose address is over FFF.
+    /// Returns `kind` as an operation. Returns `None` exactly for a `Draw` of an instruction other
+    /// than VCTR, SVEC or LABS, and for a `CallRom` or `JumpRom` whose address is over FFF.
     pub fn new(kind: OpKind) -> Option<Op>
         ensures made { IsSome result ↔ IsOp kind }
         ensures value { IfSome result (λ op. op ≡ kind) }
@@ -68,7 +68,7 @@ impl Op {
         }
     }
 
-    /// What it does.
+    /// Returns what the operation does.
     pub fn kind(&self) -> OpKind
         ensures value { result ≡ self.now }
         ensures valid { IsOp result }
@@ -77,7 +77,7 @@ impl Op {
     }
 }
 
-// Whether a draft may hold it.
+// Returns whether a draft may hold `kind`.
 fn is_op(kind: &OpKind) -> bool
     ensures { IsTrue result ↔ IsOp kind.now }
 {

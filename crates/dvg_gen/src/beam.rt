@@ -8,7 +8,7 @@ use crate::stroke::Stroke;
 use dvg_code::{Code, Instr};
 use std::marker::Model;
 
-// How many positions there are along x, and along y: 4,096 screen units of 512 each.
+// The number of positions along x, and along y: 4,096 screen units of 512 each.
 const CIRCLE: u32 = 2_097_152;
 
 /// Where the beam stands, in 1/512 of a screen unit, and the global scale.
@@ -39,8 +39,8 @@ impl Model for Beam {
 }
 
 impl Beam {
-    /// The beam that LABS leaves: at this position in screen units, 0 to 4095, with this global
-    /// scale, 0 to 15.
+    /// Returns the beam that LABS leaves: at `x` and `y` in screen units, 0 to 4095, with the
+    /// global scale `scale`, 0 to 15.
     pub fn place(x: u16, y: u16, scale: u8) -> Beam
         requires { InRange (Instr.Labs x y scale) }
         ensures { result ≡ spec.placed x y scale }
@@ -52,7 +52,7 @@ impl Beam {
         }
     }
 
-    /// Moves the beam by an instruction, and answers the stroke that it draws, if any.
+    /// Moves the beam as `code` says, and returns the stroke that it draws, if any.
     ///
     /// The effective scale is the sum of the global and the local scale, modulo 16. At 0 to 9 it
     /// doubles a move that many times; at 10 to 15 the beam doesn't move (this project's own
@@ -77,7 +77,8 @@ impl Beam {
         }
     }
 
-    // Moves the beam this many units along each axis, and answers the stroke, unless it is blank.
+    // Moves the beam by `dx` and `dy` times `unit`. Returns the stroke of intensity `z`, or `None`
+    // where `z` is 0.
     fn slide(&mut self, dx: i16, dy: i16, unit: u32, z: u8) -> Option<Stroke>
         requires { unit ≤ 131072 }
         ensures moved { self.new ≡ spec.slid self.old dx dy unit }
@@ -99,7 +100,8 @@ impl Beam {
     }
 }
 
-// How far a magnitude of 1 moves the beam, at a global and a local scale.
+// Returns how far a magnitude of 1 moves the beam, at the scales `global` and `local`, in 1/512 of
+// a screen unit.
 fn unit(global: u8, local: u8) -> u32
     requires { global + local ≤ 255 }
     ensures exact { result ≡ spec.unit ((global + local) % 16) }
@@ -109,7 +111,7 @@ fn unit(global: u8, local: u8) -> u32
     if effective <= 9 { 1 << effective } else { 0 }
 }
 
-// A position that was moved by `by` times a unit, round the circle.
+// Returns the position `from`, moved by `by` times `unit` round the circle.
 fn shifted(from: u32, by: i16, unit: u32) -> u32
     requires { unit ≤ 131072 }
     ensures moved { result ≡ spec.shifted from by unit }

@@ -30,7 +30,7 @@ pub fn one_call()
 {}
 
 /// What a return answers is a call, and it leads to one past it. So a reader of the definition,
-/// which counts how many returns still want a call, need not trust its counter.
+/// which counts how many returns still need a call, need not trust its counter.
 pub fn past_the_call()
     ensures call { AnswersACall }
     ensures address { PastTheCall }

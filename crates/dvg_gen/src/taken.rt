@@ -1,4 +1,4 @@
-//! The generator's answers.
+//! What the generator returns.
 ghost use Rattle.std.specs.Prelude.{◌≡◌};
 ghost use Rattle.dvg_gen.specs.Numbers.{fault_number};
 
@@ -21,8 +21,8 @@ pub enum GenFault {
 }
 
 impl GenFault {
-    /// The number of the fault in texts and answers: 1 to 3, in the order in which the faults are
-    /// declared (this project's own choice).
+    /// Returns the number of the fault in texts and replies: 1 to 3, in the order in which the
+    /// faults are declared (this project's own choice).
     pub fn number(self) -> u8
         ensures { result ≡ fault_number self }
     {
@@ -34,7 +34,7 @@ impl GenFault {
     }
 }
 
-/// What a fetch led to, but for the strokes of a finished run.
+/// What a fetch led to, without the strokes of a finished run.
 #[derive(Clone, Copy, Debug, PartialEq, Eq)]
 pub enum Step {
     /// That was the low byte of a word, whose high byte comes next.

@@ -11,10 +11,10 @@ use crate::watched::{StreamFailed, Watched};
 use std::alloc::Allocator;
 use std::io::{Read, Write};
 
-/// What one engine does and the others don't: what it finds of an input, and the text that it
-/// writes of that. `serve` reads the input, and sees to the failures of streams.
+/// What one engine does and the others don't: what it finds in an input, and the text that it
+/// writes of that. `serve` reads the input, and deals with the failures of streams.
 pub trait Engine<A: Allocator> {
-    /// What is found of an input.
+    /// What is found in an input.
     type Found: Drop;
 
     /// The most bytes that an input may have. One more is read, if there is one.
@@ -22,21 +22,21 @@ pub trait Engine<A: Allocator> {
 
     ghost MOST: { ℕ };
 
-    /// What may be found of an input.
+    /// What may be found in an input.
     ghost Finds: { Self → (input : List ℕ) → Self.Found → Type 0 };
 
-    /// A fault of an input, of which nothing is found.
+    /// A fault of an input, in which nothing is found.
     ghost HasFault: { Self → (input : List ℕ) → TextFault → Type 0 };
 
     /// The text of what is found.
     ghost text: { Self → Self.Found → List ℕ };
 
-    /// Finds what there is in the bytes that were read.
+    /// Finds what there is in `read`, the bytes that were read. Its memory comes from `alloc`.
     fn find(&self, alloc: A, read: &[u8]) -> Result<Self::Found, ToolFault>
         ensures { OfInput MOST read.now (λ input.
             IsFinding (Finds self.now input) (HasFault self.now input) result) };
 
-    /// Writes the text of what was found.
+    /// Writes the text of `found` to `writer`.
     fn write<W: Write>(
         &self,
         found: &Self::Found,
@@ -45,12 +45,12 @@ pub trait Engine<A: Allocator> {
         ensures { Writes W.contents (text self.now found.now) result writer.old writer.new };
 }
 
-/// Serves an input: reads it, lets the engine find what there is in it, and writes the text of
-/// that. It answers what was found.
+/// Serves an input: reads it from `reader`, lets `engine` find what there is in it, and writes the
+/// text of that to `writer`. Returns what was found.
 ///
 /// - A fault of the text: the engine's. No more than `MOST + 1` bytes are taken.
 /// - `Reader`, `Writer`: that stream failed. After `Writer` a beginning of the text went out.
-/// - `Memory`: a growth was refused.
+/// - `Memory`: an allocation failed.
 ///
 /// At any fault but `Writer` nothing is written.
 pub fn serve<E: Engine<A>, A: Allocator + Copy, R: Read, W: Write>(

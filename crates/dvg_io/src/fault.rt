@@ -19,7 +19,7 @@ pub enum ToolFault {
     /// The writer failed.
     #[error("write failed")]
     Writer,
-    /// A growth was refused for want of memory.
+    /// An allocation failed.
     #[error("out of memory")]
     Memory,
 }

@@ -14,7 +14,8 @@ use std::io::{Read, Write};
 /// The most bytes that one read takes.
 const PIECE: usize = 8192;
 
-/// The bytes that a reader has left, or the first `most + 1` of them. It takes no more than those.
+/// Returns all bytes that `reader` has left, or the first `most + 1` of them. It takes no more than
+/// those. Returns `Reader` where a read fails, and `Memory` where an allocation does.
 pub fn read_up_to<A: Allocator, R: Read>(
     alloc: A,
     reader: &mut Watched<R>,
@@ -53,7 +54,8 @@ pub fn read_up_to<A: Allocator, R: Read>(
     Ok(bytes)
 }
 
-/// The words of an even number of bytes.
+/// Returns the words of `bytes`, an even number of bytes, the low byte of each word first. Returns
+/// `OutOfMemory` where an allocation fails.
 pub fn collect_words<A: Allocator>(alloc: A, bytes: &[u8]) -> Result<Vec<u16, A>, OutOfMemory>
     requires { length bytes.now % 2 ≡ 0 }
     ensures { IfOk result (λ words. words.items ≡ words_of bytes.now) }
@@ -65,8 +67,8 @@ pub fn collect_words<A: Allocator>(alloc: A, bytes: &[u8]) -> Result<Vec<u16, A>
     Ok(words)
 }
 
-/// Writes the whole of a text, by as many writes as it takes. After a failure a beginning of it
-/// went out.
+/// Writes the whole of `text` to `writer`, by as many writes as it takes. After a failure a
+/// beginning of `text` went out.
 #[inline(always)]
 pub fn write_whole<W: Write>(writer: &mut Watched<W>, text: &[u8]) -> Result<(), StreamFailed>
     ensures { Writes W.contents text.now result writer.old writer.new }
@@ -81,9 +83,10 @@ pub fn write_whole<W: Write>(writer: &mut Watched<W>, text: &[u8]) -> Result<(),
     Ok(())
 }
 
-/// Writes lines, each by itself: the next one is handed to the writer only when it took the whole
-/// of the one before. (This is tested: a contract sees only what went out.) After the last line end
-/// may stand a line without one. After a failure a beginning of the text went out.
+/// Writes the lines of `text` to `writer`, each by itself: the next one is handed to `writer` only
+/// when it took the whole of the one before. (This is tested: a contract sees only what went out.)
+/// After the last line end may stand a line without one. After a failure a beginning of `text` went
+/// out.
 pub fn write_lines<W: Write>(writer: &mut Watched<W>, text: &[u8]) -> Result<(), StreamFailed>
     ensures { Writes W.contents text.now result writer.old writer.new }
 {

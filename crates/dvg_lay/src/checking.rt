@@ -16,7 +16,7 @@ use std::alloc::{AllocError, Allocator};
 /// The first word address after the RAM.
 const RAM_END: u16 = 0x400;
 
-// The place that a fault names; of a fault of the whole draft it is operation 0.
+// Returns the place that `fault` names. For a fault of the whole draft it is operation 0.
 fn place_of(fault: FrameFault) -> Place
     ensures { result ≡ place_of fault }
 {
@@ -29,7 +29,8 @@ fn place_of(fault: FrameFault) -> Place
     }
 }
 
-// The line of an operation; where there is none, the line that begins the frame.
+// Returns the line of operation `i` of `frame`, or the line that begins the frame where there is
+// none.
 fn line_of<'a>(frame: &NamedFrame<'a>, i: usize) -> Source<'a>
     ensures { result ≡ line_of frame.now i }
 {
@@ -39,8 +40,7 @@ fn line_of<'a>(frame: &NamedFrame<'a>, i: usize) -> Source<'a>
     }
 }
 
-// Whether a name stands at a word or before it, and is no farther from it than the one that was
-// found.
+// Whether `name` is at or before `address` and at least as near to it as `found`, if there is one.
 fn is_nearer(found: Option<RomName>, name: &RomName, address: u16) -> bool
     ensures { IsTrue result ↔ IsNearer address found.entry name.now }
 {
@@ -50,8 +50,8 @@ fn is_nearer(found: Option<RomName>, name: &RomName, address: u16) -> bool
     }
 }
 
-// The name that stands at a word or before it: that of the greatest address, and of such names the
-// last one.
+// Returns the one of `names` that is nearest to `address`, at or before it, and of several the
+// last.
 fn name_before<'a>(names: &[RomName<'a>], address: u16) -> Option<RomName<'a>>
     ensures { MatchOption result (All (λ name. address < name.address) names.now)
         (IsNameBefore names.now address) }
@@ -65,7 +65,8 @@ fn name_before<'a>(names: &[RomName<'a>], address: u16) -> Option<RomName<'a>>
     found
 }
 
-// The text of the name that stands at a word or before it.
+// Returns the text of the name that `name_before` finds in `names` for `address`, if there is one.
+// Returns `AllocError` where an allocation fails.
 fn name_text<A: Allocator + Copy>(
     alloc: A,
     names: &[RomName],
@@ -80,7 +81,8 @@ fn name_text<A: Allocator + Copy>(
     }
 }
 
-// What is blamed for a fault at a place of a frame.
+// Returns what is blamed for a fault at `place` of `frame`: a line, or a word of the ROM with one
+// of `names`. Returns `AllocError` where an allocation fails.
 fn blame<A: Allocator + Copy>(
     alloc: A,
     names: &[RomName],
@@ -104,7 +106,8 @@ fn blame<A: Allocator + Copy>(
     }
 }
 
-// The refusal of a frame for this reason, at this place.
+// Returns the refusal of `frame` for `reason`, at `place`. Returns `Memory` where an allocation
+// fails.
 fn tell<A: Allocator + Copy>(
     alloc: A,
     names: &[RomName],
@@ -121,8 +124,8 @@ fn tell<A: Allocator + Copy>(
     }
 }
 
-/// The refusal of a frame whose picture has so many words, named by the line of operation 0. Or
-/// else a growth was refused.
+/// Returns the refusal of `frame`, whose picture has so many `words`, at the line of operation 0.
+/// Returns `Memory` where an allocation fails.
 pub fn tell_long<A: Allocator + Copy>(
     alloc: A,
     names: &[RomName],
@@ -141,8 +144,8 @@ pub fn tell_long<A: Allocator + Copy>(
     )
 }
 
-/// The frame, where the check accepts it over the ROM, and else its fault and the line or the word
-/// at fault, as `lay_bytes` tells them.
+/// Returns `frame` checked, where `checker` accepts it over `rom`. Else returns its fault and the
+/// line or the word at fault, with one of `names`, as `lay_bytes` does.
 pub fn good_frame<A: Allocator + Copy>(
     alloc: A,
     checker: &mut Checker,
@@ -165,7 +168,8 @@ pub fn good_frame<A: Allocator + Copy>(
     }
 }
 
-/// Checks all frames: tells of the first that the check doesn't accept.
+/// Checks all `frames` over `rom`. Returns the refusal of the first that the check doesn't accept.
+/// `names` are the names of the ROM. Returns `Memory` where an allocation fails.
 pub(crate) fn check_all<A: Allocator + Copy>(
     alloc: A,
     rom: &Rom<A>,
@@ -185,7 +189,7 @@ pub(crate) fn check_all<A: Allocator + Copy>(
     Ok(())
 }
 
-// Whether what the operation names of the ROM stands from word 400 on.
+// Whether what `op` names of the ROM stands from word 400 on.
 fn names_high_word(op: &Op) -> bool
     ensures { IsTrue result ↔ NamesHighWord op.now }
 {
@@ -195,7 +199,7 @@ fn names_high_word(op: &Op) -> bool
     }
 }
 
-// The number of the first operation that names a word of the ROM below 400.
+// Returns the number of the first of `ops` that names a word of the ROM below 400.
 fn first_low(ops: &[Op]) -> Option<usize>
     ensures { MatchOption result (All NamesHighWord ops.now) (IsFirstLow ops.now) }
 {
@@ -207,7 +211,8 @@ fn first_low(ops: &[Op]) -> Option<usize>
     None
 }
 
-/// Tells of the first frame with an operation that names a word of the ROM below 400.
+/// Returns the refusal of the first of `frames` with an operation that names a word of the ROM
+/// below 400. `names` are the names of the ROM. Returns `Memory` where an allocation fails.
 pub(crate) fn check_low_words<A: Allocator + Copy>(
     alloc: A,
     names: &[RomName],

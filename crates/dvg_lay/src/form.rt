@@ -33,7 +33,7 @@ pub enum Laid<A: Allocator = Global> {
 }
 
 impl<A: Allocator> Laid<A> {
-    /// The text that is written of it: nothing where a frame is refused.
+    /// Returns the text that is written of it: nothing where a frame is refused.
     pub fn as_bytes(&self) -> &[u8]
         ensures { result.now ≡ shown self.now }
     {
@@ -44,7 +44,7 @@ impl<A: Allocator> Laid<A> {
     }
 }
 
-// What is laid out in this form.
+// Lays `frames` out in this `form`, over `rom`, whose names are `names`.
 fn lay_text<A: Allocator + Copy>(
     alloc: A,
     rom: &Rom<A>,
@@ -66,7 +66,8 @@ fn lay_text<A: Allocator + Copy>(
     }
 }
 
-/// Lays frames out in this form, or tells why a frame is refused. A growth may be refused, too.
+/// Lays `frames` out in this `form`, over `rom`, whose names are `names`, or returns why a frame is
+/// refused. Returns `OutOfMemory` where an allocation fails.
 pub fn lay<A: Allocator + Copy>(
     alloc: A,
     rom: &Rom<A>,

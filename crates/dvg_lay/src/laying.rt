@@ -15,13 +15,14 @@ use std::alloc::{AllocError, Allocator};
 /// The word address after a ROM's last word.
 const ROM_END: u16 = 0xC00;
 
-/// The bytes of frames in order, each as it lies in a half, the low byte of each word first.
+/// Returns the bytes of `frames` in order, each as it lies in `half`, the low byte of each word
+/// first. `names` are the names of `rom`.
 ///
-/// - `Refused`: the check refuses a frame over the ROM. Of the first such frame it tells the fault,
-///   and the line at fault; or the word of the ROM, with the newest name at it or before it. For a
-///   fault of the whole draft that is the line of operation 0, or where there is none the line that
-///   begins the frame.
-/// - `Memory`: a growth was refused.
+/// - `Refused`: the check refuses a frame over `rom`. The first such frame is described by its
+///   fault, and by the line at fault, or the word of the ROM with the nearest name at it or before
+///   it. For a fault of the whole draft that is the line of operation 0, or where there is none the
+///   line that begins the frame.
+/// - `Memory`: an allocation failed.
 pub fn lay_bytes<A: Allocator + Copy>(
     alloc: A,
     rom: &Rom<A>,
@@ -48,7 +49,7 @@ pub fn lay_bytes<A: Allocator + Copy>(
     Ok(text)
 }
 
-// The tables of frames in order, each checked over the ROM.
+// Returns the tables of `frames` in order, each checked over `rom`. `names` are the names of `rom`.
 fn put_tables<A: Allocator + Copy>(
     alloc: A,
     rom: &Rom<A>,
@@ -74,14 +75,15 @@ fn put_tables<A: Allocator + Copy>(
     Ok(text)
 }
 
-/// The tables of frames in order, as text for the assembler ca65: of each frame its name as a
-/// label, or else `frame_` and its number from 0; how many words it has; and a line for each
-/// operation, with its words as it lies in half 0, and what its line of the sketch says.
+/// Returns the tables of `frames` in order, as text for the assembler ca65: of each frame its name
+/// as a label, or else `frame_` and its number from 0; how many words it has; and a line for each
+/// operation, with its words as it lies in half 0, and what its line of the sketch says. `names`
+/// are the names of `rom`.
 ///
-/// - `Refused`: the check refuses a frame over the ROM, as with `lay_bytes`. Or it accepts all, and
+/// - `Refused`: the check refuses a frame over `rom`, as with `lay_bytes`. Or it accepts all, and
 ///   an operation calls or jumps to a word of the ROM below 400, which in a table is one of the
 ///   frame. The first such operation of the first such frame is described.
-/// - `Memory`: a growth was refused.
+/// - `Memory`: an allocation failed.
 pub fn lay_tables<A: Allocator + Copy>(
     alloc: A,
     rom: &Rom<A>,
@@ -106,10 +108,10 @@ pub fn lay_tables<A: Allocator + Copy>(
     }
 }
 
-/// The names of the ROM with their word addresses, a line `NAME = $HHH` for each.
+/// Returns a line `NAME = $HHH` for each of `names`, the names of `rom` with their word addresses.
 ///
-/// - `Refused`: the check refuses a frame over the ROM, as with `lay_bytes`.
-/// - `Memory`: a growth was refused.
+/// - `Refused`: the check refuses one of `frames` over `rom`, as with `lay_bytes`.
+/// - `Memory`: an allocation failed.
 pub fn lay_names<A: Allocator + Copy>(
     alloc: A,
     rom: &Rom<A>,
@@ -131,7 +133,8 @@ pub fn lay_names<A: Allocator + Copy>(
     }
 }
 
-// The bytes of the ROM.
+// Returns the bytes of `rom`, the low byte of each word first. Returns `AllocError` where an
+// allocation fails.
 fn rom_bytes<A: Allocator + Copy>(alloc: A, rom: &Rom<A>) -> Result<Vec<u8, A>, AllocError>
     ensures { IfOk result (λ text. text.items ≡ rom.now) }
 {
@@ -144,10 +147,11 @@ fn rom_bytes<A: Allocator + Copy>(alloc: A, rom: &Rom<A>) -> Result<Vec<u8, A>, 
     Ok(text)
 }
 
-/// The bytes of the ROM, 2,048 or 4,096, the low byte of each word first.
+/// Returns the bytes of `rom`, 2,048 or 4,096, the low byte of each word first. `names` are its
+/// names.
 ///
-/// - `Refused`: the check refuses a frame over the ROM, as with `lay_bytes`.
-/// - `Memory`: a growth was refused.
+/// - `Refused`: the check refuses one of `frames` over `rom`, as with `lay_bytes`.
+/// - `Memory`: an allocation failed.
 pub fn lay_rom<A: Allocator + Copy>(
     alloc: A,
     rom: &Rom<A>,

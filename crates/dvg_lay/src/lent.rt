@@ -7,7 +7,7 @@ use dvg_named::NamedFrame;
 /// The most operations of a frame, as of a draft.
 const MAX_OPS: usize = 511;
 
-/// Whether each frame has at most 511 operations, and a line for each.
+/// Whether each of `frames` has at most 511 operations, and a line for each.
 pub fn are_lent(frames: &[NamedFrame]) -> bool
     ensures { IsTrue result ↔ All IsLent frames.now }
 {

@@ -6,7 +6,7 @@ use crate::text::{put, put_hex_3};
 use dvg_named::RomName;
 use std::alloc::{AllocError, Allocator};
 
-// Appends the line of a name.
+// Appends the line of `name` to `text`. Returns `AllocError` where an allocation fails.
 fn put_name<A: Allocator>(text: &mut Vec<u8, A>, name: &RomName) -> Result<(), AllocError>
     ensures { OnOk result (text.new.items ≡ text.old.items ++ name_line name.now) }
 {
@@ -16,7 +16,7 @@ fn put_name<A: Allocator>(text: &mut Vec<u8, A>, name: &RomName) -> Result<(), A
     put(text, b"\n")
 }
 
-/// Appends the lines of names.
+/// Appends a line to `text` for each of `names`. Returns `AllocError` where an allocation fails.
 pub(crate) fn put_names<A: Allocator>(
     text: &mut Vec<u8, A>,
     names: &[RomName],

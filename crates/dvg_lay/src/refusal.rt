@@ -48,7 +48,7 @@ pub struct Refusal<A: Allocator = Global> {
 pub enum Unlaid<A: Allocator = Global> {
     /// A frame is refused.
     Refused(Refusal<A>),
-    /// A growth was refused for want of memory.
+    /// An allocation failed.
     Memory,
 }
 
@@ -63,7 +63,7 @@ impl<T: Drop, A: Allocator> From<AllocFailed<T>> for Unlaid<A> {
     }
 }
 
-// Writes a text of ASCII.
+// Writes `text`, which is ASCII.
 fn write_text<W: fmt::Write>(f: &mut fmt::Formatter<W>, text: &[u8]) -> fmt::Result {
     for byte in text {
         write!(f, "{}", char::from(*byte))?;

@@ -8,14 +8,14 @@ use crate::text::put;
 use dvg_named::tokens_of;
 use std::alloc::{AllocError, Allocator};
 
-// Whether a token gives a name.
+// Whether `token` gives a name: it ends with a colon.
 fn gives_name(token: &[u8]) -> bool
     ensures { result ≡ gives_name token.now }
 {
     token.ends_with(b":")
 }
 
-// The tokens after the name that the first one gives.
+// Returns `tokens` without the first one, if that gives a name.
 fn after_name<'a, 'b>(tokens: &'b [&'a [u8]]) -> &'b [&'a [u8]]
     ensures { bytes_of result.now ≡ after_name (bytes_of tokens.now) }
 {
@@ -25,7 +25,8 @@ fn after_name<'a, 'b>(tokens: &'b [&'a [u8]]) -> &'b [&'a [u8]]
     }
 }
 
-// Appends tokens, with a space between each two.
+// Appends `tokens` to `text`, with a space between each two. Returns `AllocError` where an
+// allocation fails.
 fn put_joined<A: Allocator>(text: &mut Vec<u8, A>, tokens: &[&[u8]]) -> Result<(), AllocError>
     ensures { OnOk result (text.new.items
         ≡ text.old.items ++ join_with_byte 32 (bytes_of tokens.now)) }
@@ -41,7 +42,8 @@ fn put_joined<A: Allocator>(text: &mut Vec<u8, A>, tokens: &[&[u8]]) -> Result<(
     Ok(())
 }
 
-/// Appends what a line says.
+/// Appends what `line` says to `text`: its tokens after the name that it gives, with a space
+/// between each two. Returns `AllocError` where an allocation fails.
 pub(crate) fn put_said<A: Allocator>(text: &mut Vec<u8, A>, line: &[u8]) -> Result<(), AllocError>
     ensures { OnOk result (text.new.items ≡ text.old.items ++ said line.now) }
 {
@@ -51,7 +53,8 @@ pub(crate) fn put_said<A: Allocator>(text: &mut Vec<u8, A>, line: &[u8]) -> Resu
     }
 }
 
-/// What a line says.
+/// Returns what `line` says, as `put_said` appends it. Returns `AllocError` where an allocation
+/// fails.
 pub(crate) fn said<A: Allocator>(alloc: A, line: &[u8]) -> Result<Vec<u8, A>, AllocError>
     ensures { IfOk result (λ text. text.items ≡ said line.now) }
 {

@@ -15,7 +15,8 @@ use dvg_mem::Half;
 use dvg_named::{NamedFrame, Source};
 use std::alloc::{AllocError, Allocator};
 
-/// Appends the bytes of a frame as it lies in a half, the low byte of each word first.
+/// Appends the bytes of `frame` as it lies in `half` to `text`, the low byte of each word first.
+/// Returns `AllocError` where an allocation fails.
 pub fn put_laid<A: Allocator>(
     text: &mut Vec<u8, A>,
     frame: Frame,
@@ -29,7 +30,8 @@ pub fn put_laid<A: Allocator>(
     Ok(())
 }
 
-// The words of a frame as it lies in half 0.
+// Returns the words of `frame` as it lies in half 0. Returns `OutOfMemory` where an allocation
+// fails.
 fn laid_words<A: Allocator + Copy>(alloc: A, frame: Frame) -> Result<Vec<u16, A>, OutOfMemory>
     ensures { IfOk result (λ words. words.items ≡ laid H0 frame.operations) }
 {
@@ -38,7 +40,7 @@ fn laid_words<A: Allocator + Copy>(alloc: A, frame: Frame) -> Result<Vec<u16, A>
     collect_words(alloc, bytes.as_slice())
 }
 
-// How many words an operation has.
+// Returns how many words `op` has.
 fn op_words(op: &Op) -> usize
     ensures { result ≡ op_words op.now }
 {
@@ -48,7 +50,8 @@ fn op_words(op: &Op) -> usize
     }
 }
 
-// Appends the line of an operation of these words.
+// Appends the line of an operation to `text`. `words` are its words, and `source` is its line of
+// the sketch. Returns `AllocError` where an allocation fails.
 fn put_op_line<A: Allocator>(
     text: &mut Vec<u8, A>,
     words: &[u16],
@@ -63,7 +66,8 @@ fn put_op_line<A: Allocator>(
     put(text, b"\n")
 }
 
-// Appends the lines of a frame's operations, of which these are the words in half 0.
+// Appends the lines of the operations of `frame` to `text`. `words` are their words in half 0.
+// Returns `AllocError` where an allocation fails.
 fn put_op_lines<A: Allocator>(
     text: &mut Vec<u8, A>,
     words: &[u16],
@@ -83,7 +87,8 @@ fn put_op_lines<A: Allocator>(
     Ok(())
 }
 
-// Appends what a frame is called.
+// Appends what a frame is called to `text`: its `name`, or else `frame_` and its `number`. Returns
+// `AllocError` where an allocation fails.
 fn put_label<A: Allocator>(
     text: &mut Vec<u8, A>,
     number: usize,
@@ -100,7 +105,8 @@ fn put_label<A: Allocator>(
     }
 }
 
-// Appends a line that lays down how many words there are.
+// Appends the assembler's line for `count`, the number of words, to `text`. Returns `AllocError`
+// where an allocation fails.
 fn put_count<A: Allocator>(text: &mut Vec<u8, A>, count: usize) -> Result<(), AllocError>
     ensures { OnOk result (text.new.items ≡ text.old.items ++ word_line (decimal count)) }
 {
@@ -109,7 +115,8 @@ fn put_count<A: Allocator>(text: &mut Vec<u8, A>, count: usize) -> Result<(), Al
     put(text, b"\n")
 }
 
-/// Appends the table of the frame of this number, which was checked.
+/// Appends the table of frame `number` to `text`: `named` is the frame, and `frame` the same frame
+/// as it was checked. Returns `OutOfMemory` where an allocation fails.
 pub(crate) fn put_table<A: Allocator + Copy>(
     alloc: A,
     text: &mut Vec<u8, A>,

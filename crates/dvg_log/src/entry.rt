@@ -50,9 +50,10 @@ pub enum Entry<S = Vec<Stroke>> {
 pub type OwnEntry<A = Global> = Entry<Vec<Stroke, A>>;
 
 impl<S: Drop> Entry<S> {
-    /// The entry of a fetch at this word address: of a byte, after this low one if there is one, or
-    /// of a hole. `step` is the generator's answer to it, and `drew` what the run drew. That counts
-    /// only where the run is finished.
+    /// Returns the entry of a fetch at the word address `address`. `byte` is the byte that was
+    /// fetched, or `None` for a hole, and `low` is the low byte that was fetched before it, if
+    /// `byte` is a high one. `step` is what the generator returned, and `drew` what the run drew.
+    /// That counts only where the run is finished.
     #[inline(always)]
     pub fn of_fetch(
         address: u16,
@@ -79,7 +80,8 @@ impl<S: Drop> Entry<S> {
 }
 
 impl<S> Entry<S> {
-    /// The same entry, with this in place of what the run drew; and what it drew, if it finished.
+    /// Replaces the strokes with `other`. Returns the new entry, and the strokes if this entry
+    /// finished a run.
     #[inline(always)]
     pub fn replace<T: Copy>(self, other: T) -> (Entry<T>, Option<S>)
         ensures entry { result.0 ≡ map_entry (λ _. other) self }

@@ -14,7 +14,7 @@ use std::marker::Model;
 /// that of its image among all.
 pub(crate) type Step = Event<u16, u16>;
 
-/// An event of a trace, so many times in a row, in six bytes.
+/// An event of a trace, `times` times in a row, in six bytes.
 #[derive(Clone, Copy)]
 pub(crate) struct Run {
     pub(crate) step: Step,
@@ -48,7 +48,8 @@ impl<'a, A: Allocator> Model for Runs<'a, A> {
 }
 
 impl<'a, A: Allocator> Runs<'a, A> {
-    // The events of these runs.
+    // Returns an iterator over the events of `runs`. `offers`, `ops` and `images` are the lists
+    // that a trace keeps beside them.
     pub(crate) fn of(
         runs: &'a [Run],
         offers: &'a [(u32, u16)],
@@ -91,7 +92,7 @@ impl<'a, A: Allocator> Iterator for Runs<'a, A> {
     }
 }
 
-// The event of a step.
+// Returns the event of `step`, by the lists `offers`, `ops` and `images` of its trace.
 #[inline(always)]
 fn event_of<'a, A: Allocator>(
     offers: &'a [(u32, u16)],

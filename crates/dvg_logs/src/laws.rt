@@ -10,7 +10,7 @@ pub fn one_verdict()
     ensures { OneLogVerdict }
 {}
 
-/// At most one line is the first that says nothing.
+/// At most one line is the first that says nothing that a line may say.
 pub fn one_fault()
     ensures { OneLogFault }
 {}
@@ -20,7 +20,7 @@ pub fn no_verdict_beside_fault()
     ensures { NoVerdictBesideFault }
 {}
 
-/// A verdict is given of each text, or it has a fault. That one of them holds is shown by what a
+/// A verdict is given of each `text`, or it has a fault. That one of them holds is shown by what a
 /// reading of it comes to.
 pub fn each_is_judged(text: &[u8])
     ensures { IsJudged text.now }

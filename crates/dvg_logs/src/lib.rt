@@ -1,4 +1,4 @@
-//! Logs as texts, of any length and from anyone: what each line says, and the engine that answers
+//! Logs as texts, of any length and from anyone: what each line says, and the engine that finds
 //! the first write that tears a picture (the format is this project's own choice). A log is read in
 //! pieces and takes no memory.
 #![tactic(auto)]

@@ -20,7 +20,8 @@ pub enum LogLine {
     Passed,
     /// A strobe began a run.
     Started,
-    /// A fetch completed the word at this word address. This is the word, and the run goes on.
+    /// A fetch completed the word at this word address. The second number is the word. The run goes
+    /// on.
     Fetched(u16, u16),
     /// A fetch brought the low byte of the word at this word address.
     Low(u16, u8),
@@ -32,11 +33,14 @@ pub enum LogLine {
     Reset,
 }
 
-/// What a line of a log says. None exactly where it says nothing that a line may say: it is
-/// `started`, `fetched` with a word address and the word there, `low` with a word address and a
-/// byte, `wrote` with a byte address of the RAM, 000 to 7FF, and the byte, `halted` or `reset`, one
-/// space between the parts; or it is passed over, as it is empty or begins with `#`. An address has
-/// three hexadecimal digits, a word four and a byte two, of either case. It has at most 64 bytes.
+/// Returns what `line`, a line of a log, says. Returns `None` exactly where it says nothing that a
+/// line may say.
+///
+/// It may be `started`, `fetched` with a word address and the word there, `low` with a word address
+/// and a byte, `wrote` with a byte address of the RAM, 000 to 7FF, and the byte, `halted` or
+/// `reset`. One space stands between the parts. Or it is passed over, as it is empty or begins with
+/// `#`. An address has three hexadecimal digits, a word four and a byte two, of either case. A line
+/// has at most 64 bytes.
 pub fn read_log_line(line: &[u8]) -> Option<LogLine>
     ensures found { IfSome result (λ logged. Tells (line_of logged) line.now) }
     ensures only { (logged : Line) → Tells logged line.now
@@ -51,7 +55,7 @@ pub fn read_log_line(line: &[u8]) -> Option<LogLine>
     row(line)
 }
 
-// What a line says that isn't passed over.
+// Returns what `line` says, which isn't passed over.
 fn row(line: &[u8]) -> Option<LogLine>
     ensures found { IfSome result (λ logged. LogRow (line_of logged) (parts line.now)) }
     ensures only { (logged : Line) → LogRow logged (parts line.now)
@@ -74,7 +78,8 @@ fn row(line: &[u8]) -> Option<LogLine>
     }
 }
 
-// An address of three hexadecimal digits and a number of this many, with one space between them.
+// Returns the address and the number that `bytes` spell: three hexadecimal digits, one space, and
+// as many digits as `digits` says.
 fn numbers(bytes: &[u8], digits: usize) -> Option<(u16, u16)>
     requires { digits ≤ 4 }
     ensures found { IfSome result (λ numbers. AreNumbers digits numbers.0 numbers.1 bytes.now) }
@@ -89,7 +94,7 @@ fn numbers(bytes: &[u8], digits: usize) -> Option<(u16, u16)>
     Some((address, number))
 }
 
-// What a name alone says.
+// Returns what `name` alone says.
 fn bare(name: &[u8]) -> Option<LogLine>
     ensures found { IfSome result (λ logged. LogRow (line_of logged) (name.now ∷ [])) }
     ensures only { (logged : Line) → LogRow logged (name.now ∷ [])

@@ -7,11 +7,11 @@ use crate::log_line::{LogLine, RAM_END};
 use crate::log_reading::JudgedLines;
 use dvg_read::digit_of;
 
-/// The most bytes of a line that has numbers, with its end. Where a text has fewer, what is left of
-/// it is read otherwise.
+/// The most bytes of a line that has numbers, with its end. A text with fewer bytes left is read
+/// otherwise.
 const MOST_NUMBER_BYTES: usize = 17;
 
-// The number of two hexadecimal digits, by their values.
+// Returns the number of two hexadecimal digits, whose values are `a` and `b`.
 #[inline(always)]
 fn of_two(a: u8, b: u8) -> u8
     requires { (a < 16) × (b < 16) }
@@ -20,7 +20,7 @@ fn of_two(a: u8, b: u8) -> u8
     16 * a + b
 }
 
-// The number of three.
+// Returns the number of three hexadecimal digits, whose values are `a`, `b` and `c`.
 #[inline(always)]
 fn of_three(a: u8, b: u8, c: u8) -> u16
     requires { (a < 16) × (b < 16) × (c < 16) }
@@ -29,8 +29,8 @@ fn of_three(a: u8, b: u8, c: u8) -> u16
     256 * u16::from(a) + u16::from(of_two(b, c))
 }
 
-// The address and the byte that a text begins with, and what comes after the line's end. All digits
-// are tested at once.
+// Returns the address and the byte that `text` begins with, and what comes after the line's end.
+// All digits are tested at once.
 #[inline(always)]
 fn address_and_byte(text: &[u8]) -> Option<(u16, u8, &[u8])>
     ensures { IfSome result (λ found. BeginsWithNumbers 2 found.0 found.1 text.now found.2.now) }
@@ -47,7 +47,7 @@ fn address_and_byte(text: &[u8]) -> Option<(u16, u8, &[u8])>
     Some((of_three(a, b, c), of_two(d, e), rest))
 }
 
-// The same, of an address and a word.
+// Returns the address and the word that `text` begins with, and what comes after the line's end.
 #[inline(always)]
 fn address_and_word(text: &[u8]) -> Option<(u16, u16, &[u8])>
     ensures { IfSome result (λ found. BeginsWithNumbers 4 found.0 found.1 text.now found.2.now) }
@@ -66,14 +66,14 @@ fn address_and_word(text: &[u8]) -> Option<(u16, u16, &[u8])>
 }
 
 // Most lines of a log have numbers. Each is taken from the head of a text, if it ends there and
-// isn't torn. What comes after it is the answer.
+// isn't torn. What comes after it is returned.
 impl JudgedLines {
     ghost use Rattle.std.specs.Prelude.{◌≡◌, ◌+◌, ◌-◌, ◌^◌, ◌<◌, ◌++◌, IfSome, IsNone, IsSome};
     ghost use Rattle.std.specs.Prelude.{codes};
     ghost use Rattle.dvg_logs.specs.LogReading.{TakesLine, TakesLines};
 
-    // Takes a line `wrote`, of which this comes after `wrot`: four letters are compared as one
-    // number, and six are not.
+    // Takes the rest of a line `wrote` from `text`, after `wrot`: four letters are compared as one
+    // number, and six are not. Returns what comes after the line.
     #[inline(always)]
     fn take_wrote<'a>(&mut self, text: &'a [u8]) -> Option<&'a [u8]>
         requires room { self.old.count < 2 ^ 64 - 1 }
@@ -90,7 +90,8 @@ impl JudgedLines {
         }
     }
 
-    // Takes a line `low`, of which this comes after the name.
+    // Takes the rest of a line `low` from `text`, after its name and a space. Returns what comes
+    // after the line.
     #[inline(always)]
     fn take_low<'a>(&mut self, text: &'a [u8]) -> Option<&'a [u8]>
         requires room { self.old.count < 2 ^ 64 - 1 }
@@ -107,7 +108,8 @@ impl JudgedLines {
         }
     }
 
-    // The same, of a line `fetched`.
+    // Takes the rest of a line `fetched` from `text`, after its name and a space. Returns what
+    // comes after the line.
     #[inline(always)]
     fn take_fetched<'a>(&mut self, text: &'a [u8]) -> Option<&'a [u8]>
         requires room { self.old.count < 2 ^ 64 - 1 }
@@ -124,7 +126,8 @@ impl JudgedLines {
         }
     }
 
-    // The name that comes most often is looked for first.
+    // Takes a line that has numbers from the head of `text`. Returns what comes after it. The name
+    // that comes most often is looked for first.
     #[inline(always)]
     fn take_number_line<'a>(&mut self, text: &'a [u8]) -> Option<&'a [u8]>
         requires room { self.old.count < 2 ^ 64 - 1 }
@@ -144,9 +147,9 @@ impl JudgedLines {
         }
     }
 
-    /// Takes lines that have numbers from the head of a text, up to the first line that has none,
-    /// that is torn or that doesn't end. It stops, too, where a text has less than the longest such
-    /// line. Answers what comes after them.
+    /// Takes lines that have numbers from the head of `text`, up to the first line that has none,
+    /// that is torn or that doesn't end. It stops, too, where fewer bytes are left than the longest
+    /// such line has. Returns what comes after the lines.
     #[inline(never)]
     pub fn take_number_lines<'a>(&mut self, text: &'a [u8]) -> &'a [u8]
         ensures { TakesLines self.old self.new text.now result.now }

@@ -42,7 +42,8 @@ impl<A: Allocator> Model for Banked<A> {
 }
 
 impl<A: Allocator> Banked<A> {
-    /// The 1,022 bytes of a half, from its first word's low byte on, as they lie in the store.
+    /// Returns the 1,022 bytes of `half`, from its first word's low byte on, as they lie in the
+    /// store.
     pub fn half(&self, half: Half) -> &[u8]
         ensures { result.now ≡ half_bytes half self.now }
     {

@@ -79,7 +79,7 @@ impl<A: Allocator + Copy> Store for Flat<A> {
     }
 }
 
-// Puts a byte everywhere.
+// Replaces each of `bytes` with `byte`.
 #[inline(never)]
 fn fill(bytes: &mut [u8], byte: u8)
     ensures { bytes.new ≡ replicate (length bytes.old) byte }

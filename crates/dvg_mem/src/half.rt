@@ -13,7 +13,7 @@ pub enum Half {
 }
 
 impl Half {
-    /// The word address of the half's first word: 001 or 201.
+    /// Returns the word address of the half's first word: 001 or 201.
     pub fn base(self) -> u16
         ensures { result ≡ base self }
     {
@@ -23,7 +23,7 @@ impl Half {
         }
     }
 
-    /// The half that this one is not.
+    /// Returns the other half.
     pub fn other(self) -> Half
         ensures { result ≡ other self }
     {
@@ -33,8 +33,8 @@ impl Half {
         }
     }
 
-    /// The high byte of word zero that names this half, as that of a jump to its first word: E0 of
-    /// E001, or E2 of E201.
+    /// Returns the high byte of word zero that names this half, as that of a jump to its first
+    /// word: E0 of E001, or E2 of E201.
     pub fn high(self) -> u8
         ensures { result ≡ high self }
     {
@@ -44,8 +44,8 @@ impl Half {
         }
     }
 
-    /// The half that a high byte of word zero names, whatever its other bits: bit 1 is 0 for half
-    /// 0, and 1 for half 1.
+    /// Returns the half that `high` names, as the high byte of word zero. Only bit 1 counts: it is
+    /// 0 for half 0, and 1 for half 1.
     pub fn of_high(high: u8) -> Half
         ensures { result ≡ half_of_high high }
     {
@@ -56,7 +56,7 @@ impl Half {
         }
     }
 
-    /// The half in which a word of this number lies; none for word zero, word 200 and all from 400
+    /// Returns the half in which word `w` lies, or `None` for word zero, word 200 and all from 400
     /// on.
     pub fn of_word(w: u16) -> Option<Half>
         ensures { (half : Half) → (result ≡ Some half) ↔ IsInHalf half w }

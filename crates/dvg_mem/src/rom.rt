@@ -33,8 +33,9 @@ impl<A: Allocator> Model for Rom<A> {
 }
 
 impl<A: Allocator> Rom<A> {
-    /// The ROM of these bytes. It is refused as `Size` exactly where they are neither 2,048 nor
-    /// 4,096.
+    /// Returns the ROM of `bytes`, which are copied into memory of `alloc`. Returns `Size` exactly
+    /// where the length of `bytes` is neither 2,048 nor 4,096, and `OutOfMemory` where an
+    /// allocation fails.
     pub fn new(alloc: A, bytes: &[u8]) -> Result<Rom<A>, MemFault>
         ensures bytes { IfOk result (λ rom. rom ≡ bytes.now) }
         ensures size { IsErrOf result MemFault.Size
@@ -51,9 +52,11 @@ impl<A: Allocator> Rom<A> {
         }
     }
 
-    /// Takes other bytes in place of its own. If there are as many of them, they go into the memory
-    /// that it has. They are refused as `Size` exactly where they are neither 2,048 nor 4,096.
-    /// After an error nothing has changed. Memory is taken only for a ROM of another size.
+    /// Replaces the bytes with `bytes`. If there are as many of them, they go into the memory that
+    /// the ROM has; otherwise memory is taken from `alloc`.
+    ///
+    /// Returns `Size` exactly where the length of `bytes` is neither 2,048 nor 4,096, and
+    /// `OutOfMemory` where an allocation fails. After an error nothing has changed.
     pub fn copy_from(&mut self, alloc: A, bytes: &[u8]) -> Result<(), MemFault>
         ensures bytes { OnOk result (self.new ≡ bytes.now) }
         ensures size { IsErrOf result MemFault.Size
@@ -74,7 +77,7 @@ impl<A: Allocator> Rom<A> {
         }
     }
 
-    /// The word address of the first word: 800 or 400.
+    /// Returns the word address of the first word: 800 or 400.
     pub fn first(&self) -> u16
         ensures first { result ≡ first_word self.now }
         ensures size { ((result ≡ 0x800) × (length self.now ≡ 2048))
@@ -87,7 +90,7 @@ impl<A: Allocator> Rom<A> {
         }
     }
 
-    /// How many words there are: 1,024 or 2,048.
+    /// Returns the number of words: 1,024 or 2,048.
     pub fn len_words(&self) -> u16
         ensures count { length self.now ≡ 2 * result }
         ensures rom { IsRom self.now }
@@ -95,7 +98,7 @@ impl<A: Allocator> Rom<A> {
         (self.bytes.len() / 2) as u16
     }
 
-    /// The word at a word address from `first` to BFF.
+    /// Returns the word at the word address `a`, which is `first` to BFF.
     pub fn word(&self, a: u16) -> u16
         requires first { first_word self.now ≤ a }
         requires last { a ≤ 0xBFF }
@@ -104,8 +107,9 @@ impl<A: Allocator> Rom<A> {
         word_at(self.bytes.as_slice(), usize::from(a - self.first()))
     }
 
-    /// The ROM of 4,096 bytes that has this one's words from 800 on, and D000, a return, at 400 to
-    /// 7FF. It takes its memory from this allocator. `OutOfMemory` is its only error.
+    /// Returns the ROM of 4,096 bytes that has this one's words from 800 on, and D000, a return, at
+    /// 400 to 7FF. This one must have 2,048 bytes. Memory is taken from `alloc`. The only error is
+    /// `OutOfMemory`, where an allocation fails.
     #[tactic(auto, using(crate::proofs::Grown::is_rom, crate::proofs::Grown::grown))]
     pub fn grow(&self, alloc: A) -> Result<Rom<A>, MemFault>
         requires { first_word self.now ≡ 0x800 }
@@ -119,7 +123,7 @@ impl<A: Allocator> Rom<A> {
         }
     }
 
-    // The bytes of 1,024 returns, and then those of this ROM.
+    // Returns the bytes of 1,024 returns, and then those of this ROM, in memory of `alloc`.
     #[tactic(auto, using(crate::proofs::Grown::one_more, crate::proofs::Grown::no_return))]
     fn grown_bytes(&self, alloc: A) -> Result<Vec<u8, A>, AllocError>
         ensures { IfOk result (λ bytes. ArePushedBack self.now bytes.items) }
@@ -132,7 +136,7 @@ impl<A: Allocator> Rom<A> {
         Ok(bytes)
     }
 
-    /// The area of a word address, which has 12 bits, with this ROM.
+    /// Returns the area of the word address `w`, which has 12 bits, with this ROM.
     pub fn area(&self, w: u16) -> Area
         requires { w ≤ 0xFFF }
         ensures area { IsInMap (first_word self.now) result w }

@@ -15,24 +15,25 @@ pub trait Store: Drop {
     /// The bytes, from address 000 on.
     ghost content: { Self → List ℕ };
 
-    /// A store that holds an image.
+    /// Returns a store that holds the bytes of `image`, in memory of `alloc`. Returns `OutOfMemory`
+    /// where an allocation fails.
     fn make(alloc: Self::Alloc, image: &Image<Self::Alloc>) -> Result<Self, OutOfMemory>
         ensures content { IfOk result (λ store. content store ≡ image.now) }
         ensures image { IfOk result (λ store. IsImage (content store)) };
 
-    /// The byte at an address below 2,048.
+    /// Returns the byte at the address `a`, which is below 2,048.
     fn read(&self, a: u16) -> u8
         requires { a < 2048 }
         ensures byte { result ≡ slice_index (content self.now) a }
         ensures image { IsImage (content self.now) };
 
-    /// Changes the byte at an address below 2,048, and no other.
+    /// Replaces the byte at the address `a`, which is below 2,048, with `b`. No other byte changes.
     fn write(&mut self, a: u16, b: u8)
         requires { a < 2048 }
         ensures content { content self.new ≡ slice_set (content self.old) a b }
         ensures image { IsImage (content self.new) };
 
-    /// Takes an image's bytes in place of its own.
+    /// Replaces all bytes with those of `image`.
     fn load(&mut self, image: &Image<Self::Alloc>)
         ensures content { content self.new ≡ image.now }
         ensures image { IsImage (content self.new) };

@@ -22,18 +22,18 @@ pub enum NamedFault {
     /// This line lays an operation on a word on which another section of the ROM lies.
     #[error("overlap at line {0}")]
     Overlap(usize),
-    /// This line wants a name that no line gives.
+    /// This line needs a name that no line gives.
     #[error("unknown name at line {0}")]
     Unknown(usize),
 }
 
-/// Why a sketch is not read.
+/// Why a sketch isn't read.
 #[derive(Clone, Copy, Debug, PartialEq, Eq, Error)]
 pub enum SketchFault {
     /// The text has a fault.
     #[error(transparent)]
     Text(NamedFault),
-    /// A growth was refused.
+    /// An allocation failed.
     #[error("out of memory")]
     Memory,
 }

@@ -15,7 +15,7 @@ use dvg_frame::Op;
 use dvg_rows::{Row, Source};
 use std::alloc::Allocator;
 
-/// Where the operations of a frame stand in a list of those of all frames.
+/// Where the operations of a frame stand in the list of those of all frames.
 #[derive(Clone, Copy)]
 pub struct FrameSpan<'a> {
     /// The name of the frame, if it has one.
@@ -39,7 +39,8 @@ pub struct JoinedFrames<'a, A: Allocator> {
     pub spans: Vec<FrameSpan<'a>, A>,
 }
 
-/// The drafts of frames. Or else a name that they want isn't given, or a growth was refused.
+/// Returns the drafts of `frames`, with the names of the ROM from `rom`. Returns `Ungiven` where
+/// one needs a name that isn't given, and `Memory` where an allocation fails.
 pub fn join_frames<'a, A: Allocator + Copy>(
     alloc: A,
     frames: &[FrameRows<'_, 'a>],
@@ -81,7 +82,7 @@ pub fn join_frames<'a, A: Allocator + Copy>(
     })
 }
 
-// How many rows frames have, or the most of a `usize`.
+// Returns how many rows `frames` have, or the greatest `usize` where that is less.
 fn row_count(frames: &[FrameRows]) -> usize
     ensures { result ≡ min (sum_by (λ frame. length frame.rows.now) frames.now) (2 ^ 64 - 1) }
 {
@@ -92,7 +93,7 @@ fn row_count(frames: &[FrameRows]) -> usize
     count
 }
 
-// Adds the lines of the operations of a frame.
+// Adds the lines of the operations of `frame` to `sources`.
 fn push_sources<'a, A: Allocator + Copy>(
     sources: &mut Vec<Source<'a>, A>,
     frame: &FrameRows<'_, 'a>,
@@ -107,7 +108,7 @@ fn push_sources<'a, A: Allocator + Copy>(
     Ok(())
 }
 
-// Adds the line of a row, if the row does something.
+// Adds the line `source` of `row` to `sources`, if the row does something.
 fn push_line<'a, A: Allocator + Copy>(
     sources: &mut Vec<Source<'a>, A>,
     row: &Row,
@@ -122,7 +123,8 @@ fn push_line<'a, A: Allocator + Copy>(
     Ok(())
 }
 
-// Adds the operations of a frame, and answers where they stand.
+// Adds the operations of `frame` to `ops`, with the names of the ROM from `rom`. Returns where they
+// stand.
 fn push_frame<'a, A: Allocator + Copy>(
     alloc: A,
     ops: &mut Vec<Op, A>,

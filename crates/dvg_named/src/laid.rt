@@ -35,7 +35,7 @@ pub struct LaidRows<'r, 'a> {
     pub rows: &'r [Row<'a>],
 }
 
-/// Laid sections, of which each name is known that they give.
+/// Laid sections, and a table of all names that they give.
 #[derive(Drop)]
 pub struct LaidNames<'s, 'r, 'a, A: Allocator + Copy> {
     sections: &'s [LaidRows<'r, 'a>],
@@ -62,8 +62,8 @@ impl<'s, 'r, 'a, A: Allocator + Copy> LaidNames<'s, 'r, 'a, A> {
     ghost use Rattle.dvg_named.specs.RomNames.{IsNamedIn, names_listed};
     ghost use Rattle.dvg_rows.specs.RowPlaces.{names_of};
 
-    /// Makes the names known that sections give, which are these. A growth may be refused. The time
-    /// grows with the number of names.
+    /// Collects the names that `sections` give, which are `names`. Returns `OutOfMemory` where an
+    /// allocation fails. The time grows with the number of names.
     pub fn new(
         alloc: A,
         sections: &'s [LaidRows<'r, 'a>],
@@ -81,7 +81,7 @@ impl<'s, 'r, 'a, A: Allocator + Copy> LaidNames<'s, 'r, 'a, A> {
         })
     }
 
-    /// The sections, in order.
+    /// Returns the sections, in order.
     pub fn sections(&self) -> &'s [LaidRows<'r, 'a>]
         ensures { result.now ≡ self.now }
     {
@@ -89,7 +89,8 @@ impl<'s, 'r, 'a, A: Allocator + Copy> LaidNames<'s, 'r, 'a, A> {
     }
 }
 
-// The address of each name of a list.
+// Returns a table with the address of each of `names`. Returns `OutOfMemory` where an allocation
+// fails.
 fn table_of<'a, A: Allocator + Copy>(
     alloc: A,
     names: &[RomName<'a>],
@@ -103,9 +104,10 @@ fn table_of<'a, A: Allocator + Copy>(
     Ok(addresses)
 }
 
-/// The sections as they are laid, in order: each from its address on, or else from the first word
-/// after all that were laid before, which for the first is `free` (this project's own choice). A
-/// growth of the list may be refused (`OutOfMemory`). The time grows with the number of rows.
+/// Returns `sections` as they are laid, in order. Each is laid from its address on, or else from
+/// the first word after all that were laid before, which for the first section is `free` (this
+/// project's own choice). Returns `OutOfMemory` where an allocation fails. The time grows with the
+/// number of rows.
 pub fn lay<'r, 'a, A: Allocator>(
     alloc: A,
     free: usize,
@@ -128,9 +130,9 @@ pub fn lay<'r, 'a, A: Allocator>(
     Ok(laid)
 }
 
-/// The first word address that is free after one line `rom` more, where `free` was it before, and
-/// `end` is the address after the line's words. Before the first line it is that of the ROM's first
-/// word.
+/// Returns the first word address that is free after one more line `rom`, where `free` was it
+/// before and `end` is the address after the line's words. Before the first line it is that of the
+/// ROM's first word.
 pub fn free_with(free: u16, end: u16) -> u16
     ensures { (first : ℕ) (given : List RomLine) (line : RomLine) → free ≡ free_after first given
         → end ≡ line.address + length line.words → result ≡ free_after first (given ++ line ∷ []) }
@@ -138,7 +140,7 @@ pub fn free_with(free: u16, end: u16) -> u16
     free.max(end)
 }
 
-// The address that is given, or else this one.
+// Returns `address`, or `next` where none is given.
 fn start_of(address: Option<u16>, next: usize) -> usize
     ensures value { result ≡ unwrap_or address next }
     ensures most { result ≤ max 65535 next }
@@ -149,10 +151,10 @@ fn start_of(address: Option<u16>, next: usize) -> usize
     }
 }
 
-/// The word address that a name names in the ROM. None exactly where no row of these sections gives
-/// it. The time doesn't grow with the number of rows.
+/// Returns the word address that `name` names in the ROM of `sections`. Returns `None` exactly
+/// where no row of them gives it. The time doesn't grow with the number of rows.
 ///
-/// Where each name is given once, no other address is that of the name. A name after the last
+/// Where each name is given once, no other address is that of `name`. A name after the last
 /// operation of its section is the address after the section (this project's own choice).
 pub fn address_of<A: Allocator + Copy>(
     sections: &LaidNames<'_, '_, '_, A>,

@@ -34,11 +34,11 @@ pub struct RomRow {
     pub row: usize,
 }
 
-/// Puts the canonical words of laid sections into the bytes of a ROM, 2,048 or 4,096, each section
-/// at its address, the low byte of a word first. So bytes of which lines `rom` gave the words
-/// become those that the same words would have made of them, given by further lines. Or else the
-/// first row that wants a name which isn't given; what was put before it stays. No memory is taken.
-/// The time grows with the number of rows.
+/// Puts the canonical words of the laid `sections` into `rom`, the 2,048 or 4,096 bytes of a ROM.
+/// Each section goes to its address, the low byte of a word first. So bytes of which lines `rom`
+/// gave the words become those that the same words would have made of them, given by further lines.
+/// Or else returns the first row that needs a name which isn't given; what was put before it stays.
+/// No memory is taken. The time grows with the number of rows.
 pub fn put_sections<A: Allocator + Copy>(
     rom: &mut [u8],
     sections: &LaidNames<'_, '_, '_, A>,
@@ -62,8 +62,9 @@ pub fn put_sections<A: Allocator + Copy>(
     Ok(())
 }
 
-// Puts the words of one section into the bytes of a ROM, of which the first word is at this word
-// address. Or else the place of the first row that wants a name which isn't given.
+// Puts the words of `section`, one of `sections`, into `rom`, the bytes of a ROM. `first` is the
+// word address of the ROM's first word. Or else returns the place of the first row that needs a
+// name which isn't given.
 fn put_section<A: Allocator + Copy>(
     rom: &mut [u8],
     first: usize,
@@ -92,7 +93,8 @@ fn put_section<A: Allocator + Copy>(
     Ok(())
 }
 
-// Puts the words of an instruction from a place on, and answers the place after them.
+// Puts the words of `code` into `rom` from `place` on. Returns the place after them. Places are
+// counted in words.
 fn put_code(rom: &mut [u8], place: usize, code: Code) -> usize
     requires { 2 * (place + length (canon code)) ≤ length rom.old }
     ensures put { ArePut place (canon code) rom.old rom.new }
@@ -108,7 +110,7 @@ fn put_code(rom: &mut [u8], place: usize, code: Code) -> usize
     next
 }
 
-// Puts a word in its place, the low byte first.
+// Puts `word` at `place` in `rom`, counted in words, the low byte first.
 fn put_word(rom: &mut [u8], place: usize, word: u16)
     requires { 2 * place + 1 < length rom.old }
     ensures word { word_in rom.new place ≡ word }
@@ -120,7 +122,8 @@ fn put_word(rom: &mut [u8], place: usize, word: u16)
     rom[2 * place + 1] = (word / 256) as u8;
 }
 
-// The instruction of a row of the ROM. None where it wants a name that isn't given.
+// Returns the instruction of `doing`, which a row of the ROM does. Returns `None` where it needs a
+// name that `sections` don't give.
 fn code_of<A: Allocator + Copy>(sections: &LaidNames<'_, '_, '_, A>, doing: &Doing) -> Option<Code>
     requires low { AreLow (laid_sections sections.now) }
     requires may { MayBeEncoded (doing_of doing.now) }
@@ -136,7 +139,7 @@ fn code_of<A: Allocator + Copy>(sections: &LaidNames<'_, '_, '_, A>, doing: &Doi
     }
 }
 
-// The instruction of an operation without a name.
+// Returns the instruction of an operation of this `kind`, which has no name.
 fn plain_code(kind: OpKind) -> Code
     requires op { IsOp kind }
     requires may { MayBeEncoded (plainly kind) }
@@ -152,7 +155,7 @@ fn plain_code(kind: OpKind) -> Code
     }
 }
 
-// The call of a name of the ROM. None where it isn't given.
+// Returns the call of `name`, or `None` where `sections` don't give it.
 fn call_of<A: Allocator + Copy>(sections: &LaidNames<'_, '_, '_, A>, name: &[u8]) -> Option<Code>
     requires { AreLow (laid_sections sections.now) }
     ensures call { IfSome result (λ code. (address : ℕ) × IsAddressIn sections.now name.now address
@@ -165,7 +168,7 @@ fn call_of<A: Allocator + Copy>(sections: &LaidNames<'_, '_, '_, A>, name: &[u8]
     }
 }
 
-// The jump to a name of the ROM. None where it isn't given.
+// Returns the jump to `name`, or `None` where `sections` don't give it.
 fn jump_of<A: Allocator + Copy>(sections: &LaidNames<'_, '_, '_, A>, name: &[u8]) -> Option<Code>
     requires { AreLow (laid_sections sections.now) }
     ensures jump { IfSome result (λ code. (address : ℕ) × IsAddressIn sections.now name.now address

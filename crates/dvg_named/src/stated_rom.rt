@@ -1,4 +1,4 @@
-//! What the first lines of a sketch tell of its ROM.
+//! What the first lines of a sketch say of its ROM.
 ghost use Rattle.std.specs.Prelude.{◌≡◌, ◌⊎◌, ◌+◌, ◌-◌, ◌/◌, ◌∷◌, [], ℕ, List, length, IfSome};
 ghost use Rattle.std.specs.Prelude.{IsFalse, IsTrue, Some};
 ghost use Rattle.dvg_mem.specs.Grown.{AreReturns};
@@ -16,7 +16,7 @@ use dvg_read::read_rom_parts;
 /// A word that no line gives, an RTSL, its low byte first (this project's own choice).
 const UNGIVEN: [u8; 2] = [0x00, 0xD0];
 
-/// The ROM that the lines tell which were read.
+/// The ROM that the lines describe which were read so far.
 #[derive(Drop)]
 pub(crate) struct StatedRom {
     // Whether a line stated something.
@@ -27,7 +27,7 @@ pub(crate) struct StatedRom {
 }
 
 impl StatedRom {
-    /// Before the first line.
+    /// Returns the ROM before the first line.
     pub fn new() -> StatedRom
         ensures { HoldsStated unstated result }
     {
@@ -38,7 +38,8 @@ impl StatedRom {
         }
     }
 
-    /// Reads a line of these tokens. Whether it tells something of the ROM, and may stand here.
+    /// Reads a line of `tokens`. Returns whether it describes something of the ROM, and may stand
+    /// here. Where it doesn't, nothing changes.
     pub fn take(&mut self, tokens: &[&[u8]]) -> bool
         requires { AreParts (bytes_of tokens.now) }
         ensures took { IsTrue result → (rom : RomText) → HoldsStated rom self.old
@@ -66,7 +67,7 @@ impl StatedRom {
         true
     }
 
-    /// The bytes of the ROM.
+    /// Returns the bytes of the ROM.
     pub fn bytes(&self) -> ArrayVec<u8, LARGE_ROM_BYTES>
         ensures { result.items ≡ self.now.bytes.items }
     {
@@ -75,14 +76,14 @@ impl StatedRom {
         bytes
     }
 
-    /// The first word address after those that lines gave.
+    /// Returns the first word address after those that lines gave.
     pub fn free(&self) -> u16
         ensures { result ≡ self.now.free }
     {
         self.free
     }
 
-    /// The word address of the ROM's first word: the last one is at BFF.
+    /// Returns the word address of the ROM's first word. The last one is at BFF.
     pub fn first(&self) -> u16
         ensures { result + length self.now.bytes.items / 2 ≡ 0xC00 }
     {
@@ -90,8 +91,8 @@ impl StatedRom {
     }
 }
 
-// The word address of the ROM's first word in the memory map that a line of these tokens tells.
-// None exactly where it tells none.
+// Returns the word address of the ROM's first word in the memory map that a line of `tokens` gives,
+// or `None` exactly where it gives none.
 fn map_of(tokens: &[&[u8]]) -> Option<u16>
     requires { AreParts (bytes_of tokens.now) }
     ensures found { IfSome result (λ first. IsMapLine first (line_of (bytes_of tokens.now))) }
@@ -104,7 +105,7 @@ fn map_of(tokens: &[&[u8]]) -> Option<u16>
     }
 }
 
-// The same of a line of these two tokens.
+// Like `map_of`, for a line of the two tokens `name` and `size`.
 fn map_named(name: &[u8], size: &[u8]) -> Option<u16>
     requires { AreParts (name.now ∷ size.now ∷ []) }
     ensures found { IfSome result (λ first. IsMapLine first (line_of (name.now ∷ size.now ∷ []))) }
@@ -121,7 +122,8 @@ fn map_named(name: &[u8], size: &[u8]) -> Option<u16>
     }
 }
 
-// The bytes of a ROM of which no line gives a word.
+// Returns the bytes of a ROM of which no line gives a word. `first` is the word address of its
+// first word, 400 or 800.
 fn ungiven(first: u16) -> ArrayVec<u8, LARGE_ROM_BYTES>
     requires { (first ≡ 0x800) ⊎ (first ≡ 0x400) }
     ensures { AreReturns result.items (0xC00 - first) }

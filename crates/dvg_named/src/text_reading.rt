@@ -12,8 +12,9 @@ use dvg_read::{MOST_TEXT_BYTES, TextLines};
 use dvg_rows::{LineFault, Source, find_tokens};
 use std::alloc::Allocator;
 
-/// Reads all lines of a text in small letters, in one pass. Or else the text has a fault: it is too
-/// long, or this line is the first at fault. A growth may be refused, too (`Memory`).
+/// Reads all lines of `small`, a text in small letters, in one pass. Returns `Text` where `small`
+/// is too long or a line is at fault, with the first such line, and `Memory` where an allocation
+/// fails.
 pub(crate) fn read_lines<'a, A: Allocator + Copy>(
     alloc: A,
     small: &'a [u8],
@@ -43,7 +44,7 @@ pub(crate) fn read_lines<'a, A: Allocator + Copy>(
     Ok(reading)
 }
 
-// The first line of a text, which is empty where there is none.
+// Returns the first line of `text`, which is empty where there is none.
 fn first_line(text: &[u8]) -> Source<'_>
     ensures number { result.number ≡ 1 }
     ensures line { result.line.now ≡ first_of (lines text.now) }
@@ -58,7 +59,7 @@ fn first_line(text: &[u8]) -> Source<'_>
     }
 }
 
-// A fault of the line of this number.
+// Returns `fault` as that of the line of this `number`.
 fn at_line(fault: LineFault, number: usize) -> SketchFault
     ensures { result ≡ fault_at fault number }
 {

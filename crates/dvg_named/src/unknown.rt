@@ -1,4 +1,4 @@
-//! The first row of a sketch that wants a name which isn't given.
+//! The first row of a sketch that needs a name which isn't given.
 ghost use Rattle.std.specs.Prelude.{◌≡◌, ◌↔◌, ◌<◌, ℕ, All, IfNone, IfOk, IfSome, IsTrue, Some};
 ghost use Rattle.std.specs.Prelude.{length, slice_get, List};
 ghost use Rattle.dvg_named.specs.FirstUnknown.{FirstOf, HasLines, WantsIn, WantsNone, WantsRow};
@@ -18,9 +18,10 @@ use dvg_code::OutOfMemory;
 use dvg_rows::{Doing, Head, NamedRows, Part, Row, number_of};
 use std::alloc::Allocator;
 
-/// The number of the line of the first row that wants a name which isn't given, in the order of the
-/// text: of the sections before the last one, and of that one. A growth may be refused. The time
-/// grows with the number of rows.
+/// Returns the number of the line of the first row that needs a name which isn't given, in the
+/// order of the text: of the sections `closed`, and of the section `last` after them. `laid` has
+/// the names of the ROM. Returns `OutOfMemory` where an allocation fails. The time grows with the
+/// number of rows.
 pub(crate) fn first_unknown<A: Allocator + Copy>(
     alloc: A,
     closed: &[Part<'_, A>],
@@ -45,7 +46,7 @@ pub(crate) fn first_unknown<A: Allocator + Copy>(
     unknown_in(alloc, last, laid)
 }
 
-// The number of the line of the first such row of a section.
+// Returns the number of the line of the first such row of the section `part`.
 fn unknown_in<A: Allocator + Copy>(
     alloc: A,
     part: &Part<'_, A>,
@@ -64,7 +65,7 @@ fn unknown_in<A: Allocator + Copy>(
     Ok(number_in(part, &rows, laid))
 }
 
-// The same of a section of these rows.
+// Like `unknown_in`, where `rows` are the rows of `part` with their names collected.
 fn number_in<A: Allocator + Copy>(
     part: &Part<'_, A>,
     rows: &NamedRows<'_, '_, A>,
@@ -85,7 +86,8 @@ fn number_in<A: Allocator + Copy>(
     }
 }
 
-// The place of the first such row of a section, counted from 0.
+// Returns the place of the first such row among `rows`, counted from 0, in a section that `head`
+// begins.
 fn first_in<A: Allocator + Copy>(
     head: Option<Head>,
     rows: &NamedRows<'_, '_, A>,
@@ -106,7 +108,8 @@ fn first_in<A: Allocator + Copy>(
     None
 }
 
-// Whether a row of a section wants a name that isn't given.
+// Whether `row`, in a section of `rows` that `head` begins, needs a name that isn't given. `laid`
+// has the names of the ROM.
 fn wants<A: Allocator + Copy>(
     head: Option<Head>,
     rows: &NamedRows<'_, '_, A>,
@@ -123,7 +126,7 @@ fn wants<A: Allocator + Copy>(
     }
 }
 
-// Whether what a row of a section does wants a name that isn't given.
+// Like `wants`, for `doing`, what the row does.
 fn is_ungiven<A: Allocator + Copy>(
     head: Option<Head>,
     rows: &NamedRows<'_, '_, A>,
@@ -143,7 +146,8 @@ fn is_ungiven<A: Allocator + Copy>(
     }
 }
 
-// Whether a name isn't given where a section looks for it.
+// Whether `name` isn't given where a section that `head` begins looks for it: among its `rows`, or
+// in the ROM, which is `laid`.
 fn is_lost<A: Allocator + Copy>(
     head: Option<Head>,
     rows: &NamedRows<'_, '_, A>,
@@ -160,7 +164,7 @@ fn is_lost<A: Allocator + Copy>(
     }
 }
 
-// Whether a name isn't given where a section that a line begins looks for it.
+// Like `is_lost`, for a section that a line begins, with `head`.
 fn is_lost_after<A: Allocator + Copy>(
     head: Head,
     rows: &NamedRows<'_, '_, A>,
@@ -177,7 +181,7 @@ fn is_lost_after<A: Allocator + Copy>(
     }
 }
 
-// Whether no section of the ROM gives a name.
+// Whether no section of the ROM, as it is `laid`, gives `name`.
 fn has_no_address<A: Allocator + Copy>(laid: &LaidNames<'_, '_, '_, A>, name: &[u8]) -> bool
     requires low { AreLow (laid_sections laid.now) }
     ensures { IsTrue result ↔ NoneNames laid.now name.now }
@@ -185,7 +189,7 @@ fn has_no_address<A: Allocator + Copy>(laid: &LaidNames<'_, '_, '_, A>, name: &[
     address_of(laid, name).is_none()
 }
 
-// Whether no row of a frame gives a name.
+// Whether none of `rows`, the rows of a frame, gives `name`.
 fn has_no_number<A: Allocator + Copy>(rows: &NamedRows<'_, '_, A>, name: &[u8]) -> bool
     ensures { IsTrue result ↔ ((number : ℕ) → ¬ IsNumber (rows_of rows.now) name.now number) }
 {

@@ -14,7 +14,7 @@ use dvg_read::TextFault;
 use std::alloc::Allocator;
 use std::io::{Read, Write};
 
-// The fault of bytes that aren't a dump.
+// Returns the fault of `bytes`, which aren't a dump.
 fn size_fault(bytes: &[u8]) -> TextFault
     requires { ¬ HasDumpSize bytes.now }
     ensures { HasDumpFault bytes.now result }
@@ -26,7 +26,8 @@ fn size_fault(bytes: &[u8]) -> TextFault
     }
 }
 
-/// The run over a dump, with its instructions where it `traces`.
+/// Returns the run over the dump `bytes`, with its instructions where `traces` is set. `DumpSize`
+/// or `LongDump` where `bytes` aren't a dump, `Memory` where an allocation fails.
 pub(crate) fn run_dump<A: Allocator + Copy>(
     alloc: A,
     bytes: &[u8],
@@ -46,7 +47,7 @@ pub(crate) fn run_dump<A: Allocator + Copy>(
     Ok(run)
 }
 
-// The engine: of a dump it finds how its run ends.
+// The engine that finds how the run over a dump ends.
 #[derive(Drop)]
 struct PictureEngine {
     // Whether it finds the instructions, too.
@@ -80,9 +81,9 @@ impl<A: Allocator + Copy> Engine<A> for PictureEngine {
     }
 }
 
-/// Reads a dump of vector memory, 2,048 bytes of RAM and then 2,048 or 4,096 of ROM, starts a new
-/// generator once over it, which doesn't change, and writes how that ends (the texts are this
-/// project's own choice):
+/// Reads a dump of vector memory from `reader`: 2,048 bytes of RAM and then 2,048 or 4,096 of ROM.
+/// It starts a new generator once over the dump, which doesn't change, and writes to `writer` how
+/// that ends (the texts are this project's own choice):
 ///
 /// - `picture`: with the numbers of words that were fetched and of strokes, and then a line for
 ///   each stroke.
@@ -90,12 +91,12 @@ impl<A: Allocator + Copy> Engine<A> for PictureEngine {
 /// - `endless`: there is neither within 65,536 words.
 ///
 /// With `all` it first writes a line for each instruction that was run, with the beam after it, and
-/// after it that of its stroke. It answers which of the three it was. The faults:
+/// then the line of its stroke. Returns which of the three it was. The faults:
 ///
 /// - `DumpSize`: the input has so many bytes, up to 6,144, and neither 4,096 nor 6,144.
 /// - `LongDump`: it has more than 6,144, of which no more than 6,145 are taken.
 /// - `Reader`, `Writer`: that stream failed. After `Writer` a beginning of the text went out.
-/// - `Memory`: a growth was refused.
+/// - `Memory`: an allocation failed.
 ///
 /// Where it stops before it writes, which is at any fault but `Writer`, the writer is as it was.
 #[inline(never)]

@@ -36,7 +36,7 @@ impl fmt::Display for Undrawn {
     }
 }
 
-/// Why a run with this end drew no picture, if it didn't.
+/// Returns why a run with the end `ending` drew no picture, if it didn't.
 pub(crate) fn undrawn_by<A: Allocator>(ending: &Ending<A>) -> Option<Undrawn>
     ensures { result ≡ undrawn_by (end_of ending.now) }
 {
@@ -50,7 +50,7 @@ pub(crate) fn undrawn_by<A: Allocator>(ending: &Ending<A>) -> Option<Undrawn>
     }
 }
 
-/// The line that tells it.
+/// Returns the line that describes `undrawn`.
 pub(crate) fn reason_line(undrawn: Undrawn) -> Line
     ensures { result ≡ reason_text undrawn ++ 10 ∷ [] }
 {

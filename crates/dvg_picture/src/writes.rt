@@ -12,7 +12,7 @@ use dvg_print::Line;
 use std::alloc::Allocator;
 use std::io::Write;
 
-// Writes the line, and after it those of strokes.
+// Writes `line` to `writer`, and after it a line for each of `strokes`.
 fn write_with_strokes<W: Write>(
     line: &Line,
     strokes: &[Stroke],
@@ -25,7 +25,7 @@ fn write_with_strokes<W: Write>(
     write_strokes(strokes, writer)
 }
 
-// Writes the lines of an instruction that was run. They are made in `line`.
+// Writes the lines of `ran`, an instruction that was run, to `writer`. They are made in `line`.
 fn write_ran<W: Write>(
     line: &mut Line,
     ran: &Ran,
@@ -37,7 +37,8 @@ fn write_ran<W: Write>(
     write_with_strokes(line, ran.stroke.as_slice(), writer)
 }
 
-// Writes the lines of the instructions that were run. They are made in `line`.
+// Writes the lines of `trace`, the instructions that were run, to `writer`. They are made in
+// `line`.
 fn write_trace<W: Write>(
     line: &mut Line,
     trace: &[Ran],
@@ -51,7 +52,7 @@ fn write_trace<W: Write>(
     Ok(())
 }
 
-// Writes how a run ends. The lines are made in `line`.
+// Writes how a run ends, `ending`, to `writer`. The lines are made in `line`.
 fn write_end<A: Allocator, W: Write>(
     line: &mut Line,
     ending: &Ending<A>,
@@ -75,7 +76,7 @@ fn write_end<A: Allocator, W: Write>(
     }
 }
 
-/// Writes the instructions of a run and how it ends.
+/// Writes the instructions of `run`, and how it ends, to `writer`.
 pub(crate) fn write_run<A: Allocator, W: Write>(
     run: &Traced<A>,
     writer: &mut Watched<W>,

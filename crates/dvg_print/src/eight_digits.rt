@@ -6,11 +6,11 @@ ghost use Rattle.dvg_print.specs.Numbering.{padded};
 
 use crate::digits::BLOCK_BYTES;
 
-/// No number from this one on has a text of eight bytes.
+/// The least number that has no text of eight bytes.
 pub(crate) const GREAT: u32 = 100_000_000;
 
-/// For each count of zeros that a number of 32 bits begins with: what is to be added to the number,
-/// so that the upper 32 bits of the sum are how many digits it has.
+/// What is added to a number of 32 bits, by the count of zeros that it begins with: the upper 32
+/// bits of the sum are how many digits it has.
 static COUNTS: [u64; 33] = [
     42_949_672_960,
     42_949_672_960,
@@ -47,7 +47,7 @@ static COUNTS: [u64; 33] = [
     8_589_934_582,
 ];
 
-/// A number, and its text: the last bytes, this many, of those that make up `bytes`.
+/// A number, and its text: the last `count` of the eight bytes that make up `bytes`.
 #[derive(Drop)]
 pub(crate) struct Digits {
     pub(crate) number: u32,
@@ -57,7 +57,7 @@ pub(crate) struct Digits {
     ghost text: { drop (8 - count) (to_le_bytes w64 bytes) ≡ decimal number },
 }
 
-// How many digits a number has.
+// Returns how many digits `number` has.
 #[inline(always)]
 fn digit_count(number: u32) -> usize
     requires { number < 100000000 }
@@ -67,7 +67,7 @@ fn digit_count(number: u32) -> usize
     ((u64::from(number) + COUNTS[zeros]) >> 32) as usize
 }
 
-// Four digits in each half of the bits, the first ones in the lower half.
+// Returns four digits of `number` in each half of the bits, the first ones in the lower half.
 #[inline(always)]
 fn halves(number: u32) -> u64
     requires { number < 100000000 }
@@ -76,7 +76,7 @@ fn halves(number: u32) -> u64
     u64::from(number / 10_000) + u64::from(number % 10_000) * 0x1_0000_0000
 }
 
-// Two digits in each quarter. 10,486 is 2 ^ 20 / 100, rounded up.
+// Returns two digits of `number` in each quarter. 10,486 is 2 ^ 20 / 100, rounded up.
 #[inline(always)]
 fn quarters(number: u32) -> u64
     requires { number < 100000000 }
@@ -88,7 +88,7 @@ fn quarters(number: u32) -> u64
     hundreds + (halves - 100 * hundreds) * 0x1_0000
 }
 
-// A digit in each byte, as text. 103 is 2 ^ 10 / 10, rounded up.
+// Returns a digit of `number` in each byte, as text. 103 is 2 ^ 10 / 10, rounded up.
 #[inline(always)]
 fn eight_digits(number: u32) -> u64
     requires { number < 100000000 }
@@ -99,7 +99,7 @@ fn eight_digits(number: u32) -> u64
     tens + (quarters - 10 * tens) * 0x100 + 0x3030_3030_3030_3030
 }
 
-/// The text of a number.
+/// Returns the text of `number`.
 #[inline(always)]
 pub(crate) fn digits_of(number: u32) -> Digits
     requires { number < 100000000 }
@@ -112,7 +112,7 @@ pub(crate) fn digits_of(number: u32) -> Digits
     }
 }
 
-/// Puts a text before `end`, and answers where it begins.
+/// Puts the text of `digits` before `end`. Returns where it begins.
 #[inline(always)]
 pub(crate) fn put_digits(bytes: &mut [u8; BLOCK_BYTES], end: usize, digits: &Digits) -> usize
     requires room { 8 ≤ end }

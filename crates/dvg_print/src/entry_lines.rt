@@ -10,12 +10,12 @@ use itoa::Buffer;
 use std::marker::Model;
 
 /// The lines that `play --all` writes of entries, one at a time. The digits of the next event's
-/// number are kept, and counted up in place, the last one apart from the others.
+/// number are kept and counted up in place, the last one apart from the others.
 #[derive(Drop)]
 pub struct EntryLines {
     line: Line,
-    // The first of these bytes, this many, are the digits of the next entry's number before its
-    // last one. Nine lines in ten leave them: bytes just written are slow to read together.
+    // The first `count` of these bytes are the digits of the next entry's number before its last
+    // one. Nine lines in ten leave them: bytes just written are slow to read together.
     tens: [u8; NUMBER_BYTES],
     count: usize,
     ones: u8,
@@ -37,7 +37,7 @@ impl Model for EntryLines {
         ≡ decimal entry_lines.next) };
 }
 
-// The bytes of a number, and how many digits it has.
+// Returns the digits of `number` at the front of an array, and how many they are.
 fn digits_of(number: usize) -> ([u8; NUMBER_BYTES], usize)
     ensures digits { take result.1 result.0 ≡ decimal number }
     ensures few { result.1 ≤ 20 }
@@ -49,7 +49,7 @@ fn digits_of(number: usize) -> ([u8; NUMBER_BYTES], usize)
     (bytes, text.len())
 }
 
-// The digits of a number before its last one, and how many they are.
+// Returns the digits of `number` before its last one, and how many they are.
 fn tens_of(number: usize) -> ([u8; NUMBER_BYTES], usize)
     ensures digits { take result.1 result.0 ++ (48 + number % 10) ∷ [] ≡ decimal number }
     ensures few { result.1 ≤ 20 }
@@ -61,7 +61,7 @@ fn tens_of(number: usize) -> ([u8; NUMBER_BYTES], usize)
 }
 
 impl EntryLines {
-    /// A line with no bytes. The next entry's event has this number.
+    /// Returns a line with no bytes, where `next` is the number of the next entry's event.
     pub fn new(next: usize) -> EntryLines
         ensures text { result.text ≡ [] }
         ensures next { result.next ≡ next }
@@ -76,14 +76,15 @@ impl EntryLines {
         }
     }
 
-    /// The bytes.
+    /// Returns the bytes of the line.
     pub fn as_bytes(&self) -> &[u8]
         ensures { result.now ≡ self.now.text }
     {
         self.line.as_bytes()
     }
 
-    /// Becomes the line of the next entry. A finished run drew this many strokes.
+    /// Becomes the line of `entry`, the next entry. `drew` is how many strokes the run drew, if
+    /// `entry` finished one.
     #[inline(always)]
     pub fn become_next<S>(&mut self, entry: &Entry<S>, drew: usize)
         requires { self.old.next + 1 < 2 ^ 64 }
@@ -98,7 +99,7 @@ impl EntryLines {
         self.count_on();
     }
 
-    // Goes on to the next number, which nine times in ten has another last digit alone.
+    // Goes on to the next number. Nine times in ten only the last digit changes.
     #[inline(always)]
     fn count_on(&mut self)
         requires { self.old.next + 1 < 2 ^ 64 }
@@ -113,8 +114,8 @@ impl EntryLines {
         self.next_ten();
     }
 
-    // Goes on to the next number from one that ends with a nine. It isn't made a part of its
-    // caller, which is faster for that.
+    // Goes on to the next number from one that ends with a nine. It isn't inlined, as its caller is
+    // faster without it.
     #[inline(never)]
     fn next_ten(&mut self)
         requires nine { self.old.next % 10 ≡ 9 }

@@ -26,7 +26,7 @@ static PAIRS: [u8; 512] =
     C8C9CACBCCCDCECFD0D1D2D3D4D5D6D7D8D9DADBDCDDDEDFE0E1E2E3E4E5E6E7E8E9EAEBECEDEEEF\
     F0F1F2F3F4F5F6F7F8F9FAFBFCFDFEFF";
 
-// A hexadecimal digit in upper case.
+// Returns `digit`, 0 to 15, as a hexadecimal digit in upper case.
 #[inline(always)]
 fn glyph(digit: usize) -> u8
     requires { digit < 16 }
@@ -35,7 +35,7 @@ fn glyph(digit: usize) -> u8
     b"0123456789ABCDEF"[digit]
 }
 
-// The digits of a byte.
+// Returns the two hexadecimal digits of `byte`.
 #[inline(always)]
 fn pair(byte: u8) -> (u8, u8)
     ensures { result.0 ∷ result.1 ∷ [] ≡ hex_2 byte }
@@ -64,7 +64,7 @@ impl Model for Line {
 }
 
 impl Line {
-    /// A line with no bytes.
+    /// Returns a line with no bytes.
     pub fn new() -> Line
         ensures { result ≡ [] }
     {
@@ -74,7 +74,7 @@ impl Line {
         }
     }
 
-    /// The bytes.
+    /// Returns the bytes of the line.
     pub fn as_bytes(&self) -> &[u8]
         ensures { result.now ≡ self.now }
     {
@@ -89,7 +89,7 @@ impl Line {
         self.count = 0;
     }
 
-    // Appends the first of these bytes, this many. All of them are moved, as that takes less time.
+    // Appends the first `count` bytes of `text`. All 24 are copied, as that takes less time.
     #[inline(always)]
     pub(crate) fn front(&mut self, text: &[u8; NUMBER_BYTES], count: usize)
         requires room { length self.old + 24 ≤ 4096 }
@@ -101,17 +101,7 @@ impl Line {
         self.count += count;
     }
 
-    // Becomes a number in decimal.
-    pub(crate) fn become_number<I: Integer>(&mut self, n: I)
-        requires { I.MAX_STR_LEN ≤ 64 }
-        ensures text { self.new ≡ I.text n }
-        ensures grew { length self.new ≤ I.MAX_STR_LEN }
-    {
-        self.clear();
-        self.text(Buffer::new().format(n).as_bytes());
-    }
-
-    // Appends a text.
+    // Appends `text`.
     #[inline(always)]
     pub(crate) fn text(&mut self, text: &[u8])
         requires { length self.old + length text.now ≤ 4096 }
@@ -123,7 +113,7 @@ impl Line {
         self.count = end;
     }
 
-    // Appends a space and a part of the line.
+    // Appends a space and `part`.
     #[inline(always)]
     pub(crate) fn part(&mut self, part: &[u8])
         requires { length self.old + length part.now < 4096 }
@@ -134,7 +124,7 @@ impl Line {
         self.text(part);
     }
 
-    // Appends a space and a number in decimal.
+    // Appends a space and `n` in decimal.
     pub(crate) fn number<I: Integer>(&mut self, n: I)
         requires { length self.old + I.MAX_STR_LEN < 4096 }
         ensures text { self.new ≡ self.old ++ spaced (I.text n ∷ []) }
@@ -143,7 +133,7 @@ impl Line {
         self.part(Buffer::new().format(n).as_bytes());
     }
 
-    // Appends a space and two hexadecimal digits.
+    // Appends a space and the two hexadecimal digits of `byte`.
     #[inline(always)]
     pub(crate) fn hex_2(&mut self, byte: u8)
         requires { length self.old + 3 ≤ 4096 }
@@ -154,7 +144,7 @@ impl Line {
         self.text(&[b' ', tens, ones]);
     }
 
-    // Appends three hexadecimal digits.
+    // Appends the last three hexadecimal digits of `n`.
     #[inline(always)]
     pub(crate) fn hex_3(&mut self, n: usize)
         requires { length self.old + 3 ≤ 4096 }
@@ -164,7 +154,7 @@ impl Line {
         self.text(&[glyph(n / 256 % 16), glyph(n / 16 % 16), glyph(n % 16)]);
     }
 
-    // Appends a space and a word address.
+    // Appends a space and the three hexadecimal digits of the word address `address`.
     #[inline(always)]
     fn address(&mut self, address: u16)
         requires { length self.old + 4 ≤ 4096 }
@@ -176,7 +166,7 @@ impl Line {
         self.text(&[b' ', first, second, last]);
     }
 
-    // Appends a space and four hexadecimal digits.
+    // Appends a space and the four hexadecimal digits of `word`.
     #[inline(always)]
     pub(crate) fn hex_4(&mut self, word: u16)
         requires { length self.old + 5 ≤ 4096 }
@@ -188,7 +178,7 @@ impl Line {
         self.text(&[b' ', first, second, third, last]);
     }
 
-    // Appends the name of a vector and its numbers.
+    // Appends `name`, the name of a vector, and its numbers `scale`, `dx`, `dy` and `z`.
     fn vector(&mut self, name: &[u8], scale: u8, dx: i16, dy: i16, z: u8)
         requires { length self.old + length name.now + 23 ≤ 4096 }
         ensures text { self.new ≡ self.old ++ spaced (vector_parts name.now scale dx dy z) }
@@ -201,7 +191,7 @@ impl Line {
         self.number(z);
     }
 
-    // Appends the name of a LABS and its numbers.
+    // Appends `LABS` and its numbers `x`, `y` and `scale`.
     fn labs(&mut self, x: u16, y: u16, scale: u8)
         requires { length self.old + 21 ≤ 4096 }
         ensures text { self.new ≡ self.old
@@ -214,7 +204,7 @@ impl Line {
         self.number(scale);
     }
 
-    // Appends the name of an instruction and a word address.
+    // Appends `name`, the name of an instruction, and the word address `address`.
     #[inline(always)]
     pub(crate) fn with_address(&mut self, name: &[u8], address: u16)
         requires { length self.old + length name.now + 5 ≤ 4096 }
@@ -225,7 +215,7 @@ impl Line {
         self.address(address);
     }
 
-    // Appends the name of an instruction and its operands.
+    // Appends the name of `instr` and its operands.
     fn instr(&mut self, instr: Instr)
         requires { length self.old + 27 ≤ 4096 }
         ensures text { self.new ≡ self.old ++ spaced (instr_parts instr) }
@@ -244,7 +234,7 @@ impl Line {
         }
     }
 
-    // Appends a place: an operation's number, or a ROM word's address.
+    // Appends `place`: an operation's number, or a ROM word's address.
     fn place(&mut self, place: Place)
         requires { length self.old + 9 ≤ 4096 }
         ensures text { self.new ≡ self.old ++ spaced (place_parts place) }
@@ -259,7 +249,7 @@ impl Line {
         }
     }
 
-    // Appends a fault's number and name, and a place.
+    // Appends `name`, which is a fault's number and name, and `place`.
     fn fault_at(&mut self, name: &[u8], place: Place)
         requires { length self.old + length name.now + 10 ≤ 4096 }
         ensures text { self.new ≡ self.old ++ spaced (name.now ∷ place_parts place) }
@@ -269,7 +259,7 @@ impl Line {
         self.place(place);
     }
 
-    // Appends a fault's number and name, and the number of an operation.
+    // Appends `name`, which is a fault's number and name, and `i`, the number of an operation.
     fn fault_of(&mut self, name: &[u8], i: u16)
         requires { length self.old + length name.now + 7 ≤ 4096 }
         ensures text { self.new ≡ self.old ++ spaced (name.now ∷ decimal i ∷ []) }
@@ -279,7 +269,7 @@ impl Line {
         self.number(i);
     }
 
-    // Appends the parts of a fault's text.
+    // Appends the parts of the text of `fault`.
     pub(crate) fn fault(&mut self, fault: FrameFault)
         requires { length self.old + 22 ≤ 4096 }
         ensures text { self.new ≡ self.old ++ spaced (fault_parts fault) }
@@ -298,8 +288,8 @@ impl Line {
         }
     }
 
-    // Becomes the place of an instruction, its name and operands, and a star where its words aren't
-    // canonical.
+    // Becomes `place` in three hexadecimal digits, the name and operands of `code`, and a star
+    // unless its words are `canonical`.
     pub(crate) fn become_placed(&mut self, place: usize, code: &Code, canonical: bool)
         ensures text { self.new ≡ hex_3 place ++ spaced (listed_parts code.now canonical) }
         ensures short { length self.new ≤ 32 }
@@ -312,8 +302,8 @@ impl Line {
         }
     }
 
-    /// Becomes the line that `list` writes of an instruction at a place, of words that are
-    /// canonical or not.
+    /// Becomes the line that `list` writes of the instruction `code` at `place`. It ends with a
+    /// star unless the words are `canonical`.
     pub fn become_listed(&mut self, place: usize, code: &Code, canonical: bool)
         ensures { self.new ≡ line_text place code.now canonical }
     {
@@ -321,7 +311,7 @@ impl Line {
         self.text(b"\n");
     }
 
-    /// Becomes the ROM line of eight words, from an address on.
+    /// Becomes the ROM line of `words`, which are eight, from the word address `address` on.
     pub fn become_rom(&mut self, address: usize, words: &[u16])
         requires { length words.now ≡ 8 }
         ensures { self.new ≡ rom_line address words.now }
@@ -335,7 +325,7 @@ impl Line {
         self.text(b"\n");
     }
 
-    /// Becomes the line that `check` writes of a verdict.
+    /// Becomes the line that `check` writes of `verdict`.
     pub fn become_verdict(&mut self, verdict: Verdict)
         ensures { self.new ≡ verdict_line verdict }
     {
@@ -354,7 +344,7 @@ impl Line {
         self.text(b"\n");
     }
 
-    /// Becomes the line that `check` writes of a verdict, with the bound of a good draft.
+    /// Becomes the line that `check --bound` writes of `verdict`, with the bound of a good draft.
     pub fn become_bounded(&mut self, verdict: BoundedVerdict)
         ensures { self.new ≡ bounded_line verdict }
     {

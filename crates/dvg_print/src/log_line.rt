@@ -2,14 +2,14 @@
 ghost use Rattle.std.specs.Prelude.{◌≡◌, ◌≤◌, ◌+◌, ◌++◌, ◌∷◌, [], length, codes, decimal};
 ghost use Rattle.dvg_log.specs.Entries.{map_entry};
 ghost use Rattle.dvg_print.specs.Lines.{hex_3, hex_4, spaced};
-ghost use Rattle.dvg_print.specs.Shows.{action_parts, entry_parts, position_text};
+ghost use Rattle.dvg_print.specs.Shows.{action_parts, entry_parts};
 
 use crate::line::Line;
 use dvg_driver::Action;
 use dvg_log::Entry;
 
 impl Line {
-    // Appends what an action did.
+    // Appends what `action` did.
     #[inline(always)]
     pub(crate) fn action(&mut self, action: Action)
         requires { length self.old + 13 ≤ 4096 }
@@ -29,7 +29,8 @@ impl Line {
         }
     }
 
-    // Appends what a fetch led to, its word address, and the word there.
+    // Appends `name`, which says what a fetch led to, its word address `address`, and the `word`
+    // there.
     #[inline(always)]
     fn fetched(&mut self, name: &[u8], address: u16, word: u16)
         requires { length self.old + length name.now + 10 ≤ 4096 }
@@ -40,7 +41,8 @@ impl Line {
         self.hex_4(word);
     }
 
-    // Appends what an event led to. A finished run drew this many strokes.
+    // Appends what an event led to, `entry`. `drew` is how many strokes the run drew, if `entry`
+    // finished one.
     #[inline(always)]
     pub(crate) fn entry<S>(&mut self, entry: &Entry<S>, drew: usize)
         requires { length self.old + 36 ≤ 4096 }
@@ -78,8 +80,8 @@ impl Line {
         }
     }
 
-    /// Becomes the line of a picture of this many strokes, by the number of the event that finished
-    /// it.
+    /// Becomes the line of a picture of so many `strokes`, which the event of this `number`
+    /// finished.
     pub fn become_picture(&mut self, number: usize, strokes: usize)
         ensures { self.new ≡ codes "picture" ++ spaced (decimal number ∷ decimal strokes ∷ [])
             ++ 10 ∷ [] }
@@ -89,14 +91,5 @@ impl Line {
         self.number(number);
         self.number(strokes);
         self.text(b"\n");
-    }
-
-    // Becomes a position.
-    pub(crate) fn become_position(&mut self, x: u32, y: u32)
-        ensures text { self.new ≡ position_text x y }
-        ensures grew { length self.new ≤ 21 }
-    {
-        self.become_number(x);
-        self.number(y);
     }
 }

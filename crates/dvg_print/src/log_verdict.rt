@@ -23,7 +23,7 @@ pub struct LogCounts {
 pub enum LogFinding {
     /// No byte was written in the half that the open run draws.
     NotTorn,
-    /// No such byte either, but no run drew a half.
+    /// No such byte was written either, but no run drew a half.
     NoRunDrew,
     /// The first write in such a half: the number of its line, counted from 1, its byte address and
     /// its byte.
@@ -40,7 +40,7 @@ pub struct LogVerdict {
 }
 
 impl Line {
-    /// Becomes what `torn` writes of a verdict: one line, or two of a torn log.
+    /// Becomes what `torn` writes of `verdict`: one line, or two for a torn log.
     pub fn become_log_verdict(&mut self, verdict: LogVerdict)
         ensures { self.new ≡ log_verdict_text verdict }
     {
@@ -50,7 +50,7 @@ impl Line {
         self.halts(verdict.counts);
     }
 
-    // Appends what is found in a log.
+    // Appends `finding`, what was found in a log.
     fn finding(&mut self, finding: LogFinding)
         requires { length self.old + 64 ≤ 4096 }
         ensures text { self.new ≡ self.old ++ finding_text finding }
@@ -73,7 +73,7 @@ impl Line {
         }
     }
 
-    // Appends how many runs began, and how many of them drew a half.
+    // Appends, from `counts`, how many runs began and how many of them drew a half.
     fn runs(&mut self, counts: LogCounts)
         requires { length self.old + 64 ≤ 4096 }
         ensures text { self.new ≡ self.old ++ runs_text counts }
@@ -85,7 +85,8 @@ impl Line {
         self.text(b" drew a half,");
     }
 
-    // Appends how many lines say `halted`, how many bytes were written, and the line's end.
+    // Appends, from `counts`, how many lines say `halted` and how many bytes were written, and the
+    // line's end.
     fn halts(&mut self, counts: LogCounts)
         requires { length self.old + 64 ≤ 4096 }
         ensures text { self.new ≡ self.old ++ halts_text counts }

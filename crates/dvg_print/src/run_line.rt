@@ -8,7 +8,7 @@ use dvg_code::Code;
 use dvg_gen::{Beam, GenFault};
 
 impl Line {
-    // Appends where the beam is.
+    // Appends where `beam` is, in 1/512 units, and its global scale.
     fn beam(&mut self, beam: &Beam)
         requires { length self.old + 29 ≤ 4096 }
         ensures text { self.new ≡ self.old ++ spaced (beam_parts beam.now) }
@@ -20,9 +20,9 @@ impl Line {
         self.number(beam.scale);
     }
 
-    /// Becomes the line that `picture --all` writes of an instruction that was run: its address,
-    /// name and operands, a star where its words aren't canonical, and the beam after it, in 1/512
-    /// units, with the global scale.
+    /// Becomes the line that `picture --all` writes of an instruction that was run: its `address`,
+    /// the name and operands of `code`, a star unless its words are `canonical`, and `beam` after
+    /// it, in 1/512 units, with the global scale.
     pub fn become_instruction(&mut self, address: u16, code: &Code, canonical: bool, beam: &Beam)
         ensures { self.new ≡ instruction_line address code.now canonical beam.now }
     {
@@ -31,8 +31,8 @@ impl Line {
         self.text(b"\n");
     }
 
-    /// Becomes the line that `picture` writes of a run that broke, by the address of the fetch at
-    /// which it did.
+    /// Becomes the line that `picture` writes of a run that broke with `fault`, at the fetch of the
+    /// word address `address`.
     pub fn become_broke(&mut self, address: u16, fault: GenFault)
         ensures { self.new ≡ broke_line address fault }
     {

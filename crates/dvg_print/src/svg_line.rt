@@ -12,7 +12,7 @@ use itoa::Buffer;
 /// How many places there are along an axis: 4,096 screen units of 512 each.
 const AXIS: u32 = 2_097_152;
 
-// The same place, from -1,048,576 to 1,048,575.
+// Returns the same place as `place` on an axis, from -1,048,576 to 1,048,575.
 fn centred(place: u32) -> i32
     ensures value { result ≡ spec.centred place }
     ensures small { mag result ≤ 1048576 }
@@ -25,7 +25,7 @@ fn centred(place: u32) -> i32
     }
 }
 
-// The shorter way from one place to another.
+// Returns the shorter way from `from` to `to` along an axis.
 fn way(from: u32, to: u32) -> i32
     ensures value { result ≡ spec.way from to }
     ensures small { mag result ≤ 1048576 }
@@ -34,7 +34,7 @@ fn way(from: u32, to: u32) -> i32
 }
 
 impl Line {
-    // Appends a place or a way along an axis.
+    // Appends `n`, a place or a way along an axis, in decimal.
     fn signed(&mut self, n: i32)
         requires small { mag n ≤ 1048576 }
         requires room { length self.old + 8 ≤ 4096 }
@@ -44,7 +44,7 @@ impl Line {
         self.text(Buffer::new().format(n).as_bytes());
     }
 
-    // Appends a point or a way.
+    // Appends a point or a way, `x` and `y`.
     fn pair(&mut self, x: i32, y: i32)
         requires x { mag x ≤ 1048576 }
         requires y { mag y ≤ 1048576 }
@@ -57,7 +57,7 @@ impl Line {
         self.signed(y);
     }
 
-    // Appends how bright an intensity is.
+    // Appends the opacity for the intensity `z`.
     fn opacity(&mut self, z: u8)
         requires { length self.old + 3 ≤ 4096 }
         ensures text { self.new ≡ self.old ++ spec.opacity z }
@@ -72,9 +72,9 @@ impl Line {
         }
     }
 
-    /// Becomes the line of a stroke in an SVG whose unit is 1/512 of a screen unit: a path from
-    /// where it begins, from -2,048 to 2,047 screen units, the shorter way to where it ends; and
-    /// its intensity as an opacity from 0.30 to 1 (this project's own choice).
+    /// Becomes the line of `stroke` in an SVG whose unit is 1/512 of a screen unit. It is a path
+    /// from where `stroke` begins, -2,048 to 2,047 screen units, the shorter way to where it ends.
+    /// The intensity is an opacity from 0.30 to 1 (this project's own choice).
     pub fn become_path(&mut self, stroke: Stroke)
         ensures { self.new ≡ path_line stroke }
     {

@@ -18,14 +18,14 @@ const MAX_TIMES: u16 = 9999;
 /// value that each byte of the RAM has after it.
 pub(crate) type SpelledEvent = Event<Infallible, u8>;
 
-/// The events of a line: one event, this many times in a row.
+/// The events of a line: `event`, `count` times in a row.
 #[derive(Clone, Copy)]
 pub struct EventLine {
     pub(crate) event: SpelledEvent,
     pub(crate) count: u16,
 }
 
-/// The events that a line spells by itself. None exactly where it spells none.
+/// Returns the events that `line` spells by itself, or `None` exactly where it spells none.
 #[inline(always)]
 pub fn read_event_line(line: &[u8]) -> Option<EventLine>
     ensures found { IfSome result (λ repeated. EventParts (happenings repeated) (parts line.now)) }
@@ -39,7 +39,7 @@ pub fn read_event_line(line: &[u8]) -> Option<EventLine>
     with_operand(&line[..space], &line[space + 1..])
 }
 
-// The events of a name and its operand.
+// Returns the events of the event's `name` with `operand` after it.
 fn with_operand(name: &[u8], operand: &[u8]) -> Option<EventLine>
     ensures found { IfSome result (λ repeated. EventParts (happenings repeated)
         (name.now ∷ operand.now ∷ [])) }
@@ -62,7 +62,7 @@ fn with_operand(name: &[u8], operand: &[u8]) -> Option<EventLine>
     })
 }
 
-// The event that this name alone spells.
+// Returns the event that `name` alone spells.
 #[inline(always)]
 fn event_named(name: &[u8]) -> Option<SpelledEvent>
     ensures found { IfSome result (λ event. IsNamed (spelled_as event) name.now) }
@@ -80,14 +80,14 @@ fn event_named(name: &[u8]) -> Option<SpelledEvent>
     }
 }
 
-// Whether a count may follow an event's name.
+// Whether a count may follow the name of `event`.
 fn is_counted(event: &SpelledEvent) -> bool
     ensures { IsTrue result ↔ TakesCount (spelled_as event.now) }
 {
     matches!(event, Event::Tick | Event::Strobe | Event::Fetch)
 }
 
-// How many times, 1 to 9,999.
+// Returns the number that `count` spells, 1 to 9,999.
 fn times(count: &[u8]) -> Option<u16>
     ensures found { IfSome result (λ n. count.now ≡ decimal n) }
     ensures least { IfSome result (λ n. 1 ≤ n) }
@@ -101,7 +101,7 @@ fn times(count: &[u8]) -> Option<u16>
     Some(count)
 }
 
-// A byte of two hexadecimal digits.
+// Returns the byte that two hexadecimal `digits` spell.
 fn byte(digits: &[u8]) -> Option<u8>
     ensures found { IfSome result (λ n. IsHex 2 n digits.now) }
     ensures only { (n : ℕ) → IsHex 2 n digits.now → result ≡ Some n }

@@ -22,8 +22,8 @@ pub fn one_text_fault()
     ensures { OneTextFault }
 {}
 
-/// Each text denotes a draft and a ROM, or has a fault. That one of them holds is shown by the
-/// answer of the reader of texts itself.
+/// Each `text` denotes a draft and a ROM, or has a fault. That one of them holds is shown by what
+/// the reader of texts itself returns.
 pub fn each_is_read(text: &[u8])
     ensures { IsRead text.now }
 {
@@ -45,7 +45,7 @@ pub fn one_trace_fault()
     ensures { OneTraceFault }
 {}
 
-/// Each text of a trace denotes events and a ROM, or has a fault. That one of them holds is shown
+/// Each `text` of a trace denotes events and a ROM, or has a fault. That one of them holds is shown
 /// by following its lines, which takes no memory.
 pub fn each_trace_is_read(text: &[u8])
     ensures { IsTraceRead text.now }

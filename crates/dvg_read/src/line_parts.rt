@@ -5,10 +5,11 @@ ghost use Rattle.dvg_read.specs.Texts.{parts};
 
 use arrayvec::ArrayVec;
 
-/// The most parts that a line of a text has: those of a ROM line of eight words.
+/// The most parts that a line of a text has: a ROM line of eight words has so many.
 pub const MAX_PARTS: usize = 10;
 
-/// The parts of a line, which is cut at each space. None where there are more than ten.
+/// Returns the parts of `line`, which is cut at each space. Returns `None` where there are more
+/// than ten.
 pub fn parts_of(line: &[u8]) -> Option<ArrayVec<&[u8], MAX_PARTS>>
     ensures found { IfSome result (λ found. bytes_of found.items ≡ parts line.now) }
     ensures many { IfNone result (MAX_PARTS < length (parts line.now)) }

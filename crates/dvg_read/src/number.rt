@@ -9,7 +9,7 @@ ghost use Rattle.dvg_read.specs.Texts.{IsHex, parts};
 /// The most decimal digits of a number of 16 bits.
 const MAX_DIGITS: usize = 5;
 
-/// The value of each byte as a hexadecimal digit of either case. 16 for a byte that isn't one.
+/// The value of each byte as a hexadecimal digit of either case, and 16 for a byte that isn't one.
 #[rattlefmt::skip]
 const HEX_DIGITS: [u8; 256] = [
     16, 16, 16, 16, 16, 16, 16, 16, 16, 16, 16, 16, 16, 16, 16, 16,
@@ -30,7 +30,7 @@ const HEX_DIGITS: [u8; 256] = [
     16, 16, 16, 16, 16, 16, 16, 16, 16, 16, 16, 16, 16, 16, 16, 16,
 ];
 
-/// The value of a hexadecimal digit of either case. 16 for any other byte.
+/// Returns the value of `byte` as a hexadecimal digit of either case, and 16 where it isn't one.
 #[inline(always)]
 pub fn digit_of(byte: u8) -> u8
     ensures { result ≡ min 16 (digit_value byte) }
@@ -38,7 +38,8 @@ pub fn digit_of(byte: u8) -> u8
     HEX_DIGITS[usize::from(byte)]
 }
 
-// The number that digits of this radix spell. None where another byte is among them.
+// Returns the number that `digits` spell in `radix`, 2 to 16. Returns `None` where another byte is
+// among them.
 #[inline(always)]
 fn value_of(digits: &[u8], radix: u32) -> Option<u32>
     requires few { length digits.now ≤ 5 }
@@ -59,7 +60,8 @@ fn value_of(digits: &[u8], radix: u32) -> Option<u32>
     Some(number)
 }
 
-/// A decimal number of at most 16 bits, without a sign and without leading zeros.
+/// Returns the decimal number below 65,536 that `part` spells, without a sign and without leading
+/// zeros.
 pub fn natural(part: &[u8]) -> Option<u16>
     ensures found { IfSome result (λ n. part.now ≡ decimal n) }
     ensures only { (n : ℕ) → n < 2 ^ 16 → part.now ≡ decimal n → result ≡ Some n }
@@ -71,7 +73,8 @@ pub fn natural(part: &[u8]) -> Option<u16>
     u16::try_from(value_of(part, 10)?).ok()
 }
 
-/// A decimal number of at most 8 bits, without a sign and without leading zeros.
+/// Returns the decimal number below 256 that `part` spells, without a sign and without leading
+/// zeros.
 pub fn small_natural(part: &[u8]) -> Option<u8>
     ensures found { IfSome result (λ n. part.now ≡ decimal n) }
     ensures only { (n : ℕ) → n < 2 ^ 8 → part.now ≡ decimal n → result ≡ Some n }
@@ -79,8 +82,8 @@ pub fn small_natural(part: &[u8]) -> Option<u8>
     u8::try_from(natural(part)?).ok()
 }
 
-/// A decimal number from -32,767 to 32,767, without leading zeros, with `-` before it exactly where
-/// it is negative.
+/// Returns the decimal number from -32,767 to 32,767 that `part` spells, without leading zeros. It
+/// has `-` before it exactly where it is negative.
 pub fn integer(part: &[u8]) -> Option<i16>
     ensures found { IfSome result (λ n. part.now ≡ signed_decimal n) }
     ensures only { (n : ℤ) → unsigned_abs n < 2 ^ 15 → part.now ≡ signed_decimal n
@@ -94,7 +97,7 @@ pub fn integer(part: &[u8]) -> Option<i16>
     if size > 0 { Some(-size) } else { None }
 }
 
-/// The same, from -128 to 127.
+/// Returns the number that `part` spells, as `integer` does, if it is from -128 to 127.
 pub fn small_integer(part: &[u8]) -> Option<i8>
     ensures found { IfSome result (λ n. part.now ≡ signed_decimal n) }
     ensures only { (n : ℤ) → unsigned_abs n < 2 ^ 7 → part.now ≡ signed_decimal n
@@ -103,7 +106,8 @@ pub fn small_integer(part: &[u8]) -> Option<i8>
     i8::try_from(integer(part)?).ok()
 }
 
-/// A number of exactly this many hexadecimal digits, at most four, of either case.
+/// Returns the number that `part` spells in exactly `count` hexadecimal digits of either case.
+/// `count` is at most 4.
 #[inline]
 pub fn hex(part: &[u8], count: usize) -> Option<u16>
     requires { count ≤ 4 }
@@ -116,7 +120,7 @@ pub fn hex(part: &[u8], count: usize) -> Option<u16>
     u16::try_from(value_of(part, 16)?).ok()
 }
 
-// The value of a decimal digit.
+// Returns the value of the decimal digit `byte`.
 #[inline(always)]
 fn decimal_digit(byte: u8) -> Option<u8>
     ensures { IfSome result (λ digit. (byte ≡ 48 + digit) × (digit ≤ 9)) }
@@ -127,8 +131,8 @@ fn decimal_digit(byte: u8) -> Option<u8>
     }
 }
 
-/// The decimal number of one digit that a text begins with, before this byte, and what comes after
-/// that.
+/// Returns the decimal number of one digit that `text` begins with, before the byte `end`, and what
+/// comes after that byte.
 #[inline(always)]
 pub(crate) fn digit_before(text: &[u8], end: u8) -> Option<(u8, &[u8])>
     ensures spelled { IfSome result (λ ahead. text.now ≡ decimal ahead.0 ++ end ∷ ahead.1.now) }
@@ -143,7 +147,7 @@ pub(crate) fn digit_before(text: &[u8], end: u8) -> Option<(u8, &[u8])>
     None
 }
 
-/// The same, of a number from 0 to 15.
+/// Like `digit_before`, for a number of `text` from 0 to 15 before `end`.
 #[inline(always)]
 pub(crate) fn nibble_before(text: &[u8], end: u8) -> Option<(u8, &[u8])>
     ensures spelled { IfSome result (λ ahead. text.now ≡ decimal ahead.0 ++ end ∷ ahead.1.now) }
@@ -163,7 +167,8 @@ pub(crate) fn nibble_before(text: &[u8], end: u8) -> Option<(u8, &[u8])>
     }
 }
 
-/// The same, of a number that is at most this one, without leading zeros.
+/// Like `digit_before`, for a number of `text` up to `most` before `end`, without leading zeros.
+/// `most` is at least 9.
 #[inline(always)]
 pub(crate) fn natural_before(text: &[u8], end: u8, most: u16) -> Option<(u16, &[u8])>
     requires { 9 ≤ most }
@@ -193,7 +198,8 @@ pub(crate) fn natural_before(text: &[u8], end: u8, most: u16) -> Option<(u16, &[
     Some((number as u16, after_byte(rest, end)?))
 }
 
-/// What stands after this byte, with which a text begins.
+/// Returns what stands in `text` after `byte`, with which it begins. Returns `None` where it begins
+/// otherwise.
 #[inline(always)]
 pub(crate) fn after_byte(text: &[u8], byte: u8) -> Option<&[u8]>
     ensures { IfSome result (λ rest. text.now ≡ byte ∷ rest.now) }
@@ -204,7 +210,7 @@ pub(crate) fn after_byte(text: &[u8], byte: u8) -> Option<&[u8]>
     }
 }
 
-// The number that the first digit of a text spells, and what comes after that.
+// Returns the number that the first digit of `text` spells, and what comes after that digit.
 #[inline(always)]
 fn first_digit(text: &[u8]) -> Option<(u32, &[u8])>
     ensures spelled { IfSome result (λ ahead. text.now ≡ decimal ahead.0 ++ ahead.1.now) }
@@ -214,8 +220,8 @@ fn first_digit(text: &[u8]) -> Option<(u32, &[u8])>
     Some((u32::from(decimal_digit(*byte)?), rest))
 }
 
-// A number with one more digit, that which a text begins with, and what comes after that. It is at
-// most this one.
+// Returns `number` with one more digit, with which `text` begins, and what comes after that.
+// Returns `None` where it would be greater than `most`, or no digit comes.
 #[inline(always)]
 fn one_more(number: u32, text: &[u8], most: u16) -> Option<(u32, &[u8])>
     requires some { 0 < number }
@@ -234,8 +240,9 @@ fn one_more(number: u32, text: &[u8], most: u16) -> Option<(u32, &[u8])>
     }
 }
 
-/// The decimal number that a text begins with, before a space, and what comes after that. It is at
-/// most this large, without leading zeros, with `-` before it exactly where it is negative.
+/// Returns the decimal number that `text` begins with, before a space, and what comes after that.
+/// It is from -`most` to `most`, without leading zeros. It has `-` before it exactly where it is
+/// negative.
 #[inline(always)]
 pub(crate) fn integer_before_space(text: &[u8], most: u16) -> Option<(i16, &[u8])>
     requires { (9 ≤ most) × (most < 2 ^ 15) }
@@ -256,7 +263,7 @@ pub(crate) fn integer_before_space(text: &[u8], most: u16) -> Option<(i16, &[u8]
     }
 }
 
-/// The same, of a number from -3 to 3.
+/// Like `integer_before_space`, for a number of `text` from -3 to 3.
 #[inline(always)]
 pub(crate) fn tiny_before_space(text: &[u8]) -> Option<(i8, &[u8])>
     ensures spelled { IfSome result (λ ahead.

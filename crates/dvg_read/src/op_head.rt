@@ -10,7 +10,7 @@ use crate::number::{
 use dvg_code::{Code, Instr};
 use dvg_frame::{Op, OpKind};
 
-/// How many bytes the longest line has that is read here, with its end. A text with fewer is read
+/// How many bytes the longest line that is read here has, with its end. A shorter text is read
 /// otherwise.
 const HEAD: usize = 24;
 
@@ -32,8 +32,8 @@ const JUMP_LETTERS: u32 = 0x706D_756A;
 /// The letters `halt`, as a number.
 const HALT_LETTERS: u32 = 0x746C_6168;
 
-/// The operation that the first line of a text spells, if it is one of those that come most often,
-/// and what stands after that line. None says nothing of the text.
+/// Fast path for the operations that come most often. Returns the one that the first line of `text`
+/// spells, and what stands after that line. `None` says nothing of `text`.
 #[inline(always)]
 pub(crate) fn op_at_head(text: &[u8]) -> Option<(Op, &[u8])>
     ensures { IfSome result (λ head. HasOp text.now head.0 head.1.now) }
@@ -50,8 +50,8 @@ pub(crate) fn op_at_head(text: &[u8]) -> Option<(Op, &[u8])>
     }
 }
 
-// The first four bytes of a text as a number, the first of them the lowest, and what stands after
-// them.
+// Returns the first four bytes of `text` as a number, the first of them the lowest, and what stands
+// after them. Returns `None` where `text` has fewer than 24 bytes.
 #[inline(always)]
 fn letters_at_head(text: &[u8]) -> Option<(u32, &[u8])>
     ensures { IfSome result (λ head. text.now ≡ to_le_bytes w32 head.0 ++ head.1.now) }
@@ -63,7 +63,8 @@ fn letters_at_head(text: &[u8]) -> Option<(u32, &[u8])>
     Some((letters, &text[4..]))
 }
 
-// An SVEC, after its name and a space.
+// Reads the rest of the line of an SVEC from `text`, after its name and a space. Returns the
+// operation, and what stands after the line.
 #[inline(always)]
 fn svec(text: &[u8]) -> Option<(Op, &[u8])>
     ensures { IfSome result (λ head. HasOp (codes "svec " ++ text.now) head.0 head.1.now) }
@@ -79,7 +80,8 @@ fn svec(text: &[u8]) -> Option<(Op, &[u8])>
     Some((Op::new(OpKind::Draw(code))?, rest))
 }
 
-// A VCTR, after its name and a space.
+// Reads the rest of the line of a VCTR from `text`, after its name and a space. Returns the
+// operation, and what stands after the line.
 #[inline(always)]
 fn vctr(text: &[u8]) -> Option<(Op, &[u8])>
     ensures { IfSome result (λ head. HasOp (codes "vctr " ++ text.now) head.0 head.1.now) }
@@ -92,7 +94,8 @@ fn vctr(text: &[u8]) -> Option<(Op, &[u8])>
     Some((Op::new(OpKind::Draw(code))?, rest))
 }
 
-// A LABS, after its name and a space.
+// Reads the rest of the line of a LABS from `text`, after its name and a space. Returns the
+// operation, and what stands after the line.
 #[inline(always)]
 fn labs(text: &[u8]) -> Option<(Op, &[u8])>
     ensures { IfSome result (λ head. HasOp (codes "labs " ++ text.now) head.0 head.1.now) }
@@ -104,7 +107,8 @@ fn labs(text: &[u8]) -> Option<(Op, &[u8])>
     Some((Op::new(OpKind::Draw(code))?, rest))
 }
 
-// A call, after its name and a space.
+// Reads the rest of the line of a call from `text`, after its name and a space. Returns the
+// operation, and what stands after the line.
 #[inline(always)]
 fn call(text: &[u8]) -> Option<(Op, &[u8])>
     ensures { IfSome result (λ head. HasOp (codes "call " ++ text.now) head.0 head.1.now) }
@@ -113,7 +117,8 @@ fn call(text: &[u8]) -> Option<(Op, &[u8])>
     Some((Op::new(OpKind::Call(target))?, rest))
 }
 
-// A jump, after its name and a space.
+// Reads the rest of the line of a jump from `text`, after its name and a space. Returns the
+// operation, and what stands after the line.
 #[inline(always)]
 fn jump(text: &[u8]) -> Option<(Op, &[u8])>
     ensures { IfSome result (λ head. HasOp (codes "jump " ++ text.now) head.0 head.1.now) }
@@ -122,7 +127,8 @@ fn jump(text: &[u8]) -> Option<(Op, &[u8])>
     Some((Op::new(OpKind::Jump(target))?, rest))
 }
 
-// A halt, after its name.
+// Reads the rest of the line of a halt from `text`, after its name. Returns the operation, and what
+// stands after the line.
 #[inline(always)]
 fn halt(text: &[u8]) -> Option<(Op, &[u8])>
     ensures { IfSome result (λ head. HasOp (codes "halt" ++ text.now) head.0 head.1.now) }

@@ -12,7 +12,7 @@ use crate::number::{hex, integer, natural, small_integer, small_natural};
 use dvg_code::{Code, Instr};
 use dvg_frame::{Op, OpKind};
 
-/// The operation that a line spells. None exactly where it spells none.
+/// Returns the operation that `line` spells, or `None` exactly where it spells none.
 pub fn read_op(line: &[u8]) -> Option<Op>
     ensures found { IfSome result (λ op. IsOpLine op line.now) }
     ensures only { (op : OpKind) → IsOpLine op line.now → result ≡ Some op }
@@ -21,7 +21,8 @@ pub fn read_op(line: &[u8]) -> Option<Op>
     read_op_parts(parts.as_slice())
 }
 
-/// The operation that these parts of a line spell. None exactly where they spell none.
+/// Returns the operation that `parts`, the parts of a line, spell, or `None` exactly where they
+/// spell none.
 #[tactic(auto, using(crate::proofs::OpRows::is_op))]
 pub fn read_op_parts(parts: &[&[u8]]) -> Option<Op>
     ensures found { IfSome result (λ op. OpParts op (bytes_of parts.now)) }
@@ -30,7 +31,7 @@ pub fn read_op_parts(parts: &[&[u8]]) -> Option<Op>
     Op::new(kind(parts)?)
 }
 
-// The operation that the parts of a line spell.
+// Returns the kind of operation that `parts` spell.
 fn kind(parts: &[&[u8]]) -> Option<OpKind>
     ensures found { IfSome result (λ op. OpParts op (bytes_of parts.now)) }
     ensures only { (op : OpKind) → OpParts op (bytes_of parts.now) → result ≡ Some op }
@@ -44,7 +45,7 @@ fn kind(parts: &[&[u8]]) -> Option<OpKind>
     }
 }
 
-// The operation of a name alone.
+// Returns the operation that `name` alone spells.
 fn bare(name: &[u8]) -> Option<OpKind>
     ensures found { IfSome result (λ op. OpParts op (name.now ∷ [])) }
     ensures only { (op : OpKind) → OpParts op (name.now ∷ []) → result ≡ Some op }
@@ -56,7 +57,7 @@ fn bare(name: &[u8]) -> Option<OpKind>
     }
 }
 
-// The operation of a name and a target.
+// Returns the operation that `name` and `target` spell.
 fn targeting(name: &[u8], target: &[u8]) -> Option<OpKind>
     ensures found { IfSome result (λ op. OpParts op (name.now ∷ target.now ∷ [])) }
     ensures only { (op : OpKind) → OpParts op (name.now ∷ target.now ∷ []) → result ≡ Some op }
@@ -70,7 +71,7 @@ fn targeting(name: &[u8], target: &[u8]) -> Option<OpKind>
     }
 }
 
-// The operation of a name, a position and a scale.
+// Returns the operation that `name`, the position `x` and `y`, and `scale` spell.
 fn labs(name: &[u8], x: &[u8], y: &[u8], scale: &[u8]) -> Option<OpKind>
     ensures found { IfSome result (λ op. OpParts op (name.now ∷ x.now ∷ y.now ∷ scale.now ∷ [])) }
     ensures only { (op : OpKind) → OpParts op (name.now ∷ x.now ∷ y.now ∷ scale.now ∷ [])
@@ -85,7 +86,7 @@ fn labs(name: &[u8], x: &[u8], y: &[u8], scale: &[u8]) -> Option<OpKind>
     draw(Instr::Labs { x, y, scale })
 }
 
-// The operation of a name and the numbers of a vector.
+// Returns the operation that `name` and the numbers of a vector spell: `scale`, `dx`, `dy` and `z`.
 fn vector(name: &[u8], scale: &[u8], dx: &[u8], dy: &[u8], z: &[u8]) -> Option<OpKind>
     ensures found { IfSome result (λ op. OpParts op
         (name.now ∷ scale.now ∷ dx.now ∷ dy.now ∷ z.now ∷ [])) }
@@ -99,7 +100,7 @@ fn vector(name: &[u8], scale: &[u8], dx: &[u8], dy: &[u8], z: &[u8]) -> Option<O
     }
 }
 
-// A VCTR of these numbers.
+// Returns the VCTR that the numbers `scale`, `dx`, `dy` and `z` spell.
 fn vctr(scale: &[u8], dx: &[u8], dy: &[u8], z: &[u8]) -> Option<OpKind>
     ensures found { IfSome result (λ op. OpParts op
         (codes "vctr" ∷ scale.now ∷ dx.now ∷ dy.now ∷ z.now ∷ [])) }
@@ -113,7 +114,7 @@ fn vctr(scale: &[u8], dx: &[u8], dy: &[u8], z: &[u8]) -> Option<OpKind>
     draw(Instr::Vctr { scale, dx, dy, z })
 }
 
-// An SVEC of these numbers.
+// Returns the SVEC that the numbers `scale`, `dx`, `dy` and `z` spell.
 fn svec(scale: &[u8], dx: &[u8], dy: &[u8], z: &[u8]) -> Option<OpKind>
     ensures found { IfSome result (λ op. OpParts op
         (codes "svec" ∷ scale.now ∷ dx.now ∷ dy.now ∷ z.now ∷ [])) }
@@ -127,7 +128,7 @@ fn svec(scale: &[u8], dx: &[u8], dy: &[u8], z: &[u8]) -> Option<OpKind>
     draw(Instr::Svec { scale, dx, dy, z })
 }
 
-// The operation that draws by an instruction, if that is in range.
+// Returns the operation that draws by `instr`, if that is in range.
 fn draw(instr: Instr) -> Option<OpKind>
     ensures found { IfSome result (λ op. (op ≡ OpKind.Draw instr) × InRange instr) }
     ensures only { InRange instr → result ≡ Some (OpKind.Draw instr) }

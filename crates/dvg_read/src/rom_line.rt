@@ -16,7 +16,8 @@ use std::marker::Model;
 /// The most words that a line gives.
 const MAX_WORDS: usize = 8;
 
-/// The words that a line gives, from a word address on. All of them are words of the ROM.
+/// The words that a line gives, from the word address `address` on. All of them are words of the
+/// ROM.
 #[derive(Drop)]
 pub struct RomWords {
     address: u16,
@@ -35,8 +36,8 @@ impl Model for RomWords {
     ghost invariant = { λ given. given.address + length given.words.items ≤ 0xC00 };
 }
 
-/// The words that a line gives, where the ROM's first one is at this word address. None exactly
-/// where it isn't a line of the ROM.
+/// Returns the words that `line` gives, or `None` exactly where it isn't a line of the ROM. `first`
+/// is the word address of the ROM's first word.
 pub fn read_rom_line(first: u16, line: &[u8]) -> Option<RomWords>
     ensures found { IfSome result (λ given. IsRomLine first given line.now) }
     ensures only { (given : RomLine) → IsRomLine first given line.now → result ≡ Some given }
@@ -45,8 +46,8 @@ pub fn read_rom_line(first: u16, line: &[u8]) -> Option<RomWords>
     read_rom_parts(first, parts.as_slice())
 }
 
-/// The words that a line of these parts gives, where the ROM's first one is at this word address.
-/// None exactly where it isn't a line of the ROM.
+/// Returns the words that a line of the parts `cut` gives, or `None` exactly where it isn't a line
+/// of the ROM. `first` is the word address of the ROM's first word.
 pub fn read_rom_parts(first: u16, cut: &[&[u8]]) -> Option<RomWords>
     ensures found { IfSome result (λ given. (line : List ℕ) → parts line ≡ bytes_of cut.now
         → IsRomLine first given line) }
@@ -70,7 +71,7 @@ pub fn read_rom_parts(first: u16, cut: &[&[u8]]) -> Option<RomWords>
     Some(RomWords { address, words })
 }
 
-// The words that these parts spell, at most eight.
+// Returns the words that `parts` spell, at most eight.
 fn hex_words(parts: &[&[u8]]) -> Option<ArrayVec<u16, MAX_WORDS>>
     ensures found { IfSome result (λ words. SpellsWords words.items (bytes_of parts.now)) }
     ensures few { IfSome result (λ words. length words.items ≤ 8) }
@@ -88,14 +89,15 @@ fn hex_words(parts: &[&[u8]]) -> Option<ArrayVec<u16, MAX_WORDS>>
 }
 
 impl RomWords {
-    /// The word address after the words.
+    /// Returns the word address after the words.
     pub fn end(&self) -> u16
         ensures { result ≡ self.now.address + length self.now.words }
     {
         self.address + self.words.len() as u16
     }
 
-    /// Puts the words into the bytes of a ROM, of which the first word is at this word address.
+    /// Puts the words into `rom`, the bytes of a ROM. `first` is the word address of the ROM's
+    /// first word.
     pub fn put(&self, first: u16, rom: &mut [u8])
         requires low { first ≤ self.now.address }
         requires whole { 0x1800 ≤ length rom.old + 2 * first }
@@ -109,7 +111,7 @@ impl RomWords {
     }
 }
 
-// Puts a word in its place of these bytes, the low byte first.
+// Puts `word` at the place `k`, counted in words from 0, of `bytes`, the low byte first.
 fn put_word(bytes: &mut [u8], k: usize, word: u16)
     requires { 2 * k + 1 < length bytes.old }
     ensures word { word_in bytes.new k ≡ word }

@@ -12,16 +12,16 @@ use dvg_mem::{FIRST_LARGE_ROM_WORD, FIRST_ROM_WORD, LARGE_ROM_BYTES, LAST_ROM_WO
 /// A word that no line gives, an RTSL, its low byte first (this project's own choice).
 const UNGIVEN: [u8; 2] = [0x00, 0xD0];
 
-/// The ROM that the lines describe which were read.
+/// The ROM that the lines describe which were read so far.
 #[derive(Drop)]
 pub struct RomReading {
-    // Whether a line said something of the ROM.
+    // Whether a line described something of the ROM.
     is_stated: bool,
     bytes: ArrayVec<u8, LARGE_ROM_BYTES>,
 }
 
 impl RomReading {
-    /// Before the first line.
+    /// Returns the ROM before the first line.
     pub fn new() -> RomReading
         ensures { HoldsRom unstated result }
     {
@@ -31,7 +31,8 @@ impl RomReading {
         }
     }
 
-    /// Reads one more line. Answers whether it says something of the ROM, and may stand here.
+    /// Reads one more line, `line`. Returns whether it describes something of the ROM, and may
+    /// stand here. Where it doesn't, nothing changes.
     pub fn take(&mut self, line: &[u8]) -> bool
         ensures took { IsTrue result → (rom : RomText) → HoldsRom rom self.old
             → TellsMore rom line.now self.new }
@@ -56,14 +57,14 @@ impl RomReading {
         true
     }
 
-    // The word address of the ROM's first word: the last one is at BFF.
+    // Returns the word address of the ROM's first word. The last one is at BFF.
     fn first(&self) -> u16
         ensures { result + length self.now.bytes.items / 2 ≡ 0xC00 }
     {
         LAST_ROM_WORD + 1 - (self.bytes.as_slice().len() / 2) as u16
     }
 
-    /// The bytes of the ROM.
+    /// Returns the bytes of the ROM.
     pub fn into_bytes(self) -> ArrayVec<u8, LARGE_ROM_BYTES>
         ensures { result ≡ self.bytes }
     {
@@ -71,8 +72,8 @@ impl RomReading {
     }
 }
 
-// The word address of the ROM's first word in the memory map that a line gives. None exactly where
-// it gives none.
+// Returns the word address of the ROM's first word in the memory map that `line` gives, or `None`
+// exactly where it gives none.
 fn read_map_line(line: &[u8]) -> Option<u16>
     ensures found { IfSome result (λ first. IsMapLine first line.now) }
     ensures only { (first : ℕ) → IsMapLine first line.now → result ≡ Some first }
@@ -86,8 +87,9 @@ fn read_map_line(line: &[u8]) -> Option<u16>
     }
 }
 
-// The bytes of a ROM of which no line gives a word. It isn't inlined: else a ROM's room is cleared
-// for each line that is read.
+// Returns the bytes of a ROM of which no line gives a word. `first` is the word address of its
+// first word, 400 or 800. It isn't inlined: else a ROM's room is cleared for each line that is
+// read.
 #[inline(never)]
 fn ungiven(first: u16) -> ArrayVec<u8, LARGE_ROM_BYTES>
     requires { (first ≡ 0x800) ⊎ (first ≡ 0x400) }

@@ -28,21 +28,21 @@ impl<'a> TextLines<'a> {
     ghost use Rattle.dvg_read.specs.TraceEvents.{HasEvents, IsNameLine};
     ghost use Rattle.dvg_read.specs.Texts.{lines};
 
-    /// The lines of this text.
+    /// Returns the lines of `text`.
     pub fn new(text: &'a [u8]) -> TextLines<'a>
         ensures { lines_left result ≡ lines text.now }
     {
         TextLines { rest: text }
     }
 
-    /// The first four bytes that are left, as a number.
+    /// Returns the first four bytes that are left, as a number, if at least 12 are left.
     #[inline(always)]
     pub(crate) fn letters(&self) -> Option<u32> {
         letters_at_head(self.rest)
     }
 
-    /// Takes the next lines as long as they are these letters and this ending, which has the line's
-    /// end too, and answers how many it took, at most this many.
+    /// Takes the next lines as long as each is `letters` and `ending`, which has the line's end
+    /// too. It takes at most `most`, and returns how many it took.
     #[inline(always)]
     pub(crate) fn take_names(&mut self, letters: &[u8], ending: &[u8], most: u16) -> u16
         ensures taken { (event : Happening) → IsNameLine event (letters.now ++ ending.now)
@@ -62,7 +62,7 @@ impl<'a> TextLines<'a> {
         count
     }
 
-    /// Takes the next line, if it is a reset of the whole system, and answers that. None says
+    /// Takes the next line if it is a reset of the whole system, and returns that. `None` says
     /// nothing of the line, and nothing is taken then.
     #[inline(always)]
     pub(crate) fn take_reset(&mut self) -> Option<SpelledEvent>
@@ -77,8 +77,8 @@ impl<'a> TextLines<'a> {
         Some(event)
     }
 
-    /// Takes the next line, if it spells one of the operations that come most often, and answers
-    /// that operation. None says nothing of the line, and nothing is taken then.
+    /// Fast path for the operations that come most often: takes the next line if it spells one of
+    /// them, and returns that. `None` says nothing of the line, and nothing is taken then.
     #[inline(always)]
     pub(crate) fn take_op(&mut self) -> Option<Op>
         ensures taken { IfSome result (λ op. HasOp self.old.rest.now op self.new.rest.now) }
@@ -91,8 +91,8 @@ impl<'a> TextLines<'a> {
         Some(op)
     }
 
-    /// Takes the next lines as long as they spell operations that come most often and the draft has
-    /// room, and adds those operations. Answers how many it took.
+    /// Takes the next lines as long as they spell operations that come most often, and adds those
+    /// to `draft` as long as it has room. Returns how many lines it took.
     #[inline(always)]
     pub(crate) fn take_ops(&mut self, draft: &mut Draft) -> u16
         requires few { length draft.old ≤ 511 }
@@ -144,8 +144,8 @@ impl<'a> Iterator for TextLines<'a> {
     }
 }
 
-// The place of the first line end. Most lines are short, so the first bytes are looked at one by
-// one before the search that looks at many at once.
+// Returns the place of the first line end in `text`. Most lines are short, so the first bytes are
+// looked at one by one before the search that looks at many at once.
 #[inline(always)]
 fn line_end(text: &[u8]) -> Option<usize>
     ensures { IsFirstByte (is_byte 10) text.now result }
@@ -162,7 +162,7 @@ fn line_end(text: &[u8]) -> Option<usize>
     Some(NEAR + place)
 }
 
-/// Whether a line is passed over: it is empty, or begins with `#`.
+/// Whether `line` is passed over: it is empty, or begins with `#`.
 pub fn is_passed(line: &[u8]) -> bool
     ensures { result ≡ is_passed line.now }
 {

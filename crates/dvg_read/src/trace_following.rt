@@ -12,7 +12,7 @@ use crate::trace_text::{LineFault, add_op, at_line, count};
 use dvg_frame::Draft;
 use dvg_log::MOST_EVENTS;
 
-/// Follows the text of a trace to its end, or to its fault.
+/// Follows `text`, the text of a trace, to its end or to its fault, without taking memory.
 pub(crate) fn follow(text: &[u8]) -> Result<(), TraceFault>
     ensures read { IfOk result (λ _. HasMeaning text.now) }
     ensures fault { IfErr result (λ fault. HasFaultOf fault text.now) }
@@ -56,7 +56,7 @@ struct Following {
 }
 
 impl Following {
-    // Follows one more line, which isn't passed over.
+    // Follows one more line, `line`, which isn't passed over.
     fn take(&mut self, line: &[u8]) -> Result<(), LineFault>
         requires few { self.old.count ≤ 65536 }
         ensures taken { OnOk result (FollowsLine self.old line.now self.new) }
@@ -72,7 +72,7 @@ impl Following {
         add_op(&mut self.draft, line)
     }
 
-    // Follows one more line where no offer is open.
+    // Follows one more line, `line`, where no offer is open.
     fn take_outside(&mut self, line: &[u8]) -> Result<(), LineFault>
         requires outside { IsFalse self.old.is_open }
         requires few { self.old.count ≤ 65536 }

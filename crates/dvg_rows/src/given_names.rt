@@ -19,7 +19,7 @@ impl<'a, A: Allocator + Copy> GivenNames<'a, A> {
     ghost use Rattle.dvg_rows.specs.RowValues.{name_of};
     ghost use Rattle.dvg_rows.specs.FreshNames.{IsFresh, StopsNames};
 
-    /// No names.
+    /// Returns a list of no names, with its memory from `alloc`.
     pub fn new(alloc: A) -> GivenNames<'a, A>
         ensures { bytes_of result.given.keys ≡ [] }
     {
@@ -28,14 +28,15 @@ impl<'a, A: Allocator + Copy> GivenNames<'a, A> {
         }
     }
 
-    /// Forgets all names, and keeps their room.
+    /// Removes all names, and keeps their room.
     pub fn clear(&mut self)
         ensures { bytes_of self.new.given.keys ≡ [] }
     {
         self.given.clear();
     }
 
-    /// Gives one name more, if there is one.
+    /// Adds `name`, if there is one. Returns `Twice` where it was given before, and `Memory` where
+    /// an allocation fails.
     pub fn give(&mut self, name: Option<&'a [u8]>) -> Result<(), LineFault>
         ensures given { OnOk result (bytes_of self.new.given.keys
             ≡ bytes_of self.old.given.keys ++ option_to_list (name_of name.entry)) }

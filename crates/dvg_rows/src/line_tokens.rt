@@ -10,11 +10,11 @@ ghost use Rattle.dvg_rows.specs.PlainLines.{uncommented};
 use crate::line_fault::LineFault;
 use arrayvec::ArrayVec;
 
-/// The most tokens that a line of a sketch has: those of a line `rom` that gives eight words.
+/// The most tokens that a line of a sketch has: a line `rom` that gives eight words has so many.
 pub const MAX_TOKENS: usize = 10;
 
-/// The tokens of a line, which spaces and tabs part, without its comment and without one CR at its
-/// end. None exactly where there are more than ten.
+/// Returns the tokens of `line`, which are separated by spaces and tabs, without its comment and
+/// without one CR at its end. Returns `None` exactly where there are more than ten.
 pub fn tokens_of(line: &[u8]) -> Option<ArrayVec<&[u8], MAX_TOKENS>>
     ensures found { IfSome result (λ found. bytes_of found.items ≡ tokens line.now) }
     ensures many { IfNone result (MAX_TOKENS < length (tokens line.now)) }
@@ -26,8 +26,8 @@ pub fn tokens_of(line: &[u8]) -> Option<ArrayVec<&[u8], MAX_TOKENS>>
     }
 }
 
-/// Finds the tokens of a line, as `tokens_of` does, in place of those that were found before. It is
-/// refused exactly where there are more than ten.
+/// Puts the tokens of `line` into `found`, as `tokens_of` returns them, in place of those that were
+/// found before. Returns `Syntax` exactly where there are more than ten.
 pub fn find_tokens<'a>(
     line: &'a [u8],
     found: &mut ArrayVec<&'a [u8], MAX_TOKENS>,
@@ -48,8 +48,7 @@ pub fn find_tokens<'a>(
     keep(rest, found)
 }
 
-// Puts a token at the end of those that were found, unless it has no byte. It is refused where
-// there are ten already.
+// Adds `token` to `found`, unless it has no byte. Returns `Syntax` where `found` has ten already.
 fn keep<'a>(token: &'a [u8], found: &mut ArrayVec<&'a [u8], MAX_TOKENS>) -> Result<(), LineFault>
     ensures kept { OnOk result (bytes_of found.new.items
         ≡ bytes_of found.old.items ++ filter is_some_byte (token.now ∷ [])) }
@@ -63,7 +62,8 @@ fn keep<'a>(token: &'a [u8], found: &mut ArrayVec<&'a [u8], MAX_TOKENS>) -> Resu
     Ok(())
 }
 
-// Where the first byte stands that ends a token. None where the whole text is one.
+// Returns the place in `text` of the first byte that ends a token, or `None` where the whole of
+// `text` is one.
 fn token_end(text: &[u8]) -> Option<usize>
     ensures within { IfSome result (λ end. end < length text.now) }
     ensures fits { IfSome result (λ end. end < usize.MAX) }
@@ -82,14 +82,14 @@ fn token_end(text: &[u8]) -> Option<usize>
     None
 }
 
-// Whether this byte is a space, a tab or the `#` of a comment. Most are above all three.
+// Whether `byte` is a space, a tab or the `#` of a comment. Most bytes are above all three.
 fn ends_token(byte: u8) -> bool
     ensures { result ≡ ends_token byte }
 {
     byte <= b'#' && (byte == b' ' || byte == b'\t' || byte == b'#')
 }
 
-// What stands before a CR at the end.
+// Returns `line` without a CR at its end.
 fn without_cr(line: &[u8]) -> &[u8]
     ensures { result.now ≡ strip_carriage_return line.now }
 {
@@ -100,7 +100,8 @@ fn without_cr(line: &[u8]) -> &[u8]
     }
 }
 
-// What stands after the eight spaces at the beginning, where most rows have them.
+// Returns what stands in `line` after its first eight bytes, if those are spaces: most rows begin
+// so. Else returns `line`.
 fn without_indent(line: &[u8]) -> &[u8]
     ensures { filter is_some_byte (slice_split is_blank (uncommented result.now))
         ≡ filter is_some_byte (slice_split is_blank (uncommented line.now)) }

@@ -19,7 +19,7 @@ impl<'a, A: Allocator + Copy> NameTable<'a, A> {
     ghost use Rattle.std.specs.Borrow.{Bor};
     ghost use Rattle.dvg_rows.specs.NameTables.{number_in, number_with};
 
-    /// No names.
+    /// Returns a table of no names, with its memory from `alloc`.
     pub fn new(alloc: A) -> NameTable<'a, A>
         ensures { (name : Bor (List ℕ)) → number_in result name ≡ None }
     {
@@ -28,7 +28,8 @@ impl<'a, A: Allocator + Copy> NameTable<'a, A> {
         }
     }
 
-    /// Gives a name this number, if there is a name and it has none yet. A growth may be refused.
+    /// Gives `name` the number `number`, if there is a name and it has none yet. Returns
+    /// `OutOfMemory` where an allocation fails.
     pub fn put(&mut self, name: Option<&'a [u8]>, number: usize) -> Result<(), OutOfMemory>
         ensures { OnOk result ((other : Bor (List ℕ)) → number_in self.new other
             ≡ number_with self.old name.entry number other) }
@@ -41,7 +42,7 @@ impl<'a, A: Allocator + Copy> NameTable<'a, A> {
         Ok(())
     }
 
-    /// The number of a name, if it has one.
+    /// Returns the number of `name`, if it has one.
     pub fn get(&self, name: &[u8]) -> Option<usize>
         ensures { result ≡ number_in self.now name.entry }
     {

@@ -11,7 +11,7 @@ use dvg_code::OutOfMemory;
 use std::alloc::Allocator;
 use std::marker::Model;
 
-/// Rows of a section, of which each name is known that they give.
+/// The rows of a section, and a table of all names that they give.
 #[derive(Drop)]
 pub struct NamedRows<'r, 'a, A: Allocator + Copy> {
     rows: &'r [Row<'a>],
@@ -35,8 +35,8 @@ impl<'r, 'a, A: Allocator + Copy> Model for NamedRows<'r, 'a, A> {
 impl<'r, 'a, A: Allocator + Copy> NamedRows<'r, 'a, A> {
     ghost use Rattle.std.specs.Prelude.{◌≡◌, IfOk};
 
-    /// Makes the names known that rows give. A growth may be refused. The time grows with the
-    /// number of rows.
+    /// Collects the names that `rows` give. Returns `OutOfMemory` where an allocation fails. The
+    /// time grows with the number of rows.
     pub fn new(alloc: A, rows: &'r [Row<'a>]) -> Result<NamedRows<'r, 'a, A>, OutOfMemory>
         ensures { IfOk result (λ named. named ≡ rows.now) }
     {
@@ -44,7 +44,7 @@ impl<'r, 'a, A: Allocator + Copy> NamedRows<'r, 'a, A> {
         Ok(NamedRows { rows, numbers })
     }
 
-    /// The rows, in order.
+    /// Returns the rows, in order.
     pub fn rows(&self) -> &'r [Row<'a>]
         ensures { result.now ≡ self.now }
     {
@@ -52,11 +52,11 @@ impl<'r, 'a, A: Allocator + Copy> NamedRows<'r, 'a, A> {
     }
 }
 
-/// The number of the operation that a name names in a frame, counted from 0: as many operations
-/// stand before the first row that gives it. None exactly where no row gives it. The time doesn't
-/// grow with the number of rows.
+/// Returns the number of the operation that `name` names in a frame of `rows`, counted from 0: as
+/// many operations stand before the first row that gives it. Returns `None` exactly where no row
+/// gives it. The time doesn't grow with the number of rows.
 ///
-/// Where each name is given once, no other number is that of the name. A name after the last
+/// Where each name is given once, no other number is that of `name`. A name after the last
 /// operation has the number of one that isn't there (this project's own choice).
 pub fn number_of<A: Allocator + Copy>(rows: &NamedRows<'_, '_, A>, name: &[u8]) -> Option<usize>
     ensures found { IfSome result (IsLeast (IsNumber (rows_of rows.now) name.now)) }
@@ -67,7 +67,8 @@ pub fn number_of<A: Allocator + Copy>(rows: &NamedRows<'_, '_, A>, name: &[u8]) 
     rows.numbers.get(name)
 }
 
-// The least number of each name that rows give.
+// Returns the least number of each name that `rows` give, or `OutOfMemory` where an allocation
+// fails.
 fn numbers_of<'a, A: Allocator + Copy>(
     alloc: A,
     rows: &[Row<'a>],
@@ -83,7 +84,7 @@ fn numbers_of<'a, A: Allocator + Copy>(
     Ok(numbers)
 }
 
-// How many operations a row has.
+// Returns how many operations `row` has: 0 or 1.
 fn op_count(row: &Row) -> usize
     ensures value { result ≡ length (doings (row_of row.now ∷ [])) }
     ensures most { result ≤ 1 }

@@ -9,12 +9,12 @@ use dvg_mem::FIRST_ROM_WORD;
 /// The word address after the ROM's last word.
 pub const ROM_END: usize = 0xC00;
 
-/// The words that sections take which were laid, and where the next word is laid.
+/// The words that laid sections take, and where the next word is laid.
 #[derive(Drop)]
 pub struct RomArea {
     /// The address after the last word of the last section.
     pub next: u16,
-    /// The first word address after all that were given before.
+    /// The first word address after all words that were given before.
     pub free: u16,
     /// For each word address whether a section lies on it.
     pub is_taken: [bool; ROM_END],
@@ -25,7 +25,7 @@ impl RomArea {
     ghost use Rattle.std.specs.Prelude.{get_or, true, false, IfErr, IsTrue, OnOk};
     ghost use Rattle.dvg_rows.specs.RomAreas.{BeginsAt, IsFree, StopsArea, StopsBegin, Takes};
 
-    /// No word is taken.
+    /// Returns an area of which no word is taken.
     pub fn new() -> RomArea
         ensures free { result.free ≡ 0x800 }
         ensures taken { (a : ℕ) → get_or result.is_taken a false ≡ false }
@@ -37,7 +37,7 @@ impl RomArea {
         }
     }
 
-    /// Before the first section, the first free word is this one.
+    /// Sets the first free word to the word address `free`. This comes before the first section.
     pub fn set_free(&mut self, free: u16)
         ensures free { self.new.free ≡ free }
         ensures taken { self.new.is_taken ≡ self.old.is_taken }
@@ -46,7 +46,8 @@ impl RomArea {
         self.free = free;
     }
 
-    /// Begins a section at this address, or else at the first free word.
+    /// Begins a section at the word address `address`, or else at the first free word. Returns
+    /// `OutOfRom` where that is below `first`, the ROM's first word, or above C00.
     pub fn begin(&mut self, first: u16, address: Option<u16>) -> Result<(), LineFault>
         ensures begun { OnOk result (BeginsAt first address self.old self.new) }
         ensures fault { IfErr result (StopsBegin first address self.old) }
@@ -63,7 +64,8 @@ impl RomArea {
         Ok(())
     }
 
-    /// Takes so many words more for the last section.
+    /// Takes `words` more words, at most two, for the last section. Returns `OutOfRom` where they
+    /// go past the ROM's end, and `Overlap` where one of them is taken.
     pub fn take(&mut self, words: usize) -> Result<(), LineFault>
         requires { words ≤ 2 }
         ensures taken { OnOk result (Takes words self.old self.new) }
@@ -84,7 +86,7 @@ impl RomArea {
     }
 }
 
-// Whether none of these words is taken.
+// Whether none of the words from `first` to `end`, `end` excluded, is `taken`.
 fn is_free(taken: &[bool], first: usize, end: usize) -> bool
     requires ordered { first ≤ end }
     requires inside { end ≤ length taken.now }
@@ -98,7 +100,7 @@ fn is_free(taken: &[bool], first: usize, end: usize) -> bool
     true
 }
 
-// Takes these words.
+// Marks the words from `first` to `end`, `end` excluded, as `taken`.
 fn mark(taken: &mut [bool], first: usize, end: usize)
     requires ordered { first ≤ end }
     requires inside { end ≤ length taken.old }

@@ -14,7 +14,7 @@ use dvg_read::{hex, read_op_parts};
 /// The most bytes of a name (this project's own choice).
 const MOST_NAME_BYTES: usize = 32;
 
-/// What a row does: an operation as a plain draft has it, or one whose target has a name.
+/// What a row does: an operation as a plain draft has it, or one whose target is named.
 #[derive(Clone, Copy)]
 pub enum Doing<'a> {
     /// An operation without a name.
@@ -47,7 +47,7 @@ pub enum Head<'a> {
     Rom(Option<u16>),
 }
 
-/// The row that a line of these tokens spells. None exactly where it spells none.
+/// Returns the row that a line of `tokens` spells, or `None` exactly where it spells none.
 pub fn read_row<'a>(tokens: &[&'a [u8]]) -> Option<Row<'a>>
     ensures found { IfSome result (λ row. RowParts (row_of row) (bytes_of tokens.now)) }
     ensures only { (row : SpelledRow) → RowParts row (bytes_of tokens.now)
@@ -80,8 +80,8 @@ pub fn read_row<'a>(tokens: &[&'a [u8]]) -> Option<Row<'a>>
     })
 }
 
-/// The beginning of a section that a line of these tokens spells. None exactly where it spells
-/// none.
+/// Returns the beginning of a section that a line of `tokens` spells, or `None` exactly where it
+/// spells none.
 pub fn read_head<'a>(tokens: &[&'a [u8]]) -> Option<Head<'a>>
     ensures found { IfSome result (λ head. HeadParts (head_of head) (bytes_of tokens.now)) }
     ensures only { (head : SpelledHead) → HeadParts head (bytes_of tokens.now)
@@ -94,7 +94,7 @@ pub fn read_head<'a>(tokens: &[&'a [u8]]) -> Option<Head<'a>>
     }
 }
 
-// A section that begins without a name and without an address.
+// Returns the section that `begin` alone begins: it has no name and no address.
 fn bare_head<'a>(begin: &[u8]) -> Option<Head<'a>>
     ensures found { IfSome result (λ head. HeadParts (head_of head) (begin.now ∷ [])) }
     ensures only { (head : SpelledHead) → HeadParts head (begin.now ∷ [])
@@ -107,7 +107,8 @@ fn bare_head<'a>(begin: &[u8]) -> Option<Head<'a>>
     }
 }
 
-// A frame with this name, or a section of the ROM at this address.
+// Returns the section that `begin` and `operand` begin: a frame of that name, or a section of the
+// ROM at that address.
 fn head_with<'a>(begin: &[u8], operand: &'a [u8]) -> Option<Head<'a>>
     ensures found { IfSome result (λ head. HeadParts (head_of head)
         (begin.now ∷ operand.now ∷ [])) }
@@ -121,7 +122,7 @@ fn head_with<'a>(begin: &[u8], operand: &'a [u8]) -> Option<Head<'a>>
     }
 }
 
-// The beginning of a frame with this name.
+// Returns the beginning of a frame called `name`, if that is a name.
 fn frame_named<'a>(name: &'a [u8]) -> Option<Head<'a>>
     ensures found { IfSome result (λ head. (head_of head ≡ frame (Some name.now))
         × IsName name.now) }
@@ -135,7 +136,7 @@ fn frame_named<'a>(name: &'a [u8]) -> Option<Head<'a>>
     }
 }
 
-// What a row of these tokens does. None exactly where they spell nothing.
+// Returns what a row of `tokens` does, or `None` exactly where they spell nothing.
 fn read_doing<'a>(tokens: &[&'a [u8]]) -> Option<Doing<'a>>
     ensures found { IfSome result (λ doing. DoingParts (doing_of doing) (bytes_of tokens.now)) }
     ensures only { (doing : SpelledDoing) → DoingParts doing (bytes_of tokens.now)
@@ -150,7 +151,7 @@ fn read_doing<'a>(tokens: &[&'a [u8]]) -> Option<Doing<'a>>
     Some(Doing::Plainly(op))
 }
 
-// The operation of this name whose target has that name.
+// Returns the operation `command` whose target is called `name`.
 fn wanting<'a>(command: &[u8], name: &'a [u8]) -> Option<Doing<'a>>
     requires { IsName name.now }
     ensures found { IfSome result (λ doing. DoingParts (doing_of doing)
@@ -167,7 +168,8 @@ fn wanting<'a>(command: &[u8], name: &'a [u8]) -> Option<Doing<'a>>
     }
 }
 
-// The name that a token gives, which ends with a colon. None exactly where it gives none.
+// Returns the name that `token` gives, which ends with a colon, or `None` exactly where it gives
+// none.
 fn name_given<'a>(token: &'a [u8]) -> Option<&'a [u8]>
     ensures found { IfSome result (λ name. IsName name.now × (token.now ≡ name.now ++ 58 ∷ [])) }
     ensures only { (name : List ℕ) → IsName name → token.now ≡ name ++ 58 ∷ []
@@ -181,7 +183,7 @@ fn name_given<'a>(token: &'a [u8]) -> Option<&'a [u8]>
     }
 }
 
-// Whether it is a name: a letter, then letters, digits and `_`, no more than 32 bytes, and no three
+// Whether `name` is one: a letter, then letters, digits and `_`, at most 32 bytes, and not three
 // hexadecimal digits.
 fn is_name(name: &[u8]) -> bool
     ensures { IsTrue result ↔ IsName name.now }
@@ -192,7 +194,7 @@ fn is_name(name: &[u8]) -> bool
         && hex(name, 3).is_none()
 }
 
-// Whether it begins with a letter.
+// Whether `name` begins with a letter.
 fn begins_with_letter(name: &[u8]) -> bool
     ensures { IsTrue result ↔ BeginsWithLetter name.now }
 {
@@ -202,7 +204,7 @@ fn begins_with_letter(name: &[u8]) -> bool
     }
 }
 
-// Whether each byte is a letter, a digit or `_`.
+// Whether each byte of `name` is a letter, a digit or `_`.
 fn has_name_bytes(name: &[u8]) -> bool
     ensures { result ≡ list_all is_name_byte name.now }
 {
@@ -213,7 +215,7 @@ fn has_name_bytes(name: &[u8]) -> bool
     )
 }
 
-// Whether it is a letter, a digit or `_`.
+// Whether `byte` is a letter, a digit or `_`.
 fn is_name_byte(byte: u8) -> bool
     ensures { result ≡ is_name_byte byte }
 {

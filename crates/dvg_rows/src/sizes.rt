@@ -8,8 +8,8 @@ ghost use Rattle.dvg_rows.specs.RowValues.{doing_of, row_of};
 use crate::row::{Doing, Row};
 use dvg_frame::OpKind;
 
-/// How many words rows take: two for each VCTR and each LABS, one for each other operation, and
-/// none for a name alone.
+/// Returns how many words `rows` take: two for each VCTR and each LABS, one for each other
+/// operation, and none for a name alone.
 pub fn size(rows: &[Row]) -> usize
     requires { words_of_rows (rows_of rows.now) < 2 ^ 64 }
     ensures { result ≡ words_of_rows (rows_of rows.now) }
@@ -21,7 +21,7 @@ pub fn size(rows: &[Row]) -> usize
     words
 }
 
-/// How many words one row takes.
+/// Returns how many words `row` takes.
 pub fn words_of_row(row: &Row) -> usize
     ensures { result ≡ words_of_rows (row_of row.now ∷ []) }
 {
@@ -31,7 +31,7 @@ pub fn words_of_row(row: &Row) -> usize
     }
 }
 
-// How many words it takes.
+// Returns how many words the operation `doing` takes.
 fn words_of_doing(doing: &Doing) -> usize
     ensures { result ≡ words_taken (doing_of doing.now) }
 {
@@ -41,7 +41,7 @@ fn words_of_doing(doing: &Doing) -> usize
     }
 }
 
-// How many words an operation takes.
+// Returns how many words an operation of this `kind` takes.
 fn words_of_kind(kind: OpKind) -> usize
     ensures { result ≡ op_words kind }
 {

@@ -11,7 +11,8 @@ use dvg_frame::{Draft, Op, OpKind};
 /// The most operations of a draft.
 const MOST_OPS: usize = 511;
 
-// The number of the operation with this name.
+// Returns the number of the operation that `steps` give the name `name`, or `None` where they give
+// it to none.
 fn number_of(steps: &[Step], name: &str) -> Option<u16>
     requires { op_count steps.now ≤ 511 }
     ensures { MatchOption result ((n : ℕ) → ¬ IsNumberOf steps.now name.now n)
@@ -29,7 +30,7 @@ fn number_of(steps: &[Step], name: &str) -> Option<u16>
     None
 }
 
-// The first step that gives a name which an earlier one gives.
+// Returns the place of the first of `steps` that gives a name which an earlier one gives.
 fn given_again(steps: &[Step]) -> Option<usize>
     requires { op_count steps.now ≤ 511 }
     ensures { MatchOption result ((place : ℕ) → ¬ GivesAgain steps.now place)
@@ -45,7 +46,7 @@ fn given_again(steps: &[Step]) -> Option<usize>
     None
 }
 
-// The operation of a step that is an operation. None where it names one that doesn't exist.
+// Returns the operation that `step` is, or `None` where it uses a name that none of `steps` gives.
 fn operation(steps: &[Step], step: &Step) -> Option<Op>
     requires few { op_count steps.now ≤ 511 }
     requires is { is_operation step.now ≡ true }
@@ -65,7 +66,7 @@ fn operation(steps: &[Step], step: &Step) -> Option<Op>
     }
 }
 
-/// The draft whose operations are those of the sketch, in order, where each call and each jump has
+/// Returns the draft whose operations are those of `steps`, in order. Each call and each jump has
 /// the number of the operation that its name stands before. No memory is taken. The time grows with
 /// the square of the number of steps.
 ///

@@ -18,14 +18,14 @@ impl<'a> Step<'a> {
     ghost use Rattle.std.specs.Prelude.{◌≡◌, ◌↔◌, IsTrue};
     ghost use Rattle.dvg_sketch.specs.Steps.{Names, is_operation};
 
-    // Whether it is an operation.
+    // Returns whether the step is an operation.
     pub(crate) fn is_operation(&self) -> bool
         ensures { result ≡ is_operation self.now }
     {
         !matches!(self, Step::Name(_))
     }
 
-    // Whether it gives this name.
+    // Returns whether the step gives the name `name`.
     pub(crate) fn names(&self, name: &str) -> bool
         ensures { IsTrue result ↔ Names self.now name.now }
     {

@@ -5,7 +5,7 @@ ghost use Rattle.dvg_svg.specs.Parts.{joined};
 use dvg_io::{StreamFailed, Watched, write_whole};
 use std::io::Write;
 
-/// Writes parts, one after the other.
+/// Writes `parts` to `writer`, one after the other.
 pub(crate) fn write_parts<W: Write>(
     parts: &[&[u8]],
     writer: &mut Watched<W>,

@@ -16,7 +16,7 @@ pub fn undisturbed()
     ensures ram { Undisturbed }
 {}
 
-/// No run over a memory as in `undisturbed` wants word zero again, once it has fetched it.
+/// No run over a memory as in `undisturbed` comes to word zero again, once it has fetched it.
 pub fn word_zero_only_first()
     ensures { OnlyFirst }
 {}

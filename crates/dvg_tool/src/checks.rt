@@ -14,7 +14,7 @@ use dvg_read::{MOST_TEXT_BYTES, read_draft};
 use std::alloc::Allocator;
 use std::io::{Read, Write};
 
-// What the check says of the draft that a text denotes, over the ROM that it denotes.
+// Returns what the check says of the draft that `text` denotes, over the ROM that it denotes.
 #[inline(never)]
 fn judge<A: Allocator>(alloc: A, text: &[u8]) -> Result<BoundedVerdict, ToolFault>
     ensures said { IfOk result (JudgesBound text.now) }
@@ -36,7 +36,7 @@ fn judge<A: Allocator>(alloc: A, text: &[u8]) -> Result<BoundedVerdict, ToolFaul
     }
 }
 
-// The engine `check_text`: of a draft it finds what the check says.
+// The engine `check_text`: it finds what the check says of a draft.
 #[derive(Drop)]
 struct CheckEngine;
 
@@ -101,17 +101,17 @@ impl<A: Allocator + Copy> Engine<A> for BoundEngine {
     }
 }
 
-/// Reads a draft as text, with the lines of a memory map and of a ROM before it, and writes in one
-/// line what the check says of the draft over that ROM: `ok` and its number of words, or `fault`
-/// and the fault's number, name and place (the texts are this project's own choice). It answers
-/// what it wrote.
+/// Reads a draft as text from `reader`, with the lines of a memory map and of a ROM before it.
+/// Writes what the check says of the draft over that ROM to `writer`, in one line: `ok` and its
+/// number of words, or `fault` and the fault's number, name and place (the texts are this project's
+/// own choice). Returns what it wrote.
 ///
 /// - `TooLong`: the text has more than 1,048,576 bytes, of which no more than 1,048,577 are taken.
 ///   This is decided before all others.
 /// - `Syntax`, `Full`: this line is the first at fault. It spells nothing that may stand at its
 ///   place, or it spells operation number 511.
 /// - `Reader`, `Writer`: that stream failed. After `Writer` a beginning of the line went out.
-/// - `Memory`: a growth was refused.
+/// - `Memory`: an allocation failed.
 ///
 /// Where it stops before it writes, which is at any fault but `Writer`, the writer is as it was.
 #[inline(never)]
@@ -127,9 +127,9 @@ pub fn check_text<A: Allocator, R: Read, W: Write>(
     serve(&CheckEngine, &alloc, reader, writer)
 }
 
-/// The same, but the line of a good draft gives its bound, too: `ok`, its number of words and how
-/// many fetches its whole run takes, which are the words that the generator fetches, word zero
-/// included.
+/// Reads a draft from `reader` and writes what the check says of it to `writer`, like `check_text`,
+/// but the line of a good draft gives its bound, too: `ok`, its number of words, and how many words
+/// the generator fetches in its whole run, word zero included.
 #[inline(never)]
 pub fn check_bound<A: Allocator, R: Read, W: Write>(
     alloc: A,

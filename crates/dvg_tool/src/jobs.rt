@@ -25,7 +25,7 @@ use dvg_svg::Show;
 use std::alloc::Allocator;
 use std::io::{Read, Write};
 
-// Does the job `picture --svg`.
+// Does the job `picture --svg`, from `reader` to `writer`, in the size `percent`.
 fn picture_shown<A: Allocator + Copy, R: Read, W: Write>(
     alloc: A,
     reader: &mut Watched<R>,
@@ -42,7 +42,8 @@ fn picture_shown<A: Allocator + Copy, R: Read, W: Write>(
     }
 }
 
-// Does the job `play --svg`, over the store that is asked for.
+// Does the job `play --svg`, from `reader` to `writer`, in the size and at the rate of `show`. With
+// `banked` the RAM is kept in banks.
 fn play_shown<A: Allocator + Copy, R: Read, W: Write>(
     alloc: A,
     reader: &mut Watched<R>,
@@ -61,7 +62,7 @@ fn play_shown<A: Allocator + Copy, R: Read, W: Write>(
     }
 }
 
-// The form that is asked for, as `dvg_lay` has it.
+// Returns `form`, which is asked for, as `dvg_lay` has it.
 fn form_of(form: LayForm) -> Form
     ensures { result ≡ form_of form }
 {
@@ -74,7 +75,7 @@ fn form_of(form: LayForm) -> Form
     }
 }
 
-// What is said of a sketch that was laid out.
+// Returns what is reported of a sketch that was laid out as `laid`.
 fn answered<A: Allocator>(laid: Laid<A>) -> Done<A>
     ensures { result ≡ answered laid }
 {
@@ -84,7 +85,7 @@ fn answered<A: Allocator>(laid: Laid<A>) -> Done<A>
     }
 }
 
-// Does the job `lay`.
+// Does the job `lay`, from `reader` to `writer`, in this `form`.
 fn lay_answered<A: Allocator + Copy, R: Read, W: Write>(
     alloc: A,
     reader: &mut Watched<R>,
@@ -101,7 +102,7 @@ fn lay_answered<A: Allocator + Copy, R: Read, W: Write>(
     }
 }
 
-// What is said of a sketch that was drawn.
+// Returns what is reported of a sketch that was drawn as `drawn`.
 fn answered_drawn<A: Allocator>(drawn: Drawn<A>) -> Done<A>
     ensures { result ≡ answered_drawn drawn }
 {
@@ -111,7 +112,7 @@ fn answered_drawn<A: Allocator>(drawn: Drawn<A>) -> Done<A>
     }
 }
 
-// Does the job `render`.
+// Does the job `render`, from `reader` to `writer`, in the size and at the rate of `show`.
 fn draw_answered<A: Allocator + Copy, R: Read, W: Write>(
     alloc: A,
     reader: &mut Watched<R>,
@@ -129,7 +130,7 @@ fn draw_answered<A: Allocator + Copy, R: Read, W: Write>(
     }
 }
 
-// Does the job `render --check`.
+// Does the job `render --check`, from `reader` to `writer`.
 fn check_answered<A: Allocator + Copy, R: Read, W: Write>(
     alloc: A,
     reader: &mut Watched<R>,
@@ -147,7 +148,7 @@ fn check_answered<A: Allocator + Copy, R: Read, W: Write>(
     }
 }
 
-/// Does a job by the engine of its name, and answers what that has to say.
+/// Does `job` by the engine of its name, from `reader` to `writer`, and returns what that reports.
 pub fn perform<A: Allocator + Copy, R: Read, W: Write>(
     alloc: A,
     job: Job,

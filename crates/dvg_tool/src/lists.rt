@@ -17,8 +17,8 @@ use std::io::{Read, Write};
 /// (this project's own choice).
 pub const MOST_LIST_BYTES: usize = 8192;
 
-/// Writes the line of the instruction that stands at a place of the words, listed at this address.
-/// The line is made in `line`.
+/// Writes the line of `code`, the instruction that stands at `place` in `words`, to `writer`,
+/// listed at `address`. The line is made in `line`.
 pub(crate) fn write_item<W: Write>(
     line: &mut Line,
     words: &[u16],
@@ -36,7 +36,7 @@ pub(crate) fn write_item<W: Write>(
     write_whole(writer, line.as_bytes())
 }
 
-// Writes a line for each instruction of the words.
+// Writes a line to `writer` for each instruction of `words`.
 fn list_words<W: Write>(words: &[u16], writer: &mut Watched<W>) -> Result<(), ToolFault>
     requires fresh { failures_of writer.old ≡ 0 }
     ensures lists { ListsWords result words.now
@@ -58,16 +58,16 @@ fn list_words<W: Write>(words: &[u16], writer: &mut Watched<W>) -> Result<(), To
     Ok(())
 }
 
-/// Reads words, two bytes each, the low one first, and writes a line for each instruction: its
-/// place in words, its name and operands, and a star where its words aren't canonical (the text is
-/// this project's own choice).
+/// Reads words from `reader`, two bytes each, the low one first, and writes a line to `writer` for
+/// each instruction: its place in words, its name and operands, and a star where its words aren't
+/// canonical (the text is this project's own choice).
 ///
 /// - `TooLong`: the input has more than 8,192 bytes, of which no more than 8,193 are taken.
 /// - `Odd`: it has an odd number of bytes.
 /// - `Cut`: the last word is the first of two, and the second is missing; the lines before it are
 ///   written.
 /// - `Reader`, `Writer`: that stream failed. After `Writer` a beginning of the text went out.
-/// - `Memory`: a growth was refused.
+/// - `Memory`: an allocation failed.
 ///
 /// Where it stops before it writes, which is at any fault but `Cut` and `Writer`, the writer is as
 /// it was.

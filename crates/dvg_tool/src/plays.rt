@@ -16,7 +16,8 @@ use std::alloc::Allocator;
 use std::io::{Read, Write};
 use std::marker::PhantomData;
 
-/// The ROM of a trace's text, and an image of zeros. None where memory is refused.
+/// Returns the ROM of `trace`, the text of a trace, and an image of zeros. Returns `None` where an
+/// allocation fails.
 pub(crate) fn memory_of<A: Allocator + Copy>(
     alloc: A,
     trace: &TraceText<A>,
@@ -34,7 +35,7 @@ pub(crate) fn memory_of<A: Allocator + Copy>(
     Some((rom, image))
 }
 
-// Lets the events of a trace happen over its ROM, from a RAM of zeros, and keeps their entries.
+// Runs the events of `trace` over its ROM, from a RAM of zeros, and keeps their entries.
 fn log_text<S: Store>(alloc: S::Alloc, trace: &TraceText<S::Alloc>) -> Logged<S::Alloc>
     requires { IsRom trace.now.rom.items }
     ensures { Logs trace.now.rom.items zeros trace.now.events result }
@@ -45,7 +46,7 @@ fn log_text<S: Store>(alloc: S::Alloc, trace: &TraceText<S::Alloc>) -> Logged<S:
     log_trace::<S>(alloc, rom, &image, &trace.events)
 }
 
-// The engine: of a trace it finds the entries of its events, over a RAM that is kept in a store.
+// The engine that finds the entries of a trace's events, over a RAM that is kept in a store.
 #[derive(Drop)]
 struct EntriesEngine<S> {
     store: PhantomData<S>,
@@ -78,7 +79,7 @@ impl<S: Store> Engine<S::Alloc> for EntriesEngine<S> {
     }
 }
 
-// Plays a trace, and writes each entry.
+// Plays a trace from `reader`, and writes each entry to `writer`.
 fn play_entries<S: Store, R: Read, W: Write>(
     alloc: S::Alloc,
     reader: &mut Watched<R>,
@@ -96,12 +97,12 @@ fn play_entries<S: Store, R: Read, W: Write>(
     }
 }
 
-/// Reads a trace as text, with the lines of a memory map and of a ROM before it, lets its events
-/// happen from a RAM of zeros, and writes what the log shows: with `all` a line for each entry, and
-/// else for each finished run; and after the line of a finished run one for each of its strokes, in
-/// the order drawn (the texts are this project's own choice).
+/// Reads a trace as text from `reader`, with the lines of a memory map and of a ROM before it. Runs
+/// its events from a RAM of zeros, and writes what the log shows to `writer`: with `all` a line for
+/// each entry, and else one for each finished run. After the line of a finished run comes one for
+/// each of its strokes, in the order drawn (the texts are this project's own choice).
 ///
-/// The events happen by `dvg_world::log_trace`, or, where only finished runs are shown, by
+/// The events are run by `dvg_world::log_trace`, or, where only finished runs are shown, by
 /// `draw_trace`, which keeps nothing else: the log is the one legal log of them, and each of its
 /// lines keeps the headline, which `Plays` says, too. The whole text is read before the first event
 /// happens, and what writes is handed no allocator.
@@ -111,7 +112,7 @@ fn play_entries<S: Store, R: Read, W: Write>(
 /// - `Syntax`, `Full`, `Many`, `Unended`: this is the first fault of the text, as `read_trace`
 ///   says.
 /// - `Reader`, `Writer`: that stream failed. After `Writer` a beginning of the text went out.
-/// - `Memory`: a growth was refused. At an event, which is a fetch that completes a vector with an
+/// - `Memory`: an allocation failed. At an event, which is a fetch that completes a vector with an
 ///   intensity of at least 1, the text of the events before it went out first. The contract can't
 ///   say where memory was refused, so by it nothing at all may have gone out; tests show that text.
 ///
@@ -138,8 +139,8 @@ pub fn play_in<S: Store, R: Read, W: Write>(
     }
 }
 
-/// Plays a trace over a RAM that is kept in one array: `play_in` with the store `Flat`, and with
-/// its clauses.
+/// Plays a trace from `reader` to `writer` over a RAM that is kept in one array: `play_in` with the
+/// store `Flat`, and with its clauses. With `all` each entry is written, else finished runs alone.
 pub fn play<A: Allocator + Copy, R: Read, W: Write>(
     alloc: A,
     reader: &mut Watched<R>,

@@ -18,7 +18,7 @@ use std::alloc::Allocator;
 use std::io::{Read, Write};
 use std::marker::PhantomData;
 
-/// Lets the events of a trace happen over its ROM, from a RAM of zeros, and keeps the pictures.
+/// Runs the events of `trace` over its ROM, from a RAM of zeros, and keeps the pictures.
 pub(crate) fn draw_text<S: Store>(alloc: S::Alloc, trace: &TraceText<S::Alloc>) -> Drawn<S::Alloc>
     requires { IsRom trace.now.rom.items }
     ensures { Draws trace.now.rom.items zeros trace.now.events result }
@@ -29,7 +29,8 @@ pub(crate) fn draw_text<S: Store>(alloc: S::Alloc, trace: &TraceText<S::Alloc>) 
     draw_trace::<S>(alloc, rom, &image, &trace.events)
 }
 
-// Writes a picture: its line, and one for each of its strokes. The lines are made in `line`.
+// Writes `picture` to `writer`: its line, and one for each of its strokes. The lines are made in
+// `line`.
 fn write_picture<A: Allocator, W: Write>(
     line: &mut Line,
     picture: &Picture<A>,
@@ -43,7 +44,7 @@ fn write_picture<A: Allocator, W: Write>(
     write_strokes(picture.strokes.as_slice(), writer)
 }
 
-// Writes pictures, one after the other.
+// Writes `pictures` to `writer`, one after the other.
 fn write_pictures<A: Allocator, W: Write>(
     pictures: &[Picture<A>],
     writer: &mut Watched<W>,
@@ -58,7 +59,7 @@ fn write_pictures<A: Allocator, W: Write>(
     Ok(())
 }
 
-// The engine: of a trace it finds the pictures, over a RAM that is kept in a store.
+// The engine that finds the pictures of a trace, over a RAM that is kept in a store.
 #[derive(Drop)]
 struct PicturesEngine<S> {
     store: PhantomData<S>,
@@ -91,7 +92,7 @@ impl<S: Store> Engine<S::Alloc> for PicturesEngine<S> {
     }
 }
 
-/// Plays a trace, and writes the pictures.
+/// Plays a trace from `reader`, and writes the pictures to `writer`.
 pub(crate) fn play_pictures<S: Store, R: Read, W: Write>(
     alloc: S::Alloc,
     reader: &mut Watched<R>,

@@ -19,7 +19,7 @@ use std::alloc::Allocator;
 use std::io::{Read, Write};
 use std::marker::PhantomData;
 
-// The strokes of each of these pictures.
+// Returns the strokes of each of `pictures`. Returns `Memory` where an allocation fails.
 fn collect_strokes<A: Allocator + Copy>(
     alloc: A,
     pictures: Vec<Picture<A>, A>,
@@ -37,7 +37,8 @@ fn collect_strokes<A: Allocator + Copy>(
     Ok(strokes)
 }
 
-// Lets the events of a trace happen, and answers the strokes of the runs that finished.
+// Runs the events of `trace`, and returns the strokes of the runs that finished. Returns `Memory`
+// where an allocation fails.
 fn draw_whole<S: Store>(
     alloc: S::Alloc,
     trace: &TraceText<S::Alloc>,
@@ -55,7 +56,7 @@ fn draw_whole<S: Store>(
     collect_strokes(alloc, drawn.pictures)
 }
 
-// The engine: of a trace it finds the pictures, over a RAM that is kept in a store.
+// The engine that finds the pictures of a trace, over a RAM that is kept in a store.
 #[derive(Drop)]
 struct SvgEngine<S> {
     show: Show,
@@ -89,13 +90,13 @@ impl<S: Store> Engine<S::Alloc> for SvgEngine<S> {
     }
 }
 
-/// Reads a trace as text and lets its events happen as `play` does, and writes the pictures of all
-/// runs that finished as one SVG, in which they are shown in turn (the text is this project's own
-/// choice).
+/// Reads a trace as text from `reader` and runs its events as `play` does. Writes the pictures of
+/// all runs that finished to `writer` as one SVG, in which they are shown in turn, in the size and
+/// at the rate of `show` (the text is this project's own choice).
 ///
 /// - `TooLong`, `Syntax`, `Full`, `Many`, `Unended`: as `play_in` says.
 /// - `Reader`, `Writer`: that stream failed. After `Writer` a beginning of the text went out.
-/// - `Memory`: a growth was refused.
+/// - `Memory`: an allocation failed.
 ///
 /// Where it stops before it writes, which is at any fault but `Writer`, the writer is as it was.
 ///
@@ -120,8 +121,8 @@ pub fn play_svg_in<S: Store, R: Read, W: Write>(
     Ok(())
 }
 
-/// Plays a trace over a RAM that is kept in one array: `play_svg_in` with the store `Flat`, and
-/// with its clauses.
+/// Plays a trace from `reader` to `writer` over a RAM that is kept in one array: `play_svg_in` with
+/// the store `Flat`, and with its clauses. `show` is the size and the rate.
 pub fn play_svg<A: Allocator + Copy, R: Read, W: Write>(
     alloc: A,
     reader: &mut Watched<R>,

@@ -13,7 +13,8 @@ use dvg_world::{Entries, EntryRun};
 use std::alloc::Allocator;
 use std::io::Write;
 
-// Writes what is shown of the next entry, whose run drew these strokes, if it finished.
+// Writes what is shown of the next entry, `entry`, to `writer`. `strokes` are what its run drew, if
+// it finished. The line is made in `lines`.
 fn write_next<W: Write>(
     lines: &mut EntryLines,
     entry: &Entry<u16>,
@@ -35,7 +36,8 @@ fn write_next<W: Write>(
     write_strokes(strokes, writer)
 }
 
-// Writes what is shown of the next entries, which are a run of equal ones.
+// Writes what is shown of the next entries, which are `run`, equal ones in a row, to `writer`.
+// Their lines are made in `lines`.
 fn write_run<W: Write>(
     lines: &mut EntryLines,
     run: EntryRun<'_>,
@@ -54,8 +56,8 @@ fn write_run<W: Write>(
     Ok(())
 }
 
-/// Writes what is shown of each of these entries, the first of which is that of event 0. Each line
-/// is handed to the writer by itself, which is tested.
+/// Writes what is shown of each of `entries` to `writer`. The first of them is that of event 0.
+/// Each line is handed to `writer` by itself, which is tested.
 pub fn write_entries<A: Allocator, W: Write>(
     entries: &Entries<A>,
     writer: &mut Watched<W>,

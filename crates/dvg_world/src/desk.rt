@@ -13,7 +13,7 @@ use std::alloc::{Allocator, Global};
 use std::marker::Model;
 
 /// A driver with the ROM over which its drafts are checked, and what they are checked by. It knows
-/// no RAM: its answers say what it does.
+/// no RAM: what it returns says what it does.
 #[derive(Drop)]
 pub struct Desk<A: Allocator = Global> {
     rom: Rom<A>,
@@ -31,8 +31,8 @@ impl<A: Allocator> Model for Desk<A> {
 }
 
 impl<A: Allocator> Desk<A> {
-    /// A driver that was just reset, over this ROM. It takes some 105 KB for the tables of the
-    /// check.
+    /// Returns a driver that was just reset, over `rom`. It takes some 105 KB from `alloc`, for the
+    /// tables of the check. Returns `OutOfMemory` where an allocation fails.
     pub fn new(alloc: A, rom: Rom<A>) -> Result<Desk<A>, OutOfMemory>
         ensures { IfOk result (IsFresh rom) }
     {
@@ -43,9 +43,9 @@ impl<A: Allocator> Desk<A> {
         })
     }
 
-    /// The driver is just reset, over a ROM of these bytes. Memory is taken, and may be refused,
-    /// only for a ROM of another size. After an error all is as it was. The error is `Size` exactly
-    /// where no ROM has this number of bytes.
+    /// Resets the driver, over a ROM of the bytes `rom`. Memory is taken, from `alloc`, only for a
+    /// ROM of another size. Returns `Size` exactly where the length of `rom` is neither 2,048 nor
+    /// 4,096, and `OutOfMemory` where an allocation fails. After an error all is as it was.
     pub fn begin_anew(&mut self, alloc: A, rom: &[u8]) -> Result<(), MemFault>
         ensures fresh { OnOk result (IsFresh rom.now self.new) }
         ensures size { IsErrOf result MemFault.Size
@@ -62,21 +62,21 @@ impl<A: Allocator> Desk<A> {
         }
     }
 
-    /// The ROM.
+    /// Returns the ROM.
     pub fn rom(&self) -> &Rom<A>
         ensures { result.now ≡ self.now.rom }
     {
         &self.rom
     }
 
-    /// Whether the driver is idle, and so would take a draft that the check accepts.
+    /// Returns whether the driver is idle, and so would take a draft that the check accepts.
     pub(crate) fn is_idle(&self) -> bool
         ensures { OfLives self.now.stage (λ peeked life. IsTrue result ↔ IsWhole life) }
     {
         self.driver.is_idle()
     }
 
-    /// The driver is handed a draft to show.
+    /// Hands `draft` to the driver to show, if the check accepts it. Returns the entry.
     pub fn offer<S>(&mut self, draft: &Draft) -> Entry<S>
         ensures rom { self.new.rom ≡ self.old.rom }
         ensures answers { OfferAnswers self.old.rom draft.now self.old.stage self.new.stage result }
@@ -91,7 +91,7 @@ impl<A: Allocator> Desk<A> {
         }
     }
 
-    /// The driver is asked to have the published frame drawn again.
+    /// Asks the driver to have the published frame drawn again. Returns the entry.
     pub fn redraw<S>(&mut self) -> Entry<S>
         ensures rom { self.new.rom ≡ self.old.rom }
         ensures answers { RedrawAnswers self.old.stage self.new.stage result }
@@ -103,8 +103,8 @@ impl<A: Allocator> Desk<A> {
         }
     }
 
-    /// The driver does one action. It is told whether the generator is halted, and the byte at 001
-    /// of the RAM.
+    /// Lets the driver do one action, and returns it. `halted` says whether the generator is
+    /// halted, and `byte1` is the byte at 001 of the RAM.
     #[inline(always)]
     pub fn tick(&mut self, halted: bool, byte1: u8) -> Action
         ensures rom { self.new.rom ≡ self.old.rom }
@@ -114,7 +114,7 @@ impl<A: Allocator> Desk<A> {
         self.driver.tick(halted, byte1)
     }
 
-    /// The driver is reset.
+    /// Resets the driver.
     pub fn reset(&mut self)
         ensures { IsFresh self.old.rom self.new }
     {

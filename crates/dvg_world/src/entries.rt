@@ -6,7 +6,7 @@ use dvg_log::Entry;
 use std::alloc::{Allocator, Global};
 use std::marker::Model;
 
-/// The entry of an event, and of so many more that come right after it, in ten bytes.
+/// A run-length encoded entry: `entry`, `again + 1` times in a row. It has ten bytes.
 #[derive(Clone, Copy)]
 pub(crate) struct Alike {
     pub(crate) entry: Entry<u16>,
@@ -37,7 +37,8 @@ impl<A: Allocator> Model for Entries<A> {
 }
 
 impl<A: Allocator> Entries<A> {
-    /// The entries, as runs of equal ones. There are as many as a trace has events, or fewer.
+    /// Returns an iterator over the entries, as runs of equal ones. There are as many entries as a
+    /// trace has events, or fewer.
     pub fn runs(&self) -> EntryRuns<'_, A>
         ensures entries { result ≡ self.now }
         ensures most { length result ≤ 65536 }
@@ -54,9 +55,9 @@ impl<A: Allocator> Entries<A> {
 pub struct EntryRun<'a> {
     /// The entry. What stands in it in place of the strokes has no meaning outside.
     pub entry: &'a Entry<u16>,
-    /// How many times in a row it comes.
+    /// The number of times that it comes in a row.
     pub times: usize,
-    /// What the generator's run drew, if the entry finished one; else nothing.
+    /// What the generator's run drew, if the entry finished one; otherwise nothing.
     pub strokes: &'a [Stroke],
 }
 

@@ -7,7 +7,7 @@ use dvg_log::Entry;
 use std::alloc::Allocator;
 use std::mem;
 
-/// What a fetch met, and the generator's answer. An entry would be made of it only to be taken
+/// What a fetch met, and what the generator returned. An entry would be made of it only to be taken
 /// apart where pictures alone are kept.
 #[derive(Clone, Copy, Debug, PartialEq, Eq)]
 pub(crate) struct FetchedByte {
@@ -15,13 +15,13 @@ pub(crate) struct FetchedByte {
     pub(crate) address: u16,
     // The low byte that was fetched before, if this is the high one.
     pub(crate) low: Option<u8>,
-    // The byte; none where no memory answers.
+    // The byte, or `None` where no memory answers.
     pub(crate) byte: Option<u8>,
     pub(crate) step: Step,
 }
 
 impl FetchedByte {
-    // Its entry, with this as what the run drew, if it finished.
+    // Returns the entry of the fetch, with `drew` as what the run drew, if it finished.
     #[inline(always)]
     pub(crate) fn entry<S: Drop>(self, drew: S) -> Entry<S>
         ensures { result ≡ entry_of self drew }
@@ -29,8 +29,8 @@ impl FetchedByte {
         Entry::of_fetch(self.address, self.low, self.byte, self.step, drew)
     }
 
-    // What the run drew, if this finished it: it is taken out of this list, and the other one takes
-    // its place.
+    // Returns what the run drew, if this fetch finished it: it is taken out of `drawn`, and `other`
+    // takes its place.
     #[inline(always)]
     pub(crate) fn take_drawn<A: Allocator>(
         self,

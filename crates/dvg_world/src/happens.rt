@@ -12,7 +12,7 @@ use dvg_frame::{Draft, Op};
 use dvg_log::{OwnEntry, TraceEvent};
 use dvg_mem::Store;
 
-// Takes these operations in place of a draft's own.
+// Replaces the operations of `draft` with `ops`, which are at most 511.
 pub(crate) fn fill(draft: &mut Draft, ops: &[Op])
     requires { length ops.now ≤ 511 }
     ensures { draft.new ≡ ops.now }
@@ -21,7 +21,7 @@ pub(crate) fn fill(draft: &mut Draft, ops: &[Op])
     draft.try_extend_from_slice(ops).unwrap();
 }
 
-// A draft may hold each of them, as their type says. Nothing is done.
+// For the proof alone: each of `ops` satisfies `IsOp`, as its type says. Nothing is done.
 pub(crate) fn are_ops(ops: &[Op])
     ensures { All IsOp ops.now }
 {
@@ -30,7 +30,8 @@ pub(crate) fn are_ops(ops: &[Op])
     }
 }
 
-// Lets an event of a trace happen to a world. The draft of an offer is made in `draft`.
+// Lets `event` happen to `world`, and returns its entry. The draft of an offer is made in `draft`.
+// Returns `OutOfMemory` where an allocation fails, and then `world` is as it was.
 #[inline(always)]
 pub(crate) fn happen<S: Store>(
     event: TraceEvent<'_, S::Alloc>,

@@ -33,7 +33,7 @@ enum Drawing {
 }
 
 impl Drawing {
-    // What a run draws whose first word is this one, at this address.
+    // Returns what a run draws whose first word is `word`, at `address`.
     fn from_first(address: u16, word: u16) -> Drawing
         ensures { FitsRun result (Some ((address, word) ∷ [])) }
     {
@@ -46,7 +46,7 @@ impl Drawing {
         Drawing::Within(half)
     }
 
-    // What is left by an event.
+    // Returns what is drawn once `event` has happened, before its entry counts.
     fn after_event<A: Allocator>(self, event: &OwnEvent<A>) -> Drawing
         ensures { (run : Option (List (ℕ × ℕ))) → FitsRun self run
             → FitsRun result (left_by (happening_of event.now) run) }
@@ -57,7 +57,7 @@ impl Drawing {
         }
     }
 
-    // What is drawn after the fetch of a word at this address.
+    // Returns what is drawn after the fetch of `word` at `address`.
     fn after_fetch(self, address: u16, word: u16) -> Drawing
         ensures { (run : Option (List (ℕ × ℕ))) → FitsRun self run
             → FitsRun result (behind (Fetched address word) run) }
@@ -68,7 +68,7 @@ impl Drawing {
         }
     }
 
-    // What is drawn after an entry.
+    // Returns what is drawn after `entry`.
     fn after_entry<A: Allocator>(self, entry: &OwnEntry<A>) -> Drawing
         ensures { (run : Option (List (ℕ × ℕ))) → FitsRun self run
             → FitsRun result (behind (shown_of entry.now) run) }
@@ -81,8 +81,8 @@ impl Drawing {
         }
     }
 
-    // Whether this is drawn with the byte at this address of the RAM, so that to write it tears the
-    // picture.
+    // Returns whether the byte at `address` of the RAM lies in the half that is drawn, so that
+    // writing it tears the picture.
     fn is_torn_at(self, address: u16) -> bool
         ensures { (log : Log) (event : Happening) (byte : ℕ)
             → FitsRun self (open_run ((event ⟼ Acted (Wrote address byte)) ∷ log))
@@ -94,7 +94,7 @@ impl Drawing {
         Half::of_word(address / 2) == Some(half)
     }
 
-    // Whether this entry, after which that is drawn, tears the picture.
+    // Returns whether `entry`, after which this is drawn, tears the picture.
     fn is_torn_by<A: Allocator>(self, entry: &OwnEntry<A>) -> bool
         ensures { (log : Log) (event : Happening)
             → FitsRun self (open_run ((event ⟼ shown_of entry.now) ∷ log))
@@ -107,16 +107,16 @@ impl Drawing {
     }
 }
 
-/// A judge of one log, whoever made it. It is given the log's lines in order: each by its event and
-/// its entry, or by what it shows. It keeps no more than which half the open run draws, and takes
-/// no memory.
+/// A judge of one log, whoever made it. It is handed the log's lines in order: each by its event
+/// and its entry, or by what it shows. It keeps no more than which half the open run draws, and
+/// takes no memory.
 #[derive(Clone, Copy, Debug, PartialEq, Eq)]
 pub struct Judge {
     drawing: Drawing,
 }
 
 impl Judge {
-    /// Before the first line.
+    /// Returns a judge that stands before the first line.
     pub fn new() -> Judge
         ensures { StandsAfter result [] }
     {
@@ -125,7 +125,7 @@ impl Judge {
         }
     }
 
-    /// Is given one more line. Answers whether that line tears a picture.
+    /// Takes one more line, of `event` and `entry`. Returns whether that line tears a picture.
     pub fn take<A: Allocator>(&mut self, event: &OwnEvent<A>, entry: &OwnEntry<A>) -> bool
         ensures stands { (log : Log) → StandsAfter self.old log
             → StandsAfter self.new ((happening_of event.now ⟼ shown_of entry.now) ∷ log) }
@@ -136,7 +136,7 @@ impl Judge {
         self.drawing.is_torn_by(entry)
     }
 
-    /// Is told that a strobe began a run.
+    /// Notes that a strobe began a run.
     pub fn started(&mut self)
         ensures { (log : Log) → StandsAfter self.old log
             → StandsAfter self.new ((Strobe ⟼ Started) ∷ log) }
@@ -144,7 +144,8 @@ impl Judge {
         self.drawing = Drawing::Begun;
     }
 
-    /// Is told that a fetch completed this word at this word address, and the run goes on.
+    /// Notes that a fetch completed the word `word` at the word address `address`, and the run goes
+    /// on.
     pub fn fetched(&mut self, address: u16, word: u16)
         ensures { (log : Log) → StandsAfter self.old log
             → StandsAfter self.new ((Fetch ⟼ Fetched address word) ∷ log) }
@@ -152,8 +153,8 @@ impl Judge {
         self.drawing = self.drawing.after_fetch(address, word);
     }
 
-    /// Is told that a fetch ended the run by a HALT, whatever its word address, its word and what
-    /// it drew. Of a run that broke it is told the same.
+    /// Notes that a fetch ended the run by a HALT, whatever its word address, its word and what it
+    /// drew. The caller notes a run that broke in the same way.
     pub fn halted(&mut self)
         ensures { (address word : ℕ) (strokes : List Stroke) (log : Log) → StandsAfter self.old log
             → StandsAfter self.new ((Fetch ⟼ Done address word strokes) ∷ log) }
@@ -161,7 +162,7 @@ impl Judge {
         self.drawing = Drawing::Nothing;
     }
 
-    /// Is told of a reset of the generator.
+    /// Notes a reset of the generator.
     pub fn reset(&mut self)
         ensures { (log : Log) → StandsAfter self.old log
             → StandsAfter self.new ((ResetGen ⟼ Cleared) ∷ log) }
@@ -169,7 +170,7 @@ impl Judge {
         self.drawing = Drawing::Nothing;
     }
 
-    /// Whether the open run draws a half: its first word was that at 000, a jump to one.
+    /// Returns whether the open run draws a half: its first word was that at 000, a jump to one.
     #[inline(always)]
     pub fn is_drawing(&self) -> bool
         ensures drawn { (log : Log) → StandsAfter self.now log
@@ -180,8 +181,8 @@ impl Judge {
         matches!(self.drawing, Drawing::Within(_))
     }
 
-    /// Is told that the driver wrote a byte at this byte address of the RAM. Answers whether that
-    /// tears a picture.
+    /// Returns whether a byte that the driver wrote at the byte address `address` of the RAM tears
+    /// a picture.
     pub fn wrote(&self, address: u16) -> bool
         ensures stands { (byte : ℕ) (log : Log) → StandsAfter self.now log
             → StandsAfter self.now ((Tick ⟼ Acted (Wrote address byte)) ∷ log) }
@@ -192,10 +193,10 @@ impl Judge {
     }
 }
 
-/// The number of the first entry that tears a picture: a byte written in the half that the open run
-/// draws. None exactly where there is none. The log may be any one, legal or not, such as that of
-/// another driver or of a test program. Where one list is longer than the other, the rest of it is
-/// passed over.
+/// Returns the number of the first of `entries` that tears a picture: a byte written in the half
+/// that the open run draws. Returns `None` exactly where there is none. `events` has the event of
+/// each entry. The log may be any one, legal or not, such as that of another driver or of a test
+/// program. Where one list is longer than the other, the rest of it is passed over.
 ///
 /// A strobe that began a run opens it, and a HALT, a fault, and a reset of the generator or of the
 /// whole system end it; such a reset ends it before its own entry counts. It draws a half where the

@@ -2,9 +2,9 @@
 //! draws them.
 //!
 //! What happens is a list of events, in any order and number. `run` lets them happen to a new
-//! `World`, one after the other, and answers its log, which has one entry for each of them. The
+//! `World`, one after the other, and returns its log, which has one entry for each of them. The
 //! crate `dvg_log` has the events, the entries, and the definitions of the logs that the rules
-//! allow: `run` answers no other log. The laws, of the crate `dvg_theorem`, say what holds of every
+//! allow: `run` returns no other log. The laws, of the crate `dvg_theorem`, say what holds of every
 //! such log, and what is drawn of a checked frame that nobody writes to.
 #![tactic(auto)]
 

@@ -35,12 +35,13 @@ pub struct Picture<A: Allocator = Global> {
 pub struct Drawn<A: Allocator = Global> {
     /// The pictures, in the order in which they were finished.
     pub pictures: Vec<Picture<A>, A>,
-    /// Whether all events happened. Where not, memory was refused (which is tested).
+    /// Whether all events happened. Where not, an allocation failed (which is tested).
     pub is_whole: bool,
 }
 
 impl<A: Allocator> Drawn<A> {
-    /// The pictures of a run that stopped before its first event.
+    /// Returns what is kept of a run that stopped before its first event: an empty list, with the
+    /// allocator `alloc`.
     pub fn unstarted(alloc: A) -> Drawn<A>
         ensures pictures { result.pictures.items ≡ [] }
         ensures whole { result.is_whole ≡ false }
@@ -52,8 +53,8 @@ impl<A: Allocator> Drawn<A> {
     }
 }
 
-// Lets so many ticks happen to a world. No picture comes of them. After one that finds the driver
-// idle, so do all, and nothing changes.
+// Ticks `world` `times` times, which completes no picture. Stops at the first idle tick: all later
+// ones would be idle, too, and change nothing.
 fn tick_times<S: Store>(world: &mut World<S>, times: usize)
     ensures { (R image : List ℕ) (log : Log) → WorldAfter R image log world.old
         → AddsRun R image log Tick times (λ later. pictures_of later ≡ pictures_of log) world.new }
@@ -66,9 +67,10 @@ fn tick_times<S: Store>(world: &mut World<S>, times: usize)
     }
 }
 
-// Lets so many offers of these operations happen to a world. No picture comes of them. The first
+// Offers the operations `ops` to `world` `times` times, which completes no picture. The first offer
 // is taken where the driver is idle and the check accepts the draft. Any other changes nothing,
-// whatever the check would answer. So the draft is checked at most once, where the driver is idle.
+// whatever the check would return. So the draft, which is made in `draft`, is checked at most once,
+// where the driver is idle.
 fn offer_times<S: Store>(world: &mut World<S>, ops: &[Op], draft: &mut Draft, times: usize)
     requires fits { length ops.now ≤ 511 }
     requires some { 1 ≤ times }
@@ -85,7 +87,8 @@ fn offer_times<S: Store>(world: &mut World<S>, ops: &[Op], draft: &mut Draft, ti
     }
 }
 
-// Keeps the picture of the event of this number, if a run finished by it, which drew this.
+// Adds a picture to `pictures`, if the event number `event` finished a run, which drew `drew`.
+// There must be room for it.
 #[inline(always)]
 fn keep_picture<A: Allocator>(
     pictures: &mut Vec<Picture<A>, A>,
@@ -103,8 +106,9 @@ fn keep_picture<A: Allocator>(
     }
 }
 
-// Lets so many fetches happen to a world, of which the first is the event of this number, and keeps
-// the pictures. After one that finds the generator halted, so do all, and nothing changes.
+// Lets `world` fetch `times` times, the first as event number `number`, and adds the pictures to
+// `pictures`. Stops at the first fetch that finds the generator halted: all later ones would find
+// it halted, too, and change nothing.
 fn fetch_times<S: Store>(
     world: &mut World<S>,
     number: usize,
@@ -134,8 +138,8 @@ fn fetch_times<S: Store>(
     Ok(())
 }
 
-// Lets an event happen to a world so many times in a row, of which the first has this number, and
-// keeps the pictures. The draft of an offer is made in `draft`.
+// Lets the event of `run` happen to `world` as many times as `run` says, the first as event number
+// `number`, and adds the pictures to `pictures`. The draft of an offer is made in `draft`.
 fn draw_run<S: Store>(
     run: (TraceEvent<'_, S::Alloc>, usize),
     number: usize,
@@ -176,14 +180,14 @@ fn draw_run<S: Store>(
     Ok(())
 }
 
-/// Lets the events of a trace happen to a new world, as `run_trace` does, and keeps the pictures
-/// alone: those of the one legal log of these events, of which each line keeps the headline.
+/// Lets the events of `trace` happen to a new world of `rom` and `image`, as `run_trace` does.
+/// Keeps the pictures alone, in memory of `alloc`: those of the one legal log of these events, of
+/// which each line keeps the headline.
 ///
-/// It stops for want of memory where `run_trace` does: before the first event, or at a fetch that
-/// completes a vector with an intensity of at least 1. The pictures are then those of the events
-/// before.
-/// That memory was really refused, and that a refusal at such a fetch keeps what came before, is
-/// tested: by its contract alone this might always stop at once, with nothing kept.
+/// It stops where an allocation fails, as `run_trace` does: before the first event, or at a fetch
+/// that completes a vector with an intensity of at least 1. The pictures are then those of the
+/// events before. That an allocation really failed, and that a failure at such a fetch keeps what
+/// came before, is tested: by its contract alone this might always stop at once, with nothing kept.
 ///
 /// The list of pictures is grown once, for as many as there are events, before the first happens.
 ///

@@ -3,7 +3,7 @@ use dvg_log::OwnEntry;
 use std::alloc::{Allocator, Global};
 use thiserror::Error;
 
-/// A run that stopped for want of memory, and for no other cause (which is tested).
+/// A run that stopped because an allocation failed, and for no other cause (which is tested).
 #[derive(Error, Drop)]
 #[derive_where(Debug, PartialEq, Eq)]
 #[derive_where(Clone; A)]

@@ -31,7 +31,7 @@ use std::marker::Model;
 /// out of it and out of the ROM.
 ///
 /// `apply` lets any event happen, and the calls beside it one each. If the world stands after a
-/// legal log, each answers the entry that its event gets over that log. The world then stands after
+/// legal log, each returns the entry that its event gets over that log. The world then stands after
 /// the log with this line (`stands`), and the line keeps the headline (`headline`).
 ///
 /// A strobe that the driver has sent is under way until the next reset of the whole system, and may
@@ -61,10 +61,12 @@ impl<S: Store> Model for World<S> {
 }
 
 impl<S: Store> World<S> {
-    /// A world at its beginning: the RAM holds this image, the generator is halted with the beam at
-    /// 0, 0 and scale 0, the driver boots, and no strobe is under way. It takes its memory from
-    /// this allocator: that of its store, and then some 105 KB for the tables of the check. A fetch
-    /// takes memory later on, for the list of a run's strokes, and nothing else does.
+    /// Returns a world at its beginning, over `rom`: the RAM holds `image`, the generator is halted
+    /// with the beam at 0, 0 and scale 0, the driver boots, and no strobe is under way.
+    ///
+    /// The world takes its memory from `alloc`: that of its store, and then some 105 KB for the
+    /// tables of the check. Returns `OutOfMemory` where an allocation fails. A fetch takes memory
+    /// later on, for the list of a run's strokes, and nothing else does.
     pub fn new(
         alloc: S::Alloc,
         rom: Rom<S::Alloc>,
@@ -85,10 +87,12 @@ impl<S: Store> World<S> {
         })
     }
 
-    /// Begins anew, as a world that `new` makes of a ROM of these bytes and this image, in the
-    /// memory that it has: for callers that open one world after another. Memory is taken, and may
-    /// be refused, only for a ROM of another size. After an error the world is as it was. The error
-    /// is `Size` exactly where no ROM has this number of bytes.
+    /// Begins anew, as the world that `new` makes of `image` and a ROM of the bytes `rom`, in the
+    /// memory that it has. This is for callers that open one world after another. Memory is taken,
+    /// from `alloc`, only for a ROM of another size.
+    ///
+    /// Returns `Size` exactly where the length of `rom` is neither 2,048 nor 4,096, and
+    /// `OutOfMemory` where an allocation fails. After an error the world is as it was.
     pub fn begin_anew(
         &mut self,
         alloc: S::Alloc,
@@ -110,7 +114,8 @@ impl<S: Store> World<S> {
         }
     }
 
-    // All but the ROM is as in a new world, whose RAM holds this image.
+    // Makes all but the ROM as in a new world, whose RAM holds `image` and whose strokes will be in
+    // memory of `alloc`.
     fn power_up(&mut self, alloc: S::Alloc, image: &Image<S::Alloc>)
         ensures { WorldAfter self.old.rom image.now [] self.new }
     {
@@ -123,10 +128,10 @@ impl<S: Store> World<S> {
         self.strobe_sent = false;
     }
 
-    /// Lets an event happen, by the call that does it, and answers its entry.
+    /// Lets `event` happen, by the call that does it, and returns its entry.
     ///
-    /// The only error is lack of memory, and then the world is as it was. It comes only for a fetch
-    /// that completes a vector with an intensity of at least 1.
+    /// Returns `OutOfMemory` where an allocation fails, and then the world is as it was. That comes
+    /// only for a fetch that completes a vector with an intensity of at least 1.
     pub fn apply(&mut self, event: &OwnEvent<S::Alloc>) -> Result<OwnEntry<S::Alloc>, OutOfMemory>
         ensures stands { IfOk result (λ entry. AddsLine self.old (happening_of event.now)
             (shown_of entry) self.new) }
@@ -148,14 +153,14 @@ impl<S: Store> World<S> {
         }
     }
 
-    // Whether the driver is idle, and so would take a draft that the check accepts.
+    // Returns whether the driver is idle, and so would take a draft that the check accepts.
     pub(crate) fn is_idle(&self) -> bool
         ensures { OfLives self.now.stage (λ peeked life. IsTrue result ↔ IsWhole life) }
     {
         self.desk.is_idle()
     }
 
-    /// The driver is handed a draft to show, as by `Event::Offer`.
+    /// Hands `draft` to the driver to show, as by `Event::Offer`. Returns the entry.
     #[inline(always)]
     pub fn offer(&mut self, draft: &Draft) -> OwnEntry<S::Alloc>
         ensures stands { AddsLine self.old (Offer draft.now) (shown_of result) self.new }
@@ -166,7 +171,8 @@ impl<S: Store> World<S> {
         self.desk.offer(draft)
     }
 
-    /// The driver is asked to have the published frame drawn again, as by `Event::Redraw`.
+    /// Asks the driver to have the published frame drawn again, as by `Event::Redraw`. Returns the
+    /// entry.
     #[inline(always)]
     pub fn redraw(&mut self) -> OwnEntry<S::Alloc>
         ensures stands { AddsLine self.old Redraw (shown_of result) self.new }
@@ -175,7 +181,7 @@ impl<S: Store> World<S> {
         self.desk.redraw()
     }
 
-    /// The driver does one action, as by `Event::Tick`.
+    /// Lets the driver do one action, as by `Event::Tick`. Returns the entry.
     #[inline(always)]
     pub fn tick(&mut self) -> OwnEntry<S::Alloc>
         ensures stands { AddsLine self.old Tick (shown_of result) self.new }
@@ -184,8 +190,8 @@ impl<S: Store> World<S> {
         Entry::Acted(self.act())
     }
 
-    /// The driver does one action, as by `tick`, and this is the action. Where it is idle, nothing
-    /// changes.
+    /// Lets the driver do one action, as `tick` does, and returns the action. Where it is idle,
+    /// nothing changes.
     #[inline(always)]
     pub fn act(&mut self) -> Action
         ensures stands { AddsLine self.old Tick (Acted result) self.new }
@@ -198,7 +204,7 @@ impl<S: Store> World<S> {
         action
     }
 
-    // Does a write in the store, and puts a strobe under way.
+    // Does the write of `action` in the store, or puts its strobe under way.
     #[inline(always)]
     fn perform(&mut self, action: Action)
         requires { IsInRam action }
@@ -212,7 +218,8 @@ impl<S: Store> World<S> {
         }
     }
 
-    /// A strobe reaches the generator, if the driver has sent one, as by `Event::Strobe`.
+    /// Lets a strobe reach the generator, if the driver has sent one, as by `Event::Strobe`.
+    /// Returns the entry.
     #[inline(always)]
     pub fn strobe(&mut self) -> OwnEntry<S::Alloc>
         ensures stands { AddsLine self.old Strobe (shown_of result) self.new }
@@ -225,9 +232,10 @@ impl<S: Store> World<S> {
         Entry::Started
     }
 
-    /// The generator fetches one byte, as by `Event::Fetch`. This is the one event that takes
-    /// memory, for the stroke of a vector with an intensity of at least 1. The only error is lack
-    /// of memory, and then the world is as it was.
+    /// Lets the generator fetch one byte, as by `Event::Fetch`. Returns the entry.
+    ///
+    /// This is the one event that takes memory, for the stroke of a vector with an intensity of at
+    /// least 1. Returns `OutOfMemory` where an allocation fails, and then the world is as it was.
     #[inline(always)]
     pub fn fetch(&mut self) -> Result<OwnEntry<S::Alloc>, OutOfMemory>
         ensures stands { IfOk result (λ entry. AddsLine self.old Fetch (shown_of entry) self.new) }
@@ -245,8 +253,9 @@ impl<S: Store> World<S> {
         }
     }
 
-    /// The generator fetches one byte, as by `fetch`. The strokes of a run that it finishes take
-    /// the place of those in this list, which else stays as it is.
+    /// Lets the generator fetch one byte, as `fetch` does. The strokes of a run that it finishes
+    /// replace those in `picture`. Otherwise `picture` stays as it is. Returns the entry, without
+    /// the strokes.
     #[inline(always)]
     pub fn fetch_into(
         &mut self,
@@ -270,7 +279,7 @@ impl<S: Store> World<S> {
         }
     }
 
-    // An empty list of strokes, whose memory would be that of the generator's own.
+    // Returns an empty list of strokes, with the allocator of the generator's own.
     #[inline(always)]
     pub(crate) fn no_strokes(&self) -> Vec<Stroke, S::Alloc>
         ensures { result.items ≡ [] }
@@ -278,8 +287,8 @@ impl<S: Store> World<S> {
         self.generator.no_strokes()
     }
 
-    // The generator fetches one byte, if a run is open. No entry is made of it. The strokes of a
-    // run that it finishes take the place of those in this list.
+    // Lets the generator fetch one byte, if a run is open. Returns what it fetched, of which no
+    // entry is made. The strokes of a run that it finishes replace those in `drawn`.
     #[inline(always)]
     pub(crate) fn feed(
         &mut self,
@@ -308,8 +317,9 @@ impl<S: Store> World<S> {
         }))
     }
 
-    // The generator fetches one byte, as by `fetch_into`, and this is the entry, with `other` in
-    // place of what its run drew. It is made here: a `FetchedByte` would be packed into one number.
+    // Lets the generator fetch one byte, as `fetch_into` does with `drawn`. Returns the entry, with
+    // `other` in place of what its run drew. It is built here: a `FetchedByte` would be packed into
+    // one number.
     #[inline(always)]
     pub(crate) fn fetch_as<T: Drop>(
         &mut self,
@@ -334,7 +344,7 @@ impl<S: Store> World<S> {
         Ok(Entry::of_fetch(address, low, byte, step, other))
     }
 
-    /// The generator is reset, as by `Event::ResetGen`.
+    /// Resets the generator, as by `Event::ResetGen`. Returns the entry.
     #[inline(always)]
     pub fn reset_generator(&mut self) -> OwnEntry<S::Alloc>
         ensures stands { AddsLine self.old ResetGen (shown_of result) self.new }
@@ -344,7 +354,7 @@ impl<S: Store> World<S> {
         Entry::Cleared
     }
 
-    /// The driver is reset, as by `Event::ResetCpu`.
+    /// Resets the driver, as by `Event::ResetCpu`. Returns the entry.
     #[inline(always)]
     pub fn reset_processor(&mut self) -> OwnEntry<S::Alloc>
         ensures stands { AddsLine self.old ResetCpu (shown_of result) self.new }
@@ -354,7 +364,8 @@ impl<S: Store> World<S> {
         Entry::Cleared
     }
 
-    /// The whole system is reset, and the RAM holds this image, as by `Event::ResetAll`.
+    /// Resets the whole system, after which the RAM holds `image`, as by `Event::ResetAll`. Returns
+    /// the entry.
     #[inline(always)]
     pub fn reset_all(&mut self, image: &Image<S::Alloc>) -> OwnEntry<S::Alloc>
         ensures stands { AddsLine self.old (ResetAll image.now) (shown_of result) self.new }

@@ -4,7 +4,8 @@ use dvg_driver::{Action, Driver};
 use dvg_frame::{Draft, Frame, Op, OpKind, check};
 use dvg_mem::{MEMORY_BYTES, Rom};
 
-/// A frame that puts the beam somewhere and draws nothing, checked over a ROM of zeros.
+/// Returns a frame that puts the beam somewhere and draws nothing, checked over a ROM of zeros,
+/// which lies in memory of `rt`.
 fn frame(rt: &HostRuntime) -> Option<Frame> {
     let labs = Instr::Labs {
         x: 512,
@@ -18,8 +19,8 @@ fn frame(rt: &HostRuntime) -> Option<Frame> {
     check(&draft, &rom).ok()
 }
 
-/// Ticks a driver until it sends its strobe, does what it answers, and prints it. None where memory
-/// is refused, or a line can't be printed.
+/// Ticks a driver until it sends its strobe, does each action that `tick` returns, and prints it
+/// through `rt`. Returns `None` where an allocation fails, or a line can't be printed.
 pub fn drive(rt: &HostRuntime) -> Option<()> {
     let mut memory = [0; MEMORY_BYTES];
     let mut driver = Driver::new();

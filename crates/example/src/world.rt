@@ -4,7 +4,7 @@ use dvg_frame::{Draft, Op, OpKind};
 use dvg_mem::{Flat, Image, MEMORY_BYTES, Rom};
 use dvg_world::{Entry, Event, World};
 
-/// A frame of one vector.
+/// Returns a frame of one vector.
 fn one_vector() -> Option<Draft> {
     let labs = Instr::Labs {
         x: 512,
@@ -24,8 +24,8 @@ fn one_vector() -> Option<Draft> {
     Some(draft)
 }
 
-/// Has the frame drawn, and prints its strokes. None where memory is refused, or a line can't be
-/// printed.
+/// Has the frame drawn, and prints its strokes through `rt`. Returns `None` where an allocation
+/// fails, or a line can't be printed.
 pub fn draw(rt: &HostRuntime) -> Option<()> {
     let alloc = rt.alloc();
     let rom = Rom::new(alloc, &[0; MEMORY_BYTES]).ok()?;

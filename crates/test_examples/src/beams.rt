@@ -2,12 +2,12 @@
 use dvg_code::{Code, Instr};
 use dvg_gen::{Beam, Stroke};
 
-/// The stroke that an instruction draws from a beam.
+/// Returns the stroke that `instr` draws from `beam`.
 fn drawn(mut beam: Beam, instr: Instr) -> Option<Stroke> {
     beam.step(&Code::new(instr)?)
 }
 
-/// A VCTR to the right.
+/// Returns a VCTR to the right, by `dx`, with the local scale `scale` and the intensity `z`.
 fn right(scale: u8, dx: i16, z: u8) -> Instr {
     Instr::Vctr {
         scale,
@@ -17,7 +17,7 @@ fn right(scale: u8, dx: i16, z: u8) -> Instr {
     }
 }
 
-/// A stroke.
+/// Returns the stroke from `x0`, `y0` to `x1`, `y1` of the intensity `z`.
 fn stroke(x0: u32, y0: u32, x1: u32, y1: u32, z: u8) -> Option<Stroke> {
     Some(Stroke { x0, y0, x1, y1, z })
 }

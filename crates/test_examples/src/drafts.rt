@@ -5,12 +5,12 @@ use dvg_mem::Rom;
 use std::alloc::Global;
 use std::test::Fail;
 
-/// The operation that draws by this instruction.
+/// Returns the operation that executes `instr`.
 pub fn draw(instr: Instr) -> Result<OpKind, Fail> {
     Ok(OpKind::Draw(Code::new(instr).ok_or("out of range")?))
 }
 
-/// VCTR with the local scale 9.
+/// Returns a VCTR by `dx` and `dy`, with the local scale 9 and the intensity `z`.
 pub fn vctr(dx: i16, dy: i16, z: u8) -> Result<OpKind, Fail> {
     draw(Instr::Vctr {
         scale: 9,
@@ -20,7 +20,7 @@ pub fn vctr(dx: i16, dy: i16, z: u8) -> Result<OpKind, Fail> {
     })
 }
 
-/// SVEC 2 0 0 0.
+/// Returns SVEC 2 0 0 0.
 pub fn svec() -> Result<OpKind, Fail> {
     draw(Instr::Svec {
         scale: 2,
@@ -30,7 +30,7 @@ pub fn svec() -> Result<OpKind, Fail> {
     })
 }
 
-/// The draft of these operations, after LABS x y 0.
+/// Returns the draft of LABS `x` `y` 0 and then `kinds`.
 pub fn behind_labs(x: u16, y: u16, kinds: &[OpKind]) -> Result<Draft, Fail> {
     let mut draft = Draft::new();
     let labs = draw(Instr::Labs { x, y, scale: 0 })?;
@@ -41,7 +41,7 @@ pub fn behind_labs(x: u16, y: u16, kinds: &[OpKind]) -> Result<Draft, Fail> {
     Ok(draft)
 }
 
-/// The ROM of these words from 800 on. All others are D000, a return.
+/// Returns the ROM of `words` from 800 on, in memory of `alloc`. All others are D000, a return.
 pub fn rom(alloc: Global, words: &[u16]) -> Result<Rom, Fail> {
     let mut bytes = Vec::new(alloc);
     for i in 0..1024 {

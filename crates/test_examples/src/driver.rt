@@ -5,7 +5,7 @@ use dvg_driver::{Action, Driver, DriverFault};
 use dvg_frame::{Checker, Draft, OpKind, check};
 use std::test::Fail;
 
-/// LABS 512 400 0, VCTR 9 -100 100 7, HALT.
+/// Returns the draft LABS 512 400 0, VCTR 9 -100 100 7, HALT.
 fn first_draft() -> Result<Draft, Fail> {
     behind_labs(512, 400, &[vctr(-100, 100, 7)?, OpKind::Halt])
 }
@@ -13,7 +13,8 @@ fn first_draft() -> Result<Draft, Fail> {
 /// Its bytes.
 const FIRST: [u8; 10] = [0x90, 0xA1, 0x00, 0x02, 0x64, 0x90, 0x64, 0x74, 0x00, 0xB0];
 
-/// Whether the next ticks do these actions, where the generator is halted and byte 001 is 00.
+/// Returns whether the next ticks of `driver` do `actions`, where the generator is halted and byte
+/// 001 is 00.
 fn acts(driver: &mut Driver, actions: &[Action]) -> bool {
     for action in actions {
         if driver.tick(true, 0x00) != *action {
@@ -23,7 +24,7 @@ fn acts(driver: &mut Driver, actions: &[Action]) -> bool {
     true
 }
 
-/// Whether the next ticks write these bytes from an address on.
+/// Returns whether the next ticks of `driver` write `bytes`, from the address `from` on.
 fn writes(driver: &mut Driver, from: u16, bytes: &[u8]) -> bool {
     for (address, byte) in (from..).zip(bytes) {
         if driver.tick(true, 0x00) != Action::Wrote(address, *byte) {

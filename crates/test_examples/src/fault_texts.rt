@@ -8,7 +8,7 @@ use std::alloc::{AllocError, Global};
 use std::fmt::Display;
 use std::test::Fail;
 
-/// Whether this is what it is shown as.
+/// Returns whether `fault` is shown as `text`. Memory is taken from `alloc`.
 fn shows(alloc: Global, fault: &impl Display, text: &str) -> Result<bool, AllocError> {
     Ok(fault.to_string(alloc)?.as_str() == text)
 }

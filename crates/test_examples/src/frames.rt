@@ -1,11 +1,12 @@
-//! What the check answers, and the bytes of frames in both halves.
+//! What the check returns, and the bytes of frames in both halves.
 use crate::drafts::{behind_labs, rom, svec, vctr};
 use dvg_frame::{Checker, Cursor, Draft, Frame, FrameFault, OpKind, Place, check};
 use dvg_mem::{Half, Rom};
 use std::alloc::Global;
 use std::test::Fail;
 
-/// The frame of a call, a call of the ROM, a halt, a short vector, a return and a jump to the ROM.
+/// Returns the frame of a call, a call of the ROM, a halt, a short vector, a return and a jump to
+/// the ROM, checked over `rom`.
 fn each_operation(rom: &Rom) -> Result<Frame, Fail> {
     let draft = behind_labs(
         0,
@@ -39,7 +40,7 @@ fn a_frame_has_its_bytes_in_a_half(rt: HostRuntime) -> Result<(), Fail> {
     Ok(())
 }
 
-/// Whether a cursor gives these items next, and then none.
+/// Returns whether `cursor` gives `bytes` next, from the address `from` on, and then nothing.
 fn gives(cursor: &mut Cursor, from: u16, bytes: &[u8]) -> bool {
     for (address, byte) in (from..).zip(bytes) {
         if cursor.next() != Some((address, *byte)) {
@@ -72,12 +73,13 @@ fn a_cursor_that_begins_anew_gives_the_new_frame(rt: HostRuntime) -> Result<(), 
     Ok(())
 }
 
-/// What the check answers, with the number of words and the bound in place of the frame.
+/// Returns what the check of `draft` over `rom` does, with the number of words and the bound in
+/// place of the frame.
 fn sizes(draft: &Draft, rom: &Rom) -> Result<(u16, u64), FrameFault> {
     check(draft, rom).map(|frame| (frame.len_words(), frame.bound()))
 }
 
-/// The next check by the checker answers what `check` answers.
+/// Returns whether the next check by `checker`, of `draft` over `rom`, returns what `check` does.
 fn agrees(checker: &mut Checker, draft: &Draft, rom: &Rom) -> bool {
     let answer = checker.check(draft, rom).map(|checked| {
         let frame = checked.to_frame();
@@ -86,7 +88,7 @@ fn agrees(checker: &mut Checker, draft: &Draft, rom: &Rom) -> bool {
     answer == sizes(draft, rom)
 }
 
-/// Drafts that are good, loop, have a fault, call too deep, and are empty.
+/// Returns drafts that are good, loop, have a fault, call too deep, and are empty.
 fn some_drafts() -> Result<[Draft; 6], Fail> {
     Ok([
         behind_labs(0, 0, &[OpKind::CallRom(0x802), OpKind::JumpRom(0x800)])?,
@@ -116,7 +118,8 @@ fn a_checker_answers_as_if_each_check_were_its_first(rt: HostRuntime) -> Result<
     Ok(())
 }
 
-/// The ROM of 4,096 bytes whose first words are FE37 and D000, and whose others are D000.
+/// Returns the ROM of 4,096 bytes whose first words are FE37 and D000, and whose others are D000.
+/// It lies in memory of `alloc`.
 fn large_rom(alloc: Global) -> Result<Rom, Fail> {
     let mut bytes = Vec::new(alloc);
     bytes.extend_from_slice(&[0x37, 0xFE])?;

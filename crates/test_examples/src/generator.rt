@@ -1,10 +1,10 @@
-//! What a generator wants and answers, of which a trace never shows a fault or a word at any
-//! address.
+//! Which word a generator takes next and what it returns, of which a trace never shows a fault or a
+//! word at any address.
 use dvg_code::OutOfMemory;
 use dvg_gen::{GenFault, Generator, Stroke, Taken};
 use std::alloc::Global;
 
-/// What was answered last.
+/// What the generator returned last.
 #[derive(Clone, Copy, Debug, PartialEq, Eq)]
 enum Answer {
     Low,
@@ -16,7 +16,7 @@ enum Answer {
     Halted,
 }
 
-/// Hands the generator a byte, or that no memory answers.
+/// Hands `byte` to `generator`, where `None` is a hole. Returns what it returned.
 fn told(generator: &mut Generator<Global>, byte: Option<u8>) -> Result<Answer, OutOfMemory> {
     if generator.halted() {
         return Ok(Answer::Halted);
@@ -29,14 +29,14 @@ fn told(generator: &mut Generator<Global>, byte: Option<u8>) -> Result<Answer, O
     })
 }
 
-/// Hands it a word, low byte first.
+/// Hands `word` to `generator`, low byte first. Returns what it returned for the high byte.
 fn told_word(generator: &mut Generator<Global>, word: u16) -> Result<Answer, OutOfMemory> {
     let [low, high] = word.to_le_bytes();
     let _ = told(generator, Some(low))?;
     told(generator, Some(high))
 }
 
-/// Hands it words, and answers the last answer.
+/// Hands `words` to `generator`. Returns what it returned last.
 fn told_words(generator: &mut Generator<Global>, words: &[u16]) -> Result<Answer, OutOfMemory> {
     let mut last = Answer::Halted;
     for word in words {
@@ -72,7 +72,7 @@ fn runs_end(rt: HostRuntime) -> Result<(), OutOfMemory> {
     Ok(())
 }
 
-/// Words, and the address that is wanted after each.
+/// Words, and the address of the next word after each.
 const ADDRESSES: [(u16, u16); 8] = [
     // JMPL FFF. Its second word comes after the first, and after FFF comes 000.
     (0xEFFF, 0xFFF),
@@ -99,7 +99,7 @@ fn addresses_are_wanted(rt: HostRuntime) -> Result<(), OutOfMemory> {
     Ok(())
 }
 
-/// What a run drew that this byte finishes. None where it finishes none.
+/// Hands `byte` to `generator`. Returns what the run drew, or `None` where the byte finishes none.
 fn finished(
     generator: &mut Generator<Global>,
     byte: u8,
@@ -135,7 +135,7 @@ fn a_list_that_comes_back_is_used_again(rt: HostRuntime) -> Result<(), OutOfMemo
     Ok(())
 }
 
-/// Whether the generator takes its next byte as the low one of word zero.
+/// Returns whether `generator` takes its next byte as the low one of word zero.
 fn begins(generator: &mut Generator<Global>) -> Result<bool, OutOfMemory> {
     let is_first = generator.wants() == Some(0) && !generator.wants_high();
     let is_low = told(generator, Some(0xA5))? == Answer::Low;

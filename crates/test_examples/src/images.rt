@@ -3,7 +3,7 @@ use dvg_mem::{Image, MEMORY_BYTES};
 use std::alloc::Global;
 use std::test::Fail;
 
-/// The image of which each byte is this one.
+/// Returns the image of which each byte is `byte`, in memory of `alloc`.
 pub fn image(alloc: Global, byte: u8) -> Result<Image, Fail> {
     Image::new(alloc, &[byte; MEMORY_BYTES]).map_err(|_| "no image".into())
 }

@@ -1,17 +1,17 @@
 //! Instructions and their words, both ways.
 use dvg_code::{Code, CodeFault, Instr, decode, encode, is_canonical, word_at};
 
-/// A VCTR.
+/// Returns a VCTR of these fields: `scale`, `dx`, `dy` and `z`.
 fn vctr(scale: u8, dx: i16, dy: i16, z: u8) -> Instr {
     Instr::Vctr { scale, dx, dy, z }
 }
 
-/// An SVEC.
+/// Returns an SVEC of these fields: `scale`, `dx`, `dy` and `z`.
 fn svec(scale: u8, dx: i8, dy: i8, z: u8) -> Instr {
     Instr::Svec { scale, dx, dy, z }
 }
 
-/// Whether these words are how the instruction is encoded, and are decoded to it.
+/// Returns whether `instr` is encoded as `words`, and they are decoded to it.
 fn spell(words: &[u16], instr: Instr) -> bool {
     Code::new(instr).is_some_and(|code| {
         encode(&code).as_slice() == words && decode(words) == Ok((code, words.len()))

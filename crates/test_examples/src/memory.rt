@@ -20,7 +20,7 @@ const FETCHED: [(u16, Option<u8>, Option<u8>); 8] = [
     (0xC00, None, None),
 ];
 
-/// Why an image and why a ROM of these bytes is refused.
+/// Returns why an image and why a ROM of `bytes`, in memory of `alloc`, is refused.
 fn refusals<A: Allocator + Copy>(alloc: A, bytes: &[u8]) -> (Option<MemFault>, Option<MemFault>) {
     (Image::new(alloc, bytes).err(), Rom::new(alloc, bytes).err())
 }
@@ -57,7 +57,7 @@ fn want_of_memory_is_answered(rt: HostRuntime) -> Result<(), Fail> {
     Ok(())
 }
 
-/// Whether these bytes are fetched.
+/// Returns whether the bytes of `FETCHED` are fetched from `store` and `rom`.
 fn fetches<S: Store<Alloc = Global>>(store: &S, rom: &Rom) -> bool {
     for (w, low, high) in FETCHED {
         if w > 0xFFF
@@ -70,7 +70,8 @@ fn fetches<S: Store<Alloc = Global>>(store: &S, rom: &Rom) -> bool {
     true
 }
 
-/// The image of which each byte is zero but the two of word zero and the last one.
+/// Returns the image of which each byte is zero but the two of word zero and the last one, in
+/// memory of `alloc`.
 fn marked_image(alloc: Global) -> Result<Image, Fail> {
     let mut bytes = [0; MEMORY_BYTES];
     bytes[0] = 0x01;
@@ -79,12 +80,12 @@ fn marked_image(alloc: Global) -> Result<Image, Fail> {
     Image::new(alloc, &bytes).map_err(|_| "no image".into())
 }
 
-/// The image of this byte alone.
+/// Returns the image of `byte` alone, in memory of `alloc`.
 fn image_of(alloc: Global, byte: u8) -> Result<Image, Fail> {
     Image::new(alloc, &[byte; MEMORY_BYTES]).map_err(|_| "no image".into())
 }
 
-/// What a store has to do, whichever it is.
+/// Returns whether a store, in memory of `alloc`, does what it has to do, whichever it is.
 fn keeps_bytes<S: Store<Alloc = Global>>(alloc: Global) -> Result<bool, Fail> {
     let rom = rom(alloc, &[0xFE37])?;
     let mut store = S::make(alloc, &marked_image(alloc)?).map_err(|_| Fail::from("no store"))?;
@@ -108,8 +109,8 @@ fn a_banked_store_keeps_bytes(rt: HostRuntime) -> Result<(), Fail> {
     Ok(())
 }
 
-/// Whether a half of a store has as many bytes as a half, of which each is this one but the first
-/// and the last.
+/// Returns whether `half` of `store` has as many bytes as a half, of which each is `byte` but the
+/// first, `first`, and the last, `last`.
 fn is_marked(store: &Banked, half: Half, byte: u8, first: u8, last: u8) -> bool {
     let bytes = store.half(half);
     let inside = bytes.iter().filter(|inside| **inside == byte).count();
@@ -148,7 +149,7 @@ const GROWN: [(u16, Area, Option<u16>); 6] = [
     (0xC00, Area::Hole, None),
 ];
 
-/// Whether this is what is fetched.
+/// Returns whether `GROWN` is what is fetched from `store` and `rom`.
 fn is_grown(store: &Flat, rom: &Rom) -> bool {
     for (w, area, word) in GROWN {
         if w > 0xFFF || rom.area(w) != area || fetch(store, rom, w) != word {

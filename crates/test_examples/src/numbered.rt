@@ -15,7 +15,7 @@ const FIRST_DRAFT: [u64; 3] = [
 /// the ROM.
 const OPENS_WORLD: [u64; 2] = [0x10_0000_000A, 12];
 
-/// Asks all of them, and answers the last answer.
+/// Lets `device` do all `requests`. Returns the number of the last reply.
 fn asked(device: &mut Device, requests: &[u64]) -> u64 {
     let mut last = 0;
     for request in requests {
@@ -65,8 +65,8 @@ fn a_closed_device_has_an_answer_to_each_request(rt: HostRuntime) {
     }
 }
 
-/// A driver alone writes into these bytes, and a generator alone draws out of them, one tick and
-/// one fetch after another.
+/// Lets `driver`, alone, write into `ram`, and `generator`, alone, draw out of it, one tick and one
+/// fetch after another. Returns where the first stroke begins, if a run ends.
 fn draws(ram: &mut [u8; 2048], driver: &mut Device, generator: &mut Device) -> Option<u64> {
     let mut halted = true;
     for _step in 0..100u8 {
@@ -135,7 +135,7 @@ const NO_OPERATIONS: [(u8, u8, u16); 6] = [
     (9, 0, 0),
 ];
 
-/// Fields with no intensity.
+/// Returns an operation of `kind`, `scale`, `x` and `y`, with no intensity.
 fn fields(kind: u8, scale: u8, x: u16, y: u16) -> Operation {
     Operation {
         kind,

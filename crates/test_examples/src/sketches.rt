@@ -5,7 +5,7 @@ use dvg_frame::{Op, OpKind};
 use dvg_sketch::{SketchFault, Step, draft_of};
 use std::test::Fail;
 
-/// An operation of this kind.
+/// Returns an operation of the kind `kind`.
 fn op(kind: OpKind) -> Result<Op, Fail> {
     Ok(Op::new(kind).ok_or("no operation")?)
 }

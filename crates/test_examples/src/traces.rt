@@ -7,7 +7,7 @@ use dvg_log::{Entry, Event, Trace, TraceEvent};
 use std::alloc::Global;
 use std::test::Fail;
 
-/// An offer of LABS 0 0 0 and a halt.
+/// Returns an offer of LABS 0 0 0 and a halt, in memory of `alloc`.
 fn offer(alloc: Global) -> Result<Event, Fail> {
     let draft = behind_labs(0, 0, &[OpKind::Halt])?;
     Ok(Event::Offer(Box::new(alloc, draft)?))
@@ -22,7 +22,7 @@ enum Shown {
     Other,
 }
 
-/// What an event of a trace is.
+/// Returns what `event`, of a trace, is.
 fn event_shown(event: TraceEvent) -> Shown {
     match event {
         TraceEvent::Offer(ops) => Shown::Offer(ops.len()),
@@ -31,7 +31,7 @@ fn event_shown(event: TraceEvent) -> Shown {
     }
 }
 
-/// Whether the run of this number is of such an event, so many times.
+/// Returns whether run number `number` of `trace` is of an event `shown`, `times` times.
 fn is_run(trace: &Trace, number: usize, shown: Shown, times: usize) -> bool {
     let mut left = number;
     for run in trace.runs() {
@@ -43,7 +43,8 @@ fn is_run(trace: &Trace, number: usize, shown: Shown, times: usize) -> bool {
     false
 }
 
-/// The trace of an offer, a reset, three strobes, three resets of another byte, and the offer again.
+/// Returns the trace of an offer, a reset, three strobes, three resets of another byte, and the
+/// offer again, in memory of `alloc`.
 fn pushed(alloc: Global) -> Result<Trace, Fail> {
     let mut trace = Trace::new(alloc);
     trace.push(offer(alloc)?)?;

@@ -15,8 +15,8 @@ pub fn first_ticks() -> (Action, Action)
     (first, second)
 }
 
-/// The first frame that is offered after the boot is taken, and the next one is not; its first byte
-/// goes to 402.
+/// The first frame `checked` that is offered after the boot is taken, and the next one is not. Its
+/// first byte goes to 402.
 pub fn first_write(checked: &Checked) -> Option<Action>
     requires { checked.now.operations ≡ blank_frame }
     ensures { result ≡ Some (Action.Wrote 0x402 0x90) }
@@ -33,7 +33,7 @@ pub fn first_write(checked: &Checked) -> Option<Action>
     }
 }
 
-/// An answer of a driver.
+/// What a driver returns.
 pub enum Answer {
     /// To an offer or to a redraw.
     Asked(Result<(), DriverFault>),
@@ -41,8 +41,8 @@ pub enum Answer {
     Ticked(Action),
 }
 
-/// A redraw is refused before a frame, while it is written and before its strobe; then one is
-/// taken.
+/// A redraw is refused before a frame, `checked`, while it is written and before its strobe; then
+/// one is taken.
 pub fn redraws(checked: &Checked) -> [Answer; 26]
     requires { checked.now.operations ≡ vector_frame }
     ensures { result ≡ redraw_table }

@@ -9,7 +9,7 @@ use dvg_dump::laws::one_end;
 use dvg_dump::{Dump, DumpFault, Ending};
 use std::alloc::Global;
 
-/// A dump that lacks a byte is refused for its size.
+/// Refuses `bytes`, a dump that lacks a byte, for their size.
 pub fn short_dump_is_refused(alloc: Global, bytes: &[u8]) -> Result<Dump, DumpFault>
     requires { length bytes.now ≡ 4095 }
     ensures { IsErrOf result DumpFault.Size }
@@ -17,8 +17,8 @@ pub fn short_dump_is_refused(alloc: Global, bytes: &[u8]) -> Result<Dump, DumpFa
     Dump::new(alloc, bytes)
 }
 
-/// A dump of which word zero is a HALT has a picture without strokes, after one word, and no memory
-/// is refused for it.
+/// A `dump` whose word zero is a HALT has a picture without strokes, after one word, and no
+/// allocation fails for it.
 pub fn halts_at_once(dump: &Dump) -> Result<Ending, OutOfMemory>
     requires { memory_of dump.now 0 ≡ Some 0xB000 }
     ensures ends { IfOk result (λ ending. end_of ending ≡ Complete 1 []) }

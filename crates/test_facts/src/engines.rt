@@ -8,8 +8,8 @@ use dvg_tool::{Watched, play};
 use std::alloc::Global;
 use std::io::{Read, Write};
 
-/// Of a reader that has the text `tick`, `play --all` writes the line `0 peek` and nothing else,
-/// where it answers Ok.
+/// With a `reader` that has the text `tick`, `play --all` writes the line `0 peek` to `writer` and
+/// nothing else, where it succeeds.
 pub fn plays_a_tick<R: Read, W: Write>(
     alloc: Global,
     reader: &mut Watched<R>,

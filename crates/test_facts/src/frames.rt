@@ -8,14 +8,14 @@ use dvg_frame::{Checker, Cursor, Draft, Frame, FrameFault, OpKind, check};
 use dvg_mem::{Half, Rom};
 use std::alloc::Global;
 
-/// A draft without operations is refused for fault 1, over each ROM.
+/// A draft without operations is refused for fault 1, over each `rom`.
 pub fn empty_draft_is_refused(rom: &Rom<Global>) -> Result<Frame, FrameFault>
     ensures { result ≡ Err FrameFault.Empty }
 {
     check(&Draft::new(), rom)
 }
 
-/// A checker that has checked a draft answers as if the next one were its first.
+/// A checker that has checked a draft judges the next one, `draft`, as if it were its first.
 pub fn checker_answers_anew(draft: &Draft, rom: &Rom<Global>) -> bool
     requires { draft.now ≡ OpKind.Halt ∷ [] }
     ensures { result ≡ true }
@@ -28,7 +28,7 @@ pub fn checker_answers_anew(draft: &Draft, rom: &Rom<Global>) -> bool
     }
 }
 
-/// The second byte of a frame that begins with LABS 512 400 0 goes to 403 in half 1, and is A1.
+/// The second byte of a `frame` that begins with LABS 512 400 0 goes to 403 in half 1, and is A1.
 pub fn second_byte(frame: Frame) -> Option<(u16, u8)>
     requires { frame.operations ≡ blank_frame }
     ensures { result ≡ Some (0x403, 0xA1) }
@@ -38,7 +38,7 @@ pub fn second_byte(frame: Frame) -> Option<(u16, u8)>
     cursor.next()
 }
 
-/// A byte of `labs 0 0 0; jump 2; halt` in either half, by its number.
+/// Returns byte `k` of the `frame` `labs 0 0 0; jump 2; halt` in `half`.
 pub fn byte_of_a_jump(frame: &Frame, half: Half, k: u16) -> u8
     requires frame { frame.now.operations ≡ jump_frame }
     requires number { k < 8 }
@@ -47,7 +47,7 @@ pub fn byte_of_a_jump(frame: &Frame, half: Half, k: u16) -> u8
     frame.byte(half, k)
 }
 
-/// A cursor over that frame gives all of them, each with its address.
+/// A cursor over that `frame` in `half` gives all its bytes, each with its address.
 pub fn bytes_of_a_jump(frame: Frame, half: Half) -> Cursor
     requires { frame.operations ≡ jump_frame }
     ensures { result ≡ addressed (2 * base half) (jump_bytes half) }
@@ -55,7 +55,7 @@ pub fn bytes_of_a_jump(frame: Frame, half: Half) -> Cursor
     Cursor::new(frame, half)
 }
 
-/// Eight are left before the first is given.
+/// Eight bytes of that `frame` are left before the first is given, in either `half`.
 pub fn left_of_a_jump(frame: Frame, half: Half) -> u16
     requires { frame.operations ≡ jump_frame }
     ensures { result ≡ 8 }

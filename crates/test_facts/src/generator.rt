@@ -5,8 +5,8 @@ use dvg_code::OutOfMemory;
 use dvg_gen::{GenFault, Generator, Step, Stroke, Taken};
 use std::alloc::Global;
 
-/// A return at word zero breaks the run, as no call is open. None where the generator asks for
-/// memory, which it doesn't.
+/// A return at word zero breaks the run, as no call is open. Returns `None` where the generator
+/// asks for memory, which it doesn't.
 pub fn return_without_a_call(alloc: Global) -> Option<Taken<Global>>
     ensures { IfSome result (λ taken. taken ≡ Taken.Broke GenFault.StackUnder) }
 {
@@ -21,8 +21,8 @@ pub fn return_without_a_call(alloc: Global) -> Option<Taken<Global>>
     }
 }
 
-/// The first byte of a run is the low one of its word, and leaves the list alone that strokes are
-/// handed into.
+/// The first byte of a run is the low one of its word, and leaves `drawn` alone, into which strokes
+/// are handed.
 pub fn low_byte_hands_out_nothing(
     alloc: Global,
     drawn: &mut Vec<Stroke>,
@@ -35,8 +35,8 @@ pub fn low_byte_hands_out_nothing(
     generator.take_into(Some(0x00), drawn)
 }
 
-/// A HALT at word zero hands out an empty picture in place of what was in the list. None where the
-/// generator asks for memory, which it doesn't.
+/// A HALT at word zero hands out an empty picture in place of what was in `drawn`. Returns `None`
+/// where the generator asks for memory, which it doesn't.
 pub fn halt_hands_out_an_empty_picture(alloc: Global, drawn: &mut Vec<Stroke>) -> Option<Step>
     ensures { IfSome result (λ step. (step ≡ Step.Done) × (drawn.new.items ≡ [])) }
 {

@@ -6,7 +6,8 @@ use dvg_mem::{Image, Rom, Store};
 use dvg_world::{Entry, Event, Judge, OwnEntry, OwnEvent, first_torn, run};
 use std::alloc::Global;
 
-/// The judge finds nothing in the log of any run, whatever happens, over whichever store.
+/// The judge finds nothing in the log of any run of `events`, over each `rom` and `image` and
+/// whichever store.
 pub fn finds_nothing_in_a_run<S: Store>(
     alloc: S::Alloc,
     rom: Rom<S::Alloc>,
@@ -35,7 +36,7 @@ pub fn finds_a_torn_write() -> Option<usize>
     first_torn(&events, &entries)
 }
 
-/// A judge that is given the same line by line learns at once that the write tears.
+/// A judge that is given the same, line by line, says at once that the write tears.
 pub fn tells_a_torn_write() -> bool
     ensures { IsTrue result }
 {

@@ -7,7 +7,7 @@ use dvg_device::{Device, Reply, Request};
 use dvg_driver::Action;
 use std::alloc::Global;
 
-/// A generator alone opens (22), begins a run (10), and wants the low byte of word zero (25).
+/// A generator alone opens (22), begins a run (10), and needs the low byte of word zero (25).
 pub fn wants_word_zero(alloc: Global) -> (u64, u64, u64)
     ensures { result ≡ (22, 10, 25) }
 {
@@ -17,8 +17,8 @@ pub fn wants_word_zero(alloc: Global) -> (u64, u64, u64)
     (opened, started, device.turn(16))
 }
 
-/// A world that opens in a device, over a RAM and a ROM of zeros, peeks at its first tick. None
-/// where memory was refused.
+/// A world that opens in a device, over a RAM and a ROM of zeros, peeks at its first tick. Returns
+/// `None` where an allocation fails.
 pub fn peeks_in_a_world(alloc: Global) -> Option<Reply>
     ensures { IfSome result (λ reply. reply ≡ Came (Acted Action.Peek)) }
 {

@@ -6,7 +6,7 @@ use dvg_log::Trace;
 use dvg_read::{TraceFault, TraceText, read_trace};
 use std::alloc::Global;
 
-/// The text `tick` denotes one tick. None where memory was refused.
+/// A `text` that is `tick` denotes one tick. Returns `None` where an allocation fails.
 pub fn reads_a_tick(alloc: Global, text: &[u8]) -> Option<Trace<Global>>
     requires { text.now ≡ tick_text }
     ensures { IfSome result (λ events. events ≡ one_tick) }
@@ -17,7 +17,7 @@ pub fn reads_a_tick(alloc: Global, text: &[u8]) -> Option<Trace<Global>>
     }
 }
 
-/// It has no fault.
+/// The same `text` has no fault.
 pub fn tick_has_no_fault(alloc: Global, text: &[u8]) -> Result<TraceText<Global>, TraceFault>
     requires { text.now ≡ tick_text }
     ensures { IfErr result (λ fault. fault ≡ TraceFault.Memory) }

@@ -15,7 +15,7 @@ use dvg_gen::{Generator, Stroke, Taken};
 use dvg_mem::{Flat, Half, Image, Rom, Store, fetch};
 use std::alloc::Global;
 
-// A RAM of zeros with the frame in this half, and the jump to it in word zero.
+// Returns a RAM of zeros with `frame` in `half`, and the jump to it in word zero.
 fn laid(alloc: Global, frame: &Frame, half: Half) -> Result<Flat<Global>, OutOfMemory>
     ensures { IfOk result (λ store. HoldsFrame store half frame.now.operations) }
 {
@@ -32,7 +32,7 @@ fn laid(alloc: Global, frame: &Frame, half: Half) -> Result<Flat<Global>, OutOfM
     Ok(store)
 }
 
-// The generator takes a word, its low byte first, or a hole.
+// Lets `generator` take `word`, its low byte first, or a hole where there is none.
 fn take_word(
     generator: &mut Generator<Global>,
     word: Option<u16>,
@@ -51,8 +51,8 @@ fn take_word(
     generator.take_byte(Some(high))
 }
 
-// How many words a new generator fetches up to its HALT, which is known to come within 64, and its
-// strokes.
+// Returns how many words a new generator fetches from `store` and `rom` up to its HALT, which is
+// known to come within 64, and its strokes.
 fn drawn(
     alloc: Global,
     store: &Flat<Global>,
@@ -78,7 +78,8 @@ fn drawn(
     unreachable!()
 }
 
-/// `labs 512 400 0; vctr 9 -100 100 7; halt`, in either half: HALT after six words, and one stroke.
+/// The `frame` `labs 512 400 0; vctr 9 -100 100 7; halt`, in either `half`: HALT after six words,
+/// and one stroke.
 pub fn draws_a_vector(
     alloc: Global,
     rom: &Rom<Global>,
@@ -92,7 +93,8 @@ pub fn draws_a_vector(
     drawn(alloc, &store, rom)
 }
 
-/// `labs 0 0 0; vctr 9 10 0 5; halt`, in either half: HALT after six words, and one stroke.
+/// The `frame` `labs 0 0 0; vctr 9 10 0 5; halt`, in either `half`: HALT after six words, and one
+/// stroke.
 pub fn draws_a_level_vector(
     alloc: Global,
     rom: &Rom<Global>,
@@ -106,7 +108,8 @@ pub fn draws_a_level_vector(
     drawn(alloc, &store, rom)
 }
 
-/// `labs 0 0 0; callrom 800; halt`, in either half: HALT after seven words, and the ROM's stroke.
+/// The `frame` `labs 0 0 0; callrom 800; halt`, in either `half`: HALT after seven words, and the
+/// stroke of `rom`.
 pub fn draws_a_shape(
     alloc: Global,
     rom: &Rom<Global>,
@@ -122,7 +125,8 @@ pub fn draws_a_shape(
     drawn(alloc, &store, rom)
 }
 
-/// Four calls, one in the other, in either half: HALT after twelve words, and no stroke.
+/// A `frame` of four calls, one in the other, in either `half`: HALT after twelve words, and no
+/// stroke.
 pub fn draws_nothing(
     alloc: Global,
     rom: &Rom<Global>,

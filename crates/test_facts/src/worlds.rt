@@ -17,8 +17,8 @@ use dvg_world::{
 };
 use std::alloc::Global;
 
-/// The first tick of a new world is the driver's peek, over each ROM and image. None where there is
-/// no memory for a world.
+/// The first tick of a new world is the driver's peek, over each `rom` and `image`. Returns `None`
+/// where there is no memory for a world.
 pub fn first_tick(
     alloc: Global,
     rom: Rom<Global>,
@@ -35,7 +35,7 @@ pub fn first_tick(
     }
 }
 
-/// A tick is never refused memory.
+/// No allocation fails at a tick, over each `rom` and `image`.
 pub fn tick_takes_no_memory(alloc: Global, rom: Rom<Global>, image: &Image<Global>) -> bool
     ensures { result ≡ true }
 {
@@ -48,7 +48,8 @@ pub fn tick_takes_no_memory(alloc: Global, rom: Rom<Global>, image: &Image<Globa
     }
 }
 
-/// Two ticks have these two entries, over each ROM and image. None where memory was refused.
+/// Two ticks have these two entries, over each `rom` and `image`. Returns `None` where an
+/// allocation fails.
 pub fn runs_two_ticks(
     alloc: Global,
     rom: Rom<Global>,
@@ -62,7 +63,7 @@ pub fn runs_two_ticks(
     }
 }
 
-/// The same of a trace of two ticks.
+/// The same holds of a `trace` of two ticks.
 pub fn runs_a_trace_of_two_ticks(
     alloc: Global,
     rom: Rom<Global>,
@@ -78,7 +79,7 @@ pub fn runs_a_trace_of_two_ticks(
     }
 }
 
-/// A trace keeps its events in order. None where memory was refused.
+/// A trace keeps its events in order. Returns `None` where an allocation fails.
 pub fn trace_keeps_its_events(alloc: Global) -> Option<Trace<Global>>
     ensures { IfSome result (λ trace. trace ≡ Tick ∷ Strobe ∷ Strobe ∷ []) }
 {
@@ -88,7 +89,7 @@ pub fn trace_keeps_its_events(alloc: Global) -> Option<Trace<Global>>
     Some(trace)
 }
 
-/// Its first run is of its first event. None where memory was refused.
+/// The first run of a trace is of its first event. Returns `None` where an allocation fails.
 pub fn trace_begins_with_its_first_event(alloc: Global) -> Option<bool>
     ensures { IfSome result (λ is_strobe. is_strobe ≡ true) }
 {
@@ -99,9 +100,9 @@ pub fn trace_begins_with_its_first_event(alloc: Global) -> Option<bool>
     Some(matches!(run.0, TraceEvent::Strobe))
 }
 
-/// The first picture: over a ROM and a RAM of zeros a frame of one vector is offered, written,
-/// published and drawn, and each of the events has exactly this entry. None where memory was
-/// refused.
+/// The first picture: over a `rom` and an `image` of zeros a frame of one vector is offered,
+/// written, published and drawn, and each of the `events` has exactly this entry. Returns `None`
+/// where an allocation fails.
 pub fn runs_the_first_picture(
     alloc: Global,
     rom: Rom<Global>,
@@ -119,8 +120,8 @@ pub fn runs_the_first_picture(
     }
 }
 
-/// The same events as a trace, of which the pictures alone are kept: there is one picture, which
-/// event 29 finished. None where memory was refused.
+/// The same events as a `trace`, of which the pictures alone are kept: there is one picture, which
+/// event 29 finished. Returns `None` where an allocation fails.
 pub fn draws_the_first_picture(
     alloc: Global,
     rom: Rom<Global>,
@@ -141,7 +142,8 @@ pub fn draws_the_first_picture(
     }
 }
 
-/// The same trace, of which all entries are kept in little room. None where memory was refused.
+/// The same `trace`, of which all entries are kept in little room. Returns `None` where an
+/// allocation fails.
 pub fn logs_the_first_picture(
     alloc: Global,
     rom: Rom<Global>,

@@ -1,8 +1,9 @@
-//! What a job answers, as a plain value: a refusal of a sketch without its line, which takes memory.
+//! What a job returns, as a plain value: a refusal of a sketch without its line, which takes
+//! memory.
 use dvg_tool::{BoundedVerdict, Done, LogVerdict, Outcome, ToolFault, Undrawn, Verdict};
 use std::alloc::Allocator;
 
-/// What an engine that is done has to say.
+/// What an engine that is done reports.
 #[derive(Clone, Copy, Debug, PartialEq, Eq)]
 pub enum Report {
     Written,
@@ -15,10 +16,10 @@ pub enum Report {
     Checked(bool),
 }
 
-/// What a job answers.
+/// What a job returns.
 pub type Answer = Result<Report, ToolFault>;
 
-/// What a job answered.
+/// Returns `answer`, what a job returned, as a plain value.
 pub fn answered<A: Allocator>(answer: &Result<Done<A>, ToolFault>) -> Answer {
     match answer {
         Ok(Done::Written) => Ok(Report::Written),

@@ -38,7 +38,7 @@ const BYTES: usize = 73;
 
 const BLOWS: [Step; 4] = [Strobe, ResetGen, ResetCpu, ResetAll(0)];
 
-/// Each event on its own.
+/// Returns each event of `steps` on its own.
 fn singles(alloc: Global, steps: &[Step]) -> Result<Vec<Step>, Fail> {
     let mut singles = Vec::new(alloc);
     for step in steps {
@@ -54,7 +54,7 @@ fn singles(alloc: Global, steps: &[Step]) -> Result<Vec<Step>, Fail> {
     Ok(singles)
 }
 
-/// A fetch of each byte in the place of a fetch of a word.
+/// Returns the events of `words` with a fetch of each byte in the place of a fetch of a word.
 fn doubled(alloc: Global, words: &[Step]) -> Result<Vec<Step>, Fail> {
     let mut bytes = Vec::new(alloc);
     for step in words {
@@ -66,7 +66,7 @@ fn doubled(alloc: Global, words: &[Step]) -> Result<Vec<Step>, Fail> {
     Ok(bytes)
 }
 
-/// These events, and a blow before one of them, or after the last.
+/// Returns the events of `steps`, and `blow` before the one at `place`, or after the last.
 fn struck(alloc: Global, steps: &[Step], place: usize, blow: Step) -> Result<Vec<Step>, Fail> {
     let mut struck = Vec::new(alloc);
     struck.extend_from_slice(steps)?;
@@ -77,7 +77,7 @@ fn struck(alloc: Global, steps: &[Step], place: usize, blow: Step) -> Result<Vec
     Ok(struck)
 }
 
-/// The strokes of a frame: one, in 1/512 of a screen unit.
+/// Returns the stroke of the frame of `picture`, the only one, in 1/512 of a screen unit.
 fn stroke_of(picture: Picture) -> Option<Stroke> {
     let (x0, y0, x1, y1, z) = match picture {
         F1 => (262_144, 204_800, 210_944, 256_000, 7),
@@ -98,7 +98,8 @@ struct Recount {
 }
 
 impl Recount {
-    /// Whether an entry is as it should be, by what came before; the generator never breaks.
+    /// Whether `entry` is as it should be for `step`, by what came before. The generator never
+    /// breaks.
     fn goes_on(&mut self, step: Step, entry: &Entry) -> bool {
         match (step, entry) {
             (Offer(picture), Entry::Offered) => self.accepted = Some(picture),
@@ -120,7 +121,7 @@ impl Recount {
     }
 }
 
-/// Whether a recount finds each entry as it should be.
+/// Whether a recount of `steps` finds each of `entries` as it should be.
 fn is_recounted(steps: &[Step], entries: &[Entry]) -> bool {
     let mut recount = Recount {
         accepted: None,
@@ -136,7 +137,7 @@ fn is_recounted(steps: &[Step], entries: &[Entry]) -> bool {
     steps.len() == entries.len()
 }
 
-/// The entries of events over a store.
+/// Returns the entries of `steps` over a store.
 fn entries<S: Store<Alloc = Global>>(alloc: Global, steps: &[Step]) -> Result<Vec<Entry>, Fail> {
     let image = image(alloc, alloc, 0)?;
     let events = events(alloc, alloc, steps)?;
@@ -146,7 +147,7 @@ fn entries<S: Store<Alloc = Global>>(alloc: Global, steps: &[Step]) -> Result<Ve
     }
 }
 
-/// Whether the log of these events is well by both judges, over a store.
+/// Whether the log of `steps` is well by both judges, over a store.
 fn goes_well<S: Store<Alloc = Global>>(alloc: Global, steps: &[Step]) -> Result<bool, Fail> {
     let events = events(alloc, alloc, steps)?;
     let entries = entries::<S>(alloc, steps)?;
@@ -154,7 +155,7 @@ fn goes_well<S: Store<Alloc = Global>>(alloc: Global, steps: &[Step]) -> Result<
     Ok(is_spared && is_recounted(steps, entries.as_slice()))
 }
 
-/// Whether the log of these events is well over both stores.
+/// Whether the log of `steps` is well over both stores.
 fn goes_well_over_both(alloc: Global, steps: &[Step]) -> Result<bool, Fail> {
     Ok(goes_well::<Flat>(alloc, steps)? && goes_well::<Banked>(alloc, steps)?)
 }

@@ -41,8 +41,8 @@ const LIMITS: [(Job, usize, TextFault); 14] = [
     ),
 ];
 
-/// What a job answers to an input that never ends, and how many bytes were taken of it. None where
-/// it wrote something.
+/// Returns what `job` returns for an input that never ends, and how many bytes were taken of that.
+/// Returns `None` where it wrote something.
 fn answered(alloc: Global, job: Job) -> Option<(Result<Done, ToolFault>, usize)> {
     let mut reader = Watched::new(Endless { taken: 0 });
     let mut writer = Watched::new(Vec::new(alloc));

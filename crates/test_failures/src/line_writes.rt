@@ -16,7 +16,8 @@ const SHAPES: &str = ".rom\nrock: return\nship: return\nshot: return\n";
 /// A log that is torn, of which two lines are written.
 const TORN: &str = "started\nfetched 000 E201\nwrote 402 90\n";
 
-/// What a writer got that takes the whole of what it is handed, and fails after this many calls.
+/// Returns what a writer got of `job` with `input`. The writer takes the whole of what it is
+/// handed, and fails after `calls_before` calls.
 fn got(alloc: Global, job: Job, input: &[u8], calls_before: u32) -> Vec<u8> {
     let mut reader = Watched::new(input);
     let mut writer = Watched::new(Failing {
@@ -31,7 +32,7 @@ fn got(alloc: Global, job: Job, input: &[u8], calls_before: u32) -> Vec<u8> {
     writer.into_inner().taken
 }
 
-/// How many lines are written. The writer is handed one of them at a call.
+/// Returns how many lines `job` writes of `input`. The writer is handed one of them at a call.
 fn lines_written(alloc: Global, job: Job, input: &[u8]) -> Result<u32, Fail> {
     let whole = got(alloc, job, input, u32::MAX);
     let mut lines = 0u32;

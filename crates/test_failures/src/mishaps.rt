@@ -23,7 +23,8 @@ const WAYS: [Way; 6] = [
     (Mishap::Nothing, true),
 ];
 
-/// A stream with this input, that fails after this many calls.
+/// Returns a stream with the input `rest` that moves at most `step` bytes a call. It fails after
+/// `calls_before` calls, in this `way`.
 fn stream<'a>(
     alloc: Global,
     rest: &'a [u8],
@@ -41,7 +42,7 @@ fn stream<'a>(
     }
 }
 
-/// Whether a read that fails is passed on and counted, and the next one isn't.
+/// Whether a read that fails by `mishap` is passed on and counted, and the next one isn't.
 fn passes_a_failed_read_on(alloc: Global, mishap: Mishap) -> bool {
     let mut reader = Watched::new(stream(alloc, b"ab", 2, 0, (mishap, false)));
     let mut buf = [0u8; 2];
@@ -49,7 +50,8 @@ fn passes_a_failed_read_on(alloc: Global, mishap: Mishap) -> bool {
     failed && reader.read(&mut buf) == Ok(2) && reader.failures() == 1
 }
 
-/// Whether a write that fails or takes nothing is passed on and counted, and the next one isn't.
+/// Whether a write that fails by `mishap` or takes nothing is passed on and counted, and the next
+/// one isn't.
 fn passes_a_failed_write_on(alloc: Global, mishap: Mishap) -> bool {
     let mut writer = Watched::new(stream(alloc, &[], 2, 0, (mishap, false)));
     let failed = writer.write(b"ab").is_err() && writer.failures() == 1;
@@ -65,7 +67,8 @@ fn watched_passes_each_failure_on(rt: HostRuntime) {
     }
 }
 
-/// Whether a read after this many others fails a task before it writes.
+/// Whether a read after `calls_before` others, which fails in this `way`, fails `task` before it
+/// writes.
 fn read_fails(alloc: Global, task: Task, calls_before: u32, way: Way) -> bool {
     let mut reader = Watched::new(stream(alloc, task.input, task.step, calls_before, way));
     let mut writer = Watched::new(Vec::new(alloc));
@@ -73,15 +76,15 @@ fn read_fails(alloc: Global, task: Task, calls_before: u32, way: Way) -> bool {
     answer == Err(ToolFault::Reader) && reader.failures() == 1 && writer.into_inner().is_empty()
 }
 
-/// The number of reads of a task, of which the last one shows that the input ends.
+/// Returns the number of reads of `task`. The last of them shows that the input ends.
 fn reads(task: Task) -> Result<u32, Fail> {
     let most = task.input.len().saturating_add(task.step);
     let some = most.saturating_sub(1).checked_div(task.step);
     Ok(u32::try_from(some.ok_or("no step")?)?.saturating_add(1))
 }
 
-/// Whether a task whose reader fails after all of its reads, and whose writer never does, does as
-/// if both moved all at once.
+/// Whether `task` does as if both streams moved all at once, where its reader fails after all of
+/// its reads, and its writer never does.
 fn does_well(alloc: Global, task: Task) -> Result<bool, Fail> {
     let mut reader = Watched::new(stream(alloc, task.input, task.step, reads(task)?, WAYS[0]));
     let mut writer = Watched::new(stream(alloc, &[], task.step, u32::MAX, WAYS[0]));
@@ -93,7 +96,7 @@ fn does_well(alloc: Global, task: Task) -> Result<bool, Fail> {
     )
 }
 
-/// Whether each read of a task fails it, in each way.
+/// Whether each read of `task` fails it, in each way.
 fn each_read_fails(alloc: Global, task: Task) -> Result<bool, Fail> {
     for calls_before in 0..reads(task)? {
         for way in [WAYS[0], WAYS[1], WAYS[2], WAYS[3]] {
@@ -116,7 +119,7 @@ fn each_read_fails_in_turn(rt: HostRuntime) -> Result<(), Fail> {
     Ok(())
 }
 
-/// How many writes a task makes, where none of them fails.
+/// Returns how many writes `task` makes, where none of them fails.
 fn writes(alloc: Global, task: Task) -> u32 {
     let mut reader = Watched::new(task.input);
     let mut writer = Watched::new(stream(alloc, &[], task.step, u32::MAX, WAYS[0]));
@@ -124,8 +127,9 @@ fn writes(alloc: Global, task: Task) -> u32 {
     u32::MAX - writer.into_inner().calls_before
 }
 
-/// Whether a write after this many others fails a task, which makes no other one then, and what
-/// went out before is a beginning of what is written where none fails.
+/// Whether a write after `calls_before` others, which fails in this `way`, fails `task`, which
+/// makes no other one then, and what went out before is a beginning of `wanted`, which is written
+/// where none fails.
 fn write_fails(alloc: Global, task: Task, wanted: &[u8], calls_before: u32, way: Way) -> bool {
     let mut reader = Watched::new(task.input);
     let mut writer = Watched::new(stream(alloc, &[], task.step, calls_before, way));
@@ -140,8 +144,8 @@ fn write_fails(alloc: Global, task: Task, wanted: &[u8], calls_before: u32, way:
         && stream.taken.len() < wanted.len()
 }
 
-/// Whether each write of a task fails it, in each way. Where a write takes one byte, there is one
-/// for each of them.
+/// Whether each write of `task` fails it, in each way. Where a write takes one byte, there is one
+/// for each byte.
 fn each_write_fails(alloc: Global, task: Task) -> Result<bool, Fail> {
     let wanted = written(alloc, task)?;
     let count = writes(alloc, task);
@@ -169,8 +173,8 @@ fn each_write_fails_in_turn(rt: HostRuntime) -> Result<(), Fail> {
     Ok(())
 }
 
-/// Whether a flush that fails is the writer's fault, whatever was answered, and one that does well
-/// leaves the answer. The answer comes twice.
+/// Whether a flush that fails is the writer's fault, whatever was returned before, and one that
+/// succeeds leaves that. `first` and `again` are the same.
 fn flush_fails(
     alloc: Global,
     first: Result<Done, ToolFault>,

@@ -18,7 +18,7 @@ struct Wanted<'a> {
     last: usize,
 }
 
-/// What is written in a heap of this many bytes, and what is answered.
+/// Returns what is written in a heap of this many `bytes`, and what is returned.
 fn played_in(alloc: Global, wanted: Wanted, bytes: usize) -> Result<(Vec<u8>, Answer), Fail> {
     let heap = LocalHeap::new(alloc, bytes)?;
     let mut reader = Watched::new(wanted.trace.as_bytes());
@@ -40,12 +40,12 @@ enum Led {
     Whole,
 }
 
-/// The number at the front of a line.
+/// Returns the number at the front of `line`.
 fn number_of(line: &str) -> Option<usize> {
     line.split(' ').next()?.parse().ok()
 }
 
-/// Whether this is the log before an event that completes a vector: a beginning of all lines.
+/// Whether `text` is the log before an event that completes a vector: a beginning of all lines.
 fn is_log_before(wanted: Wanted, text: &str) -> bool {
     let Some(number) = wanted.shown.strip_prefix(text).and_then(number_of) else {
         return false;
@@ -56,7 +56,8 @@ fn is_log_before(wanted: Wanted, text: &str) -> bool {
         && text.split('\n').count() == number.saturating_add(1)
 }
 
-/// What a heap of this many bytes leads to, and nothing else.
+/// Returns what a heap of this many `bytes` leads to where `wanted` is played. Any other result is
+/// an error.
 fn led_to(alloc: Global, wanted: Wanted, bytes: usize) -> Result<Led, Fail> {
     let (written, answer) = played_in(alloc, wanted, bytes)?;
     let text = String::from_utf8(written)?;
@@ -75,8 +76,8 @@ fn led_to(alloc: Global, wanted: Wanted, bytes: usize) -> Result<Led, Fail> {
     Err("another text".into())
 }
 
-/// The heaps of whole KB that lead to nothing: how many there are, up to the first that leads to
-/// more.
+/// Returns how many heaps of whole KB lead to nothing where `wanted` is played, up to the first
+/// that leads to more.
 fn silent_heaps(alloc: Global, wanted: Wanted) -> Result<usize, Fail> {
     for kilobytes in 0..256usize {
         if led_to(alloc, wanted, kilobytes * 1024)? != Led::Nothing {
@@ -86,9 +87,9 @@ fn silent_heaps(alloc: Global, wanted: Wanted) -> Result<usize, Fail> {
     Err("no heap has room".into())
 }
 
-/// How many heaps, each of 16 bytes more than the one before, lead to nothing and to a beginning,
-/// from the greatest of whole KB that leads to nothing up to the first that has room for
-/// everything.
+/// Returns how many heaps, each of 16 bytes more than the one before, lead to nothing and to a
+/// beginning, from the greatest of whole KB that leads to nothing up to the first that has room for
+/// everything. `silent_heaps` is how many heaps of whole KB lead to nothing.
 fn refusals(alloc: Global, wanted: Wanted, silent_heaps: usize) -> Result<(u32, u32), Fail> {
     let least = silent_heaps.saturating_sub(1).saturating_mul(1024);
     let (mut silent, mut begun) = (0u32, 0u32);
@@ -102,7 +103,7 @@ fn refusals(alloc: Global, wanted: Wanted, silent_heaps: usize) -> Result<(u32, 
     Err("no heap has room".into())
 }
 
-/// What is written of a trace in ample memory.
+/// Returns what is written of `trace` in ample memory.
 fn shown(alloc: Global, trace: &str, all: bool) -> Result<String, Fail> {
     let (shown, answer) = played(alloc, trace, all)?;
     if answer.is_err() {
@@ -131,8 +132,8 @@ fn a_refusal_leaves_no_picture(rt: HostRuntime) -> Result<(), Fail> {
     Ok(())
 }
 
-/// A trace with a picture of 58 strokes: the high bytes of its vectors are fetched by every other
-/// event from 137 to 251.
+/// Returns a trace with a picture of 58 strokes. The high bytes of its vectors are fetched by every
+/// other event from 137 to 251.
 pub fn long_picture(alloc: Global) -> Result<String, Fail> {
     let mut text = joined(alloc, &["tick 2\noffer\nlabs 0 0 0\n"])?;
     for _ in 0..58 {

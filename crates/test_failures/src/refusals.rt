@@ -1,4 +1,4 @@
-//! Runs in heaps of many sizes, in which a growth is refused.
+//! Runs in heaps of many sizes, in which an allocation fails.
 use crate::scripts::Picture::F1;
 use crate::scripts::Step::{Fetch, Offer, Strobe, Tick};
 use crate::scripts::{Step, entries_text, events, image, rom, transcript};
@@ -18,7 +18,7 @@ const AMPLE: usize = 1024 * AMPLE_KB;
 /// The first picture.
 const STEPS: [Step; 5] = [Tick(2), Offer(F1), Tick(14), Strobe, Fetch(12)];
 
-/// Where a run of the first picture stops for want of memory.
+/// Where a run of the first picture stops for lack of memory.
 #[derive(Clone, Copy, Debug, PartialEq, Eq)]
 enum Stop {
     /// There was no room for the blocker.
@@ -28,7 +28,8 @@ enum Stop {
     Nowhere,
 }
 
-/// Where a run of these events stops over a flat or a banked store, and its entries up to there.
+/// Returns where a run of `events` stops over a flat or a `banked` store, and its entries up to
+/// there.
 fn ran<'a>(
     heap: &'a LocalHeap,
     rom: Rom<&'a LocalHeap>,
@@ -47,7 +48,8 @@ fn ran<'a>(
     }
 }
 
-/// Whether these are the entries before the place of a stop, as they are where nothing stops.
+/// Whether `entries` are those before the place where the run `stopped`, as they are where nothing
+/// stops: a beginning of `wanted`.
 fn are_before(
     alloc: Global,
     wanted: &[u8],
@@ -59,7 +61,7 @@ fn are_before(
     Ok(is_number && wanted.starts_with(text.as_slice()))
 }
 
-/// Where the first picture's run stops in a heap of which a blocker takes this many bytes.
+/// Returns where the first picture's run stops in a heap of which a blocker takes `blocked` bytes.
 fn place_of_stop(alloc: Global, wanted: &[u8], blocked: usize, banked: bool) -> Result<Stop, Fail> {
     let heap = LocalHeap::new(alloc, AMPLE)?;
     let rom = rom(alloc, &heap, &[])?;
@@ -76,7 +78,8 @@ fn place_of_stop(alloc: Global, wanted: &[u8], blocked: usize, banked: bool) -> 
     Ok(stopped)
 }
 
-/// The smallest of the blockers of whole KB that stop the run at once: with one less it goes on.
+/// Returns the smallest of the blockers of whole KB that stop the run at once: with one less it
+/// goes on. `wanted` is what the run shows where nothing stops it.
 fn least_blocker(alloc: Global, wanted: &[u8], banked: bool) -> Result<usize, Fail> {
     for kilobytes in 0..AMPLE_KB {
         let blocked = AMPLE - 1024 * kilobytes;
@@ -88,8 +91,8 @@ fn least_blocker(alloc: Global, wanted: &[u8], banked: bool) -> Result<usize, Fa
     Err("no room".into())
 }
 
-/// Ever smaller blockers, down to the first that leaves room for the whole run: whether the run
-/// stopped at once, and at the vector.
+/// Tries ever smaller blockers over a flat or a `banked` store, down to the first that leaves room
+/// for the whole run. Returns whether the run stopped at once, and at the vector.
 fn places_of_stops(alloc: Global, banked: bool) -> Result<(bool, bool), Fail> {
     let wanted = transcript::<Flat>(alloc, &[], &STEPS)?;
     let most = least_blocker(alloc, wanted.as_slice(), banked)?;
@@ -114,7 +117,8 @@ fn runs_stop_where_a_growth_is_refused(rt: HostRuntime) -> Result<(), Fail> {
     Ok(())
 }
 
-/// Vectors that take what is left of a heap, each with a smaller capacity than the one before.
+/// Returns vectors that take what is left of `heap`, each with a smaller capacity than the one
+/// before.
 fn fillers(alloc: Global, heap: &LocalHeap) -> Result<Vec<Vec<u8, &LocalHeap>>, Fail> {
     let mut fillers = Vec::new(alloc);
     for slots in 0..AMPLE / 16 {
@@ -125,7 +129,8 @@ fn fillers(alloc: Global, heap: &LocalHeap) -> Result<Vec<Vec<u8, &LocalHeap>>, 
     Ok(fillers)
 }
 
-/// The first picture's events before that, in a world.
+/// Lets `events` of the first picture, those before the vector, happen in `world`. Returns whether
+/// none of them fails.
 fn happen_before_the_vector<'a>(
     world: &mut World<Flat<&'a LocalHeap>>,
     events: &[OwnEvent<&'a LocalHeap>],
@@ -138,7 +143,7 @@ fn happen_before_the_vector<'a>(
     true
 }
 
-/// A world in which the first byte of the vector's second word is fetched next.
+/// Returns a world in which the first byte of the vector's second word is fetched next.
 fn before_the_vector<'a>(
     alloc: Global,
     heap: &'a LocalHeap,

@@ -13,8 +13,8 @@ use std::test::Fail;
 /// The most times 16 bytes of a heap.
 const MOST_SLOTS: usize = 1024;
 
-/// In how many heaps of rising sizes this task is refused memory. Then nothing is written, and else
-/// all.
+/// Returns in how many heaps of rising sizes `task` is refused memory. Then nothing is written, and
+/// else all.
 fn refusals(alloc: Global, task: Task) -> Result<usize, Fail> {
     let wanted = written(alloc, task)?;
     let mut refused = 0usize;
@@ -36,9 +36,9 @@ fn refusals(alloc: Global, task: Task) -> Result<usize, Fail> {
     Ok(refused)
 }
 
-/// A heap refuses what does not fit it, so each size of heap refuses some growth, or none. All but
-/// `list` and `torn` want room for a ROM, which is 128 times 16 bytes, and `picture` for a dump.
-/// `torn` wants none. What `play` does is shown by tests of its own.
+/// A heap refuses what doesn't fit it, so each size of heap refuses some allocation, or none. All
+/// but `list` and `torn` need room for a ROM, which is 128 times 16 bytes, and `picture` for a
+/// dump. `torn` needs none. What `play` does is shown by tests of its own.
 #[test]
 fn each_growth_is_refused_in_turn(rt: HostRuntime) -> Result<(), Fail> {
     let rom = vec![in rt.alloc(); 0xD0u8; MEMORY_BYTES]?;
@@ -91,7 +91,7 @@ impl Write for Filling<'_> {
     }
 }
 
-/// Whether a task that is done asked for no memory after its first write.
+/// Whether `task`, when it is done, asked for no memory after its first write.
 fn asks_before_it_writes(alloc: Global, task: Task) -> bool {
     let arena = Bump::new(alloc);
     let mut reader = Watched::new(task.input);

@@ -20,7 +20,7 @@ pub enum Picture {
     Shape,
 }
 
-/// Events, some of them this many times.
+/// Events, some of them as many times as their number says.
 #[derive(Clone, Copy)]
 pub enum Step {
     Offer(Picture),
@@ -34,12 +34,12 @@ pub enum Step {
     ResetAll(u8),
 }
 
-/// An operation that executes an instruction.
+/// Returns an operation that executes `instr`.
 fn draw(instr: Instr) -> Result<OpKind, Fail> {
     Ok(OpKind::Draw(Code::new(instr).ok_or("out of range")?))
 }
 
-/// A VCTR with the local scale 9.
+/// Returns a VCTR with `dx`, `dy` and `z` and the local scale 9.
 fn vctr(dx: i16, dy: i16, z: u8) -> Result<OpKind, Fail> {
     draw(Instr::Vctr {
         scale: 9,
@@ -49,7 +49,7 @@ fn vctr(dx: i16, dy: i16, z: u8) -> Result<OpKind, Fail> {
     })
 }
 
-/// The draft of a picture.
+/// Returns the draft of `picture`.
 fn draft(picture: Picture) -> Result<Draft, Fail> {
     let (x, y, drawing) = match picture {
         Picture::F1 => (512, 400, vctr(-100, 100, 7)?),
@@ -73,13 +73,13 @@ fn draft(picture: Picture) -> Result<Draft, Fail> {
     Ok(draft)
 }
 
-/// An image of one byte.
+/// Returns an image whose bytes are all `byte`.
 pub fn image<A: Allocator>(scratch: Global, alloc: A, byte: u8) -> Result<Image<A>, Fail> {
     let bytes = vec![in scratch; byte; 2048]?;
     Image::new(alloc, bytes.as_slice()).map_err(|_| "no image".into())
 }
 
-/// A ROM of these words from 800 on. All others are D000.
+/// Returns a ROM of `words` from 800 on. All others are D000.
 pub fn rom<A: Allocator>(scratch: Global, alloc: A, words: &[u16]) -> Result<Rom<A>, Fail> {
     let mut bytes = Vec::new(scratch);
     for i in 0..1024 {
@@ -89,7 +89,7 @@ pub fn rom<A: Allocator>(scratch: Global, alloc: A, words: &[u16]) -> Result<Rom
     Rom::new(alloc, bytes.as_slice()).map_err(|_| "no ROM".into())
 }
 
-/// The event of a step, once.
+/// Returns the event of `step`, once.
 fn event<A: Allocator>(scratch: Global, alloc: A, step: Step) -> Result<OwnEvent<A>, Fail> {
     Ok(match step {
         Step::Offer(picture) => match Box::new(alloc, draft(picture)?) {
@@ -106,7 +106,7 @@ fn event<A: Allocator>(scratch: Global, alloc: A, step: Step) -> Result<OwnEvent
     })
 }
 
-/// How often a step is taken.
+/// Returns how often `step` is taken.
 fn times(step: Step) -> u32 {
     match step {
         Step::Tick(times) | Step::Fetch(times) => times,
@@ -114,7 +114,7 @@ fn times(step: Step) -> u32 {
     }
 }
 
-/// The events of steps, in a vector that is grown once.
+/// Returns the events of `steps`, in a vector that is grown once.
 pub fn events<A: Allocator + Copy>(
     scratch: Global,
     alloc: A,
@@ -133,7 +133,7 @@ pub fn events<A: Allocator + Copy>(
     Ok(events)
 }
 
-/// The events of steps, as a trace.
+/// Returns the events of `steps`, as a trace.
 fn trace(alloc: Global, steps: &[Step]) -> Result<Trace, Fail> {
     let mut trace = Trace::new(alloc);
     for step in steps {
@@ -148,12 +148,12 @@ fn trace(alloc: Global, steps: &[Step]) -> Result<Trace, Fail> {
     Ok(trace)
 }
 
-/// The lines of entries, as `play --all` shows them: each with its number, and the strokes of a
-/// picture below it.
+/// Returns the lines of `entries`, as `play --all` shows them: each with its number, and the
+/// strokes of a picture below it.
 pub fn entries_text<A: Allocator>(alloc: Global, entries: &[OwnEntry<A>]) -> Result<Vec<u8>, Fail> {
     let mut text = Vec::new(alloc);
     let mut stroke_lines = StrokeLines::new();
-    // There are no more entries than a number of 64 bits tells.
+    // There are no more entries than a number of 64 bits counts.
     let _ = entries.len();
     for (number, entry) in entries.iter().enumerate() {
         let drew = match entry {
@@ -174,7 +174,8 @@ pub fn entries_text<A: Allocator>(alloc: Global, entries: &[OwnEntry<A>]) -> Res
     Ok(text)
 }
 
-/// What a run shows, with ample memory and an image of zeros.
+/// Returns what a run of `steps` shows over a ROM of `rom_words`, with ample memory and an image of
+/// zeros.
 pub fn transcript<S: Store<Alloc = Global>>(
     alloc: Global,
     rom_words: &[u16],
@@ -189,7 +190,7 @@ pub fn transcript<S: Store<Alloc = Global>>(
     }
 }
 
-/// The same of the trace of these events.
+/// Like `transcript`, for the trace of `steps`.
 pub fn trace_transcript<S: Store<Alloc = Global>>(
     alloc: Global,
     rom_words: &[u16],

@@ -2,7 +2,7 @@
 use std::io;
 use std::io::{ErrorKind, Read, Write};
 
-/// What a stream answers at a call that fails.
+/// What a stream returns at a call that fails.
 #[derive(Clone, Copy, Debug, PartialEq, Eq)]
 pub enum Mishap {
     /// An error.
@@ -39,7 +39,7 @@ impl Failing<'_> {
         true
     }
 
-    /// The error of a call that fails, if it is one.
+    /// Returns the error of a call that fails, if it is one.
     fn error(&self) -> Option<io::Error> {
         match self.mishap {
             Mishap::Error => Some(io::Error::from(ErrorKind::Other)),

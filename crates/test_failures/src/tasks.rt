@@ -37,7 +37,7 @@ pub struct Task<'a> {
     pub input: &'a [u8],
     /// How many bytes a stream moves by a call: one, or as many as a whole line.
     pub step: usize,
-    /// What is answered where nothing fails.
+    /// What is returned where nothing fails.
     pub answer: Answer,
 }
 
@@ -47,10 +47,10 @@ const WORDS: [u8; 10] = [0x64, 0x90, 0x64, 0x74, 0x00, 0x94, 0x00, 0x00, 0x90, 0
 /// A draft after a ROM line, which is refused.
 const REFUSED: &str = "rom 800 E001\nlabs 0 0 0\ncallrom 800\nhalt\n";
 
-/// The answer to it.
+/// The verdict on it.
 const OUT_OF_ROM: Verdict = Verdict::Refused(FrameFault::OutOfRom(Place::InRom(0x800)));
 
-/// A draft that is good, and the answer to it.
+/// A draft that is good, and the verdict on it.
 const GOOD: &str = "labs 0 0 0\nhalt\n";
 
 const SHORT: BoundedVerdict = BoundedVerdict::Good { words: 3, bound: 4 };
@@ -58,7 +58,7 @@ const SHORT: BoundedVerdict = BoundedVerdict::Good { words: 3, bound: 4 };
 /// A log that isn't torn, so that it is read to its end.
 const LOG: &str = "started\n\nfetched 000 E201\nhalted\nwrote 402 90\n";
 
-/// The answer to it.
+/// The verdict on it.
 pub const NOT_TORN: LogVerdict = LogVerdict {
     finding: LogFinding::NotTorn,
     counts: LogCounts {
@@ -74,7 +74,7 @@ const SKETCH: &str = "labs 0 0 0\nhalt\n.frame b\nlabs 0 0 0\nhalt\n";
 
 const REFUSED_SKETCH: &str = "labs 0 0 0\na: call a\nhalt\n";
 
-/// The tasks, of which one reads this ROM, and two this dump, whose first word is a return.
+/// Returns the tasks. One reads `rom`, and two read `dump`, whose first word is a return.
 pub fn tasks<'a>(rom: &'a [u8], dump: &'a [u8]) -> [Task<'a>; 16] {
     let task = |job, input, step, answer| Task {
         job,
@@ -162,7 +162,7 @@ pub fn tasks<'a>(rom: &'a [u8], dump: &'a [u8]) -> [Task<'a>; 16] {
     ]
 }
 
-/// What is written of a task where nothing fails, which the cases of the program show.
+/// Returns what is written of `task` where nothing fails, which the cases of the program show.
 pub fn written(alloc: Global, task: Task) -> Result<Vec<u8>, Fail> {
     let mut reader = Watched::new(task.input);
     let mut writer = Watched::new(Vec::new(alloc));

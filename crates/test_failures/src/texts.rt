@@ -17,7 +17,7 @@ fn want_of_memory_has_its_text(rt: HostRuntime) -> Result<(), Fail> {
     Ok(())
 }
 
-/// Whether this is the text of a fault.
+/// Whether `text` is the text of `fault`.
 fn is_text<F: Display + Drop>(alloc: Global, fault: F, text: &str) -> Result<bool, Fail> {
     Ok(fault.to_string(alloc)?.as_str() == text)
 }

@@ -7,7 +7,7 @@ use std::test::Fail;
 pub const FIRST_PICTURE: &str =
     "tick 2\noffer\nlabs 512 400 0\nvctr 9 -100 100 7\nhalt\nend\ntick 14\nstrobe\nfetch 12\n";
 
-/// These texts, one after the other.
+/// Returns `texts`, one after the other.
 pub fn joined(alloc: Global, texts: &[&str]) -> Result<String, Fail> {
     let mut whole = String::new(alloc);
     for text in texts {
@@ -16,7 +16,7 @@ pub fn joined(alloc: Global, texts: &[&str]) -> Result<String, Fail> {
     Ok(whole)
 }
 
-/// What is written of a text, and what is answered.
+/// Returns what is written of `text`, a trace, and what is returned.
 pub fn played(
     alloc: Global,
     text: &str,

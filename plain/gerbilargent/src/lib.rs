@@ -42,6 +42,7 @@ pub use dvg_driver::*;
 pub use dvg_frame::*;
 pub use dvg_gen::*;
 pub use dvg_mem::*;
+pub use dvg_moment::*;
 pub use dvg_world::*;
 pub use plain_std::alloc::{AllocError, AllocFailed, Allocator, Box, Global, Vec};
 

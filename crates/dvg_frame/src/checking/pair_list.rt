@@ -28,7 +28,7 @@ impl<const MOST: usize> Model for PairList<MOST> {
 }
 
 impl<const MOST: usize> PairList<MOST> {
-    // A list with no pair.
+    // Returns a list with no pair.
     pub(crate) fn new() -> PairList<MOST>
         ensures { result ≡ [] }
     {
@@ -37,7 +37,7 @@ impl<const MOST: usize> PairList<MOST> {
         }
     }
 
-    // How many pairs there are.
+    // Returns the number of pairs, at most `MOST`.
     pub(crate) fn len(&self) -> usize
         ensures value { result ≡ length self.now }
         ensures bound { result ≤ MOST }
@@ -45,7 +45,7 @@ impl<const MOST: usize> PairList<MOST> {
         self.numbers.len()
     }
 
-    // The pair at this position.
+    // Returns the pair at the position `i`, which must be below the number of pairs.
     pub(crate) fn at(&self, i: usize) -> Pair
         requires { i < length self.now }
         ensures value { slice_get self.now i ≡ Some result }
@@ -54,14 +54,14 @@ impl<const MOST: usize> PairList<MOST> {
         pair_of(self.numbers[i])
     }
 
-    // Takes all pairs out.
+    // Removes all pairs.
     pub(crate) fn clear(&mut self)
         ensures { self.new ≡ [] }
     {
         self.numbers.clear();
     }
 
-    // Puts a pair after the others.
+    // Adds `pair` at the end. There must be room for it.
     pub(crate) fn push(&mut self, pair: Pair)
         requires room { length self.old < MOST }
         requires valid { IsPair pair }
@@ -70,7 +70,7 @@ impl<const MOST: usize> PairList<MOST> {
         self.numbers.push(index_of(pair) as u16);
     }
 
-    // Takes the last pair out.
+    // Removes the last pair and returns it. The list must not be empty.
     pub(crate) fn pop(&mut self) -> Pair
         requires { 0 < length self.old }
         ensures value { self.old ≡ self.new ++ result ∷ [] }

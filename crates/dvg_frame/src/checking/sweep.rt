@@ -24,7 +24,7 @@ pub(crate) struct Found {
     pub(crate) fault: FrameFault,
 }
 
-// Adds the pairs that a way leads to from this depth.
+// Adds to `list` the pairs that `way` leads to from the depth `depth`.
 fn spread(list: &mut Worklist, way: Way, depth: u8)
     requires stays { StaysIn way depth }
     requires depth { depth ≤ DEEPEST }
@@ -48,7 +48,7 @@ fn spread(list: &mut Worklist, way: Way, depth: u8)
     }
 }
 
-// The one that comes first.
+// Returns the one of `best` and `found` whose pair comes first.
 fn first_of(best: Option<Found>, found: Found) -> Found
     requires valid { IsPair found.pair }
     requires best_valid { IfSome best (λ old. IsPair old.pair) }
@@ -68,8 +68,9 @@ fn first_of(best: Option<Found>, found: Found) -> Found
     }
 }
 
-/// The first reached pair that has a fault, with that of least number there. The list has no pair
-/// at first, and the reached ones at the end.
+/// Returns the first reached pair that has a fault, of `draft` over `rom`, with the fault of least
+/// number there. Returns `None` where there is no such pair. `list` has no pair at first, and the
+/// reached ones at the end.
 ///
 /// Each pair is looked at once, when its turn comes in a list without doubles, so the time is
 /// linear in the number of reached pairs.

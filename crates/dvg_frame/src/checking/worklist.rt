@@ -25,7 +25,7 @@ impl Model for Worklist {
 }
 
 impl Worklist {
-    // A list with no pair.
+    // Returns a list with no pair.
     pub(crate) fn new() -> Worklist
         ensures { result ≡ [] }
     {
@@ -35,7 +35,7 @@ impl Worklist {
         }
     }
 
-    // How many pairs there are.
+    // Returns the number of pairs.
     pub(crate) fn len(&self) -> usize
         ensures value { result ≡ length self.now }
         ensures bound { result ≤ PAIRS }
@@ -43,7 +43,7 @@ impl Worklist {
         self.pairs.len()
     }
 
-    // The pair at this position.
+    // Returns the pair at the position `i`, which must be below the number of pairs.
     pub(crate) fn at(&self, i: usize) -> Pair
         requires { i < length self.now }
         ensures value { slice_get self.now i ≡ Some result }
@@ -52,7 +52,7 @@ impl Worklist {
         self.pairs.at(i)
     }
 
-    // Takes all pairs out. Only their own marks are taken back, so the time is linear in their
+    // Removes all pairs. Only their own marks are taken back, so the time is linear in their
     // number.
     pub(crate) fn clear(&mut self)
         ensures { self.new ≡ [] }
@@ -63,7 +63,7 @@ impl Worklist {
         }
     }
 
-    // Adds a pair at the end, unless it is there.
+    // Adds `pair` at the end, unless it is there.
     pub(crate) fn add(&mut self, pair: Pair)
         requires { IsPair pair }
         ensures { Grows self.old self.new (λ new. new ≡ pair) }

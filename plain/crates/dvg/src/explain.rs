@@ -9,7 +9,8 @@ use arrayvec::ArrayVec;
 use dvg_named::{Doing, Head, MAX_TOKENS, Row, read_head, tokens_of};
 use dvg_read::{TextFault, hex};
 
-/// What is expected of a line whose name is given before.
+/// Returns what is expected of `line`, line `number` of `text`, which gives a name that a line
+/// before it gave.
 fn another<'a>(text: &[u8], number: usize, line: &'a [u8]) -> Option<Expected<'a>> {
     if let Some(Head::Frame(Some(name))) = head_of(line) {
         return Some(Expected::Another(name, first_frame(text, name)?));
@@ -27,7 +28,8 @@ fn another<'a>(text: &[u8], number: usize, line: &'a [u8]) -> Option<Expected<'a
     Some(Expected::Another(name, first_given(text, name, rows)?))
 }
 
-/// Where a name is that isn't given where it was looked for, but perhaps in another frame.
+/// Returns where `name` is, which isn't given where it was looked for, but perhaps in another frame
+/// of `text`. `frame` is what to call that frame.
 fn in_frames(text: &[u8], name: &[u8], frame: &'static str) -> Found {
     match first_given(text, name, Rows::OfFrames) {
         Some(at) => Found::In(frame, at),
@@ -35,7 +37,8 @@ fn in_frames(text: &[u8], name: &[u8], frame: &'static str) -> Found {
     }
 }
 
-/// What is expected of a line that wants a name of its frame. This token goes to one of the ROM.
+/// Returns what is expected of a line of `text` that needs `name` in its frame. `token` is the
+/// operation that goes to a name of the ROM.
 fn of_frame<'a>(text: &[u8], name: &'a [u8], token: &'static str) -> Expected<'a> {
     let found = match first_given(text, name, Rows::OfRom) {
         Some(_) => Found::InRom(token),
@@ -44,7 +47,8 @@ fn of_frame<'a>(text: &[u8], name: &'a [u8], token: &'static str) -> Expected<'a
     Expected::Known("a name of this frame", name, found)
 }
 
-/// What is expected of a line that wants a name of the ROM. This token goes to one of its frame.
+/// Returns what is expected of a line of `text` at `place` that needs `name` in the ROM. `token` is
+/// the operation that goes to a name of its frame.
 fn of_rom<'a>(text: &[u8], place: Place, name: &'a [u8], token: &'static str) -> Expected<'a> {
     let found = match first_given(text, name, place.rows()) {
         Some(_) => Found::InFrame(token),
@@ -53,7 +57,8 @@ fn of_rom<'a>(text: &[u8], place: Place, name: &'a [u8], token: &'static str) ->
     Expected::Known("a name of the ROM", name, found)
 }
 
-/// What is expected of a line that wants a name which isn't given.
+/// Returns what is expected of `line`, line `number` of `text`, which needs a name that isn't
+/// given.
 fn known<'a>(text: &[u8], number: usize, line: &'a [u8]) -> Option<Expected<'a>> {
     let place = place_of(text, number);
     let Some(
@@ -74,7 +79,8 @@ fn known<'a>(text: &[u8], number: usize, line: &'a [u8]) -> Option<Expected<'a>>
     }
 }
 
-/// What is expected of a line that begins a section out of the ROM, or lays an operation there.
+/// Returns what is expected of `line`, which begins a section outside the ROM or lays an operation
+/// there.
 fn in_rom<'a>(line: &[u8]) -> Expected<'a> {
     if head_of(line).is_some() {
         Expected::This(form_of(b".rom"))
@@ -83,7 +89,7 @@ fn in_rom<'a>(line: &[u8]) -> Expected<'a> {
     }
 }
 
-/// Whether a token is a name.
+/// Whether `token` is a name.
 fn is_name(token: &[u8]) -> bool {
     matches!(
         read_head(&[b".frame".as_slice(), token]),
@@ -91,7 +97,7 @@ fn is_name(token: &[u8]) -> bool {
     )
 }
 
-/// Whether it has the look of a name, which no number has.
+/// Whether `token` has the look of a name, which no number has.
 fn looks_like_name(token: &[u8]) -> bool {
     match token.first() {
         Some(b'a'..=b'z' | b'_') => true,
@@ -101,7 +107,7 @@ fn looks_like_name(token: &[u8]) -> bool {
     }
 }
 
-/// What is expected in place of a token that is no name.
+/// Returns what is expected in place of `token`, which is no name.
 fn name_for(token: &[u8]) -> Expected<'_> {
     match token.first() {
         Some(b'a'..=b'f') if hex(token, 3).is_some() => Expected::NoAddress(token),
@@ -109,12 +115,12 @@ fn name_for(token: &[u8]) -> Expected<'_> {
     }
 }
 
-/// Whether a colon stands in a token.
+/// Whether a colon stands in `token`.
 fn has_colon(token: &[u8]) -> bool {
     token.iter().any(|byte| *byte == b':')
 }
 
-/// The tokens of a line, or the first ones of more than ten.
+/// Returns the tokens of `line`, or the first ten where there are more.
 fn first_tokens(line: &[u8]) -> ArrayVec<&[u8], MAX_TOKENS> {
     if let Some(tokens) = tokens_of(line) {
         return tokens;
@@ -128,7 +134,7 @@ fn first_tokens(line: &[u8]) -> ArrayVec<&[u8], MAX_TOKENS> {
     tokens
 }
 
-/// Whether a semicolon stands in a line before its comment.
+/// Whether a semicolon stands in `line` before its comment.
 fn has_semicolon(line: &[u8]) -> bool {
     for byte in line {
         match *byte {
@@ -140,7 +146,8 @@ fn has_semicolon(line: &[u8]) -> bool {
     false
 }
 
-/// What is expected of a line that spells nothing which may stand at its place.
+/// Returns what is expected of `line`, which spells nothing that may stand at its place. `is_rom`
+/// says whether that is in the ROM.
 fn spelled(is_rom: bool, line: &[u8]) -> Expected<'_> {
     if has_semicolon(line) {
         return Expected::This(SEMICOLON);
@@ -157,7 +164,7 @@ fn spelled(is_rom: bool, line: &[u8]) -> Expected<'_> {
     }
 }
 
-/// Whether the first of these tokens begins with a colon.
+/// Whether the first of `tokens` begins with a colon.
 fn begins_with_colon(tokens: &[&[u8]]) -> bool {
     match tokens {
         [token, ..] => token.starts_with(b":"),
@@ -165,7 +172,7 @@ fn begins_with_colon(tokens: &[&[u8]]) -> bool {
     }
 }
 
-/// What is expected of these tokens after a name.
+/// Returns what is expected of `tokens` after a name. `is_rom` says whether they stand in the ROM.
 fn after_name<'a>(is_rom: bool, tokens: &[&'a [u8]]) -> Expected<'a> {
     match tokens {
         [first, ..] if first.ends_with(b":") => Expected::This(TWO_NAMES),
@@ -174,7 +181,8 @@ fn after_name<'a>(is_rom: bool, tokens: &[&'a [u8]]) -> Expected<'a> {
     }
 }
 
-/// What is expected of a line that this token begins, with these tokens after it.
+/// Returns what is expected of a line that begins with the token `first`, with the tokens `rest`
+/// after it. `is_rom` says whether it stands in the ROM.
 fn begun<'a>(is_rom: bool, first: &[u8], rest: &[&'a [u8]]) -> Expected<'a> {
     match (first, rest) {
         (b".frame", [name]) => return name_for(name),
@@ -190,7 +198,7 @@ fn begun<'a>(is_rom: bool, first: &[u8], rest: &[&'a [u8]]) -> Expected<'a> {
     }
 }
 
-/// What is expected of the line of this number, of which this fault tells.
+/// Returns what is expected of line `number` of `text`, at which `fault` is.
 fn expected_of(fault: TextFault, text: &[u8], number: usize) -> Option<Expected<'_>> {
     let line = line_at(text, number);
     match fault {
@@ -203,8 +211,8 @@ fn expected_of(fault: TextFault, text: &[u8], number: usize) -> Option<Expected<
     }
 }
 
-/// What a fault tells of a sketch, which is also given in small letters. None of a fault that has no
-/// line.
+/// Returns the text of the line at which `fault` is, in the sketch `text`, and what was expected of
+/// it. `small` is `text` in small letters. Returns `None` for a fault that has no line.
 pub fn explain<'t, 'a>(
     fault: TextFault,
     text: &'t [u8],

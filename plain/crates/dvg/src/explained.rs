@@ -1,5 +1,5 @@
-//! What a fault of a sketch tells beside its name: the text of the line, and what was expected of
-//! it.
+//! What is printed of a fault of a sketch beside its name: the text of the line, and what was
+//! expected of it.
 use crate::forms::{FORMS, OPERATIONS, write_openings};
 use std::fmt;
 
@@ -11,8 +11,8 @@ const MOST_SHOWN: usize = 60;
 pub enum Found {
     /// No line gives it.
     Nowhere,
-    /// The frame in which it was looked for has no such name, but the ROM has, and this token
-    /// goes there.
+    /// The frame in which it was looked for has no such name, but the ROM has, and this token goes
+    /// there.
     InRom(&'static str),
     /// The ROM has no such name, but the frame of the line has, and this token goes there.
     InFrame(&'static str),
@@ -37,7 +37,7 @@ pub enum Expected<'a> {
     Known(&'static str, &'a [u8], Found),
 }
 
-/// What a fault of a sketch tells: the text of the line, and what was expected of it.
+/// What is printed of a fault of a sketch: the text of the line, and what was expected of it.
 #[derive(Clone, Copy)]
 pub struct Explained<'t, 'a> {
     /// The line.
@@ -46,7 +46,7 @@ pub struct Explained<'t, 'a> {
     pub expected: Expected<'a>,
 }
 
-/// Writes a byte: a tab as a blank, and as `?` each that is no printable ASCII.
+/// Writes `byte`: a tab as a blank, and as `?` each byte that is no printable ASCII.
 fn write_byte(f: &mut fmt::Formatter<'_>, byte: u8) -> fmt::Result {
     let shown = match byte {
         b'\t' => b' ',
@@ -56,7 +56,7 @@ fn write_byte(f: &mut fmt::Formatter<'_>, byte: u8) -> fmt::Result {
     write!(f, "{}", char::from(shown))
 }
 
-/// Writes a name.
+/// Writes `name`.
 fn write_name(f: &mut fmt::Formatter<'_>, name: &[u8]) -> fmt::Result {
     for byte in name {
         write_byte(f, *byte)?;
@@ -64,7 +64,7 @@ fn write_name(f: &mut fmt::Formatter<'_>, name: &[u8]) -> fmt::Result {
     Ok(())
 }
 
-/// Writes where a name is.
+/// Writes where `name` is, which is `found`.
 fn write_found(f: &mut fmt::Formatter<'_>, name: &[u8], found: Found) -> fmt::Result {
     if let Found::Nowhere = found {
         write!(f, "no line gives ")?;
@@ -116,7 +116,8 @@ impl fmt::Display for Expected<'_> {
     }
 }
 
-/// The number of bytes up to the last one that is no blank, without a CR at the end.
+/// Returns the number of bytes of `line` up to the last one that is no blank, without a CR at the
+/// end.
 fn end_of(line: &[u8]) -> usize {
     let mut end = 0;
     for (index, byte) in line.iter().enumerate() {
@@ -129,12 +130,13 @@ fn end_of(line: &[u8]) -> usize {
     end
 }
 
-/// Whether it is a space or a tab.
+/// Whether `byte` is a space or a tab.
 fn is_blank(byte: u8) -> bool {
     byte == b' ' || byte == b'\t'
 }
 
-/// Writes the text of a line without blanks at its ends: its first bytes, if they are many.
+/// Writes the text of `line` without blanks at its ends: its first 60 bytes and `..`, if they are
+/// more.
 fn write_line(f: &mut fmt::Formatter<'_>, line: &[u8]) -> fmt::Result {
     let end = end_of(line);
     let mut count = 0usize;

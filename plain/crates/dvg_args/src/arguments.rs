@@ -9,7 +9,8 @@ use clap::error::ErrorKind;
 use clap::{ArgMatches, Error};
 use std::alloc::Global;
 
-// The job of a subcommand whose options can't be refused.
+// Returns the job of the subcommand `name`, whose options in `found` can't be refused. Returns
+// `None` where `name` is none of these subcommands.
 fn plain_job(name: &str, found: &ArgMatches) -> Option<Job> {
     if name == "rom" {
         Some(Job::Rom)
@@ -24,7 +25,8 @@ fn plain_job(name: &str, found: &ArgMatches) -> Option<Job> {
     }
 }
 
-// The job that a subcommand asks for, or how its options are refused.
+// Returns the job that the subcommand `name` asks for with the options in `found`, or the kind of
+// error by which they are refused.
 fn asked(name: &str, found: &ArgMatches) -> Result<Job, ErrorKind> {
     if name == "list" {
         return list_job(found);
@@ -47,8 +49,8 @@ fn asked(name: &str, found: &ArgMatches) -> Result<Job, ErrorKind> {
     }
 }
 
-// The job of a matching that entered a subcommand, where that is one, or how its options are
-// refused.
+// Returns the job of the subcommand that `matches` entered, or the kind of error by which its
+// options are refused.
 fn entered(matches: &ArgMatches) -> Result<Job, ErrorKind> {
     let Some(entered) = matches.subcommand() else {
         unreachable!()
@@ -56,17 +58,17 @@ fn entered(matches: &ArgMatches) -> Result<Job, ErrorKind> {
     asked(entered.0, entered.1)
 }
 
-// The matching of arguments, which enters a subcommand where they are taken.
+// Matches `arguments`. Arguments that are taken enter a subcommand.
 fn matched<'a>(alloc: Global, arguments: &'a [&'a str]) -> Result<ArgMatches<'a>, Error> {
     command(alloc)?.try_get_matches_from(arguments)
 }
 
-/// What the arguments ask for: the subcommand and the options that they match. The first argument
-/// is the program's name, and may be anything.
+/// Returns what `arguments` ask for: the subcommand and the options that they match. The first
+/// argument is the program's name, and may be anything.
 ///
-/// An error is help or the version that the arguments ask for (`DisplayHelp`, `DisplayVersion`), a
-/// refusal of arguments that ask for nothing the program can do, or want of memory (`OutOfMemory`).
-/// Its text is its `Display`.
+/// An error is help or the version that `arguments` ask for (`DisplayHelp`, `DisplayVersion`), a
+/// refusal of arguments that ask for nothing the program can do, or a failed allocation
+/// (`OutOfMemory`). Its text is its `Display`.
 pub fn job<'a>(alloc: Global, arguments: &'a [&'a str]) -> Result<Job, Error> {
     let matches = match matched(alloc, arguments) {
         Ok(matches) => matches,

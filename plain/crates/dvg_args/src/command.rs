@@ -3,7 +3,8 @@ use crate::help;
 use clap::{Arg, ArgAction, Command};
 use std::alloc::{AllocError, Global};
 
-// A command with its help: what it does, how it is called, and what it reads and writes.
+// Returns the command `name` with its help: `about` says what it does, `usage` how it is called,
+// and `details` what it reads and writes.
 fn helped<'a>(
     alloc: Global,
     name: &'a str,
@@ -17,7 +18,7 @@ fn helped<'a>(
         .after_help(details)
 }
 
-// An option that is given or not.
+// Returns the option `--option`, which is given or not. `details` is its help.
 fn flag<'a>(alloc: Global, option: &'a str, details: &'a str) -> Arg<'a> {
     Arg::new(alloc, option)
         .long(option)
@@ -25,7 +26,8 @@ fn flag<'a>(alloc: Global, option: &'a str, details: &'a str) -> Arg<'a> {
         .action(ArgAction::SetTrue)
 }
 
-// An option that takes a value.
+// Returns the option `--option`, which takes a value. The help calls that `value`, and says
+// `details`.
 fn valued<'a>(alloc: Global, option: &'a str, value: &'a str, details: &'a str) -> Arg<'a> {
     Arg::new(alloc, option)
         .long(option)
@@ -34,7 +36,8 @@ fn valued<'a>(alloc: Global, option: &'a str, value: &'a str, details: &'a str) 
         .action(ArgAction::Set)
 }
 
-// The command with one more option, which is given or not.
+// Returns the command `part` with one more option, `--option`, which is given or not. Returns
+// `AllocError` where an allocation fails.
 fn with_flag<'a>(
     alloc: Global,
     part: Command<'a>,
@@ -44,7 +47,8 @@ fn with_flag<'a>(
     part.arg(flag(alloc, option, details))
 }
 
-// The command with one more option, which takes a value.
+// Returns the command `part` with one more option, `--option`, which takes a value. Returns
+// `AllocError` where an allocation fails.
 fn with_value<'a>(
     alloc: Global,
     part: Command<'a>,
@@ -55,14 +59,14 @@ fn with_value<'a>(
     part.arg(valued(alloc, option, value, details))
 }
 
-// The command with the size and the rate of pictures as further options.
+// Returns the command `part` with the size and the rate of pictures as further options.
 fn showing<'a>(alloc: Global, part: Command<'a>) -> Result<Command<'a>, AllocError> {
     let with_scale = with_value(alloc, part, "scale", "N", help::SCALE)?;
     let rate = "Show so many pictures a second, 1 to 60 [default: 30]";
     with_value(alloc, with_scale, "rate", "N", rate)
 }
 
-// The subcommand `list`.
+// Returns the subcommand `list`.
 fn list_command<'a>(alloc: Global) -> Result<Command<'a>, AllocError> {
     let about = "List the instructions of words";
     let list = helped(alloc, "list", about, help::LIST_USAGE, help::LIST);
@@ -70,7 +74,7 @@ fn list_command<'a>(alloc: Global) -> Result<Command<'a>, AllocError> {
     with_value(alloc, list, "at", "HHH", at)
 }
 
-// The subcommand `picture`.
+// Returns the subcommand `picture`.
 fn picture_command<'a>(alloc: Global) -> Result<Command<'a>, AllocError> {
     let about = "Draw what a dump of the vector memory draws";
     let usage = help::PICTURE_USAGE;
@@ -81,7 +85,7 @@ fn picture_command<'a>(alloc: Global) -> Result<Command<'a>, AllocError> {
     with_value(alloc, with_svg, "scale", "N", help::SCALE)
 }
 
-// The subcommand `check`.
+// Returns the subcommand `check`.
 fn check_command<'a>(alloc: Global) -> Result<Command<'a>, AllocError> {
     let about = "Say whether a draft may be drawn";
     let usage = "dvg check [--bound] < DRAFT";
@@ -90,7 +94,7 @@ fn check_command<'a>(alloc: Global) -> Result<Command<'a>, AllocError> {
     with_flag(alloc, check, "bound", bound)
 }
 
-// The subcommand `play`.
+// Returns the subcommand `play`.
 fn play_command<'a>(alloc: Global) -> Result<Command<'a>, AllocError> {
     let play = helped(alloc, "play", "Play a trace", help::PLAY_USAGE, help::PLAY);
     let all = "Print each entry, not the finished pictures alone";
@@ -102,7 +106,7 @@ fn play_command<'a>(alloc: Global) -> Result<Command<'a>, AllocError> {
     showing(alloc, with_svg)
 }
 
-// The subcommand `render`.
+// Returns the subcommand `render`.
 fn render_command<'a>(alloc: Global) -> Result<Command<'a>, AllocError> {
     let about = "Draw the frames of a sketch";
     let render = helped(alloc, "render", about, help::RENDER_USAGE, help::RENDER);
@@ -111,7 +115,7 @@ fn render_command<'a>(alloc: Global) -> Result<Command<'a>, AllocError> {
     showing(alloc, with_check)
 }
 
-// The subcommand `lay`.
+// Returns the subcommand `lay`.
 fn lay_command<'a>(alloc: Global) -> Result<Command<'a>, AllocError> {
     let about = "Lay out the frames of a sketch";
     let lay = helped(alloc, "lay", about, help::LAY_USAGE, help::LAY);
@@ -125,7 +129,7 @@ fn lay_command<'a>(alloc: Global) -> Result<Command<'a>, AllocError> {
     with_flag(alloc, with_rom, "equates", equates)
 }
 
-// The program without its subcommands.
+// Returns the program's command without its subcommands.
 fn program<'a>(alloc: Global) -> Command<'a> {
     let about = "List, check, draw and play display lists of the Digital Vector Generator (DVG)";
     helped(alloc, "dvg", about, help::USAGE, help::PROGRAM)
@@ -133,12 +137,13 @@ fn program<'a>(alloc: Global) -> Command<'a> {
         .subcommand_required(true)
 }
 
-// The program with one more subcommand.
+// Returns the command `program` with `part` as one more subcommand.
 fn with_part<'a>(program: Command<'a>, part: Command<'a>) -> Result<Command<'a>, AllocError> {
     program.subcommand(part)
 }
 
-/// The program's command.
+/// Returns the program's command, with its memory from `alloc`. Returns `AllocError` where an
+/// allocation fails.
 pub(crate) fn command<'a>(alloc: Global) -> Result<Command<'a>, AllocError> {
     let rom_usage = "dvg rom < ROM";
     let rom = helped(alloc, "rom", "Write a ROM as text", rom_usage, help::ROM);

@@ -4,12 +4,12 @@ use crate::task::{Job, LayForm};
 use clap::ArgMatches;
 use clap::error::ErrorKind;
 
-// How many of the options are given.
+// Returns how many of `half`, `table`, `rom` and `equates` are given.
 fn given_count(half: bool, table: bool, rom: bool, equates: bool) -> u8 {
     u8::from(half) + u8::from(table) + u8::from(rom) + u8::from(equates)
 }
 
-// The form in a half of this number.
+// Returns the form for the half that `number` names, `0` or `1`. Returns `None` for any other text.
 fn half_form(number: &str) -> Option<LayForm> {
     if number == "0" {
         Some(LayForm::Half0)
@@ -20,7 +20,9 @@ fn half_form(number: &str) -> Option<LayForm> {
     }
 }
 
-// The form that the options ask for.
+// Returns the form for the first of `table`, `rom` and `equates` that is set, or else for `half`,
+// the value of `--half`, or else for half 0. Returns `None` where `half` decides and is neither `0`
+// nor `1`.
 fn form_by(table: bool, rom: bool, equates: bool, half: Option<&str>) -> Option<LayForm> {
     if table {
         return Some(LayForm::Table);
@@ -37,7 +39,8 @@ fn form_by(table: bool, rom: bool, equates: bool, half: Option<&str>) -> Option<
     }
 }
 
-// The form that the options ask for: bytes in half 0 where none is given.
+// Returns the form that the options in `found` ask for: bytes in half 0 where none is given.
+// Refused are two options (`ArgumentConflict`) and another half than 0 or 1 (`InvalidValue`).
 fn lay_form(found: &ArgMatches) -> Result<LayForm, ErrorKind> {
     let half = found.get_str("half");
     let table = is_set(found, "table");
@@ -52,8 +55,8 @@ fn lay_form(found: &ArgMatches) -> Result<LayForm, ErrorKind> {
     }
 }
 
-/// What the options of `lay` ask for. They are refused where two are given (`ArgumentConflict`), or
-/// a half that is neither 0 nor 1 (`InvalidValue`).
+/// Returns what the options of `lay` in `found` ask for. Refused are two options
+/// (`ArgumentConflict`), and a half that is neither 0 nor 1 (`InvalidValue`).
 pub(crate) fn lay_job(found: &ArgMatches) -> Result<Job, ErrorKind> {
     match lay_form(found) {
         Ok(form) => Ok(Job::Lay { form }),

@@ -4,7 +4,7 @@ use clap::error::ErrorKind;
 use clap::{ArgMatches, Command, Error};
 use std::alloc::Global;
 
-// How a subcommand is called.
+// Returns how the subcommand `name` is called. For any other name it is how the program is called.
 fn usage_of(name: &str) -> &'static str {
     if name == "list" {
         help::LIST_USAGE
@@ -21,7 +21,7 @@ fn usage_of(name: &str) -> &'static str {
     }
 }
 
-// How options are refused, as a text.
+// Returns the text for the `kind` of error by which options are refused.
 fn described(kind: ErrorKind) -> &'static str {
     match kind {
         ErrorKind::ArgumentConflict => "two of the options exclude each other",
@@ -30,7 +30,8 @@ fn described(kind: ErrorKind) -> &'static str {
     }
 }
 
-/// The error that says how the options of a matching are refused.
+/// Returns the error of this `kind`, which says why the options in `matches` are refused. Where an
+/// allocation fails, it is `OutOfMemory` instead.
 pub(crate) fn misuse(alloc: Global, matches: &ArgMatches, kind: ErrorKind) -> Error {
     let usage = match matches.subcommand() {
         Some(entered) => usage_of(entered.0),

@@ -8,7 +8,7 @@ pub(crate) struct Shown {
     pub(crate) rate: u16,
 }
 
-/// Whether the matching sets a flag.
+/// Whether `found` sets the flag `id`.
 pub(crate) fn is_set(found: &ArgMatches, id: &str) -> bool {
     match found.get_str(id) {
         Some(text) => text == "true",
@@ -16,12 +16,12 @@ pub(crate) fn is_set(found: &ArgMatches, id: &str) -> bool {
     }
 }
 
-/// Whether the matching gives an option a value.
+/// Whether `found` gives the option `id` a value.
 pub(crate) fn is_given(found: &ArgMatches, id: &str) -> bool {
     found.get_str(id).is_some()
 }
 
-// The number that a text writes in decimal, where it is one of these.
+// Returns the number that `text` writes in decimal, if it is from `least` to `most`.
 fn number_in(least: u16, most: u16, text: &str) -> Option<u16> {
     let Ok(number) = text.parse::<u16>() else {
         return None;
@@ -32,7 +32,8 @@ fn number_in(least: u16, most: u16, text: &str) -> Option<u16> {
     Some(number)
 }
 
-// The number that an option gives, or else the default.
+// Returns the number that `found` gives for the option `id`, or `default` where it isn't given.
+// Returns `None` where the value isn't a number from `least` to `most`.
 fn number_of(found: &ArgMatches, id: &str, least: u16, most: u16, default: u16) -> Option<u16> {
     match found.get_str(id) {
         Some(text) => number_in(least, most, text),
@@ -40,7 +41,8 @@ fn number_of(found: &ArgMatches, id: &str, least: u16, most: u16, default: u16) 
     }
 }
 
-/// How pictures are shown, where the options give good numbers or none.
+/// Returns the size and the rate that `found` gives, 100 percent and 30 by default. Returns `None`
+/// where the size isn't a number from 10 to 400, or the rate isn't one from 1 to 60.
 pub(crate) fn read_shown(found: &ArgMatches) -> Option<Shown> {
     let Some(percent) = number_of(found, "scale", 10, 400, 100) else {
         return None;
@@ -51,7 +53,7 @@ pub(crate) fn read_shown(found: &ArgMatches) -> Option<Shown> {
     Some(Shown { percent, rate })
 }
 
-/// The address that three hexadecimal digits write.
+/// Returns the address that `text` writes, if it is three hexadecimal digits of either case.
 pub(crate) fn address_in(text: &str) -> Option<u16> {
     let bytes = text.as_bytes();
     if bytes.len() != 3 || bytes[0] == b'+' {

@@ -8,7 +8,7 @@ pub struct Code {
 }
 
 impl Code {
-    /// The instruction, or None where a field is out of its range.
+    /// Returns `instr` as a `Code`, or `None` exactly where a field of it is out of its range.
     pub fn new(instr: Instr) -> Option<Code> {
         if is_in_range(instr) {
             Some(Code { instr })
@@ -17,17 +17,17 @@ impl Code {
         }
     }
 
-    /// An instruction that the caller knows to be in range.
+    /// Returns `instr` as a `Code`, which the caller knows to be in range.
     pub fn within(instr: Instr) -> Code {
         Code { instr }
     }
 
-    /// The instruction, which is in range.
+    /// Returns the instruction, which is in range.
     pub fn instr(&self) -> Instr {
         self.instr
     }
 
-    /// How many words it has: a VCTR and a LABS have two, all others one.
+    /// Returns the number of words: 2 for a VCTR and a LABS, 1 for all others.
     pub fn word_count(&self) -> u16 {
         match self.instr {
             Instr::Vctr { .. } | Instr::Labs { .. } => 2,
@@ -36,7 +36,7 @@ impl Code {
     }
 }
 
-// Whether each field is in range.
+// Returns whether each field of `instr` is in range.
 fn is_in_range(instr: Instr) -> bool {
     match instr {
         Instr::Vctr { scale, dx, dy, z } => scale <= 9 && is_move(1023, dx, dy, z),
@@ -49,7 +49,7 @@ fn is_in_range(instr: Instr) -> bool {
     }
 }
 
-// Whether no move of a vector is larger than `most`, and its intensity has four bits.
+// Returns whether the magnitudes of `dx` and `dy` are at most `most`, and `z` has four bits.
 fn is_move(most: u16, dx: i16, dy: i16, z: u8) -> bool {
     dx.unsigned_abs() <= most && dy.unsigned_abs() <= most && z <= 15
 }

@@ -14,12 +14,12 @@ pub enum CodeFault {
     Cut,
 }
 
-// This many bits of a word, from this one up.
+// Returns `count` bits of `word`, from bit `from` up. Both numbers are below 16.
 fn bits(word: u16, from: u32, count: u32) -> u16 {
     (word >> from) & ((1 << count) - 1)
 }
 
-// The number with this sign bit and this magnitude.
+// Returns `magnitude`, which is below 1,024, or its negative where `sign` isn't 0.
 fn signed(sign: u16, magnitude: u16) -> i16 {
     if sign == 0 {
         magnitude as i16
@@ -28,7 +28,7 @@ fn signed(sign: u16, magnitude: u16) -> i16 {
     }
 }
 
-// What two words spell, where the first has an opcode of 0 to 9.
+// Returns what `first` and `second` spell, where `first` has an opcode of 0 to 9.
 fn read_vctr(first: u16, second: u16) -> Code {
     let dy = signed(bits(first, 10, 1), bits(first, 0, 10));
     let dx = signed(bits(second, 10, 1), bits(second, 0, 10));
@@ -40,7 +40,7 @@ fn read_vctr(first: u16, second: u16) -> Code {
     })
 }
 
-// What two words spell, where the first has the opcode A.
+// Returns what `first` and `second` spell, where `first` has the opcode A.
 fn read_labs(first: u16, second: u16) -> Code {
     Code::within(Instr::Labs {
         x: bits(second, 0, 12),
@@ -49,7 +49,7 @@ fn read_labs(first: u16, second: u16) -> Code {
     })
 }
 
-// What two words spell, where the first has an opcode of 0 to A.
+// Returns what `first` and `second` spell, where `first` has an opcode of 0 to A.
 fn read_two(first: u16, second: u16) -> Code {
     if first < 0xA000 {
         read_vctr(first, second)
@@ -58,7 +58,7 @@ fn read_two(first: u16, second: u16) -> Code {
     }
 }
 
-// What a word with the opcode F spells.
+// Returns what `word` spells, where it has the opcode F.
 fn read_short(word: u16) -> Code {
     let dy = signed(bits(word, 10, 1), bits(word, 8, 2));
     let dx = signed(bits(word, 2, 1), bits(word, 0, 2));
@@ -71,7 +71,7 @@ fn read_short(word: u16) -> Code {
     })
 }
 
-// What a word with an opcode of B to F spells.
+// Returns what `word` spells, where it has an opcode of B to F.
 fn read_one(word: u16) -> Code {
     match bits(word, 12, 4) {
         0xB => Code::within(Instr::Halt),
@@ -82,7 +82,7 @@ fn read_one(word: u16) -> Code {
     }
 }
 
-/// The instruction that the front of the words spells, and its number of words.
+/// Returns the instruction that the front of `words` spells, and its number of words.
 ///
 /// | Opcode | Instruction | First word | Second word |
 /// |---|---|---|---|
@@ -99,6 +99,9 @@ fn read_one(word: u16) -> Code {
 /// A sign bit of 1 means negative: sign and magnitude, where minus zero reads as zero. Bit 11 of
 /// both words of a VCTR and bits 11 to 0 of HALT and RTSL are ignored (this project's own choice),
 /// so there are spellings that aren't canonical, and they are read all the same.
+///
+/// Returns `Empty` exactly where there is no word, and `Cut` exactly where there is one, of opcode
+/// 0 to A, whose second word is missing.
 #[inline(always)]
 pub fn decode(words: &[u16]) -> Result<(Code, usize), CodeFault> {
     match words {

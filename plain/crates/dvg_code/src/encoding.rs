@@ -7,17 +7,19 @@ use arrayvec::ArrayVec;
 /// The words of one instruction.
 pub type Words = ArrayVec<u16, 2>;
 
-// The sign bit that is written for a number.
+// Returns the sign bit that is written for `n`: 1 where it is negative, else 0.
 fn sign_of(n: i16) -> u16 {
     if n < 0 { 1 } else { 0 }
 }
 
-// The word of four bits, a sign bit and a magnitude.
+// Returns the word of the four bits `top`, and of the sign bit and the magnitude of `n`, which is
+// -1023 to 1023.
 fn long_word(top: u8, n: i16) -> u16 {
     4096 * u16::from(top) + 1024 * sign_of(n) + n.unsigned_abs()
 }
 
-// The word of a short vector.
+// Returns the word of a short vector with these fields, which are in range: the scale `scale`, the
+// moves `dx` and `dy`, and the intensity `z`.
 fn short_word(scale: u8, dx: i8, dy: i8, z: u8) -> u16 {
     let weights = u16::from(scale) - 2;
     0xF000
@@ -30,14 +32,14 @@ fn short_word(scale: u8, dx: i8, dy: i8, z: u8) -> u16 {
         + u16::from(dx.unsigned_abs())
 }
 
-// One word.
+// Returns `word` alone.
 fn one_word(word: u16) -> Words {
     let mut words = Words::new();
     words.push(word);
     words
 }
 
-// Two words.
+// Returns `first` and then `second`.
 fn two_words(first: u16, second: u16) -> Words {
     let mut words = Words::new();
     words.push(first);
@@ -45,7 +47,7 @@ fn two_words(first: u16, second: u16) -> Words {
     words
 }
 
-/// The canonical words of an instruction: every ignored bit is 0, and so is the sign of a magnitude
+/// Returns the canonical words of `code`: every ignored bit is 0, and so is the sign of a magnitude
 /// of zero (this project's own choice).
 pub fn encode(code: &Code) -> Words {
     match code.instr() {
@@ -59,7 +61,7 @@ pub fn encode(code: &Code) -> Words {
     }
 }
 
-/// Whether the words are what `encode` writes for some instruction.
+/// Returns whether `words` are what `encode` writes for some instruction.
 pub fn is_canonical(words: &[u16]) -> bool {
     match decode(words) {
         Ok(read) => encode(&read.0).as_slice() == words,

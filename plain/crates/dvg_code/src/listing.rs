@@ -20,7 +20,7 @@ pub struct Listing<'a> {
 }
 
 impl<'a> Listing<'a> {
-    /// The instructions of these words.
+    /// Returns an iterator over the instructions of `words`, from place 0 on.
     pub fn new(words: &'a [u16]) -> Listing<'a> {
         Listing { words, place: 0 }
     }

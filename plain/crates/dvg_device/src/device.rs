@@ -41,7 +41,7 @@ pub struct Device {
 }
 
 impl Device {
-    /// A device in which nothing is open.
+    /// Returns a device in which nothing is open. It will take its memory from `alloc`.
     pub fn new(alloc: Global) -> Device {
         Device {
             alloc,
@@ -54,8 +54,8 @@ impl Device {
         }
     }
 
-    /// One request, as a number of 64 bits, and its answer. `Request` says which requests there
-    /// are, and `Reply` which answers.
+    /// Does `request`, a number of 64 bits, and returns the number of the reply. `Request` says
+    /// which requests there are, and `Reply` which replies.
     pub fn turn(&mut self, request: u64) -> u64 {
         // The most frequent ones go their own way, so that what they bring stays in registers.
         match Request::of(request) {
@@ -65,7 +65,7 @@ impl Device {
         }
     }
 
-    /// One request, and its answer.
+    /// Does `request`, and returns the reply.
     #[inline(always)]
     pub fn answer(&mut self, request: Request) -> Reply {
         match request {
@@ -85,7 +85,7 @@ impl Device {
         }
     }
 
-    // Adds an operation to the draft.
+    // Adds `operation` to the draft.
     fn push(&mut self, operation: Operation) -> Reply {
         let Some(op) = operation.op() else {
             return Reply::NoOperation;
@@ -96,13 +96,13 @@ impl Device {
         }
     }
 
-    // Takes the operations of the draft away.
+    // Removes the operations of the draft.
     fn clear_draft(&mut self) -> Reply {
         self.draft.clear();
         Reply::Came(Entry::Cleared)
     }
 
-    // Stages a byte this many times.
+    // Stages `byte` `count` times.
     fn stage(&mut self, byte: u8, count: u16) -> Reply {
         let length = self.staged.len() + usize::from(count);
         if MOST_STAGED < length {
@@ -114,23 +114,23 @@ impl Device {
         }
     }
 
-    // Takes the staged bytes away, with their memory.
+    // Removes the staged bytes, with their memory.
     fn unstage(&mut self) -> Reply {
         self.staged = Vec::new(self.alloc);
         Reply::Came(Entry::Cleared)
     }
 
-    // The memory of a world that was open before, if there is some.
+    // Takes the memory of a world that was open before, if there is some.
     fn take_spare_world(&mut self) -> Option<Box<Cabinet>> {
         self.spare_world.take()
     }
 
-    // The memory of a driver that was open before, if there is some.
+    // Takes the memory of a driver that was open before, if there is some.
     fn take_spare_desk(&mut self) -> Option<Box<Desk>> {
         self.spare_desk.take()
     }
 
-    // Opens a world.
+    // Opens a world over the staged bytes.
     #[inline(never)]
     fn open_world(&mut self) -> Reply {
         if !is_one_of(self.staged.len(), 4096, 6144) {
@@ -143,7 +143,7 @@ impl Device {
         }
     }
 
-    // Opens a driver.
+    // Opens a driver over the staged bytes.
     #[inline(never)]
     fn open_driver(&mut self) -> Reply {
         if !is_one_of(self.staged.len(), 2048, 4096) {
@@ -161,7 +161,7 @@ impl Device {
         self.open(Part::Generator(Generator::new(self.alloc)))
     }
 
-    // Opens this, in which nothing was drawn yet. The memory of what was open stays, for the next
+    // Opens `part`, in which nothing was drawn yet. The memory of what was open stays, for the next
     // one of its kind.
     fn open(&mut self, part: Part) -> Reply {
         let before = mem::replace(&mut self.part, part);
@@ -170,7 +170,7 @@ impl Device {
         Reply::Opened
     }
 
-    // Keeps the memory of what was open.
+    // Keeps the memory of `before`, which was open.
     fn keep(&mut self, before: Part) {
         match before {
             Part::World(world) => self.spare_world = Some(world),
@@ -186,7 +186,7 @@ impl Device {
         Reply::Closed
     }
 
-    // A stroke of the newest run that came to a HALT.
+    // Returns stroke `i` of the newest run that came to a HALT, if there is one.
     fn stroke(&self, i: u64) -> Option<Stroke> {
         if i < self.picture.len() as u64 {
             Some(self.picture[i as usize])
@@ -195,7 +195,7 @@ impl Device {
         }
     }
 
-    // Where a stroke begins.
+    // Returns where stroke `i` begins, or 0, 0 where there is none.
     fn stroke_from(&self, i: u64) -> Reply {
         match self.stroke(i) {
             Some(stroke) => Reply::Point(stroke.x0, stroke.y0),
@@ -203,7 +203,7 @@ impl Device {
         }
     }
 
-    // Where a stroke ends.
+    // Returns where stroke `i` ends, or 0, 0 where there is none.
     fn stroke_to(&self, i: u64) -> Reply {
         match self.stroke(i) {
             Some(stroke) => Reply::Point(stroke.x1, stroke.y1),
@@ -211,7 +211,7 @@ impl Device {
         }
     }
 
-    // A stroke's intensity.
+    // Returns the intensity of stroke `i`, or 0 where there is none.
     fn stroke_intensity(&self, i: u64) -> Reply {
         match self.stroke(i) {
             Some(stroke) => Reply::Intensity(stroke.z),
@@ -219,7 +219,8 @@ impl Device {
         }
     }
 
-    // What is open does a tick.
+    // Lets what is open do a tick. A driver alone reads `halted`, the HALT flag, and `byte1`, byte
+    // 001 of a RAM.
     #[inline(always)]
     fn tick(&mut self, halted: bool, byte1: u8) -> Reply {
         match &mut self.part {
@@ -230,7 +231,7 @@ impl Device {
         }
     }
 
-    // What is open fetches a byte, or is handed this one, or a hole.
+    // Lets what is open fetch a byte. A generator alone is handed `byte`, where `None` is a hole.
     #[inline(always)]
     fn fetch(&mut self, byte: Option<u8>) -> Reply {
         match &mut self.part {
@@ -241,7 +242,7 @@ impl Device {
         }
     }
 
-    // Asks what is open.
+    // Lets what is open do `request`.
     #[inline(always)]
     fn ask(&mut self, request: Request) -> Reply {
         match &mut self.part {
@@ -256,7 +257,7 @@ impl Device {
     }
 }
 
-// What is answered where nothing is open.
+// Returns the reply to `request` where nothing is open.
 fn unopened(request: Request) -> Reply {
     match request {
         Request::Unknown => Reply::Unknown,
@@ -264,13 +265,14 @@ fn unopened(request: Request) -> Reply {
     }
 }
 
-// Whether a number is one of two.
+// Returns whether `n` is `small` or `large`.
 fn is_one_of(n: usize, small: usize, large: usize) -> bool {
     n == small || n == large
 }
 
-// A world over the ROM of the bytes after the first 2,048, with those as the first image of its
-// RAM, in this memory where there is some. None for want of memory.
+// Returns a world whose RAM first holds the first 2,048 of `staged`, over a ROM of the others. It
+// lies in the memory of `spare` where there is some, otherwise in memory of `alloc`. Returns `None`
+// where an allocation fails, or `staged` has a wrong length.
 fn new_world(alloc: Global, staged: &[u8], spare: Option<Box<Cabinet>>) -> Option<Box<Cabinet>> {
     let (image, rom) = staged.split_at_checked(MEMORY_BYTES)?;
     let Some(mut world) = spare else {
@@ -283,8 +285,9 @@ fn new_world(alloc: Global, staged: &[u8], spare: Option<Box<Cabinet>>) -> Optio
     }
 }
 
-// A driver alone over the ROM of these bytes, in this memory where there is some. None for want of
-// memory.
+// Returns a driver alone over a ROM of the bytes `rom`. It lies in the memory of `spare` where
+// there is some, otherwise in memory of `alloc`. Returns `None` where an allocation fails, or `rom`
+// has a wrong length.
 fn new_desk(alloc: Global, rom: &[u8], spare: Option<Box<Desk>>) -> Option<Box<Desk>> {
     match spare {
         Some(desk) => renewed_desk(alloc, rom, desk),
@@ -292,7 +295,8 @@ fn new_desk(alloc: Global, rom: &[u8], spare: Option<Box<Desk>>) -> Option<Box<D
     }
 }
 
-// The same in the memory of this one.
+// Like `new_desk`, in the memory of `desk`. A ROM of the bytes `rom` takes memory from `alloc` only
+// where it has another size.
 fn renewed_desk(alloc: Global, rom: &[u8], mut desk: Box<Desk>) -> Option<Box<Desk>> {
     match desk.begin_anew(alloc, rom) {
         Ok(()) => Some(desk),
@@ -300,7 +304,7 @@ fn renewed_desk(alloc: Global, rom: &[u8], mut desk: Box<Desk>) -> Option<Box<De
     }
 }
 
-// The same in new memory.
+// Like `new_desk`, in new memory of `alloc`, over a ROM of the bytes `rom`.
 fn boxed_desk(alloc: Global, rom: &[u8]) -> Option<Box<Desk>> {
     let rom = Rom::new(alloc, rom).ok()?;
     let desk = Desk::new(alloc, rom).ok()?;

@@ -27,8 +27,8 @@ pub struct Operation {
 }
 
 impl Operation {
-    /// The operation. None exactly where the kind is over 8, or a field that counts is out of its
-    /// range.
+    /// Returns the operation, or `None` exactly where the kind is over 8, or a field that counts is
+    /// out of its range.
     pub fn op(self) -> Option<Op> {
         match self.kind {
             0 => drawing(self.vctr()),
@@ -44,7 +44,7 @@ impl Operation {
         }
     }
 
-    // The fields as those of a VCTR.
+    // Returns the fields as those of a VCTR.
     fn vctr(self) -> Instr {
         Instr::Vctr {
             scale: self.scale,
@@ -54,7 +54,7 @@ impl Operation {
         }
     }
 
-    // The fields as those of a LABS.
+    // Returns the fields as those of a LABS.
     fn labs(self) -> Instr {
         Instr::Labs {
             x: self.x,
@@ -63,7 +63,7 @@ impl Operation {
         }
     }
 
-    // An SVEC of the fields, where they are in range.
+    // Returns an SVEC of the fields, where they are in range.
     fn svec(self) -> Option<Op> {
         let (Ok(dx), Ok(dy)) = (
             i8::try_from(self.x.cast_signed()),
@@ -80,7 +80,7 @@ impl Operation {
     }
 }
 
-// The operation that draws by an instruction, where a draft may hold it.
+// Returns the operation that executes `instr`, where a draft may hold it.
 fn drawing(instr: Instr) -> Option<Op> {
     Op::new(OpKind::Draw(Code::new(instr)?))
 }

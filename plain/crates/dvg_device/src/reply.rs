@@ -1,4 +1,4 @@
-//! What a device answers.
+//! What a device replies.
 use std::prelude::*;
 
 use dvg_driver::Action;
@@ -6,8 +6,8 @@ use dvg_frame::{FrameFault, Place};
 use dvg_gen::Stroke;
 use dvg_log::Entry;
 
-/// What a device answers. As a number, its lowest byte is the kind, which stands first here, an
-/// address stands in bits 8 to 23, and a value from bit 24 on; but an answer to a question about
+/// What a device replies. As a number, its lowest byte is the kind, which stands first here, an
+/// address stands in bits 8 to 23, and a value from bit 24 on; but the reply to a question about
 /// strokes is what was asked for, and nothing else.
 #[derive(Clone, Copy, Debug, PartialEq, Eq)]
 pub enum Reply {
@@ -48,8 +48,8 @@ pub enum Reply {
     WrongSize,
     /// 24: nothing is open, or not any more.
     Closed,
-    /// 25: a generator wants a byte of the word at this address, the high one (1) or the low one
-    /// (0).
+    /// 25: a generator takes a byte of the word at this address next, the high one (1) or the low
+    /// one (0).
     Wants(u16, bool),
     /// This many strokes.
     Count(u64),
@@ -65,7 +65,7 @@ pub enum Reply {
 }
 
 impl Reply {
-    /// The number of a reply.
+    /// Returns the number of the reply.
     #[inline(always)]
     pub fn number(self) -> u64 {
         match self {
@@ -88,7 +88,7 @@ impl Reply {
     }
 }
 
-// The number of what came of a request.
+// Returns the number of `entry`, what came of a request.
 #[inline(always)]
 fn came(entry: Entry<()>) -> u64 {
     match entry {
@@ -109,13 +109,14 @@ fn came(entry: Entry<()>) -> u64 {
     }
 }
 
-// The number of a kind, an address and a value.
+// Returns the number of `kind`, `address` and `value`.
 #[inline(always)]
 fn packed(kind: u8, address: u16, value: u16) -> u64 {
     u64::from(kind) + 0x100 * u64::from(address) + 0x100_0000 * u64::from(value)
 }
 
-// The number of a fault at the place that it names, if it names one.
+// Returns the number of a refusal with the fault number `fault`, at `place`, if the fault names
+// one.
 fn placed(fault: u8, place: Option<Place>) -> u64 {
     match place {
         None => packed(1, 0, u16::from(fault)),
@@ -124,12 +125,12 @@ fn placed(fault: u8, place: Option<Place>) -> u64 {
     }
 }
 
-// The number of a refusal.
+// Returns the number of a refusal with `fault`.
 fn refusal(fault: FrameFault) -> u64 {
     placed(fault.number(), fault.place())
 }
 
-// The number of an action.
+// Returns the number of `action`.
 #[inline(always)]
 fn acted(action: Action) -> u64 {
     match action {
@@ -142,8 +143,8 @@ fn acted(action: Action) -> u64 {
     }
 }
 
-// The reply to an event, by its entry. The strokes of a run that came to a HALT take the place of
-// those before them.
+// Returns the reply to an event whose entry is `entry`. The strokes of a run that came to a HALT
+// replace those in `picture`.
 #[inline(always)]
 pub(crate) fn answered(entry: Entry, picture: &mut Vec<Stroke>) -> Reply {
     Reply::Came(match entry {

@@ -13,7 +13,7 @@ use dvg_read::MOST_TEXT_BYTES;
 use std::alloc::{AllocError, Allocator};
 use std::io::{Read, Write};
 
-// What the check says of a frame.
+// Returns what `checker` says of `frame` over `rom`.
 fn judge<A: Allocator>(checker: &mut Checker, rom: &Rom<A>, frame: &NamedFrame) -> BoundedVerdict {
     let mut draft = Draft::new();
     draft.try_extend_from_slice(frame.ops).unwrap();
@@ -29,7 +29,8 @@ fn judge<A: Allocator>(checker: &mut Checker, rom: &Rom<A>, frame: &NamedFrame) 
     }
 }
 
-// Appends the line of what is said of a frame.
+// Appends the line of `frame` to `text`: its name, if it has one, and `verdict`. Returns
+// `AllocError` where an allocation fails.
 fn put_line<A: Allocator>(
     text: &mut Vec<u8, A>,
     frame: &NamedFrame,
@@ -44,7 +45,8 @@ fn put_line<A: Allocator>(
     text.extend_from_slice(line.as_bytes())
 }
 
-// What the check says of frames over a ROM.
+// Returns what the check says of `frames` over `rom`. Returns `OutOfMemory` where an allocation
+// fails.
 fn check_frames<A: Allocator + Copy>(
     alloc: A,
     rom: &Rom<A>,
@@ -61,7 +63,7 @@ fn check_frames<A: Allocator + Copy>(
     Ok(Said { verdicts, text })
 }
 
-// Checks the frames of a sketch that was read.
+// Checks the frames of `sketch`, which was read. Returns `Memory` where an allocation fails.
 fn check_read<A: Allocator + Copy>(alloc: A, sketch: &Sketch<'_, A>) -> Result<Said<A>, ToolFault> {
     let Ok(rom) = Rom::new(alloc, sketch.rom.as_slice()) else {
         return Err(ToolFault::Memory);
@@ -75,7 +77,7 @@ fn check_read<A: Allocator + Copy>(alloc: A, sketch: &Sketch<'_, A>) -> Result<S
     }
 }
 
-// The engine: it finds what the check says of the frames of a sketch.
+// The engine that finds what the check says of the frames of a sketch.
 struct CheckEngine;
 
 impl<A: Allocator + Copy> Engine<A> for CheckEngine {
@@ -98,15 +100,16 @@ impl<A: Allocator + Copy> Engine<A> for CheckEngine {
     }
 }
 
-/// Reads a sketch as text, as `draw_sketch` does, and writes a line for each of its frames: its
-/// name and a colon, if it has a name, and what the check says of it over the ROM, as `check
-/// --bound` writes that (the format is this project's own choice). It answers what was said.
+/// Reads a sketch as text from `reader`, as `draw_sketch` does, and writes a line to `writer` for
+/// each of its frames: its name and a colon, if it has a name, and what the check says of it over
+/// the ROM, as `check --bound` writes that (the format is this project's own choice). Returns what
+/// was said.
 ///
 /// - A fault of the text: that of the first line at fault. `TooLong`, the text has more than
 ///   1,048,576 bytes, of which no more than 1,048,577 are taken, comes before all others, and
 ///   `UnknownName` after them.
 /// - `Reader`, `Writer`: that stream failed. After `Writer` a beginning of the text went out.
-/// - `Memory`: a growth was refused.
+/// - `Memory`: an allocation failed.
 ///
 /// Where it stops before it writes, which is at any fault but `Writer`, the writer is as it was.
 #[inline(never)]

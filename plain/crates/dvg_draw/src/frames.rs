@@ -10,8 +10,8 @@ use dvg_mem::Rom;
 use dvg_named::{NamedFrame, RomName};
 use std::alloc::Allocator;
 
-// The strokes of a frame's picture, where the check accepts the frame over the ROM of these bytes,
-// and its picture has at most 65,536 words.
+// Returns the strokes of the picture of `frame`, where `checker` accepts it over the ROM of `bytes`
+// and its picture has at most 65,536 words. `names` are the names of the ROM.
 fn draw_frame<A: Allocator + Copy>(
     alloc: A,
     checker: &mut Checker,
@@ -35,11 +35,12 @@ fn draw_frame<A: Allocator + Copy>(
     }
 }
 
-/// The pictures of frames over the ROM of these bytes, in order.
+/// Returns the pictures of `frames` over the ROM of `bytes`, in order. `names` are the names of the
+/// ROM.
 ///
 /// - `Refused`: the check refuses a frame, or its picture has more than 65,536 words (this
 ///   project's own choice). The first such frame is described.
-/// - `Memory`: a growth was refused.
+/// - `Memory`: an allocation failed.
 pub fn draw_frames<A: Allocator + Copy>(
     alloc: A,
     bytes: &[u8],

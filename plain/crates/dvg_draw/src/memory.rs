@@ -7,7 +7,8 @@ use dvg_lay::put_laid;
 use dvg_mem::{Flat, Half, Image, MEMORY_BYTES, Store};
 use std::alloc::Allocator;
 
-/// A RAM of zeros with the frame in this half, and the jump to it in word zero.
+/// Returns a RAM of zeros with `frame` in `half`, and the jump to it in word zero. Returns
+/// `OutOfMemory` where an allocation fails.
 pub(crate) fn laid_ram<A: Allocator + Copy>(
     alloc: A,
     frame: Frame,

@@ -39,7 +39,7 @@ pub struct Driver {
 }
 
 impl Driver {
-    /// A driver that was just reset.
+    /// Returns a driver that was just reset.
     pub fn new() -> Driver {
         Driver {
             phase: Phase::Start,
@@ -49,14 +49,14 @@ impl Driver {
         }
     }
 
-    /// Forgets everything, also a frame that is being written.
+    /// Resets the driver: it forgets everything, even a frame that is being written.
     pub fn reset(&mut self) {
         // The half and the cursor no longer count: the peek and the next frame set them.
         self.phase = Phase::Start;
         self.flipped = false;
     }
 
-    /// Whether it is idle, and so would take a frame.
+    /// Returns whether the driver is idle, and so would take a frame.
     pub fn is_idle(&self) -> bool {
         match self.phase {
             Phase::Resting => true,
@@ -64,9 +64,8 @@ impl Driver {
         }
     }
 
-    /// Takes a frame, which the next ticks write into the free half and publish. It is refused
-    /// exactly where the driver isn't idle; the frame is dropped then, and nothing else has
-    /// changed.
+    /// Takes `frame`, which the next ticks write into the free half and publish. Returns `Busy`
+    /// exactly where the driver isn't idle; `frame` is dropped then, and nothing else has changed.
     pub fn offer(&mut self, frame: Frame) -> Result<(), DriverFault> {
         match self.phase {
             Phase::Resting => {
@@ -78,8 +77,9 @@ impl Driver {
         }
     }
 
-    /// Takes a checked draft, as `offer` takes its frame. The draft is copied only where it is
-    /// taken, into the memory that the driver has.
+    /// Takes `checked`, as `offer` takes its frame. The draft is copied only where it is taken,
+    /// into the memory that the driver has. Returns `Busy` exactly where the driver isn't idle, and
+    /// then nothing has changed.
     pub fn offer_checked(&mut self, checked: &Checked) -> Result<(), DriverFault> {
         match self.phase {
             Phase::Resting => {
@@ -91,9 +91,9 @@ impl Driver {
         }
     }
 
-    /// Asks for the published frame once more. It is refused as `NothingPublished` exactly where
-    /// the driver hasn't flipped since its reset, and else as `Busy` exactly where it isn't idle.
-    /// Nothing has changed then.
+    /// Asks for the published frame once more. Returns `NothingPublished` exactly where the driver
+    /// hasn't flipped since its reset, otherwise `Busy` exactly where it isn't idle. After an error
+    /// nothing has changed.
     pub fn redraw(&mut self) -> Result<(), DriverFault> {
         if !self.flipped {
             return Err(DriverFault::NothingPublished);
@@ -107,15 +107,15 @@ impl Driver {
         }
     }
 
-    /// Does the next action of the script. `halted` is the HALT flag, and `byte1` is byte 001 of
-    /// the RAM; what isn't read has no effect. The caller does the write of a `Wrote`, and sends
-    /// the strobe of a `Sent`.
+    /// Does the next action of the script, and returns it. `halted` is the HALT flag, and `byte1`
+    /// is byte 001 of the RAM; what isn't read has no effect. The caller does the write of a
+    /// `Wrote`, and sends the strobe of a `Sent`.
     #[inline(always)]
     pub fn tick(&mut self, halted: bool, byte1: u8) -> Action {
         self.act(halted, byte1)
     }
 
-    // Does the next action.
+    // Does the next action, and returns it. `halted` and `byte1` are those of `tick`.
     #[inline(always)]
     fn act(&mut self, halted: bool, byte1: u8) -> Action {
         match self.phase {
@@ -162,7 +162,7 @@ impl Driver {
     }
 }
 
-// Begins a cursor over the bytes of a checked draft's frame.
+// Makes `cursor` begin with the bytes of the frame of `checked`, laid out for `half`.
 fn begin(cursor: &mut Option<Cursor>, checked: &Checked, half: Half) {
     match cursor {
         Some(cursor) => cursor.restart(checked, half),
@@ -170,7 +170,7 @@ fn begin(cursor: &mut Option<Cursor>, checked: &Checked, half: Half) {
     }
 }
 
-// The next byte, if one is still to come, with its address.
+// Returns the next byte of `cursor`, with its address before it, if one is still to come.
 #[inline(always)]
 fn next_of(cursor: &mut Option<Cursor>) -> Option<(u16, u8)> {
     match cursor {

@@ -15,7 +15,7 @@ pub enum DumpFault {
     /// There are neither 4,096 bytes nor 6,144.
     #[error("there are neither 4,096 bytes nor 6,144")]
     Size,
-    /// A growth was refused for want of memory.
+    /// An allocation failed.
     #[error("out of memory")]
     OutOfMemory,
 }
@@ -30,14 +30,15 @@ pub struct Dump<A: Allocator = Global> {
 }
 
 impl<A: Allocator + Copy> Dump<A> {
-    /// The dump of a RAM and a ROM. What a run takes later is of this allocator.
+    /// Returns the dump of `ram` and `rom`. A run takes its memory from `alloc` later.
     pub fn of(alloc: A, ram: Flat<A>, rom: Rom<A>) -> Dump<A> {
         Dump { alloc, ram, rom }
     }
 
-    /// The dump of these bytes: the RAM's from address 000 on, and then the ROM's. It is refused as
-    /// `Size` exactly where they are neither 4,096 nor 6,144. What a run takes later is of this
-    /// allocator, too.
+    /// Returns the dump of `bytes`: the RAM's from address 000 on, and then the ROM's. They are
+    /// copied into memory of `alloc`; a run takes its memory from it later, too. Returns `Size`
+    /// exactly where the length of `bytes` is neither 4,096 nor 6,144, and `OutOfMemory` where an
+    /// allocation fails.
     pub fn new(alloc: A, bytes: &[u8]) -> Result<Dump<A>, DumpFault> {
         if bytes.len() != SMALL_DUMP_BYTES && bytes.len() != LARGE_DUMP_BYTES {
             return Err(DumpFault::Size);

@@ -1,4 +1,4 @@
-//! What follows a generator from word to word and tells its instructions.
+//! What follows a generator from word to word and records its instructions.
 use std::prelude::*;
 
 use crate::ran::Ran;
@@ -10,7 +10,7 @@ use std::alloc::Allocator;
 /// asked for.
 pub(crate) struct Tracer<A: Allocator> {
     traces: bool,
-    /// The first word of an instruction that wants a second one.
+    /// The first word of an instruction that needs a second one.
     held: Option<u16>,
     /// The address where the newest instruction began.
     address: u16,
@@ -25,7 +25,7 @@ struct Spelled {
     canonical: bool,
 }
 
-// What words spell; None where they are one that wants a second one.
+// Returns what `words` spell, or `None` where they are one that needs a second one.
 #[inline(always)]
 fn read(words: &[u16]) -> Option<Spelled> {
     match decode(words) {
@@ -37,7 +37,8 @@ fn read(words: &[u16]) -> Option<Spelled> {
     }
 }
 
-// What a word completes, after the first word that is held; None where it wants a second one.
+// Returns what `word` completes, after `held`, the first word, if there is one. Returns `None`
+// where `word` needs a second one.
 #[inline(always)]
 fn completed(held: Option<u16>, word: u16) -> Option<Spelled> {
     match held {
@@ -47,7 +48,8 @@ fn completed(held: Option<u16>, word: u16) -> Option<Spelled> {
 }
 
 impl<A: Allocator> Tracer<A> {
-    /// A tracer of a run that begins.
+    /// Returns a tracer of a run that begins. Where `traces` is true, it keeps the instructions, in
+    /// memory of `alloc`.
     pub(crate) fn new(alloc: A, traces: bool) -> Tracer<A> {
         Tracer {
             traces,
@@ -58,12 +60,13 @@ impl<A: Allocator> Tracer<A> {
         }
     }
 
-    /// What was recorded.
+    /// Returns what was recorded.
     pub(crate) fn into_ran(self) -> Vec<Ran, A> {
         self.ran
     }
 
-    /// The run fetched a word at an address, or met a hole there.
+    /// Notes that the run fetched `word` at `address`, or met a hole there. Returns `OutOfMemory`
+    /// where an allocation fails.
     pub(crate) fn take(&mut self, address: u16, word: Option<u16>) -> Result<(), OutOfMemory> {
         let Some(word) = word else {
             return Ok(());
@@ -74,7 +77,7 @@ impl<A: Allocator> Tracer<A> {
         self.take_word(address, word)
     }
 
-    // The run fetched a word at an address.
+    // Notes that the run fetched `word` at `address`.
     #[inline(always)]
     fn take_word(&mut self, address: u16, word: u16) -> Result<(), OutOfMemory> {
         self.address = self.began(address);
@@ -87,7 +90,7 @@ impl<A: Allocator> Tracer<A> {
         }
     }
 
-    // Where the instruction began to which a word at an address belongs.
+    // Returns where the instruction began to which the word at `address` belongs.
     fn began(&self, address: u16) -> u16 {
         match self.held {
             Some(_) => self.address,
@@ -95,7 +98,7 @@ impl<A: Allocator> Tracer<A> {
         }
     }
 
-    // The instruction that was read was run.
+    // Records the instruction `read`, which was run.
     #[inline(always)]
     fn tell(&mut self, read: Spelled) -> Result<(), OutOfMemory> {
         let stroke = self.beam.step(&read.code);

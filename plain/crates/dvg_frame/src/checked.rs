@@ -11,7 +11,8 @@ pub struct Checked<'a> {
 }
 
 impl<'a> Checked<'a> {
-    // A draft without the faults 1 to 4, with its number of words and its bound.
+    // Returns `draft` as a checked one. It has none of the faults 1 to 4, `words` words and the
+    // bound `bound`.
     pub(crate) fn of(draft: &'a Draft, words: u16, bound: u64) -> Checked<'a> {
         Checked {
             draft,
@@ -20,17 +21,17 @@ impl<'a> Checked<'a> {
         }
     }
 
-    /// How many words its frame has in a half, at most 511.
+    /// Returns the number of words that its frame has in a half, at most 511.
     pub fn len_words(&self) -> u16 {
         self.words
     }
 
-    /// How many words the whole run of its frame fetches, as `Frame::bound` says.
+    /// Returns the number of words that the whole run of its frame fetches, as `Frame::bound` does.
     pub fn bound(&self) -> u64 {
         self.bound
     }
 
-    /// A frame of the draft, which is copied.
+    /// Returns a frame of the draft, which is copied.
     pub fn to_frame(&self) -> Frame {
         Frame::of(self)
     }

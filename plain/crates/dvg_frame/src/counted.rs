@@ -11,12 +11,12 @@ pub(crate) const COUNTS: usize = MAX_OPS + 1;
 #[derive(Clone, Debug)]
 pub(crate) struct Counted<'a> {
     draft: &'a Draft,
-    /// How many words the operations before each one have, and then how many all have.
+    /// For each operation the number of words before it, and then the number of all words.
     words_before: &'a [u16],
 }
 
 impl<'a> Counted<'a> {
-    // A draft with its table.
+    // Returns `draft` with its table `words_before`.
     pub(crate) fn of(draft: &'a Draft, words_before: &'a [u16]) -> Counted<'a> {
         Counted {
             draft,
@@ -24,24 +24,25 @@ impl<'a> Counted<'a> {
         }
     }
 
-    // How many operations there are.
+    // Returns the number of operations.
     pub(crate) fn len(&self) -> usize {
         self.draft.len()
     }
 
-    // The operation of this number.
+    // Returns operation `i`, which must be there.
     pub(crate) fn op(&self, i: usize) -> Op {
         self.draft.op(i)
     }
 
-    // How many words the operations before this number have.
+    // Returns the number of words that the operations before number `i` have.
     pub(crate) fn words_before(&self, i: usize) -> u16 {
         let _ = self.draft.len();
         self.words_before[i]
     }
 }
 
-// How many words stand before each operation, and how many there are in all.
+// Returns for each operation of `draft` the number of words before it, and then the number of all
+// words.
 pub(crate) fn words_before_each(draft: &Draft) -> ArrayVec<u16, COUNTS> {
     let mut words_before = ArrayVec::new();
     let mut words = 0;

@@ -6,7 +6,7 @@ use thiserror::Error;
 /// The most operations that a draft holds. One word each is as much as a half of the RAM has.
 pub(crate) const MAX_OPS: usize = 511;
 
-/// The draft has its 511 operations already.
+/// There is no room: a draft has at most 511 operations.
 #[derive(Clone, Copy, Debug, PartialEq, Eq, Error)]
 #[error("the draft has its 511 operations already")]
 pub struct DraftFull;
@@ -18,25 +18,25 @@ pub struct Draft {
 }
 
 impl Draft {
-    /// A draft with no operation.
+    /// Returns a draft with no operation.
     pub fn new() -> Draft {
         Draft {
             ops: ArrayVec::new(),
         }
     }
 
-    /// How many operations there are.
+    /// Returns the number of operations, at most 511.
     pub fn len(&self) -> usize {
         self.ops.len()
     }
 
-    /// Whether there is no operation.
+    /// Returns whether there is no operation.
     pub fn is_empty(&self) -> bool {
         self.ops.is_empty()
     }
 
-    /// Adds an operation at the end, and answers its number. It is refused exactly where there are
-    /// 511 operations, and nothing has changed then.
+    /// Adds `op` at the end, and returns its number. Returns `DraftFull` exactly where there are
+    /// 511 operations, and then nothing has changed.
     pub fn push(&mut self, op: Op) -> Result<u16, DraftFull> {
         if self.ops.is_full() {
             return Err(DraftFull);
@@ -46,8 +46,8 @@ impl Draft {
         Ok(number)
     }
 
-    /// Adds operations at the end. They are refused exactly where there would be more than 511
-    /// then, and nothing has changed.
+    /// Adds `ops` at the end. Returns `DraftFull` exactly where there would be more than 511
+    /// operations, and then nothing has changed.
     pub fn try_extend_from_slice(&mut self, ops: &[Op]) -> Result<(), DraftFull> {
         if self.ops.remaining_capacity() < ops.len() {
             return Err(DraftFull);
@@ -57,36 +57,36 @@ impl Draft {
         Ok(())
     }
 
-    /// Takes all operations away.
+    /// Removes all operations.
     pub fn clear(&mut self) {
         self.ops.clear();
     }
 
-    /// The operation of this number.
+    /// Returns operation `i`, which must be below the number of operations.
     pub fn op(&self, i: usize) -> Op {
         self.ops[i]
     }
 
-    /// All operations, in order.
+    /// Returns all operations, in order.
     pub fn ops(&self) -> &[Op] {
         self.ops.as_slice()
     }
 
-    // Takes the operations of another draft in place of its own, in the memory that it has.
+    // Replaces the operations with those of `other`, in the memory that the draft has.
     pub(crate) fn copy_from(&mut self, other: &Draft) {
         self.clear();
         self.try_extend_from_slice(other.ops()).unwrap();
     }
 }
 
-// A draft may hold each of them, as their type says. Nothing is done.
+// For the proof alone: each of `ops` satisfies `IsOp`, as its type says. Nothing is done.
 fn are_ops(ops: &[Op]) {
     for op in ops {
         let _ = op.kind();
     }
 }
 
-// How many words an operation has.
+// Returns the number of words of the operation `kind`: 1 or 2.
 pub(crate) fn words_of(kind: OpKind) -> u16 {
     match kind {
         OpKind::Draw(code) => code.word_count(),

@@ -20,7 +20,7 @@ pub struct Frame {
 }
 
 impl Frame {
-    // The frame of a checked draft, which is copied.
+    // Returns the frame of `checked`, whose draft is copied.
     pub(crate) fn of(checked: &Checked) -> Frame {
         let mut draft = Draft::new();
         draft.copy_from(checked.draft);
@@ -31,42 +31,43 @@ impl Frame {
         }
     }
 
-    // Becomes the frame of a checked draft, in the memory that it has.
+    // Becomes the frame of `checked`, in the memory that it has.
     pub(crate) fn copy_from(&mut self, checked: &Checked) {
         self.draft.copy_from(checked.draft);
         self.words = checked.words;
         self.bound = checked.bound;
     }
 
-    /// How many words the frame has in a half, at most 511.
+    /// Returns the number of words that the frame has in a half, at most 511.
     pub fn len_words(&self) -> u16 {
         let _ = self.draft.len();
         self.words
     }
 
-    /// How many words the whole run of the frame fetches, from word zero to its HALT. This holds
-    /// for any run of it that nobody interrupts, over the ROM that it was checked with. It is below
-    /// 2^63.
+    /// Returns the number of words that the whole run of the frame fetches, from word zero to its
+    /// HALT. It is below 2^63. This holds for any run of the frame that nobody interrupts, over the
+    /// ROM that it was checked with.
     pub fn bound(&self) -> u64 {
         self.bound
     }
 
-    /// Byte `k` of the frame's words in this half, the low byte of each word first. Byte 0 stands
-    /// at twice the word address of the half's first word. The time is linear in the operations; a
-    /// `Cursor` gives all bytes, each in constant time.
+    /// Returns byte `k` of the frame's words in `half`, the low byte of each word first. Byte 0
+    /// stands at twice the word address of the half's first word. `k` must be below twice the
+    /// number of words. The time is linear in the operations; a `Cursor` gives all bytes, each in
+    /// constant time.
     pub fn byte(&self, half: Half, k: u16) -> u8 {
         let words_before = words_before_each(&self.draft);
         let counted = Counted::of(&self.draft, words_before.as_slice());
         byte_of(word_at(&counted, half, k / 2), k)
     }
 
-    // How many words stand before each of its operations, and how many there are in all.
+    // Returns for each operation the number of words before it, and then the number of all words.
     pub(crate) fn words_before_each(&self) -> ArrayVec<u16, COUNTS> {
         words_before_each(&self.draft)
     }
 
-    // The words of the operation of this number, laid out for a half, by how many words stand
-    // before each.
+    // Returns the words of operation `i`, laid out for `half`. `words_before` has the number of
+    // words before each operation.
     pub(crate) fn spelling(&self, words_before: &[u16], half: Half, i: u16) -> Words {
         spelling(
             &Counted::of(&self.draft, words_before),
@@ -76,13 +77,13 @@ impl Frame {
     }
 }
 
-// The byte of this word that is byte `k` of a list of words: the low one where `k` is even, else
-// the high one.
+// Returns the byte of `word` that is byte `k` of a list of words: the low one where `k` is even,
+// otherwise the high one.
 pub(crate) fn byte_of(word: u16, k: u16) -> u8 {
     word.to_le_bytes()[usize::from(k % 2)]
 }
 
-// Word n of the draft's layout for a half.
+// Returns word `n` of the layout of `draft` for `half`.
 fn word_at(draft: &Counted, half: Half, n: u16) -> u16 {
     let mut before = 0;
     for i in 0..draft.len() {
@@ -95,12 +96,12 @@ fn word_at(draft: &Counted, half: Half, n: u16) -> u16 {
     unreachable!()
 }
 
-// The words of operation i, laid out for a half.
+// Returns the words of operation `i` of `draft`, laid out for `half`.
 fn spelling(draft: &Counted, half: Half, i: usize) -> Words {
     encode(&code_of(draft, half, draft.op(i).kind()))
 }
 
-// The instruction of an operation.
+// Returns the instruction of the operation `kind` of `draft`, laid out for `half`.
 fn code_of(draft: &Counted, half: Half, kind: OpKind) -> Code {
     match kind {
         OpKind::Draw(code) => code,
@@ -113,7 +114,7 @@ fn code_of(draft: &Counted, half: Half, kind: OpKind) -> Code {
     }
 }
 
-// The word address of an operation.
+// Returns the word address of operation `j` of `draft`, laid out for `half`.
 fn address(draft: &Counted, half: Half, j: u16) -> u16 {
     half.base() + draft.words_before(usize::from(j))
 }

@@ -34,8 +34,8 @@ impl Default for Op {
 }
 
 impl Op {
-    /// The operation. None exactly for a `Draw` of an instruction other than VCTR, SVEC or LABS,
-    /// and for a `CallRom` or `JumpRom` whose address is over FFF.
+    /// Returns `kind` as an operation. Returns `None` exactly for a `Draw` of an instruction other
+    /// than VCTR, SVEC or LABS, and for a `CallRom` or `JumpRom` whose address is over FFF.
     pub fn new(kind: OpKind) -> Option<Op> {
         if is_op(&kind) {
             Some(Op { kind })
@@ -44,13 +44,13 @@ impl Op {
         }
     }
 
-    /// What it does.
+    /// Returns what the operation does.
     pub fn kind(&self) -> OpKind {
         self.kind
     }
 }
 
-// Whether a draft may hold it.
+// Returns whether a draft may hold `kind`.
 fn is_op(kind: &OpKind) -> bool {
     match *kind {
         OpKind::Draw(code) => matches!(

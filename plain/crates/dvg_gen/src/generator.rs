@@ -33,7 +33,7 @@ pub struct Generator<A: Allocator> {
 }
 
 impl<A: Allocator + Copy> Generator<A> {
-    /// A generator that was told nothing yet. Its strokes will be in memory of this allocator.
+    /// Returns a new generator, which is halted. Its strokes will be in memory of `alloc`.
     pub fn new(alloc: A) -> Generator<A> {
         Generator {
             alloc,
@@ -58,41 +58,42 @@ impl<A: Allocator + Copy> Generator<A> {
         self.is_open = true;
     }
 
-    /// Halts. A run that was open is abandoned with its strokes and its low byte; the beam stays.
+    /// Halts the generator. A run that was open is abandoned with its strokes and its low byte; the
+    /// beam stays.
     pub fn reset(&mut self) {
         self.strokes.clear();
         self.has_low = false; // The high byte never comes.
         self.is_open = false;
     }
 
-    /// Whether no run is open.
+    /// Returns whether no run is open.
     pub fn halted(&self) -> bool {
         !self.is_open
     }
 
-    /// The address of the next word, or None where the generator is halted.
+    /// Returns the address of the next word, below 4,096, or `None` where the generator is halted.
     pub fn wants(&self) -> Option<u16> {
         (!self.halted()).then_some(self.at)
     }
 
-    /// Whether the next byte is the high one of its word: the last fetch of the open run was of the
-    /// low byte.
+    /// Returns whether the next byte is the high one of its word: the last fetch of the open run
+    /// was of the low byte.
     pub fn wants_high(&self) -> bool {
         self.low_byte().is_some()
     }
 
-    /// The low byte of the next word, where it was fetched and the high byte comes next.
+    /// Returns the low byte of the next word, if it was fetched and the high byte comes next.
     #[inline(always)]
     pub fn low_byte(&self) -> Option<u8> {
         self.has_low.then_some(self.low)
     }
 
-    /// Takes the low byte of the word at the address that `wants` gives, or its high byte where
-    /// `wants_high`; None where no memory answers there. After `Done` or `Broke` the generator is
-    /// halted.
+    /// Takes `byte`, and returns what it led to. `byte` is the low byte of the word at the address
+    /// that `wants` returns, or its high byte where `wants_high` is true. `None` means that no
+    /// memory answers there. A run must be open. After `Done` or `Broke` the generator is halted.
     ///
-    /// The only error is lack of memory, and then nothing has changed. It comes only where a high
-    /// byte completes a vector with an intensity of at least 1.
+    /// Returns `OutOfMemory` where an allocation fails, and then nothing has changed. That comes
+    /// only where a high byte completes a vector with an intensity of at least 1.
     #[inline(always)]
     pub fn take_byte(&mut self, byte: Option<u8>) -> Result<Taken<A>, OutOfMemory> {
         let mut drawn = self.no_strokes();
@@ -102,8 +103,8 @@ impl<A: Allocator + Copy> Generator<A> {
         }
     }
 
-    /// The same, where the strokes of a finished run take the place of those in this list, which
-    /// else stays as it is.
+    /// Like `take_byte`, but the strokes of a finished run replace those in `drawn`. Otherwise
+    /// `drawn` stays as it is.
     #[inline(always)]
     pub fn take_into(
         &mut self,
@@ -121,14 +122,15 @@ impl<A: Allocator + Copy> Generator<A> {
         self.take(u16::from_le_bytes([low, byte]), drawn)
     }
 
-    /// An empty list of strokes, whose memory would be that of the generator's own.
+    /// Returns an empty list of strokes, with the allocator of the generator's own.
     #[inline(always)]
     pub fn no_strokes(&self) -> Vec<Stroke, A> {
         Vec::new(self.alloc)
     }
 
-    /// Takes a list back that was handed out, so that the next strokes lie in its memory. What is in
-    /// it is forgotten. Where the newest run has drawn already, the list is dropped.
+    /// Takes back `strokes`, a list that was handed out, so that the next strokes lie in its
+    /// memory. What is in it is forgotten. Where the newest run has drawn already, the list is
+    /// dropped.
     pub fn reuse(&mut self, strokes: Vec<Stroke, A>) {
         if self.strokes.is_empty() {
             self.strokes = strokes;
@@ -136,7 +138,8 @@ impl<A: Allocator + Copy> Generator<A> {
         }
     }
 
-    // Takes a whole word.
+    // Takes the whole word `word`, as `take_into` takes a high byte. The strokes of a finished run
+    // replace those in `drawn`.
     #[inline(always)]
     fn take(&mut self, word: u16, drawn: &mut Vec<Stroke, A>) -> Result<Step, OutOfMemory> {
         // The opcode says which instruction it is. To look at the decoded ones once more would take
@@ -163,7 +166,7 @@ impl<A: Allocator + Copy> Generator<A> {
         }
     }
 
-    // Places the beam by a LABS.
+    // Places the beam by `code`, which is a LABS.
     #[inline(always)]
     fn place(&mut self, code: Code) -> Step {
         let Instr::Labs { x, y, scale } = code.instr() else {
@@ -173,7 +176,8 @@ impl<A: Allocator + Copy> Generator<A> {
         self.jump(after(self.at))
     }
 
-    // Draws a vector.
+    // Draws the vector `code`. Returns `OutOfMemory` where an allocation fails, and then nothing
+    // has changed.
     #[inline(always)]
     fn draw(&mut self, code: Code) -> Result<Step, OutOfMemory> {
         // Field by field: a copy of the whole would move its unused bytes too.
@@ -186,7 +190,8 @@ impl<A: Allocator + Copy> Generator<A> {
         Ok(self.jump(after(self.at)))
     }
 
-    // Saves the address of the next word, and goes to another.
+    // Saves the address of the next word, and goes to `address`. Where four addresses are saved,
+    // the run breaks.
     fn call(&mut self, address: u16) -> Step {
         if self.stack.is_full() {
             return self.break_off(GenFault::StackOver);
@@ -195,7 +200,7 @@ impl<A: Allocator + Copy> Generator<A> {
         self.jump(address)
     }
 
-    // Goes to the address that was saved last.
+    // Goes to the address that was saved last. Where none is saved, the run breaks.
     fn come_back(&mut self) -> Step {
         match self.stack.pop() {
             Some(address) => self.jump(address),
@@ -203,7 +208,7 @@ impl<A: Allocator + Copy> Generator<A> {
         }
     }
 
-    // Goes to an address, where the next instruction begins.
+    // Goes to `address`, where the next instruction begins.
     fn jump(&mut self, address: u16) -> Step {
         self.at = address;
         self.held = None;
@@ -211,7 +216,7 @@ impl<A: Allocator + Copy> Generator<A> {
         Step::Word
     }
 
-    // Ends the run, and hands its strokes out.
+    // Ends the run. Its strokes replace those in `drawn`.
     fn finish(&mut self, drawn: &mut Vec<Stroke, A>) -> Step {
         self.has_low = false;
         self.is_open = false;
@@ -220,7 +225,7 @@ impl<A: Allocator + Copy> Generator<A> {
         Step::Done
     }
 
-    // Breaks the run.
+    // Breaks the run with `fault`.
     fn break_off(&mut self, fault: GenFault) -> Step {
         self.has_low = false;
         self.is_open = false;
@@ -228,7 +233,7 @@ impl<A: Allocator + Copy> Generator<A> {
     }
 }
 
-// The whole answer, where these are the strokes of a finished run.
+// Returns `step` as a `Taken`, where `drawn` are the strokes of a finished run.
 #[inline(always)]
 fn taken<A: Allocator>(step: Step, drawn: Vec<Stroke, A>) -> Taken<A> {
     match step {
@@ -239,12 +244,12 @@ fn taken<A: Allocator>(step: Step, drawn: Vec<Stroke, A>) -> Taken<A> {
     }
 }
 
-// The address one word on, where 000 comes after FFF.
+// Returns the address one word after `address`, where 000 comes after FFF.
 fn after(address: u16) -> u16 {
     (address + 1) % 4096
 }
 
-// The instruction of one word.
+// Returns the instruction of `word`, which has an opcode of B to F.
 #[inline(always)]
 fn of_one(word: u16) -> Code {
     match decode(&[word]) {
@@ -253,7 +258,7 @@ fn of_one(word: u16) -> Code {
     }
 }
 
-// The instruction of two words.
+// Returns the instruction of `first`, which has an opcode of 0 to A, and `word`.
 #[inline(always)]
 fn of_two(first: u16, word: u16) -> Code {
     match decode(&[first, word]) {

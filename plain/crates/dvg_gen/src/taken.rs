@@ -1,4 +1,4 @@
-//! The generator's answers.
+//! What the generator returns.
 use std::prelude::*;
 
 use crate::stroke::Stroke;
@@ -20,8 +20,8 @@ pub enum GenFault {
 }
 
 impl GenFault {
-    /// The number of the fault in texts and answers: 1 to 3, in the order in which the faults are
-    /// declared (this project's own choice).
+    /// Returns the number of the fault in texts and replies: 1 to 3, in the order in which the
+    /// faults are declared (this project's own choice).
     pub fn number(self) -> u8 {
         match self {
             GenFault::StackOver => 1,
@@ -31,7 +31,7 @@ impl GenFault {
     }
 }
 
-/// What a fetch led to, but for the strokes of a finished run.
+/// What a fetch led to, without the strokes of a finished run.
 #[derive(Clone, Copy, Debug, PartialEq, Eq)]
 pub enum Step {
     /// That was the low byte of a word, whose high byte comes next.

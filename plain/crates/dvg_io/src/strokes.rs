@@ -5,7 +5,8 @@ use dvg_gen::Stroke;
 use dvg_print::StrokeLines;
 use std::io::Write;
 
-/// Writes the line of each stroke, `x0 y0 x1 y1 z`, each by itself, by `write_lines`.
+/// Writes a line `x0 y0 x1 y1 z` to `writer` for each of `strokes`, each by itself, by
+/// `write_lines`.
 pub fn write_strokes<W: Write>(
     strokes: &[Stroke],
     writer: &mut Watched<W>,

@@ -11,7 +11,8 @@ use std::io::{Read, Write};
 /// The most bytes that one read takes.
 const PIECE: usize = 8192;
 
-/// The bytes that a reader has left, or the first `most + 1` of them. It takes no more than those.
+/// Returns all bytes that `reader` has left, or the first `most + 1` of them. It takes no more than
+/// those. Returns `Reader` where a read fails, and `Memory` where an allocation does.
 pub fn read_up_to<A: Allocator, R: Read>(
     alloc: A,
     reader: &mut Watched<R>,
@@ -38,7 +39,8 @@ pub fn read_up_to<A: Allocator, R: Read>(
     Ok(bytes)
 }
 
-/// The words of an even number of bytes.
+/// Returns the words of `bytes`, an even number of bytes, the low byte of each word first. Returns
+/// `OutOfMemory` where an allocation fails.
 pub fn collect_words<A: Allocator>(alloc: A, bytes: &[u8]) -> Result<Vec<u16, A>, OutOfMemory> {
     let mut words = Vec::new(alloc);
     for k in 0..bytes.len() / 2 {
@@ -47,8 +49,8 @@ pub fn collect_words<A: Allocator>(alloc: A, bytes: &[u8]) -> Result<Vec<u16, A>
     Ok(words)
 }
 
-/// Writes the whole of a text, by as many writes as it takes. After a failure a beginning of it
-/// went out.
+/// Writes the whole of `text` to `writer`, by as many writes as it takes. After a failure a
+/// beginning of `text` went out.
 #[inline(always)]
 pub fn write_whole<W: Write>(writer: &mut Watched<W>, text: &[u8]) -> Result<(), StreamFailed> {
     let mut rest = text;
@@ -61,9 +63,10 @@ pub fn write_whole<W: Write>(writer: &mut Watched<W>, text: &[u8]) -> Result<(),
     Ok(())
 }
 
-/// Writes lines, each by itself: the next one is handed to the writer only when it took the whole
-/// of the one before. (This is tested: a contract sees only what went out.) After the last line end
-/// may stand a line without one. After a failure a beginning of the text went out.
+/// Writes the lines of `text` to `writer`, each by itself: the next one is handed to `writer` only
+/// when it took the whole of the one before. (This is tested: a contract sees only what went out.)
+/// After the last line end may stand a line without one. After a failure a beginning of `text` went
+/// out.
 pub fn write_lines<W: Write>(writer: &mut Watched<W>, text: &[u8]) -> Result<(), StreamFailed> {
     let mut rest = text;
     while let Some(end) = memchr(b'\n', rest) {

@@ -2,21 +2,21 @@
 use std::io::{Read, Write};
 use thiserror::Error;
 
-/// A reader or writer failed, which was counted.
+/// A reader or writer failed, and the failure was counted.
 #[derive(Clone, Copy, Debug, PartialEq, Eq, Error)]
 #[error("a reader or writer failed")]
 pub struct StreamFailed;
 
-/// A reader or writer whose failures are counted. A failure is an error that it answers, and a
-/// write that takes nothing of a part that isn't empty; an interrupted call is an error like any
-/// other. It isn't a `Read` or `Write` itself, so that no call goes past the count.
+/// A reader or writer whose failures are counted. A failure is an error that it returns, or a write
+/// that takes nothing of a part that isn't empty. An interrupted call is an error like any other.
+/// `Watched` isn't a `Read` or `Write` itself, so no call goes past the count.
 pub struct Watched<T> {
     stream: T,
     failures: u32,
 }
 
 impl<T> Watched<T> {
-    /// Watches a reader or writer, with the count 0.
+    /// Watches `stream`, a reader or writer, with the count 0.
     pub fn new(stream: T) -> Watched<T> {
         Watched {
             stream,
@@ -24,17 +24,17 @@ impl<T> Watched<T> {
         }
     }
 
-    /// The number of failures so far; it stays at its greatest value.
+    /// Returns the number of failures so far. It saturates: it stays at its greatest value.
     pub fn failures(&self) -> u32 {
         self.failures
     }
 
-    /// Gives back what was watched.
+    /// Returns the reader or writer that was watched.
     pub fn into_inner(self) -> T {
         self.stream
     }
 
-    // Counts a failure.
+    // Counts a failure, and returns it as an error.
     fn failed(&mut self) -> StreamFailed {
         self.failures = self.failures.saturating_add(1);
         StreamFailed
@@ -42,7 +42,7 @@ impl<T> Watched<T> {
 }
 
 impl<R: Read> Watched<R> {
-    /// One read into `buf`, which answers how many bytes it gave. At an error no byte was taken,
+    /// Reads once into `buf`, and returns how many bytes that gave. At an error no byte was taken,
     /// and the failure is counted.
     pub fn read(&mut self, buf: &mut [u8]) -> Result<usize, StreamFailed> {
         match self.stream.read(buf) {
@@ -53,8 +53,8 @@ impl<R: Read> Watched<R> {
 }
 
 impl<W: Write> Watched<W> {
-    /// One write of a part of a text, which answers how many bytes were taken. At an error no byte
-    /// went out, and the failure is counted.
+    /// Writes `part`, a part of a text, once, and returns how many of its bytes were taken. At an
+    /// error no byte went out, and the failure is counted.
     #[inline(always)]
     pub fn write(&mut self, part: &[u8]) -> Result<usize, StreamFailed> {
         match self.stream.write(part) {
@@ -64,7 +64,7 @@ impl<W: Write> Watched<W> {
         }
     }
 
-    /// One flush. At an error the failure is counted.
+    /// Flushes once. At an error the failure is counted.
     pub fn flush(&mut self) -> Result<(), StreamFailed> {
         match self.stream.flush() {
             Ok(()) => Ok(()),

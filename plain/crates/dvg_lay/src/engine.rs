@@ -9,7 +9,7 @@ use dvg_read::{MOST_TEXT_BYTES, TextFault};
 use std::alloc::Allocator;
 use std::io::{Read, Write};
 
-// The fault of a sketch, as one of a text.
+// Returns `fault`, which is of a sketch, as a fault of a text.
 fn text_fault(fault: NamedFault) -> TextFault {
     match fault {
         NamedFault::TooLong => TextFault::TooLong,
@@ -22,7 +22,7 @@ fn text_fault(fault: NamedFault) -> TextFault {
     }
 }
 
-/// Why a sketch isn't read, as a fault of the program.
+/// Returns `fault`, by which a sketch isn't read, as a fault of the program.
 pub fn tool_fault(fault: SketchFault) -> ToolFault {
     match fault {
         SketchFault::Text(fault) => ToolFault::Text(text_fault(fault)),
@@ -30,7 +30,7 @@ pub fn tool_fault(fault: SketchFault) -> ToolFault {
     }
 }
 
-// Lays out a sketch that was read.
+// Lays out `sketch`, which was read, in this `form`. Returns `Memory` where an allocation fails.
 fn lay_read<A: Allocator + Copy>(
     alloc: A,
     sketch: &Sketch<'_, A>,
@@ -54,7 +54,7 @@ fn lay_read<A: Allocator + Copy>(
     }
 }
 
-// The engine: it finds what comes of laying out the sketch of a text.
+// The engine that finds what comes of laying out the sketch of a text.
 struct LayEngine {
     form: Form,
 }
@@ -82,15 +82,16 @@ impl<A: Allocator + Copy> Engine<A> for LayEngine {
     }
 }
 
-/// Reads a sketch as text, which is a draft with names, of one or more frames and with operations
-/// of the ROM, and writes it as it is laid out in this form. It answers what was laid out, or why a
-/// frame is refused; of a refused one nothing is written (the format is this project's own choice).
+/// Reads a sketch as text from `reader`: a draft with names, of one or more frames and with
+/// operations of the ROM. Writes it to `writer` as it is laid out in this `form`. Returns what was
+/// laid out, or why a frame is refused; of a refused one nothing is written (the format is this
+/// project's own choice).
 ///
 /// - A fault of the text: that of the first line at fault. `TooLong`, the text has more than
 ///   1,048,576 bytes, of which no more than 1,048,577 are taken, comes before all others, and
 ///   `UnknownName` after them.
 /// - `Reader`, `Writer`: that stream failed. After `Writer` a beginning of the text went out.
-/// - `Memory`: a growth was refused.
+/// - `Memory`: an allocation failed.
 ///
 /// Where it stops before it writes, which is at any fault but `Writer`, the writer is as it was.
 #[inline(never)]

@@ -50,7 +50,7 @@ pub struct Refusal<A: Allocator = Global> {
 pub enum Unlaid<A: Allocator = Global> {
     /// A frame is refused.
     Refused(Refusal<A>),
-    /// A growth was refused for want of memory.
+    /// An allocation failed.
     Memory,
 }
 
@@ -60,7 +60,7 @@ impl<T: Drop, A: Allocator> From<AllocFailed<T>> for Unlaid<A> {
     }
 }
 
-// Writes a text of ASCII.
+// Writes `text`, which is ASCII.
 fn write_text(f: &mut fmt::Formatter<'_>, text: &[u8]) -> fmt::Result {
     for byte in text {
         write!(f, "{}", char::from(*byte))?;

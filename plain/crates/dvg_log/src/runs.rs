@@ -8,7 +8,7 @@ use std::alloc::{Allocator, Global};
 /// that of its image among all.
 pub(crate) type Step = Event<u16, u16>;
 
-/// An event of a trace, so many times in a row, in six bytes.
+/// An event of a trace, `times` times in a row, in six bytes.
 #[derive(Clone, Copy)]
 #[derive(Debug)]
 pub(crate) struct Run {
@@ -27,7 +27,8 @@ pub struct Runs<'a, A: Allocator = Global> {
 }
 
 impl<'a, A: Allocator> Runs<'a, A> {
-    // The events of these runs.
+    // Returns an iterator over the events of `runs`. `offers`, `ops` and `images` are the lists
+    // that a trace keeps beside them.
     pub(crate) fn of(
         runs: &'a [Run],
         offers: &'a [(u32, u16)],
@@ -59,7 +60,7 @@ impl<'a, A: Allocator> Iterator for Runs<'a, A> {
     }
 }
 
-// The event of a step.
+// Returns the event of `step`, by the lists `offers`, `ops` and `images` of its trace.
 #[inline(always)]
 fn event_of<'a, A: Allocator>(
     offers: &'a [(u32, u16)],

@@ -17,7 +17,7 @@ pub const MOST_EVENTS: usize = 65_536;
 /// `Draft` has room for 511. The images of resets lie in another.
 pub struct Trace<A: Allocator = Global> {
     runs: Vec<Run, A>,
-    /// How many events there are.
+    /// The number of events.
     count: usize,
     /// Where the operations of each offer begin among those of all, and how many they are.
     offers: Vec<(u32, u16), A>,
@@ -30,7 +30,7 @@ pub struct Trace<A: Allocator = Global> {
 }
 
 impl<A: Allocator + Copy> Trace<A> {
-    /// No events.
+    /// Returns a trace without events. It will keep them in memory of `alloc`.
     pub fn new(alloc: A) -> Trace<A> {
         Trace {
             runs: Vec::new(alloc),
@@ -44,17 +44,17 @@ impl<A: Allocator + Copy> Trace<A> {
 }
 
 impl<A: Allocator> Trace<A> {
-    /// How many events there are.
+    /// Returns the number of events, at most 65,536.
     pub fn len(&self) -> usize {
         self.count
     }
 
-    /// Whether there is no event.
+    /// Returns whether there is no event.
     pub fn is_empty(&self) -> bool {
         self.count == 0
     }
 
-    /// The events, from the first on, as runs of equal ones.
+    /// Returns an iterator over the events, from the first on, as runs of equal ones.
     pub fn runs(&self) -> Runs<'_, A> {
         Runs::of(
             self.runs.as_slice(),
@@ -64,14 +64,15 @@ impl<A: Allocator> Trace<A> {
         )
     }
 
-    /// Adds an event at the end of a trace of fewer than 65,536. The only error is lack of memory,
-    /// and then nothing has changed.
+    /// Adds `event` at the end. There must be fewer than 65,536 events. Returns `OutOfMemory` where
+    /// an allocation fails, and then nothing has changed.
     pub fn push(&mut self, event: OwnEvent<A>) -> Result<(), OutOfMemory> {
         self.push_times(event, 1)
     }
 
-    /// Adds an event at the end, so many times in a row, where the trace has room for them. The
-    /// only error is lack of memory, and then nothing has changed.
+    /// Adds `event` at the end, `times` times in a row. `times` is at least 1, and the trace must
+    /// have room for them. Returns `OutOfMemory` where an allocation fails, and then nothing has
+    /// changed.
     #[inline(always)]
     pub fn push_times(&mut self, event: OwnEvent<A>, times: u16) -> Result<(), OutOfMemory> {
         match event {
@@ -86,15 +87,16 @@ impl<A: Allocator> Trace<A> {
         }
     }
 
-    /// Adds an offer of a draft, which is copied, at the end of fewer than 65,536 events. The only
-    /// error is lack of memory, and then nothing has changed.
+    /// Adds an offer of `draft`, which is copied, at the end. There must be fewer than 65,536
+    /// events. Returns `OutOfMemory` where an allocation fails, and then nothing has changed.
     pub fn push_offer(&mut self, draft: &Draft) -> Result<(), OutOfMemory> {
         self.push_draft(draft, 1)
     }
 
-    /// Adds a reset of the whole system, after which each byte is this one, so many times in a row.
-    /// The image is made where it is the first such reset, in memory of this allocator. The only
-    /// error is lack of memory, and then nothing has changed.
+    /// Adds a reset of the whole system, after which each byte is `byte`, `times` times in a row.
+    /// `times` is at least 1, and the trace must have room for them. The image is made only for the
+    /// first such reset, in memory of `alloc`. Returns `OutOfMemory` where an allocation fails, and
+    /// then nothing has changed.
     pub fn push_filled(&mut self, alloc: A, byte: u8, times: u16) -> Result<(), OutOfMemory> {
         if let Some(number) = self.filled[usize::from(byte)] {
             let step = Step::ResetAll(number);
@@ -111,7 +113,8 @@ impl<A: Allocator> Trace<A> {
         Ok(())
     }
 
-    // Adds events that bring nothing. They join the last run where that is of the same event.
+    // Adds `step`, which brings nothing, `times` times. It joins the last run where that is of the
+    // same event.
     #[inline(always)]
     fn push_step(&mut self, step: Step, times: u16) -> Result<(), OutOfMemory> {
         if lengthen(&mut self.runs, step, times) {
@@ -123,7 +126,7 @@ impl<A: Allocator> Trace<A> {
         Ok(())
     }
 
-    // Adds offers of a draft, which is copied once.
+    // Adds an offer of `draft`, which is copied once, `times` times.
     fn push_draft(&mut self, draft: &Draft, times: u16) -> Result<(), OutOfMemory> {
         let first = self.ops.len() as u32;
         let count = draft.len();
@@ -139,7 +142,7 @@ impl<A: Allocator> Trace<A> {
         Ok(())
     }
 
-    // Adds resets of the whole system, and keeps their image.
+    // Adds a reset of the whole system to `image`, which is kept, `times` times.
     fn push_image(&mut self, image: Image<A>, times: u16) -> Result<(), OutOfMemory> {
         add_image(&mut self.images, &mut self.runs, image, times)?;
         self.count += usize::from(times);
@@ -147,8 +150,8 @@ impl<A: Allocator> Trace<A> {
     }
 }
 
-// Adds an image, and so many resets with it, and answers its number. The only error is lack of
-// memory, and then nothing is added.
+// Adds `image` to `images`, and `times` resets with it to `runs`. Returns the number of the image.
+// Returns `OutOfMemory` where an allocation fails, and then nothing is added.
 fn add_image<A: Allocator>(
     images: &mut Vec<Image<A>, A>,
     runs: &mut Vec<Run, A>,
@@ -164,7 +167,7 @@ fn add_image<A: Allocator>(
     Ok(number)
 }
 
-// Whether one of two steps joins the other: they are of the same event, which comes often.
+// Returns whether `step` joins `last`: they are the same event, which comes often.
 #[inline(always)]
 fn joins(last: Step, step: Step) -> bool {
     match last {
@@ -175,8 +178,8 @@ fn joins(last: Step, step: Step) -> bool {
     }
 }
 
-// Makes the last run longer, if a step joins it and there is room for the number. Answers whether
-// it did.
+// Makes the last of `runs` longer by `times`, if `step` joins it and there is room for the number.
+// Returns whether it did.
 #[inline(always)]
 fn lengthen<A: Allocator>(runs: &mut Vec<Run, A>, step: Step, times: u16) -> bool {
     let count = runs.len();

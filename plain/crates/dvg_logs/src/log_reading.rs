@@ -8,8 +8,8 @@ use memchr::memchr;
 /// Why the reading of a log stops before its text ends.
 #[derive(Clone, Copy, Debug, PartialEq, Eq)]
 pub enum LogStop {
-    /// The line of this number, counted from 1, writes a byte, at a byte address, in the half that
-    /// the open run draws. These are the counts of the lines up to there.
+    /// The line of this number, counted from 1, writes `byte` at the byte address `address`, in the
+    /// half that the open run draws. `counts` are those of the lines up to there.
     Torn {
         line: usize,
         address: u16,
@@ -22,8 +22,8 @@ pub enum LogStop {
     TooLong,
 }
 
-// Tells the judge what a line says. Answers the byte address and the byte of the write that tears a
-// picture, if it does.
+// Feeds what a line says, `logged`, to `judge`. Returns the byte address and the byte of the write,
+// if it tears a picture.
 #[inline(always)]
 fn tell(judge: &mut Judge, logged: LogLine) -> Option<(u16, u8)> {
     match logged {
@@ -41,14 +41,14 @@ fn tell(judge: &mut Judge, logged: LogLine) -> Option<(u16, u8)> {
     None
 }
 
-// Whether a half is drawn after a line, and none before it.
+// Whether a half is drawn after a line (`after`), and none before it (`before`).
 #[inline(always)]
 fn begins(before: bool, after: bool) -> bool {
     after && !before
 }
 
-// What was counted in some lines, and in one more, by which a run begins to draw a half or doesn't.
-// None of the numbers passes that of the lines, so none wraps.
+// Returns `counts` with one line more, which says `logged`. With `draws` a run begins to draw a
+// half by it. None of the numbers is greater than that of the lines, so none wraps.
 #[inline(always)]
 fn counted(counts: LogCounts, logged: LogLine, draws: bool) -> LogCounts {
     let mut counts = counts;
@@ -74,7 +74,7 @@ pub struct JudgedLines {
 }
 
 impl JudgedLines {
-    // Why the next line stops the reading, where it says nothing that a line may say.
+    // Returns why the next line stops the reading, where it says nothing that a line may say.
     fn wrong(&self) -> LogStop {
         if self.count == usize::MAX {
             return LogStop::TooLong;
@@ -82,7 +82,7 @@ impl JudgedLines {
         LogStop::Syntax(self.count + 1)
     }
 
-    // Takes the next line.
+    // Takes the next line, `line`. Returns why the reading stops there, if it does.
     fn take(&mut self, line: &[u8]) -> Result<(), LogStop> {
         if self.count == usize::MAX {
             return Err(LogStop::TooLong);
@@ -110,7 +110,8 @@ impl JudgedLines {
         }
     }
 
-    /// Takes a line that says this, where that isn't torn. Answers whether it is taken.
+    /// Takes a line that says `logged`, unless it is torn. Returns whether it is taken. Else
+    /// nothing changes.
     #[inline(always)]
     pub fn take_logged(&mut self, logged: LogLine) -> bool {
         let mut judge = self.judge;
@@ -133,7 +134,7 @@ pub struct LogReading {
 }
 
 impl LogReading {
-    /// Before the first piece.
+    /// Returns the reading before the first piece.
     pub fn new() -> LogReading {
         LogReading {
             judged: JudgedLines {
@@ -150,7 +151,7 @@ impl LogReading {
         }
     }
 
-    // Takes bytes of a line, which are not its end.
+    // Takes `bytes` of a line, without its end.
     fn begin_line(&mut self, bytes: &[u8]) -> Result<(), LogStop> {
         match self.unfinished.try_extend_from_slice(bytes) {
             Ok(()) => Ok(()),
@@ -158,7 +159,7 @@ impl LogReading {
         }
     }
 
-    // Takes the last bytes of a line, and its end.
+    // Takes `bytes`, the last ones of a line, and its end.
     fn end_line(&mut self, bytes: &[u8]) -> Result<(), LogStop> {
         if self.unfinished.is_empty() {
             return self.judged.take(bytes);
@@ -172,7 +173,8 @@ impl LogReading {
         taken
     }
 
-    /// Takes one more piece of the text.
+    /// Takes `piece`, the next piece of the text. Returns why the reading stops, if it does: at the
+    /// first line that is torn or at fault.
     pub fn take_piece(&mut self, piece: &[u8]) -> Result<(), LogStop> {
         let mut rest = piece;
         while let Some(end) = memchr(b'\n', rest) {
@@ -185,8 +187,8 @@ impl LogReading {
         self.begin_line(rest)
     }
 
-    /// Takes the end of the text, which ends a line that has begun. Answers what was counted in all
-    /// lines.
+    /// Takes the end of the text, which ends a line that has begun. Returns what was counted in all
+    /// lines, or why the reading stops at the last one.
     pub fn finish(self) -> Result<LogCounts, LogStop> {
         let mut judged = self.judged;
         if self.unfinished.is_empty() {

@@ -8,7 +8,7 @@ use std::io::{Read, Write};
 /// The most bytes that one read takes.
 const PIECE: usize = 32_768;
 
-// The answer to a log whose reading stops in this way.
+// Returns the verdict or the fault of a log whose reading stops by `stop`.
 fn answer(stop: LogStop) -> Result<LogVerdict, ToolFault> {
     match stop {
         LogStop::Torn {
@@ -29,7 +29,7 @@ fn answer(stop: LogStop) -> Result<LogVerdict, ToolFault> {
     }
 }
 
-// What is found in a log of which no line is torn.
+// Returns what is found in a log of which no line is torn, by its `counts`.
 fn found(counts: LogCounts) -> LogFinding {
     if counts.drew == 0 {
         LogFinding::NoRunDrew
@@ -38,7 +38,7 @@ fn found(counts: LogCounts) -> LogFinding {
     }
 }
 
-// What is said of the text of a log.
+// Returns what is said of the text of a log, which comes from `reader`.
 fn judge_text<R: Read>(reader: &mut Watched<R>) -> Result<LogVerdict, ToolFault> {
     let mut reading = LogReading::new();
     let mut piece = [0u8; PIECE];
@@ -63,15 +63,15 @@ fn judge_text<R: Read>(reader: &mut Watched<R>) -> Result<LogVerdict, ToolFault>
     }
 }
 
-// Writes what is said of a log.
+// Writes `verdict`, what is said of a log, to `writer`.
 fn write_verdict<W: Write>(writer: &mut Watched<W>, verdict: LogVerdict) -> Result<(), StreamFailed> {
     let mut line = Line::new();
     line.become_log_verdict(verdict);
     write_lines(writer, line.as_bytes())
 }
 
-/// Reads the text of a log, of any length, up to the first line that is torn or at fault, and
-/// writes what is said of it (the text is this project's own choice):
+/// Reads the text of a log from `reader`, of any length, up to the first line that is torn or at
+/// fault, and writes what is said of it to `writer` (the text is this project's own choice):
 ///
 /// - `not torn: R runs, D drew a half, H halted, W writes`, where no byte was written in the half
 ///   that the open run draws: R runs began, D of them drew a half, H lines say `halted`, and W
@@ -88,8 +88,8 @@ fn write_verdict<W: Write>(writer: &mut Watched<W>, verdict: LogVerdict) -> Resu
 ///   are more.
 /// - `Reader`, `Writer`: that stream failed. After `Writer` a beginning of the text went out.
 ///
-/// `Memory` never comes. Where it stops before it writes, which is at any fault but `Writer`, the
-/// writer is as it was.
+/// `Memory` is never returned. Where it stops before it writes, which is at any fault but `Writer`,
+/// the writer is as it was.
 #[inline(never)]
 pub fn torn<R: Read, W: Write>(
     reader: &mut Watched<R>,

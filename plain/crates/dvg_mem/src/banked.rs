@@ -26,7 +26,8 @@ pub struct Banked<A: Allocator = Global> {
 }
 
 impl<A: Allocator> Banked<A> {
-    /// The 1,022 bytes of a half, from its first word's low byte on, as they lie in the store.
+    /// Returns the 1,022 bytes of `half`, from its first word's low byte on, as they lie in the
+    /// store.
     pub fn half(&self, half: Half) -> &[u8] {
         match half {
             Half::H0 => self.half_0.as_slice(),

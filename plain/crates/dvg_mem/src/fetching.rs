@@ -4,8 +4,9 @@ use crate::rom::Rom;
 use crate::store::Store;
 use std::alloc::Allocator;
 
-/// The low byte of the word at a word address of 12 bits, in the RAM or in the ROM, or where `high`
-/// its high byte. None exactly for a hole.
+/// Returns a byte of the word at the word address `w`, which has 12 bits: the high byte where
+/// `high` is true, otherwise the low one. The word lies in `store`, the RAM, or in `rom`. Returns
+/// `None` exactly for a hole.
 pub fn fetch_byte<S: Store, A: Allocator>(store: &S, rom: &Rom<A>, w: u16, high: bool) -> Option<u8> {
     match rom.area(w) {
         Area::Zero | Area::Frame(_) | Area::Unused => {
@@ -20,7 +21,8 @@ pub fn fetch_byte<S: Store, A: Allocator>(store: &S, rom: &Rom<A>, w: u16, high:
     }
 }
 
-/// The word at a word address of 12 bits, in the RAM or in the ROM. None exactly for a hole.
+/// Returns the word at the word address `w`, which has 12 bits, in `store`, the RAM, or in `rom`.
+/// Returns `None` exactly for a hole.
 pub fn fetch<S: Store, A: Allocator>(store: &S, rom: &Rom<A>, w: u16) -> Option<u16> {
     let low = fetch_byte(store, rom, w, false)?;
     let high = fetch_byte(store, rom, w, true)?;

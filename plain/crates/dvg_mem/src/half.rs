@@ -10,7 +10,7 @@ pub enum Half {
 }
 
 impl Half {
-    /// The word address of the half's first word: 001 or 201.
+    /// Returns the word address of the half's first word: 001 or 201.
     pub fn base(self) -> u16 {
         match self {
             Half::H0 => 0x001,
@@ -18,7 +18,7 @@ impl Half {
         }
     }
 
-    /// The half that this one is not.
+    /// Returns the other half.
     pub fn other(self) -> Half {
         match self {
             Half::H0 => Half::H1,
@@ -26,8 +26,8 @@ impl Half {
         }
     }
 
-    /// The high byte of word zero that names this half, as that of a jump to its first word: E0 of
-    /// E001, or E2 of E201.
+    /// Returns the high byte of word zero that names this half, as that of a jump to its first
+    /// word: E0 of E001, or E2 of E201.
     pub fn high(self) -> u8 {
         match self {
             Half::H0 => 0xE0,
@@ -35,8 +35,8 @@ impl Half {
         }
     }
 
-    /// The half that a high byte of word zero names, whatever its other bits: bit 1 is 0 for half
-    /// 0, and 1 for half 1.
+    /// Returns the half that `high` names, as the high byte of word zero. Only bit 1 counts: it is
+    /// 0 for half 0, and 1 for half 1.
     pub fn of_high(high: u8) -> Half {
         if high / 2 % 2 == 0 {
             Half::H0
@@ -45,7 +45,7 @@ impl Half {
         }
     }
 
-    /// The half in which a word of this number lies; none for word zero, word 200 and all from 400
+    /// Returns the half in which word `w` lies, or `None` for word zero, word 200 and all from 400
     /// on.
     pub fn of_word(w: u16) -> Option<Half> {
         match w {

@@ -11,7 +11,7 @@ pub enum MemFault {
     /// The number of bytes isn't that of the memory: 2,048, or for a ROM 2,048 or 4,096.
     #[error("there are not as many bytes as the memory has")]
     Size,
-    /// A growth was refused for want of memory.
+    /// An allocation failed.
     #[error("out of memory")]
     OutOfMemory,
 }
@@ -25,7 +25,7 @@ pub struct Image<A: Allocator = Global> {
     filled: Option<u8>,
 }
 
-/// A copy of the bytes, for which memory may be refused.
+/// A copy of the bytes. `clone` returns `AllocError` where an allocation fails.
 impl<A: Allocator + Clone> Clone for Image<A> {
     fn clone(&self) -> Result<Image<A>, AllocError> {
         let alloc = Box::allocator(&self.bytes).clone()?;
@@ -47,7 +47,9 @@ impl<A: Allocator> Eq for Image<A> {
 }
 
 impl<A: Allocator> Image<A> {
-    /// The image of these bytes. It is refused as `Size` exactly where they are not 2,048.
+    /// Returns the image of `bytes`, which are copied into memory of `alloc`. Returns `Size`
+    /// exactly where the length of `bytes` isn't 2,048, and `OutOfMemory` where an allocation
+    /// fails.
     pub fn new(alloc: A, bytes: &[u8]) -> Result<Image<A>, MemFault> {
         if bytes.len() != MEMORY_BYTES {
             return Err(MemFault::Size);
@@ -63,24 +65,25 @@ impl<A: Allocator> Image<A> {
         }
     }
 
-    /// Takes other bytes in place of its own, in the memory that it has.
+    /// Replaces the bytes with `bytes`, whose length must be 2,048. They go into the memory that
+    /// the image has.
     pub fn copy_from(&mut self, bytes: &[u8]) {
         self.bytes.copy_from_slice(bytes);
         self.filled = None;
     }
 
-    // The byte that stands everywhere, if that was seen.
+    // Returns the byte that stands everywhere, if that was seen.
     pub(crate) fn filled(&self) -> Option<u8> {
         self.filled
     }
 
-    /// The bytes, from address 000 on.
+    /// Returns the bytes, from address 000 on.
     pub fn bytes(&self) -> &[u8] {
         self.bytes.as_slice()
     }
 }
 
-// The byte that stands everywhere, if there is one.
+// Returns the byte that stands at each place of `bytes`, if there is one. `bytes` isn't empty.
 fn only_byte(bytes: &[u8]) -> Option<u8> {
     if bytes[1..] == bytes[..bytes.len() - 1] {
         Some(bytes[0])

@@ -3,13 +3,14 @@ use crate::areas::Area;
 use crate::half::Half;
 use crate::{FIRST_ROM_WORD, LAST_ROM_WORD};
 
-/// The area of a word address, which has 12 bits, with a ROM of 2,048 bytes. `Rom::area` gives it
-/// for any ROM.
+/// Returns the area of the word address `w`, which has 12 bits, with a ROM of 2,048 bytes.
+/// `Rom::area` returns it for any ROM.
 pub fn area(w: u16) -> Area {
     area_in_map(FIRST_ROM_WORD, w)
 }
 
-// The area of a word address, where the ROM's first word is at an address after the RAM.
+// Returns the area of the word address `w`, which has 12 bits. `first` is the address of the ROM's
+// first word, and lies after the RAM.
 pub(crate) fn area_in_map(first: u16, w: u16) -> Area {
     match w {
         0x000 => Area::Zero,

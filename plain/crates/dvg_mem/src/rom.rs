@@ -16,8 +16,9 @@ pub struct Rom<A: Allocator = Global> {
 }
 
 impl<A: Allocator> Rom<A> {
-    /// The ROM of these bytes. It is refused as `Size` exactly where they are neither 2,048 nor
-    /// 4,096.
+    /// Returns the ROM of `bytes`, which are copied into memory of `alloc`. Returns `Size` exactly
+    /// where the length of `bytes` is neither 2,048 nor 4,096, and `OutOfMemory` where an
+    /// allocation fails.
     pub fn new(alloc: A, bytes: &[u8]) -> Result<Rom<A>, MemFault> {
         if bytes.len() != MEMORY_BYTES && bytes.len() != LARGE_ROM_BYTES {
             return Err(MemFault::Size);
@@ -30,9 +31,11 @@ impl<A: Allocator> Rom<A> {
         }
     }
 
-    /// Takes other bytes in place of its own. If there are as many of them, they go into the memory
-    /// that it has. They are refused as `Size` exactly where they are neither 2,048 nor 4,096.
-    /// After an error nothing has changed. Memory is taken only for a ROM of another size.
+    /// Replaces the bytes with `bytes`. If there are as many of them, they go into the memory that
+    /// the ROM has; otherwise memory is taken from `alloc`.
+    ///
+    /// Returns `Size` exactly where the length of `bytes` is neither 2,048 nor 4,096, and
+    /// `OutOfMemory` where an allocation fails. After an error nothing has changed.
     pub fn copy_from(&mut self, alloc: A, bytes: &[u8]) -> Result<(), MemFault> {
         if bytes.len() == self.bytes.len() {
             self.bytes.as_mut_slice().copy_from_slice(bytes);
@@ -47,7 +50,7 @@ impl<A: Allocator> Rom<A> {
         }
     }
 
-    /// The word address of the first word: 800 or 400.
+    /// Returns the word address of the first word: 800 or 400.
     pub fn first(&self) -> u16 {
         if self.bytes.len() == MEMORY_BYTES {
             FIRST_ROM_WORD
@@ -56,18 +59,19 @@ impl<A: Allocator> Rom<A> {
         }
     }
 
-    /// How many words there are: 1,024 or 2,048.
+    /// Returns the number of words: 1,024 or 2,048.
     pub fn len_words(&self) -> u16 {
         (self.bytes.len() / 2) as u16
     }
 
-    /// The word at a word address from `first` to BFF.
+    /// Returns the word at the word address `a`, which is `first` to BFF.
     pub fn word(&self, a: u16) -> u16 {
         word_at(self.bytes.as_slice(), usize::from(a - self.first()))
     }
 
-    /// The ROM of 4,096 bytes that has this one's words from 800 on, and D000, a return, at 400 to
-    /// 7FF. It takes its memory from this allocator. `OutOfMemory` is its only error.
+    /// Returns the ROM of 4,096 bytes that has this one's words from 800 on, and D000, a return, at
+    /// 400 to 7FF. This one must have 2,048 bytes. Memory is taken from `alloc`. The only error is
+    /// `OutOfMemory`, where an allocation fails.
     pub fn grow(&self, alloc: A) -> Result<Rom<A>, MemFault> {
         let _ = &self.bytes;
         match self.grown_bytes(alloc) {
@@ -76,7 +80,7 @@ impl<A: Allocator> Rom<A> {
         }
     }
 
-    // The bytes of 1,024 returns, and then those of this ROM.
+    // Returns the bytes of 1,024 returns, and then those of this ROM, in memory of `alloc`.
     fn grown_bytes(&self, alloc: A) -> Result<Vec<u8, A>, AllocError> {
         let mut bytes = Vec::with_capacity(alloc, LARGE_ROM_BYTES)?;
         for _word in 0..1024u16 {
@@ -86,7 +90,7 @@ impl<A: Allocator> Rom<A> {
         Ok(bytes)
     }
 
-    /// The area of a word address, which has 12 bits, with this ROM.
+    /// Returns the area of the word address `w`, which has 12 bits, with this ROM.
     pub fn area(&self, w: u16) -> Area {
         area_in_map(self.first(), w)
     }

@@ -11,15 +11,16 @@ pub trait Store: Drop {
     /// What a store takes its room from.
     type Alloc: Allocator + Copy;
 
-    /// A store that holds an image.
+    /// Returns a store that holds the bytes of `image`, in memory of `alloc`. Returns `OutOfMemory`
+    /// where an allocation fails.
     fn make(alloc: Self::Alloc, image: &Image<Self::Alloc>) -> Result<Self, OutOfMemory>;
 
-    /// The byte at an address below 2,048.
+    /// Returns the byte at the address `a`, which is below 2,048.
     fn read(&self, a: u16) -> u8;
 
-    /// Changes the byte at an address below 2,048, and no other.
+    /// Replaces the byte at the address `a`, which is below 2,048, with `b`. No other byte changes.
     fn write(&mut self, a: u16, b: u8);
 
-    /// Takes an image's bytes in place of its own.
+    /// Replaces all bytes with those of `image`.
     fn load(&mut self, image: &Image<Self::Alloc>);
 }

@@ -7,8 +7,9 @@ use dvg_code::OutOfMemory;
 use dvg_rows::words_of_row;
 use std::alloc::Allocator;
 
-/// All names that laid sections give, in the order of the text, each with its word address. A
-/// growth may be refused. The time grows with the number of rows.
+/// Returns all names that the laid `sections` give, in the order of the text, each with its word
+/// address. Returns `OutOfMemory` where an allocation fails. The time grows with the number of
+/// rows.
 pub fn rom_names<'a, A: Allocator>(
     alloc: A,
     sections: &[LaidRows<'_, 'a>],
@@ -20,7 +21,7 @@ pub fn rom_names<'a, A: Allocator>(
     Ok(found)
 }
 
-// Adds the names of a section.
+// Adds the names of `section` to `found`.
 fn push_names<'a, A: Allocator>(
     found: &mut Vec<RomName<'a>, A>,
     section: &LaidRows<'_, 'a>,
@@ -33,7 +34,7 @@ fn push_names<'a, A: Allocator>(
     Ok(())
 }
 
-// Adds a name, if there is one.
+// Adds `name` at the word address `address` to `found`, if there is a name.
 fn push_name<'a, A: Allocator>(
     found: &mut Vec<RomName<'a>, A>,
     name: Option<&'a [u8]>,

@@ -4,10 +4,10 @@ use dvg_frame::{Draft, Op, OpKind};
 use dvg_rows::{Doing, NamedRows, number_of};
 use std::alloc::Allocator;
 
-/// The draft of a frame: what its rows do, in order, where each name is that of an operation of the
-/// frame, and after `callrom` and `jumprom` that of a word of the ROM. Or else the place, counted
-/// from 0, of the first row that wants a name which isn't given. No memory is taken. The time grows
-/// with the number of rows of the frame.
+/// Returns the draft of a frame: what its `rows` do, in order. A name is that of an operation of
+/// the frame, and after `callrom` and `jumprom` that of a word of `rom`. Or else returns the place,
+/// counted from 0, of the first row that needs a name which isn't given. No memory is taken. The
+/// time grows with the number of rows of the frame.
 pub fn draft_of<A: Allocator + Copy>(
     rows: &NamedRows<'_, '_, A>,
     rom: &LaidNames<'_, '_, '_, A>,
@@ -24,7 +24,8 @@ pub fn draft_of<A: Allocator + Copy>(
     Ok(draft)
 }
 
-// The operation of a row of a frame. None where it wants a name that isn't given.
+// Returns the operation of `doing`, which a row of the frame of `rows` does. Returns `None` where
+// it needs a name that isn't given, in the frame or in `rom`.
 fn op_of<A: Allocator + Copy>(
     rows: &NamedRows<'_, '_, A>,
     rom: &LaidNames<'_, '_, '_, A>,

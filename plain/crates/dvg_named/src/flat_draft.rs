@@ -7,16 +7,17 @@ use dvg_frame::Op;
 use dvg_rows::{NamedRows, Row};
 use std::alloc::Allocator;
 
-/// Why the operations of a frame are not added.
+/// Why the operations of a frame aren't added.
 #[derive(Clone, Copy)]
 pub enum DraftFault {
-    /// The row at this place, counted from 0, is the first that wants a name which isn't given.
+    /// The row at this place, counted from 0, is the first that needs a name which isn't given.
     Ungiven(usize),
-    /// A growth was refused.
+    /// An allocation failed.
     Memory,
 }
 
-/// Adds the operations of a frame of these rows to a list, in order. Or else the list stays.
+/// Adds the operations of the frame of `rows` to `ops`, in order. The names of the ROM are those of
+/// `rom`. At an error `ops` stays as it was.
 pub fn push_draft<A: Allocator + Copy>(
     alloc: A,
     ops: &mut Vec<Op, A>,

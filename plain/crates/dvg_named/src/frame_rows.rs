@@ -10,7 +10,7 @@ use std::alloc::Allocator;
 pub struct FrameRows<'r, 'a> {
     /// Its name, if it has one.
     pub name: Option<&'a [u8]>,
-    /// The line that begins it. That of a frame at the top is the text's first line.
+    /// The line that begins it. A frame at the top begins with the text's first line.
     pub begin: Source<'a>,
     /// Its rows, in order.
     pub rows: &'r [Row<'a>],
@@ -18,8 +18,9 @@ pub struct FrameRows<'r, 'a> {
     pub sources: &'r [Source<'a>],
 }
 
-/// The frames, in order: of the sections before the last one, and of that one. The first section of
-/// all is that at the top.
+/// Returns the frames, in order: those of the sections `closed`, and of the section `last` after
+/// them. The first section of all is the one at the top. Returns `OutOfMemory` where an allocation
+/// fails.
 pub(crate) fn frame_rows<'r, 'a, A: Allocator + Copy>(
     alloc: A,
     closed: &'r [Part<'a, A>],
@@ -35,7 +36,8 @@ pub(crate) fn frame_rows<'r, 'a, A: Allocator + Copy>(
     Ok(found)
 }
 
-// The frames among the section at the top, which others follow, and these sections.
+// Returns the frames among `top`, the section at the top, and `others`, the sections between it and
+// the last one.
 fn later_frames<'r, 'a, A: Allocator + Copy>(
     alloc: A,
     top: &'r Part<'a, A>,
@@ -51,7 +53,7 @@ fn later_frames<'r, 'a, A: Allocator + Copy>(
     Ok(found)
 }
 
-// Adds the section at the top.
+// Adds `top`, the section at the top, to `found`.
 fn push_top<'r, 'a, A: Allocator + Copy>(
     found: &mut Vec<FrameRows<'r, 'a>, A>,
     top: &'r Part<'a, A>,
@@ -65,7 +67,7 @@ fn push_top<'r, 'a, A: Allocator + Copy>(
     Ok(())
 }
 
-// Adds a section, where it is a frame.
+// Adds the section `part` to `found`, if it is a frame.
 fn push_frame<'r, 'a, A: Allocator + Copy>(
     found: &mut Vec<FrameRows<'r, 'a>, A>,
     part: &'r Part<'a, A>,

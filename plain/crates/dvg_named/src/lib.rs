@@ -1,7 +1,7 @@
 //! Sketches as texts: drafts with names, of one or more frames, and the shapes of their ROM (the
 //! format is this project's own choice). All lines of a text are read, each within the limits, or
 //! up to the first line at fault. Of all lines come the frames, with the line of each operation,
-//! the bytes of the ROM and its names, or the first line that wants a name which no line gives.
+//! the bytes of the ROM and its names, or the first line that needs a name which no line gives.
 //! Each text has one meaning at most, and one fault, and never both.
 #![no_std]
 

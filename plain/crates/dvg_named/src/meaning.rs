@@ -7,7 +7,7 @@ use dvg_rows::Source;
 pub struct NamedFrame<'a> {
     /// Its name, if it has one.
     pub name: Option<&'a [u8]>,
-    /// The line that begins it. That of a frame before the first section is the text's first line.
+    /// The line that begins it. A frame before the first section begins with the text's first line.
     pub begin: Source<'a>,
     /// Its operations, in order.
     pub ops: &'a [Op],

@@ -23,7 +23,7 @@ use std::mem;
 /// The most operations of a frame, as of a draft.
 const MAX_OPS: usize = 511;
 
-/// What the lines spell that were read. After a fault it is read no further.
+/// What the lines spell that were read. After a fault no more is read.
 pub(crate) struct Reading<'a, A: Allocator + Copy> {
     alloc: A,
     rom: StatedRom,
@@ -40,7 +40,8 @@ pub(crate) struct Reading<'a, A: Allocator + Copy> {
 }
 
 impl<'a, A: Allocator + Copy> Reading<'a, A> {
-    /// Before the first line, which is this one.
+    /// Returns the reading before the line `first`, which is the text's first. Its memory comes
+    /// from `alloc`.
     pub fn new(alloc: A, first: Source<'a>) -> Reading<'a, A> {
         Reading {
             alloc,
@@ -55,7 +56,7 @@ impl<'a, A: Allocator + Copy> Reading<'a, A> {
         }
     }
 
-    /// Reads a line of these tokens.
+    /// Reads the line `source`, whose tokens are `tokens`.
     pub fn add(&mut self, source: Source<'a>, tokens: &[&'a [u8]]) -> Result<(), LineFault> {
         if self.is_bare() && self.tell(tokens) {
             return Ok(());
@@ -74,7 +75,8 @@ impl<'a, A: Allocator + Copy> Reading<'a, A> {
         self.closed.is_empty() && self.last.rows.is_empty()
     }
 
-    // Reads a line of these tokens that tells of the ROM. Whether it does.
+    // Reads a line of `tokens` if it describes the ROM. Returns whether it does. Else nothing
+    // changes.
     fn tell(&mut self, tokens: &[&[u8]]) -> bool {
         if !self.rom.take(tokens) {
             return false;
@@ -83,7 +85,7 @@ impl<'a, A: Allocator + Copy> Reading<'a, A> {
         true
     }
 
-    // Begins a section.
+    // Begins a section with `head`, in the line `source`.
     fn begin_section(&mut self, head: Head<'a>, source: Source<'a>) -> Result<(), LineFault> {
         match head {
             Head::Frame(name) => self.begin_frame(name, source),
@@ -91,7 +93,7 @@ impl<'a, A: Allocator + Copy> Reading<'a, A> {
         }
     }
 
-    // Begins a frame.
+    // Begins a frame with `name`, if there is one, in the line `source`.
     fn begin_frame(&mut self, name: Option<&'a [u8]>, source: Source<'a>) -> Result<(), LineFault> {
         if let Err(fault) = self.frame_names.give(name) {
             return Err(fault);
@@ -99,7 +101,8 @@ impl<'a, A: Allocator + Copy> Reading<'a, A> {
         self.open_part(Head::Frame(name), source)
     }
 
-    // Begins a section of the ROM.
+    // Begins a section of the ROM in the line `source`, at the word address `address`, or else at
+    // the first free word.
     fn begin_rom(&mut self, address: Option<u16>, source: Source<'a>) -> Result<(), LineFault> {
         let first = self.rom.first();
         if let Err(fault) = self.area.begin(first, address) {
@@ -108,7 +111,8 @@ impl<'a, A: Allocator + Copy> Reading<'a, A> {
         self.open_part(Head::Rom(address), source)
     }
 
-    // Closes the last section, and opens another one.
+    // Closes the last section, and opens another one with `head`, in the line `source`. Returns
+    // `Memory` where an allocation fails.
     fn open_part(&mut self, head: Head<'a>, source: Source<'a>) -> Result<(), LineFault> {
         self.last.fit();
         let part = Part::new(self.alloc, Some(head), source);
@@ -121,7 +125,7 @@ impl<'a, A: Allocator + Copy> Reading<'a, A> {
         Ok(())
     }
 
-    // Adds a row to the last section.
+    // Adds `row`, which stands in the line `source`, to the last section.
     fn add_row(&mut self, row: &Row<'a>, source: Source<'a>) -> Result<(), LineFault> {
         match self.last.head {
             Some(Head::Rom(_)) => self.add_rom_row(row, source),
@@ -129,7 +133,7 @@ impl<'a, A: Allocator + Copy> Reading<'a, A> {
         }
     }
 
-    // Adds a row to the last section, which is a frame.
+    // Adds `row`, which stands in the line `source`, to the last section, which is a frame.
     fn add_frame_row(&mut self, row: &Row<'a>, source: Source<'a>) -> Result<(), LineFault> {
         if let Err(fault) = self.names.give(row.name) {
             return Err(fault);
@@ -141,7 +145,7 @@ impl<'a, A: Allocator + Copy> Reading<'a, A> {
         self.last.push(row, source)
     }
 
-    // Adds a row to the last section, which is of the ROM.
+    // Adds `row`, which stands in the line `source`, to the last section, which is of the ROM.
     fn add_rom_row(&mut self, row: &Row<'a>, source: Source<'a>) -> Result<(), LineFault> {
         if !may_stand_in_rom(row) {
             return Err(LineFault::Syntax);
@@ -155,8 +159,8 @@ impl<'a, A: Allocator + Copy> Reading<'a, A> {
         self.last.push(row, source)
     }
 
-    /// The sections of the ROM as they are laid, after all lines of a text. A growth may be
-    /// refused.
+    /// Returns the sections of the ROM as they are laid, after all lines of a text. Returns
+    /// `OutOfMemory` where an allocation fails.
     pub fn lay(&self) -> Result<Vec<LaidRows<'_, 'a>, A>, OutOfMemory> {
         let sections = rom_rows(self.alloc, self.closed.as_slice(), &self.last)?;
         lay(
@@ -166,9 +170,9 @@ impl<'a, A: Allocator + Copy> Reading<'a, A> {
         )
     }
 
-    /// The bytes of the ROM, with the words of its sections as they are laid, after all lines of a
-    /// text. Or else the first row of the ROM that wants a name which isn't given. No memory is
-    /// taken.
+    /// Returns the bytes of the ROM, with the words of its sections as they are `laid`, after all
+    /// lines of a text. Or else returns the first row of the ROM that needs a name which isn't
+    /// given. No memory is taken.
     pub fn rom(
         &self,
         laid: &LaidNames<'_, '_, '_, A>,
@@ -180,8 +184,9 @@ impl<'a, A: Allocator + Copy> Reading<'a, A> {
         }
     }
 
-    /// The number of the first line that wants a name which isn't given, after all lines of a text.
-    /// A growth may be refused. The time grows with the number of rows.
+    /// Returns the number of the first line that needs a name which isn't given, after all lines of
+    /// a text, where `laid` has the names of the ROM. Returns `OutOfMemory` where an allocation
+    /// fails. The time grows with the number of rows.
     pub fn first_unknown(
         &self,
         laid: &LaidNames<'_, '_, '_, A>,
@@ -189,13 +194,15 @@ impl<'a, A: Allocator + Copy> Reading<'a, A> {
         first_unknown(self.alloc, self.closed.as_slice(), &self.last, laid)
     }
 
-    /// The frames, in order, after the lines that were read. A growth may be refused.
+    /// Returns the frames, in order, after the lines that were read. Returns `OutOfMemory` where an
+    /// allocation fails.
     pub fn frames(&self) -> Result<Vec<FrameRows<'_, 'a>, A>, OutOfMemory> {
         frame_rows(self.alloc, self.closed.as_slice(), &self.last)
     }
 
-    /// The drafts of the frames, in order, after all lines of a text. Or else a name that a frame
-    /// wants isn't given, or a growth was refused.
+    /// Returns the drafts of the frames, in order, after all lines of a text. The names of the ROM
+    /// are those of `laid`. Returns `Ungiven` where a frame needs a name that isn't given, and
+    /// `Memory` where an allocation fails.
     pub fn drafts(&self, laid: &LaidNames<'_, '_, '_, A>) -> Result<JoinedFrames<'a, A>, DraftFault> {
         let Ok(found) = self.frames() else {
             return Err(DraftFault::Memory);
@@ -204,7 +211,8 @@ impl<'a, A: Allocator + Copy> Reading<'a, A> {
     }
 }
 
-// How many operations a frame of so many has with this row. None where a draft can't hold it.
+// Returns how many operations a frame has that had `count` of them, with `row` added. Returns
+// `None` where a draft can't hold that many.
 fn counted(count: usize, row: &Row) -> Option<usize> {
     if row.doing.is_none() {
         return Some(count);
@@ -215,7 +223,7 @@ fn counted(count: usize, row: &Row) -> Option<usize> {
     Some(count + 1)
 }
 
-// Whether a row may stand in the ROM: it neither calls nor jumps by the number of an operation.
+// Whether `row` may stand in the ROM: it neither calls nor jumps by the number of an operation.
 fn may_stand_in_rom(row: &Row) -> bool {
     match &row.doing {
         Some(doing) => may_be_encoded(doing),
@@ -223,7 +231,7 @@ fn may_stand_in_rom(row: &Row) -> bool {
     }
 }
 
-// Whether what a row does may be done in the ROM.
+// Whether `doing`, what a row does, may be done in the ROM.
 fn may_be_encoded(doing: &Doing) -> bool {
     match doing {
         Doing::Plainly(op) => is_without_number(op.kind()),
@@ -231,7 +239,7 @@ fn may_be_encoded(doing: &Doing) -> bool {
     }
 }
 
-// Whether an operation neither calls nor jumps by a number.
+// Whether an operation of this `kind` neither calls nor jumps by a number.
 fn is_without_number(kind: OpKind) -> bool {
     !matches!(kind, OpKind::Call(_) | OpKind::Jump(_))
 }

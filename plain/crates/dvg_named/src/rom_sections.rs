@@ -6,7 +6,8 @@ use dvg_code::OutOfMemory;
 use dvg_rows::{Head, Part};
 use std::alloc::Allocator;
 
-/// The sections of the ROM, in order: those before the last section, and that one.
+/// Returns the sections of the ROM, in order: those among the sections `closed`, and the section
+/// `last` if it is one. Returns `OutOfMemory` where an allocation fails.
 pub(crate) fn rom_rows<'r, 'a, A: Allocator + Copy>(
     alloc: A,
     closed: &'r [Part<'a, A>],
@@ -20,7 +21,7 @@ pub(crate) fn rom_rows<'r, 'a, A: Allocator + Copy>(
     Ok(found)
 }
 
-// Those of the ROM among these sections.
+// Returns the sections of the ROM among `others`.
 fn later_rows<'r, 'a, A: Allocator + Copy>(
     alloc: A,
     others: &'r [Part<'a, A>],
@@ -32,7 +33,7 @@ fn later_rows<'r, 'a, A: Allocator + Copy>(
     Ok(found)
 }
 
-// Adds a section, where it is of the ROM.
+// Adds the section `part` to `found`, if it is of the ROM.
 fn push_rom<'r, 'a, A: Allocator + Copy>(
     found: &mut Vec<RomRows<'r, 'a>, A>,
     part: &'r Part<'a, A>,

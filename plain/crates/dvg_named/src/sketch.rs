@@ -25,7 +25,8 @@ pub struct Sketch<'a, A: Allocator> {
 }
 
 impl<'a, A: Allocator + Copy> Sketch<'a, A> {
-    /// The frames, in order, each with its operations and their lines. A growth may be refused.
+    /// Returns the frames, in order, each with its operations and their lines. The list is in
+    /// memory from `alloc`. Returns `OutOfMemory` where an allocation fails.
     pub fn frames(&self, alloc: A) -> Result<Vec<NamedFrame<'_>, A>, OutOfMemory> {
         let mut frames = Vec::new(alloc);
         for span in &self.frames.spans {
@@ -34,7 +35,7 @@ impl<'a, A: Allocator + Copy> Sketch<'a, A> {
         Ok(frames)
     }
 
-    // The frame that stands there.
+    // Returns the frame whose operations stand at `span`.
     fn frame_at(&self, span: &FrameSpan<'a>) -> NamedFrame<'_> {
         NamedFrame {
             name: span.name,
@@ -45,12 +46,12 @@ impl<'a, A: Allocator + Copy> Sketch<'a, A> {
     }
 }
 
-/// Reads the text of a sketch, which is handed in in small letters: of the text itself, lines and
-/// names mean the same in either case.
+/// Reads a sketch from `small`, its text in small letters. In the text itself, lines and names mean
+/// the same in either case.
 ///
 /// - `Text`: the fault of the text, that of the first line at fault. `TooLong`, the text has more
 ///   than 1,048,576 bytes, comes before all others, and `Unknown` after them.
-/// - `Memory`: a growth was refused.
+/// - `Memory`: an allocation failed.
 ///
 /// The time grows with the length of the text.
 pub fn read_sketch<'a, A: Allocator + Copy>(
@@ -64,7 +65,7 @@ pub fn read_sketch<'a, A: Allocator + Copy>(
     sketch_of(alloc, &reading)
 }
 
-// The sketch of a text of which all lines were read.
+// Returns the sketch of a text of which all lines are in `reading`.
 fn sketch_of<'a, A: Allocator + Copy>(
     alloc: A,
     reading: &Reading<'a, A>,
@@ -89,7 +90,8 @@ fn sketch_of<'a, A: Allocator + Copy>(
     }
 }
 
-// The first line that wants a name which isn't given, where there is one.
+// Returns the fault of the first line in `reading` that needs a name which isn't given, where there
+// is one. `laid` has the names of the ROM. Returns `Memory` where an allocation fails.
 fn unknown<A: Allocator + Copy>(
     reading: &Reading<'_, A>,
     laid: &LaidNames<'_, '_, '_, A>,

@@ -1,4 +1,4 @@
-//! What the first lines of a sketch tell of its ROM.
+//! What the first lines of a sketch say of its ROM.
 use crate::laid::free_with;
 use arrayvec::ArrayVec;
 use dvg_mem::{FIRST_LARGE_ROM_WORD, FIRST_ROM_WORD, LARGE_ROM_BYTES, LAST_ROM_WORD};
@@ -7,7 +7,7 @@ use dvg_read::read_rom_parts;
 /// A word that no line gives, an RTSL, its low byte first (this project's own choice).
 const UNGIVEN: [u8; 2] = [0x00, 0xD0];
 
-/// The ROM that the lines tell which were read.
+/// The ROM that the lines describe which were read so far.
 pub(crate) struct StatedRom {
     // Whether a line stated something.
     is_stated: bool,
@@ -17,7 +17,7 @@ pub(crate) struct StatedRom {
 }
 
 impl StatedRom {
-    /// Before the first line.
+    /// Returns the ROM before the first line.
     pub fn new() -> StatedRom {
         StatedRom {
             is_stated: false,
@@ -26,7 +26,8 @@ impl StatedRom {
         }
     }
 
-    /// Reads a line of these tokens. Whether it tells something of the ROM, and may stand here.
+    /// Reads a line of `tokens`. Returns whether it describes something of the ROM, and may stand
+    /// here. Where it doesn't, nothing changes.
     pub fn take(&mut self, tokens: &[&[u8]]) -> bool {
         if let Some(first) = map_of(tokens) {
             if self.is_stated {
@@ -47,26 +48,26 @@ impl StatedRom {
         true
     }
 
-    /// The bytes of the ROM.
+    /// Returns the bytes of the ROM.
     pub fn bytes(&self) -> ArrayVec<u8, LARGE_ROM_BYTES> {
         let mut bytes = ArrayVec::new();
         bytes.try_extend_from_slice(self.bytes.as_slice()).unwrap();
         bytes
     }
 
-    /// The first word address after those that lines gave.
+    /// Returns the first word address after those that lines gave.
     pub fn free(&self) -> u16 {
         self.free
     }
 
-    /// The word address of the ROM's first word: the last one is at BFF.
+    /// Returns the word address of the ROM's first word. The last one is at BFF.
     pub fn first(&self) -> u16 {
         LAST_ROM_WORD + 1 - (self.bytes.as_slice().len() / 2) as u16
     }
 }
 
-// The word address of the ROM's first word in the memory map that a line of these tokens tells.
-// None exactly where it tells none.
+// Returns the word address of the ROM's first word in the memory map that a line of `tokens` gives,
+// or `None` exactly where it gives none.
 fn map_of(tokens: &[&[u8]]) -> Option<u16> {
     match tokens {
         [name, size] => map_named(name, size),
@@ -74,7 +75,7 @@ fn map_of(tokens: &[&[u8]]) -> Option<u16> {
     }
 }
 
-// The same of a line of these two tokens.
+// Like `map_of`, for a line of the two tokens `name` and `size`.
 fn map_named(name: &[u8], size: &[u8]) -> Option<u16> {
     if name != b"map".as_slice() {
         return None;
@@ -86,7 +87,8 @@ fn map_named(name: &[u8], size: &[u8]) -> Option<u16> {
     }
 }
 
-// The bytes of a ROM of which no line gives a word.
+// Returns the bytes of a ROM of which no line gives a word. `first` is the word address of its
+// first word, 400 or 800.
 fn ungiven(first: u16) -> ArrayVec<u8, LARGE_ROM_BYTES> {
     let mut bytes = ArrayVec::new();
     for _word in 0..LAST_ROM_WORD + 1 - first {

@@ -18,7 +18,8 @@ struct Drawn<A: Allocator> {
     undrawn: Option<Undrawn>,
 }
 
-// The strokes of instructions.
+// Returns the strokes of `trace`, the instructions that were run. Returns `OutOfMemory` where an
+// allocation fails.
 fn collect_strokes<A: Allocator>(alloc: A, trace: &[Ran]) -> Result<Vec<Stroke, A>, OutOfMemory> {
     let mut strokes = Vec::new(alloc);
     for ran in trace {
@@ -29,7 +30,7 @@ fn collect_strokes<A: Allocator>(alloc: A, trace: &[Ran]) -> Result<Vec<Stroke, 
     Ok(strokes)
 }
 
-// What the run over a dump draws.
+// Returns what the run over the dump `bytes` draws.
 fn draw_dump<A: Allocator + Copy>(alloc: A, bytes: &[u8]) -> Result<Drawn<A>, ToolFault> {
     let run = run_dump(alloc, bytes, true)?;
     let Ok(strokes) = collect_strokes(alloc, run.ran.as_slice()) else {
@@ -41,7 +42,8 @@ fn draw_dump<A: Allocator + Copy>(alloc: A, bytes: &[u8]) -> Result<Drawn<A>, To
     })
 }
 
-// Writes what a run drew.
+// Writes `strokes`, which a run drew, to `writer`, in the size `percent`. `undrawn` says why they
+// are no picture, if they aren't.
 fn write_drawn<W: Write>(
     percent: u16,
     strokes: &[Stroke],
@@ -58,7 +60,7 @@ fn write_drawn<W: Write>(
     }
 }
 
-// The engine: of a dump it finds what its run draws.
+// The engine that finds what the run over a dump draws.
 struct SvgEngine {
     percent: u16,
 }
@@ -86,15 +88,15 @@ impl<A: Allocator + Copy> Engine<A> for SvgEngine {
     }
 }
 
-/// Reads a dump of vector memory as `picture` does, and writes what its run draws as SVG, of this
-/// size in percent: all strokes of a picture, and of a run that breaks or isn't known to end within
-/// 65,536 words those up to there. Why it drew no picture, if it didn't, is the title, and is
-/// answered (the text is this project's own choice).
+/// Reads a dump of vector memory from `reader` as `picture` does, and writes what its run draws to
+/// `writer` as SVG, in the size `percent`. These are all strokes of a picture. Of a run that breaks
+/// or isn't known to end within 65,536 words they are the strokes up to there. Returns why it drew
+/// no picture, if it didn't; that is the title, too (the text is this project's own choice).
 ///
 /// - `DumpSize`: the input has so many bytes, up to 6,144, and neither 4,096 nor 6,144.
 /// - `LongDump`: it has more than 6,144, of which no more than 6,145 are taken.
 /// - `Reader`, `Writer`: that stream failed. After `Writer` a beginning of the text went out.
-/// - `Memory`: a growth was refused.
+/// - `Memory`: an allocation failed.
 ///
 /// Where it stops before it writes, which is at any fault but `Writer`, the writer is as it was.
 #[inline(never)]

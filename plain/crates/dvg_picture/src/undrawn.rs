@@ -32,7 +32,7 @@ impl fmt::Display for Undrawn {
     }
 }
 
-/// Why a run with this end drew no picture, if it didn't.
+/// Returns why a run with the end `ending` drew no picture, if it didn't.
 pub(crate) fn undrawn_by<A: Allocator>(ending: &Ending<A>) -> Option<Undrawn> {
     match ending {
         Ending::Finished { .. } => None,
@@ -44,7 +44,7 @@ pub(crate) fn undrawn_by<A: Allocator>(ending: &Ending<A>) -> Option<Undrawn> {
     }
 }
 
-/// The line that tells it.
+/// Returns the line that describes `undrawn`.
 pub(crate) fn reason_line(undrawn: Undrawn) -> Line {
     let mut line = Line::new();
     match undrawn {

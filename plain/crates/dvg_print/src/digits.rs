@@ -11,7 +11,7 @@ static PAIRS: [u8; 200] = *b"0001020304050607080910111213141516171819\
     2021222324252627282930313233343536373839404142434445464748495051525354555657585960616263646566\
     676869707172737475767778798081828384858687888990919293949596979899";
 
-// Puts the two digits of a number below 100 before `end`.
+// Puts the two digits of `pair`, a number below 100, before `end`.
 #[inline(always)]
 fn put_pair(bytes: &mut [u8; BLOCK_BYTES], end: usize, pair: u32) {
     let from = 2 * pair as usize;
@@ -20,7 +20,7 @@ fn put_pair(bytes: &mut [u8; BLOCK_BYTES], end: usize, pair: u32) {
     bytes[end - 1] = ones;
 }
 
-// Puts the digits of a number below 100 before `end`, and answers where they begin.
+// Puts the digits of `number`, which is below 100, before `end`. Returns where they begin.
 #[inline(always)]
 fn put_first(bytes: &mut [u8; BLOCK_BYTES], end: usize, number: u32) -> usize {
     if number < 10 {
@@ -31,7 +31,7 @@ fn put_first(bytes: &mut [u8; BLOCK_BYTES], end: usize, number: u32) -> usize {
     end - 2
 }
 
-// Puts a number before `end`, and answers where it begins.
+// Puts `number` in decimal before `end`. Returns where it begins.
 #[inline(always)]
 fn put_number(bytes: &mut [u8; BLOCK_BYTES], end: usize, number: u32) -> usize {
     let mut left = number;
@@ -44,28 +44,29 @@ fn put_number(bytes: &mut [u8; BLOCK_BYTES], end: usize, number: u32) -> usize {
     put_first(bytes, at, left)
 }
 
-// Puts a byte before `end`, and answers where it is.
+// Puts `byte` before `end`. Returns where it is.
 #[inline(always)]
 pub(crate) fn put_byte(bytes: &mut [u8; BLOCK_BYTES], end: usize, byte: u8) -> usize {
     bytes[end - 1] = byte;
     end - 1
 }
 
-// Puts a space and a number before `end`, and answers where the space is.
+// Puts a space and `number` in decimal before `end`. Returns where the space is.
 #[inline(always)]
 pub(crate) fn put_part(bytes: &mut [u8; BLOCK_BYTES], end: usize, number: u32) -> usize {
     let at = put_number(bytes, end, number);
     put_byte(bytes, at, b' ')
 }
 
-// Puts a position before `end`, and answers where it begins.
+// Puts the position `x y` before `end`. Returns where it begins.
 pub(crate) fn put_position(bytes: &mut [u8; BLOCK_BYTES], end: usize, x: u32, y: u32) -> usize {
     let at = put_part(bytes, end, y);
     put_number(bytes, at, x)
 }
 
-// Counts on the digits before a last nine, this many, where the next number has as many: that one
-// ends with a zero. Else it answers false, and zeros stand there.
+// Counts up the number whose digits are the first `count` of `bytes`, those before a last nine.
+// Returns whether the next number has as many digits: it ends with a zero. Where it has more, zeros
+// stand there.
 #[inline(always)]
 pub(crate) fn count_up(bytes: &mut [u8; NUMBER_BYTES], count: usize) -> bool {
     let mut at = count;

@@ -5,11 +5,11 @@ use dvg_log::Entry;
 use itoa::Buffer;
 
 /// The lines that `play --all` writes of entries, one at a time. The digits of the next event's
-/// number are kept, and counted up in place, the last one apart from the others.
+/// number are kept and counted up in place, the last one apart from the others.
 pub struct EntryLines {
     line: Line,
-    // The first of these bytes, this many, are the digits of the next entry's number before its
-    // last one. Nine lines in ten leave them: bytes just written are slow to read together.
+    // The first `count` of these bytes are the digits of the next entry's number before its last
+    // one. Nine lines in ten leave them: bytes just written are slow to read together.
     tens: [u8; NUMBER_BYTES],
     count: usize,
     ones: u8,
@@ -17,7 +17,7 @@ pub struct EntryLines {
     next: usize,
 }
 
-// The bytes of a number, and how many digits it has.
+// Returns the digits of `number` at the front of an array, and how many they are.
 fn digits_of(number: usize) -> ([u8; NUMBER_BYTES], usize) {
     let mut buffer = Buffer::new();
     let text = buffer.format(number).as_bytes();
@@ -26,7 +26,7 @@ fn digits_of(number: usize) -> ([u8; NUMBER_BYTES], usize) {
     (bytes, text.len())
 }
 
-// The digits of a number before its last one, and how many they are.
+// Returns the digits of `number` before its last one, and how many they are.
 fn tens_of(number: usize) -> ([u8; NUMBER_BYTES], usize) {
     if number < 10 {
         return ([0; NUMBER_BYTES], 0);
@@ -35,7 +35,7 @@ fn tens_of(number: usize) -> ([u8; NUMBER_BYTES], usize) {
 }
 
 impl EntryLines {
-    /// A line with no bytes. The next entry's event has this number.
+    /// Returns a line with no bytes, where `next` is the number of the next entry's event.
     pub fn new(next: usize) -> EntryLines {
         let (tens, count) = tens_of(next);
         EntryLines {
@@ -47,12 +47,13 @@ impl EntryLines {
         }
     }
 
-    /// The bytes.
+    /// Returns the bytes of the line.
     pub fn as_bytes(&self) -> &[u8] {
         self.line.as_bytes()
     }
 
-    /// Becomes the line of the next entry. A finished run drew this many strokes.
+    /// Becomes the line of `entry`, the next entry. `drew` is how many strokes the run drew, if
+    /// `entry` finished one.
     #[inline(always)]
     pub fn become_next<S>(&mut self, entry: &Entry<S>, drew: usize) {
         self.line.clear();
@@ -63,7 +64,7 @@ impl EntryLines {
         self.count_on();
     }
 
-    // Goes on to the next number, which nine times in ten has another last digit alone.
+    // Goes on to the next number. Nine times in ten only the last digit changes.
     #[inline(always)]
     fn count_on(&mut self) {
         if self.ones < b'9' {
@@ -74,8 +75,8 @@ impl EntryLines {
         self.next_ten();
     }
 
-    // Goes on to the next number from one that ends with a nine. It isn't made a part of its
-    // caller, which is faster for that.
+    // Goes on to the next number from one that ends with a nine. It isn't inlined, as its caller is
+    // faster without it.
     #[inline(never)]
     fn next_ten(&mut self) {
         self.next += 1;

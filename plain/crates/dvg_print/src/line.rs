@@ -18,13 +18,13 @@ static PAIRS: [u8; 512] =
     C8C9CACBCCCDCECFD0D1D2D3D4D5D6D7D8D9DADBDCDDDEDFE0E1E2E3E4E5E6E7E8E9EAEBECEDEEEF\
     F0F1F2F3F4F5F6F7F8F9FAFBFCFDFEFF";
 
-// A hexadecimal digit in upper case.
+// Returns `digit`, 0 to 15, as a hexadecimal digit in upper case.
 #[inline(always)]
 fn glyph(digit: usize) -> u8 {
     b"0123456789ABCDEF"[digit]
 }
 
-// The digits of a byte.
+// Returns the two hexadecimal digits of `byte`.
 #[inline(always)]
 fn pair(byte: u8) -> (u8, u8) {
     let from = 2 * byte as usize;
@@ -39,7 +39,7 @@ pub struct Line {
 }
 
 impl Line {
-    /// A line with no bytes.
+    /// Returns a line with no bytes.
     pub fn new() -> Line {
         Line {
             bytes: [0; MOST_BYTES],
@@ -47,7 +47,7 @@ impl Line {
         }
     }
 
-    /// The bytes.
+    /// Returns the bytes of the line.
     pub fn as_bytes(&self) -> &[u8] {
         &self.bytes[..self.count]
     }
@@ -58,20 +58,14 @@ impl Line {
         self.count = 0;
     }
 
-    // Appends the first of these bytes, this many. All of them are moved, as that takes less time.
+    // Appends the first `count` bytes of `text`. All 24 are copied, as that takes less time.
     #[inline(always)]
     pub(crate) fn front(&mut self, text: &[u8; NUMBER_BYTES], count: usize) {
         self.bytes[self.count..self.count + NUMBER_BYTES].copy_from_slice(text);
         self.count += count;
     }
 
-    // Becomes a number in decimal.
-    pub(crate) fn become_number<I: Integer>(&mut self, n: I) {
-        self.clear();
-        self.text(Buffer::new().format(n).as_bytes());
-    }
-
-    // Appends a text.
+    // Appends `text`.
     #[inline(always)]
     pub(crate) fn text(&mut self, text: &[u8]) {
         let end = self.count + text.len();
@@ -79,32 +73,32 @@ impl Line {
         self.count = end;
     }
 
-    // Appends a space and a part of the line.
+    // Appends a space and `part`.
     #[inline(always)]
     pub(crate) fn part(&mut self, part: &[u8]) {
         self.text(b" ");
         self.text(part);
     }
 
-    // Appends a space and a number in decimal.
+    // Appends a space and `n` in decimal.
     pub(crate) fn number<I: Integer>(&mut self, n: I) {
         self.part(Buffer::new().format(n).as_bytes());
     }
 
-    // Appends a space and two hexadecimal digits.
+    // Appends a space and the two hexadecimal digits of `byte`.
     #[inline(always)]
     pub(crate) fn hex_2(&mut self, byte: u8) {
         let (tens, ones) = pair(byte);
         self.text(&[b' ', tens, ones]);
     }
 
-    // Appends three hexadecimal digits.
+    // Appends the last three hexadecimal digits of `n`.
     #[inline(always)]
     pub(crate) fn hex_3(&mut self, n: usize) {
         self.text(&[glyph(n / 256 % 16), glyph(n / 16 % 16), glyph(n % 16)]);
     }
 
-    // Appends a space and a word address.
+    // Appends a space and the three hexadecimal digits of the word address `address`.
     #[inline(always)]
     fn address(&mut self, address: u16) {
         let first = glyph(usize::from(address / 256 % 16));
@@ -112,7 +106,7 @@ impl Line {
         self.text(&[b' ', first, second, last]);
     }
 
-    // Appends a space and four hexadecimal digits.
+    // Appends a space and the four hexadecimal digits of `word`.
     #[inline(always)]
     pub(crate) fn hex_4(&mut self, word: u16) {
         let (first, second) = pair((word / 256) as u8);
@@ -120,7 +114,7 @@ impl Line {
         self.text(&[b' ', first, second, third, last]);
     }
 
-    // Appends the name of a vector and its numbers.
+    // Appends `name`, the name of a vector, and its numbers `scale`, `dx`, `dy` and `z`.
     fn vector(&mut self, name: &[u8], scale: u8, dx: i16, dy: i16, z: u8) {
         self.part(name);
         self.number(scale);
@@ -129,7 +123,7 @@ impl Line {
         self.number(z);
     }
 
-    // Appends the name of a LABS and its numbers.
+    // Appends `LABS` and its numbers `x`, `y` and `scale`.
     fn labs(&mut self, x: u16, y: u16, scale: u8) {
         self.part(b"LABS");
         self.number(x);
@@ -137,14 +131,14 @@ impl Line {
         self.number(scale);
     }
 
-    // Appends the name of an instruction and a word address.
+    // Appends `name`, the name of an instruction, and the word address `address`.
     #[inline(always)]
     pub(crate) fn with_address(&mut self, name: &[u8], address: u16) {
         self.part(name);
         self.address(address);
     }
 
-    // Appends the name of an instruction and its operands.
+    // Appends the name of `instr` and its operands.
     fn instr(&mut self, instr: Instr) {
         match instr {
             Instr::Vctr { scale, dx, dy, z } => self.vector(b"VCTR", scale, dx, dy, z),
@@ -159,7 +153,7 @@ impl Line {
         }
     }
 
-    // Appends a place: an operation's number, or a ROM word's address.
+    // Appends `place`: an operation's number, or a ROM word's address.
     fn place(&mut self, place: Place) {
         match place {
             Place::InFrame(i) => {
@@ -170,19 +164,19 @@ impl Line {
         }
     }
 
-    // Appends a fault's number and name, and a place.
+    // Appends `name`, which is a fault's number and name, and `place`.
     fn fault_at(&mut self, name: &[u8], place: Place) {
         self.part(name);
         self.place(place);
     }
 
-    // Appends a fault's number and name, and the number of an operation.
+    // Appends `name`, which is a fault's number and name, and `i`, the number of an operation.
     fn fault_of(&mut self, name: &[u8], i: u16) {
         self.part(name);
         self.number(i);
     }
 
-    // Appends the parts of a fault's text.
+    // Appends the parts of the text of `fault`.
     pub(crate) fn fault(&mut self, fault: FrameFault) {
         match fault {
             FrameFault::Empty => self.part(b"1 empty"),
@@ -197,8 +191,8 @@ impl Line {
         }
     }
 
-    // Becomes the place of an instruction, its name and operands, and a star where its words aren't
-    // canonical.
+    // Becomes `place` in three hexadecimal digits, the name and operands of `code`, and a star
+    // unless its words are `canonical`.
     pub(crate) fn become_placed(&mut self, place: usize, code: &Code, canonical: bool) {
         self.clear();
         self.hex_3(place);
@@ -208,14 +202,14 @@ impl Line {
         }
     }
 
-    /// Becomes the line that `list` writes of an instruction at a place, of words that are
-    /// canonical or not.
+    /// Becomes the line that `list` writes of the instruction `code` at `place`. It ends with a
+    /// star unless the words are `canonical`.
     pub fn become_listed(&mut self, place: usize, code: &Code, canonical: bool) {
         self.become_placed(place, code, canonical);
         self.text(b"\n");
     }
 
-    /// Becomes the ROM line of eight words, from an address on.
+    /// Becomes the ROM line of `words`, which are eight, from the word address `address` on.
     pub fn become_rom(&mut self, address: usize, words: &[u16]) {
         self.clear();
         self.text(b"rom ");
@@ -226,7 +220,7 @@ impl Line {
         self.text(b"\n");
     }
 
-    /// Becomes the line that `check` writes of a verdict.
+    /// Becomes the line that `check` writes of `verdict`.
     pub fn become_verdict(&mut self, verdict: Verdict) {
         self.clear();
         match verdict {
@@ -243,7 +237,7 @@ impl Line {
         self.text(b"\n");
     }
 
-    /// Becomes the line that `check` writes of a verdict, with the bound of a good draft.
+    /// Becomes the line that `check --bound` writes of `verdict`, with the bound of a good draft.
     pub fn become_bounded(&mut self, verdict: BoundedVerdict) {
         self.clear();
         match verdict {

@@ -4,7 +4,7 @@ use dvg_driver::Action;
 use dvg_log::Entry;
 
 impl Line {
-    // Appends what an action did.
+    // Appends what `action` did.
     #[inline(always)]
     pub(crate) fn action(&mut self, action: Action) {
         match action {
@@ -20,14 +20,16 @@ impl Line {
         }
     }
 
-    // Appends what a fetch led to, its word address, and the word there.
+    // Appends `name`, which says what a fetch led to, its word address `address`, and the `word`
+    // there.
     #[inline(always)]
     fn fetched(&mut self, name: &[u8], address: u16, word: u16) {
         self.with_address(name, address);
         self.hex_4(word);
     }
 
-    // Appends what an event led to. A finished run drew this many strokes.
+    // Appends what an event led to, `entry`. `drew` is how many strokes the run drew, if `entry`
+    // finished one.
     #[inline(always)]
     pub(crate) fn entry<S>(&mut self, entry: &Entry<S>, drew: usize) {
         match entry {
@@ -60,19 +62,13 @@ impl Line {
         }
     }
 
-    /// Becomes the line of a picture of this many strokes, by the number of the event that finished
-    /// it.
+    /// Becomes the line of a picture of so many `strokes`, which the event of this `number`
+    /// finished.
     pub fn become_picture(&mut self, number: usize, strokes: usize) {
         self.clear();
         self.text(b"picture");
         self.number(number);
         self.number(strokes);
         self.text(b"\n");
-    }
-
-    // Becomes a position.
-    pub(crate) fn become_position(&mut self, x: u32, y: u32) {
-        self.become_number(x);
-        self.number(y);
     }
 }

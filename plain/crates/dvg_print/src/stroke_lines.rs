@@ -3,7 +3,7 @@ use crate::digits::{BLOCK_BYTES, put_byte, put_part, put_position};
 use crate::eight_digits::{Digits, GREAT, digits_of, put_digits};
 use dvg_gen::Stroke;
 
-/// The most lines that are made together. There is room for them: none has more than 56 bytes.
+/// The most lines that are made together. They fit, as none has more than 56 bytes.
 const MOST_LINES: usize = 16;
 
 /// What the line of a stroke ends with, by its intensity: four bytes, the lowest one first. Those
@@ -34,20 +34,20 @@ struct Point {
 }
 
 /// The lines that `play` writes of strokes, as many as are written together. They are made from the
-/// last one to the first, so that no byte of a number has to be moved.
+/// last one to the first, so no byte of a number is moved.
 pub struct StrokeLines {
     // The lines are at the end of these bytes.
     bytes: [u8; BLOCK_BYTES],
     start: usize,
 }
 
-// Whether each number of a stroke has a text of eight bytes, and its intensity one in the table.
+// Whether each number of `stroke` has a text of eight bytes, and its intensity one in the table.
 #[inline(always)]
 fn is_small(stroke: &Stroke) -> bool {
     stroke.x0.max(stroke.y0).max(stroke.x1).max(stroke.y1) < GREAT && stroke.z < 16
 }
 
-// The point.
+// Returns the point at `x` and `y`, with the texts of both.
 #[inline(always)]
 fn point_at(x: u32, y: u32) -> Point {
     Point {
@@ -56,7 +56,7 @@ fn point_at(x: u32, y: u32) -> Point {
     }
 }
 
-// Where a stroke ends: mostly it is the point where the stroke after it begins.
+// Returns where `stroke` ends. Mostly that is `next`, where the stroke after it begins.
 #[inline(always)]
 fn end_of(stroke: &Stroke, next: Point) -> Point {
     if stroke.x1 == next.x.number && stroke.y1 == next.y.number {
@@ -65,7 +65,7 @@ fn end_of(stroke: &Stroke, next: Point) -> Point {
     point_at(stroke.x1, stroke.y1)
 }
 
-// Puts a point before `end`, and answers where it begins.
+// Puts `point` before `end`. Returns where it begins.
 #[inline(always)]
 fn put_point(bytes: &mut [u8; BLOCK_BYTES], end: usize, point: &Point) -> usize {
     let at = put_digits(bytes, end, &point.y);
@@ -73,14 +73,14 @@ fn put_point(bytes: &mut [u8; BLOCK_BYTES], end: usize, point: &Point) -> usize 
     put_digits(bytes, space, &point.x)
 }
 
-// Puts a space, an intensity and a line end before `end`, and answers where the space is.
+// Puts a space, the intensity `z` and a line end before `end`. Returns where the space is.
 #[inline(always)]
 fn put_intensity(bytes: &mut [u8; BLOCK_BYTES], end: usize, z: u8) -> usize {
     bytes[end - 4..end].copy_from_slice(&ENDS[z as usize].to_le_bytes());
     if z < 10 { end - 3 } else { end - 4 }
 }
 
-// Puts the line of any stroke before `end`, and answers where it begins.
+// Puts the line of `stroke`, which may be any, before `end`. Returns where it begins.
 #[inline(never)]
 fn put_any(bytes: &mut [u8; BLOCK_BYTES], end: usize, stroke: &Stroke) -> usize {
     let newline = put_byte(bytes, end, b'\n');
@@ -90,8 +90,8 @@ fn put_any(bytes: &mut [u8; BLOCK_BYTES], end: usize, stroke: &Stroke) -> usize 
     put_position(bytes, space, stroke.x0, stroke.y0)
 }
 
-// Puts the line of a stroke before `end`, and answers where it begins, and a point of it, which is
-// where the stroke begins unless its numbers are great. The other point is of the stroke after it.
+// Puts the line of `stroke` before `end`. `next` is a point of the stroke after it. Returns where
+// the line begins, and a point: the one where `stroke` begins, or `next` if its numbers are great.
 #[inline(always)]
 fn put_stroke(
     bytes: &mut [u8; BLOCK_BYTES],
@@ -110,7 +110,7 @@ fn put_stroke(
     (put_point(bytes, space, &first), first)
 }
 
-// Puts the lines of strokes at the end of the bytes, and answers where they begin.
+// Puts the lines of `strokes`, at most 16, at the end of `bytes`. Returns where they begin.
 fn put_strokes(bytes: &mut [u8; BLOCK_BYTES], strokes: &[Stroke]) -> usize {
     let mut start = BLOCK_BYTES;
     let mut next = point_at(0, 0);
@@ -123,7 +123,7 @@ fn put_strokes(bytes: &mut [u8; BLOCK_BYTES], strokes: &[Stroke]) -> usize {
 }
 
 impl StrokeLines {
-    /// No lines.
+    /// Returns lines with no bytes.
     pub fn new() -> StrokeLines {
         StrokeLines {
             bytes: [0; BLOCK_BYTES],
@@ -131,12 +131,13 @@ impl StrokeLines {
         }
     }
 
-    /// The bytes.
+    /// Returns the bytes of the lines.
     pub fn as_bytes(&self) -> &[u8] {
         &self.bytes[self.start..]
     }
 
-    /// Becomes the lines of the first of these strokes, of 16 or of all, and answers how many.
+    /// Becomes the lines of the first 16 of `strokes`, or of all where there are fewer. Returns how
+    /// many.
     pub fn become_first(&mut self, strokes: &[Stroke]) -> usize {
         let count = strokes.len().min(MOST_LINES);
         self.start = put_strokes(&mut self.bytes, &strokes[..count]);

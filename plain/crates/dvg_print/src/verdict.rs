@@ -10,10 +10,10 @@ pub enum Verdict {
     Refused(FrameFault),
 }
 
-/// The same, with the bound of a good draft.
+/// What the check says of a draft over a ROM, with the bound of a good one.
 #[derive(Clone, Copy, Debug, PartialEq, Eq)]
 pub enum BoundedVerdict {
-    /// It may be drawn: its number of words, and its bound, which is how many words the generator
+    /// It may be drawn. `words` is how many words it has. `bound` is how many words the generator
     /// fetches in the whole run, word zero included.
     Good { words: u16, bound: u64 },
     /// It is refused, for this fault.
@@ -21,7 +21,7 @@ pub enum BoundedVerdict {
 }
 
 impl BoundedVerdict {
-    /// The same without the bound.
+    /// Returns the verdict without its bound.
     pub fn verdict(self) -> Verdict {
         match self {
             BoundedVerdict::Good { words, .. } => Verdict::Good(words),

@@ -19,13 +19,12 @@ pub struct DraftText {
     pub rom: ArrayVec<u8, LARGE_ROM_BYTES>,
 }
 
-/// Reads the text of a draft, in one pass over its lines and without taking memory. It answers for
-/// each text, so each either denotes a draft and a ROM, or has a fault (the format is this
-/// project's own choice).
+/// Reads `text`, the text of a draft, in one pass over its lines and without taking memory. Each
+/// text either denotes a draft and a ROM, or has a fault (the format is this project's own choice).
 ///
-/// - `TooLong`: the text has more than 1,048,576 bytes. This is decided before all others.
+/// - `TooLong`: `text` has more than 1,048,576 bytes. This is decided before all others.
 /// - `Syntax`: this line is the first that spells nothing that may stand at its place.
-/// - `Full`: this line spells operation number 511, the lines before it being without fault.
+/// - `Full`: this line spells operation number 511, and the lines before it are without fault.
 pub fn read_draft(text: &[u8]) -> Result<DraftText, TextFault> {
     if text.len() > MOST_TEXT_BYTES {
         return Err(TextFault::TooLong);

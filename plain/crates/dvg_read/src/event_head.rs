@@ -3,11 +3,11 @@ use crate::event_line::SpelledEvent;
 use crate::number::digit_of;
 use dvg_log::Event;
 
-/// How many bytes the longest line has that is read here, with its end. A text with fewer is read
+/// How many bytes the longest line that is read here has, with its end. A shorter text is read
 /// otherwise.
 pub(crate) const HEAD: usize = 12;
 
-/// A name of events with its line's end: its first four letters, and what stands after them.
+/// An event's name with its line's end: its first four letters, and what stands after them.
 pub(crate) type Name = (&'static [u8], &'static [u8]);
 
 /// The name `tick`.
@@ -43,22 +43,24 @@ pub(crate) const REDRAW_LETTERS: u32 = 0x7264_6572;
 /// The letters `rese`, as a number.
 pub(crate) const RESET_LETTERS: u32 = 0x6573_6572;
 
-/// The first four bytes of a text as a number, the first of them the lowest. They only tell which
-/// name to look for, so nothing is claimed of them.
+/// Returns the first four bytes of `text` as a number, the first of them the lowest. They only say
+/// which name to look for, so nothing is claimed of them. Returns `None` where `text` has fewer
+/// than 12 bytes.
 #[inline(always)]
 pub(crate) fn letters_at_head(text: &[u8]) -> Option<u32> {
     let head = text.first_chunk::<HEAD>()?;
     Some(u32::from_le_bytes([head[0], head[1], head[2], head[3]]))
 }
 
-/// What stands after these letters and this ending, with which a text begins.
+/// Returns what stands in `text` after `letters` and `ending`, or `None` where it doesn't begin
+/// with them.
 #[inline(always)]
 pub(crate) fn after_name<'a>(text: &'a [u8], letters: &[u8], ending: &[u8]) -> Option<&'a [u8]> {
     text.strip_prefix(letters)?.strip_prefix(ending)
 }
 
-/// The reset of the whole system that the first line of a text spells, and what stands after that
-/// line. None says nothing of the text.
+/// Returns the reset of the whole system that the first line of `text` spells, and what stands
+/// after that line. `None` says nothing of `text`.
 #[inline(always)]
 pub(crate) fn reset_at_head(text: &[u8]) -> Option<(SpelledEvent, &[u8])> {
     let [b' ', high, low, b'\n', rest @ ..] = after_name(text, b"rese", b"tall")? else {

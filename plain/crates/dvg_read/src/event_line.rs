@@ -11,14 +11,14 @@ const MAX_TIMES: u16 = 9999;
 /// value that each byte of the RAM has after it.
 pub(crate) type SpelledEvent = Event<Infallible, u8>;
 
-/// The events of a line: one event, this many times in a row.
+/// The events of a line: `event`, `count` times in a row.
 #[derive(Clone, Copy)]
 pub struct EventLine {
     pub(crate) event: SpelledEvent,
     pub(crate) count: u16,
 }
 
-/// The events that a line spells by itself. None exactly where it spells none.
+/// Returns the events that `line` spells by itself, or `None` exactly where it spells none.
 #[inline(always)]
 pub fn read_event_line(line: &[u8]) -> Option<EventLine> {
     if let Some(event) = event_named(line) {
@@ -28,7 +28,7 @@ pub fn read_event_line(line: &[u8]) -> Option<EventLine> {
     with_operand(&line[..space], &line[space + 1..])
 }
 
-// The events of a name and its operand.
+// Returns the events of the event's `name` with `operand` after it.
 fn with_operand(name: &[u8], operand: &[u8]) -> Option<EventLine> {
     if name == b"resetall".as_slice() {
         return Some(EventLine {
@@ -46,7 +46,7 @@ fn with_operand(name: &[u8], operand: &[u8]) -> Option<EventLine> {
     })
 }
 
-// The event that this name alone spells.
+// Returns the event that `name` alone spells.
 #[inline(always)]
 fn event_named(name: &[u8]) -> Option<SpelledEvent> {
     match name {
@@ -60,12 +60,12 @@ fn event_named(name: &[u8]) -> Option<SpelledEvent> {
     }
 }
 
-// Whether a count may follow an event's name.
+// Whether a count may follow the name of `event`.
 fn is_counted(event: &SpelledEvent) -> bool {
     matches!(event, Event::Tick | Event::Strobe | Event::Fetch)
 }
 
-// How many times, 1 to 9,999.
+// Returns the number that `count` spells, 1 to 9,999.
 fn times(count: &[u8]) -> Option<u16> {
     let count = natural(count)?;
     if count == 0 || count > MAX_TIMES {
@@ -74,7 +74,7 @@ fn times(count: &[u8]) -> Option<u16> {
     Some(count)
 }
 
-// A byte of two hexadecimal digits.
+// Returns the byte that two hexadecimal `digits` spell.
 fn byte(digits: &[u8]) -> Option<u8> {
     u8::try_from(hex(digits, 2)?).ok()
 }

@@ -1,7 +1,7 @@
 //! What can be wrong with a text.
 use thiserror::Error;
 
-/// A fault of what was read. Its text is what `dvg` prints of it (this project's own choice).
+/// A fault of an input. Its text is what `dvg` prints of it (this project's own choice).
 #[derive(Clone, Copy, Debug, PartialEq, Eq, Error)]
 pub enum TextFault {
     /// The input has more bytes, or a log more lines, than are allowed.
@@ -10,7 +10,7 @@ pub enum TextFault {
     /// The input has an odd number of bytes.
     #[error("odd length")]
     Odd,
-    /// The word at this place, counted in words from 0, wants a second word, which is missing.
+    /// The word at this place, counted in words from 0, needs a second word, which is missing.
     #[error("cut at {0:03X}")]
     Cut(usize),
     /// A ROM has neither 2,048 nor 4,096 bytes.
@@ -46,18 +46,18 @@ pub enum TextFault {
     /// the ROM.
     #[error("overlap at line {0}")]
     Overlap(usize),
-    /// The line of this number, counted from 1, wants a name that no line gives.
+    /// The line of this number, counted from 1, needs a name that no line gives.
     #[error("unknown name at line {0}")]
     UnknownName(usize),
 }
 
-/// Why the text of a trace was not read.
+/// Why the text of a trace isn't read.
 #[derive(Clone, Copy, Debug, PartialEq, Eq, Error)]
 pub enum TraceFault {
     /// The text is at fault.
     #[error(transparent)]
     Text(TextFault),
-    /// A growth was refused.
+    /// An allocation failed.
     #[error("out of memory")]
     Memory,
 }

@@ -4,18 +4,19 @@ use crate::number::{hex, integer, natural, small_integer, small_natural};
 use dvg_code::{Code, Instr};
 use dvg_frame::{Op, OpKind};
 
-/// The operation that a line spells. None exactly where it spells none.
+/// Returns the operation that `line` spells, or `None` exactly where it spells none.
 pub fn read_op(line: &[u8]) -> Option<Op> {
     let parts = parts_of(line)?;
     read_op_parts(parts.as_slice())
 }
 
-/// The operation that these parts of a line spell. None exactly where they spell none.
+/// Returns the operation that `parts`, the parts of a line, spell, or `None` exactly where they
+/// spell none.
 pub fn read_op_parts(parts: &[&[u8]]) -> Option<Op> {
     Op::new(kind(parts)?)
 }
 
-// The operation that the parts of a line spell.
+// Returns the kind of operation that `parts` spell.
 fn kind(parts: &[&[u8]]) -> Option<OpKind> {
     match parts {
         [name] => bare(name),
@@ -26,7 +27,7 @@ fn kind(parts: &[&[u8]]) -> Option<OpKind> {
     }
 }
 
-// The operation of a name alone.
+// Returns the operation that `name` alone spells.
 fn bare(name: &[u8]) -> Option<OpKind> {
     match name {
         b"return" => Some(OpKind::Return),
@@ -35,7 +36,7 @@ fn bare(name: &[u8]) -> Option<OpKind> {
     }
 }
 
-// The operation of a name and a target.
+// Returns the operation that `name` and `target` spell.
 fn targeting(name: &[u8], target: &[u8]) -> Option<OpKind> {
     match name {
         b"callrom" => Some(OpKind::CallRom(hex(target, 3)?)),
@@ -46,7 +47,7 @@ fn targeting(name: &[u8], target: &[u8]) -> Option<OpKind> {
     }
 }
 
-// The operation of a name, a position and a scale.
+// Returns the operation that `name`, the position `x` and `y`, and `scale` spell.
 fn labs(name: &[u8], x: &[u8], y: &[u8], scale: &[u8]) -> Option<OpKind> {
     if name != b"labs".as_slice() {
         return None;
@@ -57,7 +58,7 @@ fn labs(name: &[u8], x: &[u8], y: &[u8], scale: &[u8]) -> Option<OpKind> {
     draw(Instr::Labs { x, y, scale })
 }
 
-// The operation of a name and the numbers of a vector.
+// Returns the operation that `name` and the numbers of a vector spell: `scale`, `dx`, `dy` and `z`.
 fn vector(name: &[u8], scale: &[u8], dx: &[u8], dy: &[u8], z: &[u8]) -> Option<OpKind> {
     match name {
         b"vctr" => vctr(scale, dx, dy, z),
@@ -66,7 +67,7 @@ fn vector(name: &[u8], scale: &[u8], dx: &[u8], dy: &[u8], z: &[u8]) -> Option<O
     }
 }
 
-// A VCTR of these numbers.
+// Returns the VCTR that the numbers `scale`, `dx`, `dy` and `z` spell.
 fn vctr(scale: &[u8], dx: &[u8], dy: &[u8], z: &[u8]) -> Option<OpKind> {
     let scale = small_natural(scale)?;
     let dx = integer(dx)?;
@@ -75,7 +76,7 @@ fn vctr(scale: &[u8], dx: &[u8], dy: &[u8], z: &[u8]) -> Option<OpKind> {
     draw(Instr::Vctr { scale, dx, dy, z })
 }
 
-// An SVEC of these numbers.
+// Returns the SVEC that the numbers `scale`, `dx`, `dy` and `z` spell.
 fn svec(scale: &[u8], dx: &[u8], dy: &[u8], z: &[u8]) -> Option<OpKind> {
     let scale = small_natural(scale)?;
     let dx = small_integer(dx)?;
@@ -84,7 +85,7 @@ fn svec(scale: &[u8], dx: &[u8], dy: &[u8], z: &[u8]) -> Option<OpKind> {
     draw(Instr::Svec { scale, dx, dy, z })
 }
 
-// The operation that draws by an instruction, if that is in range.
+// Returns the operation that draws by `instr`, if that is in range.
 fn draw(instr: Instr) -> Option<OpKind> {
     Some(OpKind::Draw(Code::new(instr)?))
 }

@@ -7,21 +7,22 @@ use dvg_mem::LAST_ROM_WORD;
 /// The most words that a line gives.
 const MAX_WORDS: usize = 8;
 
-/// The words that a line gives, from a word address on. All of them are words of the ROM.
+/// The words that a line gives, from the word address `address` on. All of them are words of the
+/// ROM.
 pub struct RomWords {
     address: u16,
     words: ArrayVec<u16, MAX_WORDS>,
 }
 
-/// The words that a line gives, where the ROM's first one is at this word address. None exactly
-/// where it isn't a line of the ROM.
+/// Returns the words that `line` gives, or `None` exactly where it isn't a line of the ROM. `first`
+/// is the word address of the ROM's first word.
 pub fn read_rom_line(first: u16, line: &[u8]) -> Option<RomWords> {
     let parts = parts_of(line)?;
     read_rom_parts(first, parts.as_slice())
 }
 
-/// The words that a line of these parts gives, where the ROM's first one is at this word address.
-/// None exactly where it isn't a line of the ROM.
+/// Returns the words that a line of the parts `cut` gives, or `None` exactly where it isn't a line
+/// of the ROM. `first` is the word address of the ROM's first word.
 pub fn read_rom_parts(first: u16, cut: &[&[u8]]) -> Option<RomWords> {
     let [name, address, spelled @ ..] = cut else {
         return None;
@@ -40,7 +41,7 @@ pub fn read_rom_parts(first: u16, cut: &[&[u8]]) -> Option<RomWords> {
     Some(RomWords { address, words })
 }
 
-// The words that these parts spell, at most eight.
+// Returns the words that `parts` spell, at most eight.
 fn hex_words(parts: &[&[u8]]) -> Option<ArrayVec<u16, MAX_WORDS>> {
     let mut words = ArrayVec::new();
     for part in parts {
@@ -53,12 +54,13 @@ fn hex_words(parts: &[&[u8]]) -> Option<ArrayVec<u16, MAX_WORDS>> {
 }
 
 impl RomWords {
-    /// The word address after the words.
+    /// Returns the word address after the words.
     pub fn end(&self) -> u16 {
         self.address + self.words.len() as u16
     }
 
-    /// Puts the words into the bytes of a ROM, of which the first word is at this word address.
+    /// Puts the words into `rom`, the bytes of a ROM. `first` is the word address of the ROM's
+    /// first word.
     pub fn put(&self, first: u16, rom: &mut [u8]) {
         let place = usize::from(self.address - first);
         for (k, word) in self.words.as_slice().iter().enumerate() {
@@ -67,7 +69,7 @@ impl RomWords {
     }
 }
 
-// Puts a word in its place of these bytes, the low byte first.
+// Puts `word` at the place `k`, counted in words from 0, of `bytes`, the low byte first.
 fn put_word(bytes: &mut [u8], k: usize, word: u16) {
     bytes[2 * k] = (word % 256) as u8;
     bytes[2 * k + 1] = (word / 256) as u8;

@@ -6,15 +6,15 @@ use dvg_mem::{FIRST_LARGE_ROM_WORD, FIRST_ROM_WORD, LARGE_ROM_BYTES, LAST_ROM_WO
 /// A word that no line gives, an RTSL, its low byte first (this project's own choice).
 const UNGIVEN: [u8; 2] = [0x00, 0xD0];
 
-/// The ROM that the lines describe which were read.
+/// The ROM that the lines describe which were read so far.
 pub struct RomReading {
-    // Whether a line said something of the ROM.
+    // Whether a line described something of the ROM.
     is_stated: bool,
     bytes: ArrayVec<u8, LARGE_ROM_BYTES>,
 }
 
 impl RomReading {
-    /// Before the first line.
+    /// Returns the ROM before the first line.
     pub fn new() -> RomReading {
         RomReading {
             is_stated: false,
@@ -22,7 +22,8 @@ impl RomReading {
         }
     }
 
-    /// Reads one more line. Answers whether it says something of the ROM, and may stand here.
+    /// Reads one more line, `line`. Returns whether it describes something of the ROM, and may
+    /// stand here. Where it doesn't, nothing changes.
     pub fn take(&mut self, line: &[u8]) -> bool {
         if let Some(first) = read_map_line(line) {
             if self.is_stated {
@@ -41,19 +42,19 @@ impl RomReading {
         true
     }
 
-    // The word address of the ROM's first word: the last one is at BFF.
+    // Returns the word address of the ROM's first word. The last one is at BFF.
     fn first(&self) -> u16 {
         LAST_ROM_WORD + 1 - (self.bytes.as_slice().len() / 2) as u16
     }
 
-    /// The bytes of the ROM.
+    /// Returns the bytes of the ROM.
     pub fn into_bytes(self) -> ArrayVec<u8, LARGE_ROM_BYTES> {
         self.bytes
     }
 }
 
-// The word address of the ROM's first word in the memory map that a line gives. None exactly where
-// it gives none.
+// Returns the word address of the ROM's first word in the memory map that `line` gives, or `None`
+// exactly where it gives none.
 fn read_map_line(line: &[u8]) -> Option<u16> {
     if line == b"map 2048".as_slice() {
         Some(FIRST_ROM_WORD)
@@ -64,8 +65,9 @@ fn read_map_line(line: &[u8]) -> Option<u16> {
     }
 }
 
-// The bytes of a ROM of which no line gives a word. It isn't inlined: else a ROM's room is cleared
-// for each line that is read.
+// Returns the bytes of a ROM of which no line gives a word. `first` is the word address of its
+// first word, 400 or 800. It isn't inlined: else a ROM's room is cleared for each line that is
+// read.
 #[inline(never)]
 fn ungiven(first: u16) -> ArrayVec<u8, LARGE_ROM_BYTES> {
     let mut bytes = ArrayVec::new();

@@ -15,19 +15,19 @@ pub struct TextLines<'a> {
 }
 
 impl<'a> TextLines<'a> {
-    /// The lines of this text.
+    /// Returns the lines of `text`.
     pub fn new(text: &'a [u8]) -> TextLines<'a> {
         TextLines { rest: text }
     }
 
-    /// The first four bytes that are left, as a number.
+    /// Returns the first four bytes that are left, as a number, if at least 12 are left.
     #[inline(always)]
     pub(crate) fn letters(&self) -> Option<u32> {
         letters_at_head(self.rest)
     }
 
-    /// Takes the next lines as long as they are these letters and this ending, which has the line's
-    /// end too, and answers how many it took, at most this many.
+    /// Takes the next lines as long as each is `letters` and `ending`, which has the line's end
+    /// too. It takes at most `most`, and returns how many it took.
     #[inline(always)]
     pub(crate) fn take_names(&mut self, letters: &[u8], ending: &[u8], most: u16) -> u16 {
         let mut rest = self.rest;
@@ -43,7 +43,7 @@ impl<'a> TextLines<'a> {
         count
     }
 
-    /// Takes the next line, if it is a reset of the whole system, and answers that. None says
+    /// Takes the next line if it is a reset of the whole system, and returns that. `None` says
     /// nothing of the line, and nothing is taken then.
     #[inline(always)]
     pub(crate) fn take_reset(&mut self) -> Option<SpelledEvent> {
@@ -54,8 +54,8 @@ impl<'a> TextLines<'a> {
         Some(event)
     }
 
-    /// Takes the next line, if it spells one of the operations that come most often, and answers
-    /// that operation. None says nothing of the line, and nothing is taken then.
+    /// Fast path for the operations that come most often: takes the next line if it spells one of
+    /// them, and returns that. `None` says nothing of the line, and nothing is taken then.
     #[inline(always)]
     pub(crate) fn take_op(&mut self) -> Option<Op> {
         let Some((op, rest)) = op_at_head(self.rest) else {
@@ -65,8 +65,8 @@ impl<'a> TextLines<'a> {
         Some(op)
     }
 
-    /// Takes the next lines as long as they spell operations that come most often and the draft has
-    /// room, and adds those operations. Answers how many it took.
+    /// Takes the next lines as long as they spell operations that come most often, and adds those
+    /// to `draft` as long as it has room. Returns how many lines it took.
     #[inline(always)]
     pub(crate) fn take_ops(&mut self, draft: &mut Draft) -> u16 {
         let mut rest = self.rest;
@@ -105,8 +105,8 @@ impl<'a> Iterator for TextLines<'a> {
     }
 }
 
-// The place of the first line end. Most lines are short, so the first bytes are looked at one by
-// one before the search that looks at many at once.
+// Returns the place of the first line end in `text`. Most lines are short, so the first bytes are
+// looked at one by one before the search that looks at many at once.
 #[inline(always)]
 fn line_end(text: &[u8]) -> Option<usize> {
     let Some(head) = text.first_chunk::<NEAR>() else {
@@ -121,7 +121,7 @@ fn line_end(text: &[u8]) -> Option<usize> {
     Some(NEAR + place)
 }
 
-/// Whether a line is passed over: it is empty, or begins with `#`.
+/// Whether `line` is passed over: it is empty, or begins with `#`.
 pub fn is_passed(line: &[u8]) -> bool {
     line.is_empty() || line[0] == b'#'
 }

@@ -9,9 +9,9 @@ use dvg_code::OutOfMemory;
 use dvg_log::{Event, MOST_EVENTS, Trace};
 use std::alloc::Allocator;
 
-/// Takes the lines that come next, as long as each is the name of an event or a reset of the whole
-/// system, and adds their events. Answers how many lines it took: at most 65,535, and as many as
-/// there is room for. The only error is lack of memory.
+/// Takes the next of `lines` as long as each is the name of an event or a reset of the whole
+/// system, and adds their events to `events`. Returns how many lines it took: at most 65,535, and
+/// as many as there is room for. The only error is a failed allocation.
 #[inline(always)]
 pub(crate) fn take_events<A: Allocator + Copy>(
     alloc: A,
@@ -30,8 +30,8 @@ pub(crate) fn take_events<A: Allocator + Copy>(
     Ok(most - room)
 }
 
-// Takes the lines that come next and are the name of one event, at most this many, or a reset of
-// the whole system.
+// Takes the next of `lines` as long as they are the name of one event, at most `most`, or else one
+// reset of the whole system, and adds their events to `events`. Returns how many lines it took.
 #[inline(always)]
 fn take_run<A: Allocator + Copy>(
     alloc: A,
@@ -52,7 +52,7 @@ fn take_run<A: Allocator + Copy>(
     }
 }
 
-// The same, where they are resets.
+// Like `take_run`, where the next of `lines` begins with `rese`.
 #[inline(always)]
 fn take_resets<A: Allocator + Copy>(
     alloc: A,
@@ -71,7 +71,7 @@ fn take_resets<A: Allocator + Copy>(
     take_names(alloc, Event::ResetCpu, RESETCPU, most, lines, events)
 }
 
-// The same, where they are the name of this event.
+// Like `take_run`, for lines that are `name`, the name of `event`.
 #[inline(always)]
 fn take_names<A: Allocator>(
     alloc: A,
@@ -88,7 +88,8 @@ fn take_names<A: Allocator>(
     Ok(count)
 }
 
-/// Adds an event, this many times in a row.
+/// Adds `event` to `events`, `count` times in a row. Returns `OutOfMemory` where an allocation
+/// fails.
 #[inline(always)]
 pub(crate) fn add_times<A: Allocator>(
     alloc: A,

@@ -8,7 +8,7 @@ use crate::trace_text::{LineFault, add_op, at_line, count};
 use dvg_frame::Draft;
 use dvg_log::MOST_EVENTS;
 
-/// Follows the text of a trace to its end, or to its fault.
+/// Follows `text`, the text of a trace, to its end or to its fault, without taking memory.
 pub(crate) fn follow(text: &[u8]) -> Result<(), TraceFault> {
     if text.len() > MOST_TEXT_BYTES {
         return Err(TraceFault::Text(TextFault::TooLong));
@@ -48,7 +48,7 @@ struct Following {
 }
 
 impl Following {
-    // Follows one more line, which isn't passed over.
+    // Follows one more line, `line`, which isn't passed over.
     fn take(&mut self, line: &[u8]) -> Result<(), LineFault> {
         if !self.is_open {
             return self.take_outside(line);
@@ -59,7 +59,7 @@ impl Following {
         add_op(&mut self.draft, line)
     }
 
-    // Follows one more line where no offer is open.
+    // Follows one more line, `line`, where no offer is open.
     fn take_outside(&mut self, line: &[u8]) -> Result<(), LineFault> {
         if line == b"offer".as_slice() {
             self.draft.clear();

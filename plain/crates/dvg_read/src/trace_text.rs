@@ -22,16 +22,17 @@ pub struct TraceText<A: Allocator = Global> {
     pub rom: ArrayVec<u8, LARGE_ROM_BYTES>,
 }
 
-/// Reads the text of a trace, in one pass over its lines (the format is this project's own choice).
+/// Reads `text`, the text of a trace, in one pass over its lines. The events are kept in memory
+/// from `alloc` (the format is this project's own choice).
 ///
-/// - `TooLong`: the text has more than 1,048,576 bytes. This is decided before all others.
+/// - `TooLong`: `text` has more than 1,048,576 bytes. This is decided before all others.
 /// - `Syntax`: this line is the first that spells nothing that may stand at its place.
-/// - `Full`: this line spells operation number 511 of its offer, the lines before it being without
-///   fault.
-/// - `Many`: this line brings the number of events above 65,536, the lines before it being without
-///   fault. An offer is an event with its `end`.
+/// - `Full`: this line spells operation number 511 of its offer, and the lines before it are
+///   without fault.
+/// - `Many`: this line brings the number of events above 65,536, and the lines before it are
+///   without fault. An offer is an event with its `end`.
 /// - `Unended`: no line is at fault, and the text ends inside an offer.
-/// - `Memory`: a growth was refused, at a line that brings events or ends an offer.
+/// - `Memory`: an allocation failed, at a line that brings events or ends an offer.
 pub fn read_trace<A: Allocator + Copy>(alloc: A, text: &[u8]) -> Result<TraceText<A>, TraceFault> {
     if text.len() > MOST_TEXT_BYTES {
         return Err(TraceFault::Text(TextFault::TooLong));
@@ -46,7 +47,7 @@ pub fn read_trace<A: Allocator + Copy>(alloc: A, text: &[u8]) -> Result<TraceTex
     })
 }
 
-// Reads all lines of a text. The last of them may leave an offer open.
+// Reads all lines of `text`. The last of them may leave an offer open.
 #[inline(always)]
 fn read_lines<A: Allocator + Copy>(alloc: A, text: &[u8]) -> Result<Reading<A>, TraceFault> {
     let mut reading = Reading {
@@ -76,7 +77,7 @@ fn read_lines<A: Allocator + Copy>(alloc: A, text: &[u8]) -> Result<Reading<A>, 
     }
 }
 
-// Why a line was not taken.
+// Why a line isn't taken.
 #[derive(Clone, Copy)]
 pub(crate) enum LineFault {
     // It spells nothing that may stand at its place.
@@ -85,11 +86,11 @@ pub(crate) enum LineFault {
     Full,
     // There would be more events than a trace has.
     Many,
-    // A growth was refused.
+    // An allocation failed.
     Memory,
 }
 
-// The same, as the fault of the line of this number.
+// Returns `fault` as that of the line of this `number`.
 pub(crate) fn at_line(fault: LineFault, number: usize) -> TraceFault {
     match fault {
         LineFault::Syntax => TraceFault::Text(TextFault::Syntax(number)),
@@ -111,8 +112,8 @@ struct Reading<A: Allocator> {
 }
 
 impl<A: Allocator + Copy> Reading<A> {
-    // Reads lines that come next, and answers how many it read: lines of operations, where an offer
-    // is open, else lines that spell an event each.
+    // Reads the next of `lines`: lines of operations where an offer is open, else lines that spell
+    // an event each. Returns how many it read, or `OutOfMemory` where an allocation fails.
     #[inline(always)]
     fn take_ahead(&mut self, lines: &mut TextLines) -> Result<u16, OutOfMemory> {
         if self.is_open {
@@ -121,7 +122,7 @@ impl<A: Allocator + Copy> Reading<A> {
         take_events(self.alloc, lines, &mut self.events)
     }
 
-    // Reads one more line, which isn't passed over.
+    // Reads one more line, `line`, which isn't passed over.
     fn take(&mut self, line: &[u8]) -> Result<(), LineFault> {
         if !self.is_open {
             return self.take_outside(line);
@@ -132,7 +133,7 @@ impl<A: Allocator + Copy> Reading<A> {
         add_op(&mut self.draft, line)
     }
 
-    // Reads one more line where no offer is open.
+    // Reads one more line, `line`, where no offer is open.
     fn take_outside(&mut self, line: &[u8]) -> Result<(), LineFault> {
         if is_offer(line) {
             self.draft.clear();
@@ -161,13 +162,14 @@ impl<A: Allocator + Copy> Reading<A> {
     }
 }
 
-// Whether an offer begins with this line.
+// Whether an offer begins with `line`.
 #[inline(always)]
 fn is_offer(line: &[u8]) -> bool {
     matches!(line, b"offer")
 }
 
-// Adds the operation that a line spells.
+// Adds the operation that `line` spells to `draft`. Returns `Syntax` where it spells none, and
+// `Full` where `draft` has 511 already.
 pub(crate) fn add_op(draft: &mut Draft, line: &[u8]) -> Result<(), LineFault> {
     let Some(op) = read_op(line) else {
         return Err(LineFault::Syntax);
@@ -175,7 +177,7 @@ pub(crate) fn add_op(draft: &mut Draft, line: &[u8]) -> Result<(), LineFault> {
     push_op(draft, op)
 }
 
-// Adds an operation.
+// Adds `op` to `draft`. Returns `Full` where that has 511 operations already.
 #[inline(always)]
 fn push_op(draft: &mut Draft, op: Op) -> Result<(), LineFault> {
     match draft.push(op) {
@@ -184,7 +186,8 @@ fn push_op(draft: &mut Draft, op: Op) -> Result<(), LineFault> {
     }
 }
 
-// Adds the events of a line.
+// Adds the events of a line, `repeated`, to `events`. Returns `Many` where there would be more than
+// 65,536, and `Memory` where an allocation fails.
 #[inline(always)]
 fn add_events<A: Allocator>(
     alloc: A,
@@ -200,7 +203,7 @@ fn add_events<A: Allocator>(
     Ok(())
 }
 
-// How many events a line has.
+// Returns how many events a line has, which `repeated` holds.
 pub(crate) fn count(repeated: &EventLine) -> usize {
     usize::from(repeated.count)
 }

@@ -11,19 +11,20 @@ pub struct GivenNames<'a, A: Allocator + Copy> {
 }
 
 impl<'a, A: Allocator + Copy> GivenNames<'a, A> {
-    /// No names.
+    /// Returns a list of no names, with its memory from `alloc`.
     pub fn new(alloc: A) -> GivenNames<'a, A> {
         GivenNames {
             given: IndexSet::new(alloc),
         }
     }
 
-    /// Forgets all names, and keeps their room.
+    /// Removes all names, and keeps their room.
     pub fn clear(&mut self) {
         self.given.clear();
     }
 
-    /// Gives one name more, if there is one.
+    /// Adds `name`, if there is one. Returns `Twice` where it was given before, and `Memory` where
+    /// an allocation fails.
     pub fn give(&mut self, name: Option<&'a [u8]>) -> Result<(), LineFault> {
         let Some(name) = name else {
             return Ok(());

@@ -1,5 +1,5 @@
 //! Why a line of a sketch was not taken.
-/// Why a line of a sketch was not taken.
+/// Why a line of a sketch isn't taken.
 #[derive(Clone, Copy)]
 pub enum LineFault {
     /// It spells nothing that may stand at its place.
@@ -12,6 +12,6 @@ pub enum LineFault {
     OutOfRom,
     /// It lays an operation on a word on which another section lies.
     Overlap,
-    /// A growth was refused.
+    /// An allocation failed.
     Memory,
 }

@@ -2,11 +2,11 @@
 use crate::line_fault::LineFault;
 use arrayvec::ArrayVec;
 
-/// The most tokens that a line of a sketch has: those of a line `rom` that gives eight words.
+/// The most tokens that a line of a sketch has: a line `rom` that gives eight words has so many.
 pub const MAX_TOKENS: usize = 10;
 
-/// The tokens of a line, which spaces and tabs part, without its comment and without one CR at its
-/// end. None exactly where there are more than ten.
+/// Returns the tokens of `line`, which are separated by spaces and tabs, without its comment and
+/// without one CR at its end. Returns `None` exactly where there are more than ten.
 pub fn tokens_of(line: &[u8]) -> Option<ArrayVec<&[u8], MAX_TOKENS>> {
     let mut found = ArrayVec::new();
     match find_tokens(line, &mut found) {
@@ -15,8 +15,8 @@ pub fn tokens_of(line: &[u8]) -> Option<ArrayVec<&[u8], MAX_TOKENS>> {
     }
 }
 
-/// Finds the tokens of a line, as `tokens_of` does, in place of those that were found before. It is
-/// refused exactly where there are more than ten.
+/// Puts the tokens of `line` into `found`, as `tokens_of` returns them, in place of those that were
+/// found before. Returns `Syntax` exactly where there are more than ten.
 pub fn find_tokens<'a>(
     line: &'a [u8],
     found: &mut ArrayVec<&'a [u8], MAX_TOKENS>,
@@ -33,8 +33,7 @@ pub fn find_tokens<'a>(
     keep(rest, found)
 }
 
-// Puts a token at the end of those that were found, unless it has no byte. It is refused where
-// there are ten already.
+// Adds `token` to `found`, unless it has no byte. Returns `Syntax` where `found` has ten already.
 fn keep<'a>(token: &'a [u8], found: &mut ArrayVec<&'a [u8], MAX_TOKENS>) -> Result<(), LineFault> {
     if !token.is_empty() && found.try_push(token).is_err() {
         return Err(LineFault::Syntax);
@@ -42,7 +41,8 @@ fn keep<'a>(token: &'a [u8], found: &mut ArrayVec<&'a [u8], MAX_TOKENS>) -> Resu
     Ok(())
 }
 
-// Where the first byte stands that ends a token. None where the whole text is one.
+// Returns the place in `text` of the first byte that ends a token, or `None` where the whole of
+// `text` is one.
 fn token_end(text: &[u8]) -> Option<usize> {
     let mut place = 0;
     while place < text.len() {
@@ -54,12 +54,12 @@ fn token_end(text: &[u8]) -> Option<usize> {
     None
 }
 
-// Whether this byte is a space, a tab or the `#` of a comment. Most are above all three.
+// Whether `byte` is a space, a tab or the `#` of a comment. Most bytes are above all three.
 fn ends_token(byte: u8) -> bool {
     byte <= b'#' && (byte == b' ' || byte == b'\t' || byte == b'#')
 }
 
-// What stands before a CR at the end.
+// Returns `line` without a CR at its end.
 fn without_cr(line: &[u8]) -> &[u8] {
     if line.is_empty() || line[line.len() - 1] != b'\r' {
         line
@@ -68,7 +68,8 @@ fn without_cr(line: &[u8]) -> &[u8] {
     }
 }
 
-// What stands after the eight spaces at the beginning, where most rows have them.
+// Returns what stands in `line` after its first eight bytes, if those are spaces: most rows begin
+// so. Else returns `line`.
 fn without_indent(line: &[u8]) -> &[u8] {
     if line.starts_with(b"        ") {
         &line[8..]

@@ -10,14 +10,15 @@ pub struct NameTable<'a, A: Allocator + Copy> {
 }
 
 impl<'a, A: Allocator + Copy> NameTable<'a, A> {
-    /// No names.
+    /// Returns a table of no names, with its memory from `alloc`.
     pub fn new(alloc: A) -> NameTable<'a, A> {
         NameTable {
             numbers: IndexMap::new(alloc),
         }
     }
 
-    /// Gives a name this number, if there is a name and it has none yet. A growth may be refused.
+    /// Gives `name` the number `number`, if there is a name and it has none yet. Returns
+    /// `OutOfMemory` where an allocation fails.
     pub fn put(&mut self, name: Option<&'a [u8]>, number: usize) -> Result<(), OutOfMemory> {
         if let Some(name) = name {
             if self.numbers.get(name).is_none() {
@@ -27,7 +28,7 @@ impl<'a, A: Allocator + Copy> NameTable<'a, A> {
         Ok(())
     }
 
-    /// The number of a name, if it has one.
+    /// Returns the number of `name`, if it has one.
     pub fn get(&self, name: &[u8]) -> Option<usize> {
         self.numbers.get(name).copied()
     }

@@ -9,9 +9,9 @@ use std::slice;
 
 /// A section that was read.
 pub struct Part<'a, A: Allocator> {
-    /// How its line begins it. That at the top has none.
+    /// How its line begins it. The section at the top has none.
     pub head: Option<Head<'a>>,
-    /// The line that begins it. That at the top begins with the text's first line.
+    /// The line that begins it. The section at the top begins with the text's first line.
     pub begin: Source<'a>,
     /// Its rows, in order.
     pub rows: Vec<Row<'a>, A>,
@@ -20,7 +20,8 @@ pub struct Part<'a, A: Allocator> {
 }
 
 impl<'a, A: Allocator + Copy> Part<'a, A> {
-    /// A section without rows.
+    /// Returns a section without rows, which `begin`, the line of `head`, begins. Its memory comes
+    /// from `alloc`.
     pub fn new(alloc: A, head: Option<Head<'a>>, begin: Source<'a>) -> Part<'a, A> {
         Part {
             head,
@@ -30,7 +31,7 @@ impl<'a, A: Allocator + Copy> Part<'a, A> {
         }
     }
 
-    /// Adds a row.
+    /// Adds `row`, which stands in the line `source`. Returns `Memory` where an allocation fails.
     pub fn push(&mut self, row: &Row<'a>, source: Source<'a>) -> Result<(), LineFault> {
         if self.rows.extend_from_slice(slice::from_ref(row)).is_err() {
             return Err(LineFault::Memory);
@@ -41,7 +42,7 @@ impl<'a, A: Allocator + Copy> Part<'a, A> {
         Ok(())
     }
 
-    /// Gives back the room that is left.
+    /// Gives back the unused room of the rows and their lines.
     pub fn fit(&mut self) {
         self.rows.shrink_to_fit();
         self.sources.shrink_to_fit();

@@ -5,18 +5,18 @@ use dvg_mem::FIRST_ROM_WORD;
 /// The word address after the ROM's last word.
 pub const ROM_END: usize = 0xC00;
 
-/// The words that sections take which were laid, and where the next word is laid.
+/// The words that laid sections take, and where the next word is laid.
 pub struct RomArea {
     /// The address after the last word of the last section.
     pub next: u16,
-    /// The first word address after all that were given before.
+    /// The first word address after all words that were given before.
     pub free: u16,
     /// For each word address whether a section lies on it.
     pub is_taken: [bool; ROM_END],
 }
 
 impl RomArea {
-    /// No word is taken.
+    /// Returns an area of which no word is taken.
     pub fn new() -> RomArea {
         RomArea {
             next: 0,
@@ -25,12 +25,13 @@ impl RomArea {
         }
     }
 
-    /// Before the first section, the first free word is this one.
+    /// Sets the first free word to the word address `free`. This comes before the first section.
     pub fn set_free(&mut self, free: u16) {
         self.free = free;
     }
 
-    /// Begins a section at this address, or else at the first free word.
+    /// Begins a section at the word address `address`, or else at the first free word. Returns
+    /// `OutOfRom` where that is below `first`, the ROM's first word, or above C00.
     pub fn begin(&mut self, first: u16, address: Option<u16>) -> Result<(), LineFault> {
         let start = match address {
             Some(given) => given,
@@ -44,7 +45,8 @@ impl RomArea {
         Ok(())
     }
 
-    /// Takes so many words more for the last section.
+    /// Takes `words` more words, at most two, for the last section. Returns `OutOfRom` where they
+    /// go past the ROM's end, and `Overlap` where one of them is taken.
     pub fn take(&mut self, words: usize) -> Result<(), LineFault> {
         let first = usize::from(self.next);
         let end = first + words;
@@ -61,7 +63,7 @@ impl RomArea {
     }
 }
 
-// Whether none of these words is taken.
+// Whether none of the words from `first` to `end`, `end` excluded, is `taken`.
 fn is_free(taken: &[bool], first: usize, end: usize) -> bool {
     for place in first..end {
         if taken[place] {
@@ -71,7 +73,7 @@ fn is_free(taken: &[bool], first: usize, end: usize) -> bool {
     true
 }
 
-// Takes these words.
+// Marks the words from `first` to `end`, `end` excluded, as `taken`.
 fn mark(taken: &mut [bool], first: usize, end: usize) {
     for place in first..end {
         taken[place] = true;

@@ -5,7 +5,7 @@ use dvg_read::{hex, read_op_parts};
 /// The most bytes of a name (this project's own choice).
 const MOST_NAME_BYTES: usize = 32;
 
-/// What a row does: an operation as a plain draft has it, or one whose target has a name.
+/// What a row does: an operation as a plain draft has it, or one whose target is named.
 #[derive(Clone, Copy)]
 pub enum Doing<'a> {
     /// An operation without a name.
@@ -38,7 +38,7 @@ pub enum Head<'a> {
     Rom(Option<u16>),
 }
 
-/// The row that a line of these tokens spells. None exactly where it spells none.
+/// Returns the row that a line of `tokens` spells, or `None` exactly where it spells none.
 pub fn read_row<'a>(tokens: &[&'a [u8]]) -> Option<Row<'a>> {
     let [first, rest @ ..] = tokens else {
         return None;
@@ -67,8 +67,8 @@ pub fn read_row<'a>(tokens: &[&'a [u8]]) -> Option<Row<'a>> {
     })
 }
 
-/// The beginning of a section that a line of these tokens spells. None exactly where it spells
-/// none.
+/// Returns the beginning of a section that a line of `tokens` spells, or `None` exactly where it
+/// spells none.
 pub fn read_head<'a>(tokens: &[&'a [u8]]) -> Option<Head<'a>> {
     match tokens {
         [begin] => bare_head(begin),
@@ -77,7 +77,7 @@ pub fn read_head<'a>(tokens: &[&'a [u8]]) -> Option<Head<'a>> {
     }
 }
 
-// A section that begins without a name and without an address.
+// Returns the section that `begin` alone begins: it has no name and no address.
 fn bare_head<'a>(begin: &[u8]) -> Option<Head<'a>> {
     match begin {
         b".frame" => Some(Head::Frame(None)),
@@ -86,7 +86,8 @@ fn bare_head<'a>(begin: &[u8]) -> Option<Head<'a>> {
     }
 }
 
-// A frame with this name, or a section of the ROM at this address.
+// Returns the section that `begin` and `operand` begin: a frame of that name, or a section of the
+// ROM at that address.
 fn head_with<'a>(begin: &[u8], operand: &'a [u8]) -> Option<Head<'a>> {
     match begin {
         b".frame" => frame_named(operand),
@@ -95,7 +96,7 @@ fn head_with<'a>(begin: &[u8], operand: &'a [u8]) -> Option<Head<'a>> {
     }
 }
 
-// The beginning of a frame with this name.
+// Returns the beginning of a frame called `name`, if that is a name.
 fn frame_named<'a>(name: &'a [u8]) -> Option<Head<'a>> {
     if is_name(name) {
         Some(Head::Frame(Some(name)))
@@ -104,7 +105,7 @@ fn frame_named<'a>(name: &'a [u8]) -> Option<Head<'a>> {
     }
 }
 
-// What a row of these tokens does. None exactly where they spell nothing.
+// Returns what a row of `tokens` does, or `None` exactly where they spell nothing.
 fn read_doing<'a>(tokens: &[&'a [u8]]) -> Option<Doing<'a>> {
     if let [command, target] = tokens {
         if is_name(target) {
@@ -115,7 +116,7 @@ fn read_doing<'a>(tokens: &[&'a [u8]]) -> Option<Doing<'a>> {
     Some(Doing::Plainly(op))
 }
 
-// The operation of this name whose target has that name.
+// Returns the operation `command` whose target is called `name`.
 fn wanting<'a>(command: &[u8], name: &'a [u8]) -> Option<Doing<'a>> {
     match command {
         b"call" => Some(Doing::Calls(name)),
@@ -126,7 +127,8 @@ fn wanting<'a>(command: &[u8], name: &'a [u8]) -> Option<Doing<'a>> {
     }
 }
 
-// The name that a token gives, which ends with a colon. None exactly where it gives none.
+// Returns the name that `token` gives, which ends with a colon, or `None` exactly where it gives
+// none.
 fn name_given<'a>(token: &'a [u8]) -> Option<&'a [u8]> {
     let (last, name) = token.split_last()?;
     if *last == b':' && is_name(name) {
@@ -136,7 +138,7 @@ fn name_given<'a>(token: &'a [u8]) -> Option<&'a [u8]> {
     }
 }
 
-// Whether it is a name: a letter, then letters, digits and `_`, no more than 32 bytes, and no three
+// Whether `name` is one: a letter, then letters, digits and `_`, at most 32 bytes, and not three
 // hexadecimal digits.
 fn is_name(name: &[u8]) -> bool {
     begins_with_letter(name)
@@ -145,7 +147,7 @@ fn is_name(name: &[u8]) -> bool {
         && hex(name, 3).is_none()
 }
 
-// Whether it begins with a letter.
+// Whether `name` begins with a letter.
 fn begins_with_letter(name: &[u8]) -> bool {
     match name {
         [first, ..] => first.is_ascii_lowercase(),
@@ -153,14 +155,14 @@ fn begins_with_letter(name: &[u8]) -> bool {
     }
 }
 
-// Whether each byte is a letter, a digit or `_`.
+// Whether each byte of `name` is a letter, a digit or `_`.
 fn has_name_bytes(name: &[u8]) -> bool {
     name.iter().all(
         |byte| { is_name_byte(*byte) },
     )
 }
 
-// Whether it is a letter, a digit or `_`.
+// Whether `byte` is a letter, a digit or `_`.
 fn is_name_byte(byte: u8) -> bool {
     byte.is_ascii_lowercase() || byte.is_ascii_digit() || byte == b'_'
 }

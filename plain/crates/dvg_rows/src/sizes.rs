@@ -2,8 +2,8 @@
 use crate::row::{Doing, Row};
 use dvg_frame::OpKind;
 
-/// How many words rows take: two for each VCTR and each LABS, one for each other operation, and
-/// none for a name alone.
+/// Returns how many words `rows` take: two for each VCTR and each LABS, one for each other
+/// operation, and none for a name alone.
 pub fn size(rows: &[Row]) -> usize {
     let mut words = 0;
     for row in rows {
@@ -12,7 +12,7 @@ pub fn size(rows: &[Row]) -> usize {
     words
 }
 
-/// How many words one row takes.
+/// Returns how many words `row` takes.
 pub fn words_of_row(row: &Row) -> usize {
     match &row.doing {
         Some(doing) => words_of_doing(doing),
@@ -20,7 +20,7 @@ pub fn words_of_row(row: &Row) -> usize {
     }
 }
 
-// How many words it takes.
+// Returns how many words the operation `doing` takes.
 fn words_of_doing(doing: &Doing) -> usize {
     match doing {
         Doing::Plainly(op) => words_of_kind(op.kind()),
@@ -28,7 +28,7 @@ fn words_of_doing(doing: &Doing) -> usize {
     }
 }
 
-// How many words an operation takes.
+// Returns how many words an operation of this `kind` takes.
 fn words_of_kind(kind: OpKind) -> usize {
     match kind {
         OpKind::Draw(code) => usize::from(code.word_count()),

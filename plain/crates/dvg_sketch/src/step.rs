@@ -15,12 +15,12 @@ pub enum Step<'a> {
 }
 
 impl<'a> Step<'a> {
-    // Whether it is an operation.
+    // Returns whether the step is an operation.
     pub(crate) fn is_operation(&self) -> bool {
         !matches!(self, Step::Name(_))
     }
 
-    // Whether it gives this name.
+    // Returns whether the step gives the name `name`.
     pub(crate) fn names(&self, name: &str) -> bool {
         match self {
             Step::Name(given) => *given == name,

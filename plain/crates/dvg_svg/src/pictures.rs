@@ -21,12 +21,12 @@ const GROUP_END: &[u8] = b"</g>\n";
 /// What comes after the pictures.
 const END: &[u8] = b"</g>\n</svg>\n";
 
-// The side of a picture in pixels, by its size in percent.
+// Returns the side of a picture in pixels, by its size `percent`: 1,024 at 100 percent.
 fn side(percent: u16) -> u32 {
     1024 * u32::from(percent) / 100
 }
 
-// Writes the line that begins a text, of this size in percent.
+// Writes the line that begins an SVG to `writer`, with the size `percent`.
 fn write_size<W: Write>(percent: u16, writer: &mut Watched<W>) -> Result<(), StreamFailed> {
     let mut buffer = Buffer::new();
     let side = buffer.format(side(percent)).as_bytes();
@@ -42,7 +42,7 @@ fn write_size<W: Write>(percent: u16, writer: &mut Watched<W>) -> Result<(), Str
     )
 }
 
-// Writes the line of a title, if there is one.
+// Writes the line of `title` to `writer`, if there is one.
 fn write_title<W: Write>(title: Option<&[u8]>, writer: &mut Watched<W>) -> Result<(), StreamFailed> {
     match title {
         Some(title) => write_parts(&[b"<title>", title, b"</title>\n"], writer),
@@ -50,7 +50,8 @@ fn write_title<W: Write>(title: Option<&[u8]>, writer: &mut Watched<W>) -> Resul
     }
 }
 
-// Writes what comes before the pictures.
+// Writes what comes before the pictures to `writer`, with the size `percent` and with `title`, if
+// there is one.
 fn write_begin<W: Write>(
     percent: u16,
     title: Option<&[u8]>,
@@ -61,7 +62,7 @@ fn write_begin<W: Write>(
     write_whole(writer, SCREEN)
 }
 
-// Writes the lines of strokes.
+// Writes a line to `writer` for each of `strokes`.
 fn write_strokes<W: Write>(strokes: &[Stroke], writer: &mut Watched<W>) -> Result<(), StreamFailed> {
     let mut line = Line::new();
     for stroke in strokes {
@@ -71,17 +72,20 @@ fn write_strokes<W: Write>(strokes: &[Stroke], writer: &mut Watched<W>) -> Resul
     Ok(())
 }
 
-// How long one of several pictures is seen, in milliseconds.
+// Returns how long one of several pictures is seen, in milliseconds, at `rate` pictures a second.
+// That is 0 at the rate 0.
 fn seen(rate: u16) -> u16 {
     if rate == 0 { 0 } else { 1000 / rate }
 }
 
-// How long the first of several pictures is hidden, in milliseconds.
+// Returns how long the first of several pictures is hidden, in milliseconds, at `rate` pictures a
+// second. `last` is the number of the last picture, counted from 0.
 fn hidden(rate: u16, last: usize) -> u128 {
     u128::from(seen(rate)) * last as u128
 }
 
-// Writes the lines that show the first of several pictures in its turn.
+// Writes the lines that show the first of several pictures in its turn to `writer`. `last` is the
+// number of the last picture, counted from 0.
 fn write_first_turn<W: Write>(
     rate: u16,
     last: usize,
@@ -104,7 +108,8 @@ fn write_first_turn<W: Write>(
     )
 }
 
-// Writes the lines that show a later picture in its turn, after picture `before`.
+// Writes the lines to `writer` that show picture `number` in its turn, which is not the first,
+// after picture `before`.
 fn write_later_turn<W: Write>(
     rate: u16,
     before: usize,
@@ -128,7 +133,8 @@ fn write_later_turn<W: Write>(
     )
 }
 
-// Writes the lines that show a picture in its turn.
+// Writes the lines to `writer` that show picture `number` in its turn. `last` is the number of the
+// last picture, counted from 0.
 fn write_turn<W: Write>(
     rate: u16,
     last: usize,
@@ -142,7 +148,8 @@ fn write_turn<W: Write>(
     }
 }
 
-// Writes one of several pictures.
+// Writes picture `number`, one of several, to `writer`, with its `strokes`. `last` is the number of
+// the last picture, counted from 0.
 fn write_group<W: Write>(
     rate: u16,
     last: usize,
@@ -155,7 +162,7 @@ fn write_group<W: Write>(
     write_whole(writer, GROUP_END)
 }
 
-// Writes several pictures.
+// Writes several `pictures` to `writer`, at `rate` pictures a second.
 fn write_groups<A: Allocator, W: Write>(
     rate: u16,
     pictures: &[Vec<Stroke, A>],
@@ -168,7 +175,7 @@ fn write_groups<A: Allocator, W: Write>(
     Ok(())
 }
 
-// Writes pictures: one alone, or several that are shown in turn.
+// Writes `pictures` to `writer`: one alone, or several that are shown in turn, `rate` a second.
 fn write_pictures<A: Allocator, W: Write>(
     rate: u16,
     pictures: &[Vec<Stroke, A>],
@@ -181,8 +188,8 @@ fn write_pictures<A: Allocator, W: Write>(
     }
 }
 
-/// Writes a picture as SVG, of this size in percent: its title, if there is one, and the line of
-/// each stroke. The title is text that XML takes as it is.
+/// Writes a picture as SVG to `writer`, in the size `percent`: `title`, if there is one, and a line
+/// for each of `strokes`. `title` is text that XML takes as it is.
 pub fn write_svg<W: Write>(
     percent: u16,
     title: Option<&[u8]>,
@@ -194,9 +201,10 @@ pub fn write_svg<W: Write>(
     write_whole(writer, END)
 }
 
-/// Writes pictures as one SVG: a single picture as `write_svg` does without a title, and several as
-/// a group each, which are shown in turn and then from the first one again. Of two pictures or more
-/// the first one is seen where nothing moves.
+/// Writes `pictures` as one SVG to `writer`, in the size and at the rate that `show` says. A single
+/// picture is written as `write_svg` does without a title. Several are written as a group each,
+/// which are shown in turn and then from the first one again. Of two pictures or more the first one
+/// is seen where nothing moves.
 pub fn write_svgs<A: Allocator, W: Write>(
     show: Show,
     pictures: &[Vec<Stroke, A>],

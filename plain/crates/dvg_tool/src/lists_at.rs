@@ -10,12 +10,13 @@ use std::io::{Read, Write};
 /// How many word addresses there are.
 const ADDRESSES: usize = 4096;
 
-// The address of a place of words of which the first has this address.
+// Returns the address of `place` among words of which the first has the address `at`, modulo 4,096.
 fn address_from(at: u16, place: usize) -> usize {
     (usize::from(at) + place % ADDRESSES) % ADDRESSES
 }
 
-// Writes a line for each instruction of the words, of which the first has this address.
+// Writes a line to `writer` for each instruction of `words`, of which the first has the address
+// `at`.
 fn list_words_at<W: Write>(at: u16, words: &[u16], writer: &mut Watched<W>) -> Result<(), ToolFault> {
     let mut line = Line::new();
     for item in Listing::new(words) {
@@ -34,8 +35,9 @@ fn list_words_at<W: Write>(at: u16, words: &[u16], writer: &mut Watched<W>) -> R
     Ok(())
 }
 
-/// Lists words as `list` does, where the first one has this address and the others count on from
-/// it, modulo 4,096. Lines and the fault `Cut` give these addresses; all else is as `list` has it.
+/// Lists words from `reader` to `writer` as `list` does, where the first one has the address `at`
+/// and the others count on from it, modulo 4,096. Lines and the fault `Cut` give these addresses;
+/// all else is as `list` has it.
 pub fn list_at<A: Allocator, R: Read, W: Write>(
     alloc: A,
     reader: &mut Watched<R>,

@@ -7,7 +7,7 @@ use dvg_print::{BoundedVerdict, Verdict};
 use std::alloc::{Allocator, Global};
 use std::io::Write;
 
-/// What an engine that is done has to say.
+/// What an engine that is done reports.
 #[derive(Debug, PartialEq, Eq)]
 pub enum Done<A: Allocator = Global> {
     /// The text was written.
@@ -31,8 +31,8 @@ pub enum Done<A: Allocator = Global> {
     },
 }
 
-/// Flushes the writer of an engine that is done. A flush that fails is `Writer`, whatever the
-/// engine answered; else the engine's answer stays.
+/// Flushes `writer` after an engine is done, which returned `answer`. A flush that fails is
+/// `Writer`, whatever `answer` is. Else `answer` is returned.
 pub fn finish<A: Allocator, W: Write>(
     answer: Result<Done<A>, ToolFault>,
     writer: &mut Watched<W>,
@@ -43,11 +43,15 @@ pub fn finish<A: Allocator, W: Write>(
     }
 }
 
-/// The program's exit status (this project's own choice). It is 0 where the job is done. It is 1
-/// for a fault of the text, and where what was asked about isn't good: a draft that `check`
-/// refuses, also in a sketch, a dump that draws no picture, a log with a torn picture or of which
-/// no run drew a half. It is 2 for a stream that failed or want of memory. Arguments that ask for
-/// no job are 64, which is not an answer of an engine.
+/// Returns the program's exit status for `answer` (this project's own choice):
+///
+/// - 0: the job is done.
+/// - 1: a fault of the text, or what was asked about isn't good: a draft that `check` refuses, also
+///   in a sketch, a dump that draws no picture, a log with a torn picture or of which no run drew a
+///   half.
+/// - 2: a stream or an allocation failed.
+///
+/// Arguments that ask for no job are 64, which no engine returns.
 pub fn status<A: Allocator>(answer: &Result<Done<A>, ToolFault>) -> u8 {
     match answer {
         Ok(

@@ -14,7 +14,8 @@ const LINE_WORDS: usize = 8;
 /// The line that gives the map of the larger ROM.
 const LARGE_MAP: &[u8] = b"map 4096\n";
 
-// Writes a line for every eight words of a ROM, from the first one's address on.
+// Writes a line to `writer` for every eight of `words`, the words of a ROM. `first` is the word
+// address of the first.
 fn write_rows<W: Write>(
     first: u16,
     words: &[u16],
@@ -32,7 +33,8 @@ fn write_rows<W: Write>(
     Ok(())
 }
 
-// Writes the text of a ROM: the line of its map, if there is one, and those of its words.
+// Writes the text of a ROM to `writer`: `map`, the line of its map or nothing, and the lines of
+// `words`. `first` is the word address of the first.
 fn write_rom<W: Write>(
     map: &[u8],
     first: u16,
@@ -43,7 +45,8 @@ fn write_rom<W: Write>(
     write_rows(first, words, writer)
 }
 
-// The words of the bytes of a ROM.
+// Returns the words of `bytes`, the bytes of a ROM. Returns `RomSize` where they are neither 2,048
+// nor 4,096, and `Memory` where an allocation fails.
 fn words_of_rom<A: Allocator>(alloc: A, bytes: &[u8]) -> Result<Vec<u16, A>, ToolFault> {
     if bytes.len() != MEMORY_BYTES && bytes.len() != LARGE_ROM_BYTES {
         return Err(ToolFault::Text(TextFault::RomSize));
@@ -54,7 +57,7 @@ fn words_of_rom<A: Allocator>(alloc: A, bytes: &[u8]) -> Result<Vec<u16, A>, Too
     }
 }
 
-// The engine: of a ROM it finds the words.
+// The engine that finds the words of a ROM.
 struct RomEngine;
 
 impl<A: Allocator + Copy> Engine<A> for RomEngine {
@@ -79,13 +82,13 @@ impl<A: Allocator + Copy> Engine<A> for RomEngine {
     }
 }
 
-/// Reads the bytes of a ROM, 2,048 or 4,096, and writes them as ROM lines of eight words each: of
-/// 2,048 bytes 128 lines, from word address 800 on, and of 4,096 bytes the line `map 4096` and 256
-/// lines, from word address 400 on (the text is this project's own choice).
+/// Reads the bytes of a ROM from `reader`, 2,048 or 4,096, and writes them to `writer` as ROM lines
+/// of eight words each: of 2,048 bytes 128 lines, from word address 800 on, and of 4,096 bytes the
+/// line `map 4096` and 256 lines, from word address 400 on (the text is this project's own choice).
 ///
 /// - `RomSize`: the input has another number of bytes; no more than 4,097 are taken.
 /// - `Reader`, `Writer`: that stream failed. After `Writer` a beginning of the text went out.
-/// - `Memory`: a growth was refused.
+/// - `Memory`: an allocation failed.
 ///
 /// Where it stops before it writes, which is at any fault but `Writer`, the writer is as it was.
 pub fn rom_text<A: Allocator, R: Read, W: Write>(

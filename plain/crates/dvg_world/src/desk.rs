@@ -9,7 +9,7 @@ use dvg_mem::{MemFault, Rom};
 use std::alloc::{Allocator, Global};
 
 /// A driver with the ROM over which its drafts are checked, and what they are checked by. It knows
-/// no RAM: its answers say what it does.
+/// no RAM: what it returns says what it does.
 #[derive(Clone, Debug)]
 pub struct Desk<A: Allocator = Global> {
     rom: Rom<A>,
@@ -18,8 +18,8 @@ pub struct Desk<A: Allocator = Global> {
 }
 
 impl<A: Allocator> Desk<A> {
-    /// A driver that was just reset, over this ROM. It takes some 105 KB for the tables of the
-    /// check.
+    /// Returns a driver that was just reset, over `rom`. It takes some 105 KB from `alloc`, for the
+    /// tables of the check. Returns `OutOfMemory` where an allocation fails.
     pub fn new(alloc: A, rom: Rom<A>) -> Result<Desk<A>, OutOfMemory> {
         Ok(Desk {
             rom,
@@ -28,9 +28,9 @@ impl<A: Allocator> Desk<A> {
         })
     }
 
-    /// The driver is just reset, over a ROM of these bytes. Memory is taken, and may be refused,
-    /// only for a ROM of another size. After an error all is as it was. The error is `Size` exactly
-    /// where no ROM has this number of bytes.
+    /// Resets the driver, over a ROM of the bytes `rom`. Memory is taken, from `alloc`, only for a
+    /// ROM of another size. Returns `Size` exactly where the length of `rom` is neither 2,048 nor
+    /// 4,096, and `OutOfMemory` where an allocation fails. After an error all is as it was.
     pub fn begin_anew(&mut self, alloc: A, rom: &[u8]) -> Result<(), MemFault> {
         match self.rom.copy_from(alloc, rom) {
             Ok(()) => {
@@ -41,17 +41,17 @@ impl<A: Allocator> Desk<A> {
         }
     }
 
-    /// The ROM.
+    /// Returns the ROM.
     pub fn rom(&self) -> &Rom<A> {
         &self.rom
     }
 
-    /// Whether the driver is idle, and so would take a draft that the check accepts.
+    /// Returns whether the driver is idle, and so would take a draft that the check accepts.
     pub(crate) fn is_idle(&self) -> bool {
         self.driver.is_idle()
     }
 
-    /// The driver is handed a draft to show.
+    /// Hands `draft` to the driver to show, if the check accepts it. Returns the entry.
     pub fn offer<S>(&mut self, draft: &Draft) -> Entry<S> {
         let checked = match self.checker.check(draft, &self.rom) {
             Ok(checked) => checked,
@@ -63,7 +63,7 @@ impl<A: Allocator> Desk<A> {
         }
     }
 
-    /// The driver is asked to have the published frame drawn again.
+    /// Asks the driver to have the published frame drawn again. Returns the entry.
     pub fn redraw<S>(&mut self) -> Entry<S> {
         match self.driver.redraw() {
             Ok(()) => Entry::Asked,
@@ -72,14 +72,14 @@ impl<A: Allocator> Desk<A> {
         }
     }
 
-    /// The driver does one action. It is told whether the generator is halted, and the byte at 001
-    /// of the RAM.
+    /// Lets the driver do one action, and returns it. `halted` says whether the generator is
+    /// halted, and `byte1` is the byte at 001 of the RAM.
     #[inline(always)]
     pub fn tick(&mut self, halted: bool, byte1: u8) -> Action {
         self.driver.tick(halted, byte1)
     }
 
-    /// The driver is reset.
+    /// Resets the driver.
     pub fn reset(&mut self) {
         self.driver.reset();
     }

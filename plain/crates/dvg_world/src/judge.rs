@@ -16,7 +16,7 @@ enum Drawing {
 }
 
 impl Drawing {
-    // What a run draws whose first word is this one, at this address.
+    // Returns what a run draws whose first word is `word`, at `address`.
     fn from_first(address: u16, word: u16) -> Drawing {
         if address != 0 || word / 0x1000 != 0xE {
             return Drawing::Nothing;
@@ -27,7 +27,7 @@ impl Drawing {
         Drawing::Within(half)
     }
 
-    // What is left by an event.
+    // Returns what is drawn once `event` has happened, before its entry counts.
     fn after_event<A: Allocator>(self, event: &OwnEvent<A>) -> Drawing {
         match event {
             Event::ResetGen | Event::ResetAll(_) => Drawing::Nothing,
@@ -35,7 +35,7 @@ impl Drawing {
         }
     }
 
-    // What is drawn after the fetch of a word at this address.
+    // Returns what is drawn after the fetch of `word` at `address`.
     fn after_fetch(self, address: u16, word: u16) -> Drawing {
         match self {
             Drawing::Begun => Drawing::from_first(address, word),
@@ -43,7 +43,7 @@ impl Drawing {
         }
     }
 
-    // What is drawn after an entry.
+    // Returns what is drawn after `entry`.
     fn after_entry<A: Allocator>(self, entry: &OwnEntry<A>) -> Drawing {
         match entry {
             Entry::Started => Drawing::Begun,
@@ -53,8 +53,8 @@ impl Drawing {
         }
     }
 
-    // Whether this is drawn with the byte at this address of the RAM, so that to write it tears the
-    // picture.
+    // Returns whether the byte at `address` of the RAM lies in the half that is drawn, so that
+    // writing it tears the picture.
     fn is_torn_at(self, address: u16) -> bool {
         let Drawing::Within(half) = self else {
             return false;
@@ -62,7 +62,7 @@ impl Drawing {
         Half::of_word(address / 2) == Some(half)
     }
 
-    // Whether this entry, after which that is drawn, tears the picture.
+    // Returns whether `entry`, after which this is drawn, tears the picture.
     fn is_torn_by<A: Allocator>(self, entry: &OwnEntry<A>) -> bool {
         match entry {
             Entry::Acted(Action::Wrote(address, _)) => self.is_torn_at(*address),
@@ -71,66 +71,67 @@ impl Drawing {
     }
 }
 
-/// A judge of one log, whoever made it. It is given the log's lines in order: each by its event and
-/// its entry, or by what it shows. It keeps no more than which half the open run draws, and takes
-/// no memory.
+/// A judge of one log, whoever made it. It is handed the log's lines in order: each by its event
+/// and its entry, or by what it shows. It keeps no more than which half the open run draws, and
+/// takes no memory.
 #[derive(Clone, Copy, Debug, PartialEq, Eq)]
 pub struct Judge {
     drawing: Drawing,
 }
 
 impl Judge {
-    /// Before the first line.
+    /// Returns a judge that stands before the first line.
     pub fn new() -> Judge {
         Judge {
             drawing: Drawing::Nothing,
         }
     }
 
-    /// Is given one more line. Answers whether that line tears a picture.
+    /// Takes one more line, of `event` and `entry`. Returns whether that line tears a picture.
     pub fn take<A: Allocator>(&mut self, event: &OwnEvent<A>, entry: &OwnEntry<A>) -> bool {
         self.drawing = self.drawing.after_event(event).after_entry(entry);
         self.drawing.is_torn_by(entry)
     }
 
-    /// Is told that a strobe began a run.
+    /// Notes that a strobe began a run.
     pub fn started(&mut self) {
         self.drawing = Drawing::Begun;
     }
 
-    /// Is told that a fetch completed this word at this word address, and the run goes on.
+    /// Notes that a fetch completed the word `word` at the word address `address`, and the run goes
+    /// on.
     pub fn fetched(&mut self, address: u16, word: u16) {
         self.drawing = self.drawing.after_fetch(address, word);
     }
 
-    /// Is told that a fetch ended the run by a HALT, whatever its word address, its word and what
-    /// it drew. Of a run that broke it is told the same.
+    /// Notes that a fetch ended the run by a HALT, whatever its word address, its word and what it
+    /// drew. The caller notes a run that broke in the same way.
     pub fn halted(&mut self) {
         self.drawing = Drawing::Nothing;
     }
 
-    /// Is told of a reset of the generator.
+    /// Notes a reset of the generator.
     pub fn reset(&mut self) {
         self.drawing = Drawing::Nothing;
     }
 
-    /// Whether the open run draws a half: its first word was that at 000, a jump to one.
+    /// Returns whether the open run draws a half: its first word was that at 000, a jump to one.
     #[inline(always)]
     pub fn is_drawing(&self) -> bool {
         matches!(self.drawing, Drawing::Within(_))
     }
 
-    /// Is told that the driver wrote a byte at this byte address of the RAM. Answers whether that
-    /// tears a picture.
+    /// Returns whether a byte that the driver wrote at the byte address `address` of the RAM tears
+    /// a picture.
     pub fn wrote(&self, address: u16) -> bool {
         self.drawing.is_torn_at(address)
     }
 }
 
-/// The number of the first entry that tears a picture: a byte written in the half that the open run
-/// draws. None exactly where there is none. The log may be any one, legal or not, such as that of
-/// another driver or of a test program. Where one list is longer than the other, the rest of it is
-/// passed over.
+/// Returns the number of the first of `entries` that tears a picture: a byte written in the half
+/// that the open run draws. Returns `None` exactly where there is none. `events` has the event of
+/// each entry. The log may be any one, legal or not, such as that of another driver or of a test
+/// program. Where one list is longer than the other, the rest of it is passed over.
 ///
 /// A strobe that began a run opens it, and a HALT, a fault, and a reset of the generator or of the
 /// whole system end it; such a reset ends it before its own entry counts. It draws a half where the

@@ -18,12 +18,13 @@ use std::mem;
 pub struct Logged<A: Allocator = Global> {
     /// The entries, in the order of their events.
     pub entries: Entries<A>,
-    /// Whether all events happened. Where not, memory was refused (which is tested).
+    /// Whether all events happened. Where not, an allocation failed (which is tested).
     pub is_whole: bool,
 }
 
 impl<A: Allocator + Copy> Logged<A> {
-    /// The entries of a run that stopped before its first event.
+    /// Returns what is kept of a run that stopped before its first event: empty lists, with the
+    /// allocator `alloc`.
     pub fn unstarted(alloc: A) -> Logged<A> {
         Logged {
             entries: Entries {
@@ -42,15 +43,15 @@ struct EntriesKept<A: Allocator> {
 }
 
 impl<A: Allocator> EntriesKept<A> {
-    // Keeps one entry more.
+    // Keeps `entry`. There must be room for it.
     #[inline(always)]
     fn keep(&mut self, entry: OwnEntry<A>) {
         let (entry, drew) = entry.replace(self.number());
         self.keep_parts(entry, drew, 1);
     }
 
-    // Keeps the entry of one fetch more, which has the number of the next picture. What its run
-    // drew, if it finished, is taken out of this list, and the other one takes its place.
+    // Keeps `entry`, of one fetch, which has the number of the next picture. What its run drew, if
+    // it finished, is taken out of `drawn`, and `other` takes its place.
     #[inline(always)]
     fn keep_fetched(&mut self, entry: Entry<u16>, drawn: &mut Vec<Stroke, A>, other: Vec<Stroke, A>) {
         match entry {
@@ -59,14 +60,14 @@ impl<A: Allocator> EntriesKept<A> {
         }
     }
 
-    // The number of the next picture.
+    // Returns the number of the next picture.
     #[inline(always)]
     fn number(&self) -> u16 {
         self.drawn.len() as u16
     }
 
-    // Keeps so many equal entries more, with the number of the next picture in place of what their
-    // run drew, and what that is, if it finished.
+    // Keeps `entry`, `times` times in a row, with the number of the next picture in place of the
+    // strokes. `drew` has the strokes, if its run finished.
     #[inline(always)]
     fn keep_parts(&mut self, entry: Entry<u16>, drew: Option<Vec<Stroke, A>>, times: usize) {
         if let Some(strokes) = drew {
@@ -76,7 +77,7 @@ impl<A: Allocator> EntriesKept<A> {
         self.kept.push_reserved(Alike { entry, again });
     }
 
-    // What is kept, of a run that is whole or not.
+    // Returns what is kept. `is_whole` says whether all events happened.
     fn logged(self, is_whole: bool) -> Logged<A> {
         Logged {
             entries: Entries {
@@ -88,8 +89,9 @@ impl<A: Allocator> EntriesKept<A> {
     }
 }
 
-// Lets an event happen to a world, as `happen` does, and keeps its entry. It is kept where it comes
-// about, so that the code knows which entries there may be.
+// Lets `event` happen to `world`, as `happen` does, and keeps its entry in `entries`. The draft of
+// an offer is made in `draft`. The entry is kept where it comes about, so that the code knows which
+// entries there may be.
 #[inline(always)]
 fn keep_next<S: Store>(
     event: TraceEvent<'_, S::Alloc>,
@@ -116,8 +118,8 @@ fn keep_next<S: Store>(
     Ok(())
 }
 
-// Lets so many ticks happen to a world, and keeps their entries. After one that finds the driver
-// idle, so do all, and nothing changes.
+// Ticks `world` `times` times, and keeps the entries in `entries`. Stops at the first idle tick,
+// and keeps its entry for the others, too: all later ones would be idle, and change nothing.
 fn log_ticks<S: Store>(entries: &mut EntriesKept<S::Alloc>, times: usize, world: &mut World<S>) {
     for done in 0..times {
         let action = world.act();
@@ -129,8 +131,9 @@ fn log_ticks<S: Store>(entries: &mut EntriesKept<S::Alloc>, times: usize, world:
     }
 }
 
-// Lets so many fetches happen to a world, and keeps their entries. After one that finds the
-// generator halted, so do all, and nothing changes.
+// Lets `world` fetch `times` times, and keeps the entries in `entries`. Stops at the first fetch
+// that finds the generator halted, and keeps its entry for the others, too: all later ones would
+// find it halted, and change nothing.
 fn log_fetches<S: Store>(
     entries: &mut EntriesKept<S::Alloc>,
     times: usize,
@@ -150,7 +153,8 @@ fn log_fetches<S: Store>(
     Ok(())
 }
 
-// Lets an event happen to a world so many times in a row, and keeps its entries.
+// Lets the event of `run` happen to `world` as many times as `run` says, and keeps the entries in
+// `entries`. The draft of an offer is made in `draft`.
 fn log_run<S: Store>(
     run: (TraceEvent<'_, S::Alloc>, usize),
     entries: &mut EntriesKept<S::Alloc>,
@@ -175,15 +179,14 @@ fn log_run<S: Store>(
     Ok(())
 }
 
-/// Lets the events of a trace happen to a new world, as `run_trace` does, and keeps their entries
-/// in little room: those of the one legal log of these events, of which each line keeps the
-/// headline.
+/// Lets the events of `trace` happen to a new world of `rom` and `image`, as `run_trace` does.
+/// Keeps their entries in little room, in memory of `alloc`: those of the one legal log of these
+/// events, of which each line keeps the headline.
 ///
-/// It stops for want of memory where `run_trace` does: before the first event, or at a fetch that
-/// completes a vector with an intensity of at least 1. The entries are then those of the events
-/// before.
-/// That memory was really refused, and that a refusal at such a fetch keeps what came before, is
-/// tested: by its contract alone this might always stop at once, with nothing kept.
+/// It stops where an allocation fails, as `run_trace` does: before the first event, or at a fetch
+/// that completes a vector with an intensity of at least 1. The entries are then those of the
+/// events before. That an allocation really failed, and that a failure at such a fetch keeps what
+/// came before, is tested: by its contract alone this might always stop at once, with nothing kept.
 ///
 /// The lists are grown once, for as many as there are events, before the first happens.
 pub fn log_trace<S: Store>(

@@ -9,8 +9,8 @@ use dvg_log::{OwnEntry, OwnEvent, Trace};
 use dvg_mem::{Image, Rom, Store};
 use std::alloc::Allocator;
 
-/// Lets events happen to a new world, one after the other, and answers the entry of each, in their
-/// order.
+/// Lets `events` happen to a new world of `rom` and `image`, one after the other, and returns the
+/// entry of each, in their order. Memory is taken from `alloc`.
 ///
 /// For every ROM, first image of the RAM and list of events, whatever they are, each line of the
 /// log keeps the headline (`KeepsHeadline`, of which each part has a name): no byte is written in
@@ -22,13 +22,14 @@ use std::alloc::Allocator;
 /// for each event, and each entry is the one that its event gets over the log before it: the log is
 /// legal, so driver and generator really act.
 ///
-/// This rests on three premises. The log ends early only for want of memory: before the first
-/// event, or at a fetch that completes a vector with an intensity of at least 1. `Stopped` then has
-/// the entries of the events before, and all this holds of their log. A strobe arrives only after
-/// the driver sent one since the last reset of the whole system, or the beginning; it may arrive
-/// never, once or often. One access of memory is whole: one byte written, or one byte fetched.
+/// This rests on three premises. The log ends early only where an allocation fails: before the
+/// first event, or at a fetch that completes a vector with an intensity of at least 1. `Stopped`
+/// then has the entries of the events before, and all this holds of their log. A strobe arrives
+/// only after the driver sent one since the last reset of the whole system, or the beginning; it
+/// may arrive never, once or often. One access of memory is whole: one byte written, or one byte
+/// fetched.
 ///
-/// That memory was really refused, and that a refusal at such a fetch keeps what came before, is
+/// That an allocation really failed, and that a failure at such a fetch keeps what came before, is
 /// tested: by its contract alone this might always stop at once, with nothing kept.
 ///
 /// It isn't said that a strobe, a tick or a fetch ever comes, that a picture is ever drawn, or that
@@ -61,9 +62,9 @@ pub fn run<S: Store>(
     Ok(entries)
 }
 
-/// Lets the events of a trace happen to a new world, as `run` does with a list of them: each line
-/// of the log keeps the headline, and the log is the one legal log of these events. Its clauses are
-/// those of `run`.
+/// Lets the events of `trace` happen to a new world of `rom` and `image`, as `run` does with a list
+/// of them: each line of the log keeps the headline, and the log is the one legal log of these
+/// events. Memory is taken from `alloc`. The clauses are those of `run`.
 pub fn run_trace<S: Store>(
     alloc: S::Alloc,
     rom: Rom<S::Alloc>,
@@ -95,7 +96,7 @@ pub fn run_trace<S: Store>(
     Ok(entries)
 }
 
-// A run that stopped before its first event.
+// Returns a run that stopped before its first event. Its list is empty, with the allocator `alloc`.
 fn unstarted<A: Allocator + Copy>(alloc: A) -> Stopped<A> {
     Stopped {
         entries: Vec::new(alloc),

@@ -5,7 +5,7 @@ use dvg_log::OwnEntry;
 use std::alloc::{Allocator, Global};
 use thiserror::Error;
 
-/// A run that stopped for want of memory, and for no other cause (which is tested).
+/// A run that stopped because an allocation failed, and for no other cause (which is tested).
 #[derive(Error)]
 #[derive(Debug, PartialEq, Eq)]
 #[error("memory was refused at event {event}")]

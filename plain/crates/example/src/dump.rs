@@ -9,8 +9,9 @@ use dvg_dump::{Dump, Ending, SMALL_DUMP_BYTES};
 /// The first words of the memory: a jump to 001, LABS 512 400 0, VCTR 9 -100 100 7, and HALT.
 const WORDS: [u16; 6] = [0xE001, 0xA190, 0x0200, 0x9064, 0x7464, 0xB000];
 
-/// Draws the memory, and prints each instruction with the beam after it, and then each stroke. None
-/// where memory is refused, a line can't be printed, or there is no picture.
+/// Draws the memory, and prints through `rt` each instruction with the beam after it, and then each
+/// stroke. Returns `None` where an allocation fails, a line can't be printed, or there is no
+/// picture.
 pub fn draw(rt: &HostRuntime) -> Option<()> {
     let mut memory = [0; SMALL_DUMP_BYTES];
     for (i, word) in WORDS.iter().enumerate() {

@@ -10,7 +10,8 @@ use dvg_read::read_trace;
 use dvg_world::{Event, Trace, TraceEvent, first_torn, run_trace};
 use std::io;
 
-/// An event of a trace with a draft or an image of its own.
+/// Returns `event` with a draft or an image of its own, in memory of `rt`. Returns `None` where an
+/// allocation fails.
 fn own_event(rt: &HostRuntime, event: TraceEvent) -> Option<Event> {
     Some(match event {
         TraceEvent::Offer(ops) => {
@@ -28,7 +29,8 @@ fn own_event(rt: &HostRuntime, event: TraceEvent) -> Option<Event> {
     })
 }
 
-/// The events of a trace, one by one.
+/// Returns the events of `trace`, one by one, in memory of `rt`. Returns `None` where an allocation
+/// fails.
 fn events(rt: &HostRuntime, trace: &Trace) -> Option<Vec<Event>> {
     let mut events = Vec::new(rt.alloc());
     for run in trace.runs() {
@@ -39,8 +41,9 @@ fn events(rt: &HostRuntime, trace: &Trace) -> Option<Vec<Event>> {
     Some(events)
 }
 
-/// Plays the trace of a text, and finds the first entry of its log that tears a picture. None where
-/// the text isn't a trace, or memory is refused.
+/// Plays the trace of `text`, and returns the number of the first entry of its log that tears a
+/// picture, if one does. Memory is that of `rt`. Returns `None` where the text isn't a trace, or an
+/// allocation fails.
 fn judge(rt: &HostRuntime, text: &[u8]) -> Option<Option<usize>> {
     let trace = read_trace(rt.alloc(), text).ok()?;
     let rom = Rom::new(rt.alloc(), trace.rom.as_slice()).ok()?;
@@ -50,8 +53,8 @@ fn judge(rt: &HostRuntime, text: &[u8]) -> Option<Option<usize>> {
     Some(first_torn(events.as_slice(), entries.as_slice()))
 }
 
-/// Judges the trace on standard input, and prints what it finds. None where it can't be read or
-/// judged, or the line can't be printed.
+/// Judges the trace on the standard input of `rt`, and prints what it finds. Returns `None` where
+/// it can't be read or judged, or the line can't be printed.
 pub fn judge_input(rt: &HostRuntime) -> Option<()> {
     let text = io::read_to_string(rt.alloc(), rt.stdin()).ok()?;
     match judge(rt, text.as_bytes())? {

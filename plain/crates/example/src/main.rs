@@ -14,13 +14,13 @@ mod world;
 use std::env;
 use std::process::ExitCode;
 
-/// The exit status where memory is refused, or input or output fails.
+/// The exit status where an allocation fails, or input or output does.
 const FAILED: u8 = 1;
 
 /// The exit status where there is no example of that name.
 const MISUSE: u8 = 64;
 
-/// Prints the name of each example, and runs it. None where one fails.
+/// Prints the name of each example through `rt`, and runs it. Returns `None` where one fails.
 fn run_all(rt: &HostRuntime) -> Option<()> {
     println!(rt; "world:").ok()?;
     world::draw(rt)?;
@@ -32,7 +32,8 @@ fn run_all(rt: &HostRuntime) -> Option<()> {
     dump::draw(rt)
 }
 
-/// Runs the example of this name, or all of them where none is named. Returns the exit status.
+/// Runs the example `name`, or all of them where that is `None`, with `rt`. Returns the exit
+/// status.
 fn run(rt: &HostRuntime, name: Option<&str>) -> u8 {
     let done = match name {
         None => run_all(rt),
@@ -48,8 +49,8 @@ fn run(rt: &HostRuntime, name: Option<&str>) -> u8 {
     if done.is_some() { 0 } else { FAILED }
 }
 
-/// The program's words, of which the first is its own name. None where one is no text, or memory
-/// is refused.
+/// Returns the words of the command line, which `rt` has. The first is the program's own name.
+/// Returns `None` where one is no text, or an allocation fails.
 fn words(rt: &HostRuntime) -> Option<Vec<String>> {
     env::args(rt).ok()?.collect(rt.alloc()).ok()
 }

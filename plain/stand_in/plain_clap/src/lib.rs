@@ -137,7 +137,8 @@ impl<'a> Command<'a> {
         Command { after, ..self }
     }
 
-    /// The version, which `--version` shows.
+    /// The version, which `--version` shows. Where `(proved)` stands in it, that is true of the
+    /// proved program alone, and `(plain Rust, not proved)` is shown.
     pub fn version(self, version: &'a str) -> Command<'a> {
         Command {
             version: Some(version),
@@ -517,9 +518,13 @@ impl Error {
 
     fn version(command: &Command) -> Result<Error, AllocError> {
         let version = command.version.unwrap_or("");
+        let name = command.name;
         Ok(Error {
             kind: ErrorKind::DisplayVersion,
-            text: text(format_args!("{} {version}\n", command.name))?,
+            text: match version.strip_suffix(" (proved)") {
+                Some(number) => text(format_args!("{name} {number} (plain Rust, not proved)\n"))?,
+                None => text(format_args!("{name} {version}\n"))?,
+            },
         })
     }
 

@@ -10,7 +10,7 @@ use crate::place::Place;
 use dvg_mem::Rom;
 use std::alloc::Allocator;
 
-// Where a way leads on at its own depth, or what is drawn where it leads nowhere.
+// Returns where `way` leads on at its own depth, or what is drawn where it leads nowhere.
 fn onward(way: Way) -> Result<Place, Drawn> {
     match way {
         Way::Move(next, _) | Way::Jump(next) | Way::Call(_, next) => Ok(next),
@@ -29,7 +29,7 @@ fn onward(way: Way) -> Result<Place, Drawn> {
     }
 }
 
-// The same with this many more words.
+// Returns `rest` with `more` added to its words.
 fn longer(rest: Drawn, more: u64) -> Drawn {
     Drawn {
         words: rest.words.saturating_add(more),
@@ -39,7 +39,8 @@ fn longer(rest: Drawn, more: u64) -> Drawn {
     }
 }
 
-// What is drawn from a call, by what is drawn from its target and from the place after it.
+// Returns what is drawn from a call, where `inside` is drawn from its target, and `rest` from the
+// place after it.
 fn called(inside: Drawn, rest: Drawn) -> Drawn {
     let calls = rest.calls.max(inside.calls.saturating_add(1));
     let words = inside.words.saturating_add(1);
@@ -59,7 +60,8 @@ fn called(inside: Drawn, rest: Drawn) -> Drawn {
     }
 }
 
-// Notes what is drawn from a place, unless the table has it. Answers what the table has then.
+// Notes `drawn` as what is drawn from `place`, unless `table` has an entry for it. Returns what the
+// table has then.
 #[inline(always)]
 fn put_drawn(table: &mut Table, place: Place, drawn: Drawn) -> Drawn {
     match table.at(place) {
@@ -71,9 +73,9 @@ fn put_drawn(table: &mut Table, place: Place, drawn: Drawn) -> Drawn {
     }
 }
 
-// Follows the steps at one depth from a pair, up to a place that the table has an entry for, or
-// from which nothing leads on: that one is noted. The chain gets the pairs before it. Answers what
-// is drawn from it. None where a pair has a fault, or the steps come to no end.
+// Follows the steps at one depth from `start`, up to a place that `table` has an entry for, or from
+// which nothing leads on: that one is noted. `chain` gets the pairs before it. Returns what is
+// drawn from that place, or `None` where a pair has a fault, or the steps come to no end.
 #[inline(always)]
 fn follow<A: Allocator>(
     draft: &Draft,
@@ -105,9 +107,9 @@ fn follow<A: Allocator>(
     None // They come to no end.
 }
 
-// Finds what is drawn from a pair's place, and from each place on the way from it. None where a
-// pair has a fault, or steps at one depth come to no end. The chain's pairs of other depths stay
-// there.
+// Finds what is drawn from the place of `start`, and from each place on the way from it. Notes it
+// in `table`, and returns that of `start`. Returns `None` where a pair has a fault, or steps at one
+// depth come to no end. The pairs of other depths stay in `chain`.
 fn settle<A: Allocator>(
     draft: &Draft,
     rom: &Rom<A>,
@@ -141,8 +143,9 @@ fn settle<A: Allocator>(
     Some(rest)
 }
 
-/// How many words the whole run of a draft fetches, that of word zero included. None where a
-/// reached pair has a fault, or steps at one depth come to no end. The table has nothing at first.
+/// Returns the number of words that the whole run of `draft` over `rom` fetches, that of word zero
+/// included. Returns `None` where a reached pair has a fault, or steps at one depth come to no end.
+/// `table` has nothing at first, and `chain` is emptied.
 ///
 /// Each place is gone over once, however many depths it is reached at: what is drawn from it is the
 /// same at each, and the table says at which depths no run from it breaks. So the time is linear in

@@ -13,7 +13,7 @@ use dvg_code::Instr;
 use dvg_mem::Rom;
 use std::alloc::Allocator;
 
-// Whether it is a LABS.
+// Returns whether `kind` draws a LABS.
 fn is_labs(kind: OpKind) -> bool {
     match kind {
         OpKind::Draw(code) => matches!(code.instr(), Instr::Labs { .. }),
@@ -21,7 +21,7 @@ fn is_labs(kind: OpKind) -> bool {
     }
 }
 
-// Whether it names an operation that isn't among this many.
+// Returns whether `kind` names an operation whose number isn't below `count`.
 fn names_none(count: usize, kind: OpKind) -> bool {
     match kind {
         OpKind::Call(j) | OpKind::Jump(j) => count <= usize::from(j),
@@ -29,7 +29,8 @@ fn names_none(count: usize, kind: OpKind) -> bool {
     }
 }
 
-// The least operation that names one which the draft doesn't have.
+// Returns the number of the first operation that names one which `draft` doesn't have, if there is
+// one.
 fn first_miss(draft: &Draft) -> Option<u16> {
     let count = draft.len();
     for i in 0..count {
@@ -40,7 +41,7 @@ fn first_miss(draft: &Draft) -> Option<u16> {
     None
 }
 
-// How many words the operations of a draft have.
+// Returns the number of words that the operations of `draft` have.
 fn words_of_all(draft: &Draft) -> u16 {
     let mut words = 0;
     for op in draft.ops() {
@@ -49,7 +50,7 @@ fn words_of_all(draft: &Draft) -> u16 {
     words
 }
 
-// How many words a draft without the faults 1 to 4 has, or the first of them that holds.
+// Returns the number of words of `draft`, or the first of the faults 1 to 4 that it has.
 fn words_or_fault(draft: &Draft) -> Result<u16, FrameFault> {
     let count = draft.len();
     if count == 0 {
@@ -70,7 +71,7 @@ fn words_or_fault(draft: &Draft) -> Result<u16, FrameFault> {
 
 /// The check, with tables of a fixed size that are kept from one check to the next: a check takes
 /// time for the operations and for the places and pairs that it reaches, and none for the size of
-/// the tables, which is about 105 KB. What it answers doesn't depend on what it checked before. A
+/// the tables, which is about 105 KB. What it returns doesn't depend on what it checked before. A
 /// caller that checks many drafts should keep one, on the heap.
 #[derive(Clone, Debug)]
 pub struct Checker {
@@ -80,7 +81,7 @@ pub struct Checker {
 }
 
 impl Checker {
-    /// A checker.
+    /// Returns a checker, with nothing in its tables.
     pub fn new() -> Checker {
         Checker {
             reached: Worklist::new(),
@@ -89,19 +90,19 @@ impl Checker {
         }
     }
 
-    /// The draft, checked, where it has no fault over the ROM, and else the fault that is picked:
-    /// faults 1 to 4 in their order, then that of the first reached pair of place and depth that
-    /// has one, then fault 9. Operations come before ROM words, each by number, and of one place
-    /// the lesser depth comes first; if several faults hold at that pair, the least number is
-    /// answered (this project's own choice).
+    /// Checks `draft` over `rom`. Returns the checked draft where it has no fault, otherwise the
+    /// fault that is picked: faults 1 to 4 in their order, then that of the first reached pair of
+    /// place and depth that has one, then fault 9. Operations come before ROM words, each by
+    /// number, and of one place the lesser depth comes first; if several faults hold at that pair,
+    /// the one of least number is returned (this project's own choice).
     ///
     /// The pairs begin with operation 0 at depth 0. A vector or a LABS leads to the place after it,
     /// a jump to its target, a call to its target one deeper and to the place after it at its own
     /// depth. A return, a halt and a pair with a fault lead nowhere.
     ///
-    /// Exactly one answer holds of each draft and ROM. The time is linear in the draft's operations
-    /// and the places and pairs that are reached. Only a loop takes longer: it is followed for as
-    /// many steps as there are places.
+    /// Each draft has exactly one result over each ROM. The time is linear in the draft's
+    /// operations and the places and pairs that are reached. Only a loop takes longer: it is
+    /// followed for as many steps as there are places.
     pub fn check<'a, A: Allocator>(
         &mut self,
         draft: &'a Draft,
@@ -119,7 +120,8 @@ impl Checker {
         }
     }
 
-    // The bound of a draft without the faults 1 to 4, or the fault that is picked.
+    // Returns the bound of `draft` over `rom`, or the fault that is picked. `draft` has none of the
+    // faults 1 to 4.
     fn bound_or_fault<A: Allocator>(
         &mut self,
         draft: &Draft,
@@ -141,8 +143,9 @@ impl Checker {
     }
 }
 
-// The fault that is picked of a draft without the faults 1 to 4, in which a reached pair has a
-// fault or steps at one depth come to no end. The list of pairs is laid out for such a draft alone.
+// Returns the fault that is picked of `draft` over `rom`. `draft` has none of the faults 1 to 4,
+// and a reached pair has a fault or steps at one depth come to no end. The list of pairs is laid
+// out for such a draft alone.
 #[inline(never)]
 fn picked<A: Allocator>(draft: &Draft, rom: &Rom<A>) -> FrameFault {
     let mut reached = Worklist::new();
@@ -152,9 +155,9 @@ fn picked<A: Allocator>(draft: &Draft, rom: &Rom<A>) -> FrameFault {
     }
 }
 
-/// The frame of a draft that has no fault over the ROM, and else the fault that is picked, as by a
-/// `Checker`. Its tables are laid out on the stack. A caller that checks many drafts should keep a
-/// `Checker`, which saves the time for that.
+/// Returns the frame of `draft` where it has no fault over `rom`, otherwise the fault that is
+/// picked, as by a `Checker`. Its tables are laid out on the stack. A caller that checks many
+/// drafts should keep a `Checker`, which saves the time for that.
 pub fn check<A: Allocator>(draft: &Draft, rom: &Rom<A>) -> Result<Frame, FrameFault> {
     let words = match words_or_fault(draft) {
         Ok(words) => words,

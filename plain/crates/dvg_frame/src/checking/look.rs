@@ -7,7 +7,7 @@ use crate::place::Place;
 use dvg_mem::Rom;
 use std::alloc::Allocator;
 
-// The operation at a place, if it is the last one of this many.
+// Returns the number of the operation at `place`, if it is the last one of `count`.
 fn last_op(count: usize, place: Place) -> Option<u16> {
     match place {
         Place::InFrame(i) => {
@@ -21,7 +21,8 @@ fn last_op(count: usize, place: Place) -> Option<u16> {
     }
 }
 
-// The fault of least number at a pair among this many operations, where this is the way on.
+// Returns the fault of least number at `pair`, over `rom`, if there is one. The draft has `count`
+// operations, and `seen` is the way on.
 #[inline(always)]
 fn fault_at<A: Allocator>(rom: &Rom<A>, count: usize, pair: Pair, seen: Way) -> Option<FrameFault> {
     match seen {
@@ -44,7 +45,7 @@ fn fault_at<A: Allocator>(rom: &Rom<A>, count: usize, pair: Pair, seen: Way) -> 
     }
 }
 
-// The way on from a pair without a fault, or the fault of least number there.
+// Returns the way on from `pair`, of `draft` over `rom`, or the fault of least number there.
 #[inline(always)]
 pub(crate) fn look<A: Allocator>(draft: &Draft, rom: &Rom<A>, pair: Pair) -> Result<Way, FrameFault> {
     match way_at(draft, rom, pair.place) {

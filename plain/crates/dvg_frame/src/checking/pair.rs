@@ -11,16 +11,16 @@ pub(crate) const ROM_FIRST: u16 = FIRST_LARGE_ROM_WORD;
 
 pub(crate) const ROM_END: u16 = LAST_ROM_WORD + 1;
 
-/// How many words a ROM can have.
+/// The most words that a ROM can have.
 pub(crate) const ROM_WORDS: usize = (ROM_END - ROM_FIRST) as usize;
 
-/// How many places there are: each operation and each word that a ROM can have.
+/// The number of places: each operation and each word that a ROM can have.
 pub(crate) const PLACES: usize = MAX_OPS + ROM_WORDS;
 
-/// How many depths there are: none to four open calls.
+/// The number of depths: none to four open calls.
 const DEPTHS: u16 = DEEPEST as u16 + 1;
 
-/// How many pairs there are: at each place one for each depth.
+/// The number of pairs: at each place one for each depth.
 pub(crate) const PAIRS: usize = PLACES * (DEEPEST as usize + 1);
 
 /// A place, and how many calls are open there.
@@ -37,7 +37,7 @@ pub(crate) const FIRST: Pair = Pair {
     depth: 0,
 };
 
-// The number of a pair, counted in the order in which faults are picked.
+// Returns the number of `pair`, counted in the order in which faults are picked.
 pub(crate) fn index_of(pair: Pair) -> usize {
     let place = match pair.place {
         Place::InFrame(i) => usize::from(i),
@@ -46,7 +46,7 @@ pub(crate) fn index_of(pair: Pair) -> usize {
     (usize::from(DEEPEST) + 1) * place + usize::from(pair.depth)
 }
 
-// The pair of a number.
+// Returns the pair of the number `number`, as `index_of` counts them.
 pub(crate) fn pair_of(number: u16) -> Pair {
     let place = number / DEPTHS;
     let depth = (number % DEPTHS) as u8;

@@ -10,34 +10,34 @@ pub(crate) struct PairList<const MOST: usize> {
 }
 
 impl<const MOST: usize> PairList<MOST> {
-    // A list with no pair.
+    // Returns a list with no pair.
     pub(crate) fn new() -> PairList<MOST> {
         PairList {
             numbers: ArrayVec::new(),
         }
     }
 
-    // How many pairs there are.
+    // Returns the number of pairs, at most `MOST`.
     pub(crate) fn len(&self) -> usize {
         self.numbers.len()
     }
 
-    // The pair at this position.
+    // Returns the pair at the position `i`, which must be below the number of pairs.
     pub(crate) fn at(&self, i: usize) -> Pair {
         pair_of(self.numbers[i])
     }
 
-    // Takes all pairs out.
+    // Removes all pairs.
     pub(crate) fn clear(&mut self) {
         self.numbers.clear();
     }
 
-    // Puts a pair after the others.
+    // Adds `pair` at the end. There must be room for it.
     pub(crate) fn push(&mut self, pair: Pair) {
         self.numbers.push(index_of(pair) as u16);
     }
 
-    // Takes the last pair out.
+    // Removes the last pair and returns it. The list must not be empty.
     pub(crate) fn pop(&mut self) -> Pair {
         pair_of(self.numbers.pop().unwrap())
     }

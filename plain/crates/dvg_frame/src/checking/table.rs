@@ -15,14 +15,14 @@ pub(crate) enum Ending {
 #[derive(Clone, Copy)]
 #[derive(Debug)]
 pub(crate) struct Drawn {
-    /// How many words are fetched. The count stops at the greatest number, which no draft without a
+    /// The number of words that are fetched. It saturates, at a number that no draft without a
     /// fault reaches.
     pub(crate) words: u64,
     /// How it ends.
     pub(crate) end: Ending,
-    /// Whether the steps at its own depth come to a return, also where a call on the way halts.
+    /// Whether the steps at its own depth come to a return, even where a call on the way halts.
     pub(crate) returns: bool,
-    /// How many calls are open at once at most, of those that are made on the way.
+    /// The most calls that are open at once, of those that are made on the way.
     pub(crate) calls: u8,
 }
 
@@ -56,7 +56,7 @@ pub(crate) struct Table {
 }
 
 impl Table {
-    // A table in which nothing is known.
+    // Returns a table in which nothing is known.
     pub(crate) fn new() -> Table {
         Table {
             notes: [BLANK; PLACES],
@@ -64,7 +64,7 @@ impl Table {
         }
     }
 
-    // What is known of a place.
+    // Returns what is known of `place`.
     pub(crate) fn at(&self, place: Place) -> Option<Drawn> {
         let note = self.notes[number_of(place)];
         if note.round == self.round {
@@ -79,7 +79,7 @@ impl Table {
         }
     }
 
-    // Notes what is drawn from a place.
+    // Notes `drawn` as what is drawn from `place`.
     pub(crate) fn put(&mut self, place: Place, drawn: Drawn) {
         self.notes[number_of(place)] = Note {
             words: drawn.words,
@@ -101,7 +101,7 @@ impl Table {
     }
 }
 
-// The number of a place, counted in the order of the places.
+// Returns the number of `place`, counted in the order of the places.
 fn number_of(place: Place) -> usize {
     match place {
         Place::InFrame(i) => usize::from(i),

@@ -6,7 +6,7 @@ use crate::place::Place;
 use dvg_mem::Rom;
 use std::alloc::Allocator;
 
-/// How what stands at a place leads on.
+/// Where the instruction at a place leads on: its successors.
 #[derive(Clone, Copy)]
 pub(crate) enum Way {
     /// Over this many words to the place after it.
@@ -30,7 +30,7 @@ pub(crate) enum Span {
     Into(Place),
 }
 
-// Whether a place is at an address outside the ROM.
+// Returns whether `place` is at an address outside `rom`.
 pub(crate) fn is_outside<A: Allocator>(rom: &Rom<A>, place: Place) -> bool {
     match place {
         Place::InFrame(_) => false,
@@ -38,7 +38,7 @@ pub(crate) fn is_outside<A: Allocator>(rom: &Rom<A>, place: Place) -> bool {
     }
 }
 
-// The way of an operation, with this place after it.
+// Returns the way of the operation `kind`, where `after` is the place after it.
 #[inline(always)]
 fn way_of_op(kind: OpKind, after: Place) -> Way {
     match kind {
@@ -52,7 +52,7 @@ fn way_of_op(kind: OpKind, after: Place) -> Way {
     }
 }
 
-// The span of a way.
+// Returns the span of `way`.
 fn span_of(way: Way) -> Span {
     match way {
         Way::Move(_, words) => Span::Over(words),
@@ -61,7 +61,7 @@ fn span_of(way: Way) -> Span {
     }
 }
 
-// The span of an operation.
+// Returns the span of the operation `kind`.
 fn span_of_op(kind: OpKind) -> Span {
     match kind {
         OpKind::CallRom(a) => Span::Into(Place::InRom(a)),
@@ -70,7 +70,8 @@ fn span_of_op(kind: OpKind) -> Span {
     }
 }
 
-// The way on from a word of the ROM, by its opcode. None where the ROM ends within the instruction.
+// Returns the way on from the word at `a` of `rom`, by its opcode, or `None` where the ROM ends
+// within the instruction.
 fn rom_way<A: Allocator>(rom: &Rom<A>, a: u16) -> Option<Way> {
     let word = rom.word(a);
     if word < 0xB000 {
@@ -92,7 +93,8 @@ fn rom_way<A: Allocator>(rom: &Rom<A>, a: u16) -> Option<Way> {
     Some(way)
 }
 
-// The way on from a place. None where the ROM ends within the instruction there.
+// Returns the way on from `place`, of `draft` over `rom`, or `None` where the ROM ends within the
+// instruction there.
 #[inline(always)]
 pub(crate) fn way_at<A: Allocator>(draft: &Draft, rom: &Rom<A>, place: Place) -> Option<Way> {
     match place {
@@ -105,8 +107,8 @@ pub(crate) fn way_at<A: Allocator>(draft: &Draft, rom: &Rom<A>, place: Place) ->
     }
 }
 
-// The span of the way on from a place, by fewer branches than `way_at` takes. None where the ROM
-// ends within the instruction there.
+// Returns the span of the way on from `place`, of `draft` over `rom`, by fewer branches than
+// `way_at` takes. Returns `None` where the ROM ends within the instruction there.
 #[inline(always)]
 pub(crate) fn span_at<A: Allocator>(draft: &Draft, rom: &Rom<A>, place: Place) -> Option<Span> {
     match place {

@@ -10,7 +10,7 @@ pub(crate) struct Worklist {
 }
 
 impl Worklist {
-    // A list with no pair.
+    // Returns a list with no pair.
     pub(crate) fn new() -> Worklist {
         Worklist {
             marks: [false; PAIRS],
@@ -18,17 +18,17 @@ impl Worklist {
         }
     }
 
-    // How many pairs there are.
+    // Returns the number of pairs.
     pub(crate) fn len(&self) -> usize {
         self.pairs.len()
     }
 
-    // The pair at this position.
+    // Returns the pair at the position `i`, which must be below the number of pairs.
     pub(crate) fn at(&self, i: usize) -> Pair {
         self.pairs.at(i)
     }
 
-    // Takes all pairs out. Only their own marks are taken back, so the time is linear in their
+    // Removes all pairs. Only their own marks are taken back, so the time is linear in their
     // number.
     pub(crate) fn clear(&mut self) {
         while self.pairs.len() > 0 {
@@ -37,7 +37,7 @@ impl Worklist {
         }
     }
 
-    // Adds a pair at the end, unless it is there.
+    // Adds `pair` at the end, unless it is there.
     pub(crate) fn add(&mut self, pair: Pair) {
         let i = index_of(pair);
         if !self.marks[i] {

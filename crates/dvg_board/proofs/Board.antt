@@ -1,0 +1,590 @@
+-- The board: its arbiter, its map and its RAM, and what each clock keeps. Its logs are legal.
+use Rattle.std.proofs.Common.{◌≡◌, ℕ, zero, suc, ◌+◌, ◌-◌, ◌*◌, ◌/◌, ◌%◌, ◌<◌, ◌≤◌, ◌⊎◌, Bool, true, false, not, List, [], ◌∷◌, length, Option, Some, None, refl, sym, ap, ◌∙◌, subst, arith, inl, inr}
+use Rattle.std.specs.Prelude.{nat_eq, nat_lt, nat_le, ◌&&◌, ◌==◌, if◌then◌else◌, slice_index, slice_set, option_map}
+use Rattle.std.proofs.lemmas.Bool.{eqb-true, ltb-true, ltb-false, le-ltb, lt-ltb}
+use Rattle.std.proofs.lemmas.Bool.Decides.{eqb_tells, leb_tells}
+use Rattle.std.proofs.lemmas.List.{length-set, get_or-set_same, get_or-set_other}
+use Rattle.std.proofs.lemmas.List.Elements.{All-set, All-get_or}
+use Rattle.dvg_code.specs.Words.{word_in}
+use Rattle.dvg_mem.specs.Memory.{IsImage, IsRom, first_word, fetched_byte}
+use Rattle.dvg_mem.proofs.Roms.{words_from_first}
+use Rattle.dvg_gen.specs.Bytes.{Met, Waits, Whole, met}
+use Rattle.dvg_gen.specs.Told.{Reply, More, Drew, Fails}
+use Rattle.dvg_driver.specs.declared.action.Action.{Action}
+use Rattle.dvg_driver.specs.declared.action.Action.TheVariants.{Peek, Wrote, Read, Sent, Idle}
+use Rattle.dvg_log.specs.Events.{Happening}
+use Rattle.dvg_log.specs.declared.event.Event.TheVariants.{Offer, Redraw, Tick, Strobe, Fetch, ResetGen, ResetCpu, ResetAll}
+use Rattle.dvg_log.specs.Entries.{Shown}
+use Rattle.dvg_log.specs.declared.entry.Entry.TheVariants.{Offered, Refused, Busy, Asked, NothingPublished, Acted, Started, Low, Still, Cleared}
+use Rattle.dvg_log.specs.Log.{◌⟼◌, Log, ram, strobed, low_byte}
+use Rattle.dvg_core.specs.Cells.{bit, both, either, eq, lt, mux, none, some, part, joined}
+use Rattle.dvg_core.specs.Core.{Core, Pins, halted}
+use Rattle.dvg_core.specs.Core as cells
+use Rattle.dvg_core.specs.Refines.{ArePins, byte_of}
+use Rattle.dvg_core.specs.Refines as core
+use Rattle.dvg_core.specs.Shown.{says}
+use Rattle.dvg_core.proofs.Fitting.{Fits}
+use Rattle.dvg_driver.specs.Script.{Did, IsLife}
+use Rattle.dvg_driver.specs.Stands.{Tells}
+use Rattle.dvg_log.specs.Log.{Throughout, life}
+use Rattle.dvg_log.specs.Legal.{IsLegal}
+use Rattle.dvg_log.specs.Headline.{KeepsHeadline}
+use Rattle.dvg_theorem.proofs.Headline.{headline}
+use Rattle.dvg_board.specs.Memory.{memwr}
+use Rattle.dvg_board.specs.Board.{Board, Bus, pins, clock}
+use Rattle.dvg_board.specs.Fetches.{entry, entry_by, entry_of}
+use Rattle.dvg_board.specs.Clocks.{IsBus, after, cores, IsServed, reads, writes, sends, looks, changes}
+use Rattle.dvg_board.specs.Logs.{did, core_line, answered, FitsIf, IsSilent, IsBoard, powers, clocks, acts, FitsScript, OfEachBoard, HoldsRam}
+use Rattle.dvg_board.proofs.System.{Keeps, idle, fetch, reset_line, reset_all, start_line, acted_line, silent_line, keeps_new}
+
+differ : {A : Type 0} {n : ℕ} → n ≡ 0 → n ≡ 1 → A
+differ is_zero is_one = absurd (omega arith)
+
+zero_or_one : (n : ℕ) → n < 2 → (n ≡ 0) ⊎ (n ≡ 1)
+zero_or_one zero l = inl refl
+zero_or_one (suc zero) l = inr refl
+zero_or_one (suc (suc n)) l = absurd (omega arith)
+
+-- what the processor looks at changes no memory and no strobe
+module _ (image : List ℕ) where
+  flag_ram : (flag byte1 halted : Bool) (log : Log)
+      → ram image (did (if flag then Some (Read halted) else if byte1 then Some Peek else None) log) ≡ ram image log
+  flag_ram true byte1 halted log = refl
+  flag_ram false true halted log = refl
+  flag_ram false false halted log = refl
+
+  looks_ram : (board : Board) (bus : Bus) (log : Log) → ram image (did (looks board bus) log) ≡ ram image log
+  looks_ram board bus log = flag_ram (reads bus 0x2002) (reads bus 0x4001) (nat_eq (halted board.core) 1) log
+
+  changed_by : (writes sends : Bool) (a byte : ℕ) (log : Log)
+      → ram image (did (if writes then Some (Wrote a byte) else if sends then Some Sent else None) log)
+      ≡ (if writes then slice_set (ram image log) a byte else ram image log)
+  changed_by true sends a byte log = refl
+  changed_by false true a byte log = refl
+  changed_by false false a byte log = refl
+
+  -- what it changes is the byte that it writes
+  changes_ram : (bus : Bus) (log : Log) → ram image (did (changes bus) log)
+      ≡ (if writes bus then slice_set (ram image log) (bus.a % 0x800) bus.d else ram image log)
+  changes_ram bus log = changed_by (writes bus) (sends bus) (bus.a % 0x800) bus.d log
+
+  of_ram : (address : ℕ) (word : Option ℕ) (answer : Reply) (log : Log) → ram image ((Fetch ⟼ entry_of address word answer) ∷ log) ≡ ram image log
+  of_ram address (Some word) More log = refl
+  of_ram address (Some word) (Drew lines) log = refl
+  of_ram address (Some word) (Fails fault) log = refl
+  of_ram address None More log = refl
+  of_ram address None (Drew lines) log = refl
+  of_ram address None (Fails fault) log = refl
+
+  low_ram : (b : Bool) (address byte : ℕ) (log : Log) → ram image ((Fetch ⟼ (if b then Still else Low address byte)) ∷ log) ≡ ram image log
+  low_ram true address byte log = refl
+  low_ram false address byte log = refl
+
+  word_ram : (b : Bool) (address : ℕ) (word : Option ℕ) (answer : Reply) (log : Log) → ram image ((Fetch ⟼ (if b then Still else entry_of address word answer)) ∷ log) ≡ ram image log
+  word_ram true address word answer log = refl
+  word_ram false address word answer log = of_ram address word answer log
+
+  entry_ram : (closed address : ℕ) (m : Met) (answer : Reply) (log : Log) → ram image ((Fetch ⟼ entry_by closed address m answer) ∷ log) ≡ ram image log
+  entry_ram closed address (Waits byte) answer log = low_ram (nat_eq closed 1) address byte log
+  entry_ram closed address (Whole word) answer log = word_ram (nat_eq closed 1) address word answer log
+
+  core_ram : (r s p whole : Bool) (shown : Shown) (log : Log) → ram image ((Fetch ⟼ shown) ∷ log) ≡ ram image log
+      → ram image (if r then if s then if p then log else (Fetch ⟼ shown) ∷ log else (Strobe ⟼ Started) ∷ log
+      else if whole then (ResetAll (ram image log) ⟼ Cleared) ∷ log else (ResetGen ⟼ Cleared) ∷ log)
+      ≡ ram image log
+  core_ram true true true whole shown log e = refl
+  core_ram true true false whole shown log e = e
+  core_ram true false p whole shown log e = refl
+  core_ram false s p true shown log e = refl
+  core_ram false s p false shown log e = refl
+
+sent_looks : (flag byte1 halted : Bool) (log : Log) → strobed log ≡ true
+    → strobed (did (if flag then Some (Read halted) else if byte1 then Some Peek else None) log) ≡ true
+sent_looks true byte1 halted log e = e
+sent_looks false true halted log e = e
+sent_looks false false halted log e = e
+
+sent_sends : (writes sends : Bool) (a byte : ℕ) (log : Log) → writes ≡ false → sends ≡ true
+    → strobed (did (if writes then Some (Wrote a byte) else if sends then Some Sent else None) log) ≡ true
+sent_sends true sends a byte log off e = absurd (cc)
+sent_sends false false a byte log off e = absurd (cc)
+sent_sends false true a byte log off e = refl
+
+-- the memory's cells
+put_same : (L : List ℕ) (held : ℕ → ℕ) (at byte : ℕ) → at < length L → ((a : ℕ) → a < 2048 → held a ≡ slice_index L a)
+    → (a : ℕ) → a < 2048 → (if nat_eq a at then byte else held a) ≡ slice_index (slice_set L at byte) a
+put_same L held at byte inside same a small = elim (eqb_tells a at) [
+  | inl t ↦ ap (λ b. if b then byte else held a) t.0
+      ∙ sym (ap (λ i. slice_index (slice_set L at byte) i) t.1 ∙ get_or-set_same L at byte 0 inside)
+  | inr t ↦ ap (λ b. if b then byte else held a) t.0 ∙ same a small
+      ∙ sym (get_or-set_other L at a byte 0 t.1)
+]
+
+-- the wires of the arbiter, by what stands on the bus
+abbrev pub on_of : Bool → Bool → ℕ
+on_of acc on = if acc then 0 else some (bit on)
+
+abbrev pub writes_of : Bool → Bool → Bool → ℕ
+writes_of acc wr on = if nat_eq (on_of acc on) 0 then 0 else (if wr then 0 else 1)
+
+module _ (board : Board) (bus : Bus) where
+  abbrev pub other : ℕ
+  other = joined 1 board.core.high (part 0 10 board.core.at)
+
+  abbrev pub place_of : ℕ → ℕ
+  place_of o = mux o (part 0 11 bus.a) other
+
+  abbrev ram_of : (w o : ℕ) → ℕ → ℕ
+  ram_of w o = memwr (mux w 255 0) (mux w (place_of o) (part 0 11 bus.undefined)) (mux w bus.d (part 0 8 bus.undefined)) board.ram
+
+  abbrev unused : Bool
+  unused = nat_eq bus.access 0
+
+  abbrev reading : Bool
+  reading = nat_eq bus.write 0
+
+  abbrev named : Bool
+  named = nat_eq (part 11 5 bus.a) 8
+
+  ram_is : (clock board bus).ram ≡ ram_of (writes_of unused reading named) (on_of unused named)
+  ram_is = refl
+
+  read_is : (clock board bus).read ≡ mux (writes_of unused reading named) board.read (board.ram (place_of (on_of unused named)))
+  read_is = refl
+
+  -- the RAM after a clock is what the log says
+  module _ (L : List ℕ) (size : length L ≡ 2048) (same : (a : ℕ) → a < 2048 → board.ram a ≡ slice_index L a) where
+    written : (acc wr on : Bool) (a : ℕ) → a < 2048
+        → ram_of (writes_of acc wr on) (on_of acc on) a
+        ≡ slice_index (if not acc && (not wr && on) then slice_set L (bus.a % 2048) bus.d else L) a
+    written true wr on a small = same a small
+    written false true true a small = same a small
+    written false true false a small = same a small
+    written false false false a small = same a small
+    written false false true a small =
+        let at_is : part 0 11 bus.a ≡ bus.a % 2048 = omega arith in
+        put_same L board.ram (part 0 11 bus.a) bus.d (omega arith) same a small
+        ∙ ap (λ n. slice_index (slice_set L n bus.d) a) at_is
+
+-- the generator's map
+word_bytes : (L : List ℕ) (k high : ℕ) → high < 2 → slice_index L (2 * k) < 256 → slice_index L (2 * k + 1) < 256
+    → slice_index L (2 * k + high) ≡ (if not (nat_eq high 0) then word_in L k / 256 else word_in L k % 256)
+word_bytes L k zero l low_small high_small = let at : 2 * k + 0 ≡ 2 * k = omega arith in ap (slice_index L) at ∙ omega arith
+word_bytes L k (suc zero) l low_small high_small = omega arith
+word_bytes L k (suc (suc n)) l low_small high_small = absurd (omega arith)
+
+le_is : (a b : ℕ) → nat_le a b ≡ not (nat_lt b a)
+le_is a b = elim (leb_tells a b) [
+  | inl t ↦ t.0 ∙ sym (ap not (le-ltb b a t.1))
+  | inr t ↦ t.0 ∙ sym (ap not (lt-ltb b a t.1))
+]
+
+first_by : (b : Bool) → mux (bit (not b)) 1024 2048 ≡ (if b then 0x800 else 0x400)
+first_by true = refl
+first_by false = refl
+
+abbrev hole_of : (l f t : Bool) → ℕ
+hole_of l f t = both (none (bit l)) (none (both (none (bit f)) (bit t)))
+
+module _ (L R : List ℕ) (at high read rom : ℕ) (is_image : IsImage L) (is_rom : IsRom R) (high_bit : high < 2)
+    (ram_byte : at < 1024 → read ≡ slice_index L (2 * at + high))
+    (rom_byte : first_word R ≤ at → at < 0xC00 → rom ≡ slice_index R (2 * (at - first_word R) + high)) where
+  abbrev picked : ℕ → ℕ
+  picked word = if not (nat_eq high 0) then word / 256 else word % 256
+
+  in_image : (i : ℕ) → i < 2048 → slice_index L i < 256
+  in_image i l = let count = is_image.count in All-get_or (λ byte. byte < 256) L i 0 (omega arith) is_image.bytes
+
+  in_rom : (i : ℕ) → i + 2 * first_word R < 0x1800 → slice_index R i < 256
+  in_rom i l = let count = words_from_first R is_rom in All-get_or (λ byte. byte < 256) R i 0 (omega arith) is_rom.bytes
+
+  map_by : (l f t : Bool) → nat_lt at 0x400 ≡ l → nat_lt at (first_word R) ≡ f → nat_lt at 0xC00 ≡ t
+      → (if nat_eq (hole_of l f t) 0 then Some (mux (bit l) read rom) else None)
+      ≡ option_map picked (if l then Some (word_in L at) else if not f && t then Some (word_in R (at - first_word R)) else None)
+  map_by true f t el ef et =
+      let below = ltb-true at 0x400 el in
+      ap Some (ram_byte below ∙ word_bytes L at high high_bit (in_image (2 * at) (omega arith)) (in_image (2 * at + 1) (omega arith)))
+  map_by false true true el ef et = refl
+  map_by false true false el ef et = refl
+  map_by false false false el ef et = refl
+  map_by false false true el ef et =
+      let low = ltb-false at (first_word R) ef in
+      let top = ltb-true at 0xC00 et in
+      ap Some (rom_byte low top ∙ word_bytes R (at - first_word R) high high_bit (in_rom (2 * (at - first_word R)) (omega arith)) (in_rom (2 * (at - first_word R) + 1) (omega arith)))
+
+  map_is : (first : ℕ) → first ≡ first_word R
+      → (if nat_eq (hole_of (nat_lt at 0x400) (nat_lt at first) (nat_lt at 0xC00)) 0 then Some (mux (lt at 1024) read rom) else None)
+      ≡ fetched_byte L R at (not (nat_eq high 0))
+  map_is first e =
+      ap (λ n. if nat_eq (hole_of (nat_lt at 0x400) (nat_lt at n) (nat_lt at 0xC00)) 0 then Some (mux (lt at 1024) read rom) else None) e
+      ∙ map_by (nat_lt at 0x400) (nat_lt at (first_word R)) (nat_lt at 0xC00) refl refl refl
+      ∙ ap (λ b. option_map picked (if nat_lt at 0x400 then Some (word_in L at) else if b && nat_lt at 0xC00 then Some (word_in R (at - first_word R)) else None))
+      (sym (le_is (first_word R) at))
+
+-- a clock in which nothing moves the core
+still : (c : Core) (is_open reset start valid hole din : ℕ) → is_open < 2 → reset ≡ 0 → start ≡ 0 → valid ≡ 0
+    → ((cells.clock (record c { is_open = is_open }) (record { reset = reset; start = start; valid = valid; hole = hole; din = din })).at ≡ c.at)
+    × ((cells.clock (record c { is_open = is_open }) (record { reset = reset; start = start; valid = valid; hole = hole; din = din })).high ≡ c.high)
+still c zero zero zero zero hole din l r s v = (refl, refl)
+still c (suc zero) zero zero zero hole din l r s v = (refl, refl)
+still c (suc (suc n)) reset start valid hole din l r s v = absurd (omega arith)
+still c is_open (suc n) start valid hole din l r s v = absurd (omega arith)
+still c is_open reset (suc n) valid hole din l r s v = absurd (omega arith)
+still c is_open reset start (suc n) hole din l r s v = absurd (omega arith)
+
+-- when the core's byte is asked for
+abbrev pub moves_of : Bool → Bool → Bool → ℕ
+moves_of r s p = if nat_eq (if r then (if s then 0 else 1) else 1) 0 then (if p then 0 else 1) else 1
+
+abbrev pub asks_of : (x r s p acc on : Bool) → ℕ
+asks_of x r s p acc on = both (if x then 0 else some (none (moves_of r s p))) (none (on_of acc on))
+
+pub not_one : {A : Type 0} → ◌≡◌ {A = ℕ} 0 1 → A
+not_one e = absurd (omega arith)
+
+asks_needs : (x r s p acc on : Bool) → asks_of x r s p acc on ≡ 1 → (r ≡ true) × (s ≡ true) × (p ≡ true) × (on_of acc on ≡ 0)
+asks_needs true r s p acc on e = not_one e
+asks_needs false false s p acc on e = not_one e
+asks_needs false true false p acc on e = not_one e
+asks_needs false true true false acc on e = not_one e
+asks_needs false true true true true on e = (refl, refl, refl, refl)
+asks_needs false true true true false true e = not_one e
+asks_needs false true true true false false e = (refl, refl, refl, refl)
+
+bit_small : (a b : ℕ) → both a b < 2
+bit_small a b = by (nat_eq a 0) (nat_eq b 0)
+  where
+    by : (x y : Bool) → (if x then 0 else if y then 0 else 1) < 2
+    by true y = omega arith
+    by false true = omega arith
+    by false false = omega arith
+
+takes_of : (p r s : ℕ) → r ≡ 0 → s ≡ 0 → p ≡ 1 → both (both p (none r)) (none s) ≡ 1
+takes_of p (suc n) s r_is s_is p_is = absurd (omega arith)
+takes_of p r (suc n) r_is s_is p_is = absurd (omega arith)
+takes_of zero r s r_is s_is p_is = absurd (omega arith)
+takes_of (suc (suc n)) r s r_is s_is p_is = absurd (omega arith)
+takes_of (suc zero) zero zero r_is s_is p_is = refl
+
+sends_needs : (acc wr at reset : Bool) → both (both (if acc then 0 else if wr then 0 else 1) (bit at)) (if reset then 1 else 0) ≡ 1
+    → (not acc && (not wr && at)) ≡ true
+sends_needs true wr at reset e = not_one e
+sends_needs false true at reset e = not_one e
+sends_needs false false false reset e = not_one e
+sends_needs false false true reset e = refl
+
+third_of : (acc wr at : Bool) → (not acc && (not wr && at)) ≡ true → at ≡ true
+third_of true wr at e = absurd (cc)
+third_of false true at e = absurd (cc)
+third_of false false at e = e
+
+none_there : (acc wr : Bool) → (not acc && (not wr && nat_eq (0x3000 / 0x800) 8)) ≡ false
+none_there true wr = refl
+none_there false true = refl
+none_there false false = refl
+
+-- what is kept from clock to clock
+pub record Holds (R image : List ℕ) (held : ℕ → ℕ) (log : Log) (older : List Bus) : Type 0 where
+  pub keeps : Keeps R image log (cores held older)
+  pub same : (a : ℕ) → a < 2048 → (after held older).ram a ≡ slice_index (ram image log) a
+  pub is_image : IsImage (ram image log)
+  pub starting : (after held older).starting < 2
+  pub sent : (after held older).starting ≡ 1 → strobed log ≡ true
+  pub pending : (after held older).pending < 2
+  pub read : (after held older).read < 256
+  -- a byte that was read is the RAM's as it stands
+  pub ready : (after held older).pending ≡ 1 → (after held older).core.at < 1024
+      → (after held older).read ≡ (after held older).ram (2 * (after held older).core.at + (after held older).core.high)
+
+pub core_is : (held : ℕ → ℕ) (older : List Bus) → (after held older).core ≡ core.after (cores held older)
+core_is held [] = refl
+core_is held (bus ∷ older) = ap (λ c. cells.clock c (pins (after held older) bus)) (core_is held older)
+
+module _ (R image : List ℕ) (log : Log) (cs : List Pins) (k : Keeps R image log cs) where
+  acted : (action : Action) → IsLife (Did action ∷ life image log) → Tells action (nat_eq (halted (core.after cs)) 1)
+      → Keeps R image (did (Some action) log) cs
+  acted action is tells = acted_line R image log cs k action is tells
+
+  looked_by : (flag byte1 pin : Bool) → pin ≡ nat_eq (halted (core.after cs)) 1
+      → FitsIf (FitsScript R image log) (if flag then Some (Read pin) else if byte1 then Some Peek else None)
+      → Keeps R image (did (if flag then Some (Read pin) else if byte1 then Some Peek else None) log) cs
+  looked_by true byte1 pin e fits = acted (Read pin) fits e
+  looked_by false true pin e fits = acted Peek fits tt
+  looked_by false false pin e fits = k
+
+  changed_to : (writes sends : Bool) (a byte : ℕ)
+      → FitsIf (FitsScript R image log) (if writes then Some (Wrote a byte) else if sends then Some Sent else None)
+      → Keeps R image (did (if writes then Some (Wrote a byte) else if sends then Some Sent else None) log) cs
+  changed_to true sends a byte fits = acted (Wrote a byte) fits tt
+  changed_to false true a byte fits = acted Sent fits tt
+  changed_to false false a byte fits = k
+
+on_ram_bit : (x y : Bool) → (if x then 0 else some (bit y)) < 2
+on_ram_bit true y = omega arith
+on_ram_bit false true = omega arith
+on_ram_bit false false = omega arith
+
+set_image : (L : List ℕ) (b : Bool) (a byte : ℕ) → byte < 256 → IsImage L → IsImage (if b then slice_set L a byte else L)
+set_image L true a byte small is = record { count = length-set L a byte ∙ is.count; bytes = All-set (λ byte. byte < 256) L a byte small is.bytes }
+set_image L false a byte small is = is
+
+module _ (R image : List ℕ) (held : ℕ → ℕ) (log : Log) (older : List Bus) (bus : Bus) (whole : Bool)
+    (h : Holds R image held log older) (rom : IsRom R) (is : IsBus bus) (served : IsServed R (after held older) bus) where
+  abbrev board : Board
+  board = after held older
+
+  abbrev cs : List Pins
+  cs = cores held older
+
+  abbrev cs' : List Pins
+  cs' = pins board bus ∷ cs
+
+  fits : Fits board.core
+  fits = subst Fits (sym (core_is held older)) h.keeps.fits
+
+  -- what the processor looks at
+  abbrev log1 : Log
+  log1 = did (looks board bus) log
+
+  looks_keeps : FitsIf (FitsScript R image log) (looks board bus) → Keeps R image log1 cs
+  looks_keeps look =
+      looked_by R image log cs h.keeps (reads bus 0x2002) (reads bus 0x4001) (nat_eq (halted board.core) 1)
+      (ap (λ c. nat_eq (halted c) 1) (core_is held older)) look
+
+  ram1 : ram image log1 ≡ ram image log
+  ram1 = looks_ram image board bus log
+
+  sent1 : board.starting ≡ 1 → strobed log1 ≡ true
+  sent1 e = sent_looks (reads bus 0x2002) (reads bus 0x4001) (nat_eq (halted board.core) 1) log (h.sent e)
+
+  -- the pins of the core
+  are : ArePins (pins board bus)
+  are = record {
+    reset = is.reset;
+    start = h.starting;
+    valid = h.pending;
+    hole = bit_small (none (lt board.core.at 1024)) (none (both (none (lt board.core.at (mux bus.big 1024 2048))) (lt board.core.at 3072)));
+    din = din_small (nat_eq (lt board.core.at 1024) 0);
+  }
+    where
+      din_small : (b : Bool) → (if b then bus.rom else board.read) < 256
+      din_small true = is.rom
+      din_small false = h.read
+
+  answers : bus.reset ≡ 0 → board.starting ≡ 0 → board.pending ≡ 1
+      → byte_of (pins board bus) ≡ fetched_byte (ram image log1) R (core.after cs).at (not (nat_eq (core.after cs).high 0))
+  answers reset start pending =
+      subst (λ (c : Core). byte_of (pins board bus) ≡ fetched_byte (ram image log1) R c.at (not (nat_eq c.high 0))) (core_is held older)
+      (map_is (ram image log1) R board.core.at board.core.high board.read bus.rom (subst IsImage (sym ram1) h.is_image) rom fits.high
+      (λ below. let high = fits.high in
+      h.ready pending below ∙ h.same (2 * board.core.at + board.core.high) (omega arith)
+      ∙ ap (λ L. slice_index L (2 * board.core.at + board.core.high)) (sym ram1))
+      (served.rom (takes_of board.pending bus.reset board.starting reset start pending))
+      (mux bus.big 1024 2048) (ap (λ b. mux b 1024 2048) served.big ∙ first_by (length R == 2048)))
+
+  -- the core's line
+  abbrev shown : Shown
+  shown = entry log1 cs (pins board bus)
+
+  abbrev log2 : Log
+  log2 = answered image held older bus whole log
+
+  abbrev line : (reset starting pending : ℕ) → Log
+  line r s p = core_line r s p whole (ram image log1) shown log1
+
+  core_keeps : Keeps R image log1 cs → Keeps R image log2 cs'
+  core_keeps k = elim (zero_or_one bus.reset is.reset) [
+    | inr one ↦ subst (λ r. Keeps R image (line r board.starting board.pending) cs') (sym one) (resets one whole)
+    | inl off ↦ subst (λ r. Keeps R image (line r board.starting board.pending) cs') (sym off)
+        (elim (zero_or_one board.starting h.starting) [
+          | inr one ↦ subst (λ s. Keeps R image (line 0 s board.pending) cs') (sym one)
+              (start_line R image log1 cs (pins board bus) k are off one (sent1 one))
+          | inl still_off ↦ subst (λ s. Keeps R image (line 0 s board.pending) cs') (sym still_off)
+              (elim (zero_or_one board.pending h.pending) [
+                | inr one ↦ subst (λ p. Keeps R image (line 0 0 p) cs') (sym one)
+                    (fetch R image log1 cs (pins board bus) k are off still_off one (answers off still_off one))
+                | inl none ↦ subst (λ p. Keeps R image (line 0 0 p) cs') (sym none)
+                    (idle R image log1 cs (pins board bus) k are off still_off none)
+              ])
+        ])
+  ]
+    where
+      resets : bus.reset ≡ 1 → (whole : Bool)
+          → Keeps R image (core_line 1 board.starting board.pending whole (ram image log1) shown log1) cs'
+      resets one true = reset_all R image log1 cs (pins board bus) k are one (ram image log1) (subst IsImage (sym ram1) h.is_image)
+      resets one false = reset_line R image log1 cs (pins board bus) k are one
+
+  ram2 : ram image log2 ≡ ram image log
+  ram2 = core_ram image (nat_eq bus.reset 0) (nat_eq board.starting 0) (nat_eq board.pending 0) whole shown log1
+      (entry_ram image (halted (core.after cs)) (core.after cs).at (met (low_byte log1) (byte_of (pins board bus)))
+      (says (core.after cs').done (core.after cs').fault (core.drew cs')) log1) ∙ ram1
+
+  -- what the processor changes
+  abbrev log3 : Log
+  log3 = did (changes bus) log2
+
+  changes_keeps : Keeps R image log2 cs' → FitsIf (FitsScript R image log2) (changes bus) → Keeps R image log3 cs'
+  changes_keeps k change = changed_to R image log2 cs' k (writes bus) (sends bus) (bus.a % 0x800) bus.d change
+
+  abbrev L : List ℕ
+  L = ram image log
+
+  ram3 : ram image log3 ≡ (if writes bus then slice_set L (bus.a % 0x800) bus.d else L)
+  ram3 = changes_ram image bus log2
+      ∙ ap (λ l. if writes bus then slice_set l (bus.a % 0x800) bus.d else l) ram2
+
+  named_is : nat_eq (part 11 5 bus.a) 8 ≡ nat_eq (bus.a / 0x800) 8
+  named_is = let small = is.a in let same : part 11 5 bus.a ≡ bus.a / 0x800 = omega arith in ap (λ n. nat_eq n 8) same
+
+  same3 : (a : ℕ) → a < 2048 → (clock board bus).ram a ≡ slice_index (ram image log3) a
+  same3 a small =
+      let count = h.is_image.count in
+      written board bus L count h.same (nat_eq bus.access 0) (nat_eq bus.write 0) (nat_eq (part 11 5 bus.a) 8) a small
+      ∙ ap (λ on. slice_index (if not (nat_eq bus.access 0) && (not (nat_eq bus.write 0) && on) then slice_set L (bus.a % 2048) bus.d else L) a) named_is
+      ∙ ap (λ l. slice_index l a) (sym ram3)
+
+  image3 : IsImage (ram image log3)
+  image3 = subst IsImage (sym ram3) (set_image L (writes bus) (bus.a % 0x800) bus.d is.d h.is_image)
+
+  sent3 : (clock board bus).starting ≡ 1 → strobed log3 ≡ true
+  sent3 e = sent_sends (writes bus) (sends bus) (bus.a % 0x800) bus.d log2 (writes_off (sends_at e)) (sends_at e)
+    where
+      sends_is : (clock board bus).starting ≡ 1
+          → both (both (if nat_eq bus.access 0 then 0 else if nat_eq bus.write 0 then 0 else 1) (bit (nat_eq bus.a 12288))) (if nat_eq bus.reset 0 then 1 else 0) ≡ 1
+      sends_is e = e
+
+      sends_at : (clock board bus).starting ≡ 1 → sends bus ≡ true
+      sends_at e = sends_needs (nat_eq bus.access 0) (nat_eq bus.write 0) (nat_eq bus.a 12288) (nat_eq bus.reset 0) (sends_is e)
+
+      writes_off : sends bus ≡ true → writes bus ≡ false
+      writes_off e =
+          let at : bus.a ≡ 0x3000 = eqb-true bus.a 0x3000 (third_of (nat_eq bus.access 0) (nat_eq bus.write 0) (nat_eq bus.a 0x3000) e) in
+          ap (λ a. not (nat_eq bus.access 0) && (not (nat_eq bus.write 0) && nat_eq (a / 0x800) 8)) at
+          ∙ none_there (nat_eq bus.access 0) (nat_eq bus.write 0)
+
+  ram_small : (a : ℕ) → a < 2048 → board.ram a < 256
+  ram_small a small = let count = h.is_image.count in
+      subst (λ n. n < 256) (sym (h.same a small)) (All-get_or (λ byte. byte < 256) L a 0 (omega arith) h.is_image.bytes)
+
+  read3 : (clock board bus).read < 256
+  read3 = by (nat_eq bus.access 0) (nat_eq bus.write 0) (nat_eq (part 11 5 bus.a) 8)
+    where
+      other_small : other board bus < 2048
+      other_small = let high = fits.high in omega arith
+
+      by : (x y z : Bool) → mux (writes_of x y z) board.read (board.ram (place_of board bus (on_of x z))) < 256
+      by true y z = ram_small (other board bus) other_small
+      by false y false = ram_small (other board bus) other_small
+      by false true true = ram_small (part 0 11 bus.a) (omega arith)
+      by false false true = h.read
+
+  -- a byte is read in a clock that changes neither the RAM nor where the core stands
+  abbrev Ready : Core → ℕ → (ℕ → ℕ) → Type 0
+  Ready c read held = c.at < 1024 → read ≡ held (2 * c.at + c.high)
+
+  ready3 : (clock board bus).pending ≡ 1 → (clock board bus).core.at < 1024
+      → (clock board bus).read ≡ (clock board bus).ram (2 * (clock board bus).core.at + (clock board bus).core.high)
+  ready3 e = by (asks_needs (nat_eq (both (none (halted board.core)) (none bus.hold)) 0) (nat_eq bus.reset 0) (nat_eq board.starting 0) (nat_eq board.pending 0) (nat_eq bus.access 0) (nat_eq (part 11 5 bus.a) 8) e)
+    where
+      at_rest : nat_eq bus.reset 0 ≡ true → nat_eq board.starting 0 ≡ true → nat_eq board.pending 0 ≡ true
+          → ((clock board bus).core.at ≡ board.core.at) × ((clock board bus).core.high ≡ board.core.high)
+      at_rest r s p = still board.core board.core.is_open bus.reset board.starting board.pending (pins board bus).hole (pins board bus).din
+          fits.opened (eqb-true bus.reset 0 r) (eqb-true board.starting 0 s) (eqb-true board.pending 0 p)
+
+      quiet : (x y z : Bool) → on_of x z ≡ 0
+          → (mux (writes_of x y z) board.read (board.ram (place_of board bus (on_of x z))) ≡ board.ram (other board bus))
+          × ((a : ℕ) → ram_of board bus (writes_of x y z) (on_of x z) a ≡ board.ram a)
+      quiet true y z o = (refl, λ a. refl)
+      quiet false y false o = (refl, λ a. refl)
+      quiet false y true o = absurd (omega arith)
+
+      by : (nat_eq bus.reset 0 ≡ true) × (nat_eq board.starting 0 ≡ true) × (nat_eq board.pending 0 ≡ true) × (on_of (nat_eq bus.access 0) (nat_eq (part 11 5 bus.a) 8) ≡ 0)
+          → (clock board bus).core.at < 1024
+          → (clock board bus).read ≡ (clock board bus).ram (2 * (clock board bus).core.at + (clock board bus).core.high)
+      by (r, s, p, o) below =
+          let rest = at_rest r s p in
+          let free = quiet (nat_eq bus.access 0) (nat_eq bus.write 0) (nat_eq (part 11 5 bus.a) 8) o in
+          let at_is = rest.0 in
+          let high_is = rest.1 in
+          let place : other board bus ≡ 2 * (clock board bus).core.at + (clock board bus).core.high = omega arith in
+          free.0 ∙ ap board.ram place ∙ sym (free.1 (2 * (clock board bus).core.at + (clock board bus).core.high))
+
+  pub step : FitsIf (FitsScript R image log) (looks board bus) → FitsIf (FitsScript R image log2) (changes bus)
+      → Holds R image held log3 (bus ∷ older)
+  step look change = record {
+    keeps = changes_keeps (core_keeps (looks_keeps look)) change;
+    same = same3;
+    is_image = image3;
+    starting = bit_small (both (both bus.access bus.write) (eq bus.a 12288)) (none bus.reset);
+    sent = sent3;
+    pending = bit_small (both (both (none (halted board.core)) (none bus.hold)) (none (either (either bus.reset board.starting) board.pending)))
+        (none (both bus.access (eq (part 11 5 bus.a) 8)));
+    read = read3;
+    ready = ready3;
+  }
+
+-- what needs no access changes no memory and no strobe
+silent : (R image : List ℕ) (log : Log) (event : Happening) (shown : Shown) → IsSilent event shown → FitsScript R image log event shown
+    → (ram image ((event ⟼ shown) ∷ log) ≡ ram image log) × (strobed log ≡ true → strobed ((event ⟼ shown) ∷ log) ≡ true)
+silent R image log Tick (Acted Idle) s f = (refl, λ e. e)
+silent R image log Tick (Acted Peek) s f = absurd s
+silent R image log Tick (Acted (Wrote a byte)) s f = absurd s
+silent R image log Tick (Acted (Read flag)) s f = absurd s
+silent R image log Tick (Acted Sent) s f = absurd s
+silent R image log (Offer F) (Refused fault) s f = (refl, λ e. e)
+silent R image log (Offer F) Busy s f = (refl, λ e. e)
+silent R image log (Offer F) Offered s f = (refl, λ e. e)
+silent R image log Redraw NothingPublished s f = (refl, λ e. e)
+silent R image log Redraw Busy s f = (refl, λ e. e)
+silent R image log Redraw Asked s f = (refl, λ e. e)
+silent R image log ResetCpu Cleared s f = (refl, λ e. e)
+silent R image log Tick _ s f = absurd s
+silent R image log (Offer F) _ s f = absurd f
+silent R image log Redraw _ s f = absurd f
+silent R image log ResetCpu _ s f = absurd f
+silent R image log event _ s f = absurd s
+
+abbrev OnBoard : List ℕ → List ℕ → (ℕ → ℕ) → Log → List Bus → Type 0
+OnBoard R image held log older = IsBoard FitsScript R image held log older
+
+rom_of : {R image : List ℕ} {held : ℕ → ℕ} {log : Log} {older : List Bus} → OnBoard R image held log older → IsRom R
+rom_of (powers rom is_image same) = rom
+rom_of (clocks bus whole is_board is served look change) = rom_of is_board
+rom_of (acts is_board is_event is_silent as_asked) = rom_of is_board
+
+pub holds : {R image : List ℕ} {held : ℕ → ℕ} {log : Log} {older : List Bus} → OnBoard R image held log older
+    → Holds R image held log older
+holds {R} {image} {held} (powers rom is_image same) = record {
+  keeps = keeps_new R image rom is_image;
+  same = same;
+  is_image = is_image;
+  starting = omega arith;
+  sent = λ e. differ refl e;
+  pending = omega arith;
+  read = omega arith;
+  ready = λ e. differ refl e;
+}
+holds {R} {image} {held} (clocks {log = log} {older = older} bus whole is_board is served look change) =
+    step R image held log older bus whole (holds is_board) (rom_of is_board) is served look change
+holds {R} {image} {held} (acts {log = log} {older = older} {event = event} {entry = shown} is_board is_event is_silent fits) =
+    let h = holds is_board in
+    let kept = silent R image log event shown is_silent fits in
+    record {
+      keeps = silent_line R image log (cores held older) h.keeps event shown is_silent is_event fits;
+      same = λ a small. h.same a small ∙ ap (λ l. slice_index l a) (sym kept.0);
+      is_image = subst IsImage (sym kept.0) h.is_image;
+      starting = h.starting;
+      sent = λ e. kept.1 (h.sent e);
+      pending = h.pending;
+      read = h.read;
+      ready = h.ready;
+    }
+
+pub legal : OfEachBoard (λ R image held log older. IsLegal R image log)
+legal R image held log older is_board = (holds is_board).keeps.legal
+
+pub keeps_headline : OfEachBoard (λ R image held log older. Throughout (KeepsHeadline R image) log)
+keeps_headline R image held log older is_board = headline R image log (legal R image held log older is_board)
+
+pub memory : OfEachBoard (λ R image held log older. HoldsRam image held log older)
+memory R image held log older is_board = (holds is_board).same

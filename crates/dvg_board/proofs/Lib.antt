@@ -1,0 +1,6 @@
+pub mod System
+pub mod Board
+pub mod Answered
+mod Example
+mod Vectors
+mod ClockVectors

@@ -1,0 +1,133 @@
+-- The cells of core/dvg_board.v as yosys reads them: made by core/cells dvg_board.
+use Rattle.std.specs.Prelude.{ℕ}
+use Rattle.dvg_core.specs.Cells.{both, either, eq, lt, mux, none, part, joined}
+use Rattle.dvg_core.specs.Core.{Core, Pins, zeros}
+use Rattle.dvg_core.specs.Core as cells
+use Rattle.dvg_board.specs.Memory.{memrd, memwr}
+
+-- Yosys 0.23, digest cdd53fcf153590ef
+
+-- the registers, the RAM, and the core
+pub record Board : Type 0 where
+  -- 8 bits
+  pub read : ℕ
+  -- 1 bit
+  pub starting : ℕ
+  -- 1 bit
+  pub pending : ℕ
+  -- 1 bit
+  pub flag : ℕ
+  -- 1 bit
+  pub ran : ℕ
+  -- 2,048 bytes
+  pub ram : ℕ → ℕ
+  pub core : Core
+
+-- the pins that are driven from outside
+pub record Bus : Type 0 where
+  -- 1 bit
+  pub reset : ℕ
+  -- 1 bit
+  pub hold : ℕ
+  -- 1 bit
+  pub access : ℕ
+  -- 1 bit
+  pub write : ℕ
+  -- 16 bits
+  pub a : ℕ
+  -- 8 bits
+  pub d : ℕ
+  -- 1 bit
+  pub big : ℕ
+  -- 8 bits
+  pub rom : ℕ
+  -- what yosys leaves undefined: any number
+  pub undefined : ℕ
+
+-- at power-up, with any RAM
+abbrev pub powered : (ℕ → ℕ) → Board
+powered ram =
+    record {
+      read = 0;
+      starting = 0;
+      pending = 0;
+      flag = 0;
+      ran = 0;
+      ram = ram;
+      core = zeros;
+    }
+
+-- the pin `q`
+abbrev pub q : Board → Bus → ℕ
+q board bus =
+    mux board.flag (joined 7 0 board.ran) board.read
+
+-- the pin `takes`
+abbrev pub takes : Board → Bus → ℕ
+takes board bus =
+    let n20 : ℕ = none bus.reset in
+    let n9 : ℕ = both board.pending n20 in
+    let n21 : ℕ = none board.starting in
+    both n9 n21
+
+-- what drives the core's pins
+abbrev pub pins : Board → Bus → Pins
+pins board bus =
+    let in_ram : ℕ = lt board.core.at 1024 in
+    let n18 : ℕ = none in_ram in
+    let n24 : ℕ = lt board.core.at 3072 in
+    let first : ℕ = mux bus.big 1024 2048 in
+    let n23 : ℕ = lt board.core.at first in
+    let n17 : ℕ = none n23 in
+    let in_rom : ℕ = both n17 n24 in
+    let n19 : ℕ = none in_rom in
+    let hole : ℕ = both n18 n19 in
+    let din : ℕ = mux in_ram board.read bus.rom in
+    record {
+      reset = bus.reset;
+      start = board.starting;
+      valid = board.pending;
+      hole = hole;
+      din = din;
+    }
+
+-- the registers and the RAM after a clock
+abbrev pub clock : Board → Bus → Board
+clock board bus =
+    let n1 : ℕ = eq (part 11 5 bus.a) 8 in
+    let n2 : ℕ = eq bus.a 12288 in
+    let n3 : ℕ = eq bus.a 8194 in
+    let on_ram : ℕ = both bus.access n1 in
+    let writes : ℕ = both on_ram bus.write in
+    let n4 : ℕ = both bus.access bus.write in
+    let sends : ℕ = both n4 n2 in
+    let n10 : ℕ = none bus.write in
+    let n5 : ℕ = both bus.access n10 in
+    let looks : ℕ = both n5 n3 in
+    let n11 : ℕ = none (cells.halted board.core) in
+    let n12 : ℕ = none bus.hold in
+    let n6 : ℕ = both n11 n12 in
+    let n14 : ℕ = none on_ram in
+    let n15 : ℕ = none bus.reset in
+    let n8 : ℕ = both sends n15 in
+    let n16 : ℕ = none (cells.halted board.core) in
+    let n22 : ℕ = either bus.reset board.starting in
+    let moves : ℕ = either n22 board.pending in
+    let n13 : ℕ = none moves in
+    let n7 : ℕ = both n6 n13 in
+    let asks : ℕ = both n7 n14 in
+    let n26 : ℕ = mux writes 255 0 in
+    let n27 : ℕ = mux writes bus.d (part 0 8 bus.undefined) in
+    let place : ℕ = mux on_ram (part 0 11 bus.a) (joined 1 board.core.high (part 0 10 board.core.at)) in
+    let n25 : ℕ = memrd board.ram place in
+    let n28 : ℕ = mux writes place (part 0 11 bus.undefined) in
+    let n29 : ℕ = mux writes board.read n25 in
+    record {
+      read = n29;
+      starting = n8;
+      pending = asks;
+      flag = looks;
+      ran = n16;
+      ram = memwr n26 n28 n27 board.ram;
+      core = cells.clock board.core (pins board bus);
+    }

@@ -1,0 +1,30 @@
+-- The line of a log that the core's pins show of a fetch.
+use Rattle.std.specs.Prelude.{ℕ, nat_eq, if◌then◌else◌, List, ◌∷◌, Option, Some, None}
+use Rattle.dvg_gen.specs.Bytes.{Met, Waits, Whole, met}
+use Rattle.dvg_gen.specs.Told.{Reply, More, Drew, Fails}
+use Rattle.dvg_log.specs.Entries.{Shown}
+use Rattle.dvg_log.specs.declared.entry.Entry.TheVariants.{Low, Fetched, Done, Broke, Still}
+use Rattle.dvg_log.specs.Log.{Log, low_byte}
+use Rattle.dvg_core.specs.Core.{Pins, halted}
+use Rattle.dvg_core.specs.Shown.{says}
+use Rattle.dvg_core.specs.Refines.{after, drew, byte_of}
+
+-- the entry of a whole word, or of a hole, at an address, by what `done` and `fault` say of it
+abbrev pub entry_of : ℕ → Option ℕ → Reply → Shown
+entry_of address word (Fails fault) = Broke address fault
+entry_of address (Some word) More = Fetched address word
+entry_of address (Some word) (Drew strokes) = Done address word strokes
+entry_of address None answer = Still
+
+-- the entry of what a fetch met at an address: none where the core is halted; a byte is a low one, or it makes a word
+abbrev pub entry_by : (halted address : ℕ) → Met → Reply → Shown
+entry_by halted address (Waits byte) answer = if nat_eq halted 1 then Still else Low address byte
+entry_by halted address (Whole word) answer = if nat_eq halted 1 then Still else entry_of address word answer
+
+-- the entry of a fetch that is answered by these pins, after these clocks of the core
+abbrev pub entry : Log → List Pins → Pins → Shown
+entry log clocks pins =
+    let before = after clocks in
+    let now = after (pins ∷ clocks) in
+    entry_by (halted before) before.at (met (low_byte log) (byte_of pins))
+    (says now.done now.fault (drew (pins ∷ clocks)))

@@ -1,0 +1,7 @@
+pub mod Memory
+pub mod Board
+pub mod Fetches
+pub mod Clocks
+pub mod Logs
+pub mod Answers
+pub mod Example

@@ -1,0 +1,639 @@
+-- One clock: what each event does to the machine of the core.
+use Rattle.std.proofs.Common.{◌≡◌, ℕ, zero, suc, ◌+◌, ◌-◌, ◌*◌, ◌%◌, ◌<◌, ◌≤◌, false, List, [], ◌∷◌, ◌++◌, Option, Some, None, refl, sym, ap, ◌∙◌, subst, arith, append-nil}
+use Rattle.std.specs.Prelude.{nat_eq, if◌then◌else◌}
+use Rattle.dvg_code.specs.declared.instr.Instr.{Instr}
+use Rattle.dvg_code.specs.declared.instr.Instr.TheVariants.{Vctr, Labs, Halt, Jsrl, Rtsl, Jmpl, Svec}
+use Rattle.dvg_code.specs.Spelling.{Spells, halt, jsrl, rtsl, jmpl}
+use Rattle.dvg_gen.specs.declared.stroke.Stroke.{Stroke}
+use Rattle.dvg_gen.specs.declared.taken.Taken.TheVariants.{Low, Word, Broke}
+use Rattle.dvg_gen.specs.declared.taken.GenFault.{GenFault}
+use Rattle.dvg_gen.specs.declared.taken.GenFault.TheVariants.{StackOver, StackUnder, Hole}
+use Rattle.dvg_gen.specs.Bytes.{Waits, Whole}
+use Rattle.dvg_gen.specs.Machine.{Machine, HasTaken}
+use Rattle.dvg_gen.specs.Obeyed.{Obeyed, IsShut, gone}
+use Rattle.dvg_gen.specs.Told.{Told, Start, Reset}
+use Rattle.dvg_gen.proofs.Standing.{Claim, stands_start, stands_reset, claim_hole, claim_low, claim_first}
+use Rattle.dvg_core.specs.Cells.{part, joined, add, some}
+use Rattle.dvg_core.specs.Core.{Core, Pins, clock}
+use Rattle.dvg_core.specs.Shown.{line_of}
+use Rattle.dvg_core.proofs.Machines.{machine_of}
+use Rattle.std.proofs.Common.{inl, inr}
+use Rattle.std.specs.Prelude.{◌⊎◌}
+use Rattle.std.proofs.lemmas.Bool.{cases_lt}
+use Rattle.dvg_gen.specs.Completing.{Completes}
+use Rattle.dvg_gen.specs.Told.{Fed, Reply, More, Drew, Fails, reply}
+use Rattle.dvg_core.specs.Shown.{says}
+use Rattle.dvg_core.proofs.Machines.{kept}
+use Rattle.dvg_core.specs.Refines
+use Rattle.dvg_core.specs.Refines.{Tells, fetches}
+use Rattle.dvg_core.proofs.Fitting.{Fits, Stepped, Halted, halted_at, obeys, more_is, fails_is, shift_in}
+use Rattle.dvg_core.proofs.Shifts.{shift, shift_is, hop_is, line_is}
+use Rattle.dvg_code.proofs.Reading.{vctr_read, labs_read, svec_read}
+use Rattle.dvg_code.specs.Fields.{signed}
+use Rattle.dvg_gen.specs.declared.beam.Beam.{Beam}
+use Rattle.dvg_gen.specs.Drawing.{unit, shifted, line}
+
+module _ (at done fault stroke x0 y0 x y z first low depth s0 s1 s2 s3 scale din : ℕ) (drew : List Stroke) where
+  abbrev core : (is_open high second depth : ℕ) → Core
+  core is_open high second depth = record {
+    at = at;
+    high = high;
+    done = done;
+    fault = fault;
+    stroke = stroke;
+    x0 = x0;
+    y0 = y0;
+    x = x;
+    y = y;
+    z = z;
+    is_open = is_open;
+    second = second;
+    first = first;
+    low = low;
+    depth = depth;
+    s0 = s0;
+    s1 = s1;
+    s2 = s2;
+    s3 = s3;
+    scale = scale;
+  }
+
+  abbrev byte : Pins
+  byte = record { reset = 0; start = 0; valid = 1; hole = 0; din = din }
+
+  abbrev old : (high second depth : ℕ) → Machine
+  old high second depth = machine_of (core 1 high second depth) drew
+
+  abbrev new : (high second depth : ℕ) → Machine
+  new high second depth =
+      let after = clock (core 1 high second depth) byte in machine_of after (drew ++ line_of after)
+
+  abbrev word : ℕ
+  word = joined 8 low din
+
+  pub resets : (is_open high second start valid hole : ℕ) (history : List Told) (waiting : Option ℕ)
+      → HasTaken (machine_of (core is_open high second depth) drew) history waiting
+      → HasTaken (machine_of (clock (core is_open high second depth) (record { reset = 1; start = start; valid = valid; hole = hole; din = din })) []) (Reset ∷ history) None
+  resets is_open high second start valid hole history waiting after =
+      stands_reset (machine_of (core is_open high second depth) drew) _ history waiting after refl refl refl
+
+  pub starts : (is_open high second valid hole : ℕ) (history : List Told) (waiting : Option ℕ)
+      → HasTaken (machine_of (core is_open high second depth) drew) history waiting
+      → HasTaken (machine_of (clock (core is_open high second depth) (record { reset = 0; start = 1; valid = valid; hole = hole; din = din })) []) (Start ∷ history) None
+  starts is_open high second valid hole history waiting after =
+      stands_start (machine_of (core is_open high second depth) drew) _ history waiting after refl refl refl refl refl refl refl
+
+  -- no event, or a byte while no run is open
+  pub waits : (is_open high second hole : ℕ) → is_open < 2
+      → machine_of (clock (core is_open high second depth) (record { reset = 0; start = 0; valid = 0; hole = hole; din = din })) drew
+      ≡ machine_of (core is_open high second depth) drew
+  waits zero high second hole small = refl
+  waits (suc zero) high second hole small = refl
+  waits (suc (suc n)) high second hole small = absurd (omega arith)
+
+  pub ignores : (high second valid hole : ℕ)
+      → machine_of (clock (core 0 high second depth) (record { reset = 0; start = 0; valid = valid; hole = hole; din = din })) drew
+      ≡ machine_of (core 0 high second depth) drew
+  ignores high second valid hole = refl
+
+  pub low_byte : (second : ℕ) → Claim {A = Unit {0}} (Waits din) (old 0 second depth) (new 0 second depth) Low
+  low_byte second = claim_low (Unit {0}) din (old 0 second depth) (new 0 second depth) refl
+      (ap (λ (l : List Stroke). record (old 0 second depth) { low = Some din; strokes = l }) (append-nil drew))
+
+  abbrev gap : Pins
+  gap = record { reset = 0; start = 0; valid = 1; hole = 1; din = din }
+
+  pub holes : (high second : ℕ)
+      → Claim {A = Unit {0}} (Whole None) (old high second depth) (machine_of (clock (core 1 high second depth) gap) (drew ++ [])) (Broke Hole)
+  holes high second = claim_hole {A = Unit {0}} (old high second depth) (machine_of (clock (core 1 high second depth) gap) (drew ++ [])) (Broke Hole) refl refl
+      (ap (λ (l : List Stroke). record (old high second depth) { low = None; is_open = false; strokes = l }) (append-nil drew))
+
+  -- the high byte of a first word
+  first_new : (op : ℕ) → op < 11 → part 4 4 din ≡ op
+      → new 1 0 depth ≡ record (old 1 0 depth) { at = (at + 1) % 4096; held = Some word; low = None; strokes = drew ++ [] }
+  first_new zero less e = rw e
+  first_new (suc zero) less e = rw e
+  first_new (suc (suc zero)) less e = rw e
+  first_new (suc (suc (suc zero))) less e = rw e
+  first_new (suc (suc (suc (suc zero)))) less e = rw e
+  first_new (suc (suc (suc (suc (suc zero))))) less e = rw e
+  first_new (suc (suc (suc (suc (suc (suc zero)))))) less e = rw e
+  first_new (suc (suc (suc (suc (suc (suc (suc zero))))))) less e = rw e
+  first_new (suc (suc (suc (suc (suc (suc (suc (suc zero)))))))) less e = rw e
+  first_new (suc (suc (suc (suc (suc (suc (suc (suc (suc zero))))))))) less e = rw e
+  first_new (suc (suc (suc (suc (suc (suc (suc (suc (suc (suc zero)))))))))) less e = rw e
+  first_new (suc (suc (suc (suc (suc (suc (suc (suc (suc (suc (suc n))))))))))) less e = absurd (omega arith)
+
+  pub first_word : low < 256 → din < 176 → Claim {A = Unit {0}} (Whole (Some word)) (old 1 0 depth) (new 1 0 depth) Word
+  first_word low_small less =
+      claim_first (Unit {0}) word ((at + 1) % 4096) (old 1 0 depth) (new 1 0 depth) refl refl (omega arith) refl
+      (first_new (part 4 4 din) (omega arith) refl
+      ∙ ap (λ (l : List Stroke). record (old 1 0 depth) { at = (at + 1) % 4096; held = Some word; low = None; strokes = l }) (append-nil drew))
+
+  -- an instruction of one word
+  abbrev target : ℕ
+  target = joined 8 low (part 0 4 din)
+
+  jumps : part 4 4 din ≡ 14 → Obeyed {A = Unit {0}} (old 1 0 depth) (Jmpl target) (new 1 0 depth) Word
+  jumps e = (tt, rw e)
+
+  calls : (depth : ℕ) → depth < 4 → part 4 4 din ≡ 12 → Obeyed {A = Unit {0}} (old 1 0 depth) (Jsrl target) (new 1 0 depth) Word
+  calls zero less e = (omega arith, rw e)
+  calls (suc zero) less e = (omega arith, rw e)
+  calls (suc (suc zero)) less e = (omega arith, rw e)
+  calls (suc (suc (suc zero))) less e = (omega arith, rw e)
+  calls (suc (suc (suc (suc n)))) less e = absurd (omega arith)
+
+  overflows : part 4 4 din ≡ 12 → Obeyed {A = Unit {0}} (old 1 0 4) (Jsrl target) (new 1 0 4) (Broke StackOver)
+  overflows e = ((target, refl), refl, (rw e, refl, rw e))
+
+  returns : (depth : ℕ) → 1 ≤ depth → depth ≤ 4 → part 4 4 din ≡ 13 → Obeyed {A = Unit {0}} (old 1 0 depth) Rtsl (new 1 0 depth) Word
+  returns zero some less e = absurd (omega arith)
+  returns (suc zero) some less e = (omega arith, rw e)
+  returns (suc (suc zero)) some less e = (omega arith, rw e)
+  returns (suc (suc (suc zero))) some less e = (omega arith, rw e)
+  returns (suc (suc (suc (suc zero)))) some less e = (omega arith, rw e)
+  returns (suc (suc (suc (suc (suc n))))) some less e = absurd (omega arith)
+
+  underflows : part 4 4 din ≡ 13 → Obeyed {A = Unit {0}} (old 1 0 0) Rtsl (new 1 0 0) (Broke StackUnder)
+  underflows e = (refl, refl, (rw e, refl, rw e))
+
+  halts : part 4 4 din ≡ 11 → IsShut (old 1 0 depth) (new 1 0 depth)
+  halts e = (rw e, refl, rw e)
+
+  -- the words that spell them
+  spells_jump : part 4 4 din ≡ 14 → low < 256 → din < 256 → Spells (Jmpl target) (word ∷ [])
+  spells_jump e small byte_small = jmpl {address = target} (omega arith) (omega arith)
+
+  spells_call : part 4 4 din ≡ 12 → low < 256 → din < 256 → Spells (Jsrl target) (word ∷ [])
+  spells_call e small byte_small = jsrl {address = target} (omega arith) (omega arith)
+
+  spells_return : part 4 4 din ≡ 13 → low < 256 → din < 256 → Spells Rtsl (word ∷ [])
+  spells_return e small byte_small = rtsl (omega arith) (omega arith)
+
+  spells_halt : part 4 4 din ≡ 11 → low < 256 → din < 256 → Spells Halt (word ∷ [])
+  spells_halt e small byte_small = halt (omega arith) (omega arith)
+
+  -- a LABS
+  abbrev landed : ℕ → ℕ → ℕ → Machine
+  landed depth to_x to_y = record (gone (old 1 1 depth) Halt) { beam = record { x = to_x; y = to_y; scale = part 4 4 din }; at = (at + 1) % 4096 }
+
+  lands : (depth : ℕ) → part 12 4 first ≡ 10 → new 1 1 depth ≡ landed depth (0 + 512 * target) (0 + 512 * part 0 12 first)
+  lands depth e = rw e
+
+  labs : (depth : ℕ) → part 12 4 first ≡ 10
+      → Obeyed {A = Unit {0}} (old 1 1 depth) (Labs target (part 0 12 first) (part 4 4 din)) (new 1 1 depth) Word
+  labs depth e = (
+    tt,
+    lands depth e
+        ∙ ap (λ to. landed depth to (0 + 512 * part 0 12 first)) (omega arith)
+        ∙ ap (λ to. landed depth (512 * target) to) (omega arith),
+  )
+
+  -- a vector
+  abbrev slid_to : ℕ → ℕ → ℕ → List Stroke → Machine
+  slid_to depth to_x to_y drew = record (gone (old 1 1 depth) Halt) {
+    beam = record { x = to_x; y = to_y; scale = scale };
+    at = (at + 1) % 4096;
+    strokes = drew;
+  }
+
+  abbrev seen : ℕ → ℕ → ℕ → List Stroke
+  seen to_x to_y z = if nat_eq (some z) 0 then [] else record { x0 = x; y0 = y; x1 = to_x; y1 = to_y; z = z } ∷ []
+
+  abbrev vctr_x : ℕ
+  vctr_x = shift x (part 2 1 din) (joined 8 low (part 0 2 din)) (add 4 scale (part 12 4 first))
+
+  abbrev vctr_y : ℕ
+  vctr_y = shift y (part 10 1 first) (part 0 10 first) (add 4 scale (part 12 4 first))
+
+  slides : (op : ℕ) → op < 10 → part 12 4 first ≡ op
+      → new 1 1 depth ≡ slid_to depth vctr_x vctr_y (drew ++ seen vctr_x vctr_y (part 4 4 din))
+  slides zero less e = rw e
+  slides (suc zero) less e = rw e
+  slides (suc (suc zero)) less e = rw e
+  slides (suc (suc (suc zero))) less e = rw e
+  slides (suc (suc (suc (suc zero)))) less e = rw e
+  slides (suc (suc (suc (suc (suc zero))))) less e = rw e
+  slides (suc (suc (suc (suc (suc (suc zero)))))) less e = rw e
+  slides (suc (suc (suc (suc (suc (suc (suc zero))))))) less e = rw e
+  slides (suc (suc (suc (suc (suc (suc (suc (suc zero)))))))) less e = rw e
+  slides (suc (suc (suc (suc (suc (suc (suc (suc (suc zero))))))))) less e = rw e
+  slides (suc (suc (suc (suc (suc (suc (suc (suc (suc (suc n)))))))))) less e = absurd (omega arith)
+
+  abbrev svec_scale : ℕ
+  svec_scale = add 4 (joined 1 (part 3 1 din) (part 3 1 low)) 2
+
+  abbrev svec_x : ℕ
+  svec_x = shift x (part 2 1 low) (joined 8 0 (part 0 2 low)) (add 4 scale svec_scale)
+
+  abbrev svec_y : ℕ
+  svec_y = shift y (part 2 1 din) (joined 8 0 (part 0 2 din)) (add 4 scale svec_scale)
+
+  abbrev hops_to : ℕ → ℕ → ℕ → List Stroke → Machine
+  hops_to depth to_x to_y drew = record (gone (old 1 0 depth) Halt) {
+    beam = record { x = to_x; y = to_y; scale = scale };
+    at = (at + 1) % 4096;
+    strokes = drew;
+  }
+
+  hops : part 4 4 din ≡ 15 → new 1 0 depth ≡ hops_to depth svec_x svec_y (drew ++ seen svec_x svec_y (part 4 4 low))
+  hops e = rw e
+
+  -- as the definition has them
+  module _ (x_in : x < 2097152) (y_in : y < 2097152) (scale_in : scale < 16) (low_in : low < 256) (din_in : din < 256) where
+    vctr : (op : ℕ) → op < 10 → part 12 4 first ≡ op
+        → Obeyed {A = Unit {0}} (old 1 1 depth)
+        (Vctr (part 12 4 first) (signed (part 2 1 din) (joined 8 low (part 0 2 din))) (signed (part 10 1 first) (part 0 10 first)) (part 4 4 din))
+        (new 1 1 depth) Word
+    vctr op less e =
+        let sum_in : add 4 scale (part 12 4 first) < 16 = omega arith in
+        let to_x = shift_is x (part 2 1 din) (joined 8 low (part 0 2 din)) (add 4 scale (part 12 4 first)) x_in (omega arith) sum_in in
+        let to_y = shift_is y (part 10 1 first) (part 0 10 first) (add 4 scale (part 12 4 first)) y_in (omega arith) sum_in in
+        let from : Beam = record { x = x; y = y; scale = scale } in
+        let to : Beam = record { x = vctr_x; y = vctr_y; scale = scale } in
+        let z = part 4 4 din in (
+          tt,
+          slides op less e
+              ∙ ap (λ drawn. slid_to depth vctr_x vctr_y (drew ++ drawn)) (line_is from to z)
+              ∙ ap (λ v. slid_to depth v vctr_y (drew ++ line from (record { x = v; y = vctr_y; scale = scale }) z)) to_x
+              ∙ ap (λ v. slid_to depth (shifted x (signed (part 2 1 din) (joined 8 low (part 0 2 din))) (unit (add 4 scale (part 12 4 first)))) v
+              (drew ++ line from (record { x = shifted x (signed (part 2 1 din) (joined 8 low (part 0 2 din))) (unit (add 4 scale (part 12 4 first))); y = v; scale = scale }) z)) to_y,
+        )
+
+    abbrev svec_by : ℕ
+    svec_by = 2 + 2 * part 3 1 low + part 3 1 din
+
+    svec : part 4 4 din ≡ 15
+        → Obeyed {A = Unit {0}} (old 1 0 depth)
+        (Svec svec_by (signed (part 2 1 low) (part 0 2 low)) (signed (part 2 1 din) (part 0 2 din)) (part 4 4 low))
+        (new 1 0 depth) Word
+    svec e =
+        let sum_in : add 4 scale svec_scale < 16 = omega arith in
+        let same : add 4 scale svec_scale ≡ (scale + svec_by) % 16 = omega arith in
+        let to_x : svec_x ≡ shifted x (signed (part 2 1 low) (part 0 2 low)) (256 * unit ((scale + svec_by) % 16)) =
+        shift_is x (part 2 1 low) (joined 8 0 (part 0 2 low)) (add 4 scale svec_scale) x_in (omega arith) sum_in
+        ∙ hop_is x (part 2 1 low) (part 0 2 low) (unit (add 4 scale svec_scale)) (omega arith)
+        ∙ ap (λ s. shifted x (signed (part 2 1 low) (part 0 2 low)) (256 * unit s)) same in
+        let to_y : svec_y ≡ shifted y (signed (part 2 1 din) (part 0 2 din)) (256 * unit ((scale + svec_by) % 16)) =
+        shift_is y (part 2 1 din) (joined 8 0 (part 0 2 din)) (add 4 scale svec_scale) y_in (omega arith) sum_in
+        ∙ hop_is y (part 2 1 din) (part 0 2 din) (unit (add 4 scale svec_scale)) (omega arith)
+        ∙ ap (λ s. shifted y (signed (part 2 1 din) (part 0 2 din)) (256 * unit s)) same in
+        let from : Beam = record { x = x; y = y; scale = scale } in
+        let to : Beam = record { x = svec_x; y = svec_y; scale = scale } in
+        let z = part 4 4 low in (
+          tt,
+          hops e
+              ∙ ap (λ drawn. hops_to depth svec_x svec_y (drew ++ drawn)) (line_is from to z)
+              ∙ ap (λ v. hops_to depth v svec_y (drew ++ line from (record { x = v; y = svec_y; scale = scale }) z)) to_x
+              ∙ ap (λ v. hops_to depth (shifted x (signed (part 2 1 low) (part 0 2 low)) (256 * unit ((scale + svec_by) % 16))) v
+              (drew ++ line from (record { x = shifted x (signed (part 2 1 low) (part 0 2 low)) (256 * unit ((scale + svec_by) % 16)); y = v; scale = scale }) z)) to_y,
+        )
+
+    spells_vctr : (op : ℕ) → op < 10 → part 12 4 first ≡ op → first < 65536
+        → Spells (Vctr (part 12 4 first) (signed (part 2 1 din) (joined 8 low (part 0 2 din))) (signed (part 10 1 first) (part 0 10 first)) (part 4 4 din))
+        (first ∷ word ∷ [])
+    spells_vctr op less e first_in =
+        vctr_read _ first word (part 12 4 first) (part 10 1 first) (part 0 10 first) (part 2 1 din) (joined 8 low (part 0 2 din)) (part 4 4 din)
+        _ _ (omega arith) (omega arith) refl refl refl (omega arith) (omega arith) (omega arith) refl refl refl
+
+    spells_labs : part 12 4 first ≡ 10 → first < 65536 → Spells (Labs target (part 0 12 first) (part 4 4 din)) (first ∷ word ∷ [])
+    spells_labs e first_in =
+        labs_read _ first word target (part 0 12 first) (part 4 4 din) (omega arith) (omega arith) (omega arith) (omega arith) refl (omega arith) refl
+
+    spells_svec : part 4 4 din ≡ 15
+        → Spells (Svec svec_by (signed (part 2 1 low) (part 0 2 low)) (signed (part 2 1 din) (part 0 2 din)) (part 4 4 low)) (word ∷ [])
+    spells_svec e =
+        svec_read _ word (part 3 1 din) (part 2 1 din) (part 0 2 din) (part 4 4 low) (part 3 1 low) (part 2 1 low) (part 0 2 low) _ _
+        (omega arith) (omega arith) (omega arith) (omega arith) (omega arith) (omega arith) (omega arith) (omega arith) (omega arith) refl refl refl
+
+    abbrev now : ℕ → ℕ → Core
+    now second depth = clock (core 1 1 second depth) byte
+
+    abbrev tells_now : ℕ → ℕ → Reply
+    tells_now second depth = says (now second depth).done (now second depth).fault (drew ++ line_of (now second depth))
+
+    abbrev Next : ℕ → ℕ → List Told → Type 0
+    Next second depth history = Stepped byte (core 1 1 second depth) drew history (Some low)
+
+    abbrev Before : ℕ → ℕ → List Told → Type 0
+    Before second depth history = HasTaken (old 1 second depth) history (Some low)
+
+    finish : (second depth : ℕ) (history : List Told) (after : Before second depth history)
+        (stands : HasTaken (new 1 second depth) (Fed (Some word) ∷ history) None)
+        → tells_now second depth ≡ reply (Some word) stands.run → Fits (now second depth) → Next second depth history
+    finish second depth history after stands said fits = record {
+      history' = Fed (Some word) ∷ history;
+      low' = None;
+      found = Some (Whole (Some word));
+      tells = fetches {run = after.run} refl refl refl after.leaves (sym after.stands.is_open);
+      stands = stands;
+      fits = fits;
+      said = said;
+    }
+
+    goes : (second depth : ℕ) (history : List Told) (code : Instr) → Before second depth history
+        → Completes (kept second first) word code → Obeyed {A = Unit {0}} (old 1 second depth) code (new 1 second depth) Word
+        → tells_now second depth ≡ More → Fits (now second depth) → Next second depth history
+    goes second depth history code after completes obeyed more fits =
+        let answers = obeys (Unit {0}) word (old 1 second depth) (new 1 second depth) code Word refl completes obeyed history (Some low) after in
+        finish second depth history after answers.0 (more ∙ more_is _ answers.1) fits
+
+    breaks : (second depth : ℕ) (history : List Told) (code : Instr) (fault : GenFault) → Before second depth history
+        → Completes (kept second first) word code → Obeyed {A = Unit {0}} (old 1 second depth) code (new 1 second depth) (Broke fault)
+        → tells_now second depth ≡ Fails fault → Fits (now second depth) → Next second depth history
+    breaks second depth history code fault after completes obeyed fails fits =
+        let answers = obeys (Unit {0}) word (old 1 second depth) (new 1 second depth) code (Broke fault) refl completes obeyed history (Some low) after in
+        finish second depth history after answers.0 (fails ∙ fails_is fault _ answers.1) fits
+
+    -- a first word
+    more_first : (op : ℕ) → op < 11 → part 4 4 din ≡ op → tells_now 0 depth ≡ More
+    more_first zero less e = rw e refl
+    more_first (suc zero) less e = rw e refl
+    more_first (suc (suc zero)) less e = rw e refl
+    more_first (suc (suc (suc zero))) less e = rw e refl
+    more_first (suc (suc (suc (suc zero)))) less e = rw e refl
+    more_first (suc (suc (suc (suc (suc zero))))) less e = rw e refl
+    more_first (suc (suc (suc (suc (suc (suc zero)))))) less e = rw e refl
+    more_first (suc (suc (suc (suc (suc (suc (suc zero))))))) less e = rw e refl
+    more_first (suc (suc (suc (suc (suc (suc (suc (suc zero)))))))) less e = rw e refl
+    more_first (suc (suc (suc (suc (suc (suc (suc (suc (suc zero))))))))) less e = rw e refl
+    more_first (suc (suc (suc (suc (suc (suc (suc (suc (suc (suc zero)))))))))) less e = rw e refl
+    more_first (suc (suc (suc (suc (suc (suc (suc (suc (suc (suc (suc n))))))))))) less e = absurd (omega arith)
+
+    fits_first : (op depth : ℕ) → depth ≤ 4 → op < 11 → part 4 4 din ≡ op → Fits (now 0 depth)
+    fits_first zero depth deep less e = rw e (record { opened = omega arith; high = omega arith; second = omega arith; low = low_in; first = λ is. omega arith; depth = deep; x = x_in; y = y_in; scale = scale_in })
+    fits_first (suc zero) depth deep less e = rw e (record { opened = omega arith; high = omega arith; second = omega arith; low = low_in; first = λ is. omega arith; depth = deep; x = x_in; y = y_in; scale = scale_in })
+    fits_first (suc (suc zero)) depth deep less e = rw e (record { opened = omega arith; high = omega arith; second = omega arith; low = low_in; first = λ is. omega arith; depth = deep; x = x_in; y = y_in; scale = scale_in })
+    fits_first (suc (suc (suc zero))) depth deep less e = rw e (record { opened = omega arith; high = omega arith; second = omega arith; low = low_in; first = λ is. omega arith; depth = deep; x = x_in; y = y_in; scale = scale_in })
+    fits_first (suc (suc (suc (suc zero)))) depth deep less e = rw e (record { opened = omega arith; high = omega arith; second = omega arith; low = low_in; first = λ is. omega arith; depth = deep; x = x_in; y = y_in; scale = scale_in })
+    fits_first (suc (suc (suc (suc (suc zero))))) depth deep less e = rw e (record { opened = omega arith; high = omega arith; second = omega arith; low = low_in; first = λ is. omega arith; depth = deep; x = x_in; y = y_in; scale = scale_in })
+    fits_first (suc (suc (suc (suc (suc (suc zero)))))) depth deep less e = rw e (record { opened = omega arith; high = omega arith; second = omega arith; low = low_in; first = λ is. omega arith; depth = deep; x = x_in; y = y_in; scale = scale_in })
+    fits_first (suc (suc (suc (suc (suc (suc (suc zero))))))) depth deep less e = rw e (record { opened = omega arith; high = omega arith; second = omega arith; low = low_in; first = λ is. omega arith; depth = deep; x = x_in; y = y_in; scale = scale_in })
+    fits_first (suc (suc (suc (suc (suc (suc (suc (suc zero)))))))) depth deep less e = rw e (record { opened = omega arith; high = omega arith; second = omega arith; low = low_in; first = λ is. omega arith; depth = deep; x = x_in; y = y_in; scale = scale_in })
+    fits_first (suc (suc (suc (suc (suc (suc (suc (suc (suc zero))))))))) depth deep less e = rw e (record { opened = omega arith; high = omega arith; second = omega arith; low = low_in; first = λ is. omega arith; depth = deep; x = x_in; y = y_in; scale = scale_in })
+    fits_first (suc (suc (suc (suc (suc (suc (suc (suc (suc (suc zero)))))))))) depth deep less e = rw e (record { opened = omega arith; high = omega arith; second = omega arith; low = low_in; first = λ is. omega arith; depth = deep; x = x_in; y = y_in; scale = scale_in })
+    fits_first (suc (suc (suc (suc (suc (suc (suc (suc (suc (suc (suc n))))))))))) depth deep less e = absurd (omega arith)
+
+    step_first : depth ≤ 4 → (history : List Told) → Before 0 depth history → din < 176 → Next 0 depth history
+    step_first deep history after less =
+        let answers = first_word low_in less history (Some low) after in
+        finish 0 depth history after answers.0 (more_first (part 4 4 din) (omega arith) refl ∙ more_is _ answers.1)
+        (fits_first (part 4 4 din) depth deep (omega arith) refl)
+
+    -- a HALT
+    step_halt : depth ≤ 4 → (history : List Told) → Before 0 depth history → part 4 4 din ≡ 11 → Next 0 depth history
+    step_halt deep history after e =
+        let ended : Halted (new 1 0 depth) history word drew =
+        halted_at history (Some low) (old 1 0 depth) (new 1 0 depth) word after refl refl (spells_halt e low_in din_in) (halts e) in
+        let drew_is : tells_now 0 depth ≡ Drew (drew ++ []) = rw e refl in
+        finish 0 depth history after ended.stands (drew_is ∙ ap Drew (append-nil drew) ∙ ended.replies)
+        (rw e (record { opened = omega arith; high = omega arith; second = omega arith; low = low_in; first = λ is. absurd (omega arith); depth = deep; x = x_in; y = y_in; scale = scale_in }))
+
+    -- a JSRL
+    more_call : (depth : ℕ) → depth < 4 → part 4 4 din ≡ 12 → (tells_now 0 depth ≡ More) × Fits (now 0 depth)
+    more_call zero less e = (rw e refl, rw e (record { opened = omega arith; high = omega arith; second = omega arith; low = low_in; first = λ is. absurd (omega arith); depth = omega arith; x = x_in; y = y_in; scale = scale_in }))
+    more_call (suc zero) less e = (rw e refl, rw e (record { opened = omega arith; high = omega arith; second = omega arith; low = low_in; first = λ is. absurd (omega arith); depth = omega arith; x = x_in; y = y_in; scale = scale_in }))
+    more_call (suc (suc zero)) less e = (rw e refl, rw e (record { opened = omega arith; high = omega arith; second = omega arith; low = low_in; first = λ is. absurd (omega arith); depth = omega arith; x = x_in; y = y_in; scale = scale_in }))
+    more_call (suc (suc (suc zero))) less e = (rw e refl, rw e (record { opened = omega arith; high = omega arith; second = omega arith; low = low_in; first = λ is. absurd (omega arith); depth = omega arith; x = x_in; y = y_in; scale = scale_in }))
+    more_call (suc (suc (suc (suc n)))) less e = absurd (omega arith)
+
+    step_call : (depth : ℕ) → depth ≤ 4 → (history : List Told) → Before 0 depth history → part 4 4 din ≡ 12 → Next 0 depth history
+    step_call depth deep history after e = by (cases_lt depth 4)
+      where
+        full : (d : ℕ) → d ≡ 4 → Before 0 d history → Next 0 d history
+        full (suc (suc (suc (suc zero)))) is before =
+            breaks 0 4 history (Jsrl target) StackOver before (spells_call e low_in din_in) (overflows e) (rw e refl) (rw e (record { opened = omega arith; high = omega arith; second = omega arith; low = low_in; first = λ is. absurd (omega arith); depth = omega arith; x = x_in; y = y_in; scale = scale_in }))
+        full zero is before = absurd (omega arith)
+        full (suc zero) is before = absurd (omega arith)
+        full (suc (suc zero)) is before = absurd (omega arith)
+        full (suc (suc (suc zero))) is before = absurd (omega arith)
+        full (suc (suc (suc (suc (suc n))))) is before = absurd (omega arith)
+
+        by : (depth < 4) ⊎ (4 ≤ depth) → Next 0 depth history
+        by (inl less) = goes 0 depth history (Jsrl target) after (spells_call e low_in din_in) (calls depth less e)
+            (more_call depth less e).0 (more_call depth less e).1
+        by (inr more) = full depth (omega arith) after
+
+    -- an RTSL
+    more_return : (depth : ℕ) → 1 ≤ depth → depth ≤ 4 → part 4 4 din ≡ 13 → (tells_now 0 depth ≡ More) × Fits (now 0 depth)
+    more_return zero some less e = absurd (omega arith)
+    more_return (suc zero) some less e = (rw e refl, rw e (record { opened = omega arith; high = omega arith; second = omega arith; low = low_in; first = λ is. absurd (omega arith); depth = omega arith; x = x_in; y = y_in; scale = scale_in }))
+    more_return (suc (suc zero)) some less e = (rw e refl, rw e (record { opened = omega arith; high = omega arith; second = omega arith; low = low_in; first = λ is. absurd (omega arith); depth = omega arith; x = x_in; y = y_in; scale = scale_in }))
+    more_return (suc (suc (suc zero))) some less e = (rw e refl, rw e (record { opened = omega arith; high = omega arith; second = omega arith; low = low_in; first = λ is. absurd (omega arith); depth = omega arith; x = x_in; y = y_in; scale = scale_in }))
+    more_return (suc (suc (suc (suc zero)))) some less e = (rw e refl, rw e (record { opened = omega arith; high = omega arith; second = omega arith; low = low_in; first = λ is. absurd (omega arith); depth = omega arith; x = x_in; y = y_in; scale = scale_in }))
+    more_return (suc (suc (suc (suc (suc n))))) some less e = absurd (omega arith)
+
+    step_return : (depth : ℕ) → depth ≤ 4 → (history : List Told) → Before 0 depth history → part 4 4 din ≡ 13 → Next 0 depth history
+    step_return zero deep history after e =
+        breaks 0 0 history Rtsl StackUnder after (spells_return e low_in din_in) (underflows e) (rw e refl) (rw e (record { opened = omega arith; high = omega arith; second = omega arith; low = low_in; first = λ is. absurd (omega arith); depth = omega arith; x = x_in; y = y_in; scale = scale_in }))
+    step_return (suc n) deep history after e =
+        goes 0 (suc n) history Rtsl after (spells_return e low_in din_in) (returns (suc n) (omega arith) deep e)
+        (more_return (suc n) (omega arith) deep e).0 (more_return (suc n) (omega arith) deep e).1
+
+    -- a JMPL
+    step_jump : depth ≤ 4 → (history : List Told) → Before 0 depth history → part 4 4 din ≡ 14 → Next 0 depth history
+    step_jump deep history after e =
+        goes 0 depth history (Jmpl target) after (spells_jump e low_in din_in) (jumps e) (rw e refl) (rw e (record { opened = omega arith; high = omega arith; second = omega arith; low = low_in; first = λ is. absurd (omega arith); depth = omega arith; x = x_in; y = y_in; scale = scale_in }))
+
+    -- an SVEC
+    more_seen : (to_x to_y z : ℕ) → says 0 0 (drew ++ seen to_x to_y z) ≡ More
+    more_seen to_x to_y z = refl
+
+    step_svec : depth ≤ 4 → (history : List Told) → Before 0 depth history → part 4 4 din ≡ 15 → Next 0 depth history
+    step_svec deep history after e =
+        goes 0 depth history _ after (spells_svec e) (svec e) (rw e refl)
+        (rw e (record {
+          opened = omega arith;
+          high = omega arith;
+          second = omega arith;
+          low = low_in;
+          first = λ is. absurd (omega arith);
+          depth = deep;
+          x = shift_in x (part 2 1 low) (joined 8 0 (part 0 2 low)) (add 4 scale svec_scale) (omega arith);
+          y = shift_in y (part 2 1 din) (joined 8 0 (part 0 2 din)) (add 4 scale svec_scale) (omega arith);
+          scale = scale_in;
+        }))
+
+    -- a LABS
+    step_labs : depth ≤ 4 → (history : List Told) → Before 1 depth history → first < 65536 → part 12 4 first ≡ 10 → Next 1 depth history
+    step_labs deep history after first_in e =
+        goes 1 depth history _ after (spells_labs e first_in) (labs depth e) refl
+        (rw e (record {
+          opened = omega arith;
+          high = omega arith;
+          second = omega arith;
+          low = low_in;
+          first = λ is. absurd (omega arith);
+          depth = deep;
+          x = omega arith;
+          y = omega arith;
+          scale = omega arith;
+        }))
+
+    -- a VCTR
+    fits_vctr : (op depth : ℕ) → depth ≤ 4 → op < 10 → part 12 4 first ≡ op → Fits (now 1 depth)
+    fits_vctr zero depth deep less e = rw e (record { opened = omega arith; high = omega arith; second = omega arith; low = low_in; first = λ is. absurd (omega arith); depth = deep; x = shift_in x (part 2 1 din) (joined 8 low (part 0 2 din)) (add 4 scale 0) (omega arith); y = shift_in y (part 10 1 first) (part 0 10 first) (add 4 scale 0) (omega arith); scale = scale_in })
+    fits_vctr (suc zero) depth deep less e = rw e (record { opened = omega arith; high = omega arith; second = omega arith; low = low_in; first = λ is. absurd (omega arith); depth = deep; x = shift_in x (part 2 1 din) (joined 8 low (part 0 2 din)) (add 4 scale 1) (omega arith); y = shift_in y (part 10 1 first) (part 0 10 first) (add 4 scale 1) (omega arith); scale = scale_in })
+    fits_vctr (suc (suc zero)) depth deep less e = rw e (record { opened = omega arith; high = omega arith; second = omega arith; low = low_in; first = λ is. absurd (omega arith); depth = deep; x = shift_in x (part 2 1 din) (joined 8 low (part 0 2 din)) (add 4 scale 2) (omega arith); y = shift_in y (part 10 1 first) (part 0 10 first) (add 4 scale 2) (omega arith); scale = scale_in })
+    fits_vctr (suc (suc (suc zero))) depth deep less e = rw e (record { opened = omega arith; high = omega arith; second = omega arith; low = low_in; first = λ is. absurd (omega arith); depth = deep; x = shift_in x (part 2 1 din) (joined 8 low (part 0 2 din)) (add 4 scale 3) (omega arith); y = shift_in y (part 10 1 first) (part 0 10 first) (add 4 scale 3) (omega arith); scale = scale_in })
+    fits_vctr (suc (suc (suc (suc zero)))) depth deep less e = rw e (record { opened = omega arith; high = omega arith; second = omega arith; low = low_in; first = λ is. absurd (omega arith); depth = deep; x = shift_in x (part 2 1 din) (joined 8 low (part 0 2 din)) (add 4 scale 4) (omega arith); y = shift_in y (part 10 1 first) (part 0 10 first) (add 4 scale 4) (omega arith); scale = scale_in })
+    fits_vctr (suc (suc (suc (suc (suc zero))))) depth deep less e = rw e (record { opened = omega arith; high = omega arith; second = omega arith; low = low_in; first = λ is. absurd (omega arith); depth = deep; x = shift_in x (part 2 1 din) (joined 8 low (part 0 2 din)) (add 4 scale 5) (omega arith); y = shift_in y (part 10 1 first) (part 0 10 first) (add 4 scale 5) (omega arith); scale = scale_in })
+    fits_vctr (suc (suc (suc (suc (suc (suc zero)))))) depth deep less e = rw e (record { opened = omega arith; high = omega arith; second = omega arith; low = low_in; first = λ is. absurd (omega arith); depth = deep; x = shift_in x (part 2 1 din) (joined 8 low (part 0 2 din)) (add 4 scale 6) (omega arith); y = shift_in y (part 10 1 first) (part 0 10 first) (add 4 scale 6) (omega arith); scale = scale_in })
+    fits_vctr (suc (suc (suc (suc (suc (suc (suc zero))))))) depth deep less e = rw e (record { opened = omega arith; high = omega arith; second = omega arith; low = low_in; first = λ is. absurd (omega arith); depth = deep; x = shift_in x (part 2 1 din) (joined 8 low (part 0 2 din)) (add 4 scale 7) (omega arith); y = shift_in y (part 10 1 first) (part 0 10 first) (add 4 scale 7) (omega arith); scale = scale_in })
+    fits_vctr (suc (suc (suc (suc (suc (suc (suc (suc zero)))))))) depth deep less e = rw e (record { opened = omega arith; high = omega arith; second = omega arith; low = low_in; first = λ is. absurd (omega arith); depth = deep; x = shift_in x (part 2 1 din) (joined 8 low (part 0 2 din)) (add 4 scale 8) (omega arith); y = shift_in y (part 10 1 first) (part 0 10 first) (add 4 scale 8) (omega arith); scale = scale_in })
+    fits_vctr (suc (suc (suc (suc (suc (suc (suc (suc (suc zero))))))))) depth deep less e = rw e (record { opened = omega arith; high = omega arith; second = omega arith; low = low_in; first = λ is. absurd (omega arith); depth = deep; x = shift_in x (part 2 1 din) (joined 8 low (part 0 2 din)) (add 4 scale 9) (omega arith); y = shift_in y (part 10 1 first) (part 0 10 first) (add 4 scale 9) (omega arith); scale = scale_in })
+    fits_vctr (suc (suc (suc (suc (suc (suc (suc (suc (suc (suc n)))))))))) depth deep less e = absurd (omega arith)
+
+    step_vctr : depth ≤ 4 → (history : List Told) → Before 1 depth history → first < 40960 → Next 1 depth history
+    step_vctr deep history after less =
+        goes 1 depth history _ after (spells_vctr (part 12 4 first) (omega arith) refl (omega arith)) (vctr (part 12 4 first) (omega arith) refl) refl
+        (fits_vctr (part 12 4 first) depth deep (omega arith) refl)
+
+    -- a whole word
+    step_alone : (k : ℕ) → k < 5 → depth ≤ 4 → (history : List Told) → Before 0 depth history → part 4 4 din ≡ 11 + k → Next 0 depth history
+    step_alone zero less deep history after e = step_halt deep history after e
+    step_alone (suc zero) less deep history after e = step_call depth deep history after e
+    step_alone (suc (suc zero)) less deep history after e = step_return depth deep history after e
+    step_alone (suc (suc (suc zero))) less deep history after e = step_jump deep history after e
+    step_alone (suc (suc (suc (suc zero)))) less deep history after e = step_svec deep history after e
+    step_alone (suc (suc (suc (suc (suc k))))) less deep history after e = absurd (omega arith)
+
+    step_word : (second : ℕ) → second < 2 → (second ≡ 1 → first < 45056) → depth ≤ 4 → (history : List Told)
+        → Before second depth history → Next second depth history
+    step_word zero bit is_first deep history after = by (cases_lt din 176)
+      where
+        by : (din < 176) ⊎ (176 ≤ din) → Next 0 depth history
+        by (inl less) = step_first deep history after less
+        by (inr more) = step_alone (part 4 4 din - 11) (omega arith) deep history after (omega arith)
+    step_word (suc zero) bit is_first deep history after = by (cases_lt first 40960)
+      where
+        by : (first < 40960) ⊎ (40960 ≤ first) → Next 1 depth history
+        by (inl less) = step_vctr deep history after less
+        by (inr more) = let less = is_first refl in step_labs deep history after (omega arith) (omega arith)
+    step_word (suc (suc n)) bit is_first deep history after = absurd (omega arith)
+
+    -- a low byte
+    step_low : (second : ℕ) → second < 2 → (second ≡ 1 → first < 45056) → depth ≤ 4 → (history : List Told)
+        → HasTaken (old 0 second depth) history None → Stepped byte (core 1 0 second depth) drew history None
+    step_low second bit is_first deep history after =
+        let answers = low_byte second history None after in
+        record {
+          history' = history;
+          low' = Some din;
+          found = Some (Waits din);
+          tells = fetches {run = after.run} refl refl refl after.leaves (sym after.stands.is_open);
+          stands = answers.0;
+          fits = record { opened = omega arith; high = omega arith; second = bit; low = din_in; first = is_first; depth = deep; x = x_in; y = y_in; scale = scale_in };
+          said = (refl, refl, refl);
+        }
+
+    -- the other events
+    module _ (is_open high second : ℕ) (open_in : is_open < 2) (high_in : high < 2) (second_in : second < 2)
+        (is_first : second ≡ 1 → first < 45056) (deep : depth ≤ 4) (history : List Told) (low' : Option ℕ) where
+      abbrev Goes : Pins → ℕ → ℕ → Type 0
+      Goes pins is_open high = HasTaken (machine_of (core is_open high second depth) drew) history low'
+          → Stepped pins (core is_open high second depth) drew history low'
+
+      step_reset : (start valid hole : ℕ) → Goes (record { reset = 1; start = start; valid = valid; hole = hole; din = din }) is_open high
+      step_reset start valid hole after = record {
+        history' = Reset ∷ history;
+        low' = None;
+        found = None;
+        tells = Refines.resets refl;
+        stands = resets is_open high second start valid hole history low' after;
+        fits = record { opened = omega arith; high = omega arith; second = second_in; low = low_in; first = is_first; depth = deep; x = x_in; y = y_in; scale = scale_in };
+        said = (refl, refl, refl);
+      }
+
+      step_start : (valid hole : ℕ) → Goes (record { reset = 0; start = 1; valid = valid; hole = hole; din = din }) is_open high
+      step_start valid hole after = record {
+        history' = Start ∷ history;
+        low' = None;
+        found = None;
+        tells = Refines.starts refl refl;
+        stands = starts is_open high second valid hole history low' after;
+        fits = record { opened = omega arith; high = omega arith; second = omega arith; low = low_in; first = λ is. absurd (omega arith); depth = omega arith; x = x_in; y = y_in; scale = scale_in };
+        said = (refl, refl, refl);
+      }
+
+      step_idle : (o hole : ℕ) → o < 2 → Goes (record { reset = 0; start = 0; valid = 0; hole = hole; din = din }) o high
+      step_idle zero hole small after = record {
+        history' = history;
+        low' = low';
+        found = None;
+        tells = Refines.idles refl refl refl;
+        stands = subst (λ l. HasTaken (machine_of (core 0 high second depth) l) history low') (sym (append-nil drew)) after;
+        fits = record { opened = omega arith; high = high_in; second = second_in; low = low_in; first = is_first; depth = deep; x = x_in; y = y_in; scale = scale_in };
+        said = (refl, refl, refl);
+      }
+      step_idle (suc zero) hole small after = record {
+        history' = history;
+        low' = low';
+        found = None;
+        tells = Refines.idles refl refl refl;
+        stands = subst (λ l. HasTaken (machine_of (core 1 high second depth) l) history low') (sym (append-nil drew)) after;
+        fits = record { opened = omega arith; high = high_in; second = second_in; low = low_in; first = is_first; depth = deep; x = x_in; y = y_in; scale = scale_in };
+        said = (refl, refl, refl);
+      }
+      step_idle (suc (suc n)) hole small after = absurd (omega arith)
+
+      step_ignore : (hole : ℕ) → Goes (record { reset = 0; start = 0; valid = 1; hole = hole; din = din }) 0 high
+      step_ignore hole after = record {
+        history' = history;
+        low' = low';
+        found = None;
+        tells = Refines.ignores {run = after.run} refl refl refl after.leaves (sym after.stands.is_open);
+        stands = subst (λ l. HasTaken (machine_of (core 0 high second depth) l) history low') (sym (append-nil drew)) after;
+        fits = record { opened = omega arith; high = high_in; second = second_in; low = low_in; first = is_first; depth = deep; x = x_in; y = y_in; scale = scale_in };
+        said = (refl, refl, refl);
+      }
+
+      step_hole : Goes gap 1 high
+      step_hole after =
+          let answers = holes high second history low' after in
+          record {
+            history' = Fed None ∷ history;
+            low' = None;
+            found = Some (Whole None);
+            tells = fetches {run = after.run} refl refl refl after.leaves (sym after.stands.is_open);
+            stands = answers.0;
+            fits = record { opened = omega arith; high = omega arith; second = second_in; low = low_in; first = is_first; depth = deep; x = x_in; y = y_in; scale = scale_in };
+            said = refl;
+          }
+
+      step_byte : (h : ℕ) → h < 2 → Goes byte 1 h
+      step_byte zero small after =
+          subst (λ w. Stepped byte (core 1 0 second depth) drew history w) after.low
+          (step_low second second_in is_first deep history (subst (λ w. HasTaken (old 0 second depth) history w) (sym after.low) after))
+      step_byte (suc zero) small after =
+          subst (λ w. Stepped byte (core 1 1 second depth) drew history w) after.low
+          (step_word second second_in is_first deep history (subst (λ w. HasTaken (old 1 second depth) history w) (sym after.low) after))
+      step_byte (suc (suc n)) small after = absurd (omega arith)
+
+      by_hole : (hole : ℕ) → hole < 2 → Goes (record { reset = 0; start = 0; valid = 1; hole = hole; din = din }) 1 high
+      by_hole zero small after = step_byte high high_in after
+      by_hole (suc zero) small after = step_hole after
+      by_hole (suc (suc n)) small after = absurd (omega arith)
+
+      by_open : (o hole : ℕ) → o < 2 → hole < 2 → Goes (record { reset = 0; start = 0; valid = 1; hole = hole; din = din }) o high
+      by_open zero hole small hole_in after = step_ignore hole after
+      by_open (suc zero) hole small hole_in after = by_hole hole hole_in after
+      by_open (suc (suc n)) hole small hole_in after = absurd (omega arith)
+
+      by_valid : (valid hole : ℕ) → valid < 2 → hole < 2 → Goes (record { reset = 0; start = 0; valid = valid; hole = hole; din = din }) is_open high
+      by_valid zero hole small hole_in after = step_idle is_open hole open_in after
+      by_valid (suc zero) hole small hole_in after = by_open is_open hole open_in hole_in after
+      by_valid (suc (suc n)) hole small hole_in after = absurd (omega arith)
+
+      by_start : (start valid hole : ℕ) → start < 2 → valid < 2 → hole < 2
+          → Goes (record { reset = 0; start = start; valid = valid; hole = hole; din = din }) is_open high
+      by_start zero valid hole small valid_in hole_in after = by_valid valid hole valid_in hole_in after
+      by_start (suc zero) valid hole small valid_in hole_in after = step_start valid hole after
+      by_start (suc (suc n)) valid hole small valid_in hole_in after = absurd (omega arith)
+
+      pub step : (reset start valid hole : ℕ) → reset < 2 → start < 2 → valid < 2 → hole < 2
+          → Goes (record { reset = reset; start = start; valid = valid; hole = hole; din = din }) is_open high
+      step zero start valid hole small start_in valid_in hole_in after = by_start start valid hole start_in valid_in hole_in after
+      step (suc zero) start valid hole small start_in valid_in hole_in after = step_reset start valid hole after
+      step (suc (suc n)) start valid hole small start_in valid_in hole_in after = absurd (omega arith)

@@ -1,0 +1,8 @@
+pub mod Machines
+pub mod Shifts
+pub mod Fitting
+pub mod Clocks
+pub mod Whole
+mod Example
+mod Vectors
+mod ClockVectors

@@ -1,0 +1,84 @@
+-- All clocks since power-up.
+use Rattle.std.proofs.Common.{◌≡◌, ℕ, zero, suc, ◌<◌, Bool, true, false, not, List, [], ◌∷◌, Option, None, refl, ap, ◌∙◌, arith}
+use Rattle.std.specs.Prelude.{All, nat_eq, if◌then◌else◌, is_some}
+use Rattle.std.proofs.lemmas.List.Elements.{All-head, All-tail}
+use Rattle.dvg_gen.specs.declared.stroke.Stroke.{Stroke}
+use Rattle.dvg_gen.specs.Bytes.{Met}
+use Rattle.dvg_gen.specs.Machine.{HasTaken}
+use Rattle.dvg_gen.specs.Told.{Told}
+use Rattle.dvg_gen.proofs.Standing.{stands_new}
+use Rattle.dvg_core.specs.Cells.{bit}
+use Rattle.dvg_core.specs.Core.{Core, Pins, zeros}
+use Rattle.dvg_core.proofs.Machines.{machine_of, kept}
+use Rattle.dvg_core.specs.Refines.{ArePins, after, drew, Hears, powers, clocks, Said, CoreRefines}
+use Rattle.dvg_core.proofs.Fitting.{Fits, Stepped}
+use Rattle.dvg_core.proofs.Clocks.{step}
+
+-- one clock of any core that fits
+pub one : (core : Core) (pins : Pins) (drew : List Stroke) (history : List Told) (low : Option ℕ) → Fits core → ArePins pins
+    → HasTaken (machine_of core drew) history low → Stepped pins core drew history low
+one core pins drew history low fits are after =
+    step core.at core.done core.fault core.stroke core.x0 core.y0 core.x core.y core.z core.first core.low core.depth core.s0 core.s1
+    core.s2 core.s3 core.scale pins.din drew fits.x fits.y fits.scale fits.low are.din core.is_open core.high core.second
+    fits.opened fits.high fits.second fits.first fits.depth history low pins.reset pins.start pins.valid pins.hole are.reset are.start
+    are.valid are.hole after
+
+record Stands (list : List Pins) : Type 0 where
+  history : List Told
+  low : Option ℕ
+  found : Option Met
+  hears : Hears list history low found
+  stands : HasTaken (machine_of (after list) (drew list)) history low
+  fits : Fits (after list)
+  said : Said found (after list) (drew list) stands.run
+
+stand : (list : List Pins) → All ArePins list → Stands list
+stand [] all = record {
+  history = [];
+  low = None;
+  found = None;
+  hears = powers;
+  stands = stands_new (machine_of zeros []) refl refl refl;
+  fits = record { opened = omega arith; high = omega arith; second = omega arith; low = omega arith; first = λ is. absurd (omega arith); depth = omega arith; x = omega arith; y = omega arith; scale = omega arith };
+  said = (refl, refl, refl);
+}
+stand (pins ∷ list) all =
+    let was = stand list (All-tail ArePins pins list all) in
+    let did = one (after list) pins (drew list) was.history was.low was.fits (All-head ArePins pins list all) was.stands in
+    record {
+      history = did.history';
+      low = did.low';
+      found = did.found;
+      hears = clocks was.hears did.tells;
+      stands = did.stands;
+      fits = did.fits;
+      said = did.said;
+    }
+
+halted_is : (b : Bool) → (if b then 1 else 0) ≡ bit (not (not b))
+halted_is true = refl
+halted_is false = refl
+
+high_is : (high low : ℕ) → high < 2 → high ≡ bit (is_some (kept high low))
+high_is zero low small = refl
+high_is (suc zero) low small = refl
+high_is (suc (suc n)) low small = absurd (omega arith)
+
+pub refines : CoreRefines
+refines list all =
+    let is = stand list all in
+    let core = after list in
+    record {
+      history = is.history;
+      low = is.low;
+      found = is.found;
+      hears = is.hears;
+      run = is.stands.run;
+      leaves = is.stands.leaves;
+      halted = halted_is (nat_eq core.is_open 0) ∙ ap (λ b. bit (not b)) is.stands.stands.is_open;
+      beam = is.stands.stands.beam;
+      at = λ opened. (is.stands.stands.running opened).at;
+      high = λ opened. high_is core.high core.low is.fits.high ∙ ap (λ (l : Option ℕ). bit (is_some l)) is.stands.low;
+      lines = λ opened. (is.stands.stands.running opened).strokes;
+      said = is.said;
+    }

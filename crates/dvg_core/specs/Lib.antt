@@ -1,0 +1,5 @@
+pub mod Cells
+pub mod Core
+pub mod Shown
+pub mod Refines
+pub mod Example

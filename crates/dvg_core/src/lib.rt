@@ -1,0 +1,24 @@
+//! The generator of `core/dvg_core.v`, proved from the cells that yosys reads in it: its pins are
+//! those of the definition, in each clock since power-up. There is no code here. The law is the
+//! contract of a function that does nothing.
+//!
+//! `specs/Core.antt` is made by `core/cells dvg_core`, and `specs/Cells.antt` says what each kind
+//! of cell computes.
+#![tactic(auto)]
+
+ghost use Rattle.dvg_core.specs.Example.{DrawsSome};
+ghost use Rattle.dvg_core.specs.Refines.{CoreRefines};
+
+/// Whatever the pins `reset`, `start`, `valid`, `hole` and `din` were in each clock since power-up:
+/// `halted` is whether no run is open, `at` and `high` name the byte that the open run wants next,
+/// `x` and `y` are its beam, the strokes shown since the newest start are its strokes, and after
+/// each fetched word or hole `done` and `fault` are the answer that the definition of the generator
+/// gives.
+pub fn core_refines()
+    ensures { CoreRefines }
+{}
+
+/// An example: over the clocks of one frame the core shows the frame's stroke, and `done`.
+pub fn draws_some()
+    ensures { DrawsSome }
+{}

@@ -1,0 +1,14 @@
+pub mod Reading
+pub mod Halves
+pub mod Told
+pub mod OfOneMoment
+pub mod Small
+pub mod DrawsTheMoment
+pub mod Truth
+pub mod DrewAMoment
+pub mod Stood
+pub mod Latest
+pub mod Steps
+pub mod Standing
+pub mod Contradicting
+pub mod Torn

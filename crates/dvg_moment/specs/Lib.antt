@@ -1,0 +1,4 @@
+pub mod Moment
+pub mod Played
+pub mod Judging
+pub mod own

@@ -1,0 +1,62 @@
+//! Laws of the definitions alone. Each is the contract of a function that does nothing.
+ghost use Rattle.dvg_log.specs.Legal.{Always};
+ghost use Rattle.dvg_log.specs.Log.{Log};
+ghost use Rattle.dvg_moment.specs.Judging.{IsTorn};
+ghost use Rattle.dvg_moment.specs.Moment.{IsOfOneMoment, stands, told};
+ghost use Rattle.dvg_moment.specs.Played.{DrawsTheMoment, DrewAMoment, ErrsUntold};
+ghost use Rattle.dvg_moment.specs.Played.{IsPlayed, NeverContradicts, StoodThen};
+
+/// In every legal log each run that reaches HALT is of one moment: there is a moment of the run
+/// such that no byte which the run reads changes between that moment and its reading. `world` says
+/// it where memory is known, `told` where only what the log tells of memory counts.
+pub fn of_one_moment()
+    ensures world { Always (λ R image. IsOfOneMoment (stands image)) }
+    ensures told { Always (λ R image. IsOfOneMoment told) }
+{}
+
+/// In every legal log each run that reaches HALT has such a moment at which each word that it
+/// fetched stands in memory as it was read, a byte at a time.
+pub fn stood_then()
+    ensures { Always StoodThen }
+{}
+
+/// In every legal log each run that reaches HALT has such a moment, and drew what a run over that
+/// moment's memory draws, from any beam.
+pub fn drew_a_moment()
+    ensures { Always DrewAMoment }
+{}
+
+/// Whoever drives: a run of one moment that reaches HALT drew what a run over that moment's memory
+/// draws. Only what the generator does has to be right: it fetches what is in memory then.
+pub fn draws_the_moment()
+    ensures { DrawsTheMoment stands }
+{}
+
+/// Whoever drives, and whatever was in memory at first: where a run that reaches HALT is of one
+/// moment by what its log alone tells, it drew what a run over that moment's memory draws.
+pub fn told_is_enough()
+    ensures { DrawsTheMoment (λ image. told) }
+{}
+
+/// Each legal log is one in which the generator fetches what is in memory then, so the laws above
+/// that hold whoever drives are of legal logs, too.
+pub fn legal_is_played()
+    ensures { Always IsPlayed }
+{}
+
+/// Whoever drives, nothing that is read contradicts what the log told. So where a reading does, a
+/// writer isn't in the log, or the log isn't that of such a generator.
+pub fn never_contradicts()
+    ensures { NeverContradicts }
+{}
+
+/// Whoever drives: a write that changes a byte by what the log told, and changes nothing in memory,
+/// is of a byte that the log told nothing of. By no other write a run is called torn that isn't.
+pub fn errs_untold()
+    ensures { ErrsUntold }
+{}
+
+/// There is a log whose open run is torn.
+pub fn some_run_is_torn()
+    ensures { (log : Log) × IsTorn log }
+{}

@@ -1,0 +1,213 @@
+//! A judge of logs, whoever made them: is each run of one moment?
+use dvg_mem::MEMORY_BYTES;
+
+// How the open run stands.
+#[derive(Clone, Copy, Debug, PartialEq, Eq)]
+enum Phase {
+    // No run is open.
+    Closed,
+    // No byte changed since the run read it: the moment is now.
+    Whole,
+    // One did, and none of those that changed since was read: the moment was before that.
+    Past,
+    // There is no moment.
+    Torn,
+}
+
+/// A judge of one log, whoever made it: of an emulator, of a core in a simulator, of a logic
+/// analyser. It is told the log's lines in order, and whether a run is torn: whether there is no
+/// moment of it at which all that it reads stands in memory, since of what it reads a byte changes
+/// between any moment and its reading.
+///
+/// A byte changes where one is written that isn't what the log told of it last. So a byte that
+/// comes back to what it was has changed twice. Of a byte that nothing was told of, each write is a
+/// change: if just that was there already, a run may be called torn that is of one moment.
+///
+/// It takes no memory, and counts nothing, so a log may be of any length. A call takes constant
+/// time.
+#[derive(Clone, Copy, Debug)]
+pub struct MomentJudge {
+    // What the log told of each byte of the RAM.
+    told: [Option<u8>; MEMORY_BYTES],
+    // Which of them the newest run has read.
+    read: [bool; MEMORY_BYTES],
+    // Which of them changed since the moment, where that is past.
+    changed: [bool; MEMORY_BYTES],
+    // The word address of the low byte that waits.
+    low: Option<u16>,
+    phase: Phase,
+}
+
+impl MomentJudge {
+    /// Before the first line.
+    pub fn new() -> MomentJudge {
+        MomentJudge {
+            told: [None; MEMORY_BYTES],
+            read: [false; MEMORY_BYTES],
+            changed: [false; MEMORY_BYTES],
+            low: None,
+            phase: Phase::Closed,
+        }
+    }
+
+    // What was told of the byte at a byte address.
+    fn known(&self, at: usize) -> Option<u8> {
+        if at < MEMORY_BYTES {
+            self.told[at]
+        } else {
+            None
+        }
+    }
+
+    // Whether the low byte at this word address waits.
+    fn waits(&self, address: u16) -> bool {
+        match self.low {
+            Some(low) => low == address,
+            None => false,
+        }
+    }
+
+    // A byte is read at a byte address.
+    fn read_byte(&mut self, at: usize, byte: u8) {
+        if at >= MEMORY_BYTES {
+            return;
+        }
+        if self.phase == Phase::Past && self.changed[at] {
+            self.phase = Phase::Torn;
+        }
+        self.told[at] = Some(byte);
+        self.read[at] = true;
+    }
+
+    // A fetch completes this word at this word address: its low byte is read, if it doesn't wait.
+    fn read_word(&mut self, address: u16, word: u16) {
+        let low = 2 * usize::from(address);
+        if !self.waits(address) {
+            self.read_byte(low, (word % 0x100) as u8);
+        }
+        self.read_byte(low + 1, (word / 0x100) as u8);
+    }
+
+    // A byte of the RAM changes.
+    fn change(&mut self, at: usize) {
+        match self.phase {
+            Phase::Whole if self.read[at] => {
+                self.phase = Phase::Past;
+                self.changed = [false; MEMORY_BYTES];
+                self.changed[at] = true;
+            }
+            Phase::Past => self.changed[at] = true,
+            _ => {}
+        }
+    }
+
+    // A byte of the RAM is written.
+    fn write_byte(&mut self, at: usize, byte: u8) {
+        match self.known(at) {
+            Some(known) if known == byte => {}
+            _ => self.change(at),
+        }
+        self.told[at] = Some(byte);
+    }
+
+    // The run ends.
+    fn end(&mut self) {
+        self.phase = Phase::Closed;
+        self.low = None;
+    }
+
+    // Whether it is known that there is no moment.
+    fn has_no_moment(&self) -> bool {
+        self.phase == Phase::Torn
+    }
+
+    /// Whether a run is open, and is of no moment.
+    pub fn is_torn(&self) -> bool {
+        self.has_no_moment()
+    }
+
+    /// Is told that a strobe began a run.
+    pub fn started(&mut self) {
+        self.read = [false; MEMORY_BYTES];
+        self.low = None;
+        self.phase = Phase::Whole;
+    }
+
+    /// Is told that a fetch brought the low byte of the word at this word address.
+    pub fn low(&mut self, address: u16, byte: u8) {
+        self.read_byte(2 * usize::from(address), byte);
+        self.low = Some(address);
+    }
+
+    /// Is told that a fetch completed this word at this word address, and the run goes on. Its low
+    /// byte was read then, too, if it wasn't before.
+    pub fn fetched(&mut self, address: u16, word: u16) {
+        self.read_word(address, word);
+        self.low = None;
+    }
+
+    /// Is told that a fetch completed this word at this word address, and ended the run by its
+    /// HALT. Answers whether the run is torn.
+    pub fn done(&mut self, address: u16, word: u16) -> bool {
+        self.read_word(address, word);
+        let torn = self.has_no_moment();
+        self.end();
+        torn
+    }
+
+    /// Is told that a run ended of which no more is told: by a HALT whose word isn't known, by a
+    /// fault, or by a reset of the generator. Whether it is torn is to be asked before.
+    pub fn ended(&mut self) {
+        self.end();
+    }
+
+    /// Is told that a byte was written at this byte address. Outside the RAM it changes nothing.
+    pub fn wrote(&mut self, address: u16, byte: u8) {
+        let at = usize::from(address);
+        if at < MEMORY_BYTES {
+            self.write_byte(at, byte);
+        }
+    }
+
+    /// Is told of a reset of the whole system: what was told of memory is void.
+    pub fn reset(&mut self) {
+        self.told = [None; MEMORY_BYTES];
+        self.end();
+    }
+
+    /// Is told of a line that says nothing of memory or of a run.
+    pub fn passed(&self) {}
+
+    /// Whether the log told of the byte at this byte address of the RAM. Where it didn't, a write is
+    /// a change, whatever stood there.
+    pub fn is_told(&self, address: u16) -> bool {
+        match self.known(usize::from(address)) {
+            Some(_) => true,
+            None => false,
+        }
+    }
+
+    // Whether of the byte at a byte address another one was told.
+    fn is_told_as_another(&self, at: usize, byte: u8) -> bool {
+        match self.known(at) {
+            Some(other) => other != byte,
+            None => false,
+        }
+    }
+
+    /// Whether a fetch that brings this low byte, of the word at this word address, contradicts
+    /// what was told: then somebody writes who isn't in the log.
+    pub fn contradicts_low(&self, address: u16, byte: u8) -> bool {
+        self.is_told_as_another(2 * usize::from(address), byte)
+    }
+
+    /// The same, of a fetch that completes this word at this word address, whether or not it ends
+    /// the run.
+    pub fn contradicts_word(&self, address: u16, word: u16) -> bool {
+        let low = 2 * usize::from(address);
+        if !self.waits(address) && self.is_told_as_another(low, (word % 0x100) as u8) {
+            return true;
+        }
+        self.is_told_as_another(low + 1, (word / 0x100) as u8)
+    }
+}

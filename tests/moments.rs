@@ -1,0 +1,540 @@
+//! Random logs of arbitrary systems: the judge of the plain form beside the definition, read
+//! naively. Every line's readings and what was told are looked up in the whole log, and every
+//! moment of a run is tried in turn. See tests/moments.
+//!
+//! Some worked logs come first, with the verdict that each must have.
+//!
+//! `moments COUNT SEED`: the last line is 'N passed, M failed'.
+use dvg_moment::MomentJudge;
+use std::process::ExitCode;
+
+/// The bytes of the RAM.
+const RAM_BYTES: usize = 0x800;
+
+/// How many failures are printed with their logs.
+const PRINTED: u64 = 5;
+
+/// A line of a log.
+#[derive(Clone, Copy, Debug, PartialEq, Eq)]
+enum Line {
+    Started,
+    Low(u16, u8),
+    Fetched(u16, u16),
+    /// A HALT, with its word.
+    Done(u16, u16),
+    /// A run ends of which no more is told.
+    Ended,
+    Wrote(u16, u8),
+    /// The whole system is reset.
+    Reset,
+}
+
+use Line::{Done, Ended, Fetched, Low, Reset, Started, Wrote};
+
+/// A number by chance, by Marsaglia's xorshift with a multiplication.
+struct Chance(u64);
+
+impl Chance {
+    fn below(&mut self, limit: u64) -> u64 {
+        self.0 ^= self.0 >> 12;
+        self.0 ^= self.0 << 25;
+        self.0 ^= self.0 >> 27;
+        (self.0.wrapping_mul(0x2545_F491_4F6C_DD1D) >> 32) % limit
+    }
+}
+
+/// The word address of the low byte that waits before a line.
+fn waiting(log: &[Line]) -> Option<u16> {
+    for line in log.iter().rev() {
+        match line {
+            Low(address, _) => return Some(*address),
+            Wrote(..) => {}
+            _ => return None,
+        }
+    }
+    None
+}
+
+/// The bytes that line `at` reads, with their byte addresses.
+fn reads(log: &[Line], at: usize) -> Vec<(usize, u8)> {
+    match log[at] {
+        Low(address, byte) => vec![(2 * usize::from(address), byte)],
+        Fetched(address, word) | Done(address, word) => {
+            let [low, high] = word.to_le_bytes();
+            let first = 2 * usize::from(address);
+            if waiting(&log[..at]) == Some(address) {
+                vec![(first + 1, high)]
+            } else {
+                vec![(first, low), (first + 1, high)]
+            }
+        }
+        _ => Vec::new(),
+    }
+}
+
+/// A log with the readings of each line.
+struct Naive<'a> {
+    log: &'a [Line],
+    reads: Vec<Vec<(usize, u8)>>,
+    changed: Vec<Option<usize>>,
+}
+
+impl Naive<'_> {
+    fn new(log: &[Line]) -> Naive<'_> {
+        let reads = (0..log.len()).map(|at| reads(log, at)).collect();
+        let mut naive = Naive {
+            log,
+            reads,
+            changed: Vec::new(),
+        };
+        naive.changed = (0..log.len()).map(|at| naive.change(at)).collect();
+        naive
+    }
+
+    /// What the lines before line `at` tell of a byte.
+    fn told(&self, at: usize, byte_address: usize) -> Option<u8> {
+        for line in (0..at).rev() {
+            match self.log[line] {
+                Reset => return None,
+                Wrote(address, byte) if usize::from(address) == byte_address => return Some(byte),
+                _ => {}
+            }
+            for (address, byte) in &self.reads[line] {
+                if *address == byte_address {
+                    return Some(*byte);
+                }
+            }
+        }
+        None
+    }
+
+    /// The byte that line `at` changes.
+    fn change(&self, at: usize) -> Option<usize> {
+        let Wrote(address, byte) = self.log[at] else {
+            return None;
+        };
+        let address = usize::from(address);
+        (address < RAM_BYTES && self.told(at, address) != Some(byte)).then_some(address)
+    }
+
+    /// Whether line `at` reads a byte of the RAM as another than was told.
+    fn contradicts(&self, at: usize) -> bool {
+        self.reads[at].iter().any(|(address, byte)| {
+            *address < RAM_BYTES && self.told(at, *address).is_some_and(|told| told != *byte)
+        })
+    }
+
+    /// The line that began the run which is open after so many lines.
+    fn open_run(&self, lines: usize) -> Option<usize> {
+        let ends = |line: &Line| matches!(line, Done(..) | Ended | Reset);
+        let last = self.log[..lines]
+            .iter()
+            .rposition(|line| *line == Started || ends(line))?;
+        (self.log[last] == Started).then_some(last)
+    }
+
+    /// Whether some of these lines reads this byte.
+    fn is_read(&self, from: usize, to: usize, address: usize) -> bool {
+        self.reads[from..to]
+            .iter()
+            .flatten()
+            .any(|read| read.0 == address)
+    }
+
+    /// Whether the moment after `moment` lines is one of the run that line `start` began, up to
+    /// line `lines`: what is read before doesn't change up to there, and what is read since hasn't
+    /// changed since.
+    fn is_moment(&self, start: usize, moment: usize, lines: usize) -> bool {
+        let stands = (start..moment).all(|line| {
+            self.changed[line].is_none_or(|address| !self.is_read(start, line, address))
+        });
+        let reads_then = (moment..lines).all(|line| {
+            self.reads[line]
+                .iter()
+                .all(|(address, _)| !self.changed[moment..line].contains(&Some(*address)))
+        });
+        stands && reads_then
+    }
+
+    /// Whether the run that line `start` began has no moment, up to line `lines`.
+    fn is_torn(&self, start: usize, lines: usize) -> bool {
+        !(start + 1..=lines).any(|moment| self.is_moment(start, moment, lines))
+    }
+}
+
+/// What a random system is like.
+struct System {
+    /// The words that it writes and reads.
+    words: u64,
+    /// How many values a byte has.
+    values: u64,
+    /// Of 100 lines, how many write.
+    writes: u64,
+    /// Of 100 words, how many are fetched a byte at a time.
+    apart: u64,
+    /// Of 100 readings, how many are of the next word, as in a display list.
+    in_order: u64,
+    /// Of 100 readings, how many aren't of what stands there.
+    wrong: u64,
+}
+
+fn system(chance: &mut Chance) -> System {
+    System {
+        words: [2, 3, 6, 12][chance.below(4) as usize],
+        values: [2, 3, 200][chance.below(3) as usize],
+        writes: [10, 30, 45, 70][chance.below(4) as usize],
+        apart: [0, 50, 100][chance.below(3) as usize],
+        in_order: [0, 80, 100][chance.below(3) as usize],
+        wrong: [0, 0, 0, 10][chance.below(4) as usize],
+    }
+}
+
+/// A log of a system. Some addresses are those of the last words of the RAM and the first after it.
+fn log(chance: &mut Chance) -> Vec<Line> {
+    let system = system(chance);
+    let base = [0, 0x3FE, 0x200][chance.below(3) as usize];
+    let mut memory = [0u8; 0x1000];
+    for byte in &mut memory {
+        *byte = chance.below(system.values) as u8;
+    }
+    let mut log = Vec::new();
+    let mut next = 0;
+    for _ in 0..3 + chance.below(60) {
+        let kind = chance.below(100);
+        if kind < system.writes {
+            let address = 2 * base + chance.below(2 * system.words) as usize;
+            let byte = chance.below(system.values) as u8;
+            memory[address] = byte;
+            log.push(Wrote(address as u16, byte));
+        } else if kind < system.writes + 5 {
+            log.push([Started, Started, Started, Ended, Reset][chance.below(5) as usize]);
+        } else {
+            let word = if chance.below(100) < system.in_order {
+                next
+            } else {
+                chance.below(system.words)
+            };
+            next = (word + 1) % system.words;
+            read(chance, &system, &memory, base + word as usize, &mut log);
+        }
+    }
+    log
+}
+
+/// A word is fetched, at once or a byte at a time, with writes between or without.
+fn read(chance: &mut Chance, system: &System, memory: &[u8], word: usize, log: &mut Vec<Line>) {
+    let mut bytes = [memory[2 * word], memory[2 * word + 1]];
+    if chance.below(100) < system.wrong {
+        bytes[chance.below(2) as usize] ^= 1;
+    }
+    if let Some(Low(address, byte)) = log.last().copied() {
+        let high = memory[2 * usize::from(address) + 1];
+        log.push(Fetched(address, u16::from_le_bytes([byte, high])));
+    } else if chance.below(100) < system.apart {
+        log.push(Low(word as u16, bytes[0]));
+    } else if chance.below(8) == 0 {
+        log.push(Done(word as u16, u16::from_le_bytes(bytes)));
+    } else {
+        log.push(Fetched(word as u16, u16::from_le_bytes(bytes)));
+    }
+}
+
+/// A worked log: what it shows, its lines, whether the run of its last line is torn, and whether
+/// that line contradicts.
+struct Worked(&'static str, &'static [Line], bool, bool);
+
+/// Words 1 and 2 are a display list in one buffer, at bytes 2 to 5.
+const WORKED: [Worked; 16] = [
+    Worked(
+        "both words change between their readings",
+        &[
+            Started,
+            Fetched(1, 0x0101),
+            Wrote(2, 5),
+            Wrote(4, 7),
+            Done(2, 0x0107),
+        ],
+        true,
+        false,
+    ),
+    Worked(
+        "all is written ahead of the reading",
+        &[
+            Started,
+            Wrote(2, 5),
+            Wrote(4, 7),
+            Fetched(1, 0x0105),
+            Done(2, 0x0107),
+        ],
+        false,
+        false,
+    ),
+    Worked(
+        "all is written after its reading",
+        &[Started, Fetched(1, 0x0101), Wrote(2, 5), Done(2, 0x0101)],
+        false,
+        false,
+    ),
+    Worked(
+        "one word is written ahead, while the other stands",
+        &[Started, Fetched(1, 0x0101), Wrote(4, 7), Done(2, 0x0107)],
+        false,
+        false,
+    ),
+    Worked(
+        "a word is read twice, and changes between",
+        &[Started, Fetched(1, 0x0101), Wrote(2, 5), Done(1, 0x0105)],
+        true,
+        false,
+    ),
+    Worked(
+        "what was told is written again",
+        &[Started, Fetched(1, 0x0101), Wrote(2, 1), Done(1, 0x0101)],
+        false,
+        false,
+    ),
+    Worked(
+        "a byte comes back to what it was, which is two changes",
+        &[
+            Started,
+            Fetched(1, 0x0101),
+            Wrote(2, 5),
+            Wrote(2, 1),
+            Done(1, 0x0101),
+        ],
+        true,
+        false,
+    ),
+    Worked(
+        "a byte of which nothing was told is written, maybe as it was: called torn",
+        &[
+            Started,
+            Fetched(1, 0x0101),
+            Wrote(2, 5),
+            Wrote(4, 1),
+            Done(2, 0x0101),
+        ],
+        true,
+        false,
+    ),
+    Worked(
+        "the same, where it was told: a run has read it before",
+        &[
+            Started,
+            Fetched(2, 0x0101),
+            Ended,
+            Started,
+            Fetched(1, 0x0101),
+            Wrote(2, 5),
+            Wrote(4, 1),
+            Done(2, 0x0101),
+        ],
+        false,
+        false,
+    ),
+    Worked(
+        "the same, but what was told is void since a reset",
+        &[
+            Started,
+            Fetched(2, 0x0101),
+            Reset,
+            Started,
+            Fetched(1, 0x0101),
+            Wrote(2, 5),
+            Wrote(4, 1),
+            Done(2, 0x0101),
+        ],
+        true,
+        false,
+    ),
+    Worked(
+        "the high byte is written, then the low one, between their readings: both stood there",
+        &[
+            Started,
+            Low(1, 1),
+            Wrote(3, 5),
+            Wrote(2, 5),
+            Done(1, 0x0501),
+        ],
+        false,
+        false,
+    ),
+    Worked(
+        "the low byte is written, then the high one, between their readings: they never did",
+        &[
+            Started,
+            Low(1, 1),
+            Wrote(2, 5),
+            Wrote(3, 5),
+            Done(1, 0x0501),
+        ],
+        true,
+        false,
+    ),
+    Worked(
+        "what is written outside the RAM changes nothing",
+        &[
+            Started,
+            Fetched(1, 0x0101),
+            Wrote(2, 5),
+            Wrote(0x800, 7),
+            Done(0x400, 0x0107),
+        ],
+        false,
+        false,
+    ),
+    Worked(
+        "a HALT of which no word is told: the log before it is judged",
+        &[
+            Started,
+            Fetched(1, 0x0101),
+            Wrote(2, 5),
+            Wrote(4, 7),
+            Fetched(2, 0x0107),
+            Ended,
+        ],
+        true,
+        false,
+    ),
+    Worked(
+        "what was read can't be what was written",
+        &[Started, Wrote(2, 5), Done(1, 0x0101)],
+        false,
+        true,
+    ),
+    Worked(
+        "what is read tells, too",
+        &[Started, Fetched(1, 0x0101), Done(1, 0x0102)],
+        false,
+        true,
+    ),
+];
+
+/// What is wrong with a worked log's verdict, or with the definition's.
+fn misjudged(Worked(_, log, torn, contradicts): &Worked) -> Option<String> {
+    let mut judge = MomentJudge::new();
+    let mut last = (false, None);
+    for line in *log {
+        last = tell(&mut judge, *line);
+    }
+    if last != (*contradicts, Some(*torn)) {
+        return Some(format!("contradicts {}, torn {:?}", last.0, last.1));
+    }
+    agree(log, &mut Seen::default()).err()
+}
+
+/// What was seen.
+#[derive(Default)]
+struct Seen {
+    lines: u64,
+    halted: u64,
+    torn: u64,
+    contradictions: u64,
+}
+
+/// Tells the judge a line. Answers whether it contradicts, and whether a run that it ends is torn.
+fn tell(judge: &mut MomentJudge, line: Line) -> (bool, Option<bool>) {
+    match line {
+        Started => judge.started(),
+        Low(address, byte) => {
+            let contradicts = judge.contradicts_low(address, byte);
+            judge.low(address, byte);
+            return (contradicts, None);
+        }
+        Fetched(address, word) => {
+            let contradicts = judge.contradicts_word(address, word);
+            judge.fetched(address, word);
+            return (contradicts, None);
+        }
+        Done(address, word) => {
+            let contradicts = judge.contradicts_word(address, word);
+            return (contradicts, Some(judge.done(address, word)));
+        }
+        Ended => {
+            let torn = judge.is_torn();
+            judge.ended();
+            return (false, Some(torn));
+        }
+        Wrote(address, byte) => judge.wrote(address, byte),
+        Reset => judge.reset(),
+    }
+    (false, None)
+}
+
+/// Whether the judge says of a log what the definition says.
+fn agree(log: &[Line], seen: &mut Seen) -> Result<(), String> {
+    let naive = Naive::new(log);
+    let mut judge = MomentJudge::new();
+    for (at, line) in log.iter().enumerate() {
+        let (contradicts, torn) = tell(&mut judge, *line);
+        let lines = if *line == Ended { at } else { at + 1 };
+        let wanted = naive
+            .open_run(at)
+            .is_some_and(|start| naive.is_torn(start, lines));
+        if torn.is_some_and(|torn| torn != wanted) {
+            return Err(format!(
+                "line {at}: torn {torn:?}, and {wanted} by the definition"
+            ));
+        }
+        if contradicts != naive.contradicts(at) {
+            return Err(format!("line {at}: contradicts {contradicts}"));
+        }
+        seen.lines += 1;
+        seen.halted += u64::from(torn.is_some());
+        seen.torn += u64::from(torn == Some(true));
+        seen.contradictions += u64::from(contradicts);
+    }
+    let wanted = naive
+        .open_run(log.len())
+        .is_some_and(|start| naive.is_torn(start, log.len()));
+    if judge.is_torn() != wanted {
+        return Err(format!("the end: torn {}", judge.is_torn()));
+    }
+    Ok(())
+}
+
+fn main() -> ExitCode {
+    let words: Vec<u64> = std::env::args()
+        .skip(1)
+        .filter_map(|word| word.parse().ok())
+        .collect();
+    let [count, seed] = words[..] else {
+        eprintln!("usage: moments COUNT SEED");
+        return ExitCode::from(64);
+    };
+    let mut seen = Seen::default();
+    let mut failed = 0;
+    for worked in &WORKED {
+        if let Some(why) = misjudged(worked) {
+            failed += 1;
+            println!("FAILED: {}: {why}", worked.0);
+        }
+    }
+    for number in 0..count {
+        let mut chance = Chance(0x9E37_79B9_7F4A_7C15 ^ (seed + number + 1));
+        for _ in 0..8 {
+            chance.below(2);
+        }
+        let log = log(&mut chance);
+        if let Err(why) = agree(&log, &mut seen) {
+            failed += 1;
+            if failed <= PRINTED {
+                println!("FAILED: the log of {}: {why}: {log:?}", seed + number);
+            }
+        }
+    }
+    let Seen {
+        lines,
+        halted,
+        torn,
+        contradictions,
+    } = seen;
+    println!("{lines} lines, {halted} runs ended, {torn} torn, {contradictions} contradictions");
+    if count >= 1000 && (torn == 0 || torn == halted || contradictions == 0) {
+        failed += 1;
+        println!("FAILED: these logs show too little");
+    }
+    let all = count + WORKED.len() as u64;
+    println!("{} passed, {failed} failed", all.saturating_sub(failed));
+    ExitCode::from(u8::from(failed > 0))
+}

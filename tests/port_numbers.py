@@ -1,0 +1,136 @@
+"""The numbers of the port, of which each file has its own copy: whether they are the same.
+
+The requests and the kinds of replies of crates/dvg_device, with the faults of drafts and of runs
+and the limits, decide. include/dvg.h must name all of them; the module for Python and the page name
+those that they use.
+"""
+
+import re
+
+# Where a name of the port isn't that of the Rust sources.
+OTHER_NAMES = {"CLEAR_DRAFT": "CLEAR", "CLOSE": "SHUT", "COUNT_STROKES": "STROKES", "WANTS": "WANTED"}
+LIMITS = {
+    "RAM_BYTES": ("dvg_mem/src/lib.rt", "MEMORY_BYTES"),
+    "ROM_BYTES": ("dvg_mem/src/lib.rt", "MEMORY_BYTES"),
+    "LARGE_ROM_BYTES": ("dvg_mem/src/lib.rt", "LARGE_ROM_BYTES"),
+    "MOST_STAGED": ("dvg_device/src/device.rt", "MOST_STAGED"),
+    "MOST_OPERATIONS": ("dvg_frame/src/draft.rt", "MAX_OPS"),
+    "MOST_WORDS": ("dvg_dump/src/runs.rt", "MOST_WORDS"),
+}
+FILES = {
+    "header": "include/dvg.h",
+    "python": "python/gerbilargent.py",
+    "page": "page/src/engine.mjs",
+    "requests": "crates/dvg_device/src/request.rt",
+    "replies": "crates/dvg_device/src/reply.rt",
+    "faults": "crates/dvg_frame/src/fault.rt",
+    "breaks": "crates/dvg_gen/src/taken.rt",
+}
+
+
+def in_capitals(name):
+    """A name as the port has it: NothingPublished as NOTHING_PUBLISHED."""
+    capitals = re.sub(r"(?<=[a-z])(?=[A-Z])", "_", name).upper()
+    return OTHER_NAMES.get(capitals, capitals)
+
+
+def pairs(pattern, text, number_first=False):
+    """The names that a pattern finds in a text, with their numbers."""
+    found = re.findall(pattern, text)
+    return {name: int(number) for name, number in ((it[::-1] if number_first else it) for it in found)}
+
+
+def of_rust(texts):
+    """The numbers that the Rust sources have: of requests, kinds, faults and breaks, and limits."""
+    requests = pairs(r"(\d+) => Request::(\w+)", texts["requests"], number_first=True)
+    replies = pairs(r"(?:Entry|Reply|Action)::(\w+)(?:\(.*?\))* => packed\((\d+),", texts["replies"])
+    numbers = {
+        "request": {"WANTS" if it == "Wants" else in_capitals(it): n for it, n in requests.items()},
+        "kind": {**{in_capitals(it): n for it, n in replies.items()}, "REFUSED": 1},
+        "fault": faults_in(texts["faults"]),
+        "break": faults_in(texts["breaks"]),
+    }
+    numbers["limit"] = {name: limit(texts[path], constant) for name, (path, constant) in LIMITS.items()}
+    return numbers
+
+
+def faults_in(text):
+    """The numbers of an enum of faults, from its function `number`."""
+    return {in_capitals(name): number
+            for name, number in pairs(r"\w+::(\w+)(?:\(.*?\))? => (\d+),", text).items()}
+
+
+def limit(text, constant):
+    """The value of a constant of a Rust source."""
+    return int(re.search(rf"const {constant}: \w+ = ([\d_]+);", text).group(1).replace("_", ""))
+
+
+def of_header(text):
+    """The numbers of the header for C."""
+    enum = {name: re.search(rf"enum dvg_{name} \{{(.*?)\}}", text, re.S).group(1)
+            for name in ("request", "kind", "fault", "break")}
+    start = {"request": "REQUEST_", "kind": "", "fault": "FAULT_", "break": "BREAK_"}
+    numbers = {name: pairs(rf"DVG_{start[name]}(\w+) = (\d+)", body) for name, body in enum.items()}
+    for name in "fault", "break":
+        assert numbers[name].pop("NONE") == 0
+    limits = pairs(r"#define DVG_(\w+) (\d+)\n", text)
+    return {**numbers, "limit": {name: limits[name] for name in LIMITS}}
+
+
+def of_python(text):
+    """The numbers of the module for Python."""
+    def members(name):
+        body = re.search(rf"^class {name}\(enum.IntEnum\):\n(.*?)^(?=\S)", text, re.S | re.M).group(1)
+        return pairs(r"(?m)^    ([A-Z_0-9]+) = (\d+)$", body)
+    limits = pairs(r"(?m)^([A-Z_]+) = (\d+)$", text)
+    requests = {**members("_Request"), **members("Event")}
+    return {"request": requests, "kind": members("Kind"), "fault": members("Fault"),
+            "break": members("Break"), "limit": {it: limits[it] for it in LIMITS if it in limits}}
+
+
+def of_page(text):
+    """The numbers of the page."""
+    def members(name):
+        return pairs(r"(\w+): (\d+)", re.search(rf"const {name} = \{{(.*?)\}};", text, re.S).group(1))
+    return {"request": members("REQUEST"), "kind": members("KIND")}
+
+
+def differences(texts):
+    """What isn't the same in the files of these texts, a line each, and how many were compared."""
+    rust, lines, compared = of_rust(texts), [], 0
+    ports = {"header": of_header(texts["header"]), "python": of_python(texts["python"]),
+             "page": of_page(texts["page"])}
+    for port, kinds in ports.items():
+        for kind, numbers in kinds.items():
+            compared += len(numbers)
+            lines += [f"{FILES[port]}: {kind} {name} is {number}, not {rust[kind].get(name)}"
+                      for name, number in numbers.items() if rust[kind].get(name) != number]
+    for kind, numbers in rust.items():
+        missing = sorted(numbers.keys() - ports["header"][kind].keys())
+        lines += [f"{FILES['header']} lacks the {kind} {name}" for name in missing]
+    return lines, compared
+
+
+def read_files(top):
+    """The texts that are compared, of the repository in this folder."""
+    paths = {**FILES, **{path: f"crates/{path}" for path, _ in LIMITS.values()}}
+    return {name: open(f"{top}/{path}", encoding="utf-8").read() for name, path in paths.items()}
+
+
+# A mistake in each file: what stands there, and what would be wrong.
+MISTAKES = {
+    "header": ("DVG_BUSY = 2,", "DVG_BUSY = 4,"),
+    "python": ("    TOO_DEEP = 7", "    TOO_DEEP = 8"),
+    "page": ("FETCH: 4,", "FETCH: 5,"),
+    "requests": ("16 => Request::Wants,", "21 => Request::Wants,"),
+    "replies": ("Entry::Still => packed(16,", "Entry::Still => packed(17,"),
+    "dvg_device/src/device.rt": ("MOST_STAGED: usize = 6144", "MOST_STAGED: usize = 8192"),
+}
+
+
+def found_mistakes(texts):
+    """The names of the files in which a planted mistake is found, and of all that have one."""
+    found = [name for name, (right, wrong) in MISTAKES.items()
+             if right in texts[name]
+             and differences({**texts, name: texts[name].replace(right, wrong)})[0]]
+    return found, list(MISTAKES)
