@@ -1,7 +1,7 @@
 #!/usr/bin/env python3
-"""Plays the runs of a folder with a DVG written from README.md alone, and compares what comes of each
-with its file: reader.py [FOLDER]. Says the first line that differs of each run that does, and has
-status 1 then. Tested, not proved."""
+"""Plays the runs of a folder with a DVG written from README.md alone, and compares what comes of
+each with its file: reader.py [FOLDER]. Says the first line that differs of each run that does, and
+has status 1 then. Tested, not proved."""
 import os
 import sys
 
@@ -20,8 +20,9 @@ class Generator:
     def __init__(self, memory):
         self.memory = memory
         self.x = self.y = self.scale = 0
+        self.whole_x = self.whole_y = 0
         self.at, self.calls = 0, []
-        self.lines, self.strokes = [], []
+        self.lines, self.strokes, self.units = [], [], []
 
     def peek(self):
         """The word that is next."""
@@ -39,13 +40,18 @@ class Generator:
         return word
 
     def move(self, scale, dx, dy, intensity):
-        x0, y0 = self.x, self.y
+        before = self.x, self.y, self.whole_x, self.whole_y
         power = (scale + self.scale) % 16
         if power < 10:
-            self.x = (self.x + dx * 2 ** power) % PLACES
-            self.y = (self.y + dy * 2 ** power) % PLACES
+            dx, dy = dx * 2 ** power, dy * 2 ** power
+            self.x, self.y = (self.x + dx) % PLACES, (self.y + dy) % PLACES
+            self.whole_x = (self.whole_x + rounded(dx)) % 4096
+            self.whole_y = (self.whole_y + rounded(dy)) % 4096
         if intensity > 0:
-            self.strokes.append('stroke %d %d %d %d %d' % (x0, y0, self.x, self.y, intensity))
+            self.strokes.append('stroke %d %d %d %d %d'
+                                % (*before[:2], self.x, self.y, intensity))
+            self.units.append('units %d %d %d %d %d'
+                              % (*before[2:], self.whole_x, self.whole_y, intensity))
 
     def step(self):
         """One instruction. Returns whether the run goes on."""
@@ -61,7 +67,8 @@ class Generator:
                       second >> 12)
         elif opcode == 0xA:
             second = self.take()
-            self.x, self.y = (second & 0xFFF) * 512, (word & 0xFFF) * 512
+            self.whole_x, self.whole_y = second & 0xFFF, word & 0xFFF
+            self.x, self.y = self.whole_x * 512, self.whole_y * 512
             self.scale = second >> 12
         elif opcode == 0xC:
             self.calls.append(self.at)
@@ -84,12 +91,18 @@ class Generator:
             end = 'halted'
         except Broke as why:
             end = 'broke %03X %s' % (self.at, why)
-        return self.lines + [end] + self.strokes
+        return self.lines + [end] + self.strokes + self.units
 
 
 def signed(word, sign, size):
     """The number of this size whose sign is this bit of a word."""
     return -size if word >> sign & 1 else size
+
+
+def rounded(move):
+    """A move in 1/512 in whole units."""
+    units = (abs(move) + 256) // 512
+    return units if move > 0 else -units
 
 
 def read_memory(name):
@@ -99,7 +112,8 @@ def read_memory(name):
 
 
 def main():
-    folder = sys.argv[1] if len(sys.argv) > 1 else os.path.join(os.path.dirname(__file__), 'vectors')
+    here = os.path.dirname(os.path.abspath(__file__))
+    folder = sys.argv[1] if len(sys.argv) > 1 else os.path.join(here, 'vectors')
     names = sorted(name[:-4] for name in os.listdir(folder) if name.endswith('.hex'))
     wrong = 0
     for name in names:

@@ -3,6 +3,7 @@
  *
  *     vectors FOLDER COUNT    the runs 0 to COUNT - 1, the same each time; COUNT up to 99,999 */
 #include "dvg.h"
+#include "units.h"
 #include <stdio.h>
 #include <stdlib.h>
 
@@ -98,6 +99,23 @@ static void write_memory(FILE *file, const struct vector *vector)
     }
 }
 
+/* The strokes in whole units. */
+static void write_units(FILE *file, const struct vector *vector)
+{
+    unsigned i;
+    units_start();
+    for (i = 0; i < vector->count; i++) {
+        units_word(vector->word[i]);
+    }
+    if (vector->last.kind != DVG_DONE) {
+        units_word(0xB000);
+    }
+    for (i = 0; i < units_strokes(); i++) {
+        dvg_stroke s = units_stroke(i);
+        fprintf(file, "units %u %u %u %u %u\n", s.x0, s.y0, s.x1, s.y1, s.z);
+    }
+}
+
 /* What comes of it: the words fetched, how the run ended, the strokes. */
 static void write_run(FILE *file, dvg *port, const struct vector *vector)
 {
@@ -121,6 +139,7 @@ static void write_run(FILE *file, dvg *port, const struct vector *vector)
             fprintf(file, "stroke %u %u %u %u %u\n", s.x0, s.y0, s.x1, s.y1, s.z);
         }
     }
+    write_units(file, vector);
 }
 
 static FILE *open_file(const char *folder, unsigned long number, const char *ending)
@@ -139,7 +158,7 @@ int main(int count, char **arguments)
         fputs("vectors FOLDER COUNT\n", stderr);
         return 64;
     }
-    if (dvg_new(&port) != 0) {
+    if (dvg_new(&port) != 0 || !units_open()) {
         return 2;
     }
     for (number = 0; number < most; number++) {

@@ -4,8 +4,8 @@
 
 OUT is the folder that judge.lua wrote into, ROM the bytes of the vector ROM. The film has what was
 drawn from the second FROM to the second TO, twelve pictures a second, and begins anew at its end.
-It shows as much of the screen as the emulator does. The program is ./dvg of this repository, or the
-one that DVG names.
+It shows as much of the screen as the emulator does; where less motion is preferred, the first
+picture alone. The program is ./dvg of this repository, or the one that DVG names.
 """
 import os
 import subprocess
@@ -21,6 +21,7 @@ HEAD = """<svg xmlns="http://www.w3.org/2000/svg" width="512" height="394" viewB
 @keyframes shown {{ from {{ visibility: visible }} {percent:.3f}%, to {{ visibility: hidden }} }}
 path {{ visibility: hidden; animation: shown {seconds:.3f}s steps(1) infinite }}
 path:first-of-type {{ visibility: visible }}
+@media (prefers-reduced-motion: reduce) {{ path {{ animation: none }} }}
 </style>
 <rect width="1024" height="788"/>
 <g fill="none" stroke="#fff" stroke-width="2" stroke-linecap="round">
