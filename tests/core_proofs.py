@@ -62,7 +62,7 @@ def refusal(room, crate, planted):
         file.write(made.stdout)
     words = words_for(crate) + [word for law in LAWS[crate] for word in ("--only", law)]
     ran = subprocess.run(words, cwd=room, stdin=subprocess.DEVNULL, stdout=subprocess.PIPE,
-                         stderr=subprocess.STDOUT, encoding="utf-8", errors="replace", timeout=600)
+                         stderr=subprocess.STDOUT, encoding="utf-8", errors="replace", timeout=1800)
     if len(re.findall(r"(?m)^fn \w+::\w+: proved", ran.stdout)) == len(LAWS[crate]):
         return None
     laws = re.findall(r"(?m)^fn \w+::(\w+): not proved", ran.stdout)

@@ -3,22 +3,24 @@ use Rattle.std.proofs.Common.{◌≡◌, ℕ, ◌+◌, ◌/◌, ◌%◌, Bool, t
 use Rattle.std.specs.Prelude.{is_none, nat_eq, nat_le, if◌then◌else◌}
 use Rattle.std.proofs.lemmas.Bool.{eqb-true}
 use Rattle.dvg_driver.specs.declared.action.Action.{Action}
-use Rattle.dvg_driver.specs.declared.action.Action.TheVariants.{Peek, Wrote, Read, Sent}
+use Rattle.dvg_driver.specs.declared.action.Action.TheVariants.{Peek, Wrote, Read, Sent, Idle}
 use Rattle.dvg_driver.specs.Script.{Item, Did, IsLife}
-use Rattle.dvg_log.specs.Events.{Happening}
-use Rattle.dvg_log.specs.declared.event.Event.TheVariants.{Offer, Redraw, Tick}
+use Rattle.dvg_log.specs.Events.{Happening, IsEvent}
+use Rattle.dvg_log.specs.declared.event.Event.TheVariants.{Tick, Strobe, Fetch, ResetGen, ResetAll}
 use Rattle.dvg_log.specs.Entries.{Shown}
-use Rattle.dvg_log.specs.declared.entry.Entry.TheVariants.{Offered, Busy, Asked, NothingPublished, Acted}
-use Rattle.dvg_log.specs.Log.{Log, Throughout, life, open_run}
-use Rattle.dvg_log.specs.Legal.{IsLegal}
+use Rattle.dvg_log.specs.declared.entry.Entry.TheVariants.{Acted, Started, Cleared}
+use Rattle.dvg_log.specs.Log.{◌⟼◌, Log, Throughout, ram, life, open_run}
+use Rattle.dvg_log.specs.Legal.{IsLegal, Fits}
 use Rattle.dvg_log.specs.Headline.{KeepsHeadline}
 use Rattle.dvg_6502.specs.Processor.{Reads, Writes}
-use Rattle.dvg_6502.specs.Joined.{IsMade}
-use Rattle.dvg_6502.proofs.Interrupted.{calls_live, one_life, offer_answers, redraw_answers}
+use Rattle.dvg_6502.specs.Joined.{IsMade, FitsBoard, IsBoards}
+use Rattle.dvg_6502.proofs.Interrupted.{calls_live, one_life}
+use Rattle.dvg_6502.proofs.Joined.{board_keeps as code_keeps}
 use Rattle.dvg_core.specs.Core.{halted}
-use Rattle.dvg_board.specs.Board.{Bus, q, clock}
-use Rattle.dvg_board.specs.Clocks.{after, cores, reads, writes, sends, looks, changes}
-use Rattle.dvg_board.specs.Logs.{answered, FitsIf, IsBoard, powers, clocks, acts, FitsScript, HoldsRam}
+use Rattle.dvg_board.specs.Board.{Bus, pins, q, clock}
+use Rattle.dvg_board.specs.Fetches.{entry}
+use Rattle.dvg_board.specs.Clocks.{IsBus, IsServed, after, cores, reads, writes, sends, looks, changes}
+use Rattle.dvg_board.specs.Logs.{did, answered, FitsIf, IsSilent, IsBoard, powers, clocks, acts, FitsScript, HoldsRam}
 use Rattle.dvg_board.proofs.System.{pin_is}
 use Rattle.dvg_board.proofs.Board as board
 use Rattle.dvg_board.proofs.Board.{core_is, holds}
@@ -29,29 +31,103 @@ made_lives : (items : List Item) → IsMade items → IsLife items
 made_lives items made = let lives = calls_live made.0 made.1 in
     subst IsLife (one_life made.0 lives.0 items lives.1 made.2) lives.2
 
-fits_script : (R image : List ℕ) (log : Log) (event : Happening) (entry : Shown) → FitsCode R image log event entry
-    → FitsScript R image log event entry
-fits_script R image log Tick (Acted action) f = made_lives (Did action ∷ life image log) f
-fits_script R image log (Offer F) Offered f = (f.0, (offer_answers F (life image log)).0 f.1)
-fits_script R image log (Offer F) Busy f = (f.0, (offer_answers F (life image log)).1 f.1)
-fits_script R image log Redraw Asked f = (redraw_answers (life image log)).0 f
-fits_script R image log Redraw Busy f = (f.1, (redraw_answers (life image log)).1 f.0 f.1)
-fits_script R image log Redraw NothingPublished f = f.1
-fits_script R image log event entry f = f
-
-fits_if : (R image : List ℕ) (log : Log) (done : Option Action) → FitsIf (FitsCode R image log) done
+-- what a processor that runs the machine code did is the script's
+made_if : (R image : List ℕ) (log : Log) (done : Option Action) → FitsIf (FitsCode R image log) done
     → FitsIf (FitsScript R image log) done
-fits_if R image log None f = tt
-fits_if R image log (Some action) f = fits_script R image log Tick (Acted action) f
+made_if R image log None f = tt
+made_if R image log (Some action) f = made_lives (Did action ∷ life image log) f
 
-pub keeps_script : {R image : List ℕ} {held : ℕ → ℕ} {log : Log} {older : List Bus} → IsBoard FitsCode R image held log older
+-- lines of a legal log are lines of the machine code's board, where the processor's are made
+did_boards : (R image : List ℕ) (log : Log) (done : Option Action) → FitsIf (FitsCode R image log) done
+    → IsLegal R image (did done log) → IsBoards R image log → IsBoards R image (did done log)
+did_boards R image log None f l boards = boards
+did_boards R image log (Some action) f l boards = ((f, l.0.1), tt, boards)
+
+did_before : (R image : List ℕ) (log : Log) (done : Option Action) → IsLegal R image (did done log) → IsLegal R image log
+did_before R image log None l = l
+did_before R image log (Some action) l = l.2
+
+module _ (R image bytes : List ℕ) (shown : Shown) (log : Log) where
+  abbrev line_by : (reset start pending whole : Bool) → Log
+  line_by r s p w =
+      if r then if s then if p then log else (Fetch ⟼ shown) ∷ log else (Strobe ⟼ Started) ∷ log
+      else if w then (ResetAll bytes ⟼ Cleared) ∷ log
+      else (ResetGen ⟼ Cleared) ∷ log
+
+  line_boards : (r s p w : Bool) → IsLegal R image (line_by r s p w) → IsBoards R image log → IsBoards R image (line_by r s p w)
+  line_boards true true true w l boards = boards
+  line_boards true true false w l boards = (l.0, l.1, boards)
+  line_boards true false p w l boards = (l.0, l.1, boards)
+  line_boards false s p true l boards = (l.0, l.1, boards)
+  line_boards false s p false l boards = (l.0, l.1, boards)
+
+  line_before : (r s p w : Bool) → IsLegal R image (line_by r s p w) → IsLegal R image log
+  line_before true true true w l = l
+  line_before true true false w l = l.2
+  line_before true false p w l = l.2
+  line_before false s p true l = l.2
+  line_before false s p false l = l.2
+
+-- what needs no access
+silent_board : (R image : List ℕ) (log : Log) (event : Happening) (shown : Shown) → IsSilent event shown
+    → FitsCode R image log event shown → FitsBoard R image log event shown
+silent_board R image log Tick (Acted Idle) s f = (f, tt)
+silent_board R image log Tick (Acted Peek) s f = absurd s
+silent_board R image log Tick (Acted (Wrote a byte)) s f = absurd s
+silent_board R image log Tick (Acted (Read flag)) s f = absurd s
+silent_board R image log Tick (Acted Sent) s f = absurd s
+silent_board R image log event _ s f = f
+
+silent_script : (R image : List ℕ) (log : Log) (event : Happening) (shown : Shown) → Fits R image log event shown
+    → FitsScript R image log event shown
+silent_script R image log Tick (Acted action) f = f.0
+silent_script R image log event _ f = f
+
+-- the log is one of a processor that keeps the script, and one of the machine code's board
+record Keeps (R image : List ℕ) (held : ℕ → ℕ) (log : Log) (older : List Bus) : Type 0 where
+  script : IsBoard FitsScript R image held log older
+  boards : IsBoards R image log
+
+module _ (R image : List ℕ) (held : ℕ → ℕ) (log : Log) (older : List Bus) (k : Keeps R image held log older) where
+  one_clock : (bus : Bus) (whole : Bool) → IsBus bus → IsServed R (after held older) bus
+      → FitsIf (FitsCode R image log) (looks (after held older) bus)
+      → FitsIf (FitsCode R image (answered image held older bus whole log)) (changes bus)
+      → Keeps R image held (did (changes bus) (answered image held older bus whole log)) (bus ∷ older)
+  one_clock bus whole is served look change =
+      let looked = did (looks (after held older) bus) log in
+      let now = answered image held older bus whole log in
+      let shown = entry looked (cores held older) (pins (after held older) bus) in
+      let script = clocks bus whole k.script is served (made_if R image log (looks (after held older) bus) look)
+      (made_if R image now (changes bus) change) in
+      let legal3 : IsLegal R image (did (changes bus) now) = board.legal R image held (did (changes bus) now) (bus ∷ older) script in
+      let legal2 : IsLegal R image now = did_before R image now (changes bus) legal3 in
+      let legal1 : IsLegal R image looked =
+      line_before R image (ram image looked) shown looked (nat_eq bus.reset 0) (nat_eq (after held older).starting 0)
+      (nat_eq (after held older).pending 0) whole legal2 in
+      let boards1 = did_boards R image log (looks (after held older) bus) look legal1 k.boards in
+      let boards2 : IsBoards R image now =
+      line_boards R image (ram image looked) shown looked (nat_eq bus.reset 0) (nat_eq (after held older).starting 0)
+      (nat_eq (after held older).pending 0) whole legal2 boards1 in
+      record { script = script; boards = did_boards R image now (changes bus) change legal3 boards2 }
+
+  one_silent : (event : Happening) (shown : Shown) → IsEvent event → IsSilent event shown → FitsCode R image log event shown
+      → Keeps R image held ((event ⟼ shown) ∷ log) older
+  one_silent event shown is_event silent f =
+      let lines : IsBoards R image ((event ⟼ shown) ∷ log) = (silent_board R image log event shown silent f, is_event, k.boards) in
+      let is = (code_keeps R image ((event ⟼ shown) ∷ log) lines).0 in
+      record { script = acts k.script is_event silent (silent_script R image log event shown is.0); boards = lines }
+
+keeps : {R image : List ℕ} {held : ℕ → ℕ} {log : Log} {older : List Bus} → IsBoard FitsCode R image held log older
+    → Keeps R image held log older
+keeps (powers rom is_image same) = record { script = powers rom is_image same; boards = (rom, is_image) }
+keeps {R} {image} {held} (clocks {log = log} {older = older} bus whole on is served look change) =
+    one_clock R image held log older (keeps on) bus whole is served look change
+keeps {R} {image} {held} (acts {log = log} {older = older} {event = event} {entry = shown} on is_event silent f) =
+    one_silent R image held log older (keeps on) event shown is_event silent f
+
+keeps_script : {R image : List ℕ} {held : ℕ → ℕ} {log : Log} {older : List Bus} → IsBoard FitsCode R image held log older
     → IsBoard FitsScript R image held log older
-keeps_script (powers rom is_image same) = powers rom is_image same
-keeps_script {R} {image} {held} (clocks {log = log} {older = older} bus whole on is served look change) =
-    clocks bus whole (keeps_script on) is served (fits_if R image log (looks (after held older) bus) look)
-    (fits_if R image (answered image held older bus whole log) (changes bus) change)
-keeps_script {R} {image} (acts {log = log} {event = event} {entry = entry} on is_event silent fits) =
-    acts (keeps_script on) is_event silent (fits_script R image log event entry fits)
+keeps_script on = (keeps on).script
 
 pub legal : OfEachSystem (λ R image held log older. IsLegal R image log)
 legal R image held log older on = board.legal R image held log older (keeps_script on)
