@@ -16,7 +16,7 @@ ghost use Rattle.dvg_moment.specs.declared.judge.Phase.TheVariants.{Torn};
 ghost use Rattle.dvg_moment.specs.Moment.{Contradicts, IsOfOneMoment, told};
 ghost use Rattle.dvg_moment.specs.own.Steps.{after_change, after_end, after_event, after_read};
 ghost use Rattle.dvg_moment.specs.own.Steps.{after_reset, after_word};
-ghost use Rattle.dvg_moment.specs.own.Steps.{after_write, is_some_of};
+ghost use Rattle.dvg_moment.specs.own.Steps.{after_write, is_some_of, void};
 
 use dvg_driver::Action;
 use dvg_log::{Entry, Event, OwnEntry, OwnEvent};
@@ -158,6 +158,13 @@ impl MomentJudge {
         self.low = None;
     }
 
+    // What was told is void.
+    fn forget(&mut self)
+        ensures { self.new ≡ void self.old }
+    {
+        self.told = [None; MEMORY_BYTES];
+    }
+
     // Whether it is known that there is no moment.
     fn has_no_moment(&self) -> bool
         ensures { IsTrue result ↔ (self.now.phase ≡ Torn) }
@@ -245,7 +252,7 @@ impl MomentJudge {
         ensures { (bytes : List ℕ) (log : Log) → StandsAfter self.old log
             → StandsAfter self.new ((ResetAll bytes ⟼ Cleared) ∷ log) }
     {
-        self.told = [None; MEMORY_BYTES];
+        self.forget();
         self.end();
     }
 
@@ -283,7 +290,7 @@ impl MomentJudge {
         match event {
             Event::ResetGen => self.reset_run(starts),
             Event::ResetAll(_) => {
-                self.told = [None; MEMORY_BYTES];
+                self.forget();
                 self.reset_run(starts);
             }
             _ => {}

@@ -119,6 +119,11 @@ impl MomentJudge {
         self.low = None;
     }
 
+    // What was told is void.
+    fn forget(&mut self) {
+        self.told = [None; MEMORY_BYTES];
+    }
+
     // Whether it is known that there is no moment.
     fn has_no_moment(&self) -> bool {
         self.phase == Phase::Torn
@@ -174,7 +179,7 @@ impl MomentJudge {
 
     /// Is told of a reset of the whole system: what was told of memory is void.
     pub fn reset(&mut self) {
-        self.told = [None; MEMORY_BYTES];
+        self.forget();
         self.end();
     }
 
@@ -202,7 +207,7 @@ impl MomentJudge {
         match event {
             Event::ResetGen => self.reset_run(starts),
             Event::ResetAll(_) => {
-                self.told = [None; MEMORY_BYTES];
+                self.forget();
                 self.reset_run(starts);
             }
             _ => {}
