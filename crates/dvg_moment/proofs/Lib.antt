@@ -11,4 +11,5 @@ pub mod Latest
 pub mod Steps
 pub mod Standing
 pub mod Contradicting
+pub mod Taking
 pub mod Torn

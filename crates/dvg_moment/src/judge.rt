@@ -7,15 +7,21 @@ ghost use Rattle.dvg_log.specs.declared.entry.Entry.TheVariants.{Acted, Cleared,
 ghost use Rattle.dvg_log.specs.declared.entry.Entry.TheVariants.{Low, Started};
 ghost use Rattle.dvg_log.specs.declared.event.Event.TheVariants.{Fetch, ResetAll, ResetGen};
 ghost use Rattle.dvg_log.specs.declared.event.Event.TheVariants.{Strobe, Tick};
+ghost use Rattle.dvg_log.specs.Entries.{shown_of};
+ghost use Rattle.dvg_log.specs.Events.{Happening, happening_of};
 ghost use Rattle.dvg_log.specs.Legal.{IsLegal};
 ghost use Rattle.dvg_log.specs.Log.{Log, ◌⟼◌};
 ghost use Rattle.dvg_moment.specs.Judging.{IsTorn, StandsAfter, is_marked};
 ghost use Rattle.dvg_moment.specs.declared.judge.Phase.TheVariants.{Torn};
 ghost use Rattle.dvg_moment.specs.Moment.{Contradicts, IsOfOneMoment, told};
-ghost use Rattle.dvg_moment.specs.own.Steps.{after_change, after_end, after_read, after_word};
-ghost use Rattle.dvg_moment.specs.own.Steps.{after_write, is_some_of};
+ghost use Rattle.dvg_moment.specs.own.Steps.{after_change, after_end, after_event, after_read};
+ghost use Rattle.dvg_moment.specs.own.Steps.{after_reset, after_word};
+ghost use Rattle.dvg_moment.specs.own.Steps.{after_write, is_some_of, void};
 
+use dvg_driver::Action;
+use dvg_log::{Entry, Event, OwnEntry, OwnEvent};
 use dvg_mem::MEMORY_BYTES;
+use std::alloc::Allocator;
 
 // How the open run stands.
 #[derive(Clone, Copy, Debug, PartialEq, Eq)]
@@ -152,6 +158,13 @@ impl MomentJudge {
         self.low = None;
     }
 
+    // What was told is void.
+    fn forget(&mut self)
+        ensures { self.new ≡ void self.old }
+    {
+        self.told = [None; MEMORY_BYTES];
+    }
+
     // Whether it is known that there is no moment.
     fn has_no_moment(&self) -> bool
         ensures { IsTrue result ↔ (self.now.phase ≡ Torn) }
@@ -239,7 +252,7 @@ impl MomentJudge {
         ensures { (bytes : List ℕ) (log : Log) → StandsAfter self.old log
             → StandsAfter self.new ((ResetAll bytes ⟼ Cleared) ∷ log) }
     {
-        self.told = [None; MEMORY_BYTES];
+        self.forget();
         self.end();
     }
 
@@ -259,6 +272,85 @@ impl MomentJudge {
             Some(_) => true,
             None => false,
         }
+    }
+
+    // The run ends, unless a new one began.
+    fn reset_run(&mut self, starts: bool)
+        ensures { self.new ≡ after_reset starts self.old }
+    {
+        if !starts {
+            self.end();
+        }
+    }
+
+    // Is told by which event a line came, whose entry it was told as of a tick.
+    fn take_event<A: Allocator>(&mut self, event: &OwnEvent<A>, starts: bool)
+        ensures { self.new ≡ after_event (happening_of event.now) starts self.old }
+    {
+        match event {
+            Event::ResetGen => self.reset_run(starts),
+            Event::ResetAll(_) => {
+                self.forget();
+                self.reset_run(starts);
+            }
+            _ => {}
+        }
+    }
+
+    // Is told what the driver did.
+    fn take_action(&mut self, action: Action)
+        ensures { (log : Log) → StandsAfter self.old log
+            → StandsAfter self.new ((Tick ⟼ Acted action) ∷ log) }
+    {
+        if let Action::Wrote(address, byte) = action {
+            self.wrote(address, byte);
+        }
+    }
+
+    // Is told a line as of a tick. Answers whether a run that it finishes is torn.
+    fn take_entry<A: Allocator>(&mut self, entry: &OwnEntry<A>) -> bool
+        ensures stands { (log : Log) → StandsAfter self.old log
+            → StandsAfter self.new ((Tick ⟼ shown_of entry.now) ∷ log) }
+        ensures torn { (event : Happening) (log : Log) → StandsAfter self.old log
+            → IsTrue result ↔ ¬ IsOfOneMoment told log event (shown_of entry.now) }
+    {
+        match entry {
+            Entry::Started => {
+                self.started();
+                false
+            }
+            Entry::Low(address, byte) => {
+                self.low(*address, *byte);
+                false
+            }
+            Entry::Fetched(address, word) => {
+                self.fetched(*address, *word);
+                false
+            }
+            Entry::Done(address, word, _) => self.done(*address, *word),
+            Entry::Broke(..) => {
+                self.end();
+                false
+            }
+            Entry::Acted(action) => {
+                self.take_action(*action);
+                false
+            }
+            _ => false,
+        }
+    }
+
+    /// Is given one more line, by its event and its entry. Answers whether that is a run's HALT, and
+    /// the run is torn.
+    pub fn take<A: Allocator>(&mut self, event: &OwnEvent<A>, entry: &OwnEntry<A>) -> bool
+        ensures stands { (log : Log) → StandsAfter self.old log
+            → StandsAfter self.new ((happening_of event.now ⟼ shown_of entry.now) ∷ log) }
+        ensures torn { (log : Log) → StandsAfter self.old log → IsTrue result
+            ↔ ¬ IsOfOneMoment told log (happening_of event.now) (shown_of entry.now) }
+    {
+        let torn = self.take_entry(entry);
+        self.take_event(event, matches!(entry, Entry::Started));
+        torn
     }
 
     // Whether of the byte at a byte address another one was told.

@@ -1,6 +1,8 @@
 -- What the steps of a judge leave (for private contracts).
 use Rattle.std.specs.Prelude.{ℕ, ◌+◌, ◌*◌, ◌/◌, ◌%◌, nat_lt, ◌==◌, replicate, slice_set, Option, Some}
 use Rattle.std.specs.Prelude.{None, Bool, true, false, if◌then◌else◌}
+use Rattle.dvg_log.specs.Events.{Happening}
+use Rattle.dvg_log.specs.declared.event.Event.TheVariants.{ResetGen, ResetAll}
 use Rattle.dvg_moment.specs.declared.judge.Phase.{Phase}
 use Rattle.dvg_moment.specs.declared.judge.Phase.TheVariants.{Closed, Whole, Past, Torn}
 use Rattle.dvg_moment.specs.declared.judge.MomentJudge.{MomentJudge}
@@ -49,3 +51,18 @@ after_write false judge at byte =
 -- the run ended
 abbrev pub after_end : MomentJudge → MomentJudge
 after_end judge = record judge { phase = Closed; low = None }
+
+-- nothing is told any more
+abbrev pub void : MomentJudge → MomentJudge
+void judge = record judge { told = replicate 0x800 None }
+
+-- the run ended, unless one began
+abbrev pub after_reset : (starts : Bool) → MomentJudge → MomentJudge
+after_reset true judge = judge
+after_reset false judge = after_end judge
+
+-- the event of a line, whose entry says or doesn't that a run began
+abbrev pub after_event : Happening → (starts : Bool) → MomentJudge → MomentJudge
+after_event ResetGen starts judge = after_reset starts judge
+after_event (ResetAll bytes) starts judge = after_reset starts (void judge)
+after_event event starts judge = judge

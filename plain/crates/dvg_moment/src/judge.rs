@@ -1,5 +1,8 @@
 //! A judge of logs, whoever made them: is each run of one moment?
+use dvg_driver::Action;
+use dvg_log::{Entry, Event, OwnEntry, OwnEvent};
 use dvg_mem::MEMORY_BYTES;
+use std::alloc::Allocator;
 
 // How the open run stands.
 #[derive(Clone, Copy, Debug, PartialEq, Eq)]
@@ -116,6 +119,11 @@ impl MomentJudge {
         self.low = None;
     }
 
+    // What was told is void.
+    fn forget(&mut self) {
+        self.told = [None; MEMORY_BYTES];
+    }
+
     // Whether it is known that there is no moment.
     fn has_no_moment(&self) -> bool {
         self.phase == Phase::Torn
@@ -171,7 +179,7 @@ impl MomentJudge {
 
     /// Is told of a reset of the whole system: what was told of memory is void.
     pub fn reset(&mut self) {
-        self.told = [None; MEMORY_BYTES];
+        self.forget();
         self.end();
     }
 
@@ -185,6 +193,68 @@ impl MomentJudge {
             Some(_) => true,
             None => false,
         }
+    }
+
+    // The run ends, unless a new one began.
+    fn reset_run(&mut self, starts: bool) {
+        if !starts {
+            self.end();
+        }
+    }
+
+    // Is told by which event a line came, whose entry it was told as of a tick.
+    fn take_event<A: Allocator>(&mut self, event: &OwnEvent<A>, starts: bool) {
+        match event {
+            Event::ResetGen => self.reset_run(starts),
+            Event::ResetAll(_) => {
+                self.forget();
+                self.reset_run(starts);
+            }
+            _ => {}
+        }
+    }
+
+    // Is told what the driver did.
+    fn take_action(&mut self, action: Action) {
+        if let Action::Wrote(address, byte) = action {
+            self.wrote(address, byte);
+        }
+    }
+
+    // Is told a line as of a tick. Answers whether a run that it finishes is torn.
+    fn take_entry<A: Allocator>(&mut self, entry: &OwnEntry<A>) -> bool {
+        match entry {
+            Entry::Started => {
+                self.started();
+                false
+            }
+            Entry::Low(address, byte) => {
+                self.low(*address, *byte);
+                false
+            }
+            Entry::Fetched(address, word) => {
+                self.fetched(*address, *word);
+                false
+            }
+            Entry::Done(address, word, _) => self.done(*address, *word),
+            Entry::Broke(..) => {
+                self.end();
+                false
+            }
+            Entry::Acted(action) => {
+                self.take_action(*action);
+                false
+            }
+            _ => false,
+        }
+    }
+
+    /// Is given one more line, by its event and its entry. Answers whether that is a run's HALT, and
+    /// the run is torn.
+    pub fn take<A: Allocator>(&mut self, event: &OwnEvent<A>, entry: &OwnEntry<A>) -> bool {
+        let torn = self.take_entry(entry);
+        self.take_event(event, matches!(entry, Entry::Started));
+        torn
     }
 
     // Whether of the byte at a byte address another one was told.
