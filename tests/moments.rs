@@ -2,10 +2,12 @@
 //! naively. Every line's readings and what was told are looked up in the whole log, and every
 //! moment of a run is tried in turn. See tests/moments.
 //!
-//! Some worked logs come first, with the verdict that each must have.
+//! Some worked logs come first, with the verdict that each must have. The program of
+//! examples/moments reads each random log as a text, and must find what the definition does.
 //!
 //! `moments COUNT SEED`: the last line is 'N passed, M failed'.
 use dvg_moment::MomentJudge;
+use moments::{Counts, Finding, Log};
 use std::process::ExitCode;
 
 /// The bytes of the RAM.
@@ -493,6 +495,119 @@ fn agree(log: &[Line], seen: &mut Seen) -> Result<(), String> {
     Ok(())
 }
 
+/// How a log is spelled.
+struct Spelling {
+    base: Option<u16>,
+    capitals: bool,
+    end: &'static str,
+}
+
+fn spelling(chance: &mut Chance) -> Spelling {
+    Spelling {
+        base: [None, Some(0x4000), Some(0xF9)][chance.below(3) as usize],
+        capitals: chance.below(2) == 0,
+        end: ["", "\r"][chance.below(2) as usize],
+    }
+}
+
+impl Spelling {
+    /// The texts of a line: a HALT with its word has two. What is written outside the RAM needs a
+    /// base, and is a comment without one.
+    fn texts(&self, line: Line) -> Vec<String> {
+        let texts = match line {
+            Started => vec!["started".to_string()],
+            Low(address, byte) => vec![format!("low {address:03x} {byte:02x}")],
+            Fetched(address, word) => vec![format!("fetched {address:03x} {word:04x}")],
+            Done(address, word) => {
+                vec![
+                    format!("fetched {address:03x} {word:04x}"),
+                    "halted".to_string(),
+                ]
+            }
+            Ended => vec!["halted".to_string()],
+            Wrote(address, byte) => vec![self.wrote(address, byte)],
+            Reset => vec!["reset".to_string()],
+        };
+        texts.into_iter().map(|text| self.spelled(text)).collect()
+    }
+
+    fn wrote(&self, address: u16, byte: u8) -> String {
+        match self.base {
+            Some(base) => format!("wrote {:04x} {byte:02x}", base + address),
+            None if usize::from(address) < RAM_BYTES => format!("wrote {address:03x} {byte:02x}"),
+            None => "# outside".to_string(),
+        }
+    }
+
+    fn spelled(&self, text: String) -> String {
+        let text = if self.capitals {
+            text.to_ascii_uppercase()
+        } else {
+            text
+        };
+        text + self.end
+    }
+}
+
+/// What a program must find in a log: each line of the text, whether a run is torn there or else it
+/// contradicts, and what is counted.
+fn to_find(log: &[Line]) -> (Vec<(usize, bool)>, Counts) {
+    let naive = Naive::new(log);
+    let (mut found, mut counts) = (Vec::new(), Counts::default());
+    let mut numbers = Vec::new();
+    let mut number = 0;
+    for (at, line) in log.iter().enumerate() {
+        numbers.push(number + 1);
+        number += if matches!(line, Done(..)) { 2 } else { 1 };
+        counts.runs += usize::from(*line == Started);
+        if naive.contradicts(at) {
+            counts.contradictions += 1;
+            found.push((numbers[at], false));
+        }
+        let lines = match line {
+            Done(..) => at + 1,
+            Ended => at,
+            _ => continue,
+        };
+        let Some(start) = naive.open_run(at) else {
+            continue;
+        };
+        counts.halted += 1;
+        counts.judged += usize::from(
+            naive.reads[start..lines]
+                .iter()
+                .any(|read| !read.is_empty()),
+        );
+        if let Some(tear) = (start + 1..=lines).find(|lines| naive.is_torn(start, *lines)) {
+            counts.torn += 1;
+            found.push((numbers[tear - 1], true));
+        }
+    }
+    (found, counts)
+}
+
+/// Whether the program finds in a log, as it is spelled, what it must.
+fn program_agrees(log: &[Line], spelling: &Spelling) -> Result<(), String> {
+    let mut program = Log::new(spelling.base);
+    let mut found = Vec::new();
+    for text in log.iter().flat_map(|line| spelling.texts(*line)) {
+        match program.take(text.as_bytes()) {
+            Err(_) => return Err(format!("the program can't read '{text}'")),
+            Ok(None) => {}
+            Ok(Some(Finding::Torn(place, _))) => found.push((place.line, true)),
+            Ok(Some(Finding::Contradicts(place))) => found.push((place.line, false)),
+        }
+    }
+    let found = (found, program.counts());
+    let wanted = to_find(log);
+    if found != wanted {
+        return Err(format!(
+            "the program finds {found:?}, and must find {wanted:?}"
+        ));
+    }
+    Ok(())
+}
+
 fn main() -> ExitCode {
     let words: Vec<u64> = std::env::args()
         .skip(1)
@@ -516,7 +631,8 @@ fn main() -> ExitCode {
             chance.below(2);
         }
         let log = log(&mut chance);
-        if let Err(why) = agree(&log, &mut seen) {
+        let spelling = spelling(&mut chance);
+        if let Err(why) = agree(&log, &mut seen).and_then(|()| program_agrees(&log, &spelling)) {
             failed += 1;
             if failed <= PRINTED {
                 println!("FAILED: the log of {}: {why}: {log:?}", seed + number);
