@@ -61,7 +61,7 @@ pub struct MomentJudge {
 }
 
 impl MomentJudge {
-    /// Before the first line.
+    /// Returns a judge that was told no line.
     pub fn new() -> MomentJudge
         ensures { StandsAfter result [] }
     {
@@ -74,7 +74,7 @@ impl MomentJudge {
         }
     }
 
-    // What was told of the byte at a byte address.
+    // Returns what was told of the byte at the byte address `at`. `None` outside the RAM, too.
     fn known(&self, at: usize) -> Option<u8>
         ensures { result ≡ slice_index_or self.now.told at None }
     {
@@ -85,7 +85,7 @@ impl MomentJudge {
         }
     }
 
-    // Whether the low byte at this word address waits.
+    // Returns whether the low byte of the word at `address` waits for its high byte.
     fn waits(&self, address: u16) -> bool
         ensures { result ≡ is_some_of self.now.low address }
     {
@@ -95,7 +95,8 @@ impl MomentJudge {
         }
     }
 
-    // A byte is read at a byte address.
+    // Marks the byte address `at` as read, and keeps that `byte` stood there. Outside the RAM
+    // nothing changes.
     fn read_byte(&mut self, at: usize, byte: u8)
         ensures { self.new ≡ after_read self.old at byte }
     {
@@ -109,7 +110,8 @@ impl MomentJudge {
         self.read[at] = true;
     }
 
-    // A fetch completes this word at this word address: its low byte is read, if it doesn't wait.
+    // Reads the high byte of `word`, at the word address `address`, and the low one, if that
+    // doesn't wait.
     fn read_word(&mut self, address: u16, word: u16)
         ensures { self.new ≡ after_word (is_some_of self.old.low address) self.old address word }
     {
@@ -120,7 +122,7 @@ impl MomentJudge {
         self.read_byte(low + 1, (word / 0x100) as u8);
     }
 
-    // A byte of the RAM changes.
+    // Has the byte of the RAM at `at` change.
     fn change(&mut self, at: usize)
         requires { at < 0x800 }
         ensures { self.new
@@ -137,7 +139,7 @@ impl MomentJudge {
         }
     }
 
-    // A byte of the RAM is written.
+    // Writes `byte` in the RAM at `at`: a change, unless just that was told of it.
     fn write_byte(&mut self, at: usize, byte: u8)
         requires { at < 0x800 }
         ensures { self.new
@@ -150,7 +152,7 @@ impl MomentJudge {
         self.told[at] = Some(byte);
     }
 
-    // The run ends.
+    // Ends the run.
     fn end(&mut self)
         ensures { self.new ≡ after_end self.old }
     {
@@ -158,28 +160,28 @@ impl MomentJudge {
         self.low = None;
     }
 
-    // What was told is void.
+    // Makes void what was told.
     fn forget(&mut self)
         ensures { self.new ≡ void self.old }
     {
         self.told = [None; MEMORY_BYTES];
     }
 
-    // Whether it is known that there is no moment.
+    // Returns whether the run is known to be of no moment.
     fn has_no_moment(&self) -> bool
         ensures { IsTrue result ↔ (self.now.phase ≡ Torn) }
     {
         self.phase == Phase::Torn
     }
 
-    /// Whether a run is open, and is of no moment.
+    /// Returns whether a run is open that is of no moment.
     pub fn is_torn(&self) -> bool
         ensures { (log : Log) → StandsAfter self.now log → IsTrue result ↔ IsTorn log }
     {
         self.has_no_moment()
     }
 
-    /// Is told that a strobe began a run.
+    /// Takes a line that says that a strobe began a run.
     pub fn started(&mut self)
         ensures { (log : Log) → StandsAfter self.old log
             → StandsAfter self.new ((Strobe ⟼ Started) ∷ log) }
@@ -189,7 +191,8 @@ impl MomentJudge {
         self.phase = Phase::Whole;
     }
 
-    /// Is told that a fetch brought the low byte of the word at this word address.
+    /// Takes a line that says that a fetch brought `byte`, the low byte of the word at the word
+    /// address `address`.
     pub fn low(&mut self, address: u16, byte: u8)
         ensures { (log : Log) → StandsAfter self.old log
             → StandsAfter self.new ((Fetch ⟼ Low address byte) ∷ log) }
@@ -198,8 +201,8 @@ impl MomentJudge {
         self.low = Some(address);
     }
 
-    /// Is told that a fetch completed this word at this word address, and the run goes on. Its low
-    /// byte was read then, too, if it wasn't before.
+    /// Takes a line that says that a fetch completed `word`, at the word address `address`, and the
+    /// run goes on. Its low byte was read by that fetch, too, unless it was told before.
     pub fn fetched(&mut self, address: u16, word: u16)
         ensures { (log : Log) → StandsAfter self.old log
             → StandsAfter self.new ((Fetch ⟼ Fetched address word) ∷ log) }
@@ -208,8 +211,8 @@ impl MomentJudge {
         self.low = None;
     }
 
-    /// Is told that a fetch completed this word at this word address, and ended the run by its
-    /// HALT. Answers whether the run is torn.
+    /// Takes a line that says that a fetch completed `word`, at the word address `address`, a HALT
+    /// that ended the run. Returns whether that run is of no moment.
     pub fn done(&mut self, address: u16, word: u16) -> bool
         ensures stands { (strokes : List Stroke) (log : Log) → StandsAfter self.old log
             → StandsAfter self.new ((Fetch ⟼ Done address word strokes) ∷ log) }
@@ -227,8 +230,8 @@ impl MomentJudge {
         torn
     }
 
-    /// Is told that a run ended of which no more is told: by a HALT whose word isn't known, by a
-    /// fault, or by a reset of the generator. Whether it is torn is to be asked before.
+    /// Takes a line that says no more than that the run ended: by a HALT whose word isn't told, by
+    /// a fault, or by a reset of the generator. Ask `is_torn` before.
     pub fn ended(&mut self)
         ensures { (log : Log) → StandsAfter self.old log
             → StandsAfter self.new ((ResetGen ⟼ Cleared) ∷ log) }
@@ -236,7 +239,8 @@ impl MomentJudge {
         self.end();
     }
 
-    /// Is told that a byte was written at this byte address. Outside the RAM it changes nothing.
+    /// Takes a line that says that `byte` was written at the byte address `address`. Outside the
+    /// RAM, from 800 on, it changes nothing.
     pub fn wrote(&mut self, address: u16, byte: u8)
         ensures { (log : Log) → StandsAfter self.old log
             → StandsAfter self.new ((Tick ⟼ Acted (Wrote address byte)) ∷ log) }
@@ -247,7 +251,7 @@ impl MomentJudge {
         }
     }
 
-    /// Is told of a reset of the whole system: what was told of memory is void.
+    /// Takes a line that says that the whole system was reset. What was told of memory is void.
     pub fn reset(&mut self)
         ensures { (bytes : List ℕ) (log : Log) → StandsAfter self.old log
             → StandsAfter self.new ((ResetAll bytes ⟼ Cleared) ∷ log) }
@@ -256,14 +260,14 @@ impl MomentJudge {
         self.end();
     }
 
-    /// Is told of a line that says nothing of memory or of a run.
+    /// Takes a line that says nothing of memory or of a run.
     pub fn passed(&self)
         ensures { (log : Log) → StandsAfter self.now log
             → StandsAfter self.now ((Tick ⟼ Acted Idle) ∷ log) }
     {}
 
-    /// Whether the log told of the byte at this byte address of the RAM. Where it didn't, a write is
-    /// a change, whatever stood there.
+    /// Returns whether the log told of the byte at the byte address `address`. `false` outside the
+    /// RAM. Where it didn't, a write is a change, whatever stood there.
     pub fn is_told(&self, address: u16) -> bool
         ensures { (log : Log) → StandsAfter self.now log
             → IsTrue result ↔ ((address < 0x800) × (told log address ≢ None)) }
@@ -274,7 +278,7 @@ impl MomentJudge {
         }
     }
 
-    // The run ends, unless a new one began.
+    // Ends the run, unless `starts`: then a new one began.
     fn reset_run(&mut self, starts: bool)
         ensures { self.new ≡ after_reset starts self.old }
     {
@@ -283,7 +287,8 @@ impl MomentJudge {
         }
     }
 
-    // Is told by which event a line came, whose entry it was told as of a tick.
+    // Takes the event of a line whose entry was taken as that of a tick. `starts` is whether the
+    // entry is that of a run's beginning.
     fn take_event<A: Allocator>(&mut self, event: &OwnEvent<A>, starts: bool)
         ensures { self.new ≡ after_event (happening_of event.now) starts self.old }
     {
@@ -297,7 +302,7 @@ impl MomentJudge {
         }
     }
 
-    // Is told what the driver did.
+    // Takes what the driver did.
     fn take_action(&mut self, action: Action)
         ensures { (log : Log) → StandsAfter self.old log
             → StandsAfter self.new ((Tick ⟼ Acted action) ∷ log) }
@@ -307,7 +312,7 @@ impl MomentJudge {
         }
     }
 
-    // Is told a line as of a tick. Answers whether a run that it finishes is torn.
+    // Takes `entry` as that of a tick. Returns whether it ends a run that is of no moment.
     fn take_entry<A: Allocator>(&mut self, entry: &OwnEntry<A>) -> bool
         ensures stands { (log : Log) → StandsAfter self.old log
             → StandsAfter self.new ((Tick ⟼ shown_of entry.now) ∷ log) }
@@ -340,8 +345,8 @@ impl MomentJudge {
         }
     }
 
-    /// Is given one more line, by its event and its entry. Answers whether that is a run's HALT, and
-    /// the run is torn.
+    /// Takes one more line, by its `event` and its `entry`. Returns whether it is the HALT of a run
+    /// that is of no moment.
     pub fn take<A: Allocator>(&mut self, event: &OwnEvent<A>, entry: &OwnEntry<A>) -> bool
         ensures stands { (log : Log) → StandsAfter self.old log
             → StandsAfter self.new ((happening_of event.now ⟼ shown_of entry.now) ∷ log) }
@@ -353,7 +358,7 @@ impl MomentJudge {
         torn
     }
 
-    // Whether of the byte at a byte address another one was told.
+    // Returns whether another byte than `byte` was told at the byte address `at`.
     fn is_told_as_another(&self, at: usize, byte: u8) -> bool
         ensures { IsTrue result
             ↔ ((other : ℕ) × (slice_index_or self.now.told at None ≡ Some other) × (byte ≢ other)) }
@@ -364,8 +369,8 @@ impl MomentJudge {
         }
     }
 
-    /// Whether a fetch that brings this low byte, of the word at this word address, contradicts
-    /// what was told: then somebody writes who isn't in the log.
+    /// Returns whether a fetch that brings `byte`, the low byte of the word at the word address
+    /// `address`, contradicts what was told: then somebody writes who isn't in the log.
     pub fn contradicts_low(&self, address: u16, byte: u8) -> bool
         ensures { (log : Log) → StandsAfter self.now log
             → IsTrue result ↔ Contradicts log (Low address byte) }
@@ -373,8 +378,8 @@ impl MomentJudge {
         self.is_told_as_another(2 * usize::from(address), byte)
     }
 
-    /// The same, of a fetch that completes this word at this word address, whether or not it ends
-    /// the run.
+    /// Like `contradicts_low`, for a fetch that completes `word`, at the word address `address`,
+    /// whether or not it ends the run.
     pub fn contradicts_word(&self, address: u16, word: u16) -> bool
         ensures fetched { (log : Log) → StandsAfter self.now log
             → IsTrue result ↔ Contradicts log (Fetched address word) }

@@ -42,7 +42,7 @@ pub struct MomentJudge {
 }
 
 impl MomentJudge {
-    /// Before the first line.
+    /// Returns a judge that was told no line.
     pub fn new() -> MomentJudge {
         MomentJudge {
             told: [None; MEMORY_BYTES],
@@ -53,7 +53,7 @@ impl MomentJudge {
         }
     }
 
-    // What was told of the byte at a byte address.
+    // Returns what was told of the byte at the byte address `at`. `None` outside the RAM, too.
     fn known(&self, at: usize) -> Option<u8> {
         if at < MEMORY_BYTES {
             self.told[at]
@@ -62,7 +62,7 @@ impl MomentJudge {
         }
     }
 
-    // Whether the low byte at this word address waits.
+    // Returns whether the low byte of the word at `address` waits for its high byte.
     fn waits(&self, address: u16) -> bool {
         match self.low {
             Some(low) => low == address,
@@ -70,7 +70,8 @@ impl MomentJudge {
         }
     }
 
-    // A byte is read at a byte address.
+    // Marks the byte address `at` as read, and keeps that `byte` stood there. Outside the RAM
+    // nothing changes.
     fn read_byte(&mut self, at: usize, byte: u8) {
         if at >= MEMORY_BYTES {
             return;
@@ -82,7 +83,8 @@ impl MomentJudge {
         self.read[at] = true;
     }
 
-    // A fetch completes this word at this word address: its low byte is read, if it doesn't wait.
+    // Reads the high byte of `word`, at the word address `address`, and the low one, if that
+    // doesn't wait.
     fn read_word(&mut self, address: u16, word: u16) {
         let low = 2 * usize::from(address);
         if !self.waits(address) {
@@ -91,7 +93,7 @@ impl MomentJudge {
         self.read_byte(low + 1, (word / 0x100) as u8);
     }
 
-    // A byte of the RAM changes.
+    // Has the byte of the RAM at `at` change.
     fn change(&mut self, at: usize) {
         match self.phase {
             Phase::Whole if self.read[at] => {
@@ -104,7 +106,7 @@ impl MomentJudge {
         }
     }
 
-    // A byte of the RAM is written.
+    // Writes `byte` in the RAM at `at`: a change, unless just that was told of it.
     fn write_byte(&mut self, at: usize, byte: u8) {
         match self.known(at) {
             Some(known) if known == byte => {}
@@ -113,49 +115,50 @@ impl MomentJudge {
         self.told[at] = Some(byte);
     }
 
-    // The run ends.
+    // Ends the run.
     fn end(&mut self) {
         self.phase = Phase::Closed;
         self.low = None;
     }
 
-    // What was told is void.
+    // Makes void what was told.
     fn forget(&mut self) {
         self.told = [None; MEMORY_BYTES];
     }
 
-    // Whether it is known that there is no moment.
+    // Returns whether the run is known to be of no moment.
     fn has_no_moment(&self) -> bool {
         self.phase == Phase::Torn
     }
 
-    /// Whether a run is open, and is of no moment.
+    /// Returns whether a run is open that is of no moment.
     pub fn is_torn(&self) -> bool {
         self.has_no_moment()
     }
 
-    /// Is told that a strobe began a run.
+    /// Takes a line that says that a strobe began a run.
     pub fn started(&mut self) {
         self.read = [false; MEMORY_BYTES];
         self.low = None;
         self.phase = Phase::Whole;
     }
 
-    /// Is told that a fetch brought the low byte of the word at this word address.
+    /// Takes a line that says that a fetch brought `byte`, the low byte of the word at the word
+    /// address `address`.
     pub fn low(&mut self, address: u16, byte: u8) {
         self.read_byte(2 * usize::from(address), byte);
         self.low = Some(address);
     }
 
-    /// Is told that a fetch completed this word at this word address, and the run goes on. Its low
-    /// byte was read then, too, if it wasn't before.
+    /// Takes a line that says that a fetch completed `word`, at the word address `address`, and the
+    /// run goes on. Its low byte was read by that fetch, too, unless it was told before.
     pub fn fetched(&mut self, address: u16, word: u16) {
         self.read_word(address, word);
         self.low = None;
     }
 
-    /// Is told that a fetch completed this word at this word address, and ended the run by its
-    /// HALT. Answers whether the run is torn.
+    /// Takes a line that says that a fetch completed `word`, at the word address `address`, a HALT
+    /// that ended the run. Returns whether that run is of no moment.
     pub fn done(&mut self, address: u16, word: u16) -> bool {
         self.read_word(address, word);
         let torn = self.has_no_moment();
@@ -163,13 +166,14 @@ impl MomentJudge {
         torn
     }
 
-    /// Is told that a run ended of which no more is told: by a HALT whose word isn't known, by a
-    /// fault, or by a reset of the generator. Whether it is torn is to be asked before.
+    /// Takes a line that says no more than that the run ended: by a HALT whose word isn't told, by
+    /// a fault, or by a reset of the generator. Ask `is_torn` before.
     pub fn ended(&mut self) {
         self.end();
     }
 
-    /// Is told that a byte was written at this byte address. Outside the RAM it changes nothing.
+    /// Takes a line that says that `byte` was written at the byte address `address`. Outside the
+    /// RAM, from 800 on, it changes nothing.
     pub fn wrote(&mut self, address: u16, byte: u8) {
         let at = usize::from(address);
         if at < MEMORY_BYTES {
@@ -177,17 +181,17 @@ impl MomentJudge {
         }
     }
 
-    /// Is told of a reset of the whole system: what was told of memory is void.
+    /// Takes a line that says that the whole system was reset. What was told of memory is void.
     pub fn reset(&mut self) {
         self.forget();
         self.end();
     }
 
-    /// Is told of a line that says nothing of memory or of a run.
+    /// Takes a line that says nothing of memory or of a run.
     pub fn passed(&self) {}
 
-    /// Whether the log told of the byte at this byte address of the RAM. Where it didn't, a write is
-    /// a change, whatever stood there.
+    /// Returns whether the log told of the byte at the byte address `address`. `false` outside the
+    /// RAM. Where it didn't, a write is a change, whatever stood there.
     pub fn is_told(&self, address: u16) -> bool {
         match self.known(usize::from(address)) {
             Some(_) => true,
@@ -195,14 +199,15 @@ impl MomentJudge {
         }
     }
 
-    // The run ends, unless a new one began.
+    // Ends the run, unless `starts`: then a new one began.
     fn reset_run(&mut self, starts: bool) {
         if !starts {
             self.end();
         }
     }
 
-    // Is told by which event a line came, whose entry it was told as of a tick.
+    // Takes the event of a line whose entry was taken as that of a tick. `starts` is whether the
+    // entry is that of a run's beginning.
     fn take_event<A: Allocator>(&mut self, event: &OwnEvent<A>, starts: bool) {
         match event {
             Event::ResetGen => self.reset_run(starts),
@@ -214,14 +219,14 @@ impl MomentJudge {
         }
     }
 
-    // Is told what the driver did.
+    // Takes what the driver did.
     fn take_action(&mut self, action: Action) {
         if let Action::Wrote(address, byte) = action {
             self.wrote(address, byte);
         }
     }
 
-    // Is told a line as of a tick. Answers whether a run that it finishes is torn.
+    // Takes `entry` as that of a tick. Returns whether it ends a run that is of no moment.
     fn take_entry<A: Allocator>(&mut self, entry: &OwnEntry<A>) -> bool {
         match entry {
             Entry::Started => {
@@ -249,15 +254,15 @@ impl MomentJudge {
         }
     }
 
-    /// Is given one more line, by its event and its entry. Answers whether that is a run's HALT, and
-    /// the run is torn.
+    /// Takes one more line, by its `event` and its `entry`. Returns whether it is the HALT of a run
+    /// that is of no moment.
     pub fn take<A: Allocator>(&mut self, event: &OwnEvent<A>, entry: &OwnEntry<A>) -> bool {
         let torn = self.take_entry(entry);
         self.take_event(event, matches!(entry, Entry::Started));
         torn
     }
 
-    // Whether of the byte at a byte address another one was told.
+    // Returns whether another byte than `byte` was told at the byte address `at`.
     fn is_told_as_another(&self, at: usize, byte: u8) -> bool {
         match self.known(at) {
             Some(other) => other != byte,
@@ -265,14 +270,14 @@ impl MomentJudge {
         }
     }
 
-    /// Whether a fetch that brings this low byte, of the word at this word address, contradicts
-    /// what was told: then somebody writes who isn't in the log.
+    /// Returns whether a fetch that brings `byte`, the low byte of the word at the word address
+    /// `address`, contradicts what was told: then somebody writes who isn't in the log.
     pub fn contradicts_low(&self, address: u16, byte: u8) -> bool {
         self.is_told_as_another(2 * usize::from(address), byte)
     }
 
-    /// The same, of a fetch that completes this word at this word address, whether or not it ends
-    /// the run.
+    /// Like `contradicts_low`, for a fetch that completes `word`, at the word address `address`,
+    /// whether or not it ends the run.
     pub fn contradicts_word(&self, address: u16, word: u16) -> bool {
         let low = 2 * usize::from(address);
         if !self.waits(address) && self.is_told_as_another(low, (word % 0x100) as u8) {
