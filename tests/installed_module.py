@@ -2,7 +2,8 @@
 
     installed_module.py VERSION
 
-The times are those of a processor, the least of some tries. The last line is 'N passed, M failed'.
+The times are those of a processor, the least of some tries. They are printed, and judged at ten
+times what is wanted. The last line is 'N passed, M failed'.
 """
 
 import sys
@@ -67,7 +68,12 @@ with World() as world:
     rate = len(events) / seconds
     expect(rate > 1e5, f"{rate:.0f} events in a second are fewer than a tenth of 1,000,000")
     print(f"{rate / 1e6:.1f} million events in a second; ", end="")
+loads = []
+load = g.ctypes.CDLL
+g.ctypes.CDLL = lambda *words: loads.append(words) or load(*words)
 opened = least_time(World, 50)
+g.ctypes.CDLL = load
+expect(not loads, f"the library is loaded once, and then {len(loads)} times more")
 expect(opened < 1e-2, f"a world takes {opened * 1e3:.1f} ms, ten times what is wanted")
 print(f"a world in {opened * 1e3:.2f} ms")
 print(f"{passed} passed, {failed} failed")
