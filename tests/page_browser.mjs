@@ -845,7 +845,7 @@ async function testTour() {
   await tab.click('tour-again');
   expect('once more', '1 of 3: Whole', await tab.text('tour-title'));
   await tab.click('tour-end');
-  expect('skipped, it rests', 'Run/event 6000 ',
+  expect('skipped, it rests', 'Run/event 2600 ',
     `${await tab.text('run')}/${(await tab.text('counts')).slice(0, 11)}`);
   expect('and the tour is gone', true, await tab.value('document.getElementById("tour").hidden'));
   await tab.media({});
@@ -926,9 +926,9 @@ async function testKeys() {
   expect('Home: before the first event', /^Before the first/, await tab.text('moment-text'));
   await tab.key('ArrowRight');
   await tab.key('ArrowRight');
-  expect('two events on', 'Event 1 of 6000, a tick: read halted.', await tab.text('moment-text'));
+  expect('two events on', 'Event 1 of 2600, a tick: read halted.', await tab.text('moment-text'));
   await tab.key('End');
-  expect('End: the newest event', /^Event 5999 of 6000/, await tab.text('moment-text'));
+  expect('End: the newest event', /^Event 2599 of 2600/, await tab.text('moment-text'));
   await tab.value('document.getElementById("memory").focus()');
   await tab.key('ArrowRight');
   await tab.key('ArrowRight');
@@ -944,11 +944,11 @@ async function testRows() {
   await tab.click('zoom-all');
   const { left, top: y, width, height } = await tab.middle('rows');
   await tab.clickAt(left + width / 2, y + height / 2);
-  expect('a click shows that moment', /^Event (29|30)[0-9][0-9] of 6000/,
+  expect('a click shows that moment', /^Event 1[23][0-9][0-9] of 2600/,
     await tab.text('moment-text'));
   await tab.click('zoom-in');
   await tab.click('zoom-in');
-  expect('zoomed in, it is still there', /^Event (29|30)[0-9][0-9] of 6000/,
+  expect('zoomed in, it is still there', /^Event 1[23][0-9][0-9] of 2600/,
     await tab.text('moment-text'));
   await tab.click('picture-back');
   expect('the picture before', /: done /, await tab.text('moment-text'));

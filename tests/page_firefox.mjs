@@ -117,7 +117,7 @@ async function testPage(browser) {
   for (const id of ['tour-again', 'tour-end', 'once', 'compare']) {
     await browser.value(`document.getElementById('${id}').click()`);
   }
-  expect('the log is that of play', /^the same: 26000 events/, await browser.text('compared'));
+  expect('the log is that of play', /^the same: 22600 events/, await browser.text('compared'));
 }
 
 const port = await freePort(), child = start(port);

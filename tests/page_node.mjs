@@ -115,7 +115,7 @@ function runProgram(args, input) {
 const example = (name) => readFileSync(`${top}examples/frames/${name}.sketch`, 'utf8');
 const linesOf = (text) => operationsOf(plainDraft(text));
 const drafts = [linesOf(example('score')), linesOf(example('rocks'))];
-const reel = () => reelOf([drafts[0]], [drafts[1]]);
+const reel = () => reelOf([{ lines: drafts[0] }], [{ lines: drafts[1] }]);
 
 // The board after this many events of a schedule.
 function runBoard(make, count, wireCut = false, rom = '') {
@@ -277,7 +277,8 @@ function testRoms() {
     expect(`the ROM of ${JSON.stringify(text.slice(0, 30))}`, Buffer.from(bytes).toString('hex'),
       Buffer.from(romOf(written).bytes).toString('hex'));
   }
-  const frame = () => reelOf([linesOf(splitRom(example('rom_shapes')).draft)], [drafts[1]]);
+  const shape = { lines: linesOf(splitRom(example('rom_shapes')).draft) };
+  const frame = () => reelOf([shape], [{ lines: drafts[1] }]);
   const board = runBoard(() => new Chance(7, frame), events, false, shapes);
   expect('a frame that calls the ROM: the log', runProgram(['play', '--all'], traceOf(board)),
     board.log());

@@ -14,7 +14,6 @@ import { Recording, boardOfDump } from './recordings.mjs';
 import { Twin, bytesOfTable, linesOfListing } from './twin.mjs';
 import { isRomAlone, romTextOf } from './sketches.mjs';
 import { LESSONS, stateOfLesson } from './lessons.mjs';
-import { SCENES } from './playfield.mjs';
 import { TOUR_RATE, TOUR_STEPS, Tour } from './tour.mjs';
 import { Screen, drawSmall } from './screen.mjs';
 import { Rows } from './rows.mjs';
@@ -24,7 +23,7 @@ import {
   HOW_TEXT, counted, countsText, durationText, instructionText, leftText, momentText, pictureText,
   runText, wordText,
 } from './words.mjs';
-import { FILES, FRAMES, LISTING, WASM } from './built.mjs';
+import { FILES, FRAMES, LISTING, SCENES, WASM } from './built.mjs';
 
 const byId = (id) => document.getElementById(id);
 
@@ -33,7 +32,7 @@ const EXAMPLES = { ...SCENES, ...FRAMES };
 
 /* What a newcomer sees: these frames, after so many events. */
 const [FIRST_A, FIRST_B] = Object.keys(SCENES);
-const FIRST = { a: FIRST_A, b: FIRST_B }, FIRST_EVENTS = 6000;
+const FIRST = { a: FIRST_A, b: FIRST_B }, FIRST_EVENTS = 2600;
 
 const LOG_BEFORE = 12, LOG_AFTER = 4;
 /* Why what is grey is so: of a recording, and of a board with as many events as it holds. */
@@ -106,7 +105,7 @@ function happen(event) {
 }
 
 function reelNow() {
-  return reelOf(...[editorA, editorB].map(({ frames }) => frames.map(({ lines }) => lines)));
+  return reelOf(editorA.frames, editorB.frames);
 }
 
 /* Offers the frame of an editor; of a sketch the next one each time. */
@@ -762,6 +761,7 @@ function showPreviews() {
   let timer = null;
   new IntersectionObserver(([{ isIntersecting }]) => {
     clearInterval(timer);
+    if (isIntersecting) [editorA, editorB].forEach((editor) => editor.see());
     if (isIntersecting) drawPreviews();
     timer = isIntersecting && !still ? setInterval(drawPreviews, 1000 / PREVIEW_RATE) : null;
   }).observe(byId('A'));
@@ -1098,8 +1098,9 @@ function makeEditors() {
     showButtons();
     showRunText();
   };
-  editorA = new DraftEditor(byId('A'), 'Frame A', () => edited(editorA));
-  editorB = new DraftEditor(byId('B'), 'Frame B', () => edited(editorB));
+  const known = Object.values(SCENES);
+  editorA = new DraftEditor(byId('A'), 'Frame A', () => edited(editorA), known);
+  editorB = new DraftEditor(byId('B'), 'Frame B', () => edited(editorB), known);
   editorR = new RomEditor(byId('R'), 'Lines map and rom; a change begins anew', () => {
     setRunning(false);
     setRom(editorR.value);
@@ -1113,15 +1114,14 @@ function makeEditors() {
 }
 
 function bytesOfBase64(text) {
+  if (Uint8Array.fromBase64) return Uint8Array.fromBase64(text);
   const characters = atob(text), bytes = new Uint8Array(characters.length);
   for (let at = 0; at < bytes.length; at++) bytes[at] = characters.charCodeAt(at);
   return bytes;
 }
 
 async function begin() {
-  engine = await Engine.of(bytesOfBase64(WASM));
-  drawer = new Drawer(engine);
-  tube = new Drawer(engine);
+  const starting = Engine.of(bytesOfBase64(WASM));
   screen = new Screen(byId('screen'));
   rows = new Rows(byId('rows'));
   memory = new Memory(byId('memory'));
@@ -1137,6 +1137,9 @@ async function begin() {
   listenToRows();
   listenToMemory();
   listenToFiles();
+  engine = await starting;
+  drawer = new Drawer(engine);
+  tube = new Drawer(engine);
   addEventListener('hashchange', loadFragment);
   await loadFragment();
   showPreviews();
