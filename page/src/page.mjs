@@ -1,7 +1,8 @@
 /* The page: what its buttons do, and what it shows. */
 import { COMMAND, Engine, OPTION } from './engine.mjs';
-import { AREA, Board, MOST_EVENTS, areaOf } from './board.mjs';
+import { Board, MOST_EVENTS } from './board.mjs';
 import { hex, splitRom } from './drafts.mjs';
+import { AREA, SIGN, areaOf } from './signs.mjs';
 import { playSteps, stepsOf, traceOf } from './traces.mjs';
 import { Drawer, marksOf, momentOf } from './moments.mjs';
 import { generatorOf, insideRows } from './inside.mjs';
@@ -20,8 +21,8 @@ import { Rows } from './rows.mjs';
 import { Memory } from './memory.mjs';
 import { DraftEditor, RomEditor } from './editors.mjs';
 import {
-  HOW_TEXT, counted, countsText, durationText, instructionText, leftText, momentText, pictureText,
-  runText, wordText,
+  HOW_TEXT, counted, countsText, durationText, halvesVerdict, instructionText, leftText, momentText,
+  momentsVerdict, pictureText, runText, wordText,
 } from './words.mjs';
 import { FILES, FRAMES, LISTING, SCENES, WASM } from './built.mjs';
 
@@ -220,7 +221,30 @@ function run() {
 
 /* --- Verdicts --- */
 
-/* What `dvg torn` says of the log of what is shown; of a dump what `dvg picture` says. */
+/* A verdict: its word, in a colour, what it says, and a button where there is something to show. */
+function showVerdict(id, { word, text, at: event }, color) {
+  const [strong] = byId(id).children;
+  strong.textContent = word;
+  strong.className = color;
+  strong.nextSibling.data = text;
+  byId(`${id}-go`).hidden = event === undefined || event === null;
+  byId(`${id}-go`).onclick = () => goTo(event + 1);
+}
+
+/* The verdicts by moments and by halves. Of a dump there are none. */
+function showVerdicts(firstEarly) {
+  const moments = momentsVerdict(shown.pictures, shown.runs);
+  const isGood = moments.word === 'Whole' && shown.runs.contradictions === 0;
+  const color = isGood ? 'good' : 'bad';
+  const contradicts = shown.runs.contradictions > 0 ? shown.runs.contradicts : undefined;
+  showVerdict('moments', { at: contradicts, ...moments }, moments.word === '' ? '' : color);
+  showVerdict('halves', { ...halvesVerdict(shown.early), at: firstEarly },
+    shown.early > 0 ? 'early' : 'good');
+  for (const id of ['moments', 'halves']) byId(id).parentElement.hidden = shown.verdict !== undefined;
+}
+
+/* The verdicts, and what `dvg torn` says of the log of what is shown; of a dump what `dvg picture`
+ * says. */
 function judge() {
   judgedAt = performance.now();
   if (judgedOf === `${shown.id} ${shown.length}`) return;
@@ -233,9 +257,8 @@ function judge() {
   byId('judge').textContent = shown.verdict ? 'dvg picture' : 'dvg torn';
   byId('judged').textContent = shown.verdict
     ?? (event === null ? said : `${said}${place}, ${seen}`);
-  byId('judged').className = event !== null ? 'bad' : { 0: 'good' }[got.status] ?? '';
-  byId('judged-go').hidden = event === null;
-  byId('judged-go').onclick = () => goTo(event + 1);
+  byId('judged').className = event !== null ? 'early' : { 0: 'good' }[got.status] ?? '';
+  showVerdicts(event);
 }
 
 /* Compares the whole log with what `play --all` writes for the same events, up to a cut wire. */
@@ -279,9 +302,10 @@ function nameOfDraft(draft) {
     ?? `the frame first offered in event ${shown.drafts.get(draft)}`;
 }
 
-/* What a torn picture is made of, which is found once; null of a whole one. */
+/* What a picture is made of that is torn, or shows what came early, which is found once; null of
+ * another one. */
 function tearNow(picture) {
-  if (picture === null || picture.tears === 0) return null;
+  if (picture === null || !(picture.torn || picture.seen > 0)) return null;
   picture.tear ??= tearOf(engine, shown, picture, drawingOf);
   return picture.tear;
 }
@@ -299,7 +323,8 @@ function readColors() {
   areas[AREA.NONE] = of('none');
   colors = {
     areas, ink: of('ink'), dim: of('dim'), field: of('field'), torn: of('torn'),
-    tornGlow: of('torn-glow'), good: of('good'), shade: of('shade'),
+    early: of('early'), glows: [null, of('early-glow'), of('torn-glow')], good: of('good'),
+    shade: of('shade'),
   };
 }
 
@@ -375,7 +400,9 @@ function showTear(picture) {
   byId('wanted-text').textContent = `Being drawn: ${begun}`;
   byId('next-text').textContent = tear.draft === null ? 'The memory as the run ended'
     : `Written into it: ${nameOfDraft(tear.draft)}`;
-  byId('tear-text').textContent = tearText(tear, picture.strokes.length);
+  byId('tear-title').textContent = picture.torn ? 'The tear' : 'What came early, and shows';
+  byId('tear-text').textContent = tear.word === null ? '' : tearText(tear, picture);
+  byId('tear-go').disabled = tear.word === null;
   byId('tear-go').onclick = () => goTo(tear.word.event + 1);
   byId('tear-back').onclick = () => goTo(picture.at + 1);
 }
@@ -399,9 +426,15 @@ function showScreen({ picture, run: open, left }) {
     left === null ? tearNow(picture) : null);
 }
 
+/* The class of a picture's text. */
+function colorOfPicture(picture) {
+  if (picture?.torn) return 'bad';
+  return picture?.early > 0 ? 'early' : '';
+}
+
 function showPictureText({ picture, run: open, left }) {
   const text = byId('picture-text');
-  text.className = picture?.tears ? 'bad' : '';
+  text.className = colorOfPicture(picture);
   const number = picture === null ? 0 : shown.pictures.indexOf(picture) + 1;
   const named = picture === null ? null : nameOf(picture);
   const run = runText(open, drawer.strokesOf(open).length);
@@ -415,9 +448,10 @@ function showLog() {
   while (lines.children.length > to - from) lines.lastChild.remove();
   while (lines.children.length < to - from) lines.append(document.createElement('span'));
   for (let k = from; k < to; k++) {
-    const { torn, text } = shown.entryAt(k), line = lines.children[k - from];
-    line.textContent = `${k} ${text}${torn ? '   torn' : ''}`;
-    const names = [k === at - 1 && 'now', k >= at && 'later', torn && 'bad'];
+    const { early, text } = shown.entryAt(k), line = lines.children[k - from];
+    const seen = shown.signs[k] === SIGN.SEEN, mark = seen ? '   early, and shows' : '   early';
+    line.textContent = `${k} ${text}${early ? mark : ''}`;
+    const names = [k === at - 1 && 'now', k >= at && 'later', early && (seen ? 'bad' : 'early')];
     line.className = names.filter(Boolean).join(' ');
   }
 }
@@ -509,17 +543,18 @@ function showWord(moment) {
 
 const MOST_TORN_SHOWN = 12;
 
-/* The torn pictures, the newest last, each with what it is. */
+/* The pictures that are torn, or of which bytes came early, the newest last, each with what it is.
+ */
 function showTorn() {
   const torn = shown.pictures.map((picture, k) => ({ picture, number: k + 1 }))
-    .filter(({ picture }) => picture.tears > 0);
+    .filter(({ picture }) => picture.torn || picture.early > 0);
   byId('torn-pictures').hidden = torn.length === 0;
   byId('torn-list').replaceChildren(...torn.slice(-MOST_TORN_SHOWN).map(({ picture, number }) => {
     const item = document.createElement('li'), button = document.createElement('button');
-    const bytes = counted(picture.tears, 'byte');
-    const named = nameOf(picture);
-    button.textContent =
-      `picture ${number}, event ${picture.at}: ${bytes}${named === null ? '' : `, ${named}`}`;
+    const bytes = counted(picture.early, 'byte'), named = nameOf(picture);
+    button.className = colorOfPicture(picture);
+    button.textContent = `picture ${number}, event ${picture.at}: ${picture.torn ? 'torn, ' : ''}`
+      + `${bytes} early${named === null ? '' : `, ${named}`}`;
     button.onclick = () => goTo(picture.at + 1);
     item.append(button);
     return item;
@@ -876,8 +911,10 @@ function openLog(name, bytes) {
   const count = counted(recording.length, 'event');
   showRecording(recording, `The log ${name}`, fault === null ? `${count}.`
     : `${got.error.trim()}. Before that: ${count}.`, []);
-  const torn = /^torn at line ([0-9]+)/.exec(got.output);
-  if (torn) showTornLine(recording.eventOfLine(Number(torn[1])));
+  const early = /^torn at line ([0-9]+)/.exec(got.output);
+  const torn = recording.pictures.find((picture) => picture.torn);
+  if (torn) showTornLine(torn.tornAt);
+  else if (early) showTornLine(recording.eventOfLine(Number(early[1])));
 }
 
 /* The torn line, with the events around it. */

@@ -1,9 +1,14 @@
 /* Both rows over time: what the generator fetches, and what the driver does. */
-import { ROW, SIGN } from './board.mjs';
+import { ROW, SIGN } from './signs.mjs';
 
 /* What stands above the rows, between them, and below. */
 const ABOVE = 25, BETWEEN = 14, BELOW = 20;
 const LEAST_SCALE = 1 / 64, MOST_SCALE = 24;
+
+/* The colours of pictures, by their signs. */
+const DONE_COLORS = {
+  [SIGN.DONE]: 'good', [SIGN.EARLY_DONE]: 'early', [SIGN.TORN_DONE]: 'torn',
+};
 
 /* The areas, weakest first: of several events in one column the strongest is shown. */
 const STRENGTH = [0, 2, 2, 3, 1, 1];
@@ -73,7 +78,7 @@ export class Rows {
   drawColumns(board, from, to, colors) {
     const count = Math.ceil(this.width) + 1;
     const columns = [new Uint8Array(count), new Uint8Array(count)];
-    const torn = new Uint8Array(count);
+    const early = new Uint8Array(count);
     const wide = Math.max(1, Math.floor(this.scale));
     for (let k = from; k < to; k++) {
       const area = board.areas[k], row = board.rows[k];
@@ -81,15 +86,16 @@ export class Rows {
       const x = Math.floor((k - this.first) * this.scale);
       for (let dx = Math.max(0, -x); dx < wide && x + dx < count; dx++) {
         if (STRENGTH[area] > STRENGTH[columns[row][x + dx]]) columns[row][x + dx] = area;
-        if (board.signs[k] === SIGN.TORN) torn[x + dx] = 1;
+        const mark = board.signs[k] === SIGN.SEEN ? 2 : Number(board.signs[k] === SIGN.EARLY);
+        if (mark > early[x + dx]) early[x + dx] = mark;
       }
     }
     const [first, second] = this.tops, height = this.rowHeight;
     columns.forEach((column, row) => {
       this.fillSpans(column, this.tops[row], height, (area) => colors.areas[area]);
     });
-    this.fillSpans(torn, first - 6, second + height + 6 - first, () => colors.tornGlow);
-    this.fillSpans(torn, second, height, () => colors.torn);
+    this.fillSpans(early, first - 6, second + height + 6 - first, (mark) => colors.glows[mark]);
+    this.fillSpans(early, second, height, (mark) => (mark === 2 ? colors.torn : colors.early));
   }
 
   fillSpans(column, top, height, colorOf) {
@@ -108,7 +114,7 @@ export class Rows {
     const near = this.scale >= 2;
     for (let k = from; k < to; k++) {
       const sign = board.signs[k];
-      if (sign === SIGN.NONE || sign === SIGN.TORN) continue;
+      if (sign === SIGN.NONE || sign === SIGN.EARLY || sign === SIGN.SEEN) continue;
       const x = (k - this.first) * this.scale;
       if (sign === SIGN.READ_HALTED || sign === SIGN.READ_RUNNING) {
         const color = sign === SIGN.READ_HALTED ? colors.good : colors.dim;
@@ -132,8 +138,8 @@ export class Rows {
       context.lineTo(x + 0.5, top);
       context.fill();
       context.fillRect(x, top, 1.5, this.rowHeight);
-    } else if (sign === SIGN.DONE || sign === SIGN.TORN_DONE) {
-      context.fillStyle = sign === SIGN.DONE ? colors.good : colors.torn;
+    } else if (DONE_COLORS[sign] !== undefined) {
+      context.fillStyle = colors[DONE_COLORS[sign]];
       context.beginPath();
       context.arc(x + 1, top - 6, 4, 0, 7);
       context.fill();
