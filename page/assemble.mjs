@@ -37,7 +37,8 @@ function sketches() {
 // What the page needs beside its sources: dvg.wasm, the opening, and the examples.
 function built() {
   const frames = framesOfExamples();
-  const files = { ...sketches(), ...textsOf('logs', /\.log$/), ...textsOf('traces', null) };
+  const logs = { ...textsOf('logs', /\.log$/), ...textsOf('moments', /\.log$/) };
+  const files = { ...sketches(), ...logs, ...textsOf('traces', null) };
   const wasm = readFileSync(`${page}dvg.wasm`).toString('base64');
   const listing = readFileSync(`${page}driver.listing`, 'utf8');
   return `const LISTING = ${JSON.stringify(listing)};\n`

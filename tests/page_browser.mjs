@@ -44,6 +44,13 @@ const NOT_TORN = new RegExp(`^not torn: ${SEEN}$`);
 const TORN = new RegExp(
   `^torn at line [0-9]+: wrote [0-9A-F]{3} [0-9A-F]{2} \\(event [0-9]+\\), so far: ${SEEN}$`);
 
+// The verdicts by moments and by halves, each by its word and the colour of that.
+const VERDICTS = {
+  whole: /^Whole\/good by moments: .* In time\/good by halves: each byte\.$/,
+  torn: /^Torn\/bad by moments: [1-9][0-9]* of .* Early\/early by halves: [1-9][0-9]* bytes?\.$/,
+  early: /^Whole\/good by moments: .* Early\/early by halves: [1-9][0-9]* bytes?\.$/,
+};
+
 const browser = await startChromium(chromium);
 
 // A new tab, in which what is grey is looked at after each thing that is done.
@@ -90,6 +97,13 @@ async function doAsked(name, ...words) {
   states++;
   greys += await tab.value('document.querySelectorAll("button:disabled").length');
   if (grey !== '') expect(`after ${name} ${words.join(' ')}: what is grey says why`, '', grey);
+}
+
+function verdicts() {
+  return tab.value(`['moments', 'halves'].map((id) => {
+    const [{ textContent: word, className }] = document.getElementById(id).children;
+    return word + '/' + className + document.getElementById(id).textContent.slice(word.length);
+  }).join(' ')`);
 }
 
 // The texts of all elements that a selector names.
@@ -139,6 +153,7 @@ async function testBeginning() {
   expect('a newcomer sees a picture', /^Picture [0-9]+, .* whole\. It is frame (\w+ of )?[AB]\./,
     await tab.text('picture-text'));
   expect('and no torn one', NOT_TORN, await tab.text('judged'));
+  expect('so say both verdicts', VERDICTS.whole, await verdicts());
   for (const width of [1500, 700, 1280]) {
     await tab.size(width, 1000);
     await tab.settle();
@@ -172,7 +187,8 @@ async function testOpening() {
   for (const times of [clock, work]) times.sort((a, b) => a - b);
   console.log(`browser: the page opens in ${clock[0]} to ${clock[6]} ms, ${clock[3]} at the median; `
     + `its thread works ${work[0]} to ${work[6]} ms of that, and a little after`);
-  expect('the page opens in less than ten times 300 ms', true, work[0] <= 3000);
+  expect('the page opens in less than ten times 300 ms', true, clock[0] <= 3000);
+  expect('and its thread works less than 300 ms of that, at the median', true, work[3] <= 300);
 }
 
 // How long the page's thread was at work so far, in milliseconds.
@@ -213,7 +229,7 @@ async function testTyping() {
 // Each sketch, log and trace of examples/ opens by its name; a ROM alone is loaded.
 async function testExamples() {
   await openPage();
-  const folders = ['', 'board/', 'first/', 'logs/', 'traces/'], wanted = [];
+  const folders = ['', 'board/', 'first/', 'logs/', 'moments/', 'traces/'], wanted = [];
   for (const folder of folders) {
     const place = `${top}examples/${folder}`;
     for (const name of readdirSync(place)) {
@@ -369,16 +385,17 @@ async function testSeeds() {
   console.log(`browser: ${count}, each that of the program`);
 }
 
-// How many pixels of the picture are red, and how many are bluish.
+// How many pixels of the picture are red, how many are bluish, and how many are yellow.
 const REDS = `(() => {
   const canvas = document.getElementById('screen'),
     { data } = canvas.getContext('2d').getImageData(0, 0, canvas.width, canvas.height);
-  let red = 0, blue = 0;
+  let red = 0, blue = 0, yellow = 0;
   for (let k = 0; k < data.length; k += 4) {
     if (data[k] > 120 && data[k] > 1.5 * data[k + 1]) red++;
     if (data[k + 2] > 60 && data[k + 2] > 1.1 * data[k]) blue++;
+    if (data[k] > 180 && data[k + 1] > 150 && data[k + 2] < 120) yellow++;
   }
-  return { red, blue };
+  return { red, blue, yellow };
 })()`;
 
 async function testCutWire() {
@@ -400,12 +417,16 @@ async function testCutWire() {
   expect('torn pictures are counted',
     /[0-9]+ pictures? · [1-9][0-9]* torn · [1-9][0-9]* bytes? written/, await tab.text('counts'));
   expect('torn finds it', TORN, await tab.text('judged'));
+  expect('so say both verdicts', VERDICTS.torn, await verdicts());
+  expect('in two colours', true, await tab.value(`new Set(['moments', 'halves'].map((id) => (
+    getComputedStyle(document.getElementById(id).children[0]).color))).size === 2`));
   const named =
     await textsOf('#torn-list button');
   expect('torn pictures are named', true,
     named.length > 0
-    && named.every((one) => /^picture [0-9]+, event [0-9]+: [0-9]+ bytes?, /.test(one)));
-  const number = named.findIndex((one) => one.endsWith('no frame that was offered'));
+    && named.every((one) => /^picture [0-9]+, event [0-9]+: (torn, )?[0-9]+ bytes? early, /
+      .test(one)));
+  const number = named.findIndex((one) => / torn, .*no frame that was offered$/.test(one));
   expect('one of them is no frame', true, number >= 0);
   await tab.click(`#torn-list li:nth-child(${number + 1}) button`);
   expect('it is shown',
@@ -419,11 +440,15 @@ async function testCutWire() {
   expect('play has no cut wire',
     'the same up to the cut wire, which no trace has: 0 events, 0 lines',
     await tab.text('compared'));
-  await tab.click('judged-go');
+  await tab.click('moments-go');
   const words = await tab.value(REDS.replace("'screen'", "'memory'"));
-  expect('the RAM shows where', true, words.red > 20);
-  expect('the first torn byte is shown', /into the half that is being drawn\.$/,
+  expect('the RAM shows what came early, and was read', true, words.red > 20);
+  expect('the first torn picture is shown', /, torn: /, await tab.text('picture-text'));
+  await tab.click('halves-go');
+  expect('the first early byte is shown', /into the half that is being drawn(, and it shows)?\.$/,
     await tab.text('moment-text'));
+  const early = await tab.value(REDS.replace("'screen'", "'memory'"));
+  expect('and the RAM shows where', true, early.yellow > 20);
   await tab.click('wire');
   expect('the wire is whole again', /is whole/, await tab.text('wire-text'));
   await tab.media({});
@@ -529,6 +554,15 @@ async function testFiles() {
       + 'wrote 002 64\n' : readFileSync(log, 'utf8').replace(/^what[^]*/m, ''));
   }
   expect('a fault of a log is told', /syntax at line 3/, await tab.text('file-text'));
+  const judged = { 'logs/tears': VERDICTS.early, 'logs/waits': VERDICTS.whole,
+    'moments/torn': VERDICTS.torn, 'moments/comes_back': VERDICTS.torn,
+    'moments/late': VERDICTS.early, 'moments/whole': VERDICTS.whole,
+    'moments/contradicts': /^Whole\/bad .* 1 fetch read what was not written: somebody writes/ };
+  for (const [name, wanted] of Object.entries(judged)) {
+    await tab.drop('screen', `${top}examples/${name}.log`);
+    await comesWith('file-title', `The log ${name.replace(/.*\//, '')}.log`);
+    expect(`${name}: both verdicts`, wanted, await verdicts());
+  }
   await tab.click('file-close');
   const rom = new Uint8Array(2048).fill(0xD0);
   rom.set([0, 0xB0]);
@@ -559,8 +593,9 @@ async function testLogShown(name, log) {
   const said = runProgram(['torn'], log).trim().split('\n');
   expect(`${name}: as the command says`, said.join(', '), await tab.text('judged'));
   const good = runStatus(['torn'], log) === 0;
-  expect(`${name}: its colour`, good, await tab.value(
-    'document.getElementById("judged").className === "good"'));
+  const color = said[0].startsWith('torn') ? 'early' : '';
+  expect(`${name}: its colour`, good ? 'good' : color,
+    await tab.value('document.getElementById("judged").className'));
   expect(`${name}: nothing else is green`, good ? 1 : 0, (await textsOf('.good')).filter(
     (text) => /torn|drew/.test(text)).length);
   expect(`${name}: its rows have the focus`, 'rows',
@@ -610,6 +645,13 @@ async function testLongLog() {
     next();
   })`);
   const task = (await taskTime() - before) / 120;
+  const held = await tab.value(LONG_HOLD);
+  console.log(`browser: by a wheel frames come each ${held.wheel[59].toFixed(1)} ms, `
+    + `${held.wheel[113].toFixed(1)} ms or less in 19 of 20; by a key that is held `
+    + `${held.key[59].toFixed(1)} ms, ${held.key[113].toFixed(1)} ms or less`);
+  expect('a wheel moves them', true, held.moved);
+  expect('a frame of a wheel takes less than ten times 17 ms', true, held.wheel[59] <= 170);
+  expect('a frame of a key takes less than ten times 17 ms', true, held.key[59] <= 170);
   const walk = await tab.value(`(() => {
     const begin = performance.now();
     for (let k = 0; k < 50; k++) document.getElementById('back').click();
@@ -624,6 +666,29 @@ async function testLongLog() {
   expect('a drag takes less than ten times 8 ms', true, times[60] <= 80);
   expect('a step back takes less than ten times 30 ms', true, walk <= 300);
 }
+
+// The frames while a wheel turns over the rows, and while an arrow key is held: how long it is from
+// one to the next; and whether the wheel has moved the rows.
+const LONG_HOLD = `(async () => {
+  const rows = document.getElementById('rows');
+  const frames = async (act) => {
+    const times = [];
+    for (let k = 0, last = performance.now(); k < 120; k++) {
+      act();
+      await new Promise(requestAnimationFrame);
+      times.push(performance.now() - last);
+      last = performance.now();
+    }
+    return times.sort((a, b) => a - b);
+  };
+  const before = rows.toDataURL();
+  const wheel = await frames(() => rows.dispatchEvent(new WheelEvent('wheel',
+    { deltaX: 40, cancelable: true, bubbles: true })));
+  const moved = before !== rows.toDataURL();
+  const key = await frames(() => rows.dispatchEvent(new KeyboardEvent('keydown',
+    { key: 'ArrowLeft', cancelable: true, bubbles: true })));
+  return { wheel, key, moved };
+})()`;
 
 function hex3(number) {
   return number.toString(16).toUpperCase().padStart(3, '0');
@@ -712,7 +777,8 @@ async function testInView() {
     const what = `${width} by ${height}`;
     await tab.size(width, height, width === 400);
     await tab.open(address);
-    expect(`${what}: the tour in view`, '', await outOfView([...SEEN_AT_ONCE, '#tour-title']));
+    expect(`${what}: the tour in view`, '', await outOfView([...SEEN_AT_ONCE, '#tour-title', '#tour-text',
+      '#tour-end']));
     await openPage();
     expect(`${what}: in view`, '', await outOfView(SEEN_AT_ONCE));
     writeFileSync(`${work}/page_${width}_first.png`, await tab.screenshot());
@@ -809,6 +875,11 @@ async function testCode() {
 
 // --- The tour, and what a tear is ---
 
+// Whether the tour comes to a step, which takes some seconds.
+function comesInTour(title) {
+  return tab.until(`document.getElementById('tour-title').textContent === '${title}'`, 40000);
+}
+
 async function testTour() {
   await tab.size(1280, 900);
   await tab.media({ 'color-scheme': 'dark' });
@@ -817,9 +888,10 @@ async function testTour() {
   const early = await tab.text('counts');
   await new Promise((resolve) => { setTimeout(resolve, 500); });
   expect('and it moves', true, early !== await tab.text('counts'));
-  expect('then the wire is cut', true, await comes('tour-title', '2 of 3: Cut'));
+  expect('then the wire is cut', true, await comesInTour('2 of 3: Cut'));
   expect('so says its button', 'Mend the HALT wire', await tab.text('wire'));
-  expect('and a picture is torn', true, await comes('tour-title', '3 of 3: Torn'));
+  expect('and a picture is torn', true, await comesInTour('3 of 3: Torn'));
+  expect('so say both verdicts', VERDICTS.torn, await verdicts());
   expect('the run has ended', 'Run', await tab.text('run'));
   expect('what the colours and the ring mean is said', /Red is .* ring marks where the tear begins/,
     await tab.text('tour-text'));
@@ -838,7 +910,7 @@ async function testTour() {
   expect('all of it in view', '', await outOfView([...SEEN_AT_ONCE, '#tear-text', '#next']));
   writeFileSync(`${work}/page_torn.png`, await tab.screenshot());
   await tab.click('tear-go');
-  expect('the byte is shown', /into the half that is being drawn\.$/,
+  expect('the byte is shown', /into the half that is being drawn, and it shows\.$/,
     await tab.text('moment-text'));
   await tab.click('tear-back');
   expect('and the picture again', /: done /, await tab.text('moment-text'));

@@ -1021,14 +1021,18 @@ function listenToRows() {
     else return;
     event.preventDefault();
   });
-  canvas.addEventListener('wheel', (event) => {
-    if (!event.ctrlKey && !event.shiftKey) return;
-    event.preventDefault();
-    rows.zoom(event.deltaY + event.deltaX < 0 ? 1.25 : 0.8, rows.eventAt(event.offsetX),
-      shown.length);
-    show();
-  }, { passive: false });
+  canvas.addEventListener('wheel', turnWheel, { passive: false });
   listenToDrags(canvas);
+}
+
+/* With Ctrl a wheel zooms; sideways, or with Shift, it moves the rows; else it is the page's. */
+function turnWheel(event) {
+  const { ctrlKey, shiftKey, deltaX, deltaY } = event, aside = deltaX || (shiftKey ? deltaY : 0);
+  if (!ctrlKey && aside === 0) return;
+  event.preventDefault();
+  if (ctrlKey) rows.zoom(deltaY < 0 ? 1.25 : 0.8, rows.eventAt(event.offsetX), shown.length);
+  else rows.pan(aside, shown.length);
+  rows.draw(shown, at, colors);
 }
 
 /* A drag moves the rows; a click shows the moment after the event there. */
@@ -1042,8 +1046,7 @@ function listenToDrags(canvas) {
     if (from === null) return;
     from.moved ||= Math.abs(event.offsetX - from.x) > 4;
     if (!from.moved) return;
-    rows.first =
-      Math.max(0, Math.min(shown.length - 1, from.first - (event.offsetX - from.x) / rows.scale));
+    rows.pan(from.x - event.offsetX, shown.length, from.first);
     rows.draw(shown, at, colors);
   });
   canvas.addEventListener('pointerup', (event) => {

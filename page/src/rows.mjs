@@ -54,6 +54,11 @@ export class Rows {
     this.first = Math.max(0, from - 0.05 * (to - from));
   }
 
+  /* Moves by so many pixels, as far as there are events. */
+  pan(pixels, length, from = this.first) {
+    this.first = Math.max(0, Math.min(length - 1, from + pixels / this.scale));
+  }
+
   /* Brings a moment into sight. */
   follow(at) {
     if (at < this.first || at > this.first + this.span - 2) {
