@@ -125,9 +125,10 @@ export class Board {
   strobe() {
     if (!this.sent) return { text: 'no strobe' };
     this.generator.strobe();
+    const sign = this.open === null ? SIGN.START : SIGN.ANEW;
     this.abandon();
     this.runs.begin(this.length);
-    return { text: 'started', row: ROW.GENERATOR, sign: SIGN.START };
+    return { text: 'started', row: ROW.GENERATOR, sign };
   }
 
   /* The open run, if there is one, is abandoned: the event is kept that ends it. */

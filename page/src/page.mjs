@@ -22,7 +22,7 @@ import { Memory } from './memory.mjs';
 import { DraftEditor, RomEditor } from './editors.mjs';
 import {
   HOW_TEXT, counted, countsText, durationText, halvesVerdict, instructionText, leftText, momentText,
-  momentsVerdict, pictureText, runText, wordText,
+  leftVerdict, momentsVerdict, pictureText, runText, wordText,
 } from './words.mjs';
 import { FILES, FRAMES, LISTING, SCENES, WASM } from './built.mjs';
 
@@ -240,7 +240,11 @@ function showVerdicts(firstEarly) {
   showVerdict('moments', { at: contradicts, ...moments }, moments.word === '' ? '' : color);
   showVerdict('halves', { ...halvesVerdict(shown.early), at: firstEarly },
     shown.early > 0 ? 'early' : 'good');
-  for (const id of ['moments', 'halves']) byId(id).parentElement.hidden = shown.verdict !== undefined;
+  showVerdict('left', leftVerdict(shown.left), '');
+  for (const id of ['moments', 'halves', 'left']) {
+    byId(id).parentElement.hidden = shown.verdict !== undefined;
+  }
+  byId('left').parentElement.hidden ||= shown.left.length === 0;
 }
 
 /* The verdicts, and what `dvg torn` says of the log of what is shown; of a dump what `dvg picture`
@@ -869,6 +873,7 @@ function showRecording(recording, title, text, lines) {
   recording.id = performance.now();
   shown = recording;
   byId('file').hidden = false;
+  byId('lesson').hidden = true;
   byId('file-title').textContent = title;
   byId('file-text').textContent = text;
   byId('file-lines').replaceChildren(...lines.map((line) => {
@@ -884,6 +889,7 @@ function showRecording(recording, title, text, lines) {
 
 function backToBoard() {
   byId('file').hidden = true;
+  byId('lesson').hidden = lesson === 0;
   shown = board;
   moveTo(board.length);
   rows.showAll(board.length);

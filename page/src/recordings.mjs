@@ -114,9 +114,9 @@ export class Recording {
   }
 
   begin(at) {
+    this.signs[at] = this.open === null ? SIGN.START : SIGN.ANEW;
     this.abandon(at);
     this.runs.begin(at);
-    this.signs[at] = SIGN.START;
   }
 
   abandon(at) {

@@ -133,6 +133,16 @@ export class Rows {
     this.context.fillRect(x, top, Math.max(1.5, this.scale - 1), height);
   }
 
+  /* Where a run was abandoned. */
+  ring(x, y, color) {
+    const { context } = this;
+    context.strokeStyle = color;
+    context.lineWidth = 1.5;
+    context.beginPath();
+    context.arc(x - 4, y, 3.5, 0, 7);
+    context.stroke();
+  }
+
   drawSign(sign, x, top, colors) {
     const { context } = this;
     if (sign === SIGN.FLIP) {
@@ -153,6 +163,7 @@ export class Rows {
     } else {
       const ends = sign === SIGN.RESET || sign === SIGN.BROKE;
       this.bar(x, top - 4, this.rowHeight + 4, ends ? colors.torn : colors.good);
+      if (sign === SIGN.ANEW) this.ring(x, top - 6, colors.ink);
     }
   }
 

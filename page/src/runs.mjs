@@ -1,6 +1,6 @@
 /* The runs of a board or of a log, judged two ways: by halves, which bytes were written into the
- * half that is being drawn; and by moments, whether a run is of one moment, as the proved judge says
- * that stands in dvg.wasm. */
+ * half that is being drawn; and by moments, whether a run is of one moment, as the proved judge
+ * says that stands in dvg.wasm. */
 import { KIND } from './engine.mjs';
 import { SIGN, areaOf, drawnHalf } from './signs.mjs';
 

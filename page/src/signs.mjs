@@ -18,9 +18,10 @@ export function drawnHalf(word) {
 }
 
 /* A byte is EARLY that was written into the half that is being drawn, and SEEN once that run reads
- * it. A picture is EARLY if some byte of its run was, and TORN if it is of no one moment. */
+ * it. A picture is EARLY if some byte of its run was, and TORN if it is of no one moment. A strobe
+ * that comes to an open run starts the next one ANEW. */
 export const SIGN = {
   NONE: 0, FLIP: 1, START: 2, DONE: 3, TORN_DONE: 4, SENT: 5, READ_HALTED: 6, READ_RUNNING: 7,
-  RESET: 8, BROKE: 9, OFFERED: 10, EARLY: 11, SEEN: 12, EARLY_DONE: 13,
+  RESET: 8, BROKE: 9, OFFERED: 10, EARLY: 11, SEEN: 12, EARLY_DONE: 13, ANEW: 14,
 };
 export const ROW = { GENERATOR: 0, DRIVER: 1, NONE: 2 };

@@ -21,7 +21,8 @@ export function pictureText(picture, number, named) {
   const begin = `Picture ${number}, finished by event ${picture.at}: ${strokes}`;
   const frame = named === null ? '' : ` It is ${named}.`;
   const { early, torn } = picture;
-  if (early === 0) return torn ? `${begin}, torn: it is of no one moment.` : `${begin}, whole.${frame}`;
+  if (early === 0 && torn) return `${begin}, torn: it is of no one moment.`;
+  if (early === 0) return `${begin}, whole.${frame}`;
   const bytes = `${counted(early, 'byte')} ${early === 1 ? 'was' : 'were'}`;
   return `${begin}, ${torn ? 'torn' : 'early'}: ${bytes} written into its half while it was drawn, `
     + `${seenText(picture)}.${frame}`;
@@ -47,6 +48,12 @@ export function momentsVerdict(pictures, runs) {
     return { word: 'Whole', text: ` by moments: ${what}.${more}` };
   }
   return { word: 'Torn', text: ` by moments: ${torn.length} of ${count}.${more}`, at: torn[0].at };
+}
+
+/* What is said of the runs that were abandoned, each in one of these events. */
+export function leftVerdict(left) {
+  return { word: left.length === 0 ? '' : 'Abandoned', at: left.at(-1),
+    text: `: ${counted(left.length, 'run')}, of which the tube shows a part.` };
 }
 
 /* A verdict by halves: its word, and how many bytes came early. */
