@@ -185,8 +185,8 @@ async function testOpening() {
   await tab.send('Performance.disable');
   await tab.send('Performance.enable');
   for (const times of [clock, work]) times.sort((a, b) => a - b);
-  console.log(`browser: the page opens in ${clock[0]} to ${clock[6]} ms, ${clock[3]} at the median; `
-    + `its thread works ${work[0]} to ${work[6]} ms of that, and a little after`);
+  console.log(`browser: the page opens in ${clock[0]} to ${clock[6]} ms, ${clock[3]} at the `
+    + `median; its thread works ${work[0]} to ${work[6]} ms of that, and a little after`);
   expect('the page opens in less than ten times 300 ms', true, clock[0] <= 3000);
   expect('and its thread works less than 300 ms of that, at the median', true, work[3] <= 300);
 }
@@ -777,8 +777,8 @@ async function testInView() {
     const what = `${width} by ${height}`;
     await tab.size(width, height, width === 400);
     await tab.open(address);
-    expect(`${what}: the tour in view`, '', await outOfView([...SEEN_AT_ONCE, '#tour-title', '#tour-text',
-      '#tour-end']));
+    expect(`${what}: the tour in view`, '',
+      await outOfView([...SEEN_AT_ONCE, '#tour-title', '#tour-text', '#tour-end']));
     await openPage();
     expect(`${what}: in view`, '', await outOfView(SEEN_AT_ONCE));
     writeFileSync(`${work}/page_${width}_first.png`, await tab.screenshot());

@@ -19,8 +19,8 @@ export function strokesOfLines(lines) {
 }
 
 /* Of a picture that is torn, or shows what came early: `wanted`, what the frame draws that its run
- * began with; `next`, what the frame draws that was written into it, or the memory as the run ended;
- * `wrong`, the strokes that are none of the first frame's; and the word that tore. */
+ * began with; `next`, what the frame draws that was written into it, or the memory as the run
+ * ended; `wrong`, the strokes that are none of the first frame's; and the word that tore. */
 export function tearOf(engine, board, picture, drawingOf) {
   const ram = ramAt(board, picture.from);
   const wanted = strokesOfMemory(engine, ram, board.rom);
