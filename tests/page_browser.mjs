@@ -741,7 +741,7 @@ async function testWidths() {
     await tab.click('compare');
     expect(`${width} pixels: compared`, /^the same/, await tab.text('compared'));
     await tab.value('scrollTo(0, 0)');
-    writeFileSync(`${work}/page_${width}.png`, await tab.screenshot(true));
+    writeFileSync(`${work}/page_${width}_whole.png`, await tab.screenshot(true));
   }
   await tab.size(1600, 1000);
 }
@@ -782,6 +782,11 @@ async function testInView() {
     await openPage();
     expect(`${what}: in view`, '', await outOfView(SEEN_AT_ONCE));
     writeFileSync(`${work}/page_${width}_first.png`, await tab.screenshot());
+    for (const id of ['wire', 'once', 'moments-go']) await tab.click(id);
+    await tab.value('scrollTo(0, 0)');
+    expect(`${what}: a torn picture in view`, '',
+      await outOfView([...SEEN_AT_ONCE, ...(width < 1280 ? ['#tear-title'] : ['#tear-text'])]));
+    writeFileSync(`${work}/page_${width}.png`, await tab.screenshot());
     for (let k = 1; k <= LESSONS.length; k++) {
       await tab.value('scrollTo(0, 0)');
       await tab.value(`document.querySelector('#lessons li:nth-child(${k}) a').click()`);

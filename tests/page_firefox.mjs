@@ -108,10 +108,13 @@ async function testPage(browser) {
   expect('the page is ready', true, await browser.until('document.body.dataset.ready === "yes"'));
   const opened = await browser.value('document.body.dataset.opened');
   console.log(`firefox: the page opens in ${opened} ms`);
+  expect('it opens in less than ten times 300 ms', true, Number(opened) <= 3000);
   expect('the tour comes to a tear', true,
     await browser.until('/^3 of 3/.test(document.getElementById("tour-title").textContent)'));
   expect('the tear is told', /^Event [0-9]+ wrote .. over .. into byte /,
     await browser.text('tear-text'));
+  expect('the verdicts', 'Torn Early', await browser.value(`['moments', 'halves'].map((id) => (
+    document.getElementById(id).children[0].textContent)).join(' ')`));
   const { value } = await browser.send('TakeScreenshot', { full: false });
   writeFileSync(`${work}/page_firefox.png`, Buffer.from(value, 'base64'));
   for (const id of ['tour-again', 'tour-end', 'once', 'compare']) {
