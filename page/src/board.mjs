@@ -1,8 +1,8 @@
 /* The board: a driver alone and a generator alone, with a RAM between them that is the page's. So
  * the HALT wire can be cut, which nothing in `dvg` can do. Each event has an entry, and the entries
  * are what `play --all` writes, as long as the wire is whole. */
-import { KIND } from './engine.mjs';
-import { faultText, hex } from './drafts.mjs';
+import { COMMAND, KIND } from './engine.mjs';
+import { hex } from './drafts.mjs';
 import { Runs, resultOf, signOfPicture } from './runs.mjs';
 import { ROW, SIGN, areaOf } from './signs.mjs';
 
@@ -15,6 +15,7 @@ export const KEPT_EVERY = 1024;
 
 export class Board {
   constructor(engine, rom, wireCut = false) {
+    this.engine = engine;
     this.rom = rom;
     this.driver = engine.device();
     this.driver.openDriver(rom.bytes);
@@ -85,10 +86,16 @@ export class Board {
   offer({ draft }) {
     const answer = this.driver.offer(draft);
     if (answer.kind === KIND.BUSY) return { text: 'busy' };
-    if (answer.kind === KIND.REFUSED) return { text: `refused ${faultText(answer)}` };
+    if (answer.kind === KIND.REFUSED) return { text: `refused ${this.faultOf(draft)}` };
     const key = draft.join('\n');
     if (!this.drafts.has(key)) this.drafts.set(key, this.length);
     return { text: 'offered', row: ROW.DRIVER, sign: SIGN.OFFERED };
+  }
+
+  /* The fault of a draft that is refused, as `dvg check` tells it. */
+  faultOf(draft) {
+    const text = `${this.rom.text}${draft.map((line) => `${line}\n`).join('')}`;
+    return this.engine.run(COMMAND.check, text).output.trim().replace(/^fault /, '');
   }
 
   redraw() {

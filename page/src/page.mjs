@@ -228,7 +228,16 @@ function showVerdict(id, { word, text, at: event }, color) {
   strong.className = color;
   strong.nextSibling.data = text;
   byId(`${id}-go`).hidden = event === undefined || event === null;
-  byId(`${id}-go`).onclick = () => goTo(event + 1);
+  byId(`${id}-go`).onclick = () => goToResult(event);
+}
+
+/* Shows an event; of one that ends a picture the whole run, too. */
+function goToResult(event) {
+  goTo(event + 1);
+  const picture = shown.pictures.find((one) => one.at === event);
+  if (picture === undefined) return;
+  rows.showSpan(picture.from, picture.at + 1);
+  show();
 }
 
 /* The verdicts by moments and by halves. Of a dump there are none. */
@@ -408,7 +417,7 @@ function showTear(picture) {
   byId('tear-text').textContent = tear.word === null ? '' : tearText(tear, picture);
   byId('tear-go').disabled = tear.word === null;
   byId('tear-go').onclick = () => goTo(tear.word.event + 1);
-  byId('tear-back').onclick = () => goTo(picture.at + 1);
+  byId('tear-back').onclick = () => goToResult(picture.at);
 }
 
 function showTour() {
@@ -559,7 +568,7 @@ function showTorn() {
     button.className = colorOfPicture(picture);
     button.textContent = `picture ${number}, event ${picture.at}: ${picture.torn ? 'torn, ' : ''}`
       + `${bytes} early${named === null ? '' : `, ${named}`}`;
-    button.onclick = () => goTo(picture.at + 1);
+    button.onclick = () => goToResult(picture.at);
     item.append(button);
     return item;
   }));
