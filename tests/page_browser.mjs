@@ -898,7 +898,7 @@ async function testTour() {
   expect('and a picture is torn', true, await comesInTour('3 of 3: Torn'));
   expect('so say both verdicts', VERDICTS.torn, await verdicts());
   expect('the run has ended', 'Run', await tab.text('run'));
-  expect('what the colours and the ring mean is said', /Red is .* ring marks where the tear begins/,
+  expect('what the colours and the ring mean is said', /Red came .* ring marks where the tear begins\. With the wire/,
     await tab.text('tour-text'));
   expect('the tear is told',
     /^Event ([0-9]+) wrote .. over .. into byte .*Event [0-9]+ read that word/,

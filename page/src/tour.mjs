@@ -7,9 +7,9 @@ export const TOUR_RATE = 3600, MOST_TOUR_EVENTS = 50000;
 export const TOUR_STEPS = [
   {
     title: 'Whole', cut: false, least: 6000,
-    text: `The beam draws a list of lines out of one half of a memory. Meanwhile the driver writes
-      the next list into the other half. In the rows below, blue is one half and orange the other:
-      what is written never has the colour of what is drawn.`,
+    text: `The beam draws lines out of one half of a memory; dim is the picture before. Meanwhile a
+      program, the driver, writes the next list into the other half. In the rows below, blue is one
+      half and orange the other: at any time both differ.`,
   },
   {
     title: 'Cut', cut: true, least: 5000,
@@ -19,9 +19,9 @@ export const TOUR_STEPS = [
   },
   {
     title: 'Torn', cut: true, least: 0,
-    text: `This picture is torn: it began as one frame, and went on as the next. Red is what came
-      too early, and the ring marks where the tear begins. With the wire, the driver would have
-      waited until this picture was done.`,
+    text: `This picture is torn: it began as one frame and went on as the next. Red came too early;
+      the ring marks where the tear begins. With the wire, the driver would have waited until the
+      picture was done.`,
   },
 ];
 
