@@ -9,6 +9,7 @@ import { execFileSync, spawnSync } from 'node:child_process';
 import { existsSync, readFileSync, readdirSync, writeFileSync } from 'node:fs';
 import { createServer } from 'node:http';
 import { startChromium } from './page_chromium.mjs';
+import { DROP_LONG_LOG, MOVE_OVER_IT, movesText } from './page_long.mjs';
 import { LESSONS } from '../page/src/lessons.mjs';
 
 const [chromium, program, work] = process.argv.slice(2, 5),
@@ -608,90 +609,28 @@ async function testLogShown(name, log) {
     await tab.value('document.getElementById("run").disabled'));
 }
 
-// A log of 100,000 events: how long a step of its rows takes while one drags and walks, in the
-// page's own script, and with layout and paint; and how long it is from one frame to the next.
+// A log of 100,000 events: how long it is from one frame to the next while one drags, turns a wheel
+// or holds a key; and what a step back takes of the page's own script.
 async function testLongLog() {
   await openPage();
-  const lines = [];
-  for (let k = 0; lines.length < 100000; k++) {
-    lines.push('started', 'low 000 01', 'fetched 000 E001');
-    for (let word = 1; word < 90; word++) {
-      lines.push(`low ${hex3(word)} 00`, `wrote ${hex3(0x402 + 2 * word)} 90`,
-        `fetched ${hex3(word)} ${word === 89 ? 'B000' : word % 2 ? '9064' : '7064'}`);
-    }
-    lines.push('halted');
-  }
-  await tab.drop('screen', put('long.log', `${lines.join('\n')}\n`));
+  await tab.value(DROP_LONG_LOG);
   expect('a long log is judged', true, await comesWith('judged', 'not torn: '));
-  const before = await taskTime();
-  const { times, frames } = await tab.value(`new Promise((done) => {
-    const rows = document.getElementById('rows'), times = [], frames = [];
-    const sorted = (list) => list.sort((a, b) => a - b);
-    const send = (type, x) => rows.dispatchEvent(new PointerEvent(type,
-      { clientX: x, clientY: rows.getBoundingClientRect().y + 30, pointerId: 1, bubbles: true }));
-    rows.setPointerCapture = () => {};
-    for (let k = 0; k < 6; k++) document.getElementById('zoom-in').click();
-    send('pointerdown', 600);
-    let last = null, k = 0;
-    const next = () => {
-      const begin = performance.now();
-      if (last !== null) frames.push(begin - last);
-      last = begin;
-      send('pointermove', 600 - 9 * k);
-      times.push(performance.now() - begin);
-      if (++k < 120) requestAnimationFrame(next);
-      else { send('pointerup', 600); done({ times: sorted(times), frames: sorted(frames) }); }
-    };
-    next();
-  })`);
-  const task = (await taskTime() - before) / 120;
-  const held = await tab.value(LONG_HOLD);
-  console.log(`browser: by a wheel frames come each ${held.wheel[59].toFixed(1)} ms, `
-    + `${held.wheel[113].toFixed(1)} ms or less in 19 of 20; by a key that is held `
-    + `${held.key[59].toFixed(1)} ms, ${held.key[113].toFixed(1)} ms or less`);
-  expect('a wheel moves them', true, held.moved);
-  expect('a frame of a wheel takes less than ten times 17 ms', true, held.wheel[59] <= 170);
-  expect('a frame of a key takes less than ten times 17 ms', true, held.key[59] <= 170);
+  expect('by moments, too', VERDICTS.whole, await verdicts());
+  const before = await taskTime(), moves = await tab.value(MOVE_OVER_IT);
+  const task = (await taskTime() - before) / 360;
   const walk = await tab.value(`(() => {
     const begin = performance.now();
     for (let k = 0; k < 50; k++) document.getElementById('back').click();
     return (performance.now() - begin) / 50;
   })()`);
-  const [median, most, step] = [times[60], times[114], walk].map((time) => time.toFixed(1));
-  console.log(`browser: a drag over ${lines.length} events takes ${median} ms at the median, `
-    + `${most} ms or less in 19 of 20; with layout and paint ${task.toFixed(1)} ms of the main `
-    + `thread on average; frames come each ${frames[59].toFixed(1)} ms, `
-    + `${frames[113].toFixed(1)} ms or less in 19 of 20; a step back ${step} ms`);
-  expect('a frame of a drag works less than ten times 8 ms', true, task <= 80);
-  expect('a drag takes less than ten times 8 ms', true, times[60] <= 80);
+  console.log(`browser: ${movesText(moves)}; of the main thread each takes ${task.toFixed(1)} ms on `
+    + `average, with layout and paint; a step back ${walk.toFixed(1)} ms`);
+  expect('a wheel moves the rows', true, moves.moved);
+  for (const name of ['drag', 'wheel', 'key']) {
+    expect(`a frame by ${name} takes less than ten times 17 ms`, true, moves[name][59] <= 170);
+  }
+  expect('a frame works less than ten times 8 ms', true, task <= 80);
   expect('a step back takes less than ten times 30 ms', true, walk <= 300);
-}
-
-// The frames while a wheel turns over the rows, and while an arrow key is held: how long it is from
-// one to the next; and whether the wheel has moved the rows.
-const LONG_HOLD = `(async () => {
-  const rows = document.getElementById('rows');
-  const frames = async (act) => {
-    const times = [];
-    for (let k = 0, last = performance.now(); k < 120; k++) {
-      act();
-      await new Promise(requestAnimationFrame);
-      times.push(performance.now() - last);
-      last = performance.now();
-    }
-    return times.sort((a, b) => a - b);
-  };
-  const before = rows.toDataURL();
-  const wheel = await frames(() => rows.dispatchEvent(new WheelEvent('wheel',
-    { deltaX: 40, cancelable: true, bubbles: true })));
-  const moved = before !== rows.toDataURL();
-  const key = await frames(() => rows.dispatchEvent(new KeyboardEvent('keydown',
-    { key: 'ArrowLeft', cancelable: true, bubbles: true })));
-  return { wheel, key, moved };
-})()`;
-
-function hex3(number) {
-  return number.toString(16).toUpperCase().padStart(3, '0');
 }
 
 // --- Over http, and what leaves the page ---
@@ -898,8 +837,8 @@ async function testTour() {
   expect('and a picture is torn', true, await comesInTour('3 of 3: Torn'));
   expect('so say both verdicts', VERDICTS.torn, await verdicts());
   expect('the run has ended', 'Run', await tab.text('run'));
-  expect('what the colours and the ring mean is said', /Red came .* ring marks where the tear begins\. With the wire/,
-    await tab.text('tour-text'));
+  expect('what the colours and the ring mean is said',
+    /Red came .* ring marks where the tear begins\. With the wire/, await tab.text('tour-text'));
   expect('the tear is told',
     /^Event ([0-9]+) wrote .. over .. into byte .*Event [0-9]+ read that word/,
     await tab.text('tear-text'));
