@@ -957,14 +957,17 @@ async function testKeys() {
 
 async function testRows() {
   await openPage();
+  await set('count', 3400);
+  await tab.click('once');
+  await set('count', 20000);
   await tab.click('zoom-all');
   const { left, top: y, width, height } = await tab.middle('rows');
   await tab.clickAt(left + width / 2, y + height / 2);
-  expect('a click shows that moment', /^Event 1[23][0-9][0-9] of 2600/,
+  expect('a click shows that moment', /^Event (29|30)[0-9][0-9] of 6000/,
     await tab.text('moment-text'));
   await tab.click('zoom-in');
   await tab.click('zoom-in');
-  expect('zoomed in, it is still there', /^Event 1[23][0-9][0-9] of 2600/,
+  expect('zoomed in, it is still there', /^Event (29|30)[0-9][0-9] of 6000/,
     await tab.text('moment-text'));
   await tab.click('picture-back');
   expect('the picture before', /: done /, await tab.text('moment-text'));

@@ -236,6 +236,32 @@ function testMomentLogs() {
     `${picture.early} ${picture.seen} ${picture.torn}`);
 }
 
+// Small logs: how many bytes of the run are early, how many show, whether it is torn, and how many
+// lines read what was not written.
+const RUNS = [
+  ['written after it was read', 'low 001 64|wrote 002 C8|fetched 001 A064', '1 0 false 0'],
+  ['read after it was written', 'wrote 002 C8|low 001 C8|fetched 001 A0C8', '1 1 false 0'],
+  ['written as it was', 'low 001 64|fetched 001 A064|wrote 006 00|low 003 00', '1 0 false 0'],
+  ['into the other half', 'wrote 402 C8|low 001 64|fetched 001 A064', '0 0 false 0'],
+  ['read, and both written', 'fetched 001 A064|wrote 002 C8|wrote 004 90|fetched 002 3090',
+    '2 1 true 0'],
+  ['not what was written', 'fetched 001 A0C8', '0 0 false 1'],
+];
+
+function testRuns() {
+  const frame = ['wrote 000 01', 'wrote 001 E0', 'wrote 002 64', 'wrote 003 A0', 'wrote 004 80',
+    'wrote 005 30', 'wrote 006 00', 'wrote 007 B0'];
+  const recorded = (lines) => new Recording('a log', Buffer.from(`${lines.join('\n')}\n`),
+    new Drawer(engine));
+  for (const [what, lines, wanted] of RUNS) {
+    const { pictures: [{ early, seen, torn }], runs } = recorded([...frame, 'started',
+      'low 000 01', 'fetched 000 E001', ...lines.split('|'), 'halted']);
+    expect(`a run: ${what}`, wanted, `${early} ${seen} ${torn} ${runs.contradictions}`);
+  }
+  const reset = recorded([...frame, 'reset', 'started', 'fetched 000 E201', 'halted']);
+  expect('a reset makes void what was told', 0, reset.runs.contradictions);
+}
+
 const TORN = /^torn at line ([0-9]+): (.*)\nso far: [0-9]+ runs, .*[0-9]+ writes\n$/;
 
 // With the wire cut, pictures are torn, and `torn` finds the first byte.
@@ -270,6 +296,10 @@ function testProportions() {
       anew.abandoned > 0 && anew.left.length === anew.abandoned);
     expect(`wire cut, in proportions, seed ${seed}: no picture is torn`, 0,
       anew.pictures.filter(({ early }) => early > 0).length);
+    const there = new Recording('a log', anew.tornLog.text, new Drawer(engine));
+    const areMarked = ({ left, signs }) => left.every((at) => signs[at] === SIGN.ANEW);
+    expect(`wire cut, in proportions, seed ${seed}: where runs begin anew`, 'true true',
+      `${areMarked(anew)} ${there.left.length > 0 && areMarked(there)}`);
     const end = anew.left.at(-1), { left } = momentOf(anew, end + 1);
     expect(`seed ${seed}: an abandoned run is told`, true, left !== null && left.words.length > 0);
     const ignored = runBoard(HOWS['in proportions, strobes ignored'](seed), 20000, true);
@@ -663,6 +693,7 @@ testTwin();
 testSchedules();
 testCutWire();
 testMomentLogs();
+testRuns();
 testProportions();
 testHalves();
 testLongTrace();
