@@ -623,8 +623,8 @@ async function testLongLog() {
     for (let k = 0; k < 50; k++) document.getElementById('back').click();
     return (performance.now() - begin) / 50;
   })()`);
-  console.log(`browser: ${movesText(moves)}; of the main thread each takes ${task.toFixed(1)} ms on `
-    + `average, with layout and paint; a step back ${walk.toFixed(1)} ms`);
+  console.log(`browser: ${movesText(moves)}; of the main thread each takes ${task.toFixed(1)} ms `
+    + `on average, with layout and paint; a step back ${walk.toFixed(1)} ms`);
   expect('a wheel moves the rows', true, moves.moved);
   for (const name of ['drag', 'wheel', 'key']) {
     expect(`a frame by ${name} takes less than ten times 17 ms`, true, moves[name][59] <= 170);
