@@ -821,7 +821,7 @@ async function testCode() {
 
 // Whether the tour comes to a step, which takes some seconds.
 function comesInTour(title) {
-  return tab.until(`document.getElementById('tour-title').textContent === '${title}'`, 40000);
+  return tab.until(`document.getElementById('tour-title').textContent === '${title}'`, 90000);
 }
 
 async function testTour() {

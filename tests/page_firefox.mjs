@@ -11,7 +11,7 @@ import { DROP_LONG_LOG, MOVE_OVER_IT, movesText } from './page_long.mjs';
 
 const [firefox, work] = process.argv.slice(2);
 const address = `file://${new URL('../page/dvg.html', import.meta.url).pathname}`;
-const WAIT = 30000, COLON = 58;
+const WAIT = 90000, COLON = 58;
 let passed = 0, failed = 0;
 
 function expect(what, wanted, found) {

@@ -48,7 +48,7 @@ const ROWS_TOUR_SCALE = 0.4;
 /* While it runs, how often the log is judged, and texts are shown, in milliseconds. */
 const JUDGE_EVERY = 500, TEXTS_EVERY = 100;
 /* A frame of the animation makes up for at most so many milliseconds. */
-const MOST_PASSED = 50;
+const MOST_PASSED = 200;
 
 let engine, drawer, tube, board, schedule = null, running = false;
 /* What is shown: the board, or a recording of what happened elsewhere. */

@@ -79,7 +79,7 @@ export class Rows {
     this.drawTexts(board.length, colors);
   }
 
-  /* Each row as spans of one colour. */
+  /* Each row as spans of one colour. An early byte that shows is at least three pixels wide. */
   drawColumns(board, from, to, colors) {
     const count = Math.ceil(this.width) + 1;
     const columns = [new Uint8Array(count), new Uint8Array(count)];
@@ -91,8 +91,8 @@ export class Rows {
       const x = Math.floor((k - this.first) * this.scale);
       for (let dx = Math.max(0, -x); dx < wide && x + dx < count; dx++) {
         if (STRENGTH[area] > STRENGTH[columns[row][x + dx]]) columns[row][x + dx] = area;
-        const mark = board.signs[k] === SIGN.SEEN ? 2 : Number(board.signs[k] === SIGN.EARLY);
-        if (mark > early[x + dx]) early[x + dx] = mark;
+        if (board.signs[k] === SIGN.EARLY) early[x + dx] = Math.max(1, early[x + dx]);
+        if (board.signs[k] === SIGN.SEEN) early.fill(2, Math.max(0, x + dx - 1), x + dx + 2);
       }
     }
     const [first, second] = this.tops, height = this.rowHeight;

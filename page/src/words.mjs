@@ -53,7 +53,7 @@ export function momentsVerdict(pictures, runs) {
 /* What is said of the runs that were abandoned, each in one of these events. */
 export function leftVerdict(left) {
   return { word: left.length === 0 ? '' : 'Abandoned', at: left.at(-1),
-    text: `: ${counted(left.length, 'run')}, each shown in part.` };
+    text: `: ${counted(left.length, 'run')}, cut short.` };
 }
 
 /* A verdict by halves: its word, and how many bytes came early. */
