@@ -170,8 +170,8 @@ async function testBeginning() {
 }
 
 // How long it takes from the beginning of a navigation until the page can be used, by the clock;
-// and how much of that the page's own thread was at work. Both are printed, to be read; what is
-// judged is ten times as slow, as a busy machine mustn't fail the tests.
+// and how much of that the page's own thread was at work. Both are printed; only the second is
+// judged, as a busy machine mustn't fail the tests.
 async function testOpening() {
   await tab.send('Performance.disable');
   await tab.send('Performance.enable', { timeDomain: 'threadTicks' });
@@ -188,8 +188,7 @@ async function testOpening() {
   for (const times of [clock, work]) times.sort((a, b) => a - b);
   console.log(`browser: the page opens in ${clock[0]} to ${clock[6]} ms, ${clock[3]} at the `
     + `median; its thread works ${work[0]} to ${work[6]} ms of that, and a little after`);
-  expect('the page opens in less than ten times 300 ms', true, clock[0] <= 3000);
-  expect('and its thread works less than 300 ms of that, at the median', true, work[3] <= 300);
+  expect('the thread of the page works less than 300 ms until it is open', true, work[3] <= 300);
 }
 
 // How long the page's thread was at work so far, in milliseconds.
