@@ -855,6 +855,7 @@ async function testTour() {
   await tab.click('tear-go');
   expect('the byte is shown', /into the half that is being drawn, and it shows\.$/,
     await tab.text('moment-text'));
+  expect('and the tear is still told', /^Event ([0-9]+) wrote /, await tab.text('tear-text'));
   await tab.click('tear-back');
   expect('and the picture again', /: done /, await tab.text('moment-text'));
   await tab.click('tour-again');

@@ -192,10 +192,15 @@ class Tab {
     await this.send('Input.dispatchKeyEvent', { type: 'keyUp', ...event });
   }
 
-  // Puts a text in place of what stands in a field, by the keyboard.
+  // Puts a text in place of what stands in a field, by the keyboard. A browser takes seconds to
+  // replace thousands of lines, so those are removed before.
   async type(id, text) {
     await this.click(id);
-    await this.value(`document.getElementById('${id}').select()`);
+    await this.value(`(() => {
+      const field = document.getElementById('${id}');
+      if (field.value.length > 9999) field.value = '';
+      field.select();
+    })()`);
     await this.send('Input.insertText', { text });
   }
 

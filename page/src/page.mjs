@@ -380,7 +380,13 @@ function showTexts(moment) {
   showInstruction(moment);
   if (running) return;
   byId('rows').setAttribute('aria-valuetext', momentText(shown, at));
-  showTear(moment.picture);
+  showTear(tornPicture(moment));
+}
+
+/* The picture whose tear is told: that of the open run, if it will have one, or the newest. */
+function tornPicture({ picture, run: open }) {
+  const later = shown.pictures.find(({ from }) => from === open?.from) ?? null;
+  return tearNow(later) === null ? picture : later;
 }
 
 /* Why Run is grey, or '' where it isn't. */
