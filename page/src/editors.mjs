@@ -142,9 +142,10 @@ export class DraftEditor extends Editor {
 
   /* Draws the next frame beside the text, as strokes that `strokesOf` makes of its lines. */
   drawNext(strokesOf) {
-    if (this.frames.length === 0) return;
-    const { lines } = this.frames[this.shown++ % this.frames.length];
-    drawSmall(this.preview, strokesOf(lines), 0);
+    const { length } = this.frames, frame = this.frames[this.shown++ % Math.max(1, length)];
+    if (length === 0 || frame === this.drawn) return;
+    this.drawn = frame;
+    drawSmall(this.preview, strokesOf(frame.lines), 0);
   }
 
   /* The frame whose turn it is to be offered by hand. */

@@ -809,15 +809,24 @@ function drawPreviews() {
   }
 }
 
-/* While the editors are in sight their frames are drawn in turn; without motion the first ones. */
+/* While the editors are in sight their frames are drawn in turn, as fast as the browser can show
+ * them, or at this rate; without motion the first ones. */
 function showPreviews() {
   const still = matchMedia('(prefers-reduced-motion: reduce)').matches;
-  let timer = null;
+  let isSeen = false, drawnAt = 0;
+  const draw = (now) => {
+    if (!isSeen) return;
+    if (now - drawnAt >= 1000 / PREVIEW_RATE) {
+      drawnAt = now;
+      drawPreviews();
+    }
+    if (!still) requestAnimationFrame(draw);
+  };
   new IntersectionObserver(([{ isIntersecting }]) => {
-    clearInterval(timer);
     if (isIntersecting) [editorA, editorB].forEach((editor) => editor.see());
-    if (isIntersecting) drawPreviews();
-    timer = isIntersecting && !still ? setInterval(drawPreviews, 1000 / PREVIEW_RATE) : null;
+    const begins = isIntersecting && !isSeen;
+    isSeen = isIntersecting;
+    if (begins) requestAnimationFrame(draw);
   }).observe(byId('A'));
 }
 
