@@ -15,5 +15,4 @@ mod said;
 pub use checks::check_sketch;
 pub use drawn::Drawn;
 pub use engine::draw_sketch;
-pub use frames::draw_frames;
 pub use said::Said;

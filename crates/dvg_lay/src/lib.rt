@@ -12,7 +12,6 @@ mod engine;
 mod form;
 pub mod laws;
 mod laying;
-mod lent;
 mod names;
 mod refusal;
 mod said;
@@ -21,8 +20,7 @@ mod text;
 
 pub use checking::{good_frame, tell_long};
 pub use engine::{lay_sketch, tool_fault};
-pub use form::{Form, Laid, lay};
-pub use laying::{lay_bytes, lay_names, lay_rom, lay_tables};
-pub use lent::are_lent;
+pub use form::{Form, Laid};
+pub use laying::lay_tables;
 pub use refusal::{Blamed, Reason, Refusal, Unlaid};
 pub use table::put_laid;

@@ -17,7 +17,7 @@ use std::alloc::Allocator;
 
 /// Where the operations of a frame stand in the list of those of all frames.
 #[derive(Clone, Copy)]
-pub struct FrameSpan<'a> {
+pub(crate) struct FrameSpan<'a> {
     /// The name of the frame, if it has one.
     pub name: Option<&'a [u8]>,
     /// The line that begins it.
@@ -30,7 +30,7 @@ pub struct FrameSpan<'a> {
 
 /// The operations of all frames, in order, each with its line, and where those of each frame stand.
 #[derive(Drop)]
-pub struct JoinedFrames<'a, A: Allocator> {
+pub(crate) struct JoinedFrames<'a, A: Allocator> {
     /// All operations.
     pub ops: Vec<Op, A>,
     /// The line of each operation.
@@ -41,7 +41,7 @@ pub struct JoinedFrames<'a, A: Allocator> {
 
 /// Returns the drafts of `frames`, with the names of the ROM from `rom`. Returns `Ungiven` where
 /// one needs a name that isn't given, and `Memory` where an allocation fails.
-pub fn join_frames<'a, A: Allocator + Copy>(
+pub(crate) fn join_frames<'a, A: Allocator + Copy>(
     alloc: A,
     frames: &[FrameRows<'_, 'a>],
     rom: &LaidNames<'_, '_, '_, A>,
