@@ -17,7 +17,7 @@ use std::alloc::Allocator;
 
 /// Where the operations of a frame stand in the list of those of all frames.
 #[derive(Clone, Copy)]
-pub(crate) struct FrameSpan<'a> {
+pub struct FrameSpan<'a> {
     /// The name of the frame, if it has one.
     pub name: Option<&'a [u8]>,
     /// The line that begins it.
@@ -30,7 +30,7 @@ pub(crate) struct FrameSpan<'a> {
 
 /// The operations of all frames, in order, each with its line, and where those of each frame stand.
 #[derive(Drop)]
-pub(crate) struct JoinedFrames<'a, A: Allocator> {
+pub struct JoinedFrames<'a, A: Allocator> {
     /// All operations.
     pub ops: Vec<Op, A>,
     /// The line of each operation.

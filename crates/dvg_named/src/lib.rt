@@ -25,5 +25,6 @@ mod unknown;
 
 pub use dvg_rows::{Doing, Head, MAX_TOKENS, Row, Source, read_head, read_row, tokens_of};
 pub use fault::{NamedFault, SketchFault};
+pub use joining::{FrameSpan, JoinedFrames};
 pub use meaning::{NamedFrame, RomName};
 pub use sketch::{Sketch, read_sketch};
