@@ -6,13 +6,15 @@
  * in each order, and each has an answer: no request can do harm. The functions below it only put
  * requests together and take answers apart.
  *
- * What opens in a device is one of three:
+ * What opens in a device is one of four:
  *
  *   a world             both ends, over a RAM and a ROM that it holds
  *   a driver alone      it is handed the HALT flag and byte 001 of a RAM, and answers what is to
  *                       be written there
  *   a generator alone   it says which byte it wants, is handed that byte, and answers the strokes
  *                       of a whole run
+ *   a judge             it is told the log of any system, a line at a time, and says of each run
+ *                       whether it is of one moment
  *
  * What the caller owes. Nothing checks these four lines, and nothing else is trusted of a caller:
  *
@@ -120,7 +122,9 @@ enum dvg_request {
     DVG_REQUEST_STROKES = 17,
     DVG_REQUEST_STROKE_FROM = 18,
     DVG_REQUEST_STROKE_TO = 19,
-    DVG_REQUEST_STROKE_INTENSITY = 20
+    DVG_REQUEST_STROKE_INTENSITY = 20,
+    DVG_REQUEST_OPEN_JUDGE = 21,
+    DVG_REQUEST_TELL = 22
 };
 
 /* The kind of an answer, with what its address and its value are; both are 0 where nothing is said
@@ -165,6 +169,13 @@ typedef enum dvg_kind {
     DVG_CLOSED = 24,           /*   nothing is open */
     DVG_WANTED = 25,           /* = a byte of the word at this word address is wanted; value:
                                     1 the high one, 0 the low one */
+    DVG_NO_RUN = 26,           /*   a judge was told a line, and no run is open; of this answer
+                                    and the next four, value: 1 where the line reads what was
+                                    not written, else 0 */
+    DVG_ONE_MOMENT = 27,       /*   the same, and the open run is of one moment so far */
+    DVG_NO_MOMENT = 28,        /*   the same, and no moment of the open run is left */
+    DVG_WHOLE = 29,            /*   the line is the HALT of a run of one moment */
+    DVG_TORN = 30,             /*   the line is the HALT of a run of no moment */
     DVG_UNKNOWN = 254,         /* = there is no such request, whatever is open, or none of
                                     what is open */
     DVG_NO_MEMORY = 255        /* = there was no memory for it */
@@ -280,6 +291,11 @@ static inline const char *dvg_kind_text(dvg_kind kind)
     case DVG_WRONG_SIZE: return "wrong size";
     case DVG_CLOSED: return "closed";
     case DVG_WANTED: return "wanted";
+    case DVG_NO_RUN: return "no run";
+    case DVG_ONE_MOMENT: return "one moment";
+    case DVG_NO_MOMENT: return "no moment";
+    case DVG_WHOLE: return "whole";
+    case DVG_TORN: return "torn";
     case DVG_UNKNOWN: return "unknown";
     case DVG_NO_MEMORY: return "no memory";
     }
@@ -407,6 +423,12 @@ static inline dvg_answer dvg_open_driver(dvg *device, const uint8_t *rom, size_t
 static inline dvg_answer dvg_open_generator(dvg *device)
 {
     return dvg_ask(device, DVG_REQUEST_OPEN_GENERATOR);
+}
+
+/* Opens a judge of moments, which was told nothing. DVG_OPENED; DVG_NO_MEMORY. */
+static inline dvg_answer dvg_open_judge(dvg *device)
+{
+    return dvg_ask(device, DVG_REQUEST_OPEN_JUDGE);
 }
 
 /* Shuts what is open, and gives its memory back, with the draft, the staged bytes and the strokes:
@@ -607,6 +629,75 @@ static inline dvg_answer dvg_reset_processor(dvg *device)
 static inline dvg_answer dvg_reset_all(dvg *device, const uint8_t *ram)
 {
     return dvg_ask_staged(device, dvg_stage_ram(device, ram), DVG_REQUEST_RESET_ALL);
+}
+
+/* --- A judge --- */
+
+/* A run of the generator is of one moment if there is a moment of it such that no byte which it
+ * reads changes between that moment and its reading. A byte changes where one is written that isn't
+ * what the log told of it last; of a byte that nothing was told of, each write is a change. A run
+ * of one moment drew what a run over that moment's memory draws. Another one is torn.
+ *
+ * A judge is told the log of any system, in order, each line when it happens: each write of the
+ * vector memory and each fetch. Each of these answers how the newest run stands then: DVG_NO_RUN;
+ * DVG_ONE_MOMENT; DVG_NO_MOMENT, from the line on at which no moment is left; and where the line is
+ * a HALT, DVG_WHOLE or DVG_TORN. In the value 1 says that the line reads what was not written:
+ * somebody writes who isn't in the log.
+ *
+ * Asked of a judge, dvg_reset_generator and dvg_reset_processor say that this reset was done, and
+ * answer as these do. The first one also serves where a run ends by a fault. */
+
+/* A line by its kind, with its address and its value, as a world answers an event. A kind that says
+ * nothing of memory or of a run is passed over, but for DVG_CLEARED, which doesn't say what was
+ * reset: that and what is no kind of an event's answer is DVG_UNKNOWN. */
+static inline dvg_answer dvg_judge_line(dvg *device, dvg_kind kind, uint16_t address,
+                                        uint16_t value)
+{
+    uint64_t line = (uint64_t)kind | (uint64_t)address << 8 | (uint64_t)value << 24;
+    return dvg_ask(device, DVG_REQUEST_TELL | line << 8);
+}
+
+/* A line that is the answer of a world or of an end alone to an event. Of a reset ask for the reset
+ * instead. */
+static inline dvg_answer dvg_judge_answer(dvg *device, dvg_answer answer)
+{
+    return dvg_judge_line(device, answer.kind, answer.address, answer.value);
+}
+
+/* A strobe began a run. */
+static inline dvg_answer dvg_judge_started(dvg *device)
+{
+    return dvg_judge_line(device, DVG_STARTED, 0, 0);
+}
+
+/* A byte was written, at a byte address. Outside the RAM, from 0x800 on, that changes nothing. */
+static inline dvg_answer dvg_judge_wrote(dvg *device, uint16_t address, uint8_t byte)
+{
+    return dvg_judge_line(device, DVG_WROTE, address, byte);
+}
+
+/* The low byte of the word at a word address was fetched, and its high byte comes later. */
+static inline dvg_answer dvg_judge_low(dvg *device, uint16_t address, uint8_t byte)
+{
+    return dvg_judge_line(device, DVG_LOW, address, byte);
+}
+
+/* The word at a word address was fetched, or its high byte after dvg_judge_low. The run goes on. */
+static inline dvg_answer dvg_judge_fetched(dvg *device, uint16_t address, uint16_t word)
+{
+    return dvg_judge_line(device, DVG_FETCHED, address, word);
+}
+
+/* The same, and the word is the HALT that ended the run. */
+static inline dvg_answer dvg_judge_done(dvg *device, uint16_t address, uint16_t word)
+{
+    return dvg_judge_line(device, DVG_DONE, address, word);
+}
+
+/* The whole system was reset. The run is over, and what was told of memory is void. */
+static inline dvg_answer dvg_judge_reset(dvg *device)
+{
+    return dvg_ask(device, DVG_REQUEST_RESET_ALL);
 }
 
 /* --- Strokes --- */

@@ -91,6 +91,12 @@ public:
     Generator() { expect_opened(dvg_open_generator(*this)); }
 };
 
+/* A judge of moments. std::bad_alloc. */
+class Judge : public Device {
+public:
+    Judge() { expect_opened(dvg_open_judge(*this)); }
+};
+
 } // namespace gerbilargent
 
 #endif

@@ -17,6 +17,7 @@ first. This module itself is tested, not proved.
     World       both ends, over a RAM and a ROM that it holds
     Driver      the driver alone: it says what is to be written into a RAM of yours
     Generator   the generator alone: it is handed the bytes of a RAM and a ROM of yours
+    MomentJudge whether each run in the log of any system is of one moment, a line at a time
     Draft       the operations of a frame
     picture     what a dump of the vector memory draws
     judge       whether the log of any system tears a picture; Judge takes one line at a time
@@ -56,9 +57,10 @@ from typing import Iterable, Iterator, NamedTuple, Optional, TypeVar, Union
 __all__ = [
     "BadByte", "BadLog", "BadOperation", "Break", "Busy", "Closed", "Draft", "DraftFull",
     "DraftRefused", "Driver", "Endless", "Entry", "Error", "Event", "Fault", "Generator", "Halted",
-    "Judge", "Kind", "LibraryMissing", "NoBytes", "NoEvent", "NoInteger", "NothingPublished",
-    "NoStrobe", "OutOfMemory", "RETURNS", "RunBroke", "Stroke", "Picture", "Torn", "Verdict",
-    "World", "WrongOrder", "WrongSize", "WrongThread", "Wanted", "judge", "picture", "svg",
+    "Judge", "Kind", "LibraryMissing", "MomentJudge", "NoBytes", "NoEvent", "NoInteger",
+    "NothingPublished", "NoStrobe", "OutOfMemory", "RETURNS", "RunBroke", "Stroke", "Picture",
+    "Torn", "Verdict", "World", "WrongOrder", "WrongSize", "WrongThread", "Wanted", "judge",
+    "picture", "svg",
 ]
 
 __version__ = "0.9.0"
@@ -114,6 +116,11 @@ class Kind(enum.IntEnum):
     WRONG_SIZE = 23
     CLOSED = 24
     WANTED = 25
+    NO_RUN = 26
+    ONE_MOMENT = 27
+    NO_MOMENT = 28
+    WHOLE = 29
+    TORN = 30
     UNKNOWN = 254
     NO_MEMORY = 255
 
@@ -262,7 +269,7 @@ class NoEvent(Error, TypeError):
 
 
 class BadByte(Error, ValueError):
-    """A byte isn't 0 to 255, or a byte address isn't one of the RAM."""
+    """A byte isn't 0 to 255, a word or an address of more bits than 16, or none of the RAM."""
 
 
 class BadOperation(Error, ValueError):
@@ -412,6 +419,8 @@ class _Request(enum.IntEnum):
     STROKE_FROM = 18
     STROKE_TO = 19
     STROKE_INTENSITY = 20
+    OPEN_JUDGE = 21
+    TELL = 22
 
 
 #: What is asked of each stroke, as numbers.
@@ -446,6 +455,14 @@ def _byte(value: int) -> int:
     if not 0 <= byte <= 255:
         raise BadByte(f"{value} isn't 0 to 255")
     return byte
+
+
+def _of_16_bits(value: int) -> int:
+    """The address or the word, where it has at most 16 bits."""
+    number = _whole("a number", value)
+    if not 0 <= number <= 0xFFFF:
+        raise BadByte(f"{number} isn't 0 to 65,535")
+    return number
 
 
 def _bytes(name: str, held: Bytes) -> bytes:
@@ -1010,6 +1027,76 @@ class World(_Device):
         if entry.kind is Kind.READ and not entry.value:
             self._let_finish()
         return entry
+
+
+class MomentJudge(_Device):
+    """Judges whether each run in a log is of one moment: the log of any system, told line by line.
+
+    A run is of one moment if there is a moment of it such that no byte which it reads changes
+    between that moment and its reading. A byte changes where one is written that isn't what the log
+    told of it last; of a byte that nothing was told of, each write is a change.
+
+    Each call tells one line, and answers an Entry, whose kind says how the newest run stands then:
+
+        NO_RUN       no run is open
+        ONE_MOMENT   the open run is of one moment so far
+        NO_MOMENT    no moment of the open run is left
+        WHOLE        the line is the HALT of a run of one moment
+        TORN         the line is the HALT of a run of no moment
+
+    Its value is 1 where the line reads what was not written, so that somebody writes who isn't in
+    the log; else 0. What it says is proved, as the judge of the library is.
+    """
+
+    def __init__(self) -> None:
+        super().__init__()
+        self._ask(_Request.OPEN_JUDGE)
+
+    def tell(self, entry: Entry) -> Entry:
+        """A line that is what came of an event of a World, a Driver or a Generator.
+
+        Of a reset call the reset instead: a CLEARED, which doesn't say what was reset, is a
+        NoEvent, as is what comes of no event.
+        """
+        told = self._tell(entry.kind, entry.address, entry.value)
+        if told.kind is Kind.UNKNOWN:
+            raise NoEvent(f"{entry.kind.text!r} is no line of a log")
+        return told
+
+    def started(self) -> Entry:
+        """A strobe began a run."""
+        return self._tell(Kind.STARTED)
+
+    def wrote(self, address: int, byte: int) -> Entry:
+        """A byte was written, at a byte address; from 800 (hexadecimal) on it changes nothing."""
+        return self._tell(Kind.WROTE, _of_16_bits(address), _byte(byte))
+
+    def low(self, address: int, byte: int) -> Entry:
+        """The low byte of the word at a word address was fetched; its high byte comes later."""
+        return self._tell(Kind.LOW, _of_16_bits(address), _byte(byte))
+
+    def fetched(self, address: int, word: int) -> Entry:
+        """The word at a word address was fetched, or the rest of it after `low`. The run goes on."""
+        return self._tell(Kind.FETCHED, _of_16_bits(address), _of_16_bits(word))
+
+    def done(self, address: int, word: int) -> Entry:
+        """The same, and the word is the HALT that ended the run: WHOLE or TORN."""
+        return self._tell(Kind.DONE, _of_16_bits(address), _of_16_bits(word))
+
+    def reset_generator(self) -> Entry:
+        """The generator was reset, or its run ended by a fault: without a picture."""
+        return self._ask(_Request.RESET_GENERATOR)
+
+    def reset_processor(self) -> Entry:
+        """The processor was reset, which says nothing of memory or of a run."""
+        return self._ask(_Request.RESET_PROCESSOR)
+
+    def reset_all(self) -> Entry:
+        """The whole system was reset. The run is over, and what was told of memory is void."""
+        return self._ask(_Request.RESET_ALL)
+
+    def _tell(self, kind: Kind, address: int = 0, value: int = 0) -> Entry:
+        return self._ask(_Request.TELL, int(kind) << 8 | address << 16 | value << 32)
 
 
 def _requests_of(events: "Iterable[Union[Event, Draft]]") -> "tuple[array[int], bytearray]":

@@ -126,6 +126,7 @@ static void test_bound(size_t bound)
         done = dvg_stage_bytes(device, rom, sizeof rom).kind == DVG_STAGED && done;
         done = dvg_stage_bytes(device, ram, sizeof ram).kind == DVG_STAGED && done;
         done = dvg_open_generator(device).kind == DVG_OPENED && done;
+        done = dvg_open_judge(device).kind == DVG_OPENED && done;
     }
     expect(done, "what is tried is done");
     printf("a device takes %zu bytes at most\n", most);
@@ -247,10 +248,10 @@ static void test_driver_without_memory(dvg *device)
 static void test_unknown(dvg *device)
 {
     expect(dvg_tick(device).kind == DVG_CLOSED, "nothing is open");
-    expect(dvg_ask(device, 21).kind == DVG_UNKNOWN, "no request, while nothing is open");
+    expect(dvg_ask(device, 23).kind == DVG_UNKNOWN, "no request, while nothing is open");
     expect(dvg_ask(device, 0x12FF).kind == DVG_UNKNOWN, "another one");
     dvg_open_generator(device);
-    expect(dvg_ask(device, 21).kind == DVG_UNKNOWN, "no request, while a generator is open");
+    expect(dvg_ask(device, 23).kind == DVG_UNKNOWN, "no request, while a generator is open");
     expect(dvg_offer(device).kind == DVG_UNKNOWN, "an offer to a generator");
 }
 

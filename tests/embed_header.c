@@ -81,6 +81,20 @@ static void test_events(dvg *none)
     ASKS(16, dvg_wants(none));
 }
 
+static void test_judge(dvg *none)
+{
+    dvg_answer low = {DVG_LOW, 0xABC, 0xEF};
+    ASKS(21, dvg_open_judge(none));
+    ASKS(0x0A16, dvg_judge_started(none));
+    ASKS(0x00A507FF0616, dvg_judge_wrote(none, 0x7FF, 0xA5));
+    ASKS(0x00EF0ABC0C16, dvg_judge_low(none, 0xABC, 0xEF));
+    ASKS(0x00EF0ABC0C16, dvg_judge_answer(none, low));
+    ASKS(0xE2010FFF0D16, dvg_judge_fetched(none, 0xFFF, 0xE201));
+    ASKS(0xB00002050E16, dvg_judge_done(none, 0x205, 0xB000));
+    ASKS(0xFFFFFFFFFF16, dvg_judge_line(none, (dvg_kind)255, 0xFFFF, 0xFFFF));
+    ASKS(7, dvg_judge_reset(none));
+}
+
 static void test_operations(dvg *none)
 {
     ASKS(9, dvg_clear(none));
@@ -247,6 +261,11 @@ static void test_kind_texts(void)
     TEXT(dvg_kind_text, DVG_WRONG_SIZE, "wrong size");
     TEXT(dvg_kind_text, DVG_CLOSED, "closed");
     TEXT(dvg_kind_text, DVG_WANTED, "wanted");
+    TEXT(dvg_kind_text, DVG_NO_RUN, "no run");
+    TEXT(dvg_kind_text, DVG_ONE_MOMENT, "one moment");
+    TEXT(dvg_kind_text, DVG_NO_MOMENT, "no moment");
+    TEXT(dvg_kind_text, DVG_WHOLE, "whole");
+    TEXT(dvg_kind_text, DVG_TORN, "torn");
     TEXT(dvg_kind_text, DVG_UNKNOWN, "unknown");
     TEXT(dvg_kind_text, DVG_NO_MEMORY, "no memory");
 }
@@ -271,7 +290,7 @@ static void test_other_texts(void)
     bool all = true;
     for (uint64_t number = 0; number < 256; number++) {
         const char *text = dvg_kind_text(dvg_answer_of(number).kind);
-        bool named = number <= DVG_WANTED || number >= DVG_UNKNOWN;
+        bool named = number <= DVG_TORN || number >= DVG_UNKNOWN;
         all = all && text != NULL && (strcmp(text, "no kind") == 0) != named;
     }
     expect(all, "each kind has a text, and a number that is none has 'no kind'");
@@ -406,6 +425,7 @@ int main(void)
 {
     dvg *none = NULL;
     test_events(none);
+    test_judge(none);
     test_operations(none);
     test_staging(none);
     test_answers(none);

@@ -133,6 +133,24 @@ static void use_generator(dvg *device)
     expect(dvg_strokes(device) == 100, "a stroke of the generator alone is lost");
 }
 
+/* A judge, in the place of the generator: of a run that is torn, and of one that is whole. */
+static void use_judge(dvg *device)
+{
+    TWICE(dvg_open_judge(device), dvg_wants(device), DVG_STILL);
+    expect(last.kind == DVG_OPENED && dvg_strokes(device) == 0, "no judge is open");
+    for (int i = 0; i < 2; i++) {
+        dvg_judge_started(device);
+        dvg_judge_fetched(device, 1, 0x0101);
+        expect(dvg_judge_wrote(device, 2, 5).kind == DVG_ONE_MOMENT, "a write tears");
+        if (i == 0) {
+            dvg_judge_wrote(device, 4, 7);
+        }
+        expect(dvg_judge_done(device, 2, 0x0107).kind == (i == 0 ? DVG_TORN : DVG_WHOLE),
+               "a run is misjudged");
+        dvg_judge_wrote(device, 2, 1);
+    }
+}
+
 /* A device's life in which one allocation is refused. Whether all was as it should be. */
 static bool live(void)
 {
@@ -149,6 +167,7 @@ static bool live(void)
     use_world(device);
     use_driver(device);
     use_generator(device);
+    use_judge(device);
     expect(dvg_shut(device).kind == DVG_CLOSED && living == own, "what was open isn't given back");
     use_world(device);
     dvg_free(device);

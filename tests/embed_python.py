@@ -212,6 +212,42 @@ def test_generator():
         )
 
 
+def test_moment_judge():
+    with g.MomentJudge() as judge:
+        kinds = [judge.started(), judge.fetched(1, 0x0101), judge.wrote(2, 5), judge.wrote(4, 7)]
+        kinds += [judge.low(2, 7), judge.fetched(2, 0x0107), judge.done(3, 0xB000)]
+        wanted = ["one moment"] * 4 + ["no moment"] * 2 + ["torn"]
+        expect_same(wanted, [str(entry) for entry in kinds], "a run that is torn, line by line")
+        expect_same([0] * 7, [entry.value for entry in kinds], "which reads what was written")
+        expect_same("no run", str(judge.wrote(2, 1)), "no run is open")
+        judge.started(), judge.fetched(1, 0x0101), judge.wrote(2, 5)
+        expect_same("whole", str(judge.done(2, 0x0107)), "a byte is written after its reading")
+        judge.started()
+        expect_same(g.Entry(Kind.ONE_MOMENT, 0, 1), judge.low(2, 8), "it reads what isn't there")
+        expect_same("no run", str(judge.reset_generator()), "a reset ends the run")
+        expect_same("no run", str(judge.reset_processor()), "and the processor is another thing")
+        judge.started(), judge.reset_all(), judge.started()
+        expect_same(g.Entry(Kind.ONE_MOMENT), judge.low(2, 9), "what was told is void")
+        expect_same(Kind.ONE_MOMENT, judge.wrote(0x800, 1).kind, "beyond the RAM nothing changes")
+        for call in (
+            lambda: judge.wrote(2, 256), lambda: judge.low(-1, 0), lambda: judge.done(0, 65536),
+            lambda: judge.fetched(65536, 0),
+        ):
+            expect_raises(g.BadByte, call)
+        expect_raises(g.NoInteger, lambda: judge.done(0.5, 0))
+        expect_raises(g.NoEvent, lambda: judge.tell(g.Entry(Kind.CLEARED)))
+        expect_same(Kind.ONE_MOMENT, judge.started().kind, "a refusal has told nothing")
+    expect_raises(g.Closed, judge.started)
+    with World() as world, g.MomentJudge() as judge:
+        world.draw(first_frame())
+        told = [judge.tell(entry).kind for entry in world.run([g.Event.TICK] * 3)]
+        expect_same([Kind.NO_RUN] * 3, told, "entries of a world are told as they are")
+        events = [Draft().labs(0, 0).vctr(9, 100, 100, 7).halt()]
+        events += [g.Event.TICK] * 20 + [g.Event.STROBE] + [g.Event.FETCH] * 40
+        told = [judge.tell(entry).kind for entry in world.run(events)]
+        expect_same(1, told.count(Kind.WHOLE), "a picture of a world is of one moment")
+
+
 # --- Each refusal ---
 
 
@@ -964,6 +1000,7 @@ test_world()
 test_freeing()
 test_driver()
 test_generator()
+test_moment_judge()
 test_refusals()
 test_no_memory()
 test_kinds()

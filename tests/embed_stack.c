@@ -22,6 +22,8 @@ static void *use(void *nothing)
         return NULL;
     }
     done = dvg_open_generator(device).kind == DVG_OPENED;
+    done = dvg_open_judge(device).kind == DVG_OPENED && done;
+    done = dvg_judge_started(device).kind == DVG_ONE_MOMENT && done;
     done = dvg_open_world(device, NULL, rom, sizeof rom).kind == DVG_OPENED && done;
     done = dvg_reset_all(device, NULL).kind == DVG_CLEARED && done;
     done = dvg_open_driver(device, rom, sizeof rom).kind == DVG_OPENED && done;

@@ -4,8 +4,8 @@
  *   embed_storm COUNT SEED
  *
  * Storm number i, from 0, comes from SEED + i alone. A storm begins with nothing open, with a
- * world, with a driver or with a generator, by turns. The first line of what is written says how
- * often each kind of answer came, and the last is 'N passed, M failed'.
+ * world, with a driver, with a generator or with a judge, by turns. The first line of what is
+ * written says how often each kind of answer came, and the last is 'N passed, M failed'.
  *
  * It is linked with the archive of the port and with the twin, twin/src/port.rs, and compiled
  * with a sanitizer: then what a device does with memory is watched, too.
@@ -130,7 +130,7 @@ static void fill_rom(void)
 
 /* --- Requests --- */
 
-/* What was opened last: nothing, a world, a driver or a generator. */
+/* What was opened last: nothing, a world, a driver, a generator or a judge. */
 static int opened = 0;
 
 /* Opens something. */
@@ -149,7 +149,8 @@ static void open_part(dvg *pair, int part)
         answer = dvg_open_world(pair, below(2) == 0 ? NULL : memory + below(6144), rom, length);
         break;
     case 2: answer = dvg_open_driver(pair, rom, length); break;
-    default: answer = dvg_open_generator(pair); break;
+    case 3: answer = dvg_open_generator(pair); break;
+    default: answer = dvg_open_judge(pair); break;
     }
     if (answer.kind == DVG_OPENED || answer.kind == DVG_CLOSED) {
         opened = part;
@@ -258,11 +259,39 @@ static void stage_random(dvg *pair)
     }
 }
 
+/* Tells a judge of a few lines, of few bytes: so a run reads and writes the same ones. */
+static void tell_lines(dvg *pair, int count)
+{
+    for (; count > 0; count--) {
+        uint16_t word = (uint16_t)(below(40) == 0 ? random_word() : (uint32_t)below(5));
+        uint16_t value = (uint16_t)(below(3) + 0x100 * below(3));
+        switch (below(16)) {
+        case 0: dvg_judge_started(pair); break;
+        case 1: dvg_judge_done(pair, word, value); break;
+        case 2:
+        case 3: dvg_judge_low(pair, word, (uint8_t)value); break;
+        case 4:
+        case 5:
+        case 6: dvg_judge_fetched(pair, word, value); break;
+        case 7: dvg_judge_line(pair, (dvg_kind)below(below(4) == 0 ? 256 : 20), word, value); break;
+        case 8:
+            pair_turn(pair, (uint64_t)(DVG_REQUEST_RESET_GENERATOR + below(3))
+                                | (uint64_t)word << 8);
+            break;
+        default: dvg_judge_wrote(pair, (uint16_t)(2 * word + below(2)), (uint8_t)value); break;
+        }
+    }
+}
+
 /* What mostly happens, by what is open. */
 static void blow_as_usual(dvg *pair)
 {
     int choice = below(6);
     bool has_driver = opened == 1 || opened == 2;
+    if (opened == 4) {
+        tell_lines(pair, 1 + below(40));
+        return;
+    }
     if (choice == 0 || (choice == 1 && opened == 2)) {
         offer_random(pair);
     } else if (choice == 1) {
@@ -278,7 +307,7 @@ static void blow_as_usual(dvg *pair)
 static void blow(dvg *pair)
 {
     switch (below(64)) {
-    case 0: open_part(pair, below(4)); break;
+    case 0: open_part(pair, below(5)); break;
     case 1: dvg_reset_all(pair, below(2) == 0 ? NULL : memory); break;
     case 2: dvg_reset_generator(pair); break;
     case 3: dvg_reset_processor(pair); break;
@@ -293,7 +322,7 @@ static void blow(dvg *pair)
     case 12: pair_turn(pair, (uint64_t)random_word() << 32 | random_word()); break;
     case 13:
         pair_turn(pair, (uint64_t)random_word() << 32 | (random_word() & 0xFFFFFF00)
-                            | (uint64_t)below(24));
+                            | (uint64_t)below(26));
         break;
     default: blow_as_usual(pair); break;
     }
@@ -314,8 +343,8 @@ static bool storm(uint64_t seed)
         printf("FAILED: no device was made\n");
         return false;
     }
-    if (seed % 4 != 0) {
-        open_part(&pair, (int)(seed % 4));
+    if (seed % 5 != 0) {
+        open_part(&pair, (int)(seed % 5));
     }
     for (int i = 0; i < BLOWS && equal; i++) {
         blow(&pair);
@@ -332,7 +361,7 @@ static bool storm(uint64_t seed)
 static bool all_kinds_came(void)
 {
     bool all = true;
-    for (int kind = DVG_OFFERED; kind <= DVG_WANTED; kind++) {
+    for (int kind = DVG_OFFERED; kind <= DVG_TORN; kind++) {
         if (kinds[kind] == 0) {
             printf("FAILED: no request was answered %d\n", kind);
             all = false;

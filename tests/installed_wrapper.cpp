@@ -10,6 +10,7 @@ using gerbilargent::Bytes;
 using gerbilargent::Device;
 using gerbilargent::Driver;
 using gerbilargent::Generator;
+using gerbilargent::Judge;
 using gerbilargent::World;
 
 static_assert(!std::is_copy_constructible<World>::value, "a world isn't copied");
@@ -57,6 +58,8 @@ int main() {
     World first(ram, rom);
     expect(first.strokes().empty(), "a new world has drawn nothing");
     draw(first);
+    Judge judge;
+    expect(dvg_judge_started(judge).kind == DVG_ONE_MOMENT, "a judge is told a line");
     World world(std::move(first));
     expect(first == nullptr, "nothing is left where it moved from");
     const std::vector<dvg_stroke> strokes = world.strokes();

@@ -8,7 +8,8 @@ those that they use.
 import re
 
 # Where a name of the port isn't that of the Rust sources.
-OTHER_NAMES = {"CLEAR_DRAFT": "CLEAR", "CLOSE": "SHUT", "COUNT_STROKES": "STROKES", "WANTS": "WANTED"}
+OTHER_NAMES = {"CLEAR_DRAFT": "CLEAR", "CLOSE": "SHUT", "COUNT_STROKES": "STROKES", "WANTS": "WANTED",
+               "TELLING": "TELL"}
 LIMITS = {
     "RAM_BYTES": ("dvg_mem/src/lib.rt", "MEMORY_BYTES"),
     "ROM_BYTES": ("dvg_mem/src/lib.rt", "MEMORY_BYTES"),
@@ -43,7 +44,7 @@ def pairs(pattern, text, number_first=False):
 def of_rust(texts):
     """The numbers that the Rust sources have: of requests, kinds, faults and breaks, and limits."""
     requests = pairs(r"(\d+) => Request::(\w+)", texts["requests"], number_first=True)
-    replies = pairs(r"(?:Entry|Reply|Action)::(\w+)(?:\(.*?\))* => packed\((\d+),", texts["replies"])
+    replies = pairs(r"(?:Entry|Reply|Action|RunState)::(\w+)(?:\(.*?\))* => packed\((\d+),", texts["replies"])
     numbers = {
         "request": {"WANTS" if it == "Wants" else in_capitals(it): n for it, n in requests.items()},
         "kind": {**{in_capitals(it): n for it, n in replies.items()}, "REFUSED": 1},

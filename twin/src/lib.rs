@@ -11,6 +11,7 @@ pub mod lines;
 pub mod listing;
 pub mod made;
 pub mod memory;
+pub mod moments;
 pub mod options;
 pub mod picture;
 pub mod port;

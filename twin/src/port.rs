@@ -8,13 +8,14 @@ use crate::driver::{Action, Driver};
 use crate::frames::{FrameFault, Instr, MOST, Op, Place, Rom, check};
 use crate::generator::{GenFault, Generator, Stroke, Taken};
 use crate::memory::{BYTES, Flat};
+use crate::moments::{Line, Moments, Standing};
 use crate::world::{Entry, World};
 
 /// The most bytes that are staged.
 const MOST_STAGED: usize = 6144;
 
 /// The greatest number of a request.
-const LAST_REQUEST: u8 = 20;
+const LAST_REQUEST: u8 = 22;
 
 /// The word address after a ROM's last word.
 const ROM_END: usize = 0xC00;
@@ -37,9 +38,10 @@ enum Part {
     World(Box<World<Flat>>),
     Driver(Box<Desk>),
     Generator(Lone),
+    Judge(Box<Moments>),
 }
 
-/// A device, in which a world, a driver alone or a generator alone may be open.
+/// A device, in which a world, a driver alone, a generator alone or a judge may be open.
 pub struct Device {
     staged: Vec<u8>,
     draft: Vec<Op>,
@@ -279,6 +281,44 @@ fn ask_world(
     answered(entry, picture)
 }
 
+/// The line that a judge is told by a request. None where it tells none.
+fn line_of(request: u64) -> Option<Line> {
+    let [code, kind, a0, a1, v0, v1, _, _] = request.to_le_bytes();
+    let (address, value) = (u16::from_le_bytes([a0, a1]), u16::from_le_bytes([v0, v1]));
+    match (code, kind) {
+        (5, _) | (22, 15) => Some(Line::Ended),
+        (7, _) => Some(Line::Reset),
+        (22, 6) => Some(Line::Wrote(address, v0)),
+        (22, 10) => Some(Line::Started),
+        (22, 12) => Some(Line::Low(address, v0)),
+        (22, 13) => Some(Line::Fetched(address, value)),
+        (22, 14) => Some(Line::Done(address, value)),
+        (6, _) | (22, 0..=16) => Some(Line::Passed),
+        _ => None,
+    }
+}
+
+/// Whether a number is a request.
+fn is_request(request: u64) -> bool {
+    request as u8 <= LAST_REQUEST && (request as u8 != 22 || line_of(request).is_some())
+}
+
+/// Tells a judge.
+fn tell(judge: &mut Moments, request: u64) -> u64 {
+    let Some(line) = line_of(request) else {
+        return UNKNOWN;
+    };
+    let (standing, contradicts) = judge.tell(line);
+    let kind = match standing {
+        Standing::NoRun => 26,
+        Standing::OneMoment => 27,
+        Standing::NoMoment => 28,
+        Standing::Whole => 29,
+        Standing::Torn => 30,
+    };
+    packed(kind, 0, u16::from(contradicts))
+}
+
 impl Device {
     fn new() -> Device {
         Device {
@@ -354,6 +394,7 @@ impl Device {
                 generator: Generator::new(),
                 last: 0,
             }))),
+            21 => self.open(Some(Part::Judge(Box::default()))),
             15 => {
                 *self = Device::new();
                 CLOSED
@@ -367,13 +408,14 @@ impl Device {
             }),
             20 => self.stroke(request).map_or(0, |stroke| u64::from(stroke.z)),
             _ => match &mut self.part {
-                Part::Nothing if request as u8 > LAST_REQUEST => UNKNOWN,
+                Part::Nothing if !is_request(request) => UNKNOWN,
                 Part::Nothing => CLOSED,
                 Part::World(world) => {
                     ask_world(world, request, &self.draft, &self.staged, &mut self.picture)
                 }
                 Part::Driver(desk) => desk.ask(request, &self.draft),
                 Part::Generator(lone) => lone.ask(request, &mut self.picture),
+                Part::Judge(judge) => tell(judge, request),
             },
         }
     }

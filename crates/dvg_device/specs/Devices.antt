@@ -12,6 +12,9 @@ use Rattle.dvg_device.specs.Worlds.{WorldAnswers}
 use Rattle.dvg_world.specs.Desks.{Driven, IsFresh}
 use Rattle.dvg_device.specs.Drivers.{DriverAnswers}
 use Rattle.dvg_device.specs.Generators.{GeneratorAnswers}
+use Rattle.dvg_moment.specs.declared.judge.MomentJudge.{MomentJudge}
+use Rattle.dvg_moment.specs.Judging.{StandsAfter}
+use Rattle.dvg_device.specs.Judges.{JudgeAnswers}
 use Rattle.dvg_device.specs.declared.operation.Operation.{Operation}
 use Rattle.dvg_log.specs.declared.entry.Entry.TheVariants.{Cleared}
 use Rattle.dvg_device.specs.declared.reply.Reply.{Reply}
@@ -25,6 +28,7 @@ pub data Open : Type 0 where
   World : State → Open
   Driver : Driven → Open
   Generator : Machine → Open
+  Judge : MomentJudge → Open
 
 -- a device: the bytes that were staged, its draft, the strokes of the newest finished run, and what is open
 pub record Held : Type 0 where
@@ -78,6 +82,11 @@ abbrev pub IsNewDriver : List ℕ → Open → Type 0
 IsNewDriver staged (Driver driven) = IsFresh staged driven
 IsNewDriver staged part = ⊥
 
+-- a judge that was told no line
+abbrev pub IsNewJudge : Open → Type 0
+IsNewJudge (Judge judge) = StandsAfter judge []
+IsNewJudge part = ⊥
+
 -- what is answered where nothing is open
 abbrev pub unopened : Request → Reply
 unopened requests.Unknown = replies.Unknown
@@ -94,6 +103,8 @@ PartAnswers (Driver driven) asked old new answer = (later : Driven) × (new ≡ 
 PartAnswers (Generator machine) asked old new answer = (later : Machine) × (left : List Stroke)
     × (new ≡ record old { picture = left; open_part = Generator later })
     × GeneratorAnswers asked machine later old.picture left answer
+PartAnswers (Judge judge) asked old new answer = (later : MomentJudge) × (new ≡ record old { open_part = Judge later })
+    × JudgeAnswers asked judge later answer
 
 -- what a device comes to by a request, and what it answers
 abbrev pub Answered : Request → Held → Held → Reply → Type 0
@@ -107,6 +118,7 @@ Answered requests.OpenDriver old new answer = OpenAnswers (IsOneOf (length old.s
     (IsNewDriver old.staged) old new answer
 Answered requests.OpenGenerator old new answer = (machine : Machine) × HasTaken machine [] None
     × (new ≡ record old { picture = []; open_part = Generator machine }) × (answer ≡ replies.Opened)
+Answered requests.OpenJudge old new answer = OpenAnswers (Unit {0}) IsNewJudge old new answer
 Answered requests.Close old new answer = (new ≡ closed) × (answer ≡ replies.Closed)
 Answered requests.CountStrokes old new answer = (new ≡ old) × (answer ≡ replies.Count (length old.picture))
 Answered (requests.StrokeFrom n) old new answer = (new ≡ old) × (answer ≡ begins (slice_get old.picture n))

@@ -5,6 +5,7 @@ pub mod Replies
 pub mod Worlds
 pub mod Drivers
 pub mod Generators
+pub mod Judges
 pub mod Devices
 pub mod Parts
 pub mod Laws

@@ -15,7 +15,9 @@ use Rattle.dvg_log.specs.Entries.{Shown, map_entry}
 use Rattle.dvg_device.specs.declared.reply.Reply.{Reply}
 use Rattle.dvg_device.specs.declared.reply.Reply.TheVariants.{Came, Pushed, NoOperation, Full, Staged, Opened}
 use Rattle.dvg_device.specs.declared.reply.Reply.TheVariants.{WrongSize, Closed, Wants, Count, Point, Intensity}
-use Rattle.dvg_device.specs.declared.reply.Reply.TheVariants.{Unknown, NoMemory}
+use Rattle.dvg_device.specs.declared.reply.Reply.TheVariants.{Judged, Unknown, NoMemory}
+use Rattle.dvg_device.specs.declared.reply.RunState.{RunState}
+use Rattle.dvg_device.specs.declared.reply.RunState.TheVariants as runs
 
 -- 8 bits of a kind, 16 of an address and then a value
 abbrev pub packed : ℕ → ℕ → ℕ → ℕ
@@ -58,6 +60,14 @@ came (Broke address fault) = packed 15 address (fault_number fault)
 came Still = packed 16 0 0
 came Cleared = packed 17 0 0
 
+-- what a judge says: how the newest run stands
+abbrev pub judged : RunState → ℕ → ℕ
+judged runs.NoRun value = packed 26 0 value
+judged runs.OneMoment value = packed 27 0 value
+judged runs.NoMoment value = packed 28 0 value
+judged runs.Whole value = packed 29 0 value
+judged runs.Torn value = packed 30 0 value
+
 -- the number of a reply
 abbrev pub number_of : Reply → ℕ
 number_of (Came entry) = came entry
@@ -73,6 +83,8 @@ number_of (Wants address true) = packed 25 address 1
 number_of (Count n) = n
 number_of (Point x y) = x + 2 ^ 32 * y
 number_of (Intensity z) = z
+number_of (Judged run false) = judged run 0
+number_of (Judged run true) = judged run 1
 number_of Unknown = packed 254 0 0
 number_of NoMemory = packed 255 0 0
 

@@ -1,13 +1,28 @@
 //! What a device replies.
 ghost use Rattle.std.specs.Prelude.{◌≡◌};
 ghost use Rattle.dvg_log.specs.Entries.{shown_of};
-ghost use Rattle.dvg_device.specs.Replies.{acted, came, number_of, packed, picture_by, placed};
-ghost use Rattle.dvg_device.specs.Replies.{answered_by, refusal};
+ghost use Rattle.dvg_device.specs.Replies.{acted, answered_by, came, judged, number_of, packed};
+ghost use Rattle.dvg_device.specs.Replies.{picture_by, placed, refusal};
 
 use dvg_driver::Action;
 use dvg_frame::{FrameFault, Place};
 use dvg_gen::Stroke;
 use dvg_log::Entry;
+
+/// How the newest run of a log stands, of which a judge was told a line.
+#[derive(Clone, Copy, Debug, PartialEq, Eq)]
+pub enum RunState {
+    /// No run is open.
+    NoRun,
+    /// A run is open, and so far it is of one moment.
+    OneMoment,
+    /// A run is open, and it is of no moment.
+    NoMoment,
+    /// The line is the HALT of a run of one moment.
+    Whole,
+    /// The line is the HALT of a run of no moment.
+    Torn,
+}
 
 /// What a device replies. As a number, its lowest byte is the kind, which stands first here, an
 /// address stands in bits 8 to 23, and a value from bit 24 on; but the reply to a question about
@@ -61,6 +76,9 @@ pub enum Reply {
     Point(u32, u32),
     /// An intensity, 1 to 15, and 0 where there is no such stroke.
     Intensity(u8),
+    /// 26 to 30, in the order of `RunState`: how the newest run stands, of which a judge was told
+    /// this line, and whether the line reads what was not written (1, else 0).
+    Judged(RunState, bool),
     /// 254: there is no such request, or what is open has no such request. Nothing has changed.
     Unknown,
     /// 255: there was no memory for it, and nothing has changed.
@@ -87,9 +105,26 @@ impl Reply {
             Reply::Count(n) => n,
             Reply::Point(x, y) => u64::from(x) + 0x1_0000_0000 * u64::from(y),
             Reply::Intensity(z) => u64::from(z),
+            Reply::Judged(run, false) => judged(run, 0),
+            Reply::Judged(run, true) => judged(run, 1),
             Reply::Unknown => packed(254, 0, 0),
             Reply::NoMemory => packed(255, 0, 0),
         }
+    }
+}
+
+// Returns the number of the reply of a judge, by which the newest run stands as `run` says, with
+// `value`.
+#[inline(always)]
+fn judged(run: RunState, value: u16) -> u64
+    ensures { result ≡ judged run value }
+{
+    match run {
+        RunState::NoRun => packed(26, 0, value),
+        RunState::OneMoment => packed(27, 0, value),
+        RunState::NoMoment => packed(28, 0, value),
+        RunState::Whole => packed(29, 0, value),
+        RunState::Torn => packed(30, 0, value),
     }
 }
 

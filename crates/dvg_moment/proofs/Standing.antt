@@ -1,6 +1,6 @@
 -- A judge that was told one more line stands after it.
 use Rattle.std.proofs.Common.{◌≡◌, ◌≢◌, ℕ, ◌+◌, ◌*◌, ◌/◌, ◌%◌, ◌<◌, ◌≤◌, ◌⊎◌, inl, inr, List, [], ◌∷◌, ◌++◌, length, refl, sym, ◌∙◌, ap, subst, Option, Some, None, Bool, true, false, get_or, replicate, arith}
-use Rattle.std.specs.Prelude.{◌==◌, ◌&&◌, if◌then◌else◌, IsTrue, ◌↔◌, option_map, slice_set}
+use Rattle.std.specs.Prelude.{◌==◌, ◌&&◌, not, if◌then◌else◌, IsTrue, ◌↔◌, option_map, slice_set}
 use Rattle.std.specs.Option.{option_or}
 use Rattle.std.proofs.lemmas.Bool.{false≢true, true≢false}
 use Rattle.std.proofs.lemmas.Bool.Decides.{eqb_tells}
@@ -358,6 +358,10 @@ done_answer judge mid log address word strokes answer s e a =
 
 pub torn_answer : (judge : MomentJudge) (log : Log) (answer : Bool) → StandsAfter judge log → IsTrue answer ↔ (judge.phase ≡ Torn) → IsTrue answer ↔ IsTorn log
 torn_answer judge log answer s a = let t = torn_now judge log s in ((λ y. t.0 (a.0 y)), λ n. a.1 (t.1 n))
+
+pub open_answer : (judge : MomentJudge) (log : Log) (answer : Bool) → StandsAfter judge log → IsTrue answer ↔ (judge.phase ≡ Closed) → IsTrue (not answer) ↔ (open_run log ≢ None)
+open_answer judge log true s a = ((λ f. absurd (false≢true f)), λ n. absurd (n (s.closed.0 (a.0 refl))))
+open_answer judge log false s a = ((λ t none. false≢true (a.1 (s.closed.1 none))), λ n. refl)
 
 pub written_left : (judge new : MomentJudge) (log : Log) (address at byte : ℕ) → StandsAfter judge log → at ≡ address → at < 0x800 → new ≡ after_write (is_some_of (get_or judge.told at None) byte) judge at byte
     → StandsAfter new ((Tick ⟼ Acted (Wrote address byte)) ∷ log)

@@ -10,9 +10,9 @@ ghost use Rattle.dvg_log.specs.declared.event.Event.TheVariants.{Strobe, Tick};
 ghost use Rattle.dvg_log.specs.Entries.{shown_of};
 ghost use Rattle.dvg_log.specs.Events.{Happening, happening_of};
 ghost use Rattle.dvg_log.specs.Legal.{IsLegal};
-ghost use Rattle.dvg_log.specs.Log.{Log, ◌⟼◌};
+ghost use Rattle.dvg_log.specs.Log.{Log, ◌⟼◌, open_run};
 ghost use Rattle.dvg_moment.specs.Judging.{IsTorn, StandsAfter, is_marked};
-ghost use Rattle.dvg_moment.specs.declared.judge.Phase.TheVariants.{Torn};
+ghost use Rattle.dvg_moment.specs.declared.judge.Phase.TheVariants.{Closed, Torn};
 ghost use Rattle.dvg_moment.specs.Moment.{Contradicts, IsOfOneMoment, told};
 ghost use Rattle.dvg_moment.specs.own.Steps.{after_change, after_end, after_event, after_read};
 ghost use Rattle.dvg_moment.specs.own.Steps.{after_reset, after_word};
@@ -172,6 +172,20 @@ impl MomentJudge {
         ensures { IsTrue result ↔ (self.now.phase ≡ Torn) }
     {
         self.phase == Phase::Torn
+    }
+
+    // Returns whether no run is open.
+    fn has_no_run(&self) -> bool
+        ensures { IsTrue result ↔ (self.now.phase ≡ Closed) }
+    {
+        self.phase == Phase::Closed
+    }
+
+    /// Returns whether a run is open.
+    pub fn is_open(&self) -> bool
+        ensures { (log : Log) → StandsAfter self.now log → IsTrue result ↔ (open_run log ≢ None) }
+    {
+        !self.has_no_run()
     }
 
     /// Returns whether a run is open that is of no moment.

@@ -60,9 +60,37 @@ fn a_closed_device_has_an_answer_to_each_request(rt: HostRuntime) {
     assert_eq!(rt; device.turn(17), 0);
     assert_eq!(rt; device.turn(12), 23);
     assert_eq!(rt; device.turn(15), 24);
-    for code in 21..256 {
+    assert_eq!(rt; device.turn(0x1016), 24);
+    assert_eq!(rt; device.turn(0x1116), 254);
+    for code in 23..256 {
         assert_eq!(rt; device.turn(code), 254, "{code}");
     }
+}
+
+/// Words 1 and 2 are a display list in one buffer. Both are written between their readings, and
+/// then one of them after its reading.
+#[test]
+fn a_judge_finds_the_torn_run(rt: HostRuntime) {
+    let mut judge = Device::new(rt.alloc());
+    assert_eq!(rt; judge.turn(21), 22);
+    assert_eq!(rt; judge.turn(0x0A16), 27);
+    assert_eq!(rt; judge.turn(0x0101_0001_0D16), 27);
+    assert_eq!(rt; asked(&mut judge, &[0x05_0002_0616, 0x07_0004_0616]), 27);
+    assert_eq!(rt; judge.turn(0x07_0002_0C16), 28);
+    assert_eq!(rt; judge.turn(0x0107_0002_0E16), 30);
+    assert_eq!(rt; judge.turn(0x01_0002_0616), 26);
+    assert_eq!(rt;
+        asked(&mut judge, &[0x0A16, 0x0101_0001_0D16, 0x05_0002_0616]),
+        27
+    );
+    assert_eq!(rt; judge.turn(0x0107_0002_0E16), 29);
+    // What is read isn't what was written, until a reset of the whole system.
+    assert_eq!(rt; asked(&mut judge, &[0x0A16, 0x08_0002_0C16]), 0x100_001B);
+    assert_eq!(rt; judge.turn(7), 26);
+    assert_eq!(rt; asked(&mut judge, &[0x0A16, 0x09_0002_0C16]), 27);
+    assert_eq!(rt; judge.turn(6), 27);
+    assert_eq!(rt; judge.turn(5), 26);
+    assert_eq!(rt; judge.turn(2), 254);
 }
 
 /// Lets `driver`, alone, write into `ram`, and `generator`, alone, draw out of it, one tick and one

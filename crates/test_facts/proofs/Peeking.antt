@@ -2,7 +2,7 @@
 use Rattle.std.proofs.Common.{◌≡◌, ℕ, List, [], false, take, drop, refl, ap, ◌∙◌, subst, ⊎_elim}
 use Rattle.dvg_driver.specs.declared.action.Action.TheVariants.{Peek}
 use Rattle.dvg_world.specs.Standing.{State, WorldAfter}
-use Rattle.dvg_device.specs.Devices.{Answered, Held, IsNewWorld, Open, PartAnswers, Nothing, World, Driver, Generator}
+use Rattle.dvg_device.specs.Devices.{Answered, Held, IsNewWorld, Open, PartAnswers, Nothing, World, Driver, Generator, Judge}
 use Rattle.dvg_device.specs.Replies.{answered_by}
 use Rattle.dvg_device.specs.declared.reply.Reply.{Reply}
 use Rattle.dvg_device.specs.declared.reply.Reply.TheVariants.{Came}
@@ -16,6 +16,7 @@ new_world staged Nothing is = absurd is
 new_world staged (World world) is = (world, refl, is)
 new_world staged (Driver driven) is = absurd is
 new_world staged (Generator machine) is = absurd is
+new_world staged (Judge judge) is = absurd is
 
 -- it peeks
 pub first_peek : (old new : Held) (answer : Reply) (staged : List ℕ) → IsNewWorld staged old.open_part → Answered (Tick false 0) old new answer → answer ≡ Came (Acted Peek)

@@ -3,6 +3,7 @@ use std::prelude::*;
 
 use crate::cabinet::Cabinet;
 use crate::desk::{ask_driver, tick_driver};
+use crate::judging::ask_judge;
 use crate::lone::{ask_generator, fetch};
 use crate::operation::Operation;
 use crate::reply::Reply;
@@ -11,6 +12,7 @@ use dvg_frame::Draft;
 use dvg_gen::{Generator, Stroke};
 use dvg_log::Entry;
 use dvg_mem::{MEMORY_BYTES, Rom};
+use dvg_moment::MomentJudge;
 use dvg_world::Desk;
 use std::alloc::Global;
 use std::mem;
@@ -24,11 +26,13 @@ pub(crate) enum Part {
     World(Box<Cabinet>),
     Driver(Box<Desk>),
     Generator(Generator<Global>),
+    Judge(Box<MomentJudge>),
 }
 
-/// A device, in which a world, a driver alone or a generator alone may be open. It has a draft,
-/// which requests make and an offer hands to the driver; bytes that are staged for what is opened,
-/// and for a reset of the whole system; and the strokes of the newest run that came to a HALT.
+/// A device, in which a world, a driver alone, a generator alone or a judge may be open. It has a
+/// draft, which requests make and an offer hands to the driver; bytes that are staged for what is
+/// opened, and for a reset of the whole system; and the strokes of the newest run that came to a
+/// HALT.
 pub struct Device {
     alloc: Global,
     staged: Vec<u8>,
@@ -76,6 +80,7 @@ impl Device {
             Request::OpenWorld => self.open_world(),
             Request::OpenDriver => self.open_driver(),
             Request::OpenGenerator => self.open_generator(),
+            Request::OpenJudge => self.open_judge(),
             Request::Close => self.close(),
             Request::CountStrokes => Reply::Count(self.picture.len() as u64),
             Request::StrokeFrom(i) => self.stroke_from(i),
@@ -161,6 +166,15 @@ impl Device {
         self.open(Part::Generator(Generator::new(self.alloc)))
     }
 
+    // Opens a judge.
+    #[inline(never)]
+    fn open_judge(&mut self) -> Reply {
+        match Box::new(self.alloc, MomentJudge::new()) {
+            Ok(judge) => self.open(Part::Judge(judge)),
+            Err(_) => Reply::NoMemory,
+        }
+    }
+
     // Opens `part`, in which nothing was drawn yet. The memory of what was open stays, for the next
     // one of its kind.
     fn open(&mut self, part: Part) -> Reply {
@@ -175,7 +189,7 @@ impl Device {
         match before {
             Part::World(world) => self.spare_world = Some(world),
             Part::Driver(desk) => self.spare_desk = Some(desk),
-            Part::Nothing | Part::Generator(_) => {}
+            Part::Nothing | Part::Generator(_) | Part::Judge(_) => {}
         }
     }
 
@@ -228,6 +242,7 @@ impl Device {
             Part::World(world) => world.tick(),
             Part::Driver(desk) => tick_driver(desk, halted, byte1),
             Part::Generator(_) => Reply::Unknown,
+            Part::Judge(_) => Reply::Unknown,
         }
     }
 
@@ -239,6 +254,7 @@ impl Device {
             Part::World(world) => world.fetch(&mut self.picture),
             Part::Driver(_) => Reply::Unknown,
             Part::Generator(generator) => fetch(generator, byte, &mut self.picture),
+            Part::Judge(_) => Reply::Unknown,
         }
     }
 
@@ -253,6 +269,7 @@ impl Device {
             }
             Part::Driver(desk) => ask_driver(desk, request, &self.draft),
             Part::Generator(generator) => ask_generator(generator, request, &mut self.picture),
+            Part::Judge(judge) => ask_judge(judge, request),
         }
     }
 }

@@ -3,13 +3,15 @@
 //!
 //! A `Device` is asked by a number of 64 bits, and returns one (`turn`). Nothing is required of a
 //! caller: each number is a request, in each order, and each has a reply. What opens in a device is
-//! one of three:
+//! one of four:
 //!
 //! - a *world*: both ends, over a RAM and a ROM that it holds;
 //! - a *driver* alone: it is handed the HALT flag and byte 001 of a RAM, and returns what is to be
 //!   written there;
 //! - a *generator* alone: it says which byte it takes next, is handed that byte, and returns the
-//!   strokes of a whole run.
+//!   strokes of a whole run;
+//! - a *judge* of moments: it is told the log of any system, a line at a time, and says of each run
+//!   whether it is of one moment.
 //!
 //! `Request` and `Reply` say the same by types, with the numbers of each; a caller in Rattle asks
 //! by `answer`. That requests and replies are numbers, and which, is this project's own choice.
@@ -21,12 +23,14 @@ mod cabinet;
 mod desk;
 mod device;
 mod happening;
+mod judging;
 mod lone;
 mod operation;
 mod reply;
 mod request;
 
 pub use device::Device;
+pub use judging::JudgeLine;
 pub use operation::Operation;
-pub use reply::Reply;
+pub use reply::{Reply, RunState};
 pub use request::Request;

@@ -1,4 +1,5 @@
 //! What a device is asked for.
+use crate::judging::JudgeLine;
 use crate::operation::Operation;
 
 /// What a device is asked for. As a number, its lowest byte is the code, which stands first here,
@@ -67,11 +68,26 @@ pub enum Request {
     StrokeTo(u64),
     /// 20: what is the intensity of the stroke of this number?
     StrokeIntensity(u64),
+    /// 21: a judge of moments begins, which was told nothing. The requests 5, 6 and 7 tell it that
+    /// this reset was done.
+    OpenJudge,
+    /// 22: a judge is told this line of a log. What stands above the code is the number of the
+    /// reply that the line's event had: its kind in bits 8 to 15, its address in 16 to 31, and its
+    /// value in 32 to 47. A kind above 16 is that of no line.
+    Tell(JudgeLine),
     /// Any other number.
     Unknown,
 }
 
 impl Request {
+    // Returns the request that tells a judge of `line`.
+    fn telling(line: Option<JudgeLine>) -> Request {
+        match line {
+            Some(line) => Request::Tell(line),
+            None => Request::Unknown,
+        }
+    }
+
     /// Returns the request that `number` is.
     #[inline(always)]
     pub fn of(number: u64) -> Request {
@@ -105,6 +121,8 @@ impl Request {
             18 => Request::StrokeFrom(number / 0x100),
             19 => Request::StrokeTo(number / 0x100),
             20 => Request::StrokeIntensity(number / 0x100),
+            21 => Request::OpenJudge,
+            22 => Request::telling(line_in(number)),
             _ => Request::Unknown,
         }
     }
@@ -118,5 +136,21 @@ fn operation(number: u64) -> Operation {
         z: (number / 0x100_0000 % 0x100) as u8,
         x: (number / 0x1_0000_0000 % 0x1_0000) as u16,
         y: (number / 0x1_0000_0000_0000 % 0x1_0000) as u16,
+    }
+}
+
+// Returns the line of a log in `number`, if its kind is that of one.
+fn line_in(number: u64) -> Option<JudgeLine> {
+    let address = (number / 0x1_0000 % 0x1_0000) as u16;
+    let value = (number / 0x1_0000_0000 % 0x1_0000) as u16;
+    match number / 0x100 % 0x100 {
+        6 => Some(JudgeLine::Wrote(address, (value % 0x100) as u8)),
+        10 => Some(JudgeLine::Started),
+        12 => Some(JudgeLine::Low(address, (value % 0x100) as u8)),
+        13 => Some(JudgeLine::Fetched(address, value)),
+        14 => Some(JudgeLine::Done(address, value)),
+        15 => Some(JudgeLine::Ended),
+        kind if kind < 17 => Some(JudgeLine::Passed),
+        _ => None,
     }
 }

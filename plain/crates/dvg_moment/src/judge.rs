@@ -131,6 +131,16 @@ impl MomentJudge {
         self.phase == Phase::Torn
     }
 
+    // Returns whether no run is open.
+    fn has_no_run(&self) -> bool {
+        self.phase == Phase::Closed
+    }
+
+    /// Returns whether a run is open.
+    pub fn is_open(&self) -> bool {
+        !self.has_no_run()
+    }
+
     /// Returns whether a run is open that is of no moment.
     pub fn is_torn(&self) -> bool {
         self.has_no_moment()

@@ -3,7 +3,7 @@ use Rattle.dvg_log.specs.declared.event.Event.TheVariants.{Tick}
 use Rattle.dvg_world.specs.Desks.{TickAnswers}
 use Rattle.dvg_device.specs.Drivers.{OfAction}
 use Rattle.dvg_device.specs.Worlds.{Happens}
-use Rattle.dvg_device.proofs.device.Device.tick.Goals.{in-Nothing, in-World, in-Driver, in-Generator}
+use Rattle.dvg_device.proofs.device.Device.tick.Goals.{in-Nothing, in-World, in-Driver, in-Generator, in-Judge}
 use Rattle.dvg_device.proofs.device.Device.tick.Goals as goal
 
 pub returns : goal.returns
@@ -30,4 +30,6 @@ returns c =
           )
       | in-Generator w ↦ rw (sym c.self.view_is, w.self-inside-is, w.result-is, w.in-Generator.is)
           (w.in-Generator.field-0, picture, refl, (refl, refl, refl))
+      | in-Judge w ↦ rw (sym c.self.view_is, w.self-inside-is, w.result-is, w.in-Judge.is)
+          (w.in-Judge.field-0.value, refl, (refl, refl))
     ]
