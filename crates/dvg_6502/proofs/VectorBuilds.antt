@@ -1,15 +1,15 @@
 -- What dvg_vector does, by the frame that is being built.
-use Rattle.std.proofs.Common.{◌≡◌, ℕ, zero, suc, inl, inr, ◌+◌, ◌-◌, ◌*◌, ◌/◌, ◌%◌, ◌<◌, ◌≤◌, Bool, true, false, List, []}
+use Rattle.std.proofs.Common.{◌≡◌, ℕ, zero, suc, inl, inr, ◌+◌, ◌-◌, ◌*◌, ◌%◌, ◌<◌, ◌≤◌, Bool, true, false, List, []}
 use Rattle.std.proofs.Common.{◌∷◌, ◌++◌, length, refl, sym, ap, ◌∙◌, subst, arith, le-leb, leb-true}
 use Rattle.std.proofs.Math.Path.{fun_ext}
-use Rattle.std.specs.Prelude.{nat_eq, nat_le, nat_lt, ◌&&◌, ◌⊎◌, if◌then◌else◌, slice_index}
+use Rattle.std.specs.Prelude.{nat_eq, nat_le, nat_lt, ◌⊎◌, if◌then◌else◌, slice_index}
 use Rattle.dvg_mem.specs.declared.half.Half.{Half}
 use Rattle.dvg_6502.specs.Processor.{Cpu, Access, Writes, run}
 use Rattle.dvg_6502.specs.Code.{code, dvg_vector}
 use Rattle.dvg_6502.specs.Board.{IsLoaded, seen, goal_in, is_own}
 use Rattle.dvg_6502.specs.Amid.{is_work}
 use Rattle.dvg_6502.specs.Routines.{Enters, Vector, put_by}
-use Rattle.dvg_6502.specs.Build.{IsBuilding, IsRefused, HasNoRoom, VectorTakes, VectorRefuses}
+use Rattle.dvg_6502.specs.Build.{IsBuilding, IsRefused, VectorTakes, VectorRefuses}
 use Rattle.dvg_6502.proofs.Running.{Comes, by, at, returned}
 use Rattle.dvg_6502.proofs.Memory.{laid, page_of, page_in, known, loaded, in_page, in_code, AreSmall, are_small, both_true}
 use Rattle.dvg_6502.proofs.Memory.{le_not}
@@ -248,26 +248,36 @@ module _ (cpu : Cpu) (enters : Enters cpu dvg_vector) where
 
       which : Coming cpu.s cpu.y cpu.s (cpu.mem 0x1F) cpu.a cpu.v (page (cpu.mem 0x10)) cpu.mem cpu.flags first
           (put_by Vector cpu) → Refusal
-      which (no_word is out) = (out.work, out.small, home out.work (led_comes cpu.s first _ cpu.s true _ [] out.led
-          (λ log quiet. record {
-            steps = 1;
-            returns = refl;
-            stack = refl;
-            carry = refl;
-            memory = refl;
-            accesses = quiet;
-            steady = λ tables is. refl;
-            there = refl;
-          })))
-      which (one_word b0 b1 work is b0_small b1_small small to) =
-          (work, small, home work (led_comes cpu.s first _ cpu.s true _ [] to.led
-          (λ log quiet. after_quiet log (λ l. l) quiet
-          (puts (ap length is) b0 b1 to.n to.z to.c to.v' (worked work cpu.mem) log))))
+      which (no_word is out) = (
+        out.work,
+        out.small,
+        home out.work (led_comes cpu.s first _ cpu.s true _ [] out.led
+            (λ log quiet. record {
+              steps = 1;
+              returns = refl;
+              stack = refl;
+              carry = refl;
+              memory = refl;
+              accesses = quiet;
+              steady = λ tables is. refl;
+              there = refl;
+            })),
+      )
+      which (one_word b0 b1 work is b0_small b1_small small to) = (
+        work,
+        small,
+        home work (led_comes cpu.s first _ cpu.s true _ [] to.led
+            (λ log quiet. after_quiet log (λ l. l) quiet
+            (puts (ap length is) b0 b1 to.n to.z to.c to.v' (worked work cpu.mem) log))),
+      )
       which (two_words b0 b1 b2 b3 is small to) =
-          let work = b0 ∷ b1 ∷ b2 ∷ b3 ∷ cpu.mem 0x1F ∷ cpu.a ∷ [] in
-          (work, small, home work (led_comes cpu.s first _ cpu.s true _ [] to.led
-          (λ log quiet. after_quiet log (λ l. l) quiet
-          (pairs (ap length is) to.a to.x to.n to.z to.c cpu.v (worked work cpu.mem) log))))
+          let work = b0 ∷ b1 ∷ b2 ∷ b3 ∷ cpu.mem 0x1F ∷ cpu.a ∷ [] in (
+            work,
+            small,
+            home work (led_comes cpu.s first _ cpu.s true _ [] to.led
+                (λ log quiet. after_quiet log (λ l. l) quiet
+                (pairs (ap length is) to.a to.x to.n to.z to.c cpu.v (worked work cpu.mem) log))),
+          )
 
   -- outside of these bytes memory is as it was
   kept_out : (work : List ℕ) (b : ℕ) → is_work b ≡ false → laid (page_in cpu.mem) (worked work cpu.mem) b ≡ cpu.mem b

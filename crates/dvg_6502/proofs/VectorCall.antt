@@ -1,8 +1,8 @@
 -- dvg_vector, from its entry to dvg_put, to dvg_pair, or to its refusal.
-use Rattle.std.proofs.Common.{◌≡◌, ℕ, suc, inl, inr, ◌+◌, ◌-◌, ◌*◌, ◌/◌, ◌%◌, ◌<◌, ◌≤◌, Bool, true, false, List, [], ◌∷◌}
-use Rattle.std.proofs.Common.{refl, sym, ap, ◌∙◌, subst, arith, eqb-true, leb-true, le-leb}
-use Rattle.std.proofs.lemmas.Bool.{leb-false, eqb-false, ne_eqb}
-use Rattle.std.specs.Prelude.{nat_eq, nat_le, ◌&&◌, ◌⊎◌, if◌then◌else◌, bit_and, bit_or, ℤ, pos, negsuc, unsigned_abs}
+use Rattle.std.proofs.Common.{◌≡◌, ℕ, ◌+◌, ◌-◌, ◌*◌, ◌/◌, ◌%◌, ◌<◌, ◌≤◌, Bool, true, false, List, [], ◌∷◌}
+use Rattle.std.proofs.Common.{refl, sym, ap, ◌∙◌, arith, eqb-true, leb-true, le-leb}
+use Rattle.std.proofs.lemmas.Bool.{leb-false}
+use Rattle.std.specs.Prelude.{nat_eq, nat_le, ◌&&◌, if◌then◌else◌, bit_and, bit_or, ℤ, pos, negsuc, unsigned_abs}
 use Rattle.dvg_code.specs.declared.instr.Instr.TheVariants.{Vctr, Svec}
 use Rattle.dvg_code.specs.Spelling.{sign_bit}
 use Rattle.dvg_frame.specs.declared.op.OpKind.TheVariants.{Draw}
@@ -12,7 +12,7 @@ use Rattle.dvg_6502.specs.Tables.{table_of}
 use Rattle.dvg_6502.specs.Moves.{number, is_vector, is_short, in_256s, vector, vector_bytes}
 use Rattle.dvg_6502.proofs.Memory.{AreSmall, both_true, le_not}
 use Rattle.dvg_6502.proofs.Masks.{both_zero, topped, lowered, eighted, shortened}
-use Rattle.dvg_6502.proofs.VectorRun.{Led, more, joined, magnitude, high_of, here, Beyond, ToPut, ToPair, both_in}
+use Rattle.dvg_6502.proofs.VectorRun.{Led, more, magnitude, high_of, here, Beyond, ToPut, ToPair, both_in}
 use Rattle.dvg_6502.proofs.VectorRun.{first_out, second_out, scale_out, scale_in, long_some, long_small, long_large}
 use Rattle.dvg_6502.proofs.VectorRun.{short_fits, beyond_more, put_more, pair_more}
 
@@ -327,9 +327,13 @@ module _ (q a x y s y0 y1 x0 x1 l old : ℕ) (n z c v : Bool) (page : List ℕ) 
           → ((log : List Access) → seen log ≡ [] → ToPair q y s l a v page mem flags (words log) wide) → Coming
       as_pair is rest = two_words ly (bit_or (bit_and a 0xF0) ky) lx (bit_or shifted kx)
           (now_so false is ∙ long_bytes (a / 16) (a % 16) wx wy mx my wx_small wy_small (omega arith) fits_x fits_y
-          ∙ four refl (sym top_is) refl (sym low_is))
-          (omega arith, (omega (arith, top_is, ky_small, a_small),
-          (omega arith, (omega (arith, low_is, kx_small), (l_small, (a_small, tt))))))
+          ∙ four refl (sym top_is) refl (sym low_is)) (
+            omega arith,
+            (
+              omega (arith, top_is, ky_small, a_small),
+              (omega arith, (omega (arith, low_is, kx_small), (l_small, (a_small, tt)))),
+            ),
+          )
           (pair_more q y s l a v page mem flags from words wide to_words rest)
 
       some : zeros ≡ false → Coming

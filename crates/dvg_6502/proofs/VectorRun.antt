@@ -1,15 +1,15 @@
 -- dvg_vector, as the code does it.
-use Rattle.std.proofs.Common.{◌≡◌, ℕ, zero, suc, ◌+◌, ◌-◌, ◌*◌, ◌/◌, ◌%◌, ◌<◌, ◌≤◌, Bool, true, false, List, [], ◌∷◌}
+use Rattle.std.proofs.Common.{◌≡◌, ℕ, suc, ◌+◌, ◌-◌, ◌*◌, ◌/◌, ◌%◌, ◌<◌, ◌≤◌, Bool, true, false, List, [], ◌∷◌}
 use Rattle.std.proofs.Common.{length, refl, sym, ap, ◌∙◌, subst, arith, eqb-true, le-leb, leb-true, set}
 use Rattle.std.proofs.Common.{get_or-set_same, get_or-set_other}
 use Rattle.std.proofs.Math.Path.{fun_ext}
 use Rattle.std.proofs.lemmas.Bool.{ne_eqb, leb-false, eqb-false}
-use Rattle.std.specs.Prelude.{nat_eq, nat_le, nat_lt, ◌&&◌, if◌then◌else◌, slice_index, bit_and, bit_or, bit_xor}
+use Rattle.std.specs.Prelude.{nat_eq, nat_le, nat_lt, if◌then◌else◌, slice_index, bit_and, bit_or, bit_xor}
 use Rattle.dvg_6502.specs.Processor.{Cpu, Access, Reads, Writes, put, run}
 use Rattle.dvg_6502.specs.Board.{seen}
 use Rattle.dvg_6502.specs.Amid.{is_work, is_kept, are_steady}
 use Rattle.dvg_6502.proofs.Running.{at, run_more, steady_more, IsSteady}
-use Rattle.dvg_6502.proofs.Memory.{laid, put_out, in_page, in_code, AreSmall, swap2, same_eqb, both_true, le_not}
+use Rattle.dvg_6502.proofs.Memory.{laid, put_out, AreSmall, swap2, same_eqb, both_true, le_not}
 use Rattle.dvg_6502.proofs.Masks.{turned, signed}
 
 -- a memory with these bytes from 001B on: dvg_y, dvg_x, left, length
