@@ -1,6 +1,6 @@
 -- Calls that are decided.
 use Rattle.std.proofs.Common.{◌≡◌, ℕ, inl, inr, ◌+◌, ◌-◌, ◌%◌, ◌<◌, Bool, true, false, not, List, ◌∷◌, refl, ap, ◌∙◌, subst, arith}
-use Rattle.std.proofs.Common.{eqb-true}
+use Rattle.std.proofs.Common.{eqb-true, sym}
 use Rattle.std.specs.Prelude.{nat_eq, nat_le, ◌&&◌, ◌||◌, if◌then◌else◌}
 use Rattle.dvg_6502.specs.Processor.{Cpu, Access, Reads, run, turn, step, at_return, decoded, opcodes, does, next, carrying}
 use Rattle.dvg_6502.specs.Board.{IsLoaded, seen}
@@ -240,3 +240,15 @@ module _ (cpu : Cpu) (is : is_leaving cpu.s cpu ≡ true) where
   pub leaving : IsDecided cpu false
   leaving = decided cpu left false 1 (ap turn_by clc) (returned cpu.s left rts refl) refl refl refl
       (ap (λ (t : Bool). t && true) (ap steady_by clc ∙ and_true (is_code cpu.pc) true parts1.0 refl)) parts2.0
+
+-- there a step comes to the return
+pub clears : (s : ℕ) (cpu : Cpu) → is_leaving s cpu ≡ true → at_return s (turn s cpu) ≡ true
+clears s cpu is = subst (λ q. at_return q (turn q cpu) ≡ true) level
+    (ap (at_return cpu.s) (ap (turn_by cpu here) (clc cpu here)) ∙ returned cpu.s (left cpu here) (rts cpu here) refl)
+  where
+    level : cpu.s ≡ s
+    level = eqb-true cpu.s s (both_true (nat_eq (cpu.mem (cpu.pc + 1)) 0x60) (nat_eq cpu.s s)
+        (both_true (nat_eq (cpu.mem cpu.pc) 0x18) _ (both_true (is_code (cpu.pc + 1)) _ (both_true (is_code cpu.pc) _ is).1).1).1).1
+
+    here : is_leaving cpu.s cpu ≡ true
+    here = subst (λ q. is_leaving q cpu ≡ true) (sym level) is

@@ -266,6 +266,8 @@ pub record Bridge (call : calls.Call) (more : List calls.Call) : Type 0 where
   pub frame : calls.frame_of (call ∷ more) ≡ plain.frame_of (plain_with left call ∷ rest)
   pub kept : (b : ℕ) → is_kept (calls.is_table call more) b ≡ true
       → (calls.after call).mem b ≡ (plain.after (plain_with left call)).mem b
+  pub same : CameOut (guards (is_kept (calls.is_table call more)) call.from.s)
+      (run call.from.s call.steps call.from) (calls.after call)
   pub returned : calls.has_returned call ≡ at_return call.from.s (run call.from.s call.steps call.from)
   pub over : calls.is_over call ≡ plain.has_returned (plain_with left call)
   pub carry : calls.is_over call ≡ true → calls.answer call ≡ (plain.after (plain_with left call)).c
@@ -303,7 +305,7 @@ or_false true = refl
 or_false false = refl
 
 -- a call that is leaving amid others is leaving without them
-leaves_too : (s : ℕ) (kept : ℕ → Bool) (pl it : Cpu) (memory : ℕ → ℕ) → ((b : ℕ) → is_code b ≡ true → kept b ≡ true)
+pub leaves_too : (s : ℕ) (kept : ℕ → Bool) (pl it : Cpu) (memory : ℕ → ℕ) → ((b : ℕ) → is_code b ≡ true → kept b ≡ true)
     → it ≡ changed memory pl → ((b : ℕ) → kept b ≡ true → it.mem b ≡ pl.mem b) → calls.is_leaving s it ≡ true
     → calls.is_leaving s pl ≡ true
 leaves_too s kept pl it memory code same agree is =
@@ -511,6 +513,7 @@ module _ (call : calls.Call) (more : List calls.Call) (rest : List plain.Call)
     frame = frame_as call.routine (unless_map call.routine (Facts call more rest)
         (calls.frame_of more ≡ plain.frame_of rest) (λ f. f.frame) facts);
     kept = λ b is. kept_same b is ∙ ap (λ (m : ℕ → ℕ). m b) (sym home.memory);
+    same = same;
     returned = returned;
     over = home.over;
     carry = home.carry;

@@ -12,7 +12,7 @@ use Rattle.dvg_6502.specs.Amid.{amid, AreHarmless, guards, is_kept, is_code}
 use Rattle.dvg_6502.specs.Code.{dvg_reset, dvg_tick, dvg_ticks, dvg_run, dvg_offer, dvg_redraw, dvg_open, dvg_close}
 use Rattle.dvg_6502.specs.Board.{seen, is_own, is_ram, byte1_place, phase_in}
 use Rattle.dvg_6502.specs.Tables.{HasTable, table_of}
-use Rattle.dvg_6502.specs.Routines.{Enters, Shows, Part, Labs, begins, put_by}
+use Rattle.dvg_6502.specs.Routines.{Enters, Shows, Part, Put, Pair, begins, put_by}
 
 -- what is called; an offer is of a draft's table, and dvg_open of the draft that is built from there on
 pub data Routine : Type 0 where
@@ -58,8 +58,8 @@ abbrev pub finds_busy : Routine → (ℕ → ℕ) → Bool
 finds_busy (Offer F) mem = not (nat_eq (phase_in mem) 2)
 finds_busy (Open F) mem = not (nat_eq (phase_in mem) 2)
 finds_busy Redraw mem = not (nat_eq (phase_in mem) 2)
-finds_busy (Puts Labs) mem = false
-finds_busy (Puts part) mem = not (nat_eq (phase_in mem) 7)
+finds_busy (Puts Put) mem = not (nat_eq (phase_in mem) 7)
+finds_busy (Puts Pair) mem = not (nat_eq (phase_in mem) 7)
 finds_busy Close mem = not (nat_eq (phase_in mem) 7)
 finds_busy routine mem = false
 

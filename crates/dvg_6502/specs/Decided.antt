@@ -2,10 +2,10 @@
 use Rattle.std.specs.Prelude.{◌≡◌, ◌≢◌, ℕ, ◌<◌, ◌⊎◌, ◌||◌, Bool, true, false, nat_eq, List, [], ◌∷◌}
 use Rattle.dvg_6502.specs.Processor.{Cpu, run, at_return}
 use Rattle.dvg_6502.specs.Code.{dvg_labs, dvg_pair}
-use Rattle.dvg_6502.specs.Board.{IsLoaded, seen}
+use Rattle.dvg_6502.specs.Board.{IsLoaded, phase_in, seen}
 use Rattle.dvg_6502.specs.Routines.{Enters, Pair, Labs, put_by}
 use Rattle.dvg_6502.specs.Amid.{ComesOut, CameOut, AreHarmless, amid, guards, is_code, is_work}
-use Rattle.dvg_6502.specs.Calls.{Call, after, IsSession, is_decided, answer}
+use Rattle.dvg_6502.specs.Calls.{Call, Routine, Offer, Open, Redraw, after, has_returned, IsSession, is_decided, is_over, answer}
 
 -- the call returns with this C, writes nothing and touches no hardware, whatever others do to all bytes but the code's
 pub record IsDecided (cpu : Cpu) (c : Bool) : Type 0 where
@@ -36,6 +36,18 @@ Decides = (cpu : Cpu) → IsLoaded cpu.mem → cpu.a < 256 → cpu.y < 256
 abbrev pub CallsDecide : Type 0
 CallsDecide = (call : Call) (calls : List Call) → IsSession (call ∷ calls) → is_decided call ≡ true
     → IsDecided (after call) (answer call) × ((after call).s ≡ call.from.s)
+
+-- the routines that begin something where the driver is idle
+abbrev pub asks : Routine → Bool
+asks (Offer F) = true
+asks (Open F) = true
+asks Redraw = true
+asks routine = false
+
+-- where the driver is idle, it is so until such a call is over: ticks amid it do nothing
+abbrev pub StaysIdle : Type 0
+StaysIdle = (call : Call) (calls : List Call) → IsSession (call ∷ calls) → asks call.routine ≡ true
+    → phase_in call.from.mem ≡ 2 → is_over call ≡ false → phase_in (after call).mem ≡ 2
 
 -- what dvg_labs takes before it looks at the phase: its code, dvg_y and dvg_x
 abbrev pub is_labs : ℕ → Bool

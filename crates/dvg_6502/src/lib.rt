@@ -4,7 +4,7 @@
 #![tactic(auto)]
 
 ghost use Rattle.dvg_6502.specs.Calls.{CallsLive, OfferAnswers, OneLife, OpenAnswers, RedrawAnswers, TicksReturn};
-ghost use Rattle.dvg_6502.specs.Decided.{CallsDecide, Decides, LabsIsPair};
+ghost use Rattle.dvg_6502.specs.Decided.{CallsDecide, Decides, LabsIsPair, StaysIdle};
 ghost use Rattle.dvg_6502.specs.Programs.{Hindsight};
 ghost use Rattle.dvg_6502.specs.Joined.{BoardKeeps, SomeBuilding, SomeCalls, SomeLogs, SomeTicks};
 ghost use Rattle.dvg_6502.specs.Routines.{OfferRefuses, OfferTakes, RedrawRefuses, RedrawTakes};
@@ -136,5 +136,6 @@ pub fn built_accepted()
 pub fn decides()
     ensures places { Decides }
     ensures calls { CallsDecide }
+    ensures idle { StaysIdle }
     ensures labs { LabsIsPair }
 {}
