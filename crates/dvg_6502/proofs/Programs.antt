@@ -97,10 +97,12 @@ ticks_come_back from others (older ∷ olds) session =
     let first = session 0 in
     let was = held call older olds first.0 first.3.0 first.3.1 in
     let done = ticks_return (holds_in was.0 was.1.0 (frame_of (older ∷ olds))) from was.0 was.1.0 was.1.1.0
-    (holds_goes was.0 was.1.0 (frame_of (older ∷ olds))) first.0.entry first.0.a first.0.s was.1.1.1 in (
+    (holds_goes was.0 was.1.0 (frame_of (older ∷ olds))) first.0.entry first.0.a first.0.s was.1.1.1 in
+    let all = bridge (record { routine = Ticks; from = from; steps = done.0; others = others }) (older ∷ olds)
+    (session done.0) in (
       done.0,
-      (bridge (record { routine = Ticks; from = from; steps = done.0; others = others }) (older ∷ olds)
-          (session done.0)).returned ∙ done.1,
+      all.returned ∙ done.1,
+      ap (λ (k : Cpu). k.mem 0x1F) all.same.same ∙ all.same.keeps 0x1F refl ∙ done.2,
     )
 
 -- the draft doesn't matter to whether a call is over

@@ -249,8 +249,9 @@ abbrev pub RedrawAnswers : Type 0
 RedrawAnswers = (life : List Item) → (IsAnswered Redraw false life → (has_flip life ≡ true) × IsWhole life)
     × (IsAnswered Redraw true life → has_flip life ≡ true → ¬ IsWhole life)
 
--- a call of dvg_ticks returns, as long as it is in a session after each number of steps
+-- a call of dvg_ticks returns, as long as it is in a session after each number of steps; its count is 0 then
 abbrev pub TicksReturn : Type 0
 TicksReturn = (from : Cpu) (others : ℕ → ℕ → ℕ) (calls : List Call)
     → ((n : ℕ) → IsSession (record { routine = Ticks; from = from; steps = n; others = others } ∷ calls))
     → (n : ℕ) × (has_returned (record { routine = Ticks; from = from; steps = n; others = others }) ≡ true)
+    × ((after (record { routine = Ticks; from = from; steps = n; others = others })).mem 0x1F ≡ 0)

@@ -70,7 +70,7 @@ pub fn some_calls()
     ensures logs { SomeLogs }
 {}
 
-/// A call of `dvg_ticks` returns, also amid interrupts.
+/// A call of `dvg_ticks` returns, also amid interrupts, with its count at 0.
 pub fn ticks_return()
     ensures { TicksReturn }
 {}
