@@ -36,12 +36,12 @@ place_of p q is low high = subst Place (sym is) (record {
 })
 
 -- it has come back
-comes_back : {q s : ℕ} {from : Cpu} {c : Bool} {mem : ℕ → ℕ} {events : List Access} {reads : List ℕ}
+pub comes_back : {q s : ℕ} {from : Cpu} {c : Bool} {mem : ℕ → ℕ} {events : List Access} {reads : List ℕ}
     → (did : Comes q from s c mem events reads) → at_return s (run q did.steps from) ≡ true
 comes_back {q = q} {s = s} {from = from} did = returned s (run q did.steps from) did.returns did.stack
 
 -- any state of an entry, with another phase
-entered : (cpu : Cpu) (entry phase : ℕ) → Enters cpu entry → cpu.mem 0x10 ≡ phase
+pub entered : (cpu : Cpu) (entry phase : ℕ) → Enters cpu entry → cpu.mem 0x10 ≡ phase
     → at entry cpu.a cpu.x cpu.y cpu.s cpu.n cpu.z cpu.c cpu.v
     (laid (page_of phase (cpu.mem 0x11) (cpu.mem 0x12) (cpu.mem 0x13) (cpu.mem 0x14) (cpu.mem 0x15) (cpu.mem 0x16)
     (cpu.mem 0x17) (cpu.mem 0x18) (cpu.mem 0x19) (cpu.mem 0x1A)) cpu.mem) cpu.flags [] ≡ cpu
@@ -139,7 +139,7 @@ module _ (a x y s : ℕ) (n z c v : Bool) (mem flags : ℕ → ℕ) (log : List 
   room true false is also = refl
   room false late is also = refl
 
-  comes : Comes s from s false (laid page new) events []
+  pub comes : Comes s from s false (laid page new) events []
   comes =
       subst (λ p. Comes s from s false (laid page (put (suc (suc (suc goal))) b3 (put (suc (suc goal)) b2 (put (suc goal) b1
       (put p b0 mem))))) (Writes (suc (suc (suc goal))) b3 ∷ Writes (suc (suc goal)) b2 ∷ Writes (suc goal) b1 ∷ Writes p b0
@@ -199,7 +199,7 @@ module _ (a x y s : ℕ) (n z c v : Bool) (mem flags : ℕ → ℕ) (log : List 
   byte : (b k : ℕ) → mem b ≡ k → k < 256
   byte b k is = subst (λ j. j < 256) is (load.bytes b)
 
-  built : IsBuilding (laid page new) half flipped rest
+  pub built : IsBuilding (laid page new) half flipped rest
   built = record {
     phase = refl;
     free = building.free;
@@ -217,7 +217,7 @@ module _ (a x y s : ℕ) (n z c v : Bool) (mem flags : ℕ → ℕ) (log : List 
       (put_small (suc (suc goal)) b2 _ (byte 0x1D b2 is2) (put_small (suc goal) b1 _ (byte 0x1C b1 is1)
       (put_small goal b0 mem (byte 0x1B b0 is0) load.bytes))))
 
-  moved_on : goal_in (laid page new) ≡ goal + 4
+  pub moved_on : goal_in (laid page new) ≡ goal + 4
   moved_on = omega (arith, two.3, one.3)
 
   pub byte1 : laid page new 0x4001 ≡ mem 0x4001

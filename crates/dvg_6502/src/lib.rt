@@ -1,5 +1,5 @@
 //! The 6502 code of the driver, proved from its bytes: each routine does what the script says, but
-//! for dvg_copy and dvg_vector, of which no law speaks: they are tested.
+//! for dvg_copy, of which no law speaks: it is tested.
 //! There is no code here. Each law is the contract of a function that does nothing.
 #![tactic(auto)]
 
@@ -10,7 +10,8 @@ ghost use Rattle.dvg_6502.specs.Joined.{BoardKeeps, SomeBuilding, SomeCalls, Som
 ghost use Rattle.dvg_6502.specs.Routines.{OfferRefuses, OfferTakes, RedrawRefuses, RedrawTakes};
 ghost use Rattle.dvg_6502.specs.Routines.{ResetRefines, TickRefines};
 ghost use Rattle.dvg_6502.specs.Build.{BuildsScript, BuiltAccepted, CloseTakes, IdleTicks};
-ghost use Rattle.dvg_6502.specs.Build.{LabsTakes, OpenTakes, PairTakes, PutTakes};
+ghost use Rattle.dvg_6502.specs.Build.{LabsTakes, OpenTakes, PairTakes, PutTakes, VectorRefuses, VectorTakes};
+ghost use Rattle.dvg_6502.specs.Moves.{VectorDraws};
 ghost use Rattle.dvg_6502.specs.Whole.{BuildsFrame, BuildsLife, SomeFrame};
 ghost use Rattle.dvg_6502.specs.Tables.{CheckedExpressible, TableLaw, TableMisses};
 
@@ -110,6 +111,9 @@ pub fn builds()
     ensures puts { PutTakes }
     ensures pairs { PairTakes }
     ensures labs { LabsTakes }
+    ensures vector { VectorTakes }
+    ensures no_vector { VectorRefuses }
+    ensures vector_draws { VectorDraws }
     ensures closes { CloseTakes }
     ensures idles { IdleTicks }
     ensures script { BuildsScript }
