@@ -51,5 +51,6 @@ pub mod Interrupted
 pub mod Idling
 pub mod Drafts
 pub mod Programs
+pub mod BuildStays
 pub mod Joined
 pub mod Example

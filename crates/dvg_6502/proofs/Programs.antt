@@ -76,7 +76,7 @@ told call calls session c carry here = let is = bridge call calls session in
     is.carry here ∙ carry (is.left + call.steps) (sym is.over ∙ here)
 
 -- what holds at a call that follows others
-held : (call older : Call) (olds : List Call) → Enters call.from (entry call.routine) → Follows call (older ∷ olds)
+pub held : (call older : Call) (olds : List Call) → Enters call.from (entry call.routine) → Follows call (older ∷ olds)
     → IsSession (older ∷ olds)
     → (begin : ℕ) × ((stop : ℕ) × ((life : List Item) × holds_in begin stop (frame_of (older ∷ olds)) call.from.mem life))
 held call older olds enters follows session =

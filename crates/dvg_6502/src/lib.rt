@@ -4,7 +4,7 @@
 #![tactic(auto)]
 
 ghost use Rattle.dvg_6502.specs.Calls.{CallsLive, OfferAnswers, OneLife, OpenAnswers, RedrawAnswers, TicksReturn};
-ghost use Rattle.dvg_6502.specs.Decided.{CallsDecide, Decides, LabsIsPair, StaysIdle};
+ghost use Rattle.dvg_6502.specs.Decided.{CallsDecide, Decides, LabsIsPair, StaysBuilding, StaysIdle};
 ghost use Rattle.dvg_6502.specs.Programs.{Hindsight};
 ghost use Rattle.dvg_6502.specs.Joined.{BoardKeeps, SomeBuilding, SomeCalls, SomeLogs, SomeTicks};
 ghost use Rattle.dvg_6502.specs.Routines.{OfferRefuses, OfferTakes, RedrawRefuses, RedrawTakes};
@@ -136,10 +136,12 @@ pub fn built_accepted()
 
 /// After its look at the phase, if that refuses, and after its store of the phase, a call of the main
 /// program takes its code alone: ticks of an NMI may act there, and it returns the same C. So does each
-/// of the calls whose answer is decided. `dvg_labs` is `dvg_pair` from its look on.
+/// of the calls whose answer is decided. Before that the driver is idle, or a frame is being built, so
+/// that ticks do nothing. `dvg_labs` is `dvg_pair` from its look on.
 pub fn decides()
     ensures places { Decides }
     ensures calls { CallsDecide }
     ensures idle { StaysIdle }
+    ensures building { StaysBuilding }
     ensures labs { LabsIsPair }
 {}
