@@ -1,18 +1,18 @@
 -- What dvg_put does, by the frame that is being built.
 use Rattle.std.proofs.Common.{◌≡◌, ℕ, suc, ◌+◌, ◌*◌, ◌%◌, ◌<◌, ◌≤◌, Bool, true, false, List, [], ◌∷◌, length}
-use Rattle.std.proofs.Common.{refl, sym, ap, ◌∙◌, subst, arith, leb-true, eqb-true}
+use Rattle.std.proofs.Common.{refl, sym, ap, ◌∙◌, subst, arith, leb-true, le-leb, eqb-true}
 use Rattle.std.proofs.lemmas.Bool.{eqb-false, ne_eqb}
-use Rattle.std.specs.Prelude.{nat_eq, nat_le, if◌then◌else◌}
+use Rattle.std.specs.Prelude.{nat_eq, nat_le, nat_lt, if◌then◌else◌, slice_index, ◌-◌}
 use Rattle.dvg_mem.specs.declared.half.Half.{Half}
 use Rattle.dvg_mem.specs.declared.half.Half.TheVariants.{H0, H1}
 use Rattle.dvg_mem.specs.Areas.{base, other}
 use Rattle.dvg_6502.specs.Processor.{Cpu, Access, Writes, put, run}
-use Rattle.dvg_6502.specs.Code.{dvg_put}
-use Rattle.dvg_6502.specs.Board.{IsLoaded, seen, goal_in}
+use Rattle.dvg_6502.specs.Code.{code, dvg_put}
+use Rattle.dvg_6502.specs.Board.{IsLoaded, seen, goal_in, is_own, is_ram}
 use Rattle.dvg_6502.specs.Routines.{Enters}
 use Rattle.dvg_6502.specs.Build.{IsBuilding, Builds, PutTakes}
 use Rattle.dvg_6502.proofs.Running.{Comes, at, returned}
-use Rattle.dvg_6502.proofs.Memory.{AreSmall, page_in, laid, page_of, loaded, put_small, in_page, in_code, state_is}
+use Rattle.dvg_6502.proofs.Memory.{AreSmall, page_in, laid, page_of, loaded, put_small, in_page, in_code, state_is, known, same_out}
 use Rattle.dvg_6502.proofs.StoredByte.{carried}
 use Rattle.dvg_6502.proofs.TableTick.{in_ram, carried_small}
 use Rattle.dvg_6502.proofs.Alike.{alike_if, Keeping}
@@ -29,6 +29,24 @@ builds_so cpu half flipped now rest did keeping = (did, keeping)
 pub base_low : (half : Half) → (1 ≤ base half) × (base half ≤ 0x201)
 base_low H0 = (omega arith, omega arith)
 base_low H1 = (omega arith, omega arith)
+
+-- a write of the vector RAM changes no other byte
+pub put_far : (p v : ℕ) (m : ℕ → ℕ) (b : ℕ) → is_ram b ≡ false → 0x4002 ≤ p → p < 0x4800 → put p v m b ≡ m b
+put_far p v m b ram low high = ap (λ (t : Bool). if t then v else m b)
+    (ne_eqb b p (λ same. absurd (let in_it : is_ram b ≡ true = subst (λ k. is_ram k ≡ true) (sym same) there in cc)))
+  where
+    there : is_ram p ≡ true
+    there =
+        let first : nat_le 0x4000 p ≡ true = le-leb 0x4000 p (omega (arith, low)) in
+        let last : nat_lt p 0x4800 ≡ true = le-leb (suc p) 0x4800 (omega (arith, high)) in
+        rw (first, last) refl
+
+-- but for the driver's bytes, what is laid over a memory is that memory
+pub laid_out : (page : List ℕ) (new mem : ℕ → ℕ) → IsLoaded mem → (b : ℕ) → is_own b ≡ false → new b ≡ mem b
+    → laid page new b ≡ mem b
+laid_out page new mem load b own same =
+    ap (λ k. if in_page b then slice_index page (b - 0x10) else if in_code b then slice_index code (b - 0x6800) else k) same
+    ∙ same_out page (page_in mem) mem b own ∙ sym (ap (λ (m : ℕ → ℕ). m b) (known mem load))
 
 -- where the frame goes on
 module _ (mem : ℕ → ℕ) (half : Half) (flipped : Bool) (rest : List ℕ) (load : IsLoaded mem)
@@ -196,6 +214,11 @@ module _ (a x y s : ℕ) (n z c v : Bool) (mem flags : ℕ → ℕ) (log : List 
 
   pub moved_on : goal_in final ≡ goal + 2
   moved_on = omega (arith, moved.3)
+
+  pub kept : (b : ℕ) → is_own b ≡ false → is_ram b ≡ false → final b ≡ mem b
+  kept b own ram = laid_out page (put (suc goal) x (put goal a mem)) mem load b own
+      (put_far (suc goal) x (put goal a mem) b ram (omega (arith, low)) (omega (arith, high, more))
+      ∙ put_far goal a mem b ram low (omega (arith, high)))
 
   builds : seen log ≡ [] → BuildsSo (from 7) half flipped (a ∷ x ∷ []) rest
   builds quiet = (

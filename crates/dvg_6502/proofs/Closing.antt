@@ -10,7 +10,7 @@ use Rattle.dvg_driver.specs.Script.{word_zero}
 use Rattle.dvg_driver.specs.Place.{Resting, Writing}
 use Rattle.dvg_6502.specs.Processor.{Cpu, Access, Reads, Writes, put, run, at_return}
 use Rattle.dvg_6502.specs.Code.{dvg_open, dvg_pair, dvg_labs, dvg_close}
-use Rattle.dvg_6502.specs.Board.{IsLoaded, seen, goal_in}
+use Rattle.dvg_6502.specs.Board.{IsLoaded, seen, goal_in, is_own, is_ram}
 use Rattle.dvg_6502.specs.Holds.{Holds, publish_byte}
 use Rattle.dvg_6502.specs.Routines.{Enters}
 use Rattle.dvg_6502.specs.Build.{IsBuilding, Opens, Closes, OpenTakes, PairTakes, LabsTakes, CloseTakes}
@@ -24,7 +24,7 @@ use Rattle.dvg_6502.proofs.BuildRun.{is_full}
 use Rattle.dvg_6502.proofs.Alike.{alike_if, Keeping}
 use Rattle.dvg_6502.proofs.Masks.{opened, mixed}
 use Rattle.dvg_6502.proofs.PairRun.{Place, pair_room, labs_run, open_takes, close_ends}
-use Rattle.dvg_6502.proofs.Building.{BuildsSo, builds_so, goal_low, goal_high, place_low, on_word}
+use Rattle.dvg_6502.proofs.Building.{BuildsSo, builds_so, goal_low, goal_high, place_low, on_word, put_far, laid_out}
 
 -- an address of the vector RAM is one where a byte is stored
 pub place_of : (p q : ℕ) → q ≡ p → 0x4002 ≤ p → p < 0x4800 → Place q
@@ -228,6 +228,14 @@ module _ (a x y s : ℕ) (n z c v : Bool) (mem flags : ℕ → ℕ) (log : List 
       kept : (p b : ℕ) (m : ℕ → ℕ) → 0x4002 ≤ p → put p b m 0x4001 ≡ m 0x4001
       kept p b m far = ap (λ (t : Bool). if t then b else m 0x4001)
           (ne_eqb 0x4001 p (λ same. absurd (omega (arith, same, far))))
+
+  pub kept : (b : ℕ) → is_own b ≡ false → is_ram b ≡ false → laid page new b ≡ mem b
+  kept b own ram = laid_out page new mem load b own
+      (put_far (suc (suc (suc goal))) b3 (put (suc (suc goal)) b2 (put (suc goal) b1 (put goal b0 mem))) b ram
+      (omega (arith, low)) (omega (arith, top, more))
+      ∙ put_far (suc (suc goal)) b2 (put (suc goal) b1 (put goal b0 mem)) b ram (omega (arith, low)) (omega (arith, top))
+      ∙ put_far (suc goal) b1 (put goal b0 mem) b ram (omega (arith, low)) (omega (arith, top))
+      ∙ put_far goal b0 mem b ram low (omega (arith, top)))
 
 pub pair_steadily : (cpu : Cpu) (half : Half) (flipped : Bool) (rest : List ℕ) → Enters cpu dvg_pair
     → let now = cpu.mem 0x1B ∷ cpu.mem 0x1C ∷ cpu.mem 0x1D ∷ cpu.mem 0x1E ∷ [] in

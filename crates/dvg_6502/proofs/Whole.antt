@@ -115,7 +115,7 @@ part_does Vector cpu half flipped rest enters building more = by (put_by Vector 
         (of_refusal cpu half flipped rest (vector_refuses cpu enters (inl is))
         (subst (λ l. IsBuilding cpu.mem half flipped (l ++ rest)) is building))
     by (byte ∷ bytes) is = of_builds cpu half flipped (put_by Vector cpu) rest (vector_takes cpu half flipped rest enters
-        (let e = ap length is in omega (arith, e)) building more)
+        (let e = ap length is in omega (arith, e)) building more).0
 
 -- what parts do
 record Did (mem : ℕ → ℕ) (calls : Parts) (half : Half) (flipped : Bool) (rest : List ℕ) : Type 0 where

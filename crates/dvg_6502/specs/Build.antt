@@ -17,7 +17,8 @@ use Rattle.dvg_6502.specs.Amid.{ComesOut, guards, is_kept_building, is_work}
 use Rattle.dvg_6502.specs.Calls.{AreShown}
 use Rattle.dvg_6502.specs.Processor.{Cpu, Access, Writes, run, at_return}
 use Rattle.dvg_6502.specs.Code.{dvg_tick, dvg_open, dvg_put, dvg_pair, dvg_labs, dvg_vector, dvg_close}
-use Rattle.dvg_6502.specs.Board.{IsLoaded, seen, phase_in, free_in, publish_in, place_in, pages_in, goal_in}
+use Rattle.dvg_6502.specs.Board.{IsLoaded, seen, is_own, is_ram, phase_in, free_in, publish_in, place_in, pages_in}
+use Rattle.dvg_6502.specs.Board.{goal_in}
 use Rattle.dvg_6502.specs.Holds.{Holds, publish_byte}
 use Rattle.dvg_6502.specs.Routines.{Enters, Vector, put_by}
 
@@ -68,11 +69,14 @@ LabsTakes = (cpu : Cpu) (half : Half) (flipped : Bool) (rest : List ℕ) → Ent
     → let now = cpu.mem 0x1B ∷ (0xA0 + cpu.mem 0x1C % 16) ∷ cpu.mem 0x1D ∷ (16 * (cpu.a / 16) + cpu.mem 0x1E % 16) ∷ [] in
     IsBuilding cpu.mem half flipped (now ++ rest) → 2 ≤ length rest → Builds cpu half flipped now rest
 
--- dvg_vector puts the vector of dvg_x and dvg_y, each of -1023 to 1023; A is 16 times the scale, of 0 to 9, and the intensity
+-- dvg_vector puts the vector of dvg_x and dvg_y, each of -1023 to 1023; A is 16 times the scale, of 0 to 9, and the intensity;
+-- of memory it changes at most the driver's bytes, dvg_y, dvg_x, left, length, and the vector RAM
 abbrev pub VectorTakes : Type 0
 VectorTakes = (cpu : Cpu) (half : Half) (flipped : Bool) (rest : List ℕ) → Enters cpu dvg_vector
     → let now = put_by Vector cpu in
-    1 ≤ length now → IsBuilding cpu.mem half flipped (now ++ rest) → 2 ≤ length rest → Builds cpu half flipped now rest
+    1 ≤ length now → IsBuilding cpu.mem half flipped (now ++ rest) → 2 ≤ length rest
+    → (did : Builds cpu half flipped now rest) × ((b : ℕ) → is_own b ≡ false → is_work b ≡ false → is_ram b ≡ false
+    → (run cpu.s did.steps cpu).mem b ≡ cpu.mem b)
 
 -- the call returns with C set and S as it was, touches no hardware, and changes of memory at most dvg_y, dvg_x, left and
 -- length; the same amid others

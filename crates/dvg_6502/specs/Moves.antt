@@ -40,3 +40,10 @@ abbrev pub VectorDraws : Type 0
 VectorDraws = (scale : ℕ) (dx dy : ℤ) (z : ℕ) → is_vector scale dx dy ≡ true → z ≤ 15
     → InRange (vector scale dx dy z) × ((beam : Beam) → (moved beam (vector scale dx dy z) ≡ moved beam (Vctr scale dx dy z))
     × (drawn beam (vector scale dx dy z) ≡ drawn beam (Vctr scale dx dy z)))
+
+-- examples: 100 to the right and 100 down at scale 9, as two words; 256 to the right and 512 down at scale 4, as one; and
+-- there is no vector by 1024
+abbrev pub SomeVectors : Type 0
+SomeVectors = (vector_bytes 9 (number 0x64 0x00) (number 0x9C 0xFF) 7 ≡ 0x64 ∷ 0x94 ∷ 0x64 ∷ 0x70 ∷ [])
+    × (vector_bytes 4 (number 0x00 0x01) (number 0x00 0xFE) 7 ≡ 0x79 ∷ 0xF6 ∷ [])
+    × (vector_bytes 9 (number 0x00 0x04) (number 0x00 0x00) 7 ≡ [])

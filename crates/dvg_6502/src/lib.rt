@@ -11,7 +11,7 @@ ghost use Rattle.dvg_6502.specs.Routines.{OfferRefuses, OfferTakes, RedrawRefuse
 ghost use Rattle.dvg_6502.specs.Routines.{ResetRefines, TickRefines};
 ghost use Rattle.dvg_6502.specs.Build.{BuildsScript, BuiltAccepted, CloseTakes, IdleTicks};
 ghost use Rattle.dvg_6502.specs.Build.{LabsTakes, OpenTakes, PairTakes, PutTakes, VectorRefuses, VectorTakes};
-ghost use Rattle.dvg_6502.specs.Moves.{VectorDraws};
+ghost use Rattle.dvg_6502.specs.Moves.{SomeVectors, VectorDraws};
 ghost use Rattle.dvg_6502.specs.Whole.{BuildsFrame, BuildsLife, SomeFrame};
 ghost use Rattle.dvg_6502.specs.Tables.{CheckedExpressible, TableLaw, TableMisses};
 
@@ -104,8 +104,10 @@ pub fn board_keeps()
     ensures { BoardKeeps }
 {}
 
-/// The routines that build a frame, one by one: what they put is written where the frame goes on, as the
-/// script's next writes, and after `dvg_close` word zero is to come.
+/// The routines that build a frame, one by one: what they put is written where the frame goes on, as
+/// the script's next writes, and after `dvg_close` word zero is to come. `dvg_vector` puts the
+/// canonical words of a vector, or the one word of the short vector that draws the same. Where there
+/// is no such vector, no frame or no room, it is refused.
 pub fn builds()
     ensures opens { OpenTakes }
     ensures puts { PutTakes }
@@ -114,6 +116,7 @@ pub fn builds()
     ensures vector { VectorTakes }
     ensures no_vector { VectorRefuses }
     ensures vector_draws { VectorDraws }
+    ensures some_vectors { SomeVectors }
     ensures closes { CloseTakes }
     ensures idles { IdleTicks }
     ensures script { BuildsScript }

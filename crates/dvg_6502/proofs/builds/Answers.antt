@@ -1,3 +1,4 @@
+use Rattle.std.proofs.Common.{refl}
 use Rattle.dvg_6502.proofs.Building.{put_takes}
 use Rattle.dvg_6502.proofs.Closing.{open_is_taken, pair_takes, labs_takes, close_takes, idle_ticks}
 use Rattle.dvg_6502.proofs.VectorBuilds.{vector_takes, vector_refuses}
@@ -14,6 +15,7 @@ returns c = record {
   vector = vector_takes;
   no_vector = vector_refuses;
   vector_draws = vector_draws;
+  some_vectors = (refl, refl, refl);
   closes = close_takes;
   idles = idle_ticks;
   script = builds_script;
