@@ -26,6 +26,7 @@ pub mod Standing
 pub mod Going
 pub mod TickCall
 pub mod TicksRun
+pub mod IdleTicks
 pub mod BurstRun
 pub mod BurstStep
 pub mod BurstWord

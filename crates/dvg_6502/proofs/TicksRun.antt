@@ -75,7 +75,7 @@ module _ (q a x y : ℕ) (n z c v : Bool) (mem flags : ℕ → ℕ) (log : List 
   abbrev told : Bool → (ℕ → ℕ) → Cpu
   told t m = at 0x6867 a x y q (nat_le 128 r) t c v m flags (Writes 0x1F r ∷ Reads 0x1F (mem 0x1F) ∷ log)
 
-  abbrev then_at : ℕ → Bool → Cpu
+  abbrev pub then_at : ℕ → Bool → Cpu
   then_at pc t = record (told t (laid (page_in mem) (put 0x1F r mem))) { pc = pc }
 
   counts : (t : Bool) → nat_eq r 0 ≡ t → run q 1 from ≡ told t (laid (page_in mem) (put 0x1F r mem))
