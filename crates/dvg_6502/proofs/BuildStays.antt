@@ -1,5 +1,5 @@
 -- Where dvg_put, dvg_pair or dvg_close finds a frame that is being built, the phase stays so until the call is over.
-use Rattle.std.proofs.Common.{◌≡◌, ℕ, suc, inl, inr, ◌+◌, ◌-◌, ◌*◌, ◌%◌, ◌<◌, ◌≤◌, Bool, true, false, List, [], ◌∷◌, length}
+use Rattle.std.proofs.Common.{◌≡◌, ℕ, suc, inl, inr, ◌+◌, ◌-◌, ◌*◌, ◌%◌, ◌<◌, ◌≤◌, Bool, true, false, List, [], ◌∷◌}
 use Rattle.std.proofs.Common.{refl, sym, ap, ◌∙◌, subst, arith, leb-true, le-leb, eqb-true, eq-eqb}
 use Rattle.std.proofs.lemmas.Bool.{leb-false, eqb-false, ne_eqb}
 use Rattle.std.specs.Prelude.{nat_eq, nat_le, nat_lt, ◌&&◌, ◌⊎◌, if◌then◌else◌, Option, Some, None}
@@ -17,7 +17,7 @@ use Rattle.dvg_6502.proofs.Running.{at}
 use Rattle.dvg_6502.proofs.Memory.{laid, page_of, HasCode, code_known, state_coded, in_code}
 use Rattle.dvg_6502.proofs.Idling.{are_in, StaysTo, after, call_stays}
 use Rattle.dvg_6502.proofs.Building.{goal_low, goal_high, place_low, base_low}
-use Rattle.dvg_6502.proofs.Built.{Built, holds_in}
+use Rattle.dvg_6502.proofs.Built.{holds_in}
 use Rattle.dvg_6502.proofs.BuildCalls.{not_building}
 use Rattle.dvg_6502.proofs.Programs.{held}
 

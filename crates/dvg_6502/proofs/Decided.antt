@@ -4,7 +4,7 @@ use Rattle.std.proofs.Common.{eqb-true, sym}
 use Rattle.std.specs.Prelude.{nat_eq, nat_le, ◌&&◌, ◌||◌, if◌then◌else◌}
 use Rattle.dvg_6502.specs.Processor.{Cpu, Access, Reads, run, turn, step, at_return, decoded, opcodes, does, next, carrying}
 use Rattle.dvg_6502.specs.Board.{IsLoaded, seen}
-use Rattle.dvg_6502.specs.Amid.{is_code, is_steady, are_steady, all_in, guards, touches, goes_home}
+use Rattle.dvg_6502.specs.Amid.{is_code, are_steady, all_in, guards, touches, goes_home}
 use Rattle.dvg_6502.specs.Routines.{Put, Pair, Labs, Vector}
 use Rattle.dvg_6502.specs.Calls as calls
 use Rattle.dvg_6502.specs.Calls.{Routine, entry, finds_busy, is_leaving}

@@ -1,9 +1,9 @@
 -- dvg_ticks where the driver is idle, or a frame is being built.
-use Rattle.std.proofs.Common.{◌≡◌, ◌≢◌, ℕ, zero, suc, inl, inr, ◌+◌, ◌-◌, ◌*◌, ◌%◌, ◌<◌, ◌≤◌, Bool, true, false, List, [], ◌∷◌}
+use Rattle.std.proofs.Common.{◌≡◌, ◌≢◌, ℕ, zero, suc, inl, inr, ◌+◌, ◌-◌, ◌*◌, ◌%◌, ◌<◌, ◌≤◌, Bool, true, false, List, ◌∷◌}
 use Rattle.std.proofs.Common.{refl, sym, ap, ◌∙◌, subst, arith, eqb-true}
 use Rattle.std.proofs.lemmas.Bool.{ne_eqb}
-use Rattle.std.specs.Prelude.{nat_eq, nat_le, ◌⊎◌, ◌&&◌, if◌then◌else◌}
-use Rattle.dvg_6502.specs.Processor.{Cpu, Access, Writes, Return, put, run, turn, does, at_return}
+use Rattle.std.specs.Prelude.{nat_eq, nat_le, ◌⊎◌, if◌then◌else◌}
+use Rattle.dvg_6502.specs.Processor.{Cpu, Access, Writes, Return, put, run, does, at_return}
 use Rattle.dvg_6502.specs.Board.{seen}
 use Rattle.dvg_6502.specs.Routines.{Enters}
 use Rattle.dvg_6502.specs.Build.{IdlesAll, IdleTicksAll}

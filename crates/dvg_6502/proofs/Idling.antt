@@ -3,7 +3,7 @@ use Rattle.std.proofs.Common.{◌≡◌, ℕ, zero, suc, inl, inr, ◌+◌, ◌<
 use Rattle.std.proofs.Common.{subst, arith, eqb-true, eq-eqb}
 use Rattle.std.specs.Prelude.{nat_eq, ◌&&◌, ◌||◌, ◌⊎◌}
 use Rattle.dvg_6502.specs.Processor.{Cpu, Access, run, turn, at_return}
-use Rattle.dvg_6502.specs.Amid.{changed, guards, is_kept, is_code}
+use Rattle.dvg_6502.specs.Amid.{changed, is_kept}
 use Rattle.dvg_6502.specs.Routines.{Enters}
 use Rattle.dvg_6502.specs.Calls as calls
 use Rattle.dvg_6502.specs.Calls.{Routine}

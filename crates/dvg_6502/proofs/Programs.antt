@@ -15,7 +15,7 @@ use Rattle.dvg_6502.specs.Tables.{table_of}
 use Rattle.dvg_6502.specs.Routines.{Enters, Part, Put, Pair, Labs, Vector, begins, put_by}
 use Rattle.dvg_6502.specs.Moves.{number, is_vector, is_short, in_256s, vector, vector_bytes}
 use Rattle.dvg_6502.specs.Calls.{Routine, Reset, Tick, Ticks, Run, Offer, Redraw, Open, Puts, Close, Call, after}
-use Rattle.dvg_6502.specs.Calls.{is_over, answer, finds_busy, is_refused, is_leaving, is_taken, is_offered, entry, bounds, taken_bounds, put_on, frame_of, frame_after, Brings}
+use Rattle.dvg_6502.specs.Calls.{is_over, answer, finds_busy, is_leaving, is_taken, is_offered, entry, bounds, taken_bounds, put_on, frame_of, frame_after, Brings}
 use Rattle.dvg_6502.specs.Calls.{IsLeftAlone, IsRoomFor, Follows, UnlessReset, IsSessionBy, IsSession, TicksReturn}
 use Rattle.dvg_6502.specs.Build.{IsPut}
 use Rattle.dvg_6502.specs.Programs.{IsLabs, Tells, renamed, with_drafts, BuildsOnly, AreBuilt, Hindsight}

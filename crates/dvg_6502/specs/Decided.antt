@@ -5,7 +5,7 @@ use Rattle.dvg_6502.specs.Code.{dvg_labs, dvg_pair}
 use Rattle.dvg_6502.specs.Board.{IsLoaded, phase_in, seen}
 use Rattle.dvg_6502.specs.Routines.{Enters, Put, Pair, Labs, put_by}
 use Rattle.dvg_6502.specs.Amid.{ComesOut, CameOut, AreHarmless, amid, guards, is_code, is_work}
-use Rattle.dvg_6502.specs.Calls.{Call, Routine, Offer, Open, Redraw, Puts, Close, after, has_returned, IsSession, is_decided, is_over, answer}
+use Rattle.dvg_6502.specs.Calls.{Call, Routine, Offer, Open, Redraw, Puts, Close, after, IsSession, is_decided, is_over, answer}
 
 -- the call returns with this C, writes nothing and touches no hardware, whatever others do to all bytes but the code's
 pub record IsDecided (cpu : Cpu) (c : Bool) : Type 0 where
