@@ -26,6 +26,7 @@ pub mod Standing
 pub mod Going
 pub mod TickCall
 pub mod TicksRun
+pub mod IdleTicks
 pub mod BurstRun
 pub mod BurstStep
 pub mod BurstWord
@@ -48,7 +49,9 @@ pub mod ExampleFrame
 pub mod Plain
 pub mod Sessions
 pub mod Interrupted
+pub mod Idling
 pub mod Drafts
 pub mod Programs
+pub mod BuildStays
 pub mod Joined
 pub mod Example

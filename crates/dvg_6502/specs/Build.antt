@@ -1,5 +1,5 @@
 -- Frames that a program builds, by dvg_open, dvg_put, dvg_pair, dvg_labs, dvg_vector and dvg_close.
-use Rattle.std.specs.Prelude.{◌≡◌, ℕ, suc, ◌+◌, ◌-◌, ◌*◌, ◌%◌, ◌<◌, ◌≤◌, Bool, true, false, not, List, [], ◌∷◌}
+use Rattle.std.specs.Prelude.{◌≡◌, ◌≢◌, ℕ, suc, ◌+◌, ◌-◌, ◌*◌, ◌%◌, ◌<◌, ◌≤◌, Bool, true, false, not, List, [], ◌∷◌}
 use Rattle.std.specs.Prelude.{◌++◌, length, ◌⊎◌, All, Some, ◌/◌, nat_eq}
 use Rattle.dvg_code.specs.declared.instr.Instr.TheVariants.{Labs}
 use Rattle.dvg_code.specs.Acts.{Moves, act_of}
@@ -15,8 +15,8 @@ use Rattle.dvg_driver.specs.Place.{Resting, Writing, place_of_life}
 use Rattle.dvg_frame.specs.Bytes.{addressed}
 use Rattle.dvg_6502.specs.Amid.{ComesOut, guards, is_kept_building, is_work}
 use Rattle.dvg_6502.specs.Calls.{AreShown}
-use Rattle.dvg_6502.specs.Processor.{Cpu, Access, Writes, run, at_return}
-use Rattle.dvg_6502.specs.Code.{dvg_tick, dvg_open, dvg_put, dvg_pair, dvg_labs, dvg_vector, dvg_close}
+use Rattle.dvg_6502.specs.Processor.{Cpu, Access, Writes, run, at_return, stack_place}
+use Rattle.dvg_6502.specs.Code.{dvg_ticks, dvg_tick, dvg_open, dvg_put, dvg_pair, dvg_labs, dvg_vector, dvg_close}
 use Rattle.dvg_6502.specs.Board.{IsLoaded, seen, is_own, is_ram, phase_in, free_in, publish_in, place_in, pages_in}
 use Rattle.dvg_6502.specs.Board.{goal_in}
 use Rattle.dvg_6502.specs.Holds.{Holds, publish_byte}
@@ -143,6 +143,20 @@ pub record Idles (cpu : Cpu) : Type 0 where
 -- where the driver rests, and while a frame is being built, a tick changes nothing
 abbrev pub IdleTicks : Type 0
 IdleTicks = (cpu : Cpu) → Enters cpu dvg_tick → (phase_in cpu.mem ≡ 2) ⊎ (phase_in cpu.mem ≡ 7) → Idles cpu
+
+-- ticks that change nothing: the call returns with S as it was, touches no hardware, and leaves memory as it was, but for
+-- its count, which is 0, and two bytes of the stack below S
+pub record IdlesAll (cpu : Cpu) : Type 0 where
+  pub steps : ℕ
+  pub returns : at_return cpu.s (run cpu.s steps cpu) ≡ true
+  pub shows : seen (run cpu.s steps cpu).log ≡ []
+  pub count : (run cpu.s steps cpu).mem 0x1F ≡ 0
+  pub kept : (b : ℕ) → b ≢ 0x1F → b ≢ stack_place cpu.s → b ≢ stack_place (cpu.s + 255)
+      → (run cpu.s steps cpu).mem b ≡ cpu.mem b
+
+-- so dvg_ticks does nothing there
+abbrev pub IdleTicksAll : Type 0
+IdleTicksAll = (cpu : Cpu) → Enters cpu dvg_ticks → (phase_in cpu.mem ≡ 2) ⊎ (phase_in cpu.mem ≡ 7) → IdlesAll cpu
 
 -- a frame that calls one shape of the ROM
 abbrev pub calls_one : ℕ → List OpKind

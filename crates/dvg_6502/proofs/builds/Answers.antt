@@ -4,6 +4,7 @@ use Rattle.dvg_6502.proofs.Closing.{open_is_taken, pair_takes, labs_takes, close
 use Rattle.dvg_6502.proofs.VectorBuilds.{vector_takes, vector_refuses}
 use Rattle.dvg_6502.proofs.VectorDraws.{vector_draws}
 use Rattle.dvg_6502.proofs.BuildScript.{builds_script}
+use Rattle.dvg_6502.proofs.IdleTicks.{idle_ticks_all}
 use Rattle.dvg_6502.proofs.builds.Goals as goal
 
 pub returns : goal.returns
@@ -18,5 +19,6 @@ returns c = record {
   some_vectors = (refl, refl, refl);
   closes = close_takes;
   idles = idle_ticks;
+  idles_all = idle_ticks_all;
   script = builds_script;
 }
