@@ -53,7 +53,7 @@ module _ (image : List ℕ) where
   flag_ram false true halted log = refl
   flag_ram false false halted log = refl
 
-  looks_ram : (board : Board) (bus : Bus) (log : Log) → ram image (did (looks board bus) log) ≡ ram image log
+  pub looks_ram : (board : Board) (bus : Bus) (log : Log) → ram image (did (looks board bus) log) ≡ ram image log
   looks_ram board bus log = flag_ram (reads bus 0x2002) (reads bus 0x4001) (nat_eq (halted board.core) 1) log
 
   changed_by : (writes sends : Bool) (a byte : ℕ) (log : Log)
@@ -64,7 +64,7 @@ module _ (image : List ℕ) where
   changed_by false false a byte log = refl
 
   -- what it changes is the byte that it writes
-  changes_ram : (bus : Bus) (log : Log) → ram image (did (changes bus) log)
+  pub changes_ram : (bus : Bus) (log : Log) → ram image (did (changes bus) log)
       ≡ (if writes bus then slice_set (ram image log) (bus.a % 0x800) bus.d else ram image log)
   changes_ram bus log = changed_by (writes bus) (sends bus) (bus.a % 0x800) bus.d log
 
@@ -84,11 +84,11 @@ module _ (image : List ℕ) where
   word_ram true address word answer log = refl
   word_ram false address word answer log = of_ram address word answer log
 
-  entry_ram : (closed address : ℕ) (m : Met) (answer : Reply) (log : Log) → ram image ((Fetch ⟼ entry_by closed address m answer) ∷ log) ≡ ram image log
+  pub entry_ram : (closed address : ℕ) (m : Met) (answer : Reply) (log : Log) → ram image ((Fetch ⟼ entry_by closed address m answer) ∷ log) ≡ ram image log
   entry_ram closed address (Waits byte) answer log = low_ram (nat_eq closed 1) address byte log
   entry_ram closed address (Whole word) answer log = word_ram (nat_eq closed 1) address word answer log
 
-  core_ram : (r s p whole : Bool) (shown : Shown) (log : Log) → ram image ((Fetch ⟼ shown) ∷ log) ≡ ram image log
+  pub core_ram : (r s p whole : Bool) (shown : Shown) (log : Log) → ram image ((Fetch ⟼ shown) ∷ log) ≡ ram image log
       → ram image (if r then if s then if p then log else (Fetch ⟼ shown) ∷ log else (Strobe ⟼ Started) ∷ log
       else if whole then (ResetAll (ram image log) ⟼ Cleared) ∷ log else (ResetGen ⟼ Cleared) ∷ log)
       ≡ ram image log

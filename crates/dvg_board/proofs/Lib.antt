@@ -4,3 +4,4 @@ pub mod Answered
 mod Example
 mod Vectors
 mod ClockVectors
+pub mod Lines

@@ -1,2 +1,3 @@
+mod Ram
 pub mod System
-mod Example
+mod Machine

@@ -1,1 +1,1 @@
-pub mod System
+pub mod Machine
