@@ -1,3 +1,4 @@
 mod Ram
 pub mod System
 mod Machine
+mod Example

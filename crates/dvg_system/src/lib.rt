@@ -7,6 +7,7 @@ ghost use Rattle.dvg_log.specs.Legal.{IsLegal};
 ghost use Rattle.dvg_log.specs.Log.{Throughout, life};
 ghost use Rattle.dvg_board.specs.Clocks.{after};
 ghost use Rattle.dvg_board.specs.Logs.{HoldsRam};
+ghost use Rattle.dvg_system.specs.Example.{SomeMachine};
 ghost use Rattle.dvg_system.specs.Machine.{AreDone, HaveRam, OfEachMachine};
 
 /// For every ROM, first content of the RAM, and run of a machine whose processor calls the driver's
@@ -24,4 +25,11 @@ pub fn machine_keeps()
         (λ R image held calls log clocks. AreDone calls (life image log)) }
     ensures shared { OfEachMachine
         (λ R image held calls log clocks. HaveRam calls (after held clocks)) }
+{}
+
+/// There is such a machine: over a RAM and a ROM of zeros the machine code boots, takes a table,
+/// writes and publishes its frame, and sends a strobe; the core draws it, and a read of the flag
+/// meanwhile finds it running.
+pub fn some_machine()
+    ensures { SomeMachine }
 {}
