@@ -184,7 +184,6 @@ booted = (Offer stroke ⟼ Offered) ∷ (Tick ⟼ Acted (Read true)) ∷ (Tick �
 checked : IsChecked zeros (calls.Offer stroke)
 checked = let lines = some_logs zeros zeros is_rom is_image in (lines.1, (code_keeps zeros zeros booted lines).0.0.0)
 
-
 -- dvg_reset
 
 abbrev reset_page : List ℕ
@@ -416,7 +415,6 @@ module _ (r : Routine) (from : Cpu) (olds : List Call) (log : Log) (older : List
 same_log : (t : Bool) (log : Log) → (if t then log else log) ≡ log
 same_log true log = refl
 same_log false log = refl
-
 
 abbrev log1 : Log
 log1 = (ResetCpu ⟼ Cleared) ∷ []

@@ -279,8 +279,7 @@ module _ (R image : List ℕ) (held : ℕ → ℕ) (log : Log) (older : List Bus
         → IsLifeOf (now r ∷ olds) (new ++ old)) → Answer r X
     answer_of r X items old is none quiet made on =
         let empty : items ≡ [] = none ∙ ap (λ (t : Bool). if t && not was.c then X else []) unfinished in
-        let all : old ≡ life image log = sym (is ∙ ap (λ l. l ++ old) empty) in
-        (
+        let all : old ≡ life image log = sym (is ∙ ap (λ l. l ++ old) empty) in (
           subst (IsLifeOf olds) all made,
           quiet,
           λ t c returned carry. subst (λ l. IsLifeOf (now r ∷ olds) ((if t && not c then X else []) ++ l)) all
