@@ -44,6 +44,7 @@ pub mod ExampleFrame
 pub mod Plain
 pub mod Sessions
 pub mod Interrupted
+pub mod Idling
 pub mod Drafts
 pub mod Programs
 pub mod Joined

@@ -5,7 +5,9 @@ use Rattle.std.specs.Prelude.{nat_eq, nat_le, nat_lt, bit_and, bit_or, bit_xor}
 use Rattle.dvg_6502.specs.Processor.{Cpu, Access, Reads, Writes, put, run}
 use Rattle.dvg_6502.specs.Board.{IsLoaded, seen, is_own}
 use Rattle.dvg_6502.specs.Amid.{is_kept, are_steady}
-use Rattle.dvg_6502.specs.Routines.{Enters, Part, Put, Pair, Labs, begins}
+use Rattle.dvg_6502.specs.Routines.{Enters, Part, Put, Pair, Labs, begins, put_by}
+use Rattle.dvg_6502.specs.Decided.{is_labs, LabsIsPair}
+use Rattle.dvg_6502.proofs.AmidRun.{came_out}
 use Rattle.dvg_6502.proofs.Running.{Comes, by, at, returned}
 use Rattle.dvg_6502.proofs.Memory.{laid, page_of, page_in, known, loaded, put_small, both_true, state_is}
 use Rattle.dvg_6502.proofs.FedByte.{compared}
@@ -263,3 +265,37 @@ puts_full Labs cpu enters is last late = labs_as_pair cpu enters
     (cpu.mem 0x11) (cpu.mem 0x12)
     (cpu.mem 0x13) (cpu.mem 0x14) (cpu.mem 0x15) (cpu.mem 0x16) (cpu.mem 0x17) (cpu.mem 0x18) (cpu.mem 0x19) (cpu.mem 0x1A)
     (set cpu enters) cpu.flags (log4 cpu enters) last late))
+
+-- dvg_labs, up to where it is dvg_pair
+module _ (cpu : Cpu) (enters : Enters cpu 0x6979) where
+  abbrev now : Cpu
+  now = paired cpu enters
+
+  labs_at : run cpu.s 8 cpu ≡ now
+  labs_at = sym (ap (run cpu.s 8) (here_is cpu 0x6979 enters))
+      ∙ labs_run cpu.s cpu.a cpu.x cpu.y cpu.s cpu.n cpu.z cpu.c cpu.v (page_in cpu.mem) cpu.mem cpu.flags []
+
+  labs_kept : (b : ℕ) → b ≢ 0x1C → b ≢ 0x1E → now.mem b ≡ cpu.mem b
+  labs_kept b not_y not_x = past_low 0x1C (h cpu enters) (page_in cpu.mem) (put 0x1E (l cpu enters) cpu.mem) refl refl b not_y
+      ∙ past_low 0x1E (l cpu enters) (page_in cpu.mem) cpu.mem refl refl b not_x
+      ∙ sym (ap (λ (m : ℕ → ℕ). m b) (known cpu.mem enters.loaded))
+
+  labs_words : put_by Pair now ≡ put_by Labs cpu
+  labs_words = ap (λ h. cpu.mem 0x1B ∷ h ∷ cpu.mem 0x1D ∷ l cpu enters ∷ []) (opened (cpu.mem 0x1C) (enters.loaded.bytes 0x1C))
+      ∙ ap (λ l. cpu.mem 0x1B ∷ (0xA0 + cpu.mem 0x1C % 16) ∷ cpu.mem 0x1D ∷ l ∷ [])
+      (mixed cpu.a (cpu.mem 0x1E) enters.a (enters.loaded.bytes 0x1E))
+
+  labs_alone : are_steady is_labs cpu.s 8 cpu ≡ true
+  labs_alone = ap (are_steady is_labs cpu.s 8) (sym (here_is cpu 0x6979 enters))
+
+pub labs_is_pair : LabsIsPair
+labs_is_pair cpu enters =
+    let at_pair = labs_at cpu enters in
+    record {
+      place = ap (λ (k : Cpu). k.pc) at_pair;
+      stack = ap (λ (k : Cpu). k.s) at_pair;
+      shows = ap (λ (k : Cpu). seen k.log) at_pair;
+      words = ap (put_by Pair) at_pair ∙ labs_words cpu enters;
+      kept = λ b not_y not_x. ap (λ (k : Cpu). k.mem b) at_pair ∙ labs_kept cpu enters b not_y not_x;
+      alike = λ others harmless. came_out is_labs cpu.s 8 cpu cpu.mem others (λ b is. refl) (labs_alone cpu enters) harmless;
+    }

@@ -1,5 +1,8 @@
 use Rattle.dvg_6502.proofs.Decided.{decides}
+use Rattle.dvg_6502.proofs.Idling.{stays_idle}
+use Rattle.dvg_6502.proofs.Interrupted.{calls_decide}
+use Rattle.dvg_6502.proofs.Refusing.{labs_is_pair}
 use Rattle.dvg_6502.proofs.decides.Goals as goal
 
 pub returns : goal.returns
-returns c = decides
+returns c = record { places = decides; calls = calls_decide; idle = stays_idle; labs = labs_is_pair }
