@@ -43,8 +43,9 @@ use Rattle.dvg_board.proofs.Board.{changes_ram}
 use Rattle.dvg_board.proofs.Lines.{answered_ram, answered_life}
 use Rattle.dvg_system.specs.Machine
 use Rattle.dvg_system.specs.Machine.{accesses_of, begun, later, Makes, IsIdle, IsChecked, SharesRam, calls_after, with_reset, with_answer, told}
-use Rattle.dvg_system.specs.Machine.{IsMachine, OfEachMachine, AreDone, HaveRam}
+use Rattle.dvg_system.specs.Machine.{IsMachine, OfEachMachine, AreDone, HaveRam, AcceptsPublished}
 use Rattle.dvg_system.proofs.Ram.{last_write, in_ram as ram_place, call_ram}
+use Rattle.dvg_system.proofs.Published.{published_accepts}
 use Rattle.dvg_system.proofs.System as system
 use Rattle.dvg_system.proofs.System.{FitsCode, ShowsIf, made_lives, shows_next}
 
@@ -680,3 +681,6 @@ shared R image held list log older on = by list (runs_of on).known
     by [] k = tt
     by (call ∷ olds) k = λ a small.
         call_ram call olds k.session a small ∙ k.shares a small ∙ sym (memory R image held list log older on a small)
+
+pub accepted : OfEachMachine (λ R image held list log older. AcceptsPublished R log)
+accepted R image held list log older on F is = published_accepts R image log F (legal R image held list log older on) is

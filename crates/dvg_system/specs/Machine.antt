@@ -2,12 +2,13 @@
 use Rattle.std.specs.Prelude.{◌≡◌, ℕ, ◌+◌, ◌<◌, Bool, true, false, if◌then◌else◌, nat_eq, List, [], ◌∷◌, slice_index}
 use Rattle.std.specs.Prelude.{Option, Some, None}
 use Rattle.dvg_mem.specs.Memory.{IsImage, IsRom}
+use Rattle.dvg_frame.specs.declared.op.OpKind.{OpKind}
 use Rattle.dvg_frame.specs.Ops.{IsDraft}
 use Rattle.dvg_frame.specs.Faults.{Accepts}
 use Rattle.dvg_driver.specs.Script.{Item, has_flip}
 use Rattle.dvg_log.specs.declared.event.Event.TheVariants.{Offer, Redraw, ResetCpu}
 use Rattle.dvg_log.specs.declared.entry.Entry.TheVariants.{Offered, Busy, Asked, NothingPublished, Cleared}
-use Rattle.dvg_log.specs.Log.{◌⟼◌, Log, life}
+use Rattle.dvg_log.specs.Log.{◌⟼◌, Log, life, published}
 use Rattle.dvg_6502.specs.Processor.{Cpu, Access, Reads, Writes}
 use Rattle.dvg_6502.specs.Board.{seen}
 use Rattle.dvg_6502.specs.Build.{IsBuilt}
@@ -114,3 +115,7 @@ AreDone (call ∷ calls) items = IsLifeOf (call ∷ calls) items
 abbrev pub HaveRam : List Call → Board → Type 0
 HaveRam [] board = Unit {0}
 HaveRam (call ∷ calls) board = (a : ℕ) → a < 2048 → (Calls.after call).mem (0x4000 + a) ≡ board.ram a
+
+-- the check accepts what is published
+abbrev pub AcceptsPublished : List ℕ → Log → Type 0
+AcceptsPublished R log = (F : List OpKind) → published log ≡ Some F → Accepts F R

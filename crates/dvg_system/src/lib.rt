@@ -8,17 +8,19 @@ ghost use Rattle.dvg_log.specs.Log.{Throughout, life};
 ghost use Rattle.dvg_board.specs.Clocks.{after};
 ghost use Rattle.dvg_board.specs.Logs.{HoldsRam};
 ghost use Rattle.dvg_system.specs.Example.{SomeMachine};
-ghost use Rattle.dvg_system.specs.Machine.{AreDone, HaveRam, OfEachMachine};
+ghost use Rattle.dvg_system.specs.Machine.{AcceptsPublished, AreDone, HaveRam, OfEachMachine};
 
 /// For every ROM, first content of the RAM, and run of a machine whose processor calls the driver's
 /// routines, and whose board's clocks make the processor's accesses and answer its reads: the log
-/// of these clocks is legal, and each of its lines keeps the headline. The RAM holds what the log
-/// says. The driver's lines are what the calls do, and what they have in memory at 4000 to 47FF is
-/// the RAM.
+/// of these clocks is legal, each of its lines keeps the headline, and the check accepts what is
+/// published. The RAM holds what the log says. The driver's lines are what the calls do, and what
+/// they have in memory at 4000 to 47FF is the RAM.
 pub fn machine_keeps()
     ensures legal { OfEachMachine (λ R image held calls log clocks. IsLegal R image log) }
     ensures headline { OfEachMachine
         (λ R image held calls log clocks. Throughout (KeepsHeadline R image) log) }
+    ensures accepted { OfEachMachine
+        (λ R image held calls log clocks. AcceptsPublished R log) }
     ensures memory { OfEachMachine
         (λ R image held calls log clocks. HoldsRam image held log clocks) }
     ensures done { OfEachMachine
