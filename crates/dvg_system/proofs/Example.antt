@@ -1,15 +1,12 @@
 -- The first picture of a machine: the driver boots and takes a table, writes and publishes its frame, and the core draws
 -- it; a redraw is asked for meanwhile, and finds the core running.
-use Rattle.std.proofs.Common.{◌≡◌, ℕ, zero, suc, ◌+◌, ◌-◌, ◌<◌, ◌≤◌, Bool, true, false, not, List, [], ◌∷◌, length, pos}
+use Rattle.std.proofs.Common.{◌≡◌, ℕ, zero, suc, ◌+◌, ◌-◌, ◌<◌, Bool, true, false, not, List, [], ◌∷◌, length}
 use Rattle.std.proofs.Common.{refl, sym, ap, ◌∙◌, subst, arith, lit<, inl, set, eqb-true, leb-true}
 use Rattle.std.proofs.lemmas.List.{length-replicate, length-set, get_or-replicate}
 use Rattle.std.proofs.lemmas.List.Elements.{All-replicate}
 use Rattle.std.proofs.lemmas.Bool.{ne_eqb}
 use Rattle.std.specs.Prelude.{nat_eq, nat_le, nat_lt, ◌&&◌, ◌||◌, if◌then◌else◌, slice_index}
-use Rattle.dvg_code.specs.declared.instr.Instr.TheVariants.{Labs, Vctr}
 use Rattle.dvg_mem.specs.Memory.{IsImage, IsRom}
-use Rattle.dvg_frame.specs.declared.op.OpKind.TheVariants.{Draw, Halt}
-use Rattle.dvg_frame.specs.Ops.{IsOp}
 use Rattle.dvg_driver.specs.declared.action.Action.TheVariants.{Peek, Wrote, Read, Sent}
 use Rattle.dvg_log.specs.declared.event.Event.TheVariants.{Offer, Redraw, Tick, Strobe, Fetch, ResetCpu}
 use Rattle.dvg_log.specs.declared.entry.Entry.TheVariants.{Offered, Asked, Acted, Started, Low, Fetched, Done, Cleared}
@@ -33,7 +30,7 @@ use Rattle.dvg_board.specs.Clocks.{IsBus, after, changes}
 use Rattle.dvg_board.specs.Logs.{did, answered}
 use Rattle.dvg_board.specs.Example.{zeros}
 use Rattle.dvg_board.proofs.Example.{held, quiet, reading, writing, is_quiet, is_reading, is_writing, served}
-use Rattle.dvg_system.specs.Machine.{Makes, IsChecked, with_answer, told, IsMachine, powers, waits, begins, steps, accesses}
+use Rattle.dvg_system.specs.Machine.{Makes, IsChecked, with_answer, IsMachine, powers, waits, begins, steps, accesses}
 use Rattle.dvg_system.specs.Example.{SomeMachine, stroke as line}
 
 -- writes, the newest first, and what they leave in the driver's bytes and beside them

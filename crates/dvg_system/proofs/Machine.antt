@@ -1,24 +1,22 @@
 -- The log of a machine is one of a board whose processor's accesses are those of the machine code.
-use Rattle.std.proofs.Common.{◌≡◌, ℕ, ◌+◌, ◌*◌, ◌/◌, ◌%◌, ◌<◌, ◌≤◌, Bool, true, false, not, List, [], ◌∷◌, ◌++◌, length}
-use Rattle.std.proofs.Common.{Option, Some, None, refl, sym, ap, ◌∙◌, subst, arith, inl, inr, eq-eqb}
+use Rattle.std.proofs.Common.{◌≡◌, ℕ, ◌+◌, ◌/◌, ◌%◌, ◌<◌, Bool, true, false, not, List, [], ◌∷◌, ◌++◌, length}
+use Rattle.std.proofs.Common.{Some, None, refl, sym, ap, ◌∙◌, subst, arith, inl, inr}
 use Rattle.std.specs.Prelude.{nat_eq, ◌&&◌, ◌||◌, if◌then◌else◌, slice_index, slice_set}
 use Rattle.std.proofs.lemmas.Bool.Decides.{eqb_tells}
 use Rattle.std.proofs.lemmas.List.{get_or-set_same, get_or-set_other}
 use Rattle.std.proofs.lemmas.Option.{none-some}
 use Rattle.dvg_mem.specs.declared.half.Half.{Half}
-use Rattle.dvg_mem.specs.Areas.{IsInHalf, other, half_of_high}
-use Rattle.dvg_mem.specs.Memory.{IsImage, IsRom}
+use Rattle.dvg_mem.specs.Areas.{other, half_of_high}
 use Rattle.dvg_frame.specs.declared.op.OpKind.{OpKind}
 use Rattle.dvg_frame.specs.Ops.{IsDraft}
-use Rattle.dvg_frame.specs.Faults.{Accepts}
 use Rattle.dvg_driver.specs.declared.action.Action.{Action}
 use Rattle.dvg_driver.specs.declared.action.Action.TheVariants.{Peek, Wrote, Read, Sent, Idle}
 use Rattle.dvg_driver.specs.Script
 use Rattle.dvg_driver.specs.Script.{Item, Did, IsLife, has_flip}
 use Rattle.dvg_driver.specs.Place.{Place, Writing, next_place}
 use Rattle.dvg_driver.proofs.Places.{life_place, place_before}
-use Rattle.dvg_log.specs.declared.event.Event.TheVariants.{Offer, Redraw, Tick, ResetCpu}
-use Rattle.dvg_log.specs.declared.entry.Entry.TheVariants.{Offered, Busy, Asked, NothingPublished, Acted, Cleared}
+use Rattle.dvg_log.specs.declared.event.Event.TheVariants.{Offer, Redraw}
+use Rattle.dvg_log.specs.declared.entry.Entry.TheVariants.{Offered, Busy, Asked, NothingPublished}
 use Rattle.dvg_log.specs.Log.{◌⟼◌, Log, Throughout, ram, life, free_half}
 use Rattle.dvg_log.specs.Legal.{IsLegal}
 use Rattle.dvg_log.specs.Headline.{KeepsHeadline}
@@ -30,7 +28,6 @@ use Rattle.dvg_theorem.proofs.Words.{words_are_whole}
 use Rattle.dvg_6502.specs.Processor.{Cpu, Access, Reads, Writes, at_return}
 use Rattle.dvg_6502.specs.Amid.{amid, is_code}
 use Rattle.dvg_6502.specs.Board.{seen}
-use Rattle.dvg_6502.specs.Build.{IsBuilt}
 use Rattle.dvg_6502.specs.Routines.{Enters, Shows}
 use Rattle.dvg_6502.specs.Calls as calls
 use Rattle.dvg_6502.specs.Calls.{Routine, Call, IsSession, IsSessionBy, Brings, IsLifeOf, IsAnswered, Follows, AreShown, Adds}

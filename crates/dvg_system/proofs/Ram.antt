@@ -1,7 +1,7 @@
 -- What a call's memory has in the vector RAM: what it wrote there last, and else what was there.
 use Rattle.std.proofs.Common.{◌≡◌, ℕ, zero, suc, ◌+◌, ◌*◌, ◌/◌, ◌%◌, ◌<◌, ◌≤◌, Bool, true, false, List, [], ◌∷◌, refl, sym, ap, ◌∙◌}
 use Rattle.std.proofs.Common.{subst, arith, le-leb, inl, inr}
-use Rattle.std.specs.Prelude.{nat_eq, nat_le, nat_lt, ◌&&◌, ◌||◌, if◌then◌else◌, bit_and, bit_or, bit_xor}
+use Rattle.std.specs.Prelude.{nat_eq, nat_le, nat_lt, ◌&&◌, ◌||◌, if◌then◌else◌}
 use Rattle.std.proofs.lemmas.Bool.Decides.{eqb_tells}
 use Rattle.dvg_6502.specs.Processor.{Cpu, Access, Reads, Writes, Instr, Mode, Register, Immediate, ZeroPage, Absolute, IndirectIndexed}
 use Rattle.dvg_6502.specs.Processor.{A, X, Y, Load, Store, Transfer, And, Or, Xor, Compare, TestBits, Change, Step, ShiftLeft}
