@@ -5,7 +5,7 @@ use Rattle.std.specs.Prelude.{nat_eq, nat_le, ◌&&◌, ◌||◌, if◌then◌el
 use Rattle.dvg_6502.specs.Processor.{Cpu, Access, Reads, run, turn, step, at_return, decoded, opcodes, does, next, carrying}
 use Rattle.dvg_6502.specs.Board.{IsLoaded, seen}
 use Rattle.dvg_6502.specs.Amid.{is_code, is_steady, are_steady, all_in, guards, touches, goes_home}
-use Rattle.dvg_6502.specs.Routines.{Put, Pair, Labs}
+use Rattle.dvg_6502.specs.Routines.{Put, Pair, Labs, Vector}
 use Rattle.dvg_6502.specs.Calls as calls
 use Rattle.dvg_6502.specs.Calls.{Routine, entry, finds_busy, is_leaving}
 use Rattle.dvg_6502.specs.Decided.{IsDecided, IsRefusing, IsTaking, Decides}
@@ -196,6 +196,7 @@ module _ (cpu : Cpu) (has : HasCode cpu.mem) (small : cpu.mem 0x10 < 256) where
     refl,
   )
   looked (calls.Puts Labs) is busy = absurd (cc)
+  looked (calls.Puts Vector) is busy = absurd (cc)
   looked calls.Close is busy = turned_at 0x6A00 is (
     refuses5 cpu.a cpu.x phase cpu.s (nat_le 128 phase) (nat_eq phase 0) cpu.c cpu.v cpu.mem cpu.flags
         (Reads 0x10 phase ∷ cpu.log) small (refuted (nat_eq phase 7) busy),

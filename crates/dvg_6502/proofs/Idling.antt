@@ -15,38 +15,38 @@ use Rattle.dvg_6502.proofs.Steady.{code_kept}
 use Rattle.dvg_6502.proofs.Decided.{clears}
 use Rattle.dvg_6502.proofs.Interrupted.{bridge, leaves_too}
 
--- the phase is DVG_IDLE before each of this many steps
-abbrev are_idle : (q n : ℕ) → Cpu → Bool
-are_idle q zero cpu = true
-are_idle q (suc n) cpu = nat_eq (cpu.mem 0x10) 2 && are_idle q n (turn q cpu)
+-- the phase is this one before each of so many steps
+abbrev pub are_in : (p q n : ℕ) → Cpu → Bool
+are_in p q zero cpu = true
+are_in p q (suc n) cpu = nat_eq (cpu.mem 0x10) p && are_in p q n (turn q cpu)
 
-idle_at : (q n k : ℕ) (cpu : Cpu) → are_idle q n cpu ≡ true → k < n → (run q k cpu).mem 0x10 ≡ 2
-idle_at q zero k cpu is less = absurd (omega (arith, less))
-idle_at q (suc n) zero cpu is less =
-    eqb-true (cpu.mem 0x10) 2 (both_true (nat_eq (cpu.mem 0x10) 2) (are_idle q n (turn q cpu)) is).0
-idle_at q (suc n) (suc k) cpu is less =
-    idle_at q n k (turn q cpu) (both_true (nat_eq (cpu.mem 0x10) 2) (are_idle q n (turn q cpu)) is).1 (omega (arith, less))
+in_at : (p q n k : ℕ) (cpu : Cpu) → are_in p q n cpu ≡ true → k < n → (run q k cpu).mem 0x10 ≡ p
+in_at p q zero k cpu is less = absurd (omega (arith, less))
+in_at p q (suc n) zero cpu is less =
+    eqb-true (cpu.mem 0x10) p (both_true (nat_eq (cpu.mem 0x10) p) (are_in p q n (turn q cpu)) is).0
+in_at p q (suc n) (suc k) cpu is less = in_at p q n k (turn q cpu)
+    (both_true (nat_eq (cpu.mem 0x10) p) (are_in p q n (turn q cpu)) is).1 (omega (arith, less))
 
-idle_more : (q k n : ℕ) (cpu : Cpu) → are_idle q k cpu ≡ true → are_idle q n (run q k cpu) ≡ true
-    → are_idle q (n + k) cpu ≡ true
-idle_more q zero n cpu one two = let e : n + 0 ≡ n = omega arith in ap (λ j. are_idle q j cpu) e ∙ two
-idle_more q (suc k) n cpu one two =
+in_more : (p q k n : ℕ) (cpu : Cpu) → are_in p q k cpu ≡ true → are_in p q n (run q k cpu) ≡ true
+    → are_in p q (n + k) cpu ≡ true
+in_more p q zero n cpu one two = let e : n + 0 ≡ n = omega arith in ap (λ j. are_in p q j cpu) e ∙ two
+in_more p q (suc k) n cpu one two =
     let e : n + suc k ≡ suc (n + k) = omega arith in
-    let both = both_true (nat_eq (cpu.mem 0x10) 2) (are_idle q k (turn q cpu)) one in
-    ap (λ j. are_idle q j cpu) e
-    ∙ and_true (nat_eq (cpu.mem 0x10) 2) (are_idle q (n + k) (turn q cpu)) both.0
-    (idle_more q k n (turn q cpu) both.1 two)
+    let both = both_true (nat_eq (cpu.mem 0x10) p) (are_in p q k (turn q cpu)) one in
+    ap (λ j. are_in p q j cpu) e
+    ∙ and_true (nat_eq (cpu.mem 0x10) p) (are_in p q (n + k) (turn q cpu)) both.0
+    (in_more p q k n (turn q cpu) both.1 two)
 
 -- up to where CLC and RTS are left, or to the return
-record StaysTo (q : ℕ) (from : Cpu) : Type 0 where
-  steps : ℕ
-  idle : are_idle q steps from ≡ true
-  ends : (calls.is_leaving q (run q steps from) ≡ true) ⊎ (at_return q (run q steps from) ≡ true)
+pub record StaysTo (p q : ℕ) (from : Cpu) : Type 0 where
+  pub steps : ℕ
+  pub so : are_in p q steps from ≡ true
+  pub ends : (calls.is_leaving q (run q steps from) ≡ true) ⊎ (at_return q (run q steps from) ≡ true)
 
-after : (q k : ℕ) (from : Cpu) → are_idle q k from ≡ true → StaysTo q (run q k from) → StaysTo q from
-after q k from is rest = record {
+pub after : (p q k : ℕ) (from : Cpu) → are_in p q k from ≡ true → StaysTo p q (run q k from) → StaysTo p q from
+after p q k from is rest = record {
   steps = rest.steps + k;
-  idle = idle_more q k rest.steps from is rest.idle;
+  so = in_more p q k rest.steps from is rest.so;
   ends = subst (λ (c : Cpu). (calls.is_leaving q c ≡ true) ⊎ (at_return q c ≡ true)) (sym (run_more q k rest.steps from))
       rest.ends;
 }
@@ -59,46 +59,46 @@ module _ (a x y s : ℕ) (n z c v : Bool) (free publish next t0 t1 pages end sec
   same_s : nat_eq s s ≡ true
   same_s = eq-eqb s s refl
 
-  open_idles : StaysTo s (from 0x6924)
-  open_idles = record { steps = 15; idle = refl; ends = inl same_s }
+  open_idles : StaysTo 2 s (from 0x6924)
+  open_idles = record { steps = 15; so = refl; ends = inl same_s }
 
   -- with what the comparison of `publish` tells
   told : Bool → Cpu
   told t = record (run s 5 (from 0x6943)) { z = t }
 
-  redraw_told : (t : Bool) → StaysTo s (told t)
+  redraw_told : (t : Bool) → StaysTo 2 s (told t)
   unfolding told
-  redraw_told true = record { steps = 3; idle = refl; ends = inl same_s }
-  redraw_told false = record { steps = 2; idle = refl; ends = inr same_s }
+  redraw_told true = record { steps = 3; so = refl; ends = inl same_s }
+  redraw_told false = record { steps = 2; so = refl; ends = inr same_s }
 
-  redraw_idles : StaysTo s (from 0x6943)
+  redraw_idles : StaysTo 2 s (from 0x6943)
   unfolding told
-  redraw_idles = after s 5 (from 0x6943) refl (redraw_told (run s 5 (from 0x6943)).z)
+  redraw_idles = after 2 s 5 (from 0x6943) refl (redraw_told (run s 5 (from 0x6943)).z)
 
   -- with what the second INC of `end` tells
   counted : Bool → Cpu
   counted t = record (run s 15 (from 0x68FE)) { z = t }
 
-  offer_counted : (t : Bool) → StaysTo s (counted t)
+  offer_counted : (t : Bool) → StaysTo 2 s (counted t)
   unfolding counted
-  offer_counted true = record { steps = 14; idle = refl; ends = inl same_s }
-  offer_counted false = record { steps = 13; idle = refl; ends = inl same_s }
+  offer_counted true = record { steps = 14; so = refl; ends = inl same_s }
+  offer_counted false = record { steps = 13; so = refl; ends = inl same_s }
 
-  offer_idles : StaysTo s (from 0x68FE)
+  offer_idles : StaysTo 2 s (from 0x68FE)
   unfolding counted
-  offer_idles = after s 15 (from 0x68FE) refl (offer_counted (run s 15 (from 0x68FE)).z)
+  offer_idles = after 2 s 15 (from 0x68FE) refl (offer_counted (run s 15 (from 0x68FE)).z)
 
 stays_to : (routine : Routine) (cpu : Cpu) → Enters cpu (calls.entry routine) → asks routine ≡ true → cpu.mem 0x10 ≡ 2
-    → StaysTo cpu.s cpu
-stays_to (calls.Offer F) cpu enters is idle = subst (StaysTo cpu.s) (phase_is cpu 0x68FE 2 enters.entry idle enters.loaded)
+    → StaysTo 2 cpu.s cpu
+stays_to (calls.Offer F) cpu enters is idle = subst (StaysTo 2 cpu.s) (phase_is cpu 0x68FE 2 enters.entry idle enters.loaded)
     (offer_idles cpu.a cpu.x cpu.y cpu.s cpu.n cpu.z cpu.c cpu.v (cpu.mem 0x11) (cpu.mem 0x12) (cpu.mem 0x13)
     (cpu.mem 0x14) (cpu.mem 0x15) (cpu.mem 0x16) (cpu.mem 0x17) (cpu.mem 0x18) (cpu.mem 0x19) (cpu.mem 0x1A) cpu.mem
     cpu.flags cpu.log)
-stays_to (calls.Open F) cpu enters is idle = subst (StaysTo cpu.s) (phase_is cpu 0x6924 2 enters.entry idle enters.loaded)
+stays_to (calls.Open F) cpu enters is idle = subst (StaysTo 2 cpu.s) (phase_is cpu 0x6924 2 enters.entry idle enters.loaded)
     (open_idles cpu.a cpu.x cpu.y cpu.s cpu.n cpu.z cpu.c cpu.v (cpu.mem 0x11) (cpu.mem 0x12) (cpu.mem 0x13)
     (cpu.mem 0x14) (cpu.mem 0x15) (cpu.mem 0x16) (cpu.mem 0x17) (cpu.mem 0x18) (cpu.mem 0x19) (cpu.mem 0x1A) cpu.mem
     cpu.flags cpu.log)
-stays_to calls.Redraw cpu enters is idle = subst (StaysTo cpu.s) (phase_is cpu 0x6943 2 enters.entry idle enters.loaded)
+stays_to calls.Redraw cpu enters is idle = subst (StaysTo 2 cpu.s) (phase_is cpu 0x6943 2 enters.entry idle enters.loaded)
     (redraw_idles cpu.a cpu.x cpu.y cpu.s cpu.n cpu.z cpu.c cpu.v (cpu.mem 0x11) (cpu.mem 0x12) (cpu.mem 0x13)
     (cpu.mem 0x14) (cpu.mem 0x15) (cpu.mem 0x16) (cpu.mem 0x17) (cpu.mem 0x18) (cpu.mem 0x19) (cpu.mem 0x1A) cpu.mem
     cpu.flags cpu.log)
@@ -110,9 +110,9 @@ stays_to (calls.Puts part) cpu enters is idle = absurd (cc)
 stays_to calls.Close cpu enters is idle = absurd (cc)
 
 -- after k steps the phase is so, or CLC and RTS are left, or the run has returned
-module _ (q : ℕ) (from : Cpu) (stays_so : StaysTo q from) (k : ℕ) where
+module _ (p q : ℕ) (from : Cpu) (stays_so : StaysTo p q from) (k : ℕ) where
   abbrev Now : Type 0
-  Now = ((run q k from).mem 0x10 ≡ 2)
+  Now = ((run q k from).mem 0x10 ≡ p)
       ⊎ ((calls.is_leaving q (run q k from) ≡ true) ⊎ (at_return q (run q k from) ≡ true))
 
   abbrev there : Cpu
@@ -137,7 +137,7 @@ module _ (q : ℕ) (from : Cpu) (stays_so : StaysTo q from) (k : ℕ) where
       by : Splits k stays_so.steps → Now
       by (inr more) = above more.0 more.1
       by (inl (zero, is)) = above 0 (omega (arith, is))
-      by (inl (suc i, is)) = inl (idle_at q stays_so.steps k from stays_so.idle (omega (arith, is)))
+      by (inl (suc i, is)) = inl (in_at p q stays_so.steps k from stays_so.so (omega (arith, is)))
 
 left_true : (t u : Bool) → t ≡ true → (t || u) ≡ true
 left_true true u is = refl
@@ -165,18 +165,24 @@ module _ (call : calls.Call) (more : List calls.Call) (session : calls.IsSession
       → calls.is_over call ≡ true
   over is = one_of (calls.has_returned call) (calls.is_refused call) (calls.is_leaving call.from.s (calls.after call)) is
 
-  phase_at : calls.is_over call ≡ false
-      → (pl.mem 0x10 ≡ 2) ⊎ ((calls.is_leaving call.from.s pl ≡ true) ⊎ (at_return call.from.s pl ≡ true))
-      → (calls.after call).mem 0x10 ≡ 2
-  phase_at open_yet (inl phase) = is_same 0x10 refl ∙ phase
-  phase_at open_yet (inr (inl leaves)) =
+  phase_at : (p : ℕ) → calls.is_over call ≡ false
+      → (pl.mem 0x10 ≡ p) ⊎ ((calls.is_leaving call.from.s pl ≡ true) ⊎ (at_return call.from.s pl ≡ true))
+      → (calls.after call).mem 0x10 ≡ p
+  phase_at p open_yet (inl phase) = is_same 0x10 refl ∙ phase
+  phase_at p open_yet (inr (inl leaves)) =
       let same = (bridge call more session).same in
       let also = leaves_too call.from.s (is_kept tables) (calls.after call) pl pl.mem (λ b code. code_kept tables b code)
       (sym (ap (changed pl.mem) same.same)) (λ b kept. sym (is_same b kept)) leaves in
       absurd (let e = sym open_yet ∙ over (inr also) in cc)
-  phase_at open_yet (inr (inr back)) =
+  phase_at p open_yet (inr (inr back)) =
       absurd (let e = sym open_yet ∙ over (inl ((bridge call more session).returned ∙ back)) in cc)
 
+-- where the plain run stays so, the call does
+pub call_stays : (p : ℕ) (call : calls.Call) (more : List calls.Call) → calls.IsSession (call ∷ more)
+    → StaysTo p call.from.s call.from → calls.is_over call ≡ false → (calls.after call).mem 0x10 ≡ p
+call_stays p call more session to open_yet =
+    phase_at call more session p open_yet (now p call.from.s call.from to call.steps)
+
 pub stays_idle : StaysIdle
-stays_idle call more session is idle open_yet = phase_at call more session open_yet
-    (now call.from.s call.from (stays_to call.routine call.from session.0 is idle) call.steps)
+stays_idle call more session is idle open_yet =
+    call_stays 2 call more session (stays_to call.routine call.from session.0 is idle) open_yet

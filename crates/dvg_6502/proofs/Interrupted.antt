@@ -12,7 +12,7 @@ use Rattle.dvg_6502.specs.Amid.{is_work, amid, changed, AreHarmless, guards, is_
 use Rattle.dvg_6502.specs.Board.{IsLoaded, seen, is_own, is_ram, is_hardware}
 use Rattle.dvg_6502.specs.Holds.{Holds}
 use Rattle.dvg_6502.specs.Tables.{HasTable, table_of}
-use Rattle.dvg_6502.specs.Routines.{Enters, Put, Pair, Labs, put_by}
+use Rattle.dvg_6502.specs.Routines.{Enters, Put, Pair, Labs, Vector, put_by}
 use Rattle.dvg_6502.specs.Calls as calls
 use Rattle.dvg_6502.specs.Calls.{Routine}
 use Rattle.dvg_6502.specs.Decided.{IsDecided, CallsDecide}
@@ -756,6 +756,7 @@ module _ (call : calls.Call) (more : List calls.Call) (session : calls.IsSession
       busy_by (calls.Puts Put) m mem e = ap (λ p. not (nat_eq p 7)) e
       busy_by (calls.Puts Pair) m mem e = ap (λ p. not (nat_eq p 7)) e
       busy_by (calls.Puts Labs) m mem e = refl
+      busy_by (calls.Puts Vector) m mem e = refl
       busy_by calls.Close m mem e = ap (λ p. not (nat_eq p 7)) e
 
   decided_now : calls.is_decided call ≡ true → IsDecided it (calls.answer call) × (it.s ≡ call.from.s)

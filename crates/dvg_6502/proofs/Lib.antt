@@ -17,6 +17,8 @@ pub mod Ticking
 pub mod OfferRun
 pub mod BuildRun
 pub mod PairRun
+pub mod VectorRun
+pub mod VectorCall
 pub mod Offering
 pub mod Growing
 pub mod Steady
@@ -36,6 +38,8 @@ pub mod BuildScript
 pub mod Building
 pub mod Closing
 pub mod Refusing
+pub mod VectorBuilds
+pub mod VectorDraws
 pub mod Built
 pub mod Decided
 pub mod BuildCalls
@@ -47,5 +51,6 @@ pub mod Interrupted
 pub mod Idling
 pub mod Drafts
 pub mod Programs
+pub mod BuildStays
 pub mod Joined
 pub mod Example

@@ -25,7 +25,7 @@ abbrev pub page_of : (phase free publish next t0 t1 pages end second f0 f1 : ℕ
 page_of phase free publish next t0 t1 pages end second f0 f1 =
     phase ∷ free ∷ publish ∷ next ∷ t0 ∷ t1 ∷ pages ∷ end ∷ second ∷ f0 ∷ f1 ∷ []
 
-swap2 : (w t : Bool) (byte old new rest : ℕ) → (w ≡ true → (t ≡ true) × (new ≡ byte))
+pub swap2 : (w t : Bool) (byte old new rest : ℕ) → (w ≡ true → (t ≡ true) × (new ≡ byte))
     → (w ≡ false → t ≡ true → old ≡ new)
     → cond w byte (cond t old rest) ≡ cond t new rest
 swap2 true true byte old new rest hit miss = sym (hit refl).1
@@ -45,7 +45,7 @@ both_true true true is = (refl, refl)
 both_true true false is = absurd (cc)
 both_true false u is = absurd (cc)
 
-same_eqb : (a b : ℕ) → a ≡ b → nat_eq a b ≡ true
+pub same_eqb : (a b : ℕ) → a ≡ b → nat_eq a b ≡ true
 same_eqb a b e = eq-eqb a b e
 
 pub le_not : (k b : ℕ) → b < k → nat_le k b ≡ false
@@ -148,7 +148,7 @@ abbrev pub AreSmall : List ℕ → Type 0
 AreSmall [] = Unit {0}
 AreSmall (x ∷ xs) = (x < 256) × AreSmall xs
 
-are_small : (xs : List ℕ) → AreSmall xs → (i : ℕ) → slice_index xs i < 256
+pub are_small : (xs : List ℕ) → AreSmall xs → (i : ℕ) → slice_index xs i < 256
 are_small [] all i = omega arith
 are_small (x ∷ xs) all zero = all.0
 are_small (x ∷ xs) all (suc i) = are_small xs all.1 i

@@ -3,17 +3,20 @@ use Rattle.std.proofs.Common.{◌≡◌, ℕ, ◌+◌, ◌<◌, ◌≤◌, Bool,
 use Rattle.std.proofs.Common.{sym, ap, ◌∙◌, subst, arith, Some, Option, None, drop, leb-true}
 use Rattle.std.proofs.Math.Seq.{drop-append_seam}
 use Rattle.std.proofs.lemmas.Bool.{leb-false}
-use Rattle.std.specs.Prelude.{nat_eq, nat_le, nat_lt, ◌&&◌, ◌||◌, if◌then◌else◌}
+use Rattle.std.specs.Prelude.{nat_eq, nat_le, nat_lt, ◌&&◌, ◌||◌, if◌then◌else◌, ℤ, ◌/◌, ◌%◌}
 use Rattle.dvg_frame.specs.declared.op.OpKind.{OpKind}
-use Rattle.dvg_frame.specs.declared.op.OpKind.TheVariants.{Halt as Stop}
+use Rattle.dvg_frame.specs.declared.op.OpKind.TheVariants.{Draw, Halt as Stop}
+use Rattle.dvg_code.specs.declared.instr.Instr.TheVariants.{Vctr, Svec}
+use Rattle.dvg_code.specs.Acts.{Moves, act_of}
 use Rattle.dvg_driver.specs.Script.{Item}
 use Rattle.dvg_6502.specs.Processor.{Cpu, run, at_return}
 use Rattle.dvg_6502.specs.Amid.{AreHarmless, guards, is_kept}
 use Rattle.dvg_6502.specs.Tables.{table_of}
-use Rattle.dvg_6502.specs.Routines.{Enters, Part, begins, put_by}
+use Rattle.dvg_6502.specs.Routines.{Enters, Part, Put, Pair, Labs, Vector, begins, put_by}
+use Rattle.dvg_6502.specs.Moves.{number, is_vector, is_short, in_256s, vector, vector_bytes}
 use Rattle.dvg_6502.specs.Calls.{Routine, Reset, Tick, Ticks, Run, Offer, Redraw, Open, Puts, Close, Call, after}
 use Rattle.dvg_6502.specs.Calls.{is_over, answer, finds_busy, is_refused, is_leaving, is_taken, is_offered, entry, bounds, taken_bounds, put_on, frame_of, frame_after, Brings}
-use Rattle.dvg_6502.specs.Calls.{IsLeftAlone, Follows, UnlessReset, IsSessionBy, IsSession, TicksReturn}
+use Rattle.dvg_6502.specs.Calls.{IsLeftAlone, IsRoomFor, Follows, UnlessReset, IsSessionBy, IsSession, TicksReturn}
 use Rattle.dvg_6502.specs.Build.{IsPut}
 use Rattle.dvg_6502.specs.Programs.{IsLabs, Tells, renamed, with_drafts, BuildsOnly, AreBuilt, Hindsight}
 use Rattle.dvg_6502.proofs.Plain as plain
@@ -73,7 +76,7 @@ told call calls session c carry here = let is = bridge call calls session in
     is.carry here ∙ carry (is.left + call.steps) (sym is.over ∙ here)
 
 -- what holds at a call that follows others
-held : (call older : Call) (olds : List Call) → Enters call.from (entry call.routine) → Follows call (older ∷ olds)
+pub held : (call older : Call) (olds : List Call) → Enters call.from (entry call.routine) → Follows call (older ∷ olds)
     → IsSession (older ∷ olds)
     → (begin : ℕ) × ((stop : ℕ) × ((life : List Item) × holds_in begin stop (frame_of (older ∷ olds)) call.from.mem life))
 held call older olds enters follows session =
@@ -157,6 +160,42 @@ taken_is call c here is = ap (λ (t : Bool). t && not (answer call)) here ∙ ap
 not_taken : (call : Call) → is_over call ≡ false → is_taken call ≡ false
 not_taken call open_yet = ap (λ (t : Bool). t && not (answer call)) open_yet
 
+-- a vector is one that a program may put
+vector_put : (R : List ℕ) (scale : ℕ) (dx dy : ℤ) (z : ℕ) → IsPut R (Draw (vector scale dx dy z))
+vector_put R scale dx dy z = by (is_short scale dx dy)
+  where
+    by : (t : Bool) → let instr = if t then Svec scale (in_256s dx) (in_256s dy) z else Vctr scale dx dy z in
+        act_of instr ≡ Moves instr
+    by true = refl
+    by false = refl
+
+vector_table : (scale : ℕ) (dx dy : ℤ) (z : ℕ) → 1 ≤ length (vector_bytes scale dx dy z)
+    → vector_bytes scale dx dy z ≡ table_of (Draw (vector scale dx dy z) ∷ [])
+vector_table scale dx dy z = by (is_vector scale dx dy)
+  where
+    by : (t : Bool) → let now = if t then table_of (Draw (vector scale dx dy z) ∷ []) else [] in
+        1 ≤ length now → now ≡ table_of (Draw (vector scale dx dy z) ∷ [])
+    by true some = refl
+    by false some = absurd (omega (arith, some))
+
+-- what a part puts is the words of an operation
+told_op : (R : List ℕ) (part : Part) (from : Cpu) (frame : ℕ × List ℕ) → Tells R (Puts part) from (Some frame)
+    → IsRoomFor part from frame.0
+    → (op : OpKind) × (put_by part from ≡ table_of (op ∷ [])) × IsPut R op × (frame.0 ≡ 0 → IsLabs op)
+told_op R Put from frame tells room = tells room
+told_op R Pair from frame tells room = tells room
+told_op R Labs from frame tells room = tells room
+told_op R Vector from frame tells room =
+    let scale = from.a / 16 in
+    let dx = number (from.mem 0x1D) (from.mem 0x1E) in
+    let dy = number (from.mem 0x1B) (from.mem 0x1C) in
+    let z = from.a % 16 in (
+      Draw (vector scale dx dy z),
+      vector_table scale dx dy z room.0,
+      vector_put R scale dx dy z,
+      λ none. absurd (omega (arith, tells, none)),
+    )
+
 -- a call that puts a part, over a frame that is being built
 module _ (R : List ℕ) (part : Part) (from : Cpu) (steps : ℕ) (others : ℕ → ℕ → ℕ) (older : Call) (olds : List Call)
     (enters : Enters from (begins part)) where
@@ -194,12 +233,12 @@ module _ (R : List ℕ) (part : Part) (from : Cpu) (steps : ℕ) (others : ℕ �
       }
 
     module _ (frame : ℕ × List ℕ) (is : frame_of (older ∷ olds) ≡ Some frame) where
-      tells_now : frame.0 + width ≤ 1020 → (op : OpKind) × (put_by part from ≡ table_of (op ∷ [])) × IsPut R op
+      tells_now : IsRoomFor part from frame.0 → (op : OpKind) × (put_by part from ≡ table_of (op ∷ [])) × IsPut R op
           × (frame.0 ≡ 0 → IsLabs op)
-      tells_now = subst (λ f. Tells R (Puts part) from f) is tells
+      tells_now = told_op R part from frame (subst (λ f. Tells R (Puts part) from f) is tells)
 
-      -- it has room
-      module _ (room : frame.0 + width ≤ 1020) where
+      -- there is room
+      module _ (room : IsRoomFor part from frame.0) where
         abbrev op : OpKind
         op = (tells_now room).0
 
@@ -228,7 +267,7 @@ module _ (R : List ℕ) (part : Part) (from : Cpu) (steps : ℕ) (others : ℕ �
               let holds = held putting (call_with older found_next.draft) (with_drafts olds found_next.drafts) enters
               (follows' R putting older olds enters alone follows (op ∷ later) found_next) found_next.session in
               let did = puts_room part from holds.0 holds.1.0 (frame.0, put_by part from ++ table_of later) (table_of later)
-              holds.1.1.0 enters
+              holds.1.1.0 enters room.0
               (subst (λ f. holds_in holds.0 holds.1.0 f from.mem holds.1.1.0) frame_before holds.1.1.1) refl
               (ends_some R later fits.ends) in
               taken_is putting false here
@@ -257,13 +296,13 @@ module _ (R : List ℕ) (part : Part) (from : Cpu) (steps : ℕ) (others : ℕ �
           where
             has_room : (t : Bool) → HasRoom (if t then put_on (put_by part from) (frame_of (older ∷ olds))
                 else frame_of (older ∷ olds))
-            has_room true = subst (λ f. HasRoom (put_on (put_by part from) f)) (sym is) room
+            has_room true = subst (λ f. HasRoom (put_on (put_by part from) f)) (sym is) room.1
             has_room false = finds.room
 
             taken_now : is_over putting ≡ true → frame_of (putting ∷ older ∷ olds)
                 ≡ Some (frame.0 + width, drop width frame.1)
             taken_now here = ap (λ (t : Bool). if t then put_on (put_by part from) (frame_of (older ∷ olds))
-                else frame_of (older ∷ olds)) (takes (shortest (frame.0 + width)) (shortest_fits R (frame.0 + width) room) here)
+                else frame_of (older ∷ olds)) (takes (shortest (frame.0 + width)) (shortest_fits R (frame.0 + width) room.1) here)
                 ∙ ap (put_on (put_by part from)) is
 
             by : (later : List OpKind) (t : Bool) → is_over putting ≡ t
@@ -271,12 +310,12 @@ module _ (R : List ℕ) (part : Part) (from : Cpu) (steps : ℕ) (others : ℕ �
             by later true here may = found_put later (subst (λ f. MayCome R f later) (taken_now here) may)
             by later false open_yet may =
                 let least = shortest (frame.0 + width) in
-                let fits = shortest_fits R (frame.0 + width) room in
+                let fits = shortest_fits R (frame.0 + width) room.1 in
                 made (op ∷ least) (found_next least fits) [] later (brings_next least fits)
                 (λ here. absurd (let e = sym open_yet ∙ here in cc))
 
-      -- it has none
-      module _ (over : 1020 < frame.0 + width) where
+      -- there is none
+      module _ (over : IsRoomFor part from frame.0 → ⊥) where
         over_may : (later : List OpKind) → MayCome R (frame_of (putting ∷ older ∷ olds)) later
             → is_taken putting ≡ false → MayCome R (frame_of (older ∷ olds)) later
         over_may later may untaken = subst (λ (t : Bool). MayCome R (if t then put_on (put_by part from)
@@ -287,7 +326,7 @@ module _ (R : List ℕ) (part : Part) (from : Cpu) (steps : ℕ) (others : ℕ �
           frame_over = frame' R putting older olds enters alone follows later found ∙ ap (with_later later) is
 
           brings_over : Brings (Puts part) from (frame_of (before later found))
-          brings_over = subst (λ f. Brings (Puts part) from f) (sym frame_over) (λ less. absurd (omega (arith, less, over)))
+          brings_over = subst (λ f. Brings (Puts part) from f) (sym frame_over) (λ less. absurd (over less))
 
           refuses : is_over putting ≡ true → is_taken putting ≡ false
           refuses here =
@@ -323,13 +362,16 @@ module _ (R : List ℕ) (part : Part) (from : Cpu) (steps : ℕ) (others : ℕ �
     puts_find : Finds R putting (older ∷ olds)
     puts_find = by (frame_of (older ∷ olds)) refl
       where
-        split : (frame : ℕ × List ℕ) → frame_of (older ∷ olds) ≡ Some frame → (t : Bool) → nat_le (frame.0 + width) 1020 ≡ t
-            → Finds R putting (older ∷ olds)
-        split frame is true less = room_finds frame is (leb-true (frame.0 + width) 1020 less)
-        split frame is false more = over_finds frame is (leb-false (frame.0 + width) 1020 more)
+        split : (frame : ℕ × List ℕ) → frame_of (older ∷ olds) ≡ Some frame → (t : Bool) → nat_le 1 width ≡ t
+            → (u : Bool) → nat_le (frame.0 + width) 1020 ≡ u → Finds R putting (older ∷ olds)
+        split frame is true any true less = room_finds frame is (leb-true 1 width any, leb-true (frame.0 + width) 1020 less)
+        split frame is false none u less = over_finds frame is
+            (λ room. let no = leb-false 1 width none in let some = room.0 in absurd (omega (arith, no, some)))
+        split frame is true any false more = over_finds frame is
+            (λ room. let above = leb-false (frame.0 + width) 1020 more in let low = room.1 in absurd (omega (arith, above, low)))
 
         by : (frame : Option (ℕ × List ℕ)) → frame_of (older ∷ olds) ≡ frame → Finds R putting (older ∷ olds)
-        by (Some frame) is = split frame is (nat_le (frame.0 + width) 1020) refl
+        by (Some frame) is = split frame is (nat_le 1 width) refl (nat_le (frame.0 + width) 1020) refl
         by None is = record {
           found = λ later may. let found = finds.found later (subst (λ f. MayCome R f later) (sym is) tt) in
               let none : frame_of (before later found) ≡ None =

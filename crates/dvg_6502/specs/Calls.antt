@@ -111,12 +111,16 @@ pub record IsBuildable (F : List OpKind) : Type 0 where
   pub some : 2 ≤ length (table_of F)
   pub fits : length (table_of F) ≤ 1022
 
--- what a call brings: a table, at A and X; a draft that can be built; of the frame that is being built, where it has room
--- for that and the HALT, what is next, with more after it; or its HALT
+-- the part puts something, and there is room for that and the HALT after this many bytes
+abbrev pub IsRoomFor : Part → Cpu → ℕ → Type 0
+IsRoomFor part cpu count = let now = put_by part cpu in (1 ≤ length now) × (count + length now ≤ 1020)
+
+-- what a call brings: a table, at A and X; a draft that can be built; of the frame that is being built, where there is
+-- room, what is next, with more after it; or its HALT
 abbrev pub Brings : Routine → Cpu → Option (ℕ × List ℕ) → Type 0
 Brings (Offer F) cpu frame = HasTable cpu.mem (cpu.a + 256 * cpu.x) F
 Brings (Open F) cpu frame = IsBuildable F
-Brings (Puts part) cpu (Some frame) = frame.0 + length (put_by part cpu) ≤ 1020
+Brings (Puts part) cpu (Some frame) = IsRoomFor part cpu frame.0
     → (more : List ℕ) × (frame.1 ≡ put_by part cpu ++ more) × (2 ≤ length more)
 Brings Close cpu (Some frame) = frame.1 ≡ 0x00 ∷ 0xB0 ∷ []
 Brings routine cpu frame = Unit {0}

@@ -3,9 +3,9 @@ use Rattle.std.specs.Prelude.{◌≡◌, ◌≢◌, ℕ, ◌<◌, ◌⊎◌, ◌
 use Rattle.dvg_6502.specs.Processor.{Cpu, run, at_return}
 use Rattle.dvg_6502.specs.Code.{dvg_labs, dvg_pair}
 use Rattle.dvg_6502.specs.Board.{IsLoaded, phase_in, seen}
-use Rattle.dvg_6502.specs.Routines.{Enters, Pair, Labs, put_by}
+use Rattle.dvg_6502.specs.Routines.{Enters, Put, Pair, Labs, put_by}
 use Rattle.dvg_6502.specs.Amid.{ComesOut, CameOut, AreHarmless, amid, guards, is_code, is_work}
-use Rattle.dvg_6502.specs.Calls.{Call, Routine, Offer, Open, Redraw, after, has_returned, IsSession, is_decided, is_over, answer}
+use Rattle.dvg_6502.specs.Calls.{Call, Routine, Offer, Open, Redraw, Puts, Close, after, has_returned, IsSession, is_decided, is_over, answer}
 
 -- the call returns with this C, writes nothing and touches no hardware, whatever others do to all bytes but the code's
 pub record IsDecided (cpu : Cpu) (c : Bool) : Type 0 where
@@ -48,6 +48,18 @@ asks routine = false
 abbrev pub StaysIdle : Type 0
 StaysIdle = (call : Call) (calls : List Call) → IsSession (call ∷ calls) → asks call.routine ≡ true
     → phase_in call.from.mem ≡ 2 → is_over call ≡ false → phase_in (after call).mem ≡ 2
+
+-- the routines that go on with a frame, and begin with a look at the phase
+abbrev pub goes_on : Routine → Bool
+goes_on (Puts Put) = true
+goes_on (Puts Pair) = true
+goes_on Close = true
+goes_on routine = false
+
+-- where a frame is being built, it is so until such a call is over
+abbrev pub StaysBuilding : Type 0
+StaysBuilding = (call : Call) (calls : List Call) → IsSession (call ∷ calls) → goes_on call.routine ≡ true
+    → phase_in call.from.mem ≡ 7 → is_over call ≡ false → phase_in (after call).mem ≡ 7
 
 -- what dvg_labs takes before it looks at the phase: its code, dvg_y and dvg_x
 abbrev pub is_labs : ℕ → Bool

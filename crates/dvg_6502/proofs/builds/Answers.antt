@@ -1,5 +1,8 @@
+use Rattle.std.proofs.Common.{refl}
 use Rattle.dvg_6502.proofs.Building.{put_takes}
 use Rattle.dvg_6502.proofs.Closing.{open_is_taken, pair_takes, labs_takes, close_takes, idle_ticks}
+use Rattle.dvg_6502.proofs.VectorBuilds.{vector_takes, vector_refuses}
+use Rattle.dvg_6502.proofs.VectorDraws.{vector_draws}
 use Rattle.dvg_6502.proofs.BuildScript.{builds_script}
 use Rattle.dvg_6502.proofs.builds.Goals as goal
 
@@ -9,6 +12,10 @@ returns c = record {
   puts = put_takes;
   pairs = pair_takes;
   labs = labs_takes;
+  vector = vector_takes;
+  no_vector = vector_refuses;
+  vector_draws = vector_draws;
+  some_vectors = (refl, refl, refl);
   closes = close_takes;
   idles = idle_ticks;
   script = builds_script;
