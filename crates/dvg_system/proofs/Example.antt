@@ -5,7 +5,7 @@ use Rattle.std.proofs.Common.{refl, sym, ap, ◌∙◌, subst, arith, lit<, inl,
 use Rattle.std.proofs.lemmas.List.{length-replicate, length-set, get_or-replicate}
 use Rattle.std.proofs.lemmas.List.Elements.{All-replicate}
 use Rattle.std.proofs.lemmas.Bool.{ne_eqb}
-use Rattle.std.specs.Prelude.{nat_eq, nat_le, nat_lt, ◌&&◌, if◌then◌else◌, slice_index}
+use Rattle.std.specs.Prelude.{nat_eq, nat_le, nat_lt, ◌&&◌, ◌||◌, if◌then◌else◌, slice_index}
 use Rattle.dvg_mem.specs.Memory.{IsImage, IsRom}
 use Rattle.dvg_driver.specs.declared.action.Action.TheVariants.{Peek, Wrote, Read, Sent}
 use Rattle.dvg_log.specs.declared.event.Event.TheVariants.{Offer, Redraw, Tick, Strobe, Fetch, ResetCpu}
@@ -17,7 +17,7 @@ use Rattle.dvg_6502.specs.Board.{seen, is_hardware}
 use Rattle.dvg_6502.specs.Tables.{HasTable, table_of}
 use Rattle.dvg_6502.specs.Routines.{Enters}
 use Rattle.dvg_6502.specs.Calls as calls
-use Rattle.dvg_6502.specs.Calls.{Routine, Call, IsSession, Follows, is_table}
+use Rattle.dvg_6502.specs.Calls.{Routine, Call, IsSession, Follows, is_table, is_over, is_refused, is_leaving, answer}
 use Rattle.dvg_6502.specs.Joined.{stroke}
 use Rattle.dvg_6502.proofs.Running.{at}
 use Rattle.dvg_6502.proofs.Memory.{laid, page_of, in_page, in_code, put_page, put_out, put_small, loaded, AreSmall, both_true, le_not, out_of_page}
@@ -132,7 +132,8 @@ follows : (r : Routine) (from : Cpu) (n : ℕ) (olds : List Call) (call : Call) 
     → (run from.s n from).mem ≡ call.from.mem → Follows call (plain r n from ∷ olds)
 follows r from n olds call returned same =
     let e : (calls.after (plain r n from)).mem ≡ call.from.mem = ap (λ (c : Cpu). c.mem) (still from.s n from) ∙ same in (
-      ap (at_return from.s) (still from.s n from) ∙ returned,
+      ap (λ (c : Cpu). at_return from.s c || (is_refused (plain r n from) || is_leaving from.s c)) (still from.s n from)
+          ∙ ap (λ (t : Bool). t || (is_refused (plain r n from) || is_leaving from.s (run from.s n from))) returned,
       record {
         own = λ b is. ap (λ (m : ℕ → ℕ). m b) (sym e);
         ram = λ b is. ap (λ (m : ℕ → ℕ). m b) (sym e);
@@ -399,13 +400,15 @@ module _ (r : Routine) (from : Cpu) (olds : List Call) (log : Log) (older : List
       is (served (after held older) bus big below) made
 
   -- of a call that has no answer
-  ends : ((t : Bool) → (if t then with_answer zeros r (calls.after (plain r (m + n) from)).c log else log) ≡ log)
-      → On (plain r m from ∷ olds) log older → at_return from.s (run from.s m from) ≡ false
+  ends : ((t : Bool) → (if t then with_answer zeros r (answer (plain r (m + n) from)) log else log) ≡ log)
+      → On (plain r m from ∷ olds) log older
+      → (at_return from.s (run from.s m from) || (is_refused (plain r m from) || is_leaving from.s (run from.s m from))) ≡ false
       → IsSession (plain r (m + n) from ∷ olds) → seen (run from.s (m + n) from).log ≡ seen (run from.s m from).log
       → On (plain r (m + n) from ∷ olds) log older
   ends none on unfinished session same =
-      subst (λ l. On (plain r (m + n) from ∷ olds) l older) (none (calls.has_returned (plain r (m + n) from)))
-      (steps n on (ap (at_return from.s) (still from.s m from) ∙ unfinished) session
+      subst (λ l. On (plain r (m + n) from ∷ olds) l older) (none (is_over (plain r (m + n) from)))
+      (steps n on (ap (λ (c : Cpu). at_return from.s c || (is_refused (plain r m from) || is_leaving from.s c))
+      (still from.s m from) ∙ unfinished) session
       (ap (λ (c : Cpu). seen c.log) (still from.s (m + n) from) ∙ same
       ∙ ap (λ (c : Cpu). seen c.log) (sym (still from.s m from))))
 

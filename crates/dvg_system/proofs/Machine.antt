@@ -1,7 +1,7 @@
 -- The log of a machine is one of a board whose processor's accesses are those of the machine code.
 use Rattle.std.proofs.Common.{◌≡◌, ℕ, ◌+◌, ◌/◌, ◌%◌, ◌<◌, Bool, true, false, not, List, [], ◌∷◌, ◌++◌, length}
 use Rattle.std.proofs.Common.{Some, None, refl, sym, ap, ◌∙◌, subst, arith, inl, inr}
-use Rattle.std.specs.Prelude.{nat_eq, ◌&&◌, if◌then◌else◌, slice_index, slice_set}
+use Rattle.std.specs.Prelude.{nat_eq, ◌&&◌, ◌||◌, if◌then◌else◌, slice_index, slice_set}
 use Rattle.std.proofs.lemmas.Bool.Decides.{eqb_tells}
 use Rattle.std.proofs.lemmas.List.{get_or-set_same, get_or-set_other}
 use Rattle.std.proofs.lemmas.Option.{none-some}
@@ -26,7 +26,7 @@ use Rattle.dvg_theorem.proofs.Kept.{KeptBy, kept, same_place, sized}
 use Rattle.dvg_theorem.proofs.ToCome.{IsWrite, to_half, to_zero, to_one, is_write}
 use Rattle.dvg_theorem.proofs.Words.{words_are_whole}
 use Rattle.dvg_6502.specs.Processor.{Cpu, Access, Reads, Writes, at_return}
-use Rattle.dvg_6502.specs.Amid.{amid}
+use Rattle.dvg_6502.specs.Amid.{amid, is_code}
 use Rattle.dvg_6502.specs.Board.{seen}
 use Rattle.dvg_6502.specs.Routines.{Enters, Shows}
 use Rattle.dvg_6502.specs.Calls as calls
@@ -95,10 +95,19 @@ waits_runs R image held list log older bus whole runs is served idle =
           runs.known;
     }
 
--- a call that begins hasn't returned
-open_at : (from : Cpu) (opcode : ℕ) → from.mem from.pc ≡ opcode → nat_eq opcode 0x60 ≡ false → at_return from.s from ≡ false
-open_at from opcode is differs = ap (λ b. nat_eq b 0x60 && nat_eq from.s from.s) is
-    ∙ ap (λ (t : Bool). t && nat_eq from.s from.s) differs
+nothing : (x y : Bool) → (x && (y && false)) ≡ false
+nothing true true = refl
+nothing true false = refl
+nothing false y = refl
+
+-- a call that begins isn't over
+not_over : (r : Routine) (from : Cpu) (others : ℕ → ℕ → ℕ) (opcode : ℕ) → from.mem from.pc ≡ opcode
+    → nat_eq opcode 0x60 ≡ false → nat_eq opcode 0x18 ≡ false → calls.is_over (begun r from others) ≡ false
+not_over r from others opcode is no_return no_clear =
+    ap (λ (t : Bool). (t && nat_eq from.s from.s) || calls.is_leaving from.s from) (ap (λ b. nat_eq b 0x60) is ∙ no_return)
+    ∙ ap (λ (t : Bool). is_code from.pc && (is_code (from.pc + 1) && (t && (nat_eq (from.mem (from.pc + 1)) 0x60 && nat_eq from.s from.s))))
+    (ap (λ b. nat_eq b 0x18) is ∙ no_clear)
+    ∙ nothing (is_code from.pc) (is_code (from.pc + 1))
 
 begin_adds : (r : Routine) (from : Cpu) (others : ℕ → ℕ → ℕ) → Enters from (calls.entry r) → Adds r (begun r from others) []
 begin_adds calls.Reset from others enters = (ap seen enters.log, refl)
@@ -107,18 +116,18 @@ begin_adds calls.Ticks from others enters = subst (λ l. AreShown [] (seen l)) (
 begin_adds calls.Run from others enters = subst (λ l. AreShown [] (seen l)) (sym enters.log) tt
 begin_adds (calls.Offer F) from others enters = (
   ap seen enters.log,
-  sym (ap (λ (t : Bool). if t && not from.c then Script.Offered (other (half_of_high (from.mem 0x4001))) F ∷ [] else [])
-      (open_at from 0xA4 (ap from.mem enters.entry ∙ enters.loaded.code 0xFE (omega arith)) refl)),
+  sym (ap (λ (t : Bool). if t && not (calls.answer (begun (calls.Offer F) from others)) then Script.Offered (other (half_of_high (from.mem 0x4001))) F ∷ [] else [])
+      (not_over (calls.Offer F) from others 0xA4 (ap from.mem enters.entry ∙ enters.loaded.code 0xFE (omega arith)) refl refl)),
 )
 begin_adds calls.Redraw from others enters = (
   ap seen enters.log,
-  sym (ap (λ (t : Bool). if t && not from.c then Script.Asked ∷ [] else [])
-      (open_at from 0xA5 (ap from.mem enters.entry ∙ enters.loaded.code 0x143 (omega arith)) refl)),
+  sym (ap (λ (t : Bool). if t && not (calls.answer (begun calls.Redraw from others)) then Script.Asked ∷ [] else [])
+      (not_over calls.Redraw from others 0xA5 (ap from.mem enters.entry ∙ enters.loaded.code 0x143 (omega arith)) refl refl)),
 )
 begin_adds (calls.Open F) from others enters = (
   ap seen enters.log,
-  sym (ap (λ (t : Bool). if t && not from.c then Script.Offered (other (half_of_high (from.mem 0x4001))) F ∷ [] else [])
-      (open_at from 0xA4 (ap from.mem enters.entry ∙ enters.loaded.code 0x124 (omega arith)) refl)),
+  sym (ap (λ (t : Bool). if t && not (calls.answer (begun (calls.Open F) from others)) then Script.Offered (other (half_of_high (from.mem 0x4001))) F ∷ [] else [])
+      (not_over (calls.Open F) from others 0xA4 (ap from.mem enters.entry ∙ enters.loaded.code 0x124 (omega arith)) refl refl)),
 )
 begin_adds (calls.Puts part) from others enters = subst (λ l. AreShown [] (seen l)) (sym enters.log) tt
 begin_adds calls.Close from others enters = subst (λ l. AreShown [] (seen l)) (sym enters.log) tt
@@ -244,7 +253,7 @@ module _ (R image : List ℕ) (held : ℕ → ℕ) (log : Log) (older : List Bus
   On r to = Runs R image held (now r ∷ olds) to older
 
   -- without an access
-  module _ (unfinished : at_return from.s was ≡ false) (same : seen end.log ≡ seen was.log) where
+  module _ (same : seen end.log ≡ seen was.log) where
     same_shares : (r : Routine) → Newest R image log (before r) olds → (a : ℕ) → a < 2048
         → last_write (seen end.log) (0x4000 + a) (from.mem (0x4000 + a)) ≡ slice_index (ram image log) a
     same_shares r k a small = ap (λ l. last_write l (0x4000 + a) (from.mem (0x4000 + a))) same ∙ k.shares a small
@@ -268,24 +277,24 @@ module _ (R image : List ℕ) (held : ℕ → ℕ) (log : Log) (older : List Bus
     -- a call that is answered: what it adds, where it is taken
     abbrev Answer : Routine → List Item → Type 0
     Answer r X = IsLifeOf olds (life image log) × (seen was.log ≡ [])
-        × ((t c : Bool) → at_return from.s end ≡ t → end.c ≡ c
+        × ((t c : Bool) → calls.is_over (now r) ≡ t → calls.answer (now r) ≡ c
         → IsLifeOf (now r ∷ olds) ((if t && not c then X else []) ++ life image log))
 
-    answer_of : (r : Routine) (X items old : List Item) → life image log ≡ items ++ old
-        → items ≡ (if at_return from.s was && not was.c then X else []) → seen was.log ≡ [] → IsLifeOf olds old
-        → ((new : List Item) → new ≡ (if at_return from.s end && not end.c then X else []) → seen end.log ≡ []
+    answer_of : (r : Routine) (X items old : List Item) → calls.is_over (before r) ≡ false → life image log ≡ items ++ old
+        → items ≡ (if calls.is_over (before r) && not (calls.answer (before r)) then X else []) → seen was.log ≡ [] → IsLifeOf olds old
+        → ((new : List Item) → new ≡ (if calls.is_over (now r) && not (calls.answer (now r)) then X else []) → seen end.log ≡ []
         → IsLifeOf (now r ∷ olds) (new ++ old)) → Answer r X
-    answer_of r X items old is none quiet made on =
-        let empty : items ≡ [] = none ∙ ap (λ (t : Bool). if t && not was.c then X else []) unfinished in
+    answer_of r X items old unfinished is none quiet made on =
+        let empty : items ≡ [] = none ∙ ap (λ (t : Bool). if t && not (calls.answer (before r)) then X else []) unfinished in
         let all : old ≡ life image log = sym (is ∙ ap (λ l. l ++ old) empty) in (
           subst (IsLifeOf olds) all made,
           quiet,
           λ t c returned carry. subst (λ l. IsLifeOf (now r ∷ olds) ((if t && not c then X else []) ++ l)) all
-              (on (if t && not c then X else []) (sym (ap (λ (u : Bool). if u && not end.c then X else []) returned
+              (on (if t && not c then X else []) (sym (ap (λ (u : Bool). if u && not (calls.answer (now r)) then X else []) returned
               ∙ ap (λ (u : Bool). if t && not u then X else []) carry)) (same ∙ quiet)),
         )
 
-    answered_as : (r : Routine) (X : List Item) (c : Bool) → Answer r X → IsSession (now r ∷ olds) → at_return from.s end ≡ true → end.c ≡ c
+    answered_as : (r : Routine) (X : List Item) (c : Bool) → Answer r X → IsSession (now r ∷ olds) → calls.is_over (now r) ≡ true → calls.answer (now r) ≡ c
         → IsAnswered r c (life image log)
     answered_as r X c answer session returned carry = record {
       from = from;
@@ -294,7 +303,7 @@ module _ (R image : List ℕ) (held : ℕ → ℕ) (log : Log) (older : List Bus
       calls = olds;
       session = session;
       makes = answer.0;
-      returns = returned;
+      over = returned;
       carry = carry;
     }
 
@@ -307,9 +316,9 @@ module _ (R image : List ℕ) (held : ℕ → ℕ) (log : Log) (older : List Bus
         (sym (ap (λ l. last_write l 0x4001 (from.mem 0x4001)) (sym quiet) ∙ k.shares 1 (omega arith)))
 
     -- the line that tells of a frame
-    frame_line : (r : Routine) (F : List OpKind) (t c : Bool) → at_return from.s end ≡ t → end.c ≡ c
+    frame_line : (r : Routine) (F : List OpKind) (t c : Bool) → calls.is_over (now r) ≡ t → calls.answer (now r) ≡ c
         → IsDraft F → Runs R image held (before r ∷ olds) log older → IsSession (now r ∷ olds) → Answer r (taken F)
-        → (at_return from.s end ≡ true → FitsCode R image log (Offer F) (if c then Busy else Offered))
+        → (calls.is_over (now r) ≡ true → FitsCode R image log (Offer F) (if c then Busy else Offered))
         → On r (if t then (Offer F ⟼ (if c then Busy else Offered)) ∷ log else log)
     frame_line r F false c returned carry draft runs session answer fits = let k = runs.known in record {
       board = runs.board;
@@ -330,7 +339,7 @@ module _ (R image : List ℕ) (held : ℕ → ℕ) (log : Log) (older : List Bus
       };
     }
 
-    redraw_line : (t c h : Bool) → at_return from.s end ≡ t → end.c ≡ c → has_flip (life image log) ≡ h
+    redraw_line : (t c h : Bool) → calls.is_over (now calls.Redraw) ≡ t → calls.answer (now calls.Redraw) ≡ c → has_flip (life image log) ≡ h
         → Runs R image held (before calls.Redraw ∷ olds) log older → IsSession (now calls.Redraw ∷ olds)
         → Answer calls.Redraw (Script.Asked ∷ [])
         → On calls.Redraw (if t then (Redraw ⟼ (if c then if h then Busy else NothingPublished else Asked)) ∷ log else log)
@@ -354,64 +363,64 @@ module _ (R image : List ℕ) (held : ℕ → ℕ) (log : Log) (older : List Bus
     abbrev To : Routine → Bool → Bool → Log
     To r t c = if t then with_answer image r c log else log
 
-    offer_told : (F : List OpKind) (t c : Bool) → at_return from.s end ≡ t → end.c ≡ c
+    offer_told : (F : List OpKind) (t c : Bool) → calls.is_over (before (calls.Offer F)) ≡ false → calls.is_over (now (calls.Offer F)) ≡ t → calls.answer (now (calls.Offer F)) ≡ c
         → Runs R image held (before (calls.Offer F) ∷ olds) log older → IsSession (now (calls.Offer F) ∷ olds)
         → On (calls.Offer F) (if t then (Offer F ⟼ (if c then Busy else Offered)) ∷ log else log)
-    offer_told F t c returned carry runs session =
+    offer_told F t c unfinished returned carry runs session =
         let k = runs.known in
         let it = k.makes in
-        let answer : Answer (calls.Offer F) (taken F) = answer_of (calls.Offer F) (taken F) it.0 it.1 it.2 it.3.1 it.3.0 it.4
+        let answer : Answer (calls.Offer F) (taken F) = answer_of (calls.Offer F) (taken F) it.0 it.1 unfinished it.2 it.3.1 it.3.0 it.4
         (λ new e quiet. (new, it.1, refl, (quiet, e), it.4)) in
         frame_line (calls.Offer F) F t c returned carry k.checked.0 runs session answer (fits c carry answer)
       where
-        fits : (c : Bool) → end.c ≡ c → Answer (calls.Offer F) (taken F) → at_return from.s end ≡ true
+        fits : (c : Bool) → calls.answer (now (calls.Offer F)) ≡ c → Answer (calls.Offer F) (taken F) → calls.is_over (now (calls.Offer F)) ≡ true
             → FitsCode R image log (Offer F) (if c then Busy else Offered)
         fits false carry answer is = inl (runs.known.checked.1, answered_as (calls.Offer F) (taken F) false answer session is carry)
         fits true carry answer is = inl (runs.known.checked.1, answered_as (calls.Offer F) (taken F) true answer session is carry)
 
-    open_told : (F : List OpKind) (t c : Bool) → at_return from.s end ≡ t → end.c ≡ c
+    open_told : (F : List OpKind) (t c : Bool) → calls.is_over (before (calls.Open F)) ≡ false → calls.is_over (now (calls.Open F)) ≡ t → calls.answer (now (calls.Open F)) ≡ c
         → Runs R image held (before (calls.Open F) ∷ olds) log older → IsSession (now (calls.Open F) ∷ olds)
         → On (calls.Open F) (if t then (Offer F ⟼ (if c then Busy else Offered)) ∷ log else log)
-    open_told F t c returned carry runs session =
+    open_told F t c unfinished returned carry runs session =
         let k = runs.known in
         let it = k.makes in
-        let answer : Answer (calls.Open F) (taken F) = answer_of (calls.Open F) (taken F) it.0 it.1 it.2 it.3.1 it.3.0 it.4
+        let answer : Answer (calls.Open F) (taken F) = answer_of (calls.Open F) (taken F) it.0 it.1 unfinished it.2 it.3.1 it.3.0 it.4
         (λ new e quiet. (new, it.1, refl, (quiet, e), it.4)) in
         frame_line (calls.Open F) F t c returned carry k.checked.0 runs session answer (fits c carry answer)
       where
-        fits : (c : Bool) → end.c ≡ c → Answer (calls.Open F) (taken F) → at_return from.s end ≡ true
+        fits : (c : Bool) → calls.answer (now (calls.Open F)) ≡ c → Answer (calls.Open F) (taken F) → calls.is_over (now (calls.Open F)) ≡ true
             → FitsCode R image log (Offer F) (if c then Busy else Offered)
         fits false carry answer is = inr (runs.known.checked.1, answered_as (calls.Open F) (taken F) false answer session is carry)
         fits true carry answer is = inr (runs.known.checked.1, answered_as (calls.Open F) (taken F) true answer session is carry)
 
-    redraw_answer : Runs R image held (before calls.Redraw ∷ olds) log older → Answer calls.Redraw (Script.Asked ∷ [])
-    redraw_answer runs = let it = runs.known.makes in
-        answer_of calls.Redraw (Script.Asked ∷ []) it.0 it.1 it.2 it.3.1 it.3.0 it.4
+    redraw_answer : calls.is_over (before calls.Redraw) ≡ false → Runs R image held (before calls.Redraw ∷ olds) log older → Answer calls.Redraw (Script.Asked ∷ [])
+    redraw_answer unfinished runs = let it = runs.known.makes in
+        answer_of calls.Redraw (Script.Asked ∷ []) it.0 it.1 unfinished it.2 it.3.1 it.3.0 it.4
         (λ new e quiet. (new, it.1, refl, (quiet, e), it.4))
 
     -- each routine
-    steps_by : (r : Routine) (t c : Bool) → at_return from.s end ≡ t → end.c ≡ c
-        → Runs R image held (before r ∷ olds) log older → IsSession (now r ∷ olds) → On r (To r t c)
-    steps_by calls.Reset false c returned carry runs session = plain calls.Reset runs session (λ items is. (same ∙ is.0, is.1))
-    steps_by calls.Reset true c returned carry runs session = plain calls.Reset runs session (λ items is. (same ∙ is.0, is.1))
-    steps_by calls.Tick false c returned carry runs session = plain calls.Tick runs session shown
-    steps_by calls.Tick true c returned carry runs session = plain calls.Tick runs session shown
-    steps_by calls.Ticks false c returned carry runs session = plain calls.Ticks runs session shown
-    steps_by calls.Ticks true c returned carry runs session = plain calls.Ticks runs session shown
-    steps_by calls.Run false c returned carry runs session = plain calls.Run runs session shown
-    steps_by calls.Run true c returned carry runs session = plain calls.Run runs session shown
-    steps_by (calls.Offer F) t false returned carry runs session = offer_told F t false returned carry runs session
-    steps_by (calls.Offer F) t true returned carry runs session = offer_told F t true returned carry runs session
-    steps_by calls.Redraw t false returned carry runs session =
-        redraw_line t false (has_flip (life image log)) returned carry refl runs session (redraw_answer runs)
-    steps_by calls.Redraw t true returned carry runs session =
-        redraw_line t true (has_flip (life image log)) returned carry refl runs session (redraw_answer runs)
-    steps_by (calls.Open F) t false returned carry runs session = open_told F t false returned carry runs session
-    steps_by (calls.Open F) t true returned carry runs session = open_told F t true returned carry runs session
-    steps_by (calls.Puts part) false c returned carry runs session = plain (calls.Puts part) runs session shown
-    steps_by (calls.Puts part) true c returned carry runs session = plain (calls.Puts part) runs session shown
-    steps_by calls.Close false c returned carry runs session = plain calls.Close runs session shown
-    steps_by calls.Close true c returned carry runs session = plain calls.Close runs session shown
+    steps_by : (r : Routine) (t c : Bool) → calls.is_over (now r) ≡ t → calls.answer (now r) ≡ c
+        → calls.is_over (before r) ≡ false → Runs R image held (before r ∷ olds) log older → IsSession (now r ∷ olds) → On r (To r t c)
+    steps_by calls.Reset false c returned carry unfinished runs session = plain calls.Reset runs session (λ items is. (same ∙ is.0, is.1))
+    steps_by calls.Reset true c returned carry unfinished runs session = plain calls.Reset runs session (λ items is. (same ∙ is.0, is.1))
+    steps_by calls.Tick false c returned carry unfinished runs session = plain calls.Tick runs session shown
+    steps_by calls.Tick true c returned carry unfinished runs session = plain calls.Tick runs session shown
+    steps_by calls.Ticks false c returned carry unfinished runs session = plain calls.Ticks runs session shown
+    steps_by calls.Ticks true c returned carry unfinished runs session = plain calls.Ticks runs session shown
+    steps_by calls.Run false c returned carry unfinished runs session = plain calls.Run runs session shown
+    steps_by calls.Run true c returned carry unfinished runs session = plain calls.Run runs session shown
+    steps_by (calls.Offer F) t false returned carry unfinished runs session = offer_told F t false unfinished returned carry runs session
+    steps_by (calls.Offer F) t true returned carry unfinished runs session = offer_told F t true unfinished returned carry runs session
+    steps_by calls.Redraw t false returned carry unfinished runs session =
+        redraw_line t false (has_flip (life image log)) returned carry refl runs session (redraw_answer unfinished runs)
+    steps_by calls.Redraw t true returned carry unfinished runs session =
+        redraw_line t true (has_flip (life image log)) returned carry refl runs session (redraw_answer unfinished runs)
+    steps_by (calls.Open F) t false returned carry unfinished runs session = open_told F t false unfinished returned carry runs session
+    steps_by (calls.Open F) t true returned carry unfinished runs session = open_told F t true unfinished returned carry runs session
+    steps_by (calls.Puts part) false c returned carry unfinished runs session = plain (calls.Puts part) runs session shown
+    steps_by (calls.Puts part) true c returned carry unfinished runs session = plain (calls.Puts part) runs session shown
+    steps_by calls.Close false c returned carry unfinished runs session = plain calls.Close runs session shown
+    steps_by calls.Close true c returned carry unfinished runs session = plain calls.Close runs session shown
 
   -- up to an access
   module _ (access : Access) (bus : Bus) (more : seen end.log ≡ access ∷ seen was.log) (is : IsBus bus)
@@ -640,8 +649,8 @@ runs_of {R} {image} {held} (Machine.waits {calls = list} {log = log} {older = ol
 runs_of {R} {image} {held} (Machine.begins {calls = list} {log = log} {older = older} routine from others on session checked shares) =
     begins_runs R image held log older from others routine list (runs_of on) session checked shares
 runs_of {R} {image} {held} (Machine.steps {call = call} {calls = olds} {log = log} {older = older} n on unfinished session same) =
-    steps_by R image held log older call.from call.steps n call.others olds unfinished same call.routine
-    (calls.has_returned (later n call)) (calls.after (later n call)).c refl refl (runs_of on) session
+    steps_by R image held log older call.from call.steps n call.others olds same call.routine
+    (calls.is_over (later n call)) (calls.answer (later n call)) refl refl unfinished (runs_of on) session
 runs_of {R} {image} {held} (Machine.accesses {call = call} {calls = olds} {log = log} {older = older} n access bus on session more is served made) =
     accesses_runs R image held log older call.from call.steps n call.others olds access bus more is served made call.routine
     (runs_of on) session

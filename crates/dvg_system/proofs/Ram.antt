@@ -3,7 +3,7 @@ use Rattle.std.proofs.Common.{◌≡◌, ℕ, zero, suc, ◌+◌, ◌*◌, ◌/�
 use Rattle.std.proofs.Common.{subst, arith, le-leb, inl, inr}
 use Rattle.std.specs.Prelude.{nat_eq, nat_le, nat_lt, ◌&&◌, ◌||◌, if◌then◌else◌}
 use Rattle.std.proofs.lemmas.Bool.Decides.{eqb_tells}
-use Rattle.dvg_6502.specs.Processor.{Cpu, Access, Reads, Writes, Instr, Mode, Register, Immediate, ZeroPage, Absolute, IndirectIndexed}
+use Rattle.dvg_6502.specs.Processor.{Cpu, Access, Reads, Writes, Instr, Mode, Register, Immediate, ZeroPage, ZeroPageX, Absolute, IndirectIndexed}
 use Rattle.dvg_6502.specs.Processor.{A, X, Y, Load, Store, Transfer, And, Or, Xor, Compare, TestBits, Change, Step, ShiftLeft}
 use Rattle.dvg_6502.specs.Processor.{RotateLeft, ShiftLeftA, ShiftRightA, SetCarry, Branch, Jump, Call, Return, Unknown}
 use Rattle.dvg_6502.specs.Processor.{reads, reading, writing, setting, found, operand, address, of_register, next, bit_of, stack_place}
@@ -55,11 +55,12 @@ module _ (b old : ℕ) (high : 0x200 ≤ b) where
   reading_keeps : (mode : Mode) (cpu : Cpu) → Has cpu → Has (reading mode cpu)
   reading_keeps Immediate cpu h = h
   reading_keeps ZeroPage cpu h = read_keeps (address ZeroPage cpu) cpu h
+  reading_keeps ZeroPageX cpu h = read_keeps (address ZeroPageX cpu) cpu h
   reading_keeps Absolute cpu h = read_keeps (address Absolute cpu) cpu h
   reading_keeps IndirectIndexed cpu h = read_keeps (address IndirectIndexed cpu) cpu h
 
-  changing_keeps : (byte : ℕ) (cpu : Cpu) → Has cpu → Has (writing (address ZeroPage cpu) byte (reading ZeroPage cpu))
-  changing_keeps byte cpu h = write_keeps (address ZeroPage cpu) byte (reading ZeroPage cpu) (reading_keeps ZeroPage cpu h)
+  changing_keeps : (mode : Mode) (byte : ℕ) (cpu : Cpu) → Has cpu → Has (writing (address mode cpu) byte (reading mode cpu))
+  changing_keeps mode byte cpu h = write_keeps (address mode cpu) byte (reading mode cpu) (reading_keeps mode cpu h)
 
   does_keeps : (instr : Instr) (cpu : Cpu) → Has cpu → Has (does instr cpu)
   does_keeps (Load r mode) cpu h = setting_keeps r (operand mode cpu) (reading mode cpu) (reading_keeps mode cpu h)
@@ -70,10 +71,10 @@ module _ (b old : ℕ) (high : 0x200 ≤ b) where
   does_keeps (Xor mode) cpu h = reading_keeps mode cpu h
   does_keeps (Compare r mode) cpu h = reading_keeps mode cpu h
   does_keeps (TestBits mode) cpu h = reading_keeps mode cpu h
-  does_keeps (Change by) cpu h = changing_keeps ((operand ZeroPage cpu + by) % 256) cpu h
+  does_keeps (Change mode by) cpu h = changing_keeps mode ((operand mode cpu + by) % 256) cpu h
   does_keeps (Step r by) cpu h = setting_keeps r ((of_register r cpu + by) % 256) (next 1 cpu) h
-  does_keeps ShiftLeft cpu h = changing_keeps (2 * operand ZeroPage cpu % 256) cpu h
-  does_keeps RotateLeft cpu h = changing_keeps ((2 * operand ZeroPage cpu + bit_of cpu.c) % 256) cpu h
+  does_keeps ShiftLeft cpu h = changing_keeps ZeroPage (2 * operand ZeroPage cpu % 256) cpu h
+  does_keeps RotateLeft cpu h = changing_keeps ZeroPage ((2 * operand ZeroPage cpu + bit_of cpu.c) % 256) cpu h
   does_keeps ShiftLeftA cpu h = h
   does_keeps ShiftRightA cpu h = h
   does_keeps (SetCarry to) cpu h = h

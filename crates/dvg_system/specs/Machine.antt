@@ -13,7 +13,7 @@ use Rattle.dvg_6502.specs.Processor.{Cpu, Access, Reads, Writes}
 use Rattle.dvg_6502.specs.Board.{seen}
 use Rattle.dvg_6502.specs.Build.{IsBuilt}
 use Rattle.dvg_6502.specs.Calls
-use Rattle.dvg_6502.specs.Calls.{Routine, Call, has_returned, IsSession, IsLifeOf}
+use Rattle.dvg_6502.specs.Calls.{Routine, Call, is_over, answer, IsSession, IsLifeOf}
 use Rattle.dvg_board.specs.Board.{Board, Bus, q, clock}
 use Rattle.dvg_board.specs.Clocks.{IsBus, IsServed, after, looks, changes}
 use Rattle.dvg_board.specs.Logs.{did, answered}
@@ -59,7 +59,7 @@ abbrev pub with_reset : Routine → Log → Log
 with_reset Calls.Reset log = (ResetCpu ⟼ Cleared) ∷ log
 with_reset routine log = log
 
--- the log where a call returns with this C: a frame or a redraw is taken, or refused
+-- the log where a call returns with this C, or is decided so: a frame or a redraw is taken, or refused
 abbrev pub with_answer : List ℕ → Routine → (c : Bool) → Log → Log
 with_answer image (Calls.Offer F) false log = (Offer F ⟼ Offered) ∷ log
 with_answer image (Calls.Offer F) true log = (Offer F ⟼ Busy) ∷ log
@@ -70,10 +70,9 @@ with_answer image Calls.Redraw true log =
     (Redraw ⟼ (if has_flip (life image log) then Busy else NothingPublished)) ∷ log
 with_answer image routine c log = log
 
--- the log after steps of a call without an access: it may have returned
+-- the log after steps of a call without an access: it may be over
 abbrev pub told : List ℕ → Call → Log → Log
-told image call log =
-    if has_returned call then with_answer image call.routine (Calls.after call).c log else log
+told image call log = if is_over call then with_answer image call.routine (answer call) log else log
 
 -- a machine so far: the processor's calls, the log, and the board's clocks, each the newest first
 pub data IsMachine (R image : List ℕ) (held : ℕ → ℕ) : List Call → Log → List Bus → Type 0 where
@@ -91,7 +90,7 @@ pub data IsMachine (R image : List ℕ) (held : ℕ → ℕ) : List Call → Log
       → IsMachine R image held (begun routine from others ∷ calls) (with_reset routine log) older
   -- it takes steps without an access of the hardware
   steps : {call : Call} {calls : List Call} {log : Log} {older : List Bus} (n : ℕ)
-      → IsMachine R image held (call ∷ calls) log older → has_returned call ≡ false → IsSession (later n call ∷ calls)
+      → IsMachine R image held (call ∷ calls) log older → is_over call ≡ false → IsSession (later n call ∷ calls)
       → accesses_of (later n call) ≡ accesses_of call
       → IsMachine R image held (later n call ∷ calls) (told image (later n call) log) older
   -- it takes steps up to an access, which is made on the bus in one clock
