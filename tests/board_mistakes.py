@@ -4,7 +4,7 @@
 
 WORK_FOLDER holds what tests/board built: `schedules`, `exhaust`, and of each map its drafts and
 ROM. A mistake is found where random schedules by it differ from `dvg play --all`, or, where they
-don't, by the exhaustive run. With `sim65` each sixth of them is planted, and looked for by the
+don't, by the exhaustive run. With `sim65` each eighth of them is planted, and looked for by the
 schedules of that 6502 alone. One line a mistake; the last one is 'N of M mistakes found'.
 """
 import concurrent.futures
@@ -302,7 +302,7 @@ def try_mistake(number):
 
 
 def main():
-    numbers = range(0, len(MISTAKES), 6 if IS_SIM65 else 1)
+    numbers = range(0, len(MISTAKES), 8 if IS_SIM65 else 1)
     with concurrent.futures.ThreadPoolExecutor(2) as pool:
         found = list(pool.map(try_mistake, numbers))
     for number, said in zip(numbers, found):
