@@ -138,7 +138,7 @@ eproms: build/roms/$(MACHINE)
 
 test-rom:
 	@dvg=$$(realpath "$(DVG)") && cd $(BOARD)../examples/test_rom && \
-	    $(MAKE) --no-print-directory -f makefile DVG="$$dvg" PROGRAM=test MACHINE=asteroid eproms
+	    $(MAKE) --no-print-directory -f makefile DVG="$$dvg" PROGRAM=test MACHINE=$(MACHINE) eproms
 
 clean:
 	rm -rf build
