@@ -4,8 +4,8 @@
  *     board_premises DRIVER PROGRAM LABELS EQUATES SECONDS SEED
  *
  * DRIVER has the bytes that are proved, PROGRAM those from 6800 on, LABELS is ld65's list, and
- * EQUATES is build/shapes.equates. The program runs by the 6502 of board_cpu.h, and an NMI comes each
- * 6,144 cycles, at chance between two instructions, and also amid another NMI; but not amid the
+ * EQUATES is build/shapes.equates. The program runs by the 6502 of board_cpu.h, and an NMI comes
+ * each 6,144 cycles, at chance between two instructions, and also amid another NMI; but not amid the
  * first cycles after power-on, in which a program can't have set a byte yet. Prints how much was
  * seen, or the first thing that is against a premise (status 1). */
 #include <stdarg.h>
@@ -18,8 +18,8 @@
 enum {
     CODE = 0x6800, PROGRAM_BYTES = 0x1800, VARIABLES = 0x10, OPERANDS = 0x1B, OPERANDS_END = 0x1F,
     VARIABLES_END = 0x21, FLAG = 0x2002, STROBE = 0x3000, VECTOR_RAM = 0x4000, MEMORY = 0x8000,
-    BEGUN = 8, NMI_CYCLES = 6144, NMI_MOST_CYCLES = 6048, NMI_MOST_TICKS = 53, CYCLES_A_SECOND = 1512000,
-    LEAST_STACK = 0x60
+    BEGUN = 8, NMI_CYCLES = 6144, NMI_MOST_CYCLES = 6048, NMI_MOST_TICKS = 53,
+    CYCLES_A_SECOND = 1512000, LEAST_STACK = 0x60
 };
 enum { IDLE = 2, BUILD = 7, WRITING = 0x80 };
 enum routine { RESET, RUN, TICKS, TICK, OFFER, REDRAW, OPEN, PUT, PAIR, SET, VECTOR, COPY, CLOSE };

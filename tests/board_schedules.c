@@ -6,8 +6,8 @@
  * OUT/N.trace and OUT/N.expected hold as many schedules as a trace may have, each after a reset of
  * the whole system. The generator here is one of its own: it has words, a stack and HALT, and
  * counts strokes. Strobes, fetches, resets of either end and NMIs come between any two
- * instructions. In each second schedule it is the NMI alone that ticks; in the others it counts, and
- * changes bytes that aren't the driver's. The 6502 is that of board_cpu.h, or with -DSIM65 that of
+ * instructions. In each second schedule the NMI alone ticks; in the others it counts, and changes
+ * bytes that aren't the driver's. The 6502 is that of board_cpu.h, or with -DSIM65 that of
  * board_sim65.h. What no trace can show is reported here, with status 1: an access that isn't the
  * driver's, a tick with two actions, a stack or a carry that is wrong. */
 #include <stdarg.h>
@@ -267,7 +267,9 @@ void bus_write(uint16_t at, uint8_t value)
     if (at >= VECTOR_RAM && at < VECTOR_RAM + 0x800) {
         snprintf(entry, sizeof entry, "wrote %03X %02X", at - VECTOR_RAM, value);
         act(entry);
-    } else if (!is_variable && at >> 8 != 1 && !(in_nmi && at == BEATS)) fail("a write of %04X", at);
+    } else if (!is_variable && at >> 8 != 1 && !(in_nmi && at == BEATS)) {
+        fail("a write of %04X", at);
+    }
     if (!in_nmi && at == phase_at && asking) take();
 }
 

@@ -1,4 +1,4 @@
-/* The 6502 of cc65's simulator sim65, behind the interface of board_sim65.h. It is compiled from the
+/* The 6502 of cc65's simulator sim65, with the interface of board_sim65.h. It is compiled from the
  * simulator's own source, which stands in the folder that -I names. */
 #include <setjmp.h>
 #include <stdint.h>

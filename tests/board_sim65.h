@@ -26,6 +26,9 @@ static int step(cpu *c)
 
 static inline void begin_nmi(cpu *c) { sim65_step(c, 1); }
 
-static inline void push(cpu *c, int value) { bus_write((uint16_t)(0x100 | c->s--), (uint8_t)value); }
+static inline void push(cpu *c, int value)
+{
+    bus_write((uint16_t)(0x100 | c->s--), (uint8_t)value);
+}
 
 static void ready_opcodes(void) {}

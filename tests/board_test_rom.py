@@ -2,8 +2,8 @@
 
     board_test_rom.py MACHINE FOLDER BUTTONS
 
-MACHINE is the emulator's name of the board. FOLDER has what judge.lua wrote, and the folder above it
-shapes.equates. BUTTONS are lines of a
+MACHINE is the emulator's name of the board. FOLDER has what judge.lua wrote, and the folder above
+it shapes.equates. BUTTONS are lines of a
 time, a button and `down` or `up`, where one button is down at a time. The texts of a picture are
 read back out of the words in the vector RAM. What is shown wrong is printed, and the status is 1.
 """

@@ -3,16 +3,16 @@
  *
  *     core_game PROGRAM ROM SECONDS >LOG
  *
- * PROGRAM has the bytes from 6800 to 7FFF; ROM those of the vector ROM, which the circuit reads from
- * rom.hex. An NMI comes 246 times a second of the board's clock. Each access of the processor is a
- * cycle of the bus, also the dummy reads; the cycles of an instruction that are left come after
- * them, as reads of the next instruction. LOG is for `dvg torn`: each byte that the processor writes
- * into the RAM and each one that the core fetches, in the order in which the RAM makes them.
+ * PROGRAM has the bytes from 6800 to 7FFF; ROM those of the vector ROM, which the circuit reads
+ * from rom.hex. An NMI comes 246 times a second of the board's clock. Each access of the processor
+ * is a cycle of the bus, also the dummy reads; the cycles of an instruction that are left come after
+ * them, as reads of the next instruction. LOG is for `dvg torn`: each byte that the processor
+ * writes into the RAM and each one that the core fetches, in the order in which the RAM makes them.
  *
- * Beside it the port's generator is handed the same bytes. Compared are each byte that the processor
- * reads, each that the core is answered with, and the strokes of each picture; and the pins of the
- * monitor, where all of a picture lies on the screen. What was played is printed to standard error,
- * or the first difference to standard output (status 1). */
+ * Beside it the port's generator is handed the RAM and the ROM. Compared are where each fetch is,
+ * each byte of the RAM that the processor reads, and the strokes of each picture; and the pins of
+ * the monitor, where all of a picture lies on the screen. What was played is printed to standard
+ * error, or the first difference to standard output (status 1). */
 #include "Vtop.h"
 #include "Vtop___024root.h"
 #include "core_bench.h"
@@ -288,9 +288,11 @@ int main(int count, char **words)
         next += nmi ? CLOCKS_A_SECOND / NMIS_A_SECOND : 0;
         run_once(nmi);
     }
-    fprintf(stderr, "%" PRIu64 " clocks, %" PRIu64 " cycles of the processor, %" PRIu64 " NMIs, %" PRIu64
-            " looks at the flag: %" PRIu64 " frames, %" PRIu64 " pictures equal to the port's, %" PRIu64
-            " of them unlike the one before, %" PRIu64 " seen on the pins, %" PRIu64 " strokes\n",
+    fprintf(stderr,
+        "%" PRIu64 " clocks, %" PRIu64 " cycles of the processor, %" PRIu64 " NMIs, %" PRIu64
+        " looks at the flag: %" PRIu64 " frames, %" PRIu64 " pictures equal to the port's, "
+        "%" PRIu64 " of them unlike the one before, %" PRIu64 " seen on the pins, %" PRIu64
+        " strokes\n",
         clocks, accesses, counts.nmis, counts.looks, counts.frames, counts.pictures, counts.differ,
         counts.seen, counts.strokes);
     return 0;
