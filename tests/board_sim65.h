@@ -1,6 +1,6 @@
 /* Another 6502 for the tests of the driver, with the interface of board_cpu.h: that of cc65's
- * simulator sim65, an instruction at a time. board_sim65.c has it, and board/install sim65 brings
- * its source. It makes no dummy accesses. */
+ * simulator sim65, an instruction at a time. board_sim65.c has it, and board/install brings its
+ * source. It makes no dummy accesses. */
 #include <stdint.h>
 #include <string.h>
 
