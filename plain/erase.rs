@@ -525,8 +525,8 @@ impl<'a> Eraser<'a> {
         }
     }
 
-    /// A struct or an enum. One of `COPIED` derives `Clone` and `Debug`, too, and one of `KEPT` what
-    /// serde has.
+    /// A struct or an enum. One of `COPIED` derives `Clone` and `Debug`, too, and one of `KEPT`
+    /// what serde has.
     fn structure(&mut self, end: usize) {
         let name = after_blanks(self.text, end);
         let after = self.text[name..]
@@ -1111,7 +1111,8 @@ mod tests {
             "#[derive(Debug)]\npub enum Action {\n}\n",
             &format!("#[derive(Debug)]\n{SERDE}pub enum Action {{\n}}\n"),
         );
-        let by = "#[cfg_attr(feature = \"serde\", serde(try_from = \"Instr\", into = \"Instr\"))]\n";
+        let by = "serde(try_from = \"Instr\", into = \"Instr\")";
+        let by = format!("#[cfg_attr(feature = \"serde\", {by})]\n");
         leaves("struct Code;\n", &format!("{SERDE}{by}struct Code;\n"));
         stays("#[derive(Eq, Hash)]\nstruct Codes;\n");
         stays("enum World {}\nstruct Worlds {}\n");
