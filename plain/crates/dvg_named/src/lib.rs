@@ -38,3 +38,7 @@ pub use laid::{LaidNames, LaidRows, RomRows, address_of, free_with, lay};
 pub use meaning::{NamedFrame, RomName};
 pub use rom_words::{RomRow, put_sections};
 pub use sketch::{Sketch, read_sketch};
+
+#[path = "../rust.rs"]
+mod rust;
+pub use rust::*;

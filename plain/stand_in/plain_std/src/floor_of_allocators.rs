@@ -31,7 +31,8 @@ pub fn shrink<T, A: Allocator>(vector: &mut Vec<T, A>) {
     // again, with its own allocator. Nothing in between can panic.
     unsafe {
         let (_, _, _, alloc) = core::ptr::read(vector).into_raw_parts_with_alloc();
-        core::ptr::write(vector, Vec::from_raw_parts_in(smaller, length, length, alloc));
+        let made = Vec::from_raw_parts_in(smaller, length, length, alloc);
+        core::ptr::write(vector, made);
     }
 }
 
