@@ -5,6 +5,7 @@ use std::alloc::{GlobalAlloc, Layout, System};
 use std::cell::{Cell, RefCell};
 use std::collections::HashMap;
 use std::fmt::Debug;
+use std::process::ExitCode;
 use std::ptr::NonNull;
 use std::sync::atomic::{AtomicBool, AtomicUsize, Ordering::Relaxed};
 
@@ -268,7 +269,7 @@ fn refuse(name: &str, job: Job, asks_again: bool) -> (usize, usize) {
     (2 * requests + 1 - failed, failed)
 }
 
-fn main() {
+fn main() -> ExitCode {
     let jobs: [(&str, Job, bool); 8] = [
         ("world", |alloc| world::<Flat<&Refusing>>(alloc), true),
         (
@@ -287,4 +288,5 @@ fn main() {
     let passed: usize = counts.iter().map(|count| count.0).sum();
     let failed: usize = counts.iter().map(|count| count.1).sum();
     println!("{passed} passed, {failed} failed");
+    ExitCode::from(u8::from(failed > 0))
 }

@@ -1,5 +1,6 @@
 //! What serde writes and reads of the crates: JSON here. The last line is 'N passed, M failed'.
 use std::fmt::Debug;
+use std::process::ExitCode;
 
 use gerbilargent::{
     Action, Area, Beam, Box, Code, CodeFault, Draft, DraftFull, DriverFault, Entry, Event,
@@ -283,7 +284,7 @@ fn test_rest(counts: &mut Counts) {
     counts.expect_form(OutOfMemory, "null");
 }
 
-fn main() -> Result<(), std::boxed::Box<dyn std::error::Error>> {
+fn main() -> Result<ExitCode, std::boxed::Box<dyn std::error::Error>> {
     let mut counts = Counts::default();
     test_drafts(&mut counts)?;
     test_refused(&mut counts);
@@ -291,5 +292,5 @@ fn main() -> Result<(), std::boxed::Box<dyn std::error::Error>> {
     test_logs(&mut counts)?;
     test_rest(&mut counts);
     println!("{} passed, {} failed", counts.passed, counts.failed);
-    Ok(())
+    Ok(ExitCode::from(u8::from(counts.failed > 0)))
 }
