@@ -9,7 +9,7 @@ use dvg_named::{NamedFrame, RomName};
 use std::alloc::{Allocator, Global};
 
 /// What is laid out of a sketch.
-#[derive(Clone, Copy, Debug, PartialEq, Eq)]
+#[derive(Clone, Copy, Debug, PartialEq, Eq, Hash)]
 pub enum Form {
     /// The bytes of each frame as it lies in this half, as `lay_bytes` makes them.
     Bytes(Half),

@@ -29,3 +29,7 @@ pub use fault::{NamedFault, SketchFault};
 pub use joining::{FrameSpan, JoinedFrames};
 pub use meaning::{NamedFrame, RomName};
 pub use sketch::{Sketch, read_sketch};
+
+#[path = "../rust.rs"]
+mod rust;
+pub use rust::*;

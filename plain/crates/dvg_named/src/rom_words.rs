@@ -6,7 +6,7 @@ use dvg_rows::{Doing, ROM_END};
 use std::alloc::Allocator;
 
 /// A row of a section of the ROM, by the numbers of both, counted from 0.
-#[derive(Clone, Copy, Debug, PartialEq, Eq)]
+#[derive(Clone, Copy, Debug, PartialEq, Eq, Hash)]
 pub(crate) struct RomRow {
     /// The number of the section.
     pub section: usize,
