@@ -192,11 +192,19 @@ class Tab {
     await this.send('Input.dispatchKeyEvent', { type: 'keyUp', ...event });
   }
 
-  // Puts a text in place of what stands in a field, by the keyboard.
+  // Puts a text in place of what stands in a field, by the keyboard. A long one comes at once, as
+  // one that is pasted: the keyboard would bring it line by line.
   async type(id, text) {
     await this.click(id);
-    await this.value(`document.getElementById('${id}').select()`);
-    await this.send('Input.insertText', { text });
+    const isLong = text.split('\n').length > 20;
+    await this.value(`(() => {
+      const field = document.getElementById('${id}');
+      field.select();
+      if (!${isLong}) return;
+      field.value = ${JSON.stringify(text)};
+      field.dispatchEvent(new InputEvent('input', { bubbles: true }));
+    })()`);
+    if (!isLong) await this.send('Input.insertText', { text });
   }
 
   // Chooses a value of a list.

@@ -9,7 +9,8 @@
 import { spawnSync } from 'node:child_process';
 import { existsSync, mkdirSync, readFileSync, readdirSync, writeFileSync } from 'node:fs';
 import { COMMAND, Engine, OPTION } from '../page/src/engine.mjs';
-import { AREA, Board, areaOf, drawnHalf } from '../page/src/board.mjs';
+import { Board } from '../page/src/board.mjs';
+import { AREA, SIGN, areaOf, drawnHalf } from '../page/src/signs.mjs';
 import { hex, plainDraft, operationsOf, romOf, splitRom } from '../page/src/drafts.mjs';
 import { playSteps, stepsOf, traceOf } from '../page/src/traces.mjs';
 import { Chance, Proportions, reelOf } from '../page/src/chance.mjs';
@@ -115,7 +116,7 @@ function runProgram(args, input) {
 const example = (name) => readFileSync(`${top}examples/frames/${name}.sketch`, 'utf8');
 const linesOf = (text) => operationsOf(plainDraft(text));
 const drafts = [linesOf(example('score')), linesOf(example('rocks'))];
-const reel = () => reelOf([drafts[0]], [drafts[1]]);
+const reel = () => reelOf([{ lines: drafts[0] }], [{ lines: drafts[1] }]);
 
 // The board after this many events of a schedule.
 function runBoard(make, count, wireCut = false, rom = '') {
@@ -139,7 +140,11 @@ function testSchedules() {
       expect(`${how}, seed ${seed}: the program's log`, runProgram(['play', '--all'], trace), log);
       expect(`${how}, seed ${seed}: the program's verdict`, 'not torn',
         runProgram(['torn'], board.tornLog.text).split(':')[0]);
-      expect(`${how}, seed ${seed}: no byte is torn`, 0, board.tears);
+      expect(`${how}, seed ${seed}: no byte is early`, 0, board.early);
+      testOneMoment(`${how}, seed ${seed}`, board);
+      expect(`${how}, seed ${seed}: no picture is torn`, false,
+        board.pictures.some(({ torn }) => torn));
+      expect(`${how}, seed ${seed}: all that is read was written`, 0, board.runs.contradictions);
       expect(`${how}, seed ${seed}: pictures come`, true, board.pictures.length > events / 10000);
       testLog(`${how}, seed ${seed}`, trace, log, board);
       lines += log.split('\n').length - 1;
@@ -159,6 +164,104 @@ function testLog(what, trace, log, board) {
   expect(`${what}: the log for torn`, wanted, Buffer.from(board.tornLog.text).toString());
 }
 
+// Of each run that halts: whether it is of no one moment, by the definition alone. Where a byte is
+// read, the moment lies between its change before that and its change after that.
+function tornRuns(text) {
+  const told = new Map(), torn = [];
+  let run = null;
+  const read = (at, address, byte) => {
+    run?.reads.push({ at, address });
+    told.set(address, byte);
+  };
+  text.trimEnd().split('\n').forEach((line, at) => {
+    const [name, place, value] = line.split(' '), address = parseInt(place, 16);
+    const number = parseInt(value, 16);
+    if (name === 'wrote') {
+      if (told.get(address) !== number) run?.changes.push({ at, address });
+      told.set(address, number);
+    } else if (name === 'low') read(at, 2 * address, number);
+    else if (name === 'fetched') read(at, 2 * address + 1, number >> 8);
+    else if (name === 'started') run = { reads: [], changes: [] };
+    else if (name === 'halted' && run !== null) {
+      torn.push(isOfNoMoment(run));
+      run = null;
+    } else if (name === 'reset') {
+      run = null;
+      told.clear();
+    }
+  });
+  return torn;
+}
+
+function isOfNoMoment({ reads, changes }) {
+  let from = -Infinity, to = Infinity;
+  for (const { at, address } of reads) {
+    for (const change of changes.filter((one) => one.address === address)) {
+      if (change.at < at) from = Math.max(from, change.at);
+      else to = Math.min(to, change.at);
+    }
+  }
+  return from >= to;
+}
+
+// The judge of moments says of each picture what the definition says.
+function testOneMoment(what, board) {
+  const ended = board.entries.map(({ text }, at) => ({ text, at }))
+    .filter(({ text }) => /^(done|broke)/.test(text));
+  const wanted = tornRuns(Buffer.from(board.tornLog.text).toString())
+    .filter((_, k) => ended[k].text.startsWith('done'));
+  expect(`${what}: which pictures are torn`, wanted.join(),
+    board.pictures.map(({ torn }) => torn).join());
+}
+
+// The logs of examples/moments: how many pictures are torn, at which lines, and which line reads
+// what was not written.
+function testMomentLogs() {
+  const logs = { torn: [1, 18], comes_back: [1, 19], late: [0], half: [0], whole: [0],
+    contradicts: [0, undefined, 16] };
+  for (const [name, [torn, tear, line]] of Object.entries(logs)) {
+    const log = readFileSync(`${top}examples/moments/${name}.log`);
+    const recording = new Recording(name, log, new Drawer(engine));
+    const those = recording.pictures.filter((picture) => picture.torn);
+    expect(`${name}.log: the torn pictures`, torn, those.length);
+    expect(`${name}.log: where`, tear, those.map(({ tornAt }) => (
+      recording.entryAt(tornAt).line))[0]);
+    const { contradictions, contradicts } = recording.runs;
+    expect(`${name}.log: what was not written`, line,
+      contradictions > 0 ? recording.entryAt(contradicts).line : undefined);
+  }
+  const log = readFileSync(`${top}examples/logs/tears.log`);
+  const [picture] = new Recording('tears.log', log, new Drawer(engine)).pictures;
+  expect('tears.log: early, and not torn, as nothing of it shows', '2 0 false',
+    `${picture.early} ${picture.seen} ${picture.torn}`);
+}
+
+// Small logs: how many bytes of the run are early, how many show, whether it is torn, and how many
+// lines read what was not written.
+const RUNS = [
+  ['written after it was read', 'low 001 64|wrote 002 C8|fetched 001 A064', '1 0 false 0'],
+  ['read after it was written', 'wrote 002 C8|low 001 C8|fetched 001 A0C8', '1 1 false 0'],
+  ['written as it was', 'low 001 64|fetched 001 A064|wrote 006 00|low 003 00', '1 0 false 0'],
+  ['into the other half', 'wrote 402 C8|low 001 64|fetched 001 A064', '0 0 false 0'],
+  ['read, and both written', 'fetched 001 A064|wrote 002 C8|wrote 004 90|fetched 002 3090',
+    '2 1 true 0'],
+  ['not what was written', 'fetched 001 A0C8', '0 0 false 1'],
+];
+
+function testRuns() {
+  const frame = ['wrote 000 01', 'wrote 001 E0', 'wrote 002 64', 'wrote 003 A0', 'wrote 004 80',
+    'wrote 005 30', 'wrote 006 00', 'wrote 007 B0'];
+  const recorded = (lines) => new Recording('a log', Buffer.from(`${lines.join('\n')}\n`),
+    new Drawer(engine));
+  for (const [what, lines, wanted] of RUNS) {
+    const { pictures: [{ early, seen, torn }], runs } = recorded([...frame, 'started',
+      'low 000 01', 'fetched 000 E001', ...lines.split('|'), 'halted']);
+    expect(`a run: ${what}`, wanted, `${early} ${seen} ${torn} ${runs.contradictions}`);
+  }
+  const reset = recorded([...frame, 'reset', 'started', 'fetched 000 E201', 'halted']);
+  expect('a reset makes void what was told', 0, reset.runs.contradictions);
+}
+
 const TORN = /^torn at line ([0-9]+): (.*)\nso far: [0-9]+ runs, .*[0-9]+ writes\n$/;
 
 // With the wire cut, pictures are torn, and `torn` finds the first byte.
@@ -167,12 +270,13 @@ function testCutWire() {
   for (let seed = 1; seed <= seeds; seed++) {
     const board = runBoard(HOWS['by chance'](seed), events, true);
     const said = TORN.exec(runProgram(['torn'], board.tornLog.text));
-    const first = board.entries.findIndex((entry) => entry.torn);
-    expect(`wire cut, seed ${seed}: the first torn event`, first,
+    const first = board.entries.findIndex((entry) => entry.early);
+    testOneMoment(`wire cut, seed ${seed}`, board);
+    expect(`wire cut, seed ${seed}: the first early event`, first,
       board.tornLog.eventOf[Number(said?.[1]) - 1]);
-    expect(`wire cut, seed ${seed}: the first torn byte`, board.entries[first].text,
+    expect(`wire cut, seed ${seed}: the first early byte`, board.entries[first].text,
       said?.[2] ?? '');
-    const those = board.pictures.filter(({ tears }) => tears > 0);
+    const those = board.pictures.filter((picture) => picture.torn);
     expect(`wire cut, seed ${seed}: pictures are torn`, true, those.length > 0);
     testTornPictures(seed, board, those);
     torn += those.length;
@@ -191,12 +295,17 @@ function testProportions() {
     expect(`wire cut, in proportions, seed ${seed}: runs are abandoned`, true,
       anew.abandoned > 0 && anew.left.length === anew.abandoned);
     expect(`wire cut, in proportions, seed ${seed}: no picture is torn`, 0,
-      anew.pictures.filter(({ tears }) => tears > 0).length);
+      anew.pictures.filter(({ early }) => early > 0).length);
+    const there = new Recording('a log', anew.tornLog.text, new Drawer(engine));
+    const areMarked = ({ left, signs }) => left.every((at) => signs[at] === SIGN.ANEW);
+    expect(`wire cut, in proportions, seed ${seed}: where runs begin anew`, 'true true',
+      `${areMarked(anew)} ${there.left.length > 0 && areMarked(there)}`);
     const end = anew.left.at(-1), { left } = momentOf(anew, end + 1);
     expect(`seed ${seed}: an abandoned run is told`, true, left !== null && left.words.length > 0);
     const ignored = runBoard(HOWS['in proportions, strobes ignored'](seed), 20000, true);
     expect(`wire cut, strobes ignored, seed ${seed}: none is abandoned`, 0, ignored.abandoned);
-    torn += ignored.pictures.filter(({ tears }) => tears > 0).length;
+    testOneMoment(`strobes ignored, seed ${seed}`, ignored);
+    torn += ignored.pictures.filter((picture) => picture.torn).length;
     anew.free();
     ignored.free();
   }
@@ -204,7 +313,7 @@ function testProportions() {
   console.log(`wire cut, strobes ignored: ${torn} pictures torn`);
 }
 
-// A picture with no byte written into it is that of a draft, and of the others some are of none.
+// A picture that shows no early byte is that of a draft, and of the torn ones some are of none.
 function testTornPictures(seed, board, torn) {
   const draw = (lines) => engine.run(COMMAND.play,
     `tick 2\noffer\n${lines.join('\n')}\nend\ntick 999\nstrobe\nfetch 999\n`)
@@ -213,7 +322,7 @@ function testTornPictures(seed, board, torn) {
   const isWhole =
     ({ strokes }) => whole.includes(strokes.map((stroke) => stroke.join(' ')).join('\n'));
   expect(`wire cut, seed ${seed}: whole pictures are frames`, true,
-    board.pictures.every((picture) => picture.tears > 0 || isWhole(picture)));
+    board.pictures.every((picture) => picture.seen > 0 || isWhole(picture)));
   expect(`wire cut, seed ${seed}: some torn pictures are no frame`, true,
     torn.some((picture) => !isWhole(picture)));
 }
@@ -277,7 +386,8 @@ function testRoms() {
     expect(`the ROM of ${JSON.stringify(text.slice(0, 30))}`, Buffer.from(bytes).toString('hex'),
       Buffer.from(romOf(written).bytes).toString('hex'));
   }
-  const frame = () => reelOf([linesOf(splitRom(example('rom_shapes')).draft)], [drafts[1]]);
+  const shape = { lines: linesOf(splitRom(example('rom_shapes')).draft) };
+  const frame = () => reelOf([shape], [{ lines: drafts[1] }]);
   const board = runBoard(() => new Chance(7, frame), events, false, shapes);
   expect('a frame that calls the ROM: the log', runProgram(['play', '--all'], traceOf(board)),
     board.log());
@@ -354,7 +464,9 @@ function testLessons() {
     expect(`lesson ${title}: three sentences`, '1 1 1',
       sentences.map((one) => one.match(/[.]( |$)/g).length).join(' '));
     expect(`lesson ${title}: what it shows`, shows, board.linesOf(at - 1)[0]);
-    expect(`lesson ${title}: whether a picture is torn`, k === 5, board.tears > 0);
+    expect(`lesson ${title}: whether a byte is early`, k === 5, board.early > 0);
+    expect(`lesson ${title}: whether a picture is torn`, k === 5,
+      board.pictures.some(({ torn }) => torn));
     for (const [, number] of sentences.join(' ').matchAll(/event ([0-9]+)/g)) testMention(title,
       Number(number), sentences.join(' '), board);
     board.free();
@@ -380,7 +492,7 @@ function testRecordings() {
   for (const [how, wireCut] of [['with resets', false], ['by chance', true]]) {
     const board = runBoard(HOWS[how](4), 6000, wireCut), drawer = new Drawer(engine);
     const recording = new Recording('a log', board.tornLog.text, drawer);
-    expect(`${how}: the torn bytes`, board.tears, recording.tears);
+    expect(`${how}: the early bytes`, board.early, recording.early);
     expect(`${how}: the runs without an end`, board.abandoned, recording.abandoned);
     const ended = board.entries.map(({ text }, event) => ({ text, event }))
       .filter(({ text }) => /^(done|broke)/.test(text));
@@ -388,8 +500,8 @@ function testRecordings() {
     ended.forEach(({ text, event }, k) => {
       const picture = board.pictures.find((one) => one.at === event), there = recording.pictures[k];
       if (text.startsWith('done')) expect(`${how}: picture ${k}`,
-        JSON.stringify([picture.tears, picture.strokes]),
-        JSON.stringify([there.tears, there.strokes]));
+        JSON.stringify([picture.early, picture.seen, picture.torn, picture.strokes]),
+        JSON.stringify([there.early, there.seen, there.torn, there.strokes]));
     });
     for (let at = 1; at <= recording.length; at += 61) {
       const event = board.tornLog.eventOf[at - 1];
@@ -407,7 +519,7 @@ function testRecordings() {
   const recording = new Recording('tears.log', log, new Drawer(engine));
   const [, line] = /line ([0-9]+)/.exec(engine.run(COMMAND.torn, log).output);
   const entry = recording.entryAt(recording.eventOfLine(Number(line)));
-  expect('tears.log: the torn line', `${line} true`, `${entry.line} ${entry.torn}`);
+  expect('tears.log: the early line', `${line} true`, `${entry.line} ${entry.early}`);
 }
 
 // A dump's run is the one of `dvg picture`.
@@ -482,15 +594,16 @@ function testTears() {
     `tick 2\noffer\n${draft}\nend\ntick 1100\nstrobe\nfetch 9999\n`)
     .split('\n').slice(1, -1).join('\n');
   const frames = drafts.map((lines) => drawingOf(lines.join('\n')));
-  for (const picture of board.pictures.filter(({ tears }) => tears > 0)) {
+  for (const picture of board.pictures.filter(({ torn, seen }) => torn || seen > 0)) {
     const { wanted, wrong, next, word } = tearOf(engine, board, picture, drawingOf);
     const texts = (strokes) => strokes.map((stroke) => stroke.join(' '));
     expect('the frame of the run is one', true, frames.includes(texts(wanted).join('\n')));
     expect('so is the one written into it', true, frames.includes(texts(next).join('\n')));
     expect('the others are of the first', true, picture.strokes.every((stroke) => (
       wrong.includes(stroke) || texts(wanted).includes(stroke.join(' ')))));
-    expect('a torn byte is told', true, board.entries[word.event].torn);
-    if (word.read < 0) continue;
+    expect('the byte is told, and it shows', true, board.entries[word.event].early
+      && board.signs[word.event] === SIGN.SEEN);
+    if (picture.torn) expect('where the tear begins', picture.tornAt, word.read);
     expect('and where it was read', word.address >> 1, board.entries[word.read].fetched);
     expect('it made a difference', true, word.value !== word.before);
   }
@@ -579,6 +692,8 @@ testProcessor();
 testTwin();
 testSchedules();
 testCutWire();
+testMomentLogs();
+testRuns();
 testProportions();
 testHalves();
 testLongTrace();

@@ -1,8 +1,10 @@
 /* The board: a driver alone and a generator alone, with a RAM between them that is the page's. So
  * the HALT wire can be cut, which nothing in `dvg` can do. Each event has an entry, and the entries
  * are what `play --all` writes, as long as the wire is whole. */
-import { KIND } from './engine.mjs';
-import { faultText, hex } from './drafts.mjs';
+import { COMMAND, KIND } from './engine.mjs';
+import { hex } from './drafts.mjs';
+import { Runs, resultOf, signOfPicture } from './runs.mjs';
+import { ROW, SIGN, areaOf } from './signs.mjs';
 
 /* The most events, as `play` takes them. */
 export const MOST_EVENTS = 65536;
@@ -11,26 +13,9 @@ export const RAM_BYTES = 2048;
 /* After so many events a copy of the RAM is kept. */
 export const KEPT_EVERY = 1024;
 
-/* Where a word of the RAM is: half 0 or half 1, word zero, or none of these. And what else a fetch
- * may find. */
-export const AREA = { HALF0: 1, HALF1: 2, ZERO: 3, ROM: 4, NONE: 5 };
-
-export function areaOf(word) {
-  if (word === 0) return AREA.ZERO;
-  if (word < 0x200) return AREA.HALF0;
-  if (word > 0x200 && word < 0x400) return AREA.HALF1;
-  return word < 0x400 ? AREA.NONE : AREA.ROM;
-}
-
-/* What an entry shows beside its byte. */
-export const SIGN = {
-  NONE: 0, FLIP: 1, START: 2, DONE: 3, TORN_DONE: 4, SENT: 5, READ_HALTED: 6, READ_RUNNING: 7,
-  RESET: 8, BROKE: 9, OFFERED: 10, TORN: 11,
-};
-export const ROW = { GENERATOR: 0, DRIVER: 1, NONE: 2 };
-
 export class Board {
   constructor(engine, rom, wireCut = false) {
+    this.engine = engine;
     this.rom = rom;
     this.driver = engine.device();
     this.driver.openDriver(rom.bytes);
@@ -47,10 +32,9 @@ export class Board {
     this.wireCut = false;
     if (wireCut) this.setWire(true);
     this.sent = false;
-    this.open = null;
+    this.runs = new Runs(engine, this.signs);
     this.picture = -1;
     this.pictures = [];
-    this.tears = 0;
     this.abandoned = 0;
     this.left = [];
     this.drafts = new Map();
@@ -59,9 +43,12 @@ export class Board {
   free() {
     this.driver.free();
     this.generator.free();
+    this.runs.free();
   }
 
   get length() { return this.entries.length; }
+  get open() { return this.runs.open; }
+  get early() { return this.runs.early; }
   get full() { return this.length >= MOST_EVENTS; }
   entryAt(at) { return this.entries[at]; }
 
@@ -99,10 +86,16 @@ export class Board {
   offer({ draft }) {
     const answer = this.driver.offer(draft);
     if (answer.kind === KIND.BUSY) return { text: 'busy' };
-    if (answer.kind === KIND.REFUSED) return { text: `refused ${faultText(answer)}` };
+    if (answer.kind === KIND.REFUSED) return { text: `refused ${this.faultOf(draft)}` };
     const key = draft.join('\n');
     if (!this.drafts.has(key)) this.drafts.set(key, this.length);
     return { text: 'offered', row: ROW.DRIVER, sign: SIGN.OFFERED };
+  }
+
+  /* The fault of a draft that is refused, as `dvg check` tells it. */
+  faultOf(draft) {
+    const text = `${this.rom.text}${draft.map((line) => `${line}\n`).join('')}`;
+    return this.engine.run(COMMAND.check, text).output.trim().replace(/^fault /, '');
   }
 
   redraw() {
@@ -127,35 +120,29 @@ export class Board {
   }
 
   write(address, value) {
+    const early = this.runs.write(this.length, address, value, this.ram[address] !== value);
     this.ram[address] = value;
-    const area = areaOf(address >> 1);
-    const torn = this.open !== null && this.open.half === area;
-    if (torn) {
-      this.open.tears++;
-      this.tears++;
-    }
     const flip = address === 1 ? SIGN.FLIP : SIGN.NONE;
     return {
-      text: `wrote ${hex(address, 3)} ${hex(value, 2)}`,
-      row: ROW.DRIVER, area, sign: torn ? SIGN.TORN : flip, wrote: address, value, torn,
+      text: `wrote ${hex(address, 3)} ${hex(value, 2)}`, row: ROW.DRIVER,
+      area: areaOf(address >> 1), sign: early ? SIGN.EARLY : flip, wrote: address, value, early,
     };
   }
 
   strobe() {
     if (!this.sent) return { text: 'no strobe' };
     this.generator.strobe();
-    this.end(true);
-    this.open = { at: this.length, half: 0, words: 0, tears: 0 };
-    return { text: 'started', row: ROW.GENERATOR, sign: SIGN.START };
+    const sign = this.open === null ? SIGN.START : SIGN.ANEW;
+    this.abandon();
+    this.runs.begin(this.length);
+    return { text: 'started', row: ROW.GENERATOR, sign };
   }
 
-  /* Ends the open run, if there is one. Of an abandoned one the event is kept that ended it. */
-  end(abandoned) {
-    if (this.open !== null && abandoned) {
-      this.abandoned++;
-      this.left.push(this.length);
-    }
-    this.open = null;
+  /* The open run, if there is one, is abandoned: the event is kept that ends it. */
+  abandon() {
+    if (this.open === null) return;
+    this.abandoned++;
+    this.left.push(this.length);
   }
 
   /* The byte that the memory answers with, or null where no memory is. */
@@ -172,13 +159,15 @@ export class Board {
     const got = byte === null ? this.generator.fetchHole() : this.generator.fetch(byte);
     const shown = { row: ROW.GENERATOR, area: areaOf(want.address), fetched: want.address };
     const place = hex(got.address, 3);
-    if (got.kind === KIND.LOW) return { ...shown, text: `low ${place} ${hex(got.value, 2)}` };
+    if (got.kind === KIND.LOW) {
+      this.runs.low(this.length, got.address, got.value);
+      return { ...shown, text: `low ${place} ${hex(got.value, 2)}` };
+    }
     if (got.kind === KIND.BROKE) {
-      this.end(false);
+      this.runs.stop(this.length);
       return { ...shown, text: `broke ${place} ${got.value & 3}`, sign: SIGN.BROKE };
     }
-    this.open.words++;
-    if (this.open.words === 1) this.open.half = drawnHalf(got.value);
+    this.runs.fetched(this.length, got.address, got.value, got.kind);
     shown.word = got.value;
     if (got.kind === KIND.DONE) return this.finish(place, got.value, shown);
     return { ...shown, text: `fetched ${place} ${hex(got.value, 4)}` };
@@ -186,17 +175,17 @@ export class Board {
 
   finish(place, word, shown) {
     const strokes = this.generator.strokes();
-    const tears = this.open.tears;
+    const picture = { at: this.length, strokes, ...resultOf(this.runs.end()) };
     this.picture = this.length;
-    this.pictures.push({ at: this.length, from: this.open.at, strokes, tears });
-    this.end(false);
+    this.pictures.push(picture);
     const text = `done ${place} ${hex(word, 4)} ${strokes.length}`;
-    return { ...shown, text, strokes, tears, sign: tears ? SIGN.TORN_DONE : SIGN.DONE };
+    return { ...shown, text, strokes, sign: signOfPicture(picture) };
   }
 
   resetgen() {
     this.generator.resetGenerator();
-    this.end(true);
+    this.abandon();
+    this.runs.reset(false);
     return { text: 'cleared', row: ROW.GENERATOR, sign: SIGN.RESET };
   }
 
@@ -208,7 +197,8 @@ export class Board {
   resetall({ byte }) {
     this.generator.resetGenerator();
     this.driver.resetProcessor();
-    this.end(true);
+    this.abandon();
+    this.runs.reset(true);
     this.sent = false;
     this.ram.fill(byte);
     return { text: 'cleared', row: ROW.GENERATOR, sign: SIGN.RESET, filled: byte };
@@ -231,13 +221,6 @@ export class Board {
   get beforeCut() {
     return this.wires.find(({ cut }) => cut)?.at ?? this.length;
   }
-}
-
-/* The half that a run draws whose word zero is this: a jump to a word of that half, or none. */
-export function drawnHalf(word) {
-  if (word >> 12 !== 0xE) return 0;
-  const area = areaOf(word & 0xFFF);
-  return area === AREA.HALF0 || area === AREA.HALF1 ? area : 0;
 }
 
 /* The log as `dvg torn` reads it, as bytes that grow, and at which event each line stands. */

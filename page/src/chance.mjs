@@ -31,7 +31,7 @@ class Offers {
 
   next() {
     const frames = this.reel();
-    return { name: 'offer', draft: frames[this.count++ % frames.length] };
+    return { name: 'offer', draft: frames[this.count++ % frames.length].lines };
   }
 }
 

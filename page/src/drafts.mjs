@@ -83,19 +83,6 @@ export function splitRom(text) {
   return { rom: rom.join('\n'), draft: draft.join('\n').trimStart() };
 }
 
-const FAULTS = ['', 'empty', 'no labs', 'too long', 'target', 'runs off', 'out of rom', 'too deep',
-  'no caller', 'loops'];
-
-/* The fault of a refused offer, as `dvg check` says it, of the answer of a device. */
-export function faultText({ address, value }) {
-  const number = value & 15;
-  const text = `${number} ${FAULTS[number]}`;
-  if (number === 4 || number === 5) return `${text} ${address}`;
-  if (number < 6 || number > 8) return text;
-  const inRom = (value & 0x100) !== 0;
-  return `${text} ${inRom ? `word ${hex(address, 3)}` : `op ${address}`}`;
-}
-
 export function hex(number, digits) {
   return number.toString(16).toUpperCase().padStart(digits, '0');
 }

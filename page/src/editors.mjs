@@ -2,7 +2,7 @@
 import { COMMAND } from './engine.mjs';
 import { plainLines, romOf } from './drafts.mjs';
 import { drawSmall } from './screen.mjs';
-import { hasRom, readSketch } from './sketches.mjs';
+import { framesOf, hasRom, readSketch } from './sketches.mjs';
 
 function make(tag, fields, ...children) {
   const element = Object.assign(document.createElement(tag), fields);
@@ -29,12 +29,24 @@ class Editor {
     this.row = make('div', { className: 'row' },
       make('label', { htmlFor: this.text.id, textContent: title }));
     place.append(this.row, this.numbers, this.text, this.said);
+    Object.assign(this, { held: null, isSeen: true });
+    this.text.addEventListener('focus', () => this.see());
     this.text.addEventListener('input', changed);
     this.text.addEventListener('scroll', () => { this.numbers.scrollTop = this.text.scrollTop; });
   }
 
-  get value() { return this.text.value; }
-  set value(text) { this.text.value = text; }
+  /* To show a long text takes time: it is held back until the editor is seen. */
+  get value() { return this.held ?? this.text.value; }
+  set value(text) {
+    this.held = text;
+    if (this.isSeen) this.see();
+  }
+
+  see() {
+    this.isSeen = true;
+    if (this.held !== null) this.text.value = this.held;
+    this.held = null;
+  }
 
   addPicks(label, names, picked) {
     const id = `${label.toLowerCase().replace(/ /g, '-')}${this.place.id}`;
@@ -85,8 +97,10 @@ function goodText(said, frames) {
 
 /* Where somebody writes a frame, or a sketch of several, which are offered in turn. */
 export class DraftEditor extends Editor {
-  constructor(place, title, changed) {
+  /* Texts that are `known` have no fault. */
+  constructor(place, title, changed, known) {
     super(place, title, changed);
+    Object.assign(this, { known, isSeen: false });
     this.preview = make('canvas', { className: 'preview', width: 240, height: 240 });
     this.preview.setAttribute('role', 'img');
     this.preview.setAttribute('aria-label', `${title}, drawn`);
@@ -96,6 +110,22 @@ export class DraftEditor extends Editor {
   /* Checks the frames, over a ROM where they bring none. Whether they can be offered: a frame that
    * is refused can. */
   check(engine, rom) {
+    this.turn = 0;
+    this.shown = 0;
+    const later = !this.isSeen && this.known.includes(this.value);
+    this.whenSeen = later ? () => this.tellOf(engine, rom) : null;
+    if (later) Object.assign(this, { ownRom: '', offerable: true, frames: framesOf(this.value) });
+    else this.tellOf(engine, rom);
+  }
+
+  /* Shows the text that was held back, and says what is to be said of it. */
+  see() {
+    super.see();
+    this.whenSeen?.();
+    this.whenSeen = null;
+  }
+
+  tellOf(engine, rom) {
     const own = hasRom(this.value);
     const { said, good, frames, rom: ownRom } = readSketch(engine, this.textOver(rom));
     this.frames = frames;
@@ -103,8 +133,6 @@ export class DraftEditor extends Editor {
     this.offerable = frames.length > 0;
     const shown = withoutRom(said, own ? 0 : rom.lines);
     this.tell(good ? goodText(shown, frames) : shown, good ? null : lineOfFault(shown));
-    this.turn = 0;
-    this.shown = 0;
   }
 
   /* The text as `dvg` takes it: after the lines of the ROM, where it brings none. */
@@ -114,9 +142,10 @@ export class DraftEditor extends Editor {
 
   /* Draws the next frame beside the text, as strokes that `strokesOf` makes of its lines. */
   drawNext(strokesOf) {
-    if (this.frames.length === 0) return;
-    const { lines } = this.frames[this.shown++ % this.frames.length];
-    drawSmall(this.preview, strokesOf(lines), 0);
+    const { length } = this.frames, frame = this.frames[this.shown++ % Math.max(1, length)];
+    if (length === 0 || frame === this.drawn) return;
+    this.drawn = frame;
+    drawSmall(this.preview, strokesOf(frame.lines), 0);
   }
 
   /* The frame whose turn it is to be offered by hand. */

@@ -12,12 +12,13 @@ export const OPTION = 8;
 const REQUEST = {
   OFFER: 0, REDRAW: 1, TICK: 2, STROBE: 3, FETCH: 4, RESET_GENERATOR: 5, RESET_PROCESSOR: 6,
   PUSH: 8, CLEAR: 9, STAGE: 10, UNSTAGE: 11, OPEN_DRIVER: 13, OPEN_GENERATOR: 14, WANTS: 16,
-  STROKES: 17, STROKE_FROM: 18, STROKE_TO: 19, STROKE_INTENSITY: 20,
+  RESET_ALL: 7, STROKES: 17, STROKE_FROM: 18, STROKE_TO: 19, STROKE_INTENSITY: 20, OPEN_JUDGE: 21,
+  TELL: 22,
 };
 export const KIND = {
   OFFERED: 0, REFUSED: 1, BUSY: 2, ASKED: 3, NOTHING_PUBLISHED: 4, PEEK: 5, WROTE: 6, READ: 7,
   SENT: 8, IDLE: 9, STARTED: 10, LOW: 12, FETCHED: 13, DONE: 14, BROKE: 15, STILL: 16,
-  OPENED: 22, WANTED: 25,
+  OPENED: 22, WANTED: 25, NO_RUN: 26, ONE_MOMENT: 27, NO_MOMENT: 28, WHOLE: 29, TORN: 30,
 };
 
 /* The operations by the numbers of DVG_REQUEST_PUSH. */
@@ -98,6 +99,18 @@ export class Device {
     return this.ask(REQUEST.OPEN_GENERATOR).kind === KIND.OPENED;
   }
 
+  openJudge() {
+    return this.ask(REQUEST.OPEN_JUDGE).kind === KIND.OPENED;
+  }
+
+  /* Tells a judge what happened, by what a driver or a generator replied. Its verdict, and whether
+   * that was a reading of what was not written. */
+  tell(kind, address, value) {
+    const number = REQUEST.TELL + 0x100 * kind + 0x10000 * address + 0x100000000 * value;
+    const reply = Number(this.turn(BigInt(number)));
+    return { kind: reply & 0xFF, contradicts: Math.floor(reply / 0x1000000) === 1 };
+  }
+
   /* Offers a draft, line by line as `dvg check` reads it. */
   offer(lines) {
     this.ask(REQUEST.CLEAR);
@@ -127,6 +140,7 @@ export class Device {
   fetch(byte) { return this.ask(REQUEST.FETCH, 0, byte); }
   fetchHole() { return this.ask(REQUEST.FETCH, 1); }
   resetGenerator() { return this.ask(REQUEST.RESET_GENERATOR); }
+  resetAll() { return this.ask(REQUEST.RESET_ALL); }
 
   /* The strokes of the newest finished run: each x0, y0, x1, y1, in 1/512 of a unit, and z. */
   strokes() {

@@ -1,6 +1,6 @@
 /* The RAM, a cell a word: what stands there, what was written and fetched of late, and where the
  * beam is. */
-import { AREA, areaOf } from './board.mjs';
+import { AREA, areaOf } from './signs.mjs';
 
 export const RAM_WORDS = 1024;
 const TOP = 18, BOTTOM = 2;
@@ -85,7 +85,8 @@ export class Memory {
       const [written, fetched] = [marks.written[word], marks.fetched[word]];
       if (written > 0) color = mix(color, paint.ink, strength(written));
       if (fetched > 0) color = mix(color, paint.good, strength(fetched));
-      if (marks.torn.has(word)) color = paint.torn;
+      if (marks.early.has(word)) color = paint.early;
+      if (marks.seen.has(word)) color = paint.torn;
       pixels.data.set(color, 4 * word);
     }
     small.putImageData(pixels, 0, 0);
@@ -104,8 +105,8 @@ export class Memory {
       const field = numbersOf(colors.field);
       const areas =
         colors.areas.map((color) => [0.14, 0.6].map((part) => mix(field, numbersOf(color), part)));
-      this.paint = { areas, torn: numbersOf(colors.torn), ink: numbersOf(colors.ink),
-        good: numbersOf(colors.good) };
+      this.paint = { areas, torn: numbersOf(colors.torn), early: numbersOf(colors.early),
+        ink: numbersOf(colors.ink), good: numbersOf(colors.good) };
       this.painted = colors;
     }
     return this.paint;

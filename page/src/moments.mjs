@@ -1,5 +1,6 @@
 /* What a board was like after its first events: all of it follows from the entries. */
-import { KEPT_EVERY, drawnHalf } from './board.mjs';
+import { KEPT_EVERY } from './board.mjs';
+import { SIGN, drawnHalf } from './signs.mjs';
 
 /* How many events back a byte written or fetched is still marked. */
 export const RECENT = 240;
@@ -47,31 +48,32 @@ function lastWritten(board, at) {
 function runAt(board, at) {
   const from = at > 0 ? board.entryAt(at - 1).run : -1;
   if (from < 0) return null;
-  const run = { from, half: 0, words: [], places: [], beam: null, tears: 0 };
+  const run = { from, half: 0, words: [], places: [], beam: null };
   for (let k = from + 1; k < at; k++) {
-    const { word, fetched, torn } = board.entryAt(k);
+    const { word, fetched } = board.entryAt(k);
     if (fetched !== undefined) run.beam = fetched;
     if (word !== undefined) {
       run.words.push(word);
       run.places.push(fetched);
     }
-    if (torn) run.tears++;
   }
   if (run.words.length > 0) run.half = drawnHalf(run.words[0]);
   return run;
 }
 
-/* How recently each word of the RAM was written and fetched, 1 for just now, and where the open run
- * was torn, or the picture that has just ended. */
+/* How recently each word of the RAM was written and fetched, 1 for just now; which were written
+ * early, and which of them the run read after that. */
 export function marksOf(board, at) {
-  const written = new Float32Array(1024), fetched = new Float32Array(1024), torn = new Set();
+  const written = new Float32Array(1024), fetched = new Float32Array(1024);
+  const early = new Set(), seen = new Set();
   for (let k = Math.max(0, at - RECENT); k < at; k++) {
     const entry = board.entryAt(k), age = 1 - (at - 1 - k) / RECENT;
     if (entry.wrote !== undefined) written[entry.wrote >> 1] = age;
     if (entry.fetched < 1024) fetched[entry.fetched] = age;
-    if (entry.torn) torn.add(entry.wrote >> 1);
+    if (board.signs[k] === SIGN.EARLY) early.add(entry.wrote >> 1);
+    if (board.signs[k] === SIGN.SEEN) seen.add(entry.wrote >> 1);
   }
-  return { written, fetched, torn };
+  return { written, fetched, early, seen };
 }
 
 /* How many of these words make whole instructions. */
@@ -88,6 +90,7 @@ function wholeWords(words) {
 /* The strokes of a run so far: another generator is handed its words, and then a HALT. */
 export class Drawer {
   constructor(engine) {
+    this.engine = engine;
     this.generator = engine.device();
     this.generator.openGenerator();
     this.key = '';

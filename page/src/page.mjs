@@ -1,7 +1,8 @@
 /* The page: what its buttons do, and what it shows. */
 import { COMMAND, Engine, OPTION } from './engine.mjs';
-import { AREA, Board, MOST_EVENTS, areaOf } from './board.mjs';
+import { Board, MOST_EVENTS } from './board.mjs';
 import { hex, splitRom } from './drafts.mjs';
+import { AREA, SIGN, areaOf } from './signs.mjs';
 import { playSteps, stepsOf, traceOf } from './traces.mjs';
 import { Drawer, marksOf, momentOf } from './moments.mjs';
 import { generatorOf, insideRows } from './inside.mjs';
@@ -14,17 +15,16 @@ import { Recording, boardOfDump } from './recordings.mjs';
 import { Twin, bytesOfTable, linesOfListing } from './twin.mjs';
 import { isRomAlone, romTextOf } from './sketches.mjs';
 import { LESSONS, stateOfLesson } from './lessons.mjs';
-import { SCENES } from './playfield.mjs';
 import { TOUR_RATE, TOUR_STEPS, Tour } from './tour.mjs';
 import { Screen, drawSmall } from './screen.mjs';
 import { Rows } from './rows.mjs';
 import { Memory } from './memory.mjs';
 import { DraftEditor, RomEditor } from './editors.mjs';
 import {
-  HOW_TEXT, counted, countsText, durationText, instructionText, leftText, momentText, pictureText,
-  runText, wordText,
+  HOW_TEXT, counted, countsText, durationText, halvesVerdict, instructionText, leftText, momentText,
+  leftVerdict, momentsVerdict, pictureText, runText, wordText,
 } from './words.mjs';
-import { FILES, FRAMES, LISTING, WASM } from './built.mjs';
+import { FILES, FRAMES, LISTING, SCENES, WASM } from './built.mjs';
 
 const byId = (id) => document.getElementById(id);
 
@@ -33,7 +33,7 @@ const EXAMPLES = { ...SCENES, ...FRAMES };
 
 /* What a newcomer sees: these frames, after so many events. */
 const [FIRST_A, FIRST_B] = Object.keys(SCENES);
-const FIRST = { a: FIRST_A, b: FIRST_B }, FIRST_EVENTS = 6000;
+const FIRST = { a: FIRST_A, b: FIRST_B }, FIRST_EVENTS = 2600;
 
 const LOG_BEFORE = 12, LOG_AFTER = 4;
 /* Why what is grey is so: of a recording, and of a board with as many events as it holds. */
@@ -48,7 +48,7 @@ const ROWS_TOUR_SCALE = 0.4;
 /* While it runs, how often the log is judged, and texts are shown, in milliseconds. */
 const JUDGE_EVERY = 500, TEXTS_EVERY = 100;
 /* A frame of the animation makes up for at most so many milliseconds. */
-const MOST_PASSED = 50;
+const MOST_PASSED = 200;
 
 let engine, drawer, tube, board, schedule = null, running = false;
 /* What is shown: the board, or a recording of what happened elsewhere. */
@@ -106,7 +106,7 @@ function happen(event) {
 }
 
 function reelNow() {
-  return reelOf(...[editorA, editorB].map(({ frames }) => frames.map(({ lines }) => lines)));
+  return reelOf(editorA.frames, editorB.frames);
 }
 
 /* Offers the frame of an editor; of a sketch the next one each time. */
@@ -221,7 +221,43 @@ function run() {
 
 /* --- Verdicts --- */
 
-/* What `dvg torn` says of the log of what is shown; of a dump what `dvg picture` says. */
+/* A verdict: its word, in a colour, what it says, and a button where there is something to show. */
+function showVerdict(id, { word, text, at: event }, color) {
+  const [strong] = byId(id).children;
+  strong.textContent = word;
+  strong.className = color;
+  strong.nextSibling.data = text;
+  byId(`${id}-go`).hidden = event === undefined || event === null;
+  byId(`${id}-go`).onclick = () => goToResult(event);
+}
+
+/* Shows an event; of one that ends a picture the whole run, too. */
+function goToResult(event) {
+  goTo(event + 1);
+  const picture = shown.pictures.find((one) => one.at === event);
+  if (picture === undefined) return;
+  rows.showSpan(picture.from, picture.at + 1);
+  show();
+}
+
+/* The verdicts by moments and by halves. Of a dump there are none. */
+function showVerdicts(firstEarly) {
+  const moments = momentsVerdict(shown.pictures, shown.runs);
+  const isGood = moments.word === 'Whole' && shown.runs.contradictions === 0;
+  const color = isGood ? 'good' : 'bad';
+  const contradicts = shown.runs.contradictions > 0 ? shown.runs.contradicts : undefined;
+  showVerdict('moments', { at: contradicts, ...moments }, moments.word === '' ? '' : color);
+  showVerdict('halves', { ...halvesVerdict(shown.early), at: firstEarly },
+    shown.early > 0 ? 'early' : 'good');
+  showVerdict('left', leftVerdict(shown.left), '');
+  for (const id of ['moments', 'halves', 'left']) {
+    byId(id).parentElement.hidden = shown.verdict !== undefined;
+  }
+  byId('left').parentElement.hidden ||= shown.left.length === 0;
+}
+
+/* The verdicts, and what `dvg torn` says of the log of what is shown; of a dump what `dvg picture`
+ * says. */
 function judge() {
   judgedAt = performance.now();
   if (judgedOf === `${shown.id} ${shown.length}`) return;
@@ -234,9 +270,8 @@ function judge() {
   byId('judge').textContent = shown.verdict ? 'dvg picture' : 'dvg torn';
   byId('judged').textContent = shown.verdict
     ?? (event === null ? said : `${said}${place}, ${seen}`);
-  byId('judged').className = event !== null ? 'bad' : { 0: 'good' }[got.status] ?? '';
-  byId('judged-go').hidden = event === null;
-  byId('judged-go').onclick = () => goTo(event + 1);
+  byId('judged').className = event !== null ? 'early' : { 0: 'good' }[got.status] ?? '';
+  showVerdicts(event);
 }
 
 /* Compares the whole log with what `play --all` writes for the same events, up to a cut wire. */
@@ -280,9 +315,10 @@ function nameOfDraft(draft) {
     ?? `the frame first offered in event ${shown.drafts.get(draft)}`;
 }
 
-/* What a torn picture is made of, which is found once; null of a whole one. */
+/* What a picture is made of that is torn, or shows what came early, which is found once; null of
+ * another one. */
 function tearNow(picture) {
-  if (picture === null || picture.tears === 0) return null;
+  if (picture === null || !(picture.torn || picture.seen > 0)) return null;
   picture.tear ??= tearOf(engine, shown, picture, drawingOf);
   return picture.tear;
 }
@@ -300,7 +336,8 @@ function readColors() {
   areas[AREA.NONE] = of('none');
   colors = {
     areas, ink: of('ink'), dim: of('dim'), field: of('field'), torn: of('torn'),
-    tornGlow: of('torn-glow'), good: of('good'), shade: of('shade'),
+    early: of('early'), glows: [null, of('early-glow'), of('torn-glow')], good: of('good'),
+    shade: of('shade'),
   };
 }
 
@@ -343,7 +380,13 @@ function showTexts(moment) {
   showInstruction(moment);
   if (running) return;
   byId('rows').setAttribute('aria-valuetext', momentText(shown, at));
-  showTear(moment.picture);
+  showTear(tornPicture(moment));
+}
+
+/* The picture whose tear is told: that of the open run, if it will have one, or the newest. */
+function tornPicture({ picture, run: open }) {
+  const later = shown.pictures.find(({ from }) => from === open?.from) ?? null;
+  return tearNow(later) === null ? picture : later;
 }
 
 /* Why Run is grey, or '' where it isn't. */
@@ -376,9 +419,11 @@ function showTear(picture) {
   byId('wanted-text').textContent = `Being drawn: ${begun}`;
   byId('next-text').textContent = tear.draft === null ? 'The memory as the run ended'
     : `Written into it: ${nameOfDraft(tear.draft)}`;
-  byId('tear-text').textContent = tearText(tear, picture.strokes.length);
+  byId('tear-title').textContent = picture.torn ? 'The tear' : 'What came early, and shows';
+  byId('tear-text').textContent = tear.word === null ? '' : tearText(tear, picture);
+  byId('tear-go').disabled = tear.word === null;
   byId('tear-go').onclick = () => goTo(tear.word.event + 1);
-  byId('tear-back').onclick = () => goTo(picture.at + 1);
+  byId('tear-back').onclick = () => goToResult(picture.at);
 }
 
 function showTour() {
@@ -400,9 +445,15 @@ function showScreen({ picture, run: open, left }) {
     left === null ? tearNow(picture) : null);
 }
 
+/* The class of a picture's text. */
+function colorOfPicture(picture) {
+  if (picture?.torn) return 'bad';
+  return picture?.early > 0 ? 'early' : '';
+}
+
 function showPictureText({ picture, run: open, left }) {
   const text = byId('picture-text');
-  text.className = picture?.tears ? 'bad' : '';
+  text.className = colorOfPicture(picture);
   const number = picture === null ? 0 : shown.pictures.indexOf(picture) + 1;
   const named = picture === null ? null : nameOf(picture);
   const run = runText(open, drawer.strokesOf(open).length);
@@ -416,9 +467,10 @@ function showLog() {
   while (lines.children.length > to - from) lines.lastChild.remove();
   while (lines.children.length < to - from) lines.append(document.createElement('span'));
   for (let k = from; k < to; k++) {
-    const { torn, text } = shown.entryAt(k), line = lines.children[k - from];
-    line.textContent = `${k} ${text}${torn ? '   torn' : ''}`;
-    const names = [k === at - 1 && 'now', k >= at && 'later', torn && 'bad'];
+    const { early, text } = shown.entryAt(k), line = lines.children[k - from];
+    const seen = shown.signs[k] === SIGN.SEEN, mark = seen ? '   early, and shows' : '   early';
+    line.textContent = `${k} ${text}${early ? mark : ''}`;
+    const names = [k === at - 1 && 'now', k >= at && 'later', early && (seen ? 'bad' : 'early')];
     line.className = names.filter(Boolean).join(' ');
   }
 }
@@ -510,18 +562,19 @@ function showWord(moment) {
 
 const MOST_TORN_SHOWN = 12;
 
-/* The torn pictures, the newest last, each with what it is. */
+/* The pictures that are torn, or of which bytes came early, the newest last, each with what it is.
+ */
 function showTorn() {
   const torn = shown.pictures.map((picture, k) => ({ picture, number: k + 1 }))
-    .filter(({ picture }) => picture.tears > 0);
+    .filter(({ picture }) => picture.torn || picture.early > 0);
   byId('torn-pictures').hidden = torn.length === 0;
   byId('torn-list').replaceChildren(...torn.slice(-MOST_TORN_SHOWN).map(({ picture, number }) => {
     const item = document.createElement('li'), button = document.createElement('button');
-    const bytes = counted(picture.tears, 'byte');
-    const named = nameOf(picture);
-    button.textContent =
-      `picture ${number}, event ${picture.at}: ${bytes}${named === null ? '' : `, ${named}`}`;
-    button.onclick = () => goTo(picture.at + 1);
+    const bytes = counted(picture.early, 'byte'), named = nameOf(picture);
+    button.className = colorOfPicture(picture);
+    button.textContent = `picture ${number}, event ${picture.at}: ${picture.torn ? 'torn, ' : ''}`
+      + `${bytes} early${named === null ? '' : `, ${named}`}`;
+    button.onclick = () => goToResult(picture.at);
     item.append(button);
     return item;
   }));
@@ -756,14 +809,24 @@ function drawPreviews() {
   }
 }
 
-/* While the editors are in sight their frames are drawn in turn; without motion the first ones. */
+/* While the editors are in sight their frames are drawn in turn, as fast as the browser can show
+ * them, or at this rate; without motion the first ones. */
 function showPreviews() {
   const still = matchMedia('(prefers-reduced-motion: reduce)').matches;
-  let timer = null;
+  let isSeen = false, drawnAt = 0;
+  const draw = (now) => {
+    if (!isSeen) return;
+    if (now - drawnAt >= 1000 / PREVIEW_RATE) {
+      drawnAt = now;
+      drawPreviews();
+    }
+    if (!still) requestAnimationFrame(draw);
+  };
   new IntersectionObserver(([{ isIntersecting }]) => {
-    clearInterval(timer);
-    if (isIntersecting) drawPreviews();
-    timer = isIntersecting && !still ? setInterval(drawPreviews, 1000 / PREVIEW_RATE) : null;
+    if (isIntersecting) [editorA, editorB].forEach((editor) => editor.see());
+    const begins = isIntersecting && !isSeen;
+    isSeen = isIntersecting;
+    if (begins) requestAnimationFrame(draw);
   }).observe(byId('A'));
 }
 
@@ -834,6 +897,7 @@ function showRecording(recording, title, text, lines) {
   recording.id = performance.now();
   shown = recording;
   byId('file').hidden = false;
+  byId('lesson').hidden = true;
   byId('file-title').textContent = title;
   byId('file-text').textContent = text;
   byId('file-lines').replaceChildren(...lines.map((line) => {
@@ -849,6 +913,7 @@ function showRecording(recording, title, text, lines) {
 
 function backToBoard() {
   byId('file').hidden = true;
+  byId('lesson').hidden = lesson === 0;
   shown = board;
   moveTo(board.length);
   rows.showAll(board.length);
@@ -876,8 +941,10 @@ function openLog(name, bytes) {
   const count = counted(recording.length, 'event');
   showRecording(recording, `The log ${name}`, fault === null ? `${count}.`
     : `${got.error.trim()}. Before that: ${count}.`, []);
-  const torn = /^torn at line ([0-9]+)/.exec(got.output);
-  if (torn) showTornLine(recording.eventOfLine(Number(torn[1])));
+  const early = /^torn at line ([0-9]+)/.exec(got.output);
+  const torn = recording.pictures.find((picture) => picture.torn);
+  if (torn) showTornLine(torn.tornAt);
+  else if (early) showTornLine(recording.eventOfLine(Number(early[1])));
 }
 
 /* The torn line, with the events around it. */
@@ -984,14 +1051,18 @@ function listenToRows() {
     else return;
     event.preventDefault();
   });
-  canvas.addEventListener('wheel', (event) => {
-    if (!event.ctrlKey && !event.shiftKey) return;
-    event.preventDefault();
-    rows.zoom(event.deltaY + event.deltaX < 0 ? 1.25 : 0.8, rows.eventAt(event.offsetX),
-      shown.length);
-    show();
-  }, { passive: false });
+  canvas.addEventListener('wheel', turnWheel, { passive: false });
   listenToDrags(canvas);
+}
+
+/* With Ctrl a wheel zooms; sideways, or with Shift, it moves the rows; else it is the page's. */
+function turnWheel(event) {
+  const { ctrlKey, shiftKey, deltaX, deltaY } = event, aside = deltaX || (shiftKey ? deltaY : 0);
+  if (!ctrlKey && aside === 0) return;
+  event.preventDefault();
+  if (ctrlKey) rows.zoom(deltaY < 0 ? 1.25 : 0.8, rows.eventAt(event.offsetX), shown.length);
+  else rows.pan(aside, shown.length);
+  rows.draw(shown, at, colors);
 }
 
 /* A drag moves the rows; a click shows the moment after the event there. */
@@ -1005,8 +1076,7 @@ function listenToDrags(canvas) {
     if (from === null) return;
     from.moved ||= Math.abs(event.offsetX - from.x) > 4;
     if (!from.moved) return;
-    rows.first =
-      Math.max(0, Math.min(shown.length - 1, from.first - (event.offsetX - from.x) / rows.scale));
+    rows.pan(from.x - event.offsetX, shown.length, from.first);
     rows.draw(shown, at, colors);
   });
   canvas.addEventListener('pointerup', (event) => {
@@ -1098,8 +1168,9 @@ function makeEditors() {
     showButtons();
     showRunText();
   };
-  editorA = new DraftEditor(byId('A'), 'Frame A', () => edited(editorA));
-  editorB = new DraftEditor(byId('B'), 'Frame B', () => edited(editorB));
+  const known = Object.values(SCENES);
+  editorA = new DraftEditor(byId('A'), 'Frame A', () => edited(editorA), known);
+  editorB = new DraftEditor(byId('B'), 'Frame B', () => edited(editorB), known);
   editorR = new RomEditor(byId('R'), 'Lines map and rom; a change begins anew', () => {
     setRunning(false);
     setRom(editorR.value);
@@ -1113,15 +1184,14 @@ function makeEditors() {
 }
 
 function bytesOfBase64(text) {
+  if (Uint8Array.fromBase64) return Uint8Array.fromBase64(text);
   const characters = atob(text), bytes = new Uint8Array(characters.length);
   for (let at = 0; at < bytes.length; at++) bytes[at] = characters.charCodeAt(at);
   return bytes;
 }
 
 async function begin() {
-  engine = await Engine.of(bytesOfBase64(WASM));
-  drawer = new Drawer(engine);
-  tube = new Drawer(engine);
+  const starting = Engine.of(bytesOfBase64(WASM));
   screen = new Screen(byId('screen'));
   rows = new Rows(byId('rows'));
   memory = new Memory(byId('memory'));
@@ -1137,6 +1207,9 @@ async function begin() {
   listenToRows();
   listenToMemory();
   listenToFiles();
+  engine = await starting;
+  drawer = new Drawer(engine);
+  tube = new Drawer(engine);
   addEventListener('hashchange', loadFragment);
   await loadFragment();
   showPreviews();

@@ -1,7 +1,9 @@
 /* A log as `dvg torn` reads it, as something that is shown like a board: each line that tells
  * something is an event. What a line says is read again when it is wanted, so a log may be long. */
-import { Board, KEPT_EVERY, RAM_BYTES, ROW, SIGN, areaOf, drawnHalf } from './board.mjs';
+import { Board, KEPT_EVERY, RAM_BYTES } from './board.mjs';
 import { romOf } from './drafts.mjs';
+import { Runs, resultOf, signOfPicture } from './runs.mjs';
+import { ROW, SIGN, areaOf } from './signs.mjs';
 
 const NEWLINE = 10, REMARK = 0x23;
 
@@ -37,8 +39,8 @@ function numberAt(bytes, from, to) {
 
 /* A picture of a recording: its strokes are made when they are wanted. */
 class RecordedPicture {
-  constructor(recording, { at: from, tears }, at) {
-    Object.assign(this, { recording, from, tears, at });
+  constructor(recording, run, at) {
+    Object.assign(this, { recording, at }, resultOf(run));
   }
 
   get strokes() {
@@ -55,14 +57,17 @@ export class Recording {
     this.lines = linesOfLog(bytes);
     this.length = this.lines.number.length;
     for (const field of ['rows', 'areas', 'signs']) this[field] = new Uint8Array(this.length);
-    for (const field of ['runs', 'done']) this[field] = new Int32Array(this.length);
+    for (const field of ['lineRuns', 'done']) this[field] = new Int32Array(this.length);
     Object.assign(this, { kept: [ram.slice()], pictures: [], drafts: new Map(), wires: [] });
-    Object.assign(this, { tears: 0, abandoned: 0, left: [], open: null, picture: -1 });
-    this.wireCut = false;
+    Object.assign(this, { abandoned: 0, left: [], picture: -1, wireCut: false });
+    this.runs = new Runs(drawer.engine, this.signs);
     for (let at = 0; at < this.length; at++) this.take(at);
+    this.runs.free();
   }
 
   get full() { return true; }
+  get open() { return this.runs.open; }
+  get early() { return this.runs.early; }
 
   eventOfLine(line) {
     return this.lines.number.indexOf(line);
@@ -89,55 +94,48 @@ export class Recording {
     else if (name === 'started') this.begin(at);
     else if (name === 'halted') this.end(at);
     else this.reset(at);
-    this.runs[at] = this.open?.at ?? -1;
+    this.lineRuns[at] = this.open?.at ?? -1;
     this.done[at] = this.picture;
     if ((at + 1) % KEPT_EVERY === 0) this.kept.push(this.ram.slice());
   }
 
   takeWrite(at, address, value) {
+    const early = this.runs.write(at, address, value, this.ram[address] !== value);
     if (address < RAM_BYTES) this.ram[address] = value;
-    const area = areaOf(address >> 1);
-    this.areas[at] = area;
-    const torn = this.open !== null && this.open.half === area;
-    if (torn) {
-      this.open.tears++;
-      this.tears++;
-    }
+    this.areas[at] = areaOf(address >> 1);
     const flip = address === 1 ? SIGN.FLIP : SIGN.NONE;
-    this.signs[at] = torn ? SIGN.TORN : flip;
+    this.signs[at] = early ? SIGN.EARLY : flip;
   }
 
   takeFetch(at, name, address, value) {
     this.areas[at] = areaOf(address);
-    if (this.open === null || name !== 'fetched') return;
-    this.open.words++;
-    if (this.open.words === 1 && address === 0) this.open.half = drawnHalf(value);
+    if (name === 'low') this.runs.low(at, address, value);
+    else this.runs.fetched(at, address, value);
   }
 
   begin(at) {
+    this.signs[at] = this.open === null ? SIGN.START : SIGN.ANEW;
     this.abandon(at);
-    this.open = { at, half: 0, words: 0, tears: 0 };
-    this.signs[at] = SIGN.START;
+    this.runs.begin(at);
   }
 
   abandon(at) {
     if (this.open === null) return;
     this.abandoned++;
     this.left.push(at);
-    this.open = null;
   }
 
   end(at) {
     if (this.open === null) return;
-    const { tears } = this.open;
-    this.pictures.push(new RecordedPicture(this, this.open, at));
+    const picture = new RecordedPicture(this, this.runs.stop(at), at);
+    this.pictures.push(picture);
     this.picture = at;
-    this.signs[at] = tears > 0 ? SIGN.TORN_DONE : SIGN.DONE;
-    this.open = null;
+    this.signs[at] = signOfPicture(picture);
   }
 
   reset(at) {
     this.abandon(at);
+    this.runs.reset(true);
     this.signs[at] = SIGN.RESET;
   }
 
@@ -160,9 +158,9 @@ class RecordedEntry {
   constructor(recording, at) {
     const { name, address, value } = recording.partsAt(at);
     Object.assign(this, { recording, at, event: { name }, line: recording.lines.number[at] });
-    this.run = recording.runs[at];
+    this.run = recording.lineRuns[at];
     this.picture = recording.done[at];
-    this.torn = recording.signs[at] === SIGN.TORN;
+    this.early = [SIGN.EARLY, SIGN.SEEN].includes(recording.signs[at]);
     if (name === 'wrote') [this.wrote, this.value] = [address, value];
     if (name === 'low' || name === 'fetched') this.fetched = address;
     if (name === 'fetched') this.word = value;

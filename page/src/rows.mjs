@@ -1,9 +1,14 @@
 /* Both rows over time: what the generator fetches, and what the driver does. */
-import { ROW, SIGN } from './board.mjs';
+import { ROW, SIGN } from './signs.mjs';
 
 /* What stands above the rows, between them, and below. */
 const ABOVE = 25, BETWEEN = 14, BELOW = 20;
 const LEAST_SCALE = 1 / 64, MOST_SCALE = 24;
+
+/* The colours of pictures, by their signs. */
+const DONE_COLORS = {
+  [SIGN.DONE]: 'good', [SIGN.EARLY_DONE]: 'early', [SIGN.TORN_DONE]: 'torn',
+};
 
 /* The areas, weakest first: of several events in one column the strongest is shown. */
 const STRENGTH = [0, 2, 2, 3, 1, 1];
@@ -49,6 +54,11 @@ export class Rows {
     this.first = Math.max(0, from - 0.05 * (to - from));
   }
 
+  /* Moves by so many pixels, as far as there are events. */
+  pan(pixels, length, from = this.first) {
+    this.first = Math.max(0, Math.min(length - 1, from + pixels / this.scale));
+  }
+
   /* Brings a moment into sight. */
   follow(at) {
     if (at < this.first || at > this.first + this.span - 2) {
@@ -69,11 +79,11 @@ export class Rows {
     this.drawTexts(board.length, colors);
   }
 
-  /* Each row as spans of one colour. */
+  /* Each row as spans of one colour. An early byte that shows is at least three pixels wide. */
   drawColumns(board, from, to, colors) {
     const count = Math.ceil(this.width) + 1;
     const columns = [new Uint8Array(count), new Uint8Array(count)];
-    const torn = new Uint8Array(count);
+    const early = new Uint8Array(count);
     const wide = Math.max(1, Math.floor(this.scale));
     for (let k = from; k < to; k++) {
       const area = board.areas[k], row = board.rows[k];
@@ -81,15 +91,16 @@ export class Rows {
       const x = Math.floor((k - this.first) * this.scale);
       for (let dx = Math.max(0, -x); dx < wide && x + dx < count; dx++) {
         if (STRENGTH[area] > STRENGTH[columns[row][x + dx]]) columns[row][x + dx] = area;
-        if (board.signs[k] === SIGN.TORN) torn[x + dx] = 1;
+        if (board.signs[k] === SIGN.EARLY) early[x + dx] = Math.max(1, early[x + dx]);
+        if (board.signs[k] === SIGN.SEEN) early.fill(2, Math.max(0, x + dx - 1), x + dx + 2);
       }
     }
     const [first, second] = this.tops, height = this.rowHeight;
     columns.forEach((column, row) => {
       this.fillSpans(column, this.tops[row], height, (area) => colors.areas[area]);
     });
-    this.fillSpans(torn, first - 6, second + height + 6 - first, () => colors.tornGlow);
-    this.fillSpans(torn, second, height, () => colors.torn);
+    this.fillSpans(early, first - 6, second + height + 6 - first, (mark) => colors.glows[mark]);
+    this.fillSpans(early, second, height, (mark) => (mark === 2 ? colors.torn : colors.early));
   }
 
   fillSpans(column, top, height, colorOf) {
@@ -108,7 +119,7 @@ export class Rows {
     const near = this.scale >= 2;
     for (let k = from; k < to; k++) {
       const sign = board.signs[k];
-      if (sign === SIGN.NONE || sign === SIGN.TORN) continue;
+      if (sign === SIGN.NONE || sign === SIGN.EARLY || sign === SIGN.SEEN) continue;
       const x = (k - this.first) * this.scale;
       if (sign === SIGN.READ_HALTED || sign === SIGN.READ_RUNNING) {
         const color = sign === SIGN.READ_HALTED ? colors.good : colors.dim;
@@ -122,6 +133,16 @@ export class Rows {
     this.context.fillRect(x, top, Math.max(1.5, this.scale - 1), height);
   }
 
+  /* Where a run was abandoned. */
+  ring(x, y, color) {
+    const { context } = this;
+    context.strokeStyle = color;
+    context.lineWidth = 1.5;
+    context.beginPath();
+    context.arc(x - 4, y, 3.5, 0, 7);
+    context.stroke();
+  }
+
   drawSign(sign, x, top, colors) {
     const { context } = this;
     if (sign === SIGN.FLIP) {
@@ -132,8 +153,8 @@ export class Rows {
       context.lineTo(x + 0.5, top);
       context.fill();
       context.fillRect(x, top, 1.5, this.rowHeight);
-    } else if (sign === SIGN.DONE || sign === SIGN.TORN_DONE) {
-      context.fillStyle = sign === SIGN.DONE ? colors.good : colors.torn;
+    } else if (DONE_COLORS[sign] !== undefined) {
+      context.fillStyle = colors[DONE_COLORS[sign]];
       context.beginPath();
       context.arc(x + 1, top - 6, 4, 0, 7);
       context.fill();
@@ -142,6 +163,7 @@ export class Rows {
     } else {
       const ends = sign === SIGN.RESET || sign === SIGN.BROKE;
       this.bar(x, top - 4, this.rowHeight + 4, ends ? colors.torn : colors.good);
+      if (sign === SIGN.ANEW) this.ring(x, top - 6, colors.ink);
     }
   }
 

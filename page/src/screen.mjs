@@ -111,7 +111,7 @@ export class Screen {
     context.fillStyle = '#000';
     context.fillRect(0, 0, width, height);
     if (picture === null) return;
-    if (tear === null) glow(context, picture.strokes, BEAM, open ? 0.75 : 1);
+    if (tear === null) glow(context, picture.strokes, BEAM, open ? 0.4 : 1);
     else this.drawTear(picture, tear);
   }
 

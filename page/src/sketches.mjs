@@ -4,9 +4,23 @@ import { operationsOf, plainDraft } from './drafts.mjs';
 
 const SECTION = /^\s*\.(frame|rom)\b/i;
 
+/* A frame: its name, and its operations, which are spelled out once they are asked for. */
+class SketchedFrame {
+  constructor(name, source) {
+    Object.assign(this, { name, source });
+  }
+
+  get lines() {
+    this.operations ??= operationsOf(plainDraft(this.source.join('\n')));
+    return this.operations;
+  }
+
+  set lines(operations) { this.operations = operations; }
+}
+
 /* The frames of a sketch: their names and their operations. What stands before the first section is
  * one without a name, if it has operations. Lines of a ROM are passed over. */
-function framesOf(text) {
+export function framesOf(text) {
   const sections = [{ kind: 'frame', name: '', lines: [] }];
   for (const line of text.toLowerCase().split('\n')) {
     const section = SECTION.exec(line);
@@ -17,7 +31,7 @@ function framesOf(text) {
     }
   }
   const frames = sections.filter(({ kind }) => kind === 'frame')
-    .map(({ name, lines }) => ({ name, lines: operationsOf(plainDraft(lines.join('\n'))) }));
+    .map(({ name, lines }) => new SketchedFrame(name, lines));
   return frames[0].lines.length > 0 || frames.length === 1 ? frames : frames.slice(1);
 }
 

@@ -18,16 +18,16 @@ export function strokesOfLines(lines) {
     .map((line) => line.split(' ').map(Number));
 }
 
-/* Of a torn picture: `wanted`, what the frame draws that its run began with; `next`, what the frame
- * draws that was written into it, or the memory as the run ended; `wrong`, the strokes that are
- * none of the first frame's; and the word that tore. */
+/* Of a picture that is torn, or shows what came early: `wanted`, what the frame draws that its run
+ * began with; `next`, what the frame draws that was written into it, or the memory as the run
+ * ended; `wrong`, the strokes that are none of the first frame's; and the word that tore. */
 export function tearOf(engine, board, picture, drawingOf) {
   const ram = ramAt(board, picture.from);
   const wanted = strokesOfMemory(engine, ram, board.rom);
   const own = new Set(wanted.map(String));
   const wrong = picture.strokes.filter((stroke) => !own.has(String(stroke)));
   const word = tornWord(board, picture, ram);
-  const draft = offeredBefore(board, word.event);
+  const draft = word === null ? null : offeredBefore(board, word.event);
   const next = draft === null ? strokesOfMemory(engine, ramAt(board, picture.at), board.rom)
     : strokesOfLines(drawingOf(draft).split('\n'));
   return { wanted, next, wrong, draft, word };
@@ -44,29 +44,33 @@ function offeredBefore(board, event) {
   return null;
 }
 
-/* The first torn byte of a run that made a difference: the event that wrote it, what over what, and
- * the event in which its word was read. Where none did, the first torn byte, and `read` is -1. */
-function tornWord(board, { from, at }, ram) {
+/* The byte that shows first of those that were written while the run read: the event that wrote it,
+ * what over what, and the event that read it. In a torn picture, the byte after which no moment was
+ * left. */
+function tornWord(board, { from, at, tornAt }, ram) {
   const written = new Map();
   for (let k = from + 1; k <= at; k++) {
-    const { torn, wrote, value, word, fetched } = board.entryAt(k);
-    if (torn) written.set(wrote, { event: k, address: wrote, value, before: ram[wrote], read: -1 });
-    if (word === undefined || fetched >= 1024) continue;
-    const byte = [2 * fetched, 2 * fetched + 1].map((address) => written.get(address))
-      .find((one) => one !== undefined && one.value !== one.before);
+    const { wrote, value, fetched, word } = board.entryAt(k);
+    if (wrote !== undefined) {
+      written.set(wrote, { event: k, address: wrote, value, before: ram[wrote] });
+    }
+    if (fetched === undefined || fetched >= 1024 || k < tornAt) continue;
+    const read = word === undefined ? [2 * fetched] : [2 * fetched + 1, 2 * fetched];
+    const byte = read.map((address) => written.get(address))
+      .find((one) => one !== undefined && (tornAt >= 0 || one.value !== one.before));
     if (byte !== undefined) return { ...byte, read: k };
   }
-  return written.values().next().value;
+  return null;
 }
 
 /* The tear in words. */
-export function tearText({ wrong, word: { event, address, value, before, read } }, strokes) {
+export function tearText({ wrong, word: { event, address, value, before, read } }, picture) {
   const word = `word ${hex(address >> 1, 3)}`, which = address % 2 ? 'high' : 'low';
-  const count = `${wrong.length} of ${strokes} strokes are red: they aren't of the frame that the `
-    + 'run began with.';
-  if (read < 0) return `No word was read that had changed. ${count}`;
   const byte = `${hex(value, 2)} over ${hex(before, 2)} into byte ${hex(address, 3)}`;
-  return `Event ${event} wrote ${byte}, the ${which} byte of ${word}, while the `
-    + `generator drew from that half. Event ${read} read that word: there the tear begins. `
-    + count;
+  const then = picture.torn ? 'there the tear begins'
+    : 'so it shows, though all that was read stood in memory at one moment';
+  return `Event ${event} wrote ${byte}, the ${which} byte of ${word}, while the generator drew`
+    + `${picture.early > 0 ? ' from that half' : ''}. Event ${read} read that word: ${then}. `
+    + `${wrong.length} of ${picture.strokes.length} strokes are red: they aren't of the frame that `
+    + 'the run began with.';
 }

@@ -1,24 +1,27 @@
 /* The tour: whole, cut, torn. It runs by itself when the page is opened, and can be skipped. */
 
 /* How many events happen in a second of it, and after how many it gives up to find a tear. */
-export const TOUR_RATE = 6600, MOST_TOUR_EVENTS = 50000;
+export const TOUR_RATE = 3600, MOST_TOUR_EVENTS = 50000;
 
 /* The steps: whether the wire is cut, and how long at least each runs, in milliseconds. */
 export const TOUR_STEPS = [
   {
-    title: 'Whole', cut: false, least: 3500,
-    text: `The generator draws one half, while the driver writes the next frame into the other: the
-      two rows have two colours. Each picture is whole.`,
+    title: 'Whole', cut: false, least: 6000,
+    text: `The beam draws lines out of one half of a memory; dim is the picture before. Meanwhile a
+      program, the driver, writes the next list into the other half. In the rows below, blue is one
+      half and orange the other: at any time both differ.`,
   },
   {
-    title: 'Cut', cut: true, least: 2500,
-    text: `Now the HALT wire is cut. The driver is told that the generator is always halted, so it
-      doesn't wait. Red is what it writes into the half that is being drawn.`,
+    title: 'Cut', cut: true, least: 5000,
+    text: `The HALT wire tells the driver when a picture is done. Now it is cut: the driver always
+      hears "done", doesn't wait, and writes into the half that is being drawn. Such a byte is
+      yellow, and red if the beam comes to it.`,
   },
   {
     title: 'Torn', cut: true, least: 0,
-    text: `This picture is torn: it shows parts of two frames. Red is what came too early, and the
-      ring marks where the tear begins. That is why the wire matters.`,
+    text: `This picture is torn: it began as one frame and went on as the next. Red came too early;
+      the ring marks where the tear begins. With the wire, the driver would have waited until the
+      picture was done.`,
   },
 ];
 
@@ -60,7 +63,7 @@ export class Tour {
   /* The newest torn picture in which enough is seen of both frames. */
   goodTear(board) {
     for (const picture of board.pictures.slice(-8).reverse()) {
-      if (picture.tears === 0) continue;
+      if (!picture.torn) continue;
       const part = this.stage.tearOf(picture).wrong.length / picture.strokes.length;
       if (part >= LEAST_PART && part <= 1 - LEAST_PART) return picture;
     }

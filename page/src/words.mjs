@@ -1,7 +1,7 @@
 /* What is shown, in words. */
-import { AREA } from './board.mjs';
 import { COMMAND } from './engine.mjs';
 import { hex } from './drafts.mjs';
+import { AREA, SIGN } from './signs.mjs';
 
 export function counted(number, one, many = `${one}s`) {
   return `${number} ${number === 1 ? one : many}`;
@@ -20,9 +20,46 @@ export function pictureText(picture, number, named) {
   const strokes = counted(picture.strokes.length, 'stroke');
   const begin = `Picture ${number}, finished by event ${picture.at}: ${strokes}`;
   const frame = named === null ? '' : ` It is ${named}.`;
-  if (picture.tears === 0) return `${begin}, whole.${frame}`;
-  const bytes = `${counted(picture.tears, 'byte')} ${picture.tears === 1 ? 'was' : 'were'}`;
-  return `${begin}, torn: ${bytes} written into its half while it was drawn.${frame}`;
+  const { early, torn } = picture;
+  if (early === 0 && torn) return `${begin}, torn: it is of no one moment.`;
+  if (early === 0) return `${begin}, whole.${frame}`;
+  const bytes = `${counted(early, 'byte')} ${early === 1 ? 'was' : 'were'}`;
+  return `${begin}, ${torn ? 'torn' : 'early'}: ${bytes} written into its half while it was drawn, `
+    + `${seenText(picture)}.${frame}`;
+}
+
+/* How much of what came early a picture shows. */
+function seenText({ early, seen, torn }) {
+  if (seen === 0) return `and ${early === 1 ? 'it doesn\'t show' : 'none of them shows'}`;
+  const shows = early === 1 ? 'it shows' : `${seen} of them ${seen === 1 ? 'shows' : 'show'}`;
+  return `and ${shows}${torn ? '' : ', as memory stood at one moment'}`;
+}
+
+/* A verdict by moments: its word, and what it says of so many pictures. */
+export function momentsVerdict(pictures, runs) {
+  const judged = pictures.filter(({ words }) => words > 0), torn = judged.filter((one) => one.torn);
+  const { contradictions } = runs;
+  const more = contradictions === 0 ? '' : ` ${counted(contradictions, 'fetch', 'fetches')} read `
+    + 'what was not written: somebody writes who isn\'t in the log.';
+  const count = counted(judged.length, 'picture');
+  if (judged.length === 0) return { word: '', text: `No picture can be judged by moments.${more}` };
+  if (torn.length === 0) {
+    const what = judged.length === 1 ? '1 picture' : `each of ${count}`;
+    return { word: 'Whole', text: ` by moments: ${what}.${more}` };
+  }
+  return { word: 'Torn', text: ` by moments: ${torn.length} of ${count}.${more}`, at: torn[0].at };
+}
+
+/* What is said of the runs that were abandoned, each in one of these events. */
+export function leftVerdict(left) {
+  return { word: left.length === 0 ? '' : 'Abandoned', at: left.at(-1),
+    text: `: ${counted(left.length, 'run')}, cut short.` };
+}
+
+/* A verdict by halves: its word, and how many bytes came early. */
+export function halvesVerdict(early) {
+  return early === 0 ? { word: 'In time', text: ' by halves: each byte.' }
+    : { word: 'Early', text: ` by halves: ${counted(early, 'byte')}.` };
 }
 
 export function runText(run, strokes) {
@@ -49,8 +86,8 @@ export const HOW_TEXT = {
 
 export function countsText(board) {
   return [`event ${board.length}`, counted(board.pictures.length, 'picture'),
-    `${board.pictures.filter(({ tears }) => tears > 0).length} torn`,
-    `${counted(board.tears, 'byte')} written into the half being drawn`,
+    `${board.pictures.filter(({ torn }) => torn).length} torn`,
+    `${counted(board.early, 'byte')} written into the half being drawn`,
     `${counted(board.abandoned, 'run')} abandoned`].join(' · ');
 }
 
@@ -80,8 +117,9 @@ export function wordText(engine, ram, word, area, marks) {
 export function momentText(board, at) {
   if (at === 0) return `Before the first of ${counted(board.length, 'event')}.`;
   const entry = board.entryAt(at - 1);
-  const torn = entry.torn ? ', into the half that is being drawn' : '';
+  const seen = board.signs[at - 1] === SIGN.SEEN ? ', and it shows' : '';
+  const early = entry.early ? `, into the half that is being drawn${seen}` : '';
   const { name } = entry.event, article = name === 'offer' ? 'an' : 'a';
   const what = entry.line ? `line ${entry.line}` : `${article} ${name}`;
-  return `Event ${at - 1} of ${board.length}, ${what}: ${entry.text}${torn}.`;
+  return `Event ${at - 1} of ${board.length}, ${what}: ${entry.text}${early}.`;
 }

@@ -1,0 +1,109 @@
+/* The runs of a board or of a log, judged two ways: by halves, which bytes were written into the
+ * half that is being drawn; and by moments, whether a run is of one moment, as the proved judge
+ * says that stands in dvg.wasm. */
+import { KIND } from './engine.mjs';
+import { SIGN, areaOf, drawnHalf } from './signs.mjs';
+
+export class Runs {
+  /* `signs` has a sign for each event. That of an early byte is changed once the run reads it. */
+  constructor(engine, signs) {
+    this.signs = signs;
+    this.judge = engine.device();
+    this.judge.openJudge();
+    Object.assign(this, { open: null, early: 0, seen: 0, contradicts: -1, contradictions: 0 });
+  }
+
+  free() { this.judge.free(); }
+
+  /* Tells the judge what an event did; keeps where a run came to be of no moment, and which event
+   * read first what was not written. */
+  tell(at, kind, address = 0, value = 0) {
+    const { kind: state, contradicts } = this.judge.tell(kind, address, value);
+    const hasNone = state === KIND.NO_MOMENT || state === KIND.TORN;
+    if (hasNone && this.open !== null && this.open.tornAt < 0) this.open.tornAt = at;
+    if (!contradicts) return;
+    if (this.contradictions === 0) this.contradicts = at;
+    this.contradictions++;
+  }
+
+  begin(at) {
+    this.tell(at, KIND.STARTED);
+    this.open = { at, half: 0, words: 0, early: 0, seen: 0, tornAt: -1, low: -1,
+      written: new Map() };
+  }
+
+  /* A byte is written. `changes` is whether another one stood there. Returns whether it is early.
+   * Where a run draws no half, each byte counts that it may still read. */
+  write(at, address, value, changes) {
+    this.tell(at, KIND.WROTE, address, value);
+    const { open } = this;
+    if (open === null) return false;
+    const isEarly = open.half !== 0 && open.half === areaOf(address >> 1);
+    if (isEarly) {
+      open.early++;
+      this.early++;
+    }
+    const counts = isEarly || (open.half === 0 && open.words > 0);
+    if (counts && changes) open.written.set(address, at);
+    return isEarly;
+  }
+
+  low(at, word, byte) {
+    this.tell(at, KIND.LOW, word, byte);
+    if (this.open === null) return;
+    this.see(2 * word);
+    this.open.low = word;
+  }
+
+  /* A word is fetched; `kind` says whether it is the HALT that ends the run. */
+  fetched(at, word, value, kind = KIND.FETCHED) {
+    const { open } = this;
+    this.tell(at, kind, word, value);
+    if (open === null) return;
+    if (open.low !== word) this.see(2 * word);
+    this.see(2 * word + 1);
+    open.low = -1;
+    open.words++;
+    if (open.words === 1 && word === 0) open.half = drawnHalf(value);
+  }
+
+  /* The open run reads a byte: if it was written meanwhile, that shows. */
+  see(address) {
+    const event = this.open.written.get(address);
+    if (event === undefined) return;
+    this.open.written.delete(address);
+    this.open.seen++;
+    this.seen++;
+    if (this.signs[event] === SIGN.EARLY) this.signs[event] = SIGN.SEEN;
+  }
+
+  /* The run ends by a HALT that was told. Returns it. */
+  end() {
+    const run = this.open;
+    this.open = null;
+    return run;
+  }
+
+  /* It ends, and no word of a HALT is told. */
+  stop(at) {
+    this.tell(at, KIND.BROKE);
+    return this.end();
+  }
+
+  reset(isWhole) {
+    if (isWhole) this.judge.resetAll();
+    else this.judge.resetGenerator();
+    return this.end();
+  }
+}
+
+/* What is kept of a run that came to its HALT. */
+export function resultOf({ at: from, early, seen, tornAt, words }) {
+  return { from, early, seen, tornAt, words, torn: tornAt >= 0 };
+}
+
+/* The sign of a picture. */
+export function signOfPicture({ torn, early }) {
+  if (torn) return SIGN.TORN_DONE;
+  return early > 0 ? SIGN.EARLY_DONE : SIGN.DONE;
+}
