@@ -118,7 +118,8 @@ judge: build/roms/$(MACHINE)
 	@python3 $(BOARD)emulator/judge.py build/judge build/rom $(RATE)
 
 film: judge
-	python3 $(BOARD)emulator/film.py build/judge build/rom $(FILM) >build/film.svg
+	python3 $(BOARD)emulator/film.py build/judge build/rom $(FILM) >build/film.new
+	@mv build/film.new build/film.svg
 
 find_screen = @[ "$$(uname)" != Linux ] || [ -n "$$DISPLAY$$WAYLAND_DISPLAY" ] || { \
     echo '$@: no screen is here; make emulator takes pictures, make judge plays' >&2 && exit 1; }
@@ -138,7 +139,7 @@ eproms: build/roms/$(MACHINE)
 
 test-rom:
 	@dvg=$$(realpath "$(DVG)") && cd $(BOARD)../examples/test_rom && \
-	    $(MAKE) --no-print-directory -f makefile DVG="$$dvg" PROGRAM=test MACHINE=asteroid eproms
+	    $(MAKE) --no-print-directory -f makefile DVG="$$dvg" PROGRAM=test MACHINE=$(MACHINE) eproms
 
 clean:
 	rm -rf build

@@ -151,7 +151,8 @@ archive_of_statements() {
 # The digest of all that the plain form is made of.
 digest_of_plain() {
     digest_of_files 'crates/*/src' include plain/CRATES plain/Cargo.toml plain/Cargo.lock \
-        plain/erase.rs 'plain/*.c' 'plain/crates/*/Cargo.toml' plain/stand_in
+        plain/erase.rs 'plain/*.c' 'plain/crates/*/Cargo.toml' 'plain/crates/*/rust.rs' \
+        plain/stand_in
 }
 
 # Whether a file is there and is built of the sources of this digest.

@@ -17,8 +17,10 @@
 //!    which gets its runtime by a line of its own; and `to_ascii_lowercase` with an allocator, which
 //!    Rust's slices have without one, as `to_ascii_lowercase_in`.
 //! 3. It puts in: the lines of `HEAD` at the head of a crate; `PRELUDE` in a file that names one of
-//!    its words; a `use` of the `MACROS` that a file calls; and `Clone` and `Debug` at each type of
-//!    `COPIED` that derives them not. Rattle has no copy that takes memory without a refusal.
+//!    its words; a `use` of the `MACROS` that a file calls; `Clone` and `Debug` at each type of
+//!    `COPIED` that derives them not, as Rattle has no copy that takes memory without a refusal;
+//!    `Hash` where `Eq` is derived; what `KEPT` has of serde at each of its types; and `BESIDE` at
+//!    the end of a library that has a file `rust.rs`, by hand, beside its sources.
 //!
 //! All else stays as it is, letter by letter, with its comments.
 use std::collections::BTreeSet;
@@ -91,6 +93,38 @@ const COPIED: [&str; 35] = [
     "struct Worklist",
     "struct World",
 ];
+
+/// What serde has of a type of `KEPT`, where its user asks for that.
+const SERDE: &str =
+    "#[cfg_attr(feature = \"serde\", derive(serde::Serialize, serde::Deserialize))]\n";
+
+/// The types that serde writes and reads, and by which other type it does: that is checked when it
+/// is read. Where none is named, each value of the type is one.
+const KEPT: [(&str, &str); 20] = [
+    ("enum Action", ""),
+    ("enum Area", ""),
+    ("struct Beam", ""),
+    ("struct Code", "Instr"),
+    ("enum CodeFault", ""),
+    ("struct DraftFull", ""),
+    ("enum DriverFault", ""),
+    ("enum Entry", ""),
+    ("enum Event", ""),
+    ("enum FrameFault", ""),
+    ("enum GenFault", ""),
+    ("enum Half", ""),
+    ("enum Instr", ""),
+    ("enum Listed", ""),
+    ("enum MemFault", ""),
+    ("struct Op", "OpKind"),
+    ("enum OpKind", ""),
+    ("struct OutOfMemory", ""),
+    ("enum Place", ""),
+    ("struct Stroke", ""),
+];
+
+/// What stands at the end of a library with a file `rust.rs` beside its sources.
+const BESIDE: &str = "\n#[path = \"../rust.rs\"]\nmod rust;\npub use rust::*;\n";
 
 /// The attributes that stay as they are.
 const KEPT_ATTRIBUTES: [&str; 6] = ["error", "from", "inline", "must_use", "repr", "unsafe"];
@@ -477,10 +511,13 @@ impl<'a> Eraser<'a> {
         Ok(())
     }
 
-    /// A derive, without `Drop`.
+    /// A derive, without `Drop`, and with `Hash` beside `Eq`.
     fn derive(&mut self, words: &'a str, end: usize) {
         self.derived = words;
-        let kept: Vec<&str> = words.split(", ").filter(|word| *word != "Drop").collect();
+        let mut kept: Vec<&str> = words.split(", ").filter(|word| *word != "Drop").collect();
+        if kept.contains(&"Eq") && !kept.contains(&"Hash") {
+            kept.push("Hash");
+        }
         if kept.is_empty() {
             self.drop_line(end);
         } else {
@@ -488,7 +525,8 @@ impl<'a> Eraser<'a> {
         }
     }
 
-    /// A struct or an enum. One of `COPIED` derives `Clone` and `Debug`, too.
+    /// A struct or an enum. One of `COPIED` derives `Clone` and `Debug`, too, and one of `KEPT`
+    /// what serde has.
     fn structure(&mut self, end: usize) {
         let name = after_blanks(self.text, end);
         let after = self.text[name..]
@@ -496,16 +534,10 @@ impl<'a> Eraser<'a> {
             .take_while(|byte| is_of_word(**byte));
         let head = self.slice(self.at, name + after.count());
         let derived = std::mem::take(&mut self.derived);
-        let missing: Vec<&str> = ["Clone", "Debug"]
-            .into_iter()
-            .filter(|word| !derived.split(", ").any(|other| other == *word))
-            .collect();
-        if COPIED.contains(&head) && !missing.is_empty() {
-            let line = format!("#[derive({})]\n", missing.join(", "));
-            let end_of_last = self.out.iter().rposition(|byte| *byte == b'\n');
-            let start = end_of_last.map_or(0, |k| k + 1);
-            self.out.splice(start..start, line.into_bytes());
-        }
+        let lines = copied(head, derived) + &kept(head);
+        let end_of_last = self.out.iter().rposition(|byte| *byte == b'\n');
+        let start = end_of_last.map_or(0, |k| k + 1);
+        self.out.splice(start..start, lines.into_bytes());
         self.copy_word(end);
     }
 
@@ -657,6 +689,31 @@ impl Role {
     }
 }
 
+/// The line by which a type derives `Clone` and `Debug`, if it is one of `COPIED` and lacks one.
+fn copied(head: &str, derived: &str) -> String {
+    let missing: Vec<&str> = ["Clone", "Debug"]
+        .into_iter()
+        .filter(|word| !derived.split(", ").any(|other| other == *word))
+        .collect();
+    if COPIED.contains(&head) && !missing.is_empty() {
+        format!("#[derive({})]\n", missing.join(", "))
+    } else {
+        String::new()
+    }
+}
+
+/// The lines by which serde writes and reads a type, if it is one of `KEPT`.
+fn kept(head: &str) -> String {
+    match KEPT.iter().find(|(kept, _)| *kept == head) {
+        None => String::new(),
+        Some((_, "")) => SERDE.to_owned(),
+        Some((_, by)) => {
+            let by = format!("serde(try_from = \"{by}\", into = \"{by}\")");
+            format!("{SERDE}#[cfg_attr(feature = \"serde\", {by})]\n")
+        }
+    }
+}
+
 /// The line that brings in the macros that a file calls.
 fn use_of_macros(words: &BTreeSet<&str>) -> String {
     let called: Vec<&str> = MACROS
@@ -734,8 +791,9 @@ fn stem_of(file: &Path) -> Result<&str, String> {
     }
 }
 
-/// The files that a crate's sources become: the name of each, and its text.
-fn erased_crate(folder: &Path) -> Result<Vec<(String, String)>, String> {
+/// The files that a crate's sources become: the name of each, and its text. `has_beside` is whether
+/// a file `rust.rs` lies beside them.
+fn erased_crate(folder: &Path, has_beside: bool) -> Result<Vec<(String, String)>, String> {
     let mut made = Vec::new();
     for file in files_of(folder)? {
         let stem = stem_of(&file)?;
@@ -743,7 +801,7 @@ fn erased_crate(folder: &Path) -> Result<Vec<(String, String)>, String> {
             continue;
         }
         let text = fs::read_to_string(&file).map_err(|e| format!("{}: {e}", file.display()))?;
-        let plain = erased(&text, Role::of(stem)).map_err(|refused| {
+        let mut plain = erased(&text, Role::of(stem)).map_err(|refused| {
             format!(
                 "{}:{}: {}",
                 file.display(),
@@ -751,6 +809,9 @@ fn erased_crate(folder: &Path) -> Result<Vec<(String, String)>, String> {
                 refused.why
             )
         })?;
+        if has_beside && stem == "lib" {
+            plain.push_str(BESIDE);
+        }
         made.push((name_within(&file, folder, "rs")?, plain));
     }
     Ok(made)
@@ -812,8 +873,10 @@ fn run(words: &[String]) -> Result<bool, String> {
     };
     let mut is_right = true;
     for name in crates {
-        let made = erased_crate(&Path::new(from).join(name).join("src"))?;
-        let folder = Path::new(to).join(name).join("src");
+        let plain = Path::new(to).join(name);
+        let folder = plain.join("src");
+        let has_beside = plain.join("rust.rs").exists();
+        let made = erased_crate(&Path::new(from).join(name).join("src"), has_beside)?;
         if checks {
             is_right &= !differs(&folder, &made);
         } else {
@@ -837,7 +900,7 @@ fn main() -> ExitCode {
 
 #[cfg(test)]
 mod tests {
-    use super::{Role, erased};
+    use super::{Role, SERDE, erased};
 
     /// What is left of a module's source is this.
     #[track_caller]
@@ -953,11 +1016,11 @@ mod tests {
         leaves("#[derive(Drop)]\nstruct S;\n", "struct S;\n");
         leaves(
             "#[derive(Debug, Drop, Eq)]\nstruct S;\n",
-            "#[derive(Debug, Eq)]\nstruct S;\n",
+            "#[derive(Debug, Eq, Hash)]\nstruct S;\n",
         );
         leaves(
             "#[derive_where(Debug, Eq)]\nstruct S;\n",
-            "#[derive(Debug, Eq)]\nstruct S;\n",
+            "#[derive(Debug, Eq, Hash)]\nstruct S;\n",
         );
         leaves(
             "/// S.\n#[derive_where(Clone; A)]\nstruct S;\n",
@@ -1044,6 +1107,14 @@ mod tests {
             "#[derive(Clone, Copy)]\n#[derive(Debug)]\nenum Phase {\n}\n",
         );
         stays("#[derive(Debug, Clone)]\npub(crate) struct World {\n}\n");
+        leaves(
+            "#[derive(Debug)]\npub enum Action {\n}\n",
+            &format!("#[derive(Debug)]\n{SERDE}pub enum Action {{\n}}\n"),
+        );
+        let by = "serde(try_from = \"Instr\", into = \"Instr\")";
+        let by = format!("#[cfg_attr(feature = \"serde\", {by})]\n");
+        leaves("struct Code;\n", &format!("{SERDE}{by}struct Code;\n"));
+        stays("#[derive(Eq, Hash)]\nstruct Codes;\n");
         stays("enum World {}\nstruct Worlds {}\n");
     }
 

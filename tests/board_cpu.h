@@ -129,6 +129,17 @@ static void set_flag(cpu *c, int flag, int on)
 
 static void push(cpu *c, int value) { bus_write((uint16_t)(0x100 | c->s--), (uint8_t)value); }
 
+/* An NMI comes: its vector is read at FFFA. */
+static inline void begin_nmi(cpu *c)
+{
+    push(c, c->pc >> 8);
+    push(c, c->pc & 0xFF);
+    push(c, (c->p & ~BREAK) | UNUSED);
+    c->p |= INTERRUPT;
+    c->pc = (uint16_t)(bus_read(0xFFFA, 0) | bus_read(0xFFFB, 0) << 8);
+    c->cycles += 7;
+}
+
 static uint8_t pull(cpu *c) { return bus_read((uint16_t)(0x100 | ++c->s), 0); }
 
 static void add_carrying(cpu *c, uint8_t value)
@@ -205,8 +216,8 @@ static int step(cpu *c)
 {
     int index = opcode_index[bus_fetch(c->pc++)];
     if (index < 0) return 0;
-    enum operation operation = opcodes[index].operation;
-    enum mode mode = opcodes[index].mode;
+    enum operation operation = (enum operation)opcodes[index].operation;
+    enum mode mode = (enum mode)opcodes[index].mode;
     uint16_t at;
     c->cycles += opcodes[index].cycles;
     switch (operation) {

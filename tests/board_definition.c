@@ -64,15 +64,16 @@ static int named_address(const state *t, const char *mode)
     int first = ours[t->pc + 1];
     if (strcmp(mode, "Immediate") == 0) return t->pc + 1;
     if (strcmp(mode, "ZeroPage") == 0) return first;
+    if (strcmp(mode, "ZeroPageX") == 0) return (first + t->x) % 256;
     if (strcmp(mode, "Absolute") == 0) return first + 256 * ours[t->pc + 2];
     return (ours[first] + 256 * ours[(first + 1) % 256] + t->y) % PLACES;
 }
 
 static int stack_place(int s) { return 0x100 + s % 256; }
 
-static void changing(state *t, int byte)
+static void changing(state *t, const char *mode, int byte)
 {
-    put(ours[t->pc + 1], byte);
+    put(named_address(t, mode), byte);
     telling(t, byte);
     t->pc += 2;
 }
@@ -103,7 +104,7 @@ static void shift(state *t, const char *kind)
     int old = ours[ours[t->pc + 1]], carry = t->c;
     if (is(kind, "ShiftLeft") || is(kind, "RotateLeft")) {
         t->c = old >= 128;
-        changing(t, (2 * old + (is(kind, "RotateLeft") ? carry : 0)) % 256);
+        changing(t, "ZeroPage", (2 * old + (is(kind, "RotateLeft") ? carry : 0)) % 256);
         return;
     }
     old = t->a;
@@ -114,7 +115,8 @@ static void shift(state *t, const char *kind)
 
 static void branch_where(state *t, char flag, int when)
 {
-    int value = flag == 'N' ? t->n : flag == 'Z' ? t->z : t->c, offset = ours[t->pc + 1];
+    int value = flag == 'N' ? t->n : flag == 'Z' ? t->z : flag == 'C' ? t->c : t->v;
+    int offset = ours[t->pc + 1];
     int back = offset >= 128 ? PLACES - 256 : 0;
     t->pc = value == when ? (t->pc + 2 + offset + back) % PLACES : t->pc + 2;
 }
@@ -149,7 +151,8 @@ static void does(state *t, const char *instruction)
     } else if (is(kind, "Transfer")) {
         setting(t, two[0], *register_named(t, one[0]));
         t->pc += 1;
-    } else if (is(kind, "Change")) changing(t, (ours[ours[t->pc + 1]] + atoi(one)) % 256);
+    } else if (is(kind, "Change"))
+        changing(t, one, (ours[named_address(t, one)] + atoi(two)) % 256);
     else if (is(kind, "Step")) {
         setting(t, one[0], (*register_named(t, one[0]) + atoi(two)) % 256);
         t->pc += 1;
@@ -249,8 +252,9 @@ static void print_vector(int row)
 /* Where board_steps.s has its cells, and where it runs an instruction. */
 enum { INDEXED = 0x7000, ABSOLUTE = 0x7100, BUFFER = 0x7300, POINTER = 0xF0, CELL = 0xF8 };
 
-/* The two bytes after an opcode, so that it names one of those cells; the instruction's size. */
-static int operands(const char *instruction, int *first, int *second)
+/* The two bytes after an opcode, so that it names one of those cells with this X; the instruction's
+ * size. */
+static int operands(const char *instruction, int x, int *first, int *second)
 {
     *second = 0x71;
     *first = some_byte();
@@ -258,8 +262,9 @@ static int operands(const char *instruction, int *first, int *second)
     if (strstr(instruction, "Immediate")) return 2;
     if (strstr(instruction, "IndirectIndexed")) return *first = POINTER, 2;
     if (strstr(instruction, "Branch")) return *first = 3, 2;
-    if (strstr(instruction, "ZeroPage") || strstr(instruction, "Change") ||
-        is(instruction, "ShiftLeft") || is(instruction, "RotateLeft")) return *first = CELL, 2;
+    if (strstr(instruction, "ZeroPageX")) return *first = (CELL - x) & 0xFF, 2;
+    if (strstr(instruction, "ZeroPage") || is(instruction, "ShiftLeft") ||
+        is(instruction, "RotateLeft")) return *first = CELL, 2;
     return 1;
 }
 
@@ -270,9 +275,9 @@ static int is_move(const char *instruction)
 
 static void write_step(const char *instruction, int opcode, FILE *records, FILE *results)
 {
-    int first, second, bytes = operands(instruction, &first, &second);
     cpu c = some_cpu(BUFFER);
     state t = state_of(&c);
+    int first, second, bytes = operands(instruction, t.x, &first, &second);
     int cells[3] = { some_byte(), some_byte(), some_byte() }, y = t.y;
     uint8_t record[11] = {
         (uint8_t)bytes, (uint8_t)opcode, (uint8_t)first, (uint8_t)second, c.a, c.x, c.y,

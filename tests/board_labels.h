@@ -6,7 +6,7 @@
 static struct {
     char name[32];
     int at;
-} labels[300];
+} labels[2000];
 static int label_count;
 
 static void read_labels(const char *path)
@@ -16,7 +16,7 @@ static void read_labels(const char *path)
     unsigned at;
     if (!file) exit(1);
     while (fgets(line, sizeof line, file)) {
-        if (sscanf(line, "al %x .%31s", &at, name) != 2 || label_count == 300) continue;
+        if (sscanf(line, "al %x .%31s", &at, name) != 2 || label_count == 2000) continue;
         strcpy(labels[label_count].name, name);
         labels[label_count++].at = (int)at;
     }

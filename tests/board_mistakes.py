@@ -1,17 +1,20 @@
 """Plants mistakes in the 6502 driver, one at a time, and says whether the tests find each:
 
-    board_mistakes.py DVG DRIVER_FOLDER WORK_FOLDER
+    board_mistakes.py DVG DRIVER_FOLDER WORK_FOLDER [sim65]
 
 WORK_FOLDER holds what tests/board built: `schedules`, `exhaust`, and of each map its drafts and
 ROM. A mistake is found where random schedules by it differ from `dvg play --all`, or, where they
-don't, by the exhaustive run. One line a mistake; the last one is 'N of M mistakes found'.
+don't, by the exhaustive run. With `sim65` each eighth of them is planted, and looked for by the
+schedules of that 6502 alone. One line a mistake; the last one is 'N of M mistakes found'.
 """
 import concurrent.futures
 import os
 import subprocess
 import sys
 
-DVG, DRIVER, WORK = [os.path.abspath(path) for path in sys.argv[1:]]
+DVG, DRIVER, WORK = [os.path.abspath(path) for path in sys.argv[1:4]]
+IS_SIM65 = sys.argv[4:] == ['sim65']
+SCHEDULES = os.path.join(WORK, 'schedules_sim65' if IS_SIM65 else 'schedules')
 SOURCES = {name: open(os.path.join(DRIVER, name)).read() for name in ('driver.s', 'dvg.inc')}
 LIMIT = 60
 
@@ -271,7 +274,7 @@ def first_difference(path):
 def found_by_schedules(folder):
     for map_size, seed in (('2048', 1), ('4096', 2), ('2048', 3)):
         inputs = [os.path.join(WORK, name + map_size) for name in ('drafts', 'rom', 'lines')]
-        words = [os.path.join(WORK, 'schedules'), 'driver.bin', 'driver.lbl'] + inputs
+        words = [SCHEDULES, 'driver.bin', 'driver.lbl'] + inputs
         done = run(words + ['.', str(seed), '30', '3000'], folder)
         if done.returncode:
             return (done.stdout or 'killed').strip().splitlines()[-1]
@@ -295,15 +298,15 @@ def try_mistake(number):
     folder = os.path.join(WORK, 'mistake%d' % number)
     os.makedirs(folder, exist_ok=True)
     assemble(folder, planted(MISTAKES[number]))
-    return found_by_schedules(folder) or found_by_exhaust(folder)
+    return found_by_schedules(folder) or (not IS_SIM65 and found_by_exhaust(folder))
 
 
 def main():
-    numbers = range(len(MISTAKES))
+    numbers = range(0, len(MISTAKES), 8 if IS_SIM65 else 1)
     with concurrent.futures.ThreadPoolExecutor(2) as pool:
         found = list(pool.map(try_mistake, numbers))
-    for number in numbers:
-        print('%-50s %s' % (MISTAKES[number][0], found[number] or 'NOT FOUND'))
+    for number, said in zip(numbers, found):
+        print('%-50s %s' % (MISTAKES[number][0], said or 'NOT FOUND'))
     print('%d of %d mistakes found' % (sum(map(bool, found)), len(found)))
     sys.exit(not all(found))
 

@@ -13,7 +13,11 @@
 #include <stdio.h>
 #include <stdlib.h>
 #include <string.h>
+#ifdef SIM65
+#include "board_sim65.h"
+#else
 #include "board_cpu.h"
+#endif
 #include "board_labels.h"
 
 enum {

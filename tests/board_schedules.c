@@ -6,17 +6,24 @@
  * OUT/N.trace and OUT/N.expected hold as many schedules as a trace may have, each after a reset of
  * the whole system. The generator here is one of its own: it has words, a stack and HALT, and
  * counts strokes. Strobes, fetches, resets of either end and NMIs come between any two
- * instructions. What no trace can show is reported here, with status 1: an access that isn't the
+ * instructions. In each second schedule the NMI alone ticks; in the others it counts, and changes
+ * bytes that aren't the driver's. The 6502 is that of board_cpu.h, or with -DSIM65 that of
+ * board_sim65.h. What no trace can show is reported here, with status 1: an access that isn't the
  * driver's, a tick with two actions, a stack or a carry that is wrong. */
 #include <stdarg.h>
 #include <stdio.h>
 #include <stdlib.h>
+#ifdef SIM65
+#include "board_sim65.h"
+#else
 #include "board_cpu.h"
+#endif
 #include "board_labels.h"
 
 enum {
     CODE = 0x6800, VECTOR_RAM = 0x4000, HALT_FLAG = 0x2002, STROBE = 0x3000, RETURN_TO = 0xFFF0,
-    MOST_EVENTS = 65000, MOST_BYTES = 1000000, PLACES = 0x200
+    MOST_EVENTS = 65000, MOST_BYTES = 1000000, PLACES = 0x200, NMI_VECTOR = 0xFFFA,
+    NMI_AT = 0x6F00, TICKS_AT = NMI_AT + 8, TICKS_CALLED_AT = NMI_AT + 12, BEATS = 0x30
 };
 
 static uint8_t memory[65536], program[0x1800], rom[0x1000];
@@ -217,6 +224,7 @@ static int asking, asked_draft; /* the program asks for: 0 nothing, 1 a frame, 2
 uint8_t bus_fetch(uint16_t at)
 {
     if (at >= CODE && at < CODE + program_size) return memory[at];
+    if (in_nmi && at >= NMI_AT && at < NMI_AT + 0x20) return memory[at];
     fail("an instruction at %04X", at);
     return 0;
 }
@@ -259,7 +267,9 @@ void bus_write(uint16_t at, uint8_t value)
     if (at >= VECTOR_RAM && at < VECTOR_RAM + 0x800) {
         snprintf(entry, sizeof entry, "wrote %03X %02X", at - VECTOR_RAM, value);
         act(entry);
-    } else if (!is_variable && at >> 8 != 1) fail("a write of %04X", at);
+    } else if (!is_variable && at >> 8 != 1 && !(in_nmi && at == BEATS)) {
+        fail("a write of %04X", at);
+    }
     if (!in_nmi && at == phase_at && asking) take();
 }
 
@@ -268,7 +278,7 @@ void bus_write(uint16_t at, uint8_t value)
 static int quiet, in_run, uses_nmi, chance_nmi, chance_generator, chance_reset;
 static int cut;                         /* a reset came within a routine */
 static int deepest = 0xFF;
-static long resets_within, nmis;
+static long resets_within, nmis, nmis_amid;
 
 static void nmi(void);
 
@@ -284,7 +294,10 @@ static int others_act(void)
             add("resetgen", "cleared");
         } else while (count-- && (generator.open || !in_run)) fetch();
     }
-    if (uses_nmi && !in_nmi && !below(chance_nmi)) nmi();
+    if (!in_nmi && !below(chance_nmi)) {
+        nmis_amid++;
+        nmi();
+    }
     if (!chance_reset || below(chance_reset)) return 1;
     resets_within++;
     cut = 1;
@@ -304,7 +317,7 @@ static int call(const char *name, uint8_t a, uint8_t x, uint8_t y)
     while (processor.pc != RETURN_TO) {
         if (!others_act()) return 0;
         if (!step(&processor)) fail("no opcode before %04X", processor.pc);
-        if (++steps > 20000000) fail("%s doesn't end", name);
+        if (++steps > 1000000) fail("%s doesn't end", name);
         if (processor.s < deepest) deepest = processor.s;
     }
     if (processor.s != stack) fail("%s leaves the stack at %02X", name, processor.s);
@@ -332,29 +345,67 @@ static int is_idle(void) { return memory[phase_at] == 2; }
 
 static int is_building(void) { return memory[phase_at] == 7; }
 
-static void one_tick(void)
+/* What came of a tick, where there were so many actions before it: one of them, or none where the
+ * driver is idle, which has a line of its own. */
+static void note_tick(int before, int was_idle, int was_building)
 {
-    int was_building = is_building(), was_idle = is_idle(), before = actions;
-    if (!call_with_any("dvg_tick")) return;
     if (actions - before > 1) fail("%d actions in a tick", actions - before);
     if (actions != before || was_building) return;
     if (!was_idle) fail("a tick does nothing");
     add("tick", "idle");
 }
 
+static void one_tick(void)
+{
+    int was_building = is_building(), was_idle = is_idle(), before = actions;
+    if (call_with_any("dvg_tick")) note_tick(before, was_idle, was_building);
+}
+
+/* The code of an NMI, which counts, and ticks where it is told to. */
+static void write_nmi(void)
+{
+    static const uint8_t code[] = {
+        0x48, 0x8A, 0x48, 0x98, 0x48,   /* pha, txa, pha, tya, pha */
+        0xE6, BEATS,                    /* inc BEATS */
+        0xA9, 0, 0xF0, 3, 0x20, 0, 0,   /* lda #0, beq *+5, jsr 0 */
+        0x68, 0xA8, 0x68, 0xAA, 0x68,   /* pla, tay, pla, tax, pla */
+        0x40                            /* rti */
+    };
+    int ticks = label("dvg_ticks");
+    memcpy(memory + NMI_AT, code, sizeof code);
+    memory[TICKS_CALLED_AT] = (uint8_t)ticks;
+    memory[TICKS_CALLED_AT + 1] = (uint8_t)(ticks >> 8);
+    memory[NMI_VECTOR] = NMI_AT & 0xFF;
+    memory[NMI_VECTOR + 1] = NMI_AT >> 8;
+}
+
+static int are_same_registers(const cpu *one, const cpu *other)
+{
+    return one->a == other->a && one->x == other->x && one->y == other->y && one->s == other->s &&
+        one->pc == other->pc && !((one->p ^ other->p) & ~(BREAK | UNUSED));
+}
+
+/* The NMI comes, and its code runs to its end; it leaves other bytes in memory that no call looks
+ * at. */
 static void nmi(void)
 {
     cpu kept = processor;
-    int was_quiet = quiet;
+    int count = !uses_nmi ? 0 : below(3) ? 1 : 1 + below(6);
+    int was_building = is_building(), was_idle = is_idle(), before = actions;
     nmis++;
     in_nmi = 1;
-    quiet = 1;
-    processor.s -= 3;
-    if (below(3)) one_tick();
-    else call("dvg_ticks", (uint8_t)(1 + below(6)), any_byte(), any_byte());
+    memory[TICKS_AT] = (uint8_t)count;
+    begin_nmi(&processor);
+    for (int steps = 0; processor.s != kept.s; steps++) {
+        if (!step(&processor)) fail("no opcode before %04X", processor.pc);
+        if (steps > 2000) fail("an NMI doesn't end");
+        if (processor.s < deepest) deepest = processor.s;
+    }
+    if (!are_same_registers(&processor, &kept)) fail("an NMI doesn't give back the registers");
     in_nmi = 0;
-    quiet = was_quiet;
-    processor = kept;
+    if (count == 1) note_tick(before, was_idle, was_building);
+    memory[BEATS + 1 + below(0x100 - BEATS - 1)] = any_byte();
+    memory[0x100 + below(processor.s)] = any_byte();
 }
 
 static void run_until_idle(void)
@@ -582,6 +633,15 @@ static void play_schedule(int most)
     while (event_count < most && event_bytes < MOST_BYTES - 30000) do_something(eager);
 }
 
+/* A sum of the bytes that each schedule leaves: all of page zero, and the vector RAM. */
+static uint32_t sum_of_bytes;
+
+static void sum_up(void)
+{
+    for (int i = 0; i < 0x100; i++) sum_of_bytes = sum_of_bytes * 31 + memory[i];
+    for (int i = 0; i < 0x800; i++) sum_of_bytes = sum_of_bytes * 31 + memory[VECTOR_RAM + i];
+}
+
 /* --- Files --- */
 
 static FILE *trace, *expected;
@@ -647,15 +707,18 @@ int main(int count, char **words)
     variables_from = label("dvg_phase");
     variables_to = label("length") + 1;
     memcpy(memory + CODE, program, (size_t)program_size);
+    write_nmi();
     processor.p = UNUSED | INTERRUPT;
     for (schedule = 0; schedule < atoi(words[8]); schedule++) {
         play_schedule(atoi(words[9]));
+        sum_up();
         write_schedule(words[6], words[5]);
         total += event_count;
     }
     close_files();
     printf("%d schedules, %ld events, %ld frames, %ld pictures, %ld resets within a routine, "
-           "%ld NMIs, %d bytes of stack\n",
-           schedule, total, frames, pictures, resets_within, nmis, 0xFF - deepest);
+           "%ld NMIs, %ld amid a call, sum %08X, %d bytes of stack\n",
+           schedule, total, frames, pictures, resets_within, nmis, nmis_amid, sum_of_bytes,
+           0xFF - deepest);
     return 0;
 }

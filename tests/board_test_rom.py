@@ -1,8 +1,9 @@
 """For tests/board --judge: whether examples/test_rom shows each switch as it is:
 
-    board_test_rom.py FOLDER BUTTONS
+    board_test_rom.py MACHINE FOLDER BUTTONS
 
-FOLDER has what judge.lua wrote, and the folder above it shapes.equates. BUTTONS are lines of a
+MACHINE is the emulator's name of the board. FOLDER has what judge.lua wrote, and the folder above
+it shapes.equates. BUTTONS are lines of a
 time, a button and `down` or `up`, where one button is down at a time. The texts of a picture are
 read back out of the words in the vector RAM. What is shown wrong is printed, and the status is 1.
 """
@@ -14,6 +15,7 @@ ROWS = {'left': 'LEFT', 'right': 'RIGHT', 'thrust': 'THRUST', 'fire': 'FIRE', 's
         'hyperspace': 'HYPER', 'start_1': 'START 1', 'start_2': 'START 2', 'coin_left': 'COIN L',
         'coin_center': 'COIN C', 'coin_right': 'COIN R', 'step': 'STEP', 'test': 'TEST'}
 SWITCHES = {'SW 87': '2', 'SW 65': '0', 'SW 43': '1', 'SW 21': '0'}
+SWITCHES_OF_DELUXE = {'SW 87': '0', 'SW 65': '0', 'SW 43': '0', 'SW 21': '0', 'POKEY': '11111101'}
 
 
 def read_glyphs(path):
@@ -41,11 +43,15 @@ def texts(memory, glyphs):
 
 
 def shown(memory, glyphs):
-    return {text[:-2]: text[-1] for text in texts(memory, glyphs) if text[-2:-1] == ' '}
+    """What stands behind the last blank of each text."""
+    parts = [text.rpartition(' ') for text in texts(memory, glyphs)]
+    return {name: value for name, blank, value in parts if blank}
 
 
 def main():
-    folder, buttons = sys.argv[1:]
+    machine, folder, buttons = sys.argv[1:]
+    is_deluxe = machine == 'astdelux'
+    rows_of = dict(ROWS, hyperspace='SHIELDS') if is_deluxe else ROWS
     glyphs = read_glyphs(os.path.join(folder, '..', 'shapes.equates'))
     with open(os.path.join(folder, 'judge.log')) as log:
         times = [float(line.split()[1]) for line in log if line.startswith('picture ')]
@@ -58,8 +64,8 @@ def main():
         middle = (float(down) + float(up)) / 2
         number = max(k for k, time in enumerate(times) if time <= middle)
         rows = shown(memories[2048 * number:2048 * number + 2048], glyphs)
-        expected = {row: '1' if row == ROWS[name] else '0' for row in ROWS.values()}
-        expected.update(SWITCHES)
+        expected = {row: '1' if row == rows_of[name] else '0' for row in rows_of.values()}
+        expected.update(SWITCHES_OF_DELUXE if is_deluxe else SWITCHES)
         clock, beats = rows.pop('CLOCK', None), rows.pop('NMI', None)
         clocks += clock == '1'
         if rows != expected or clock not in ('0', '1') or beats is None or not beats.isdigit():

@@ -10,7 +10,7 @@ import os
 import sys
 
 # The opcodes of loads, stores and transfers.
-MOVES = "a9 a5 ad b1 a2 a6 a0 a4 85 8d 91 86 84 aa 8a 98".split()
+MOVES = "a9 a5 b5 ad b1 a2 a6 a0 a4 85 95 8d 91 86 84 aa 8a 98".split()
 
 # Of each file, what its steps do.
 FILES = {

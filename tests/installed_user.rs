@@ -1,9 +1,13 @@
 //! A crate of a user that has Gerbilargent by git: what one crate names, and what std has for a
 //! vector, a box of errors and `?`.
+use std::collections::HashSet;
 use std::error::Error;
 
 use gerbilargent::{
-    Action, Code, Draft, Entry, Flat, Global, Image, Instr, Op, OpKind, Rom, Stroke, Vec, World,
+    Action, AllocError, AllocFailed, BadCode, BadOp, Code, CodeFault, Draft, DraftFull, Driver,
+    DriverFault, Entry, Flat, FrameFault, GenFault, Generator, Global, Image, Instr, Judge,
+    MemFault, MomentJudge, Op, OpKind, OutOfMemory, Rom, Stopped, Stroke, Vec, World, dump, named,
+    read, sketch,
 };
 
 /// A frame of one vector. None where a field is out of its range, or the draft is full.
@@ -57,7 +61,52 @@ fn count() -> Result<usize, Box<dyn Error>> {
     Ok(std::vec::Vec::from(vector).len())
 }
 
+/// What `?` hands on.
+fn is_error<E: Error + Send + Sync + 'static>() {}
+
+/// What the crates refuse by are errors, all of them.
+fn name_errors() {
+    is_error::<AllocError>();
+    is_error::<AllocFailed<World<Flat>>>();
+    is_error::<BadCode>();
+    is_error::<BadOp>();
+    is_error::<CodeFault>();
+    is_error::<DraftFull>();
+    is_error::<DriverFault>();
+    is_error::<FrameFault>();
+    is_error::<GenFault>();
+    is_error::<MemFault>();
+    is_error::<OutOfMemory>();
+    is_error::<Stopped>();
+    is_error::<dump::DumpFault>();
+    is_error::<named::DraftFault>();
+    is_error::<named::NamedFault>();
+    is_error::<named::SketchFault>();
+    is_error::<read::TextFault>();
+    is_error::<read::TraceFault>();
+    is_error::<sketch::SketchFault>();
+}
+
+/// What has a default, is converted and is hashed as std's types are.
+fn convert() -> Result<(), Box<dyn Error>> {
+    name_errors();
+    let _ = (Driver::default(), Judge::default(), MomentJudge::default());
+    assert!(Generator::<Global>::default().halted());
+    let labs = Instr::Labs { x: 1, y: 2, scale: 3 };
+    let op = Op::try_from(OpKind::Draw(Code::try_from(labs)?))?;
+    let draft = Draft::try_from([op, Op::default(), op].as_slice())?;
+    let kinds: HashSet<OpKind> = draft.into_iter().map(|op| OpKind::from(*op)).collect();
+    assert!(kinds.len() == 2 && Draft::default().is_empty());
+    let wrong = Code::try_from(Instr::Jmpl(4096)).map_err(|fault| fault.to_string());
+    assert_eq!(wrong, Err("a field of the instruction is out of its range".to_owned()));
+    let wrong = Op::try_from(OpKind::CallRom(4096)).map_err(|fault| fault.to_string());
+    assert_eq!(wrong, Err("no draft may hold this operation".to_owned()));
+    assert_eq!(Draft::try_from([op; 512].as_slice()), Err(DraftFull));
+    Ok(())
+}
+
 fn main() -> Result<(), Box<dyn Error>> {
+    convert()?;
     println!("{:?} {}", draw()?, count()?);
     Ok(())
 }

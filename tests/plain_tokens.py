@@ -48,6 +48,18 @@ COPIED = """
     struct Stopped, struct Table, enum Taken, struct Traced, struct Worklist, struct World
 """
 COPIED = {tuple(item.split()) for item in COPIED.split(",")}
+# The types that serde writes and reads, some by another type, which is checked.
+SERDE = '#[cfg_attr(feature = "serde", derive(serde::Serialize, serde::Deserialize))]'
+BY = '#[cfg_attr(feature = "serde", serde(try_from = "{0}", into = "{0}"))]'
+CHECKED = {("struct", "Code"): "Instr", ("struct", "Op"): "OpKind"}
+KEPT = """
+    enum Action, enum Area, struct Beam, enum CodeFault, struct DraftFull, enum DriverFault,
+    enum Entry, enum Event, enum FrameFault, enum GenFault, enum Half, enum Instr, enum Listed,
+    enum MemFault, enum OpKind, struct OutOfMemory, enum Place, struct Stroke
+"""
+KEPT = {tuple(item.split()) for item in KEPT.split(",")} | CHECKED.keys()
+# What stands at the end of a library with a file by hand beside its sources.
+BESIDE = ['#[path = "../rust.rs"]', "mod rust;", "pub use rust::*;", ""]
 
 
 class Source:
@@ -101,6 +113,7 @@ class Source:
             return ["#", "[", *inside, "]"]
         names = [token for token in inside[2:-1] if token not in (",", "Drop")]
         self.derived = set(names)
+        names += ["Hash"] if "Eq" in names and "Hash" not in names else []
         return words(f"#[derive({', '.join(names)})]") if names else []
 
     def is_model(self):
@@ -120,12 +133,15 @@ class Source:
         return next((line for line in map(words, lines) if self.next_is(*line)), None)
 
     def structure(self):
-        """What a type derives that users copy and print, and its first word."""
+        """What a type derives that users copy, print or keep, and its first word."""
         missing = [name for name in ("Clone", "Debug") if name not in self.derived]
         self.derived = set()
-        if missing and tuple(self.tokens[self.at : self.at + 2]) in COPIED:
-            visibility = len(self.left) - len(self.visibility())
-            self.left[visibility:visibility] = words(f"#[derive({', '.join(missing)})]")
+        head = tuple(self.tokens[self.at : self.at + 2])
+        lines = f"#[derive({', '.join(missing)})]" if missing and head in COPIED else ""
+        lines += SERDE if head in KEPT else ""
+        lines += BY.format(CHECKED[head]) if head in CHECKED else ""
+        visibility = len(self.left) - len(self.visibility())
+        self.left[visibility:visibility] = words(lines)
         self.left.append(self.tokens[self.at])
         self.at += 1
 
@@ -173,9 +189,13 @@ class Source:
         return self.left
 
 
-def without_added_lines(text, stem):
+def without_added_lines(text, stem, has_beside):
     """A plain file without the lines that are put in, and what is wrong with these."""
     lines = text.split("\n")
+    if has_beside:
+        if lines[-len(BESIDE) :] != BESIDE:
+            return text, "it doesn't end with what names the file beside it"
+        del lines[-len(BESIDE) :]
     head = {"lib": [NO_STD, EXTERN], "main": [EXTERN]}.get(stem, [])
     found = [line for line in lines if line in (NO_STD, EXTERN)]
     wrong = None if found == head else f"the head is {found}, not {head}"
@@ -207,7 +227,8 @@ def stray_comment(comments, of_source):
 
 def fault_of(source, plain):
     """What is wrong with a plain file, or nothing."""
-    text, wrong = without_added_lines(plain.read_text(encoding="utf-8"), plain.stem)
+    has_beside = plain.name == "lib.rs" and plain.parent.with_name("rust.rs").exists()
+    text, wrong = without_added_lines(plain.read_text(encoding="utf-8"), plain.stem, has_beside)
     if wrong:
         return wrong
     tokens, comments = cut(text)

@@ -3,7 +3,8 @@
     film.py OUT ROM FROM TO >FILM.svg
 
 OUT is the folder that judge.lua wrote into, ROM the bytes of the vector ROM. The film has what was
-drawn from the second FROM to the second TO, twelve pictures a second, and begins anew at its end.
+drawn from the second FROM, or the first picture, to the second TO, twelve pictures a second, and
+begins anew at its end.
 It shows as much of the screen as the emulator does; where less motion is preferred, the first
 picture alone. The program is ./dvg of this repository, or the one that DVG names.
 """
@@ -63,8 +64,12 @@ def main():
     with open(rom_path, 'rb') as file:
         rom = file.read()
     times = times_of(out)
-    if not times or not times[0] <= begin < end:
-        sys.exit('film: the first picture came at %s' % (times[:1] or 'no time'))
+    if not times:
+        sys.exit('film: no picture was drawn')
+    begin = max(begin, times[0])
+    if begin + 1 / RATE > end:
+        sys.exit('film: no picture came before second %g; the first one came at %.2f'
+                 % (end, begin))
     numbers = chosen(times, begin, end)
     print(HEAD.format(percent=100 / len(numbers), seconds=len(numbers) / RATE), end='')
     for place, number in enumerate(numbers):

@@ -3,9 +3,20 @@
 ; left the saucer, right its fire, hyperspace an extra ship, thrust and fire their own, the diagnostic
 ; step a thump, and a struck door an explosion. A start button lights its lamp, and a coin switch
 ; holds its counter. It runs with and without the NMI, so also while the self-test switch is closed.
+;
+; With -D DELUXE=1 it is for Asteroids Deluxe: left, right, shields and fire are the four voices of
+; its POKEY, the step has no sound, and the eight switches that the POKEY reads are shown, too.
 
 .include "dvg.inc"
+.ifdef DELUXE
+.include "deluxe.inc"
+IN_BUTTON_5 = IN_SHIELDS
+POKEY_VOICES = POKEY + 8    ; 0 for four voices
+POKEY_TONE = %10100000      ; a pure tone; bits 3 to 0 how loud
+.else
 .include "asteroids.inc"
+IN_BUTTON_5 = IN_HYPERSPACE
+.endif
 .include "shapes.equates"
 .include "letters.inc"
 
@@ -28,6 +39,13 @@ clear:  sta $00,x           ; clears dvg_phase, too
         bne clear
         .assert DVG_START = 0, error, "a cleared dvg_phase is no DVG_START"
         sta WATCHDOG
+.ifdef DELUXE
+        lda #3                  ; or the POKEY is in its reset
+        sta POKEY_CONTROL
+        lda #0
+        sta POKEY_VOICES
+        sta OUT_BANKS
+.endif
         jsr dvg_reset
         jsr dvg_run
 
@@ -41,6 +59,44 @@ picture:
 nmi:    inc beats
 irq:    rti
 
+.ifdef DELUXE
+
+; A voice of the POKEY is loud as long as its button is held: how low it is, and how loud.
+.macro sounds button, voice, low
+        ldx #0
+        bit button
+        bpl :+
+        ldx #low
+        stx POKEY + 2 * voice
+        ldx #POKEY_TONE | 8
+:       stx POKEY + 2 * voice + 1
+.endmacro
+
+; An output is on while its switch is closed.
+.macro drives switch, output
+        lda switch
+        sta output
+.endmacro
+
+sound:  sounds IN_LEFT, 0, 60
+        sounds IN_RIGHT, 1, 80
+        sounds IN_BUTTON_5, 2, 100
+        sounds IN_FIRE, 3, 120
+        ldx #0
+        bit IN_SLAM
+        bpl bang
+        ldx #EXPLOSION_LOUD
+bang:   stx EXPLOSION
+        drives IN_THRUST, SOUND_THRUST
+        drives IN_START_1, OUT_LAMP_1
+        drives IN_START_2, OUT_LAMP_2
+        drives IN_COIN_LEFT, OUT_COIN_LEFT
+        drives IN_COIN_CENTER, OUT_COIN_CENTER
+        drives IN_COIN_RIGHT, OUT_COIN_RIGHT
+        rts
+
+.else
+
 ; A sound is on as long as its button is held.
 .macro sounds button, address
         lda button
@@ -49,7 +105,7 @@ irq:    rti
 
 sound:  sounds IN_LEFT, SOUND_SAUCER
         sounds IN_RIGHT, SOUND_SAUCER_FIRE
-        sounds IN_HYPERSPACE, SOUND_SHIP
+        sounds IN_BUTTON_5, SOUND_SHIP
         sounds IN_THRUST, SOUND_THRUST
         sounds IN_FIRE, SOUND_FIRE
         ldx #0
@@ -81,6 +137,8 @@ bang:   stx EXPLOSION
         eor #OUT_LAMP_2 | OUT_LAMP_1
         sta OUTPUTS
         rts
+
+.endif
 
 draw:   jsr dvg_open
         say at_grid
@@ -132,13 +190,31 @@ put:    tay
         lsr a
         tay
         jsr put_letter
+.ifdef DELUXE
+        say pokey
+        lda POKEY_SWITCHES
+        sta outputs
+        lda #8
+        sta which
+bit_:   lda #0
+        asl outputs
+        rol a
+        tay
+        jsr put_letter
+        dec which
+        bne bit_
+.endif
         jmp dvg_close
 
 .segment "DATA"
 
-.define BUTTONS IN_CLOCK, IN_LEFT, IN_RIGHT, IN_THRUST, IN_FIRE, IN_HYPERSPACE, IN_START_1
+.define BUTTONS IN_CLOCK, IN_LEFT, IN_RIGHT, IN_THRUST, IN_FIRE, IN_BUTTON_5, IN_START_1
 .define OTHERS IN_START_2, IN_COIN_LEFT, IN_COIN_CENTER, IN_COIN_RIGHT, IN_SLAM, IN_STEP, IN_TEST
+.ifdef DELUXE
+.define PAIRS SWITCHES_BONUS, SWITCHES_DIFFICULTY, SWITCHES_SHIPS, SWITCHES_LANGUAGE
+.else
 .define PAIRS SWITCHES_COINAGE, SWITCHES_RIGHT, SWITCHES_SHIPS, SWITCHES_LANGUAGE
+.endif
 .define BUTTON_LINES clock, left, right, thrust, fire, hyperspace, start_1
 .define OTHER_LINES start_2, coin_left, coin_center, coin_right, slam, step, self_test
 .define PAIR_LINES pair_87, pair_65, pair_43, pair_21
@@ -172,7 +248,12 @@ left:           line_at 40, 822, 15, "LEFT "
 right:          line_at 40, 794, 15, "RIGHT "
 thrust:         line_at 40, 766, 15, "THRUST "
 fire:           line_at 40, 738, 15, "FIRE "
+.ifdef DELUXE
+hyperspace:     line_at 40, 710, 15, "SHIELDS "
+pokey:          line_at 290, 738, 15, "POKEY "
+.else
 hyperspace:     line_at 40, 710, 15, "HYPER "
+.endif
 start_1:        line_at 40, 682, 15, "START 1 "
 start_2:        line_at 40, 654, 15, "START 2 "
 coin_left:      line_at 40, 626, 15, "COIN L "

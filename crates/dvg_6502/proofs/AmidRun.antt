@@ -2,8 +2,8 @@
 use Rattle.std.proofs.Common.{◌≡◌, ℕ, zero, suc, inl, inr, ◌+◌, ◌/◌, ◌%◌, Bool, true, false, not, List, [], ◌∷◌, refl, sym}
 use Rattle.std.proofs.Common.{ap, ◌∙◌, subst, arith, eqb-true, eq-eqb}
 use Rattle.std.specs.Prelude.{nat_eq, ◌&&◌, ◌||◌, ◌⊎◌, if◌then◌else◌}
-use Rattle.dvg_6502.specs.Processor.{Cpu, Instr, Mode, Immediate, ZeroPage, Absolute, IndirectIndexed, Load, Store}
-use Rattle.dvg_6502.specs.Processor.{Transfer, And, Or, Xor, Compare, TestBits, Change, Step, ShiftLeft, RotateLeft}
+use Rattle.dvg_6502.specs.Processor.{Cpu, Instr, Mode, Immediate, ZeroPage, ZeroPageX, Absolute, IndirectIndexed, Load}
+use Rattle.dvg_6502.specs.Processor.{Store, Transfer, And, Or, Xor, Compare, TestBits, Change, Step, ShiftLeft, RotateLeft}
 use Rattle.dvg_6502.specs.Processor.{ShiftLeftA, ShiftRightA, SetCarry, Branch, Jump, Call, Return, Unknown}
 use Rattle.dvg_6502.specs.Processor.{Register, A, X, Y, put, decoded, opcodes, does, stack_place, step, turn, run, at_return}
 use Rattle.dvg_6502.specs.Processor.{reading, setting}
@@ -33,6 +33,7 @@ set_s Y v k = refl
 read_s : (mode : Mode) (cpu : Cpu) → (reading mode cpu).s ≡ cpu.s
 read_s Immediate cpu = refl
 read_s ZeroPage cpu = refl
+read_s ZeroPageX cpu = refl
 read_s Absolute cpu = refl
 read_s IndirectIndexed cpu = refl
 
@@ -45,7 +46,7 @@ s_stays (Or mode) cpu is = read_s mode cpu
 s_stays (Xor mode) cpu is = read_s mode cpu
 s_stays (Compare r mode) cpu is = read_s mode cpu
 s_stays (TestBits mode) cpu is = read_s mode cpu
-s_stays (Change by) cpu is = refl
+s_stays (Change mode by) cpu is = read_s mode cpu
 s_stays (Step r by) cpu is = set_s r _ (record cpu { pc = cpu.pc + 1 })
 s_stays ShiftLeft cpu is = refl
 s_stays RotateLeft cpu is = refl
@@ -157,7 +158,7 @@ module _ (kept : ℕ → Bool) (s : ℕ) (cpu : Cpu) (m : ℕ → ℕ)
   grows (Xor mode) = flat (Xor mode) refl
   grows (Compare r mode) = flat (Compare r mode) refl
   grows (TestBits mode) = flat (TestBits mode) refl
-  grows (Change by) = flat (Change by) refl
+  grows (Change mode by) = flat (Change mode by) refl
   grows (Step r by) = flat (Step r by) refl
   grows ShiftLeft = flat ShiftLeft refl
   grows RotateLeft = flat RotateLeft refl

@@ -2,10 +2,10 @@
 use Rattle.std.proofs.Common.{◌≡◌, ℕ, ◌+◌, ◌-◌, ◌*◌, ◌/◌, ◌%◌, Bool, List, [], ◌∷◌, refl, sym}
 use Rattle.std.proofs.Common.{ap, ◌∙◌}
 use Rattle.std.specs.Prelude.{nat_eq, nat_le, if◌then◌else◌, bit_and, bit_or, bit_xor}
-use Rattle.dvg_6502.specs.Processor.{Cpu, Instr, Mode, Immediate, ZeroPage, Absolute, IndirectIndexed, Load, Store}
-use Rattle.dvg_6502.specs.Processor.{Transfer, And, Or, Xor, Compare, TestBits, Change, Step, ShiftLeft, RotateLeft}
+use Rattle.dvg_6502.specs.Processor.{Cpu, Instr, Mode, Immediate, ZeroPage, ZeroPageX, Absolute, IndirectIndexed, Load}
+use Rattle.dvg_6502.specs.Processor.{Store, Transfer, And, Or, Xor, Compare, TestBits, Change, Step, ShiftLeft, RotateLeft}
 use Rattle.dvg_6502.specs.Processor.{ShiftLeftA, ShiftRightA, SetCarry, Branch, Jump, Call, Return, Unknown}
-use Rattle.dvg_6502.specs.Processor.{Register, A, X, Y, Flag, Negative, Zero, Carry, Reads, put}
+use Rattle.dvg_6502.specs.Processor.{Register, A, X, Y, Flag, Negative, Zero, Carry, Overflow, Reads, put}
 use Rattle.dvg_6502.specs.Processor.{decoded, opcodes, address, operand, found, flags_after, reading, reads, writing}
 use Rattle.dvg_6502.specs.Processor.{setting, telling, carrying, next, size, of_register, of_flag, does, stack_place, step}
 use Rattle.dvg_6502.specs.Processor.{flag_place, is_so, target, changing, bit_of}
@@ -35,6 +35,7 @@ module _ (cpu : Cpu) (m : ℕ → ℕ) where
   address_same : (mode : Mode) → Agree m cpu.mem (naming mode cpu) → address mode it ≡ address mode cpu
   address_same Immediate e = refl
   address_same ZeroPage e = e.0
+  address_same ZeroPageX e = ap (λ b. (b + cpu.x) % 256) e.0
   address_same Absolute e = ap (λ l. l + 256 * m (cpu.pc + 2)) e.0 ∙ ap (λ h. cpu.mem (cpu.pc + 1) + 256 * h) e.1.0
   address_same IndirectIndexed e =
       ap (λ zp. (m zp + 256 * m ((zp + 1) % 256) + cpu.y) % 65536) e.0
@@ -47,6 +48,7 @@ module _ (cpu : Cpu) (m : ℕ → ℕ) where
   operand_same : (mode : Mode) → Agree m cpu.mem (named mode cpu) → operand mode it ≡ operand mode cpu
   operand_same Immediate e = e.0
   operand_same ZeroPage e = ap (λ p. found p it) (address_same ZeroPage e.1) ∙ found_same (address ZeroPage cpu) e.0
+  operand_same ZeroPageX e = ap (λ p. found p it) (address_same ZeroPageX e.1) ∙ found_same (address ZeroPageX cpu) e.0
   operand_same Absolute e = ap (λ p. found p it) (address_same Absolute e.1) ∙ found_same (address Absolute cpu) e.0
   operand_same IndirectIndexed e = ap (λ p. found p it) (address_same IndirectIndexed e.1)
       ∙ found_same (address IndirectIndexed cpu) e.0
@@ -58,6 +60,7 @@ module _ (cpu : Cpu) (m : ℕ → ℕ) where
   reading_same : (mode : Mode) → Agree m cpu.mem (named mode cpu) → reading mode it ≡ changed m (reading mode cpu)
   reading_same Immediate e = refl
   reading_same ZeroPage e = ap (next 2) (reads_same _ _ (address_same ZeroPage e.1) e.0)
+  reading_same ZeroPageX e = ap (next 2) (reads_same _ _ (address_same ZeroPageX e.1) e.0)
   reading_same Absolute e = ap (next 3) (reads_same _ _ (address_same Absolute e.1) e.0)
   reading_same IndirectIndexed e = ap (next 2) (reads_same _ _ (address_same IndirectIndexed e.1) e.0)
 
@@ -78,6 +81,7 @@ module _ (cpu : Cpu) (m : ℕ → ℕ) where
   of_flag_same Negative = refl
   of_flag_same Zero = refl
   of_flag_same Carry = refl
+  of_flag_same Overflow = refl
 
   -- what writes nothing
   quiet : (after other : Cpu) → other ≡ changed m after → after.mem ≡ cpu.mem → Same cpu after other m
@@ -95,6 +99,7 @@ module _ (cpu : Cpu) (m : ℕ → ℕ) where
   reading_kept : (mode : Mode) → (reading mode cpu).mem ≡ cpu.mem
   reading_kept Immediate = refl
   reading_kept ZeroPage = refl
+  reading_kept ZeroPageX = refl
   reading_kept Absolute = refl
   reading_kept IndirectIndexed = refl
 
@@ -147,27 +152,36 @@ module _ (cpu : Cpu) (m : ℕ → ℕ) where
       (ap (λ p. next (size mode) (writing p (of_register r it) it)) (address_same mode e)
       ∙ ap (λ v. next (size mode) (writing (address mode cpu) v it)) (of_register_same r)) refl
 
-  -- a byte of the zero page is changed
-  change_as : (v w : ℕ) → v ≡ w → Agree m cpu.mem (named ZeroPage cpu)
-      → changing v it ≡ changed (put (address ZeroPage cpu) w m) (changing w cpu)
-  change_as v w vs e =
-      ap (λ v. changing v it) vs
-      ∙ ap (λ p. telling w (writing p w (reading ZeroPage it))) (address_same ZeroPage e.1)
-      ∙ ap (λ k. telling w (writing (address ZeroPage cpu) w k)) (reading_same ZeroPage e)
+  naming_same : (mode : Mode) → Agree m cpu.mem (named mode cpu) → Agree m cpu.mem (naming mode cpu)
+  naming_same Immediate e = tt
+  naming_same ZeroPage e = e.1
+  naming_same ZeroPageX e = e.1
+  naming_same Absolute e = e.1
+  naming_same IndirectIndexed e = e.1
 
-  change_same : (by : ℕ) → Ok (Change by)
-  change_same by e = writes _ _ (address ZeroPage cpu) ((operand ZeroPage cpu + by) % 256)
-      (change_as _ _ (ap (λ o. (o + by) % 256) (operand_same ZeroPage e)) e) refl
+  -- a byte is changed
+  change_as : (mode : Mode) (v w : ℕ) → v ≡ w → Agree m cpu.mem (named mode cpu)
+      → changing mode v it ≡ changed (put (address mode cpu) w m) (changing mode w cpu)
+  change_as mode v w vs e =
+      ap (λ v. changing mode v it) vs
+      ∙ ap (λ p. telling w (writing p w (reading mode it))) (address_same mode (naming_same mode e))
+      ∙ ap (λ k. telling w (writing (address mode cpu) w k)) (reading_same mode e)
+      ∙ sym (ap (λ (k : ℕ → ℕ). changed (put (address mode cpu) w m) (changing mode w cpu)) (reading_kept mode))
+
+  change_same : (mode : Mode) (by : ℕ) → Ok (Change mode by)
+  change_same mode by e = writes _ _ (address mode cpu) ((operand mode cpu + by) % 256)
+      (change_as mode _ _ (ap (λ o. (o + by) % 256) (operand_same mode e)) e)
+      (ap (put (address mode cpu) ((operand mode cpu + by) % 256)) (reading_kept mode))
 
   shift_same : Ok ShiftLeft
   shift_same e = writes _ _ (address ZeroPage cpu) (2 * operand ZeroPage cpu % 256)
-      (ap (λ o. carrying (nat_le 128 o) (changing (2 * o % 256) it)) (operand_same ZeroPage e)
-      ∙ ap (carrying (nat_le 128 (operand ZeroPage cpu))) (change_as _ _ refl e)) refl
+      (ap (λ o. carrying (nat_le 128 o) (changing ZeroPage (2 * o % 256) it)) (operand_same ZeroPage e)
+      ∙ ap (carrying (nat_le 128 (operand ZeroPage cpu))) (change_as ZeroPage _ _ refl e)) refl
 
   rotate_same : Ok RotateLeft
   rotate_same e = writes _ _ (address ZeroPage cpu) ((2 * operand ZeroPage cpu + bit_of cpu.c) % 256)
-      (ap (λ o. carrying (nat_le 128 o) (changing ((2 * o + bit_of cpu.c) % 256) it)) (operand_same ZeroPage e)
-      ∙ ap (carrying (nat_le 128 (operand ZeroPage cpu))) (change_as _ _ refl e)) refl
+      (ap (λ o. carrying (nat_le 128 o) (changing ZeroPage ((2 * o + bit_of cpu.c) % 256) it)) (operand_same ZeroPage e)
+      ∙ ap (carrying (nat_le 128 (operand ZeroPage cpu))) (change_as ZeroPage _ _ refl e)) refl
 
   transfer_same : (r t : Register) → Ok (Transfer r t)
   transfer_same r t e = quiet _ _ (set_same t _ _ (next 1 it) (next 1 cpu) (of_register_same r) refl) (set_kept t _ (next 1 cpu))
@@ -214,7 +228,7 @@ module _ (cpu : Cpu) (m : ℕ → ℕ) where
   does_same (Xor mode) = xor_same mode
   does_same (Compare r mode) = compare_same r mode
   does_same (TestBits mode) = bits_same mode
-  does_same (Change by) = change_same by
+  does_same (Change mode by) = change_same mode by
   does_same (Step r by) = step_same r by
   does_same ShiftLeft = shift_same
   does_same RotateLeft = rotate_same

@@ -14,8 +14,8 @@ use Rattle.dvg_driver.specs.Stands.{byte1_of}
 use Rattle.dvg_6502.specs.Processor.{Cpu, run, at_return}
 use Rattle.dvg_6502.specs.Board.{seen, goal_in}
 use Rattle.dvg_6502.specs.Holds.{HoldsPlace, IsFeeding}
-use Rattle.dvg_6502.specs.Routines.{Enters, Part, Put, Pair, Labs, begins, put_by}
-use Rattle.dvg_6502.specs.Calls.{Puts, Close, AreShown, Brings, put_on}
+use Rattle.dvg_6502.specs.Routines.{Enters, Part, Put, Pair, Labs, Vector, begins, put_by}
+use Rattle.dvg_6502.specs.Calls.{Puts, Close, AreShown, Brings, IsRoomFor, put_on}
 use Rattle.dvg_6502.specs.Build.{IsBuilding, put_items, written}
 use Rattle.dvg_6502.proofs.Running.{returned}
 use Rattle.dvg_6502.proofs.Memory.{both_true}
@@ -26,7 +26,9 @@ use Rattle.dvg_6502.proofs.Going.{GoesTo, append_items, finish}
 use Rattle.dvg_6502.proofs.BuildScript.{builds_script}
 use Rattle.dvg_6502.proofs.Building.{BuildsSo, goal_is, goal_low, put_steadily}
 use Rattle.dvg_6502.proofs.Closing.{ClosesSo, pair_steadily, labs_steadily, close_steadily}
-use Rattle.dvg_6502.proofs.Refusing.{Refuses, puts_refused, puts_full, last_of, close_refused}
+use Rattle.dvg_6502.proofs.Refusing.{Refuses, put_refused, pair_refused, labs_refused, full_put, full_pair, full_labs}
+use Rattle.dvg_6502.proofs.Refusing.{close_refused}
+use Rattle.dvg_6502.proofs.VectorBuilds.{vector_steadily, refuses_so, no_vector, not_building_vector, full_vector}
 use Rattle.dvg_6502.proofs.Built.{Built, holds_in, place_now, holds_on}
 
 -- a call to its end: its steps go on a life, and it returns with this C; then this frame is being built, if any
@@ -156,49 +158,87 @@ module _ (cpu : Cpu) (begin stop count : ℕ) (now more : List ℕ) (life : List
   }
 
 part_builds : (part : Part) (cpu : Cpu) (half : Half) (flipped : Bool) (more : List ℕ) → Enters cpu (begins part)
-    → IsBuilding cpu.mem half flipped (put_by part cpu ++ more) → 2 ≤ length more
+    → 1 ≤ length (put_by part cpu) → IsBuilding cpu.mem half flipped (put_by part cpu ++ more) → 2 ≤ length more
     → BuildsSo cpu half flipped (put_by part cpu) more
-part_builds Put cpu half flipped more enters building some = put_steadily cpu half flipped more enters building some
-part_builds Pair cpu half flipped more enters building some = pair_steadily cpu half flipped more enters building some
-part_builds Labs cpu half flipped more enters building some = labs_steadily cpu half flipped more enters building some
+part_builds Put cpu half flipped more enters any building some = put_steadily cpu half flipped more enters building some
+part_builds Pair cpu half flipped more enters any building some = pair_steadily cpu half flipped more enters building some
+part_builds Labs cpu half flipped more enters any building some = labs_steadily cpu half flipped more enters building some
+part_builds Vector cpu half flipped more enters any building some =
+    (vector_steadily cpu enters half flipped more some any building).0
 
--- where there is no room, the last page is full
-no_room : (part : Part) (cpu : Cpu) (pages place left : ℕ) → place < 256 → place % 2 ≡ 0 → 2 ≤ left
-    → 256 * pages + place + left ≤ 1024 → 1022 < 256 * pages + place + length (put_by part cpu)
-    → (nat_le 3 pages ≡ true) × (nat_le (last_of part) place ≡ true)
-no_room Put cpu pages place left small even some fits above =
-    (le-leb 3 pages (omega (arith, small, above)), le-leb 0xFE place (omega (arith, small, even, some, fits, above)))
-no_room Pair cpu pages place left small even some fits above =
-    (le-leb 3 pages (omega (arith, small, above)), le-leb 0xFC place (omega (arith, small, even, some, fits, above)))
-no_room Labs cpu pages place left small even some fits above =
-    (le-leb 3 pages (omega (arith, small, above)), le-leb 0xFC place (omega (arith, small, even, some, fits, above)))
+-- no frame is being built
+part_refused : (part : Part) (cpu : Cpu) → Enters cpu (begins part) → nat_eq (cpu.mem 0x10) 7 ≡ false → Refuses cpu
+part_refused Put cpu enters other = put_refused cpu enters other
+part_refused Pair cpu enters other = pair_refused cpu enters other
+part_refused Labs cpu enters other = labs_refused cpu enters other
+part_refused Vector cpu enters other = refuses_so cpu enters (not_building_vector cpu enters other)
 
--- a call that puts a part: no frame is being built, it has room, or it is full
+-- it puts nothing
+part_nothing : (part : Part) (cpu : Cpu) → Enters cpu (begins part) → length (put_by part cpu) < 1 → Refuses cpu
+part_nothing Put cpu enters none = absurd (omega (arith, none))
+part_nothing Pair cpu enters none = absurd (omega (arith, none))
+part_nothing Labs cpu enters none = absurd (omega (arith, none))
+part_nothing Vector cpu enters none = refuses_so cpu enters (no_vector cpu enters (empty (put_by Vector cpu) none))
+  where
+    empty : (l : List ℕ) → length l < 1 → l ≡ []
+    empty [] less = refl
+    empty (b ∷ l) less = absurd (omega (arith, less))
+
+-- there is no room: the last page is full
+part_full : (part : Part) (cpu : Cpu) (left : ℕ) → Enters cpu (begins part) → cpu.mem 0x10 ≡ 7 → cpu.mem 0x13 % 2 ≡ 0
+    → 2 ≤ left → 256 * cpu.mem 0x16 + cpu.mem 0x13 + left ≤ 1024
+    → 1022 < 256 * cpu.mem 0x16 + cpu.mem 0x13 + length (put_by part cpu) → Refuses cpu
+part_full Put cpu left enters phase even some fits above =
+    let small = enters.loaded.bytes 0x13 in
+    full_put cpu enters phase (le-leb 3 (cpu.mem 0x16) (omega (arith, small, above)))
+    (le-leb 0xFE (cpu.mem 0x13) (omega (arith, small, even, some, fits, above)))
+part_full Pair cpu left enters phase even some fits above =
+    let small = enters.loaded.bytes 0x13 in
+    full_pair cpu enters phase (le-leb 3 (cpu.mem 0x16) (omega (arith, small, above)))
+    (le-leb 0xFC (cpu.mem 0x13) (omega (arith, small, even, some, fits, above)))
+part_full Labs cpu left enters phase even some fits above =
+    let small = enters.loaded.bytes 0x13 in
+    full_labs cpu enters phase (le-leb 3 (cpu.mem 0x16) (omega (arith, small, above)))
+    (le-leb 0xFC (cpu.mem 0x13) (omega (arith, small, even, some, fits, above)))
+part_full Vector cpu left enters phase even some fits above =
+    refuses_so cpu enters (full_vector cpu enters left phase even some fits above)
+
+-- a call that puts a part: no frame is being built, there is room, or there is none
 pub puts_none : (part : Part) (cpu : Cpu) (begin stop : ℕ) (life : List Item) → Enters cpu (begins part)
     → Stood cpu.mem begin stop life → Ended cpu begin stop true None life
 puts_none part cpu begin stop life enters stood = refused_ends cpu begin stop None life enters.log
-    (puts_refused part cpu enters (not_building cpu.mem begin stop life stood)) stood
+    (part_refused part cpu enters (not_building cpu.mem begin stop life stood)) stood
 
 pub puts_room : (part : Part) (cpu : Cpu) (begin stop : ℕ) (frame : ℕ × List ℕ) (more : List ℕ) (life : List Item)
-    → Enters cpu (begins part) → Built cpu.mem frame life → frame.1 ≡ put_by part cpu ++ more → 2 ≤ length more
+    → Enters cpu (begins part) → 1 ≤ length (put_by part cpu) → Built cpu.mem frame life
+    → frame.1 ≡ put_by part cpu ++ more → 2 ≤ length more
     → Ended cpu begin stop false (put_on (put_by part cpu) (Some frame)) life
-puts_room part cpu begin stop frame more life enters built is some =
+puts_room part cpu begin stop frame more life enters any built is some =
     let built' : Built cpu.mem (frame.0, put_by part cpu ++ more) life =
     subst (λ l. Built cpu.mem (frame.0, l) life) is built in
     subst (λ l. Ended cpu begin stop false (Some (frame.0 + length (put_by part cpu), l)) life)
     (sym (ap (drop (length (put_by part cpu))) is ∙ drop-append_seam (put_by part cpu) more))
     (put_ends cpu begin stop frame.0 (put_by part cpu) more life enters.log built'
-    (part_builds part cpu built'.half built'.flipped more enters built'.building some))
+    (part_builds part cpu built'.half built'.flipped more enters any built'.building some))
 
 pub puts_over : (part : Part) (cpu : Cpu) (begin stop : ℕ) (frame : ℕ × List ℕ) (life : List Item)
-    → Enters cpu (begins part) → Built cpu.mem frame life → 1020 < frame.0 + length (put_by part cpu)
+    → Enters cpu (begins part) → Built cpu.mem frame life → (IsRoomFor part cpu frame.0 → ⊥)
     → Ended cpu begin stop true (Some frame) life
-puts_over part cpu begin stop frame life enters built above =
-    let put = built.put in
-    let full = no_room part cpu (cpu.mem 0x16) (cpu.mem 0x13) (length frame.1) (built.loaded.bytes 0x13)
-    built.building.even built.building.some built.building.fits (omega (arith, above, put)) in
-    refused_ends cpu begin stop (Some frame) life enters.log
-    (puts_full part cpu enters built.building.phase full.0 full.1) built
+puts_over part cpu begin stop frame life enters built none =
+    refused_ends cpu begin stop (Some frame) life enters.log (by (nat_le 1 width) refl) built
+  where
+    width : ℕ
+    width = length (put_by part cpu)
+
+    by : (t : Bool) → nat_le 1 width ≡ t → Refuses cpu
+    by false is = part_nothing part cpu enters (leb-false 1 width is)
+    by true is = full (nat_le (frame.0 + width) 1020) refl
+      where
+        full : (t : Bool) → nat_le (frame.0 + width) 1020 ≡ t → Refuses cpu
+        full true less = absurd (none (leb-true 1 width is, leb-true (frame.0 + width) 1020 less))
+        full false more = let above = leb-false (frame.0 + width) 1020 more in let put = built.put in
+            part_full part cpu (length frame.1) enters built.building.phase built.building.even built.building.some
+            built.building.fits (omega (arith, above, put))
 
 -- its end, with the frame that is left
 abbrev pub Ends : (cpu : Cpu) (begin stop : ℕ) (taken frame : Option (ℕ × List ℕ)) (life : List Item) → Type 0
@@ -209,16 +249,25 @@ pub puts_end : (part : Part) (cpu : Cpu) (begin stop : ℕ) (frame : Option (ℕ
     → Ends cpu begin stop (put_on (put_by part cpu) frame) frame life
 puts_end part cpu begin stop None life enters brings stood = (true, puts_none part cpu begin stop life enters stood)
 puts_end part cpu begin stop (Some frame) life enters brings built =
-    by (nat_le (frame.0 + length (put_by part cpu)) 1020) refl
+    by (nat_le 1 (length (put_by part cpu))) refl (nat_le (frame.0 + length (put_by part cpu)) 1020) refl
   where
-    by : (t : Bool) → nat_le (frame.0 + length (put_by part cpu)) 1020 ≡ t
+    by : (t : Bool) → nat_le 1 (length (put_by part cpu)) ≡ t
+        → (u : Bool) → nat_le (frame.0 + length (put_by part cpu)) 1020 ≡ u
         → Ends cpu begin stop (put_on (put_by part cpu) (Some frame)) (Some frame) life
-    by true is =
-        let next = brings (leb-true (frame.0 + length (put_by part cpu)) 1020 is) in
-        (false, puts_room part cpu begin stop frame next.0 life enters built next.1 next.2)
-    by false is = (
+    by true is true less =
+        let any = leb-true 1 (length (put_by part cpu)) is in
+        let next = brings (any, leb-true (frame.0 + length (put_by part cpu)) 1020 less) in
+        (false, puts_room part cpu begin stop frame next.0 life enters any built next.1 next.2)
+    by false is u less = (
       true,
-      puts_over part cpu begin stop frame life enters built (leb-false (frame.0 + length (put_by part cpu)) 1020 is),
+      puts_over part cpu begin stop frame life enters built
+          (λ room. let none = leb-false 1 (length (put_by part cpu)) is in let some = room.0 in absurd (omega (arith, none, some))),
+    )
+    by true is false more = (
+      true,
+      puts_over part cpu begin stop frame life enters built
+          (λ room. let above = leb-false (frame.0 + length (put_by part cpu)) 1020 more in
+          let less = room.1 in absurd (omega (arith, above, less))),
     )
 
 -- the HALT

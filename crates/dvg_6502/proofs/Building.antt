@@ -1,18 +1,18 @@
 -- What dvg_put does, by the frame that is being built.
 use Rattle.std.proofs.Common.{◌≡◌, ℕ, suc, ◌+◌, ◌*◌, ◌%◌, ◌<◌, ◌≤◌, Bool, true, false, List, [], ◌∷◌, length}
-use Rattle.std.proofs.Common.{refl, sym, ap, ◌∙◌, subst, arith, leb-true, eqb-true}
+use Rattle.std.proofs.Common.{refl, sym, ap, ◌∙◌, subst, arith, leb-true, le-leb, eqb-true}
 use Rattle.std.proofs.lemmas.Bool.{eqb-false, ne_eqb}
-use Rattle.std.specs.Prelude.{nat_eq, nat_le, if◌then◌else◌}
+use Rattle.std.specs.Prelude.{nat_eq, nat_le, nat_lt, if◌then◌else◌, slice_index, ◌-◌}
 use Rattle.dvg_mem.specs.declared.half.Half.{Half}
 use Rattle.dvg_mem.specs.declared.half.Half.TheVariants.{H0, H1}
 use Rattle.dvg_mem.specs.Areas.{base, other}
-use Rattle.dvg_6502.specs.Processor.{Cpu, Writes, put, run}
-use Rattle.dvg_6502.specs.Code.{dvg_put}
-use Rattle.dvg_6502.specs.Board.{IsLoaded, goal_in}
+use Rattle.dvg_6502.specs.Processor.{Cpu, Access, Writes, put, run}
+use Rattle.dvg_6502.specs.Code.{code, dvg_put}
+use Rattle.dvg_6502.specs.Board.{IsLoaded, seen, goal_in, is_own, is_ram}
 use Rattle.dvg_6502.specs.Routines.{Enters}
 use Rattle.dvg_6502.specs.Build.{IsBuilding, Builds, PutTakes}
 use Rattle.dvg_6502.proofs.Running.{Comes, at, returned}
-use Rattle.dvg_6502.proofs.Memory.{AreSmall, page_in, laid, page_of, loaded, put_small, in_page, in_code, state_is}
+use Rattle.dvg_6502.proofs.Memory.{AreSmall, page_in, laid, page_of, loaded, put_small, in_page, in_code, state_is, known, same_out}
 use Rattle.dvg_6502.proofs.StoredByte.{carried}
 use Rattle.dvg_6502.proofs.TableTick.{in_ram, carried_small}
 use Rattle.dvg_6502.proofs.Alike.{alike_if, Keeping}
@@ -29,6 +29,24 @@ builds_so cpu half flipped now rest did keeping = (did, keeping)
 pub base_low : (half : Half) → (1 ≤ base half) × (base half ≤ 0x201)
 base_low H0 = (omega arith, omega arith)
 base_low H1 = (omega arith, omega arith)
+
+-- a write of the vector RAM changes no other byte
+pub put_far : (p v : ℕ) (m : ℕ → ℕ) (b : ℕ) → is_ram b ≡ false → 0x4002 ≤ p → p < 0x4800 → put p v m b ≡ m b
+put_far p v m b ram low high = ap (λ (t : Bool). if t then v else m b)
+    (ne_eqb b p (λ same. absurd (let in_it : is_ram b ≡ true = subst (λ k. is_ram k ≡ true) (sym same) there in cc)))
+  where
+    there : is_ram p ≡ true
+    there =
+        let first : nat_le 0x4000 p ≡ true = le-leb 0x4000 p (omega (arith, low)) in
+        let last : nat_lt p 0x4800 ≡ true = le-leb (suc p) 0x4800 (omega (arith, high)) in
+        rw (first, last) refl
+
+-- but for the driver's bytes, what is laid over a memory is that memory
+pub laid_out : (page : List ℕ) (new mem : ℕ → ℕ) → IsLoaded mem → (b : ℕ) → is_own b ≡ false → new b ≡ mem b
+    → laid page new b ≡ mem b
+laid_out page new mem load b own same =
+    ap (λ k. if in_page b then slice_index page (b - 0x10) else if in_code b then slice_index code (b - 0x6800) else k) same
+    ∙ same_out page (page_in mem) mem b own ∙ sym (ap (λ (m : ℕ → ℕ). m b) (known mem load))
 
 -- where the frame goes on
 module _ (mem : ℕ → ℕ) (half : Half) (flipped : Bool) (rest : List ℕ) (load : IsLoaded mem)
@@ -72,7 +90,7 @@ on_word half place pages t1 len false small even page fits wraps =
         by true is = let e = eqb-true place 254 is in absurd (open_yet (omega (arith, e)))
         by false is = let e = eqb-false place 254 is in omega (arith, e, small, even)
 
-module _ (a x y s : ℕ) (n z c v : Bool) (mem flags : ℕ → ℕ) (load : IsLoaded mem) (a_small : a < 256)
+module _ (a x y s : ℕ) (n z c v : Bool) (mem flags : ℕ → ℕ) (log : List Access) (load : IsLoaded mem) (a_small : a < 256)
     (x_small : x < 256) (half : Half) (flipped : Bool) (rest : List ℕ)
     (building : IsBuilding mem half flipped (a ∷ x ∷ rest)) (more : 2 ≤ length rest) where
   abbrev place : ℕ
@@ -94,7 +112,7 @@ module _ (a x y s : ℕ) (n z c v : Bool) (mem flags : ℕ → ℕ) (load : IsLo
   abbrev from : ℕ → Cpu
   from phase = at 0x6957 a x y s n z c v
       (laid (page_of phase (mem 0x11) (mem 0x12) place (mem 0x14) (mem 0x15) (mem 0x16) (mem 0x17) (mem 0x18) (mem 0x19)
-      (mem 0x1A)) mem) flags []
+      (mem 0x1A)) mem) flags log
 
   low : 0x4002 ≤ goal
   low = goal_low mem half flipped (a ∷ x ∷ rest) load building
@@ -123,14 +141,14 @@ module _ (a x y s : ℕ) (n z c v : Bool) (mem flags : ℕ → ℕ) (load : IsLo
   room true false is also = refl
   room false late is also = refl
 
-  comes : Comes s (from 7) s false (laid page (put (suc goal) x (put goal a mem))) (Writes (suc goal) x ∷ Writes goal a ∷ [])
-      []
+  pub comes : Comes s (from 7) s false (laid page (put (suc goal) x (put goal a mem)))
+      (Writes (suc goal) x ∷ Writes goal a ∷ seen log) []
   comes = subst (λ p. Comes s (from 7) s false (laid page (put (suc goal) x (put p a mem)))
-      (Writes (suc goal) x ∷ Writes p a ∷ []) []) to0_is
-      (subst (λ p. Comes s (from 7) s false (laid page (put p x (put to0 a mem))) (Writes p x ∷ Writes to0 a ∷ []) [])
+      (Writes (suc goal) x ∷ Writes p a ∷ seen log) []) to0_is
+      (subst (λ p. Comes s (from 7) s false (laid page (put p x (put to0 a mem))) (Writes p x ∷ Writes to0 a ∷ seen log) [])
       to1_is
       (put_room s a x y s n z c v (mem 0x11) (mem 0x12) place (mem 0x14) (mem 0x15) (mem 0x16) (mem 0x17) (mem 0x18)
-      (mem 0x19) (mem 0x1A) mem flags []
+      (mem 0x19) (mem 0x1A) mem flags log
       (ap in_page to0_is ∙ ram0.0) (ap in_code to0_is ∙ ram0.1) (ap (nat_le 0x200) to0_is ∙ ram0.2)
       (ap in_page to1_is ∙ ram1.0) (ap in_code to1_is ∙ ram1.1) (ap (nat_le 0x200) to1_is ∙ ram1.2)
       wrap refl (nat_le 3 (mem 0x16)) (nat_le 0xFE place) refl refl
@@ -172,7 +190,7 @@ module _ (a x y s : ℕ) (n z c v : Bool) (mem flags : ℕ → ℕ) (load : IsLo
   abbrev final : ℕ → ℕ
   final = laid page (put (suc goal) x (put goal a mem))
 
-  built : IsBuilding final half flipped rest
+  pub built : IsBuilding final half flipped rest
   built = record {
     phase = refl;
     free = building.free;
@@ -185,24 +203,35 @@ module _ (a x y s : ℕ) (n z c v : Bool) (mem flags : ℕ → ℕ) (load : IsLo
     fits = let f = building.fits in omega (arith, moved.1, f);
   }
 
-  byte1 : final 0x4001 ≡ mem 0x4001
+  pub byte1 : final 0x4001 ≡ mem 0x4001
   byte1 = ap (λ (t : Bool). if t then x else put goal a mem 0x4001)
       (ne_eqb 0x4001 (suc goal) (λ same. absurd (omega (arith, same, low))))
       ∙ ap (λ (t : Bool). if t then a else mem 0x4001) (ne_eqb 0x4001 goal (λ same. absurd (omega (arith, same, low))))
 
-  builds : BuildsSo (from 7) half flipped (a ∷ x ∷ []) rest
-  builds = (
+  pub new_loaded : IsLoaded final
+  new_loaded = loaded page (put (suc goal) x (put goal a mem)) page_small
+      (put_small (suc goal) x (put goal a mem) x_small (put_small goal a mem a_small load.bytes))
+
+  pub moved_on : goal_in final ≡ goal + 2
+  moved_on = omega (arith, moved.3)
+
+  pub kept : (b : ℕ) → is_own b ≡ false → is_ram b ≡ false → final b ≡ mem b
+  kept b own ram = laid_out page (put (suc goal) x (put goal a mem)) mem load b own
+      (put_far (suc goal) x (put goal a mem) b ram (omega (arith, low)) (omega (arith, high, more))
+      ∙ put_far goal a mem b ram low (omega (arith, high)))
+
+  builds : seen log ≡ [] → BuildsSo (from 7) half flipped (a ∷ x ∷ []) rest
+  builds quiet = (
     record {
       steps = comes.steps;
       returns = returned s (run s comes.steps (from 7)) comes.returns comes.stack;
       carry = comes.carry;
-      shows = comes.accesses;
-      goes_on = ap goal_in comes.memory ∙ omega (arith, moved.3);
+      shows = comes.accesses ∙ ap (λ l. Writes (suc goal) x ∷ Writes goal a ∷ l) quiet;
+      goes_on = ap goal_in comes.memory ∙ moved_on;
       building = subst (λ (m : ℕ → ℕ). IsBuilding m half flipped rest) (sym comes.memory) built;
       alike = alike_if (from 7) comes.steps (returned s (run s comes.steps (from 7)) comes.returns comes.stack)
           (comes.steady (λ b. false) refl) comes.there;
-      loaded = subst IsLoaded (sym comes.memory) (loaded page (put (suc goal) x (put goal a mem)) page_small
-          (put_small (suc goal) x (put goal a mem) x_small (put_small goal a mem a_small load.bytes)));
+      loaded = subst IsLoaded (sym comes.memory) new_loaded;
     },
     record {
       byte1 = ap (λ (m : ℕ → ℕ). m 0x4001) comes.memory ∙ byte1;
@@ -221,8 +250,8 @@ put_steadily cpu half flipped rest enters building more =
     (cpu.mem 0x17) (cpu.mem 0x18) (cpu.mem 0x19) (cpu.mem 0x1A)) cpu.mem) cpu.flags []) (sym building.phase)
     ∙ ap (λ l. at 0x6957 cpu.a cpu.x cpu.y cpu.s cpu.n cpu.z cpu.c cpu.v (laid (page_in cpu.mem) cpu.mem) cpu.flags l)
     (sym enters.log) ∙ state_is cpu 0x6957 cpu.s enters.entry refl enters.loaded)
-    (builds cpu.a cpu.x cpu.y cpu.s cpu.n cpu.z cpu.c cpu.v cpu.mem cpu.flags enters.loaded enters.a enters.x half flipped
-    rest building more)
+    (builds cpu.a cpu.x cpu.y cpu.s cpu.n cpu.z cpu.c cpu.v cpu.mem cpu.flags [] enters.loaded enters.a enters.x half flipped
+    rest building more refl)
 
 pub put_takes : PutTakes
 put_takes cpu half flipped rest enters building more = (put_steadily cpu half flipped rest enters building more).0

@@ -10,7 +10,7 @@ use Rattle.dvg_driver.specs.Script.{word_zero}
 use Rattle.dvg_driver.specs.Place.{Resting, Writing}
 use Rattle.dvg_6502.specs.Processor.{Cpu, Access, Reads, Writes, put, run, at_return}
 use Rattle.dvg_6502.specs.Code.{dvg_open, dvg_pair, dvg_labs, dvg_close}
-use Rattle.dvg_6502.specs.Board.{IsLoaded, seen, goal_in}
+use Rattle.dvg_6502.specs.Board.{IsLoaded, seen, goal_in, is_own, is_ram}
 use Rattle.dvg_6502.specs.Holds.{Holds, publish_byte}
 use Rattle.dvg_6502.specs.Routines.{Enters}
 use Rattle.dvg_6502.specs.Build.{IsBuilding, Opens, Closes, OpenTakes, PairTakes, LabsTakes, CloseTakes}
@@ -24,7 +24,7 @@ use Rattle.dvg_6502.proofs.BuildRun.{is_full}
 use Rattle.dvg_6502.proofs.Alike.{alike_if, Keeping}
 use Rattle.dvg_6502.proofs.Masks.{opened, mixed}
 use Rattle.dvg_6502.proofs.PairRun.{Place, pair_room, labs_run, open_takes, close_ends}
-use Rattle.dvg_6502.proofs.Building.{BuildsSo, builds_so, goal_low, goal_high, place_low, on_word}
+use Rattle.dvg_6502.proofs.Building.{BuildsSo, builds_so, goal_low, goal_high, place_low, on_word, put_far, laid_out}
 
 -- an address of the vector RAM is one where a byte is stored
 pub place_of : (p q : ℕ) → q ≡ p → 0x4002 ≤ p → p < 0x4800 → Place q
@@ -36,12 +36,12 @@ place_of p q is low high = subst Place (sym is) (record {
 })
 
 -- it has come back
-comes_back : {q s : ℕ} {from : Cpu} {c : Bool} {mem : ℕ → ℕ} {events : List Access} {reads : List ℕ}
+pub comes_back : {q s : ℕ} {from : Cpu} {c : Bool} {mem : ℕ → ℕ} {events : List Access} {reads : List ℕ}
     → (did : Comes q from s c mem events reads) → at_return s (run q did.steps from) ≡ true
 comes_back {q = q} {s = s} {from = from} did = returned s (run q did.steps from) did.returns did.stack
 
 -- any state of an entry, with another phase
-entered : (cpu : Cpu) (entry phase : ℕ) → Enters cpu entry → cpu.mem 0x10 ≡ phase
+pub entered : (cpu : Cpu) (entry phase : ℕ) → Enters cpu entry → cpu.mem 0x10 ≡ phase
     → at entry cpu.a cpu.x cpu.y cpu.s cpu.n cpu.z cpu.c cpu.v
     (laid (page_of phase (cpu.mem 0x11) (cpu.mem 0x12) (cpu.mem 0x13) (cpu.mem 0x14) (cpu.mem 0x15) (cpu.mem 0x16)
     (cpu.mem 0x17) (cpu.mem 0x18) (cpu.mem 0x19) (cpu.mem 0x1A)) cpu.mem) cpu.flags [] ≡ cpu
@@ -139,7 +139,7 @@ module _ (a x y s : ℕ) (n z c v : Bool) (mem flags : ℕ → ℕ) (log : List 
   room true false is also = refl
   room false late is also = refl
 
-  comes : Comes s from s false (laid page new) events []
+  pub comes : Comes s from s false (laid page new) events []
   comes =
       subst (λ p. Comes s from s false (laid page (put (suc (suc (suc goal))) b3 (put (suc (suc goal)) b2 (put (suc goal) b1
       (put p b0 mem))))) (Writes (suc (suc (suc goal))) b3 ∷ Writes (suc (suc goal)) b2 ∷ Writes (suc goal) b1 ∷ Writes p b0
@@ -199,7 +199,7 @@ module _ (a x y s : ℕ) (n z c v : Bool) (mem flags : ℕ → ℕ) (log : List 
   byte : (b k : ℕ) → mem b ≡ k → k < 256
   byte b k is = subst (λ j. j < 256) is (load.bytes b)
 
-  built : IsBuilding (laid page new) half flipped rest
+  pub built : IsBuilding (laid page new) half flipped rest
   built = record {
     phase = refl;
     free = building.free;
@@ -217,7 +217,7 @@ module _ (a x y s : ℕ) (n z c v : Bool) (mem flags : ℕ → ℕ) (log : List 
       (put_small (suc (suc goal)) b2 _ (byte 0x1D b2 is2) (put_small (suc goal) b1 _ (byte 0x1C b1 is1)
       (put_small goal b0 mem (byte 0x1B b0 is0) load.bytes))))
 
-  moved_on : goal_in (laid page new) ≡ goal + 4
+  pub moved_on : goal_in (laid page new) ≡ goal + 4
   moved_on = omega (arith, two.3, one.3)
 
   pub byte1 : laid page new 0x4001 ≡ mem 0x4001
@@ -228,6 +228,14 @@ module _ (a x y s : ℕ) (n z c v : Bool) (mem flags : ℕ → ℕ) (log : List 
       kept : (p b : ℕ) (m : ℕ → ℕ) → 0x4002 ≤ p → put p b m 0x4001 ≡ m 0x4001
       kept p b m far = ap (λ (t : Bool). if t then b else m 0x4001)
           (ne_eqb 0x4001 p (λ same. absurd (omega (arith, same, far))))
+
+  pub kept : (b : ℕ) → is_own b ≡ false → is_ram b ≡ false → laid page new b ≡ mem b
+  kept b own ram = laid_out page new mem load b own
+      (put_far (suc (suc (suc goal))) b3 (put (suc (suc goal)) b2 (put (suc goal) b1 (put goal b0 mem))) b ram
+      (omega (arith, low)) (omega (arith, top, more))
+      ∙ put_far (suc (suc goal)) b2 (put (suc goal) b1 (put goal b0 mem)) b ram (omega (arith, low)) (omega (arith, top))
+      ∙ put_far (suc goal) b1 (put goal b0 mem) b ram (omega (arith, low)) (omega (arith, top))
+      ∙ put_far goal b0 mem b ram low (omega (arith, top)))
 
 pub pair_steadily : (cpu : Cpu) (half : Half) (flipped : Bool) (rest : List ℕ) → Enters cpu dvg_pair
     → let now = cpu.mem 0x1B ∷ cpu.mem 0x1C ∷ cpu.mem 0x1D ∷ cpu.mem 0x1E ∷ [] in

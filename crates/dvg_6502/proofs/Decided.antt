@@ -1,12 +1,16 @@
 -- Calls that are decided.
-use Rattle.std.proofs.Common.{◌≡◌, ℕ, inl, inr, ◌+◌, ◌-◌, ◌%◌, ◌<◌, Bool, true, false, List, refl, ap, ◌∙◌, subst, arith}
-use Rattle.std.specs.Prelude.{nat_eq, nat_le}
-use Rattle.dvg_6502.specs.Processor.{Cpu, Access, run, at_return}
+use Rattle.std.proofs.Common.{◌≡◌, ℕ, inl, inr, ◌+◌, ◌-◌, ◌%◌, ◌<◌, Bool, true, false, not, List, ◌∷◌, refl, ap, ◌∙◌, subst, arith}
+use Rattle.std.proofs.Common.{eqb-true, sym}
+use Rattle.std.specs.Prelude.{nat_eq, nat_le, ◌&&◌, ◌||◌, if◌then◌else◌}
+use Rattle.dvg_6502.specs.Processor.{Cpu, Access, Reads, run, turn, step, at_return, decoded, opcodes, does, next, carrying}
 use Rattle.dvg_6502.specs.Board.{IsLoaded, seen}
-use Rattle.dvg_6502.specs.Amid.{is_code, are_steady}
+use Rattle.dvg_6502.specs.Amid.{is_code, are_steady, all_in, guards, touches, goes_home}
+use Rattle.dvg_6502.specs.Routines.{Put, Pair, Labs, Vector}
+use Rattle.dvg_6502.specs.Calls as calls
+use Rattle.dvg_6502.specs.Calls.{Routine, entry, finds_busy, is_leaving}
 use Rattle.dvg_6502.specs.Decided.{IsDecided, IsRefusing, IsTaking, Decides}
-use Rattle.dvg_6502.proofs.Running.{at, returned, run_more, steady_more}
-use Rattle.dvg_6502.proofs.Memory.{laid, page_in, state_is}
+use Rattle.dvg_6502.proofs.Running.{at, returned, run_more, steady_more, and_true}
+use Rattle.dvg_6502.proofs.Memory.{laid, page_in, state_is, state_coded, HasCode, both_true}
 use Rattle.dvg_6502.proofs.FedByte.{compared}
 use Rattle.dvg_6502.proofs.Alike.{comes_out}
 
@@ -145,3 +149,107 @@ decides cpu load a_small small = (refusing, taking)
         (takes2 cpu.a cpu.x cpu.y cpu.s cpu.n cpu.z cpu.c cpu.v cpu.mem cpu.flags cpu.log)
     taking (inr (inr is)) = at_place cpu 0x6A15 false is load
         (takes3 cpu.a cpu.x cpu.y cpu.s cpu.n cpu.z cpu.c cpu.v cpu.mem cpu.flags cpu.log)
+
+refuted : (t : Bool) → not t ≡ true → t ≡ false
+refuted true is = absurd (cc)
+refuted false is = refl
+
+-- the first instruction of a call that it refuses
+module _ (cpu : Cpu) (has : HasCode cpu.mem) (small : cpu.mem 0x10 < 256) where
+  abbrev Turned : Type 0
+  Turned = IsDecided (run cpu.s 1 cpu) true × ((run cpu.s 1 cpu).s ≡ cpu.s)
+
+  abbrev phase : ℕ
+  phase = cpu.mem 0x10
+
+  -- it is run by computing
+  turned_at : (pc : ℕ) → cpu.pc ≡ pc
+      → (let k = at pc cpu.a cpu.x cpu.y cpu.s cpu.n cpu.z cpu.c cpu.v (laid (page_in cpu.mem) cpu.mem) cpu.flags cpu.log in
+      IsDecided (run cpu.s 1 k) true × ((run cpu.s 1 k).s ≡ cpu.s)) → Turned
+  turned_at pc is done = subst (λ (k : Cpu). IsDecided (run cpu.s 1 k) true × ((run cpu.s 1 k).s ≡ cpu.s))
+      (state_coded cpu pc cpu.s is refl has) done
+
+  pub looked : (routine : Routine) → cpu.pc ≡ entry routine → finds_busy routine cpu.mem ≡ true → Turned
+  looked (calls.Offer F) is busy = turned_at 0x68FE is (
+    refuses1 cpu.a cpu.x phase cpu.s (nat_le 128 phase) (nat_eq phase 0) cpu.c cpu.v cpu.mem cpu.flags
+        (Reads 0x10 phase ∷ cpu.log) small (refuted (nat_eq phase 2) busy),
+    refl,
+  )
+  looked (calls.Open F) is busy = turned_at 0x6924 is (
+    refuses2 cpu.a cpu.x phase cpu.s (nat_le 128 phase) (nat_eq phase 0) cpu.c cpu.v cpu.mem cpu.flags
+        (Reads 0x10 phase ∷ cpu.log) small (refuted (nat_eq phase 2) busy),
+    refl,
+  )
+  looked calls.Redraw is busy = turned_at 0x6943 is (
+    refuses6 phase cpu.x cpu.y cpu.s (nat_le 128 phase) (nat_eq phase 0) cpu.c cpu.v cpu.mem cpu.flags
+        (Reads 0x10 phase ∷ cpu.log) small (refuted (nat_eq phase 2) busy),
+    refl,
+  )
+  looked (calls.Puts Put) is busy = turned_at 0x6957 is (
+    refuses3 cpu.a cpu.x phase cpu.s (nat_le 128 phase) (nat_eq phase 0) cpu.c cpu.v cpu.mem cpu.flags
+        (Reads 0x10 phase ∷ cpu.log) small (refuted (nat_eq phase 7) busy),
+    refl,
+  )
+  looked (calls.Puts Pair) is busy = turned_at 0x6989 is (
+    refuses4 cpu.a cpu.x phase cpu.s (nat_le 128 phase) (nat_eq phase 0) cpu.c cpu.v cpu.mem cpu.flags
+        (Reads 0x10 phase ∷ cpu.log) small (refuted (nat_eq phase 7) busy),
+    refl,
+  )
+  looked (calls.Puts Labs) is busy = absurd (cc)
+  looked (calls.Puts Vector) is busy = absurd (cc)
+  looked calls.Close is busy = turned_at 0x6A00 is (
+    refuses5 cpu.a cpu.x phase cpu.s (nat_le 128 phase) (nat_eq phase 0) cpu.c cpu.v cpu.mem cpu.flags
+        (Reads 0x10 phase ∷ cpu.log) small (refuted (nat_eq phase 7) busy),
+    refl,
+  )
+  looked calls.Reset is busy = absurd (cc)
+  looked calls.Tick is busy = absurd (cc)
+  looked calls.Ticks is busy = absurd (cc)
+  looked calls.Run is busy = absurd (cc)
+
+-- where CLC and RTS are left
+module _ (cpu : Cpu) (is : is_leaving cpu.s cpu ≡ true) where
+  parts1 : (is_code cpu.pc ≡ true) × ((is_code (cpu.pc + 1) && (nat_eq (cpu.mem cpu.pc) 0x18
+      && (nat_eq (cpu.mem (cpu.pc + 1)) 0x60 && nat_eq cpu.s cpu.s))) ≡ true)
+  parts1 = both_true (is_code cpu.pc) _ is
+
+  parts2 : (is_code (cpu.pc + 1) ≡ true) × ((nat_eq (cpu.mem cpu.pc) 0x18
+      && (nat_eq (cpu.mem (cpu.pc + 1)) 0x60 && nat_eq cpu.s cpu.s)) ≡ true)
+  parts2 = both_true (is_code (cpu.pc + 1)) _ parts1.1
+
+  parts3 : (nat_eq (cpu.mem cpu.pc) 0x18 ≡ true)
+      × ((nat_eq (cpu.mem (cpu.pc + 1)) 0x60 && nat_eq cpu.s cpu.s) ≡ true)
+  parts3 = both_true (nat_eq (cpu.mem cpu.pc) 0x18) _ parts2.1
+
+  clc : cpu.mem cpu.pc ≡ 0x18
+  clc = eqb-true (cpu.mem cpu.pc) 0x18 parts3.0
+
+  rts : cpu.mem (cpu.pc + 1) ≡ 0x60
+  rts = eqb-true (cpu.mem (cpu.pc + 1)) 0x60 (both_true (nat_eq (cpu.mem (cpu.pc + 1)) 0x60) _ parts3.1).0
+
+  abbrev left : Cpu
+  left = carrying false (next 1 cpu)
+
+  abbrev turn_by : ℕ → Cpu
+  turn_by byte = if nat_eq byte 0x60 && nat_eq cpu.s cpu.s then cpu else does (decoded opcodes byte) cpu
+
+  abbrev steady_by : ℕ → Bool
+  steady_by byte = let instr = decoded opcodes byte in
+      is_code cpu.pc && ((nat_eq byte 0x60 && nat_eq cpu.s cpu.s)
+      || (all_in (guards is_code cpu.s cpu.s) (touches instr cpu) && goes_home cpu.s instr cpu))
+
+  pub leaving : IsDecided cpu false
+  leaving = decided cpu left false 1 (ap turn_by clc) (returned cpu.s left rts refl) refl refl refl
+      (ap (λ (t : Bool). t && true) (ap steady_by clc ∙ and_true (is_code cpu.pc) true parts1.0 refl)) parts2.0
+
+-- there a step comes to the return
+pub clears : (s : ℕ) (cpu : Cpu) → is_leaving s cpu ≡ true → at_return s (turn s cpu) ≡ true
+clears s cpu is = subst (λ q. at_return q (turn q cpu) ≡ true) level
+    (ap (at_return cpu.s) (ap (turn_by cpu here) (clc cpu here)) ∙ returned cpu.s (left cpu here) (rts cpu here) refl)
+  where
+    level : cpu.s ≡ s
+    level = eqb-true cpu.s s (both_true (nat_eq (cpu.mem (cpu.pc + 1)) 0x60) (nat_eq cpu.s s)
+        (both_true (nat_eq (cpu.mem cpu.pc) 0x18) _ (both_true (is_code (cpu.pc + 1)) _ (both_true (is_code cpu.pc) _ is).1).1).1).1
+
+    here : is_leaving cpu.s cpu ≡ true
+    here = subst (λ q. is_leaving q cpu ≡ true) (sym level) is

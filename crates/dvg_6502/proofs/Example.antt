@@ -1,32 +1,34 @@
 -- A boot and an offer, over a memory of zeros with the code and a table.
 use Rattle.std.proofs.Common.{◌≡◌, ℕ, zero, suc, ◌+◌, ◌%◌, ◌<◌, Bool, true, false, eqb-true, List, [], ◌∷◌}
-use Rattle.std.proofs.Common.{◌++◌, refl, sym, ap, ◌∙◌, arith, inl}
+use Rattle.std.proofs.Common.{◌++◌, length, refl, sym, ap, ◌∙◌, arith, inl, le-leb}
 use Rattle.std.proofs.lemmas.List.Elements.{All-cons, All-nil}
-use Rattle.std.specs.Prelude.{◌||◌, nat_eq, if◌then◌else◌, slice_index, pos}
+use Rattle.std.specs.Prelude.{◌||◌, ◌&&◌, nat_eq, nat_lt, if◌then◌else◌, slice_index, pos}
 use Rattle.dvg_code.specs.declared.instr.Instr.TheVariants.{Labs, Vctr}
 use Rattle.dvg_mem.specs.declared.half.Half.TheVariants.{H1}
 use Rattle.dvg_frame.specs.declared.op.OpKind.{OpKind}
 use Rattle.dvg_frame.specs.declared.op.OpKind.TheVariants.{Draw, Halt}
 use Rattle.dvg_frame.specs.Ops.{IsOp, IsDraft}
 use Rattle.dvg_frame.specs.Faults.{Accepts}
-use Rattle.dvg_driver.specs.declared.action.Action.TheVariants.{Peek, Read}
+use Rattle.dvg_driver.specs.declared.action.Action.TheVariants.{Peek, Read, Wrote}
 use Rattle.dvg_driver.specs.Script.{Did, Offered}
 use Rattle.dvg_6502.specs.Processor.{Cpu, put, run}
-use Rattle.dvg_6502.specs.Amid.{AreHarmless, guards, is_kept}
-use Rattle.dvg_6502.specs.Board.{is_hardware}
+use Rattle.dvg_6502.specs.Amid.{AreHarmless, guards, is_kept, is_code}
+use Rattle.dvg_6502.specs.Code.{code}
+use Rattle.dvg_6502.specs.Board.{IsLoaded, is_hardware}
 use Rattle.dvg_6502.specs.Tables.{HasTable, table_of}
 use Rattle.dvg_6502.specs.Routines
 use Rattle.dvg_6502.specs.Routines.{Enters}
 use Rattle.dvg_6502.specs.Calls
 use Rattle.dvg_6502.specs.Calls.{Call, IsUntouched, IsSession, IsLifeOf}
 use Rattle.dvg_6502.specs.Build.{IsPut, put_items}
-use Rattle.dvg_6502.specs.Joined.{stroke, SomeCalls, SomeBuilding, SomeLogs}
+use Rattle.dvg_6502.specs.Joined.{stroke, SomeCalls, SomeTicks, SomeBuilding, SomeLogs}
 use Rattle.dvg_6502.proofs.Running.{at}
 use Rattle.dvg_6502.proofs.ExampleFrame as built
 use Rattle.dvg_6502.proofs.ExampleFrame.{world, world_small}
 use Rattle.dvg_6502.proofs.BuiltFrame.{built_accepted}
 use Rattle.dvg_6502.proofs.Interrupted.{still_harmless, once, once_harmless}
-use Rattle.dvg_6502.proofs.Memory.{laid, page_of, put_page, loaded, AreSmall}
+use Rattle.dvg_6502.proofs.Memory.{laid, page_of, put_page, put_small, loaded, AreSmall}
+use Rattle.std.proofs.lemmas.Bool.{ne_eqb}
 
 abbrev page : (phase free publish : ℕ) → List ℕ
 page phase free publish = page_of phase free publish 0 0 0 0 0 0 0 0
@@ -216,6 +218,106 @@ some_calls = (
   refl,
 )
 
+-- an NMI that ticks: it has counted and pushed, and calls dvg_tick
+abbrev idle : Cpu
+idle = at 0x686A 0 0 0 0xF7 false false false false (nmi (memory 2 0xE2 3)) (λ n. 0) []
+
+-- that offer, up to its CLC; an idle tick comes amid it
+abbrev decided : Call
+decided = record offer { steps = 28 }
+
+-- and a tick that acts comes after that
+abbrev feed : Call
+feed = quiet Calls.Tick 20 (at 0x686A 0 0 0 0xF7 false false false false (Calls.after decided).mem (λ n. 0) [])
+
+loaded_put : (p v : ℕ) (mem : ℕ → ℕ) → is_code p ≡ false → v < 256 → IsLoaded mem → IsLoaded (put p v mem)
+loaded_put p v mem out small load = record {
+  code = λ i h. other (0x6800 + i) (ne_eqb (0x6800 + i) p (λ same. absurd (let a = ap is_code same ∙ out in
+      let b = coded i h in cc))) ∙ load.code i h;
+  bytes = put_small p v mem small load.bytes;
+}
+  where
+    coded : (i : ℕ) → i < length code → is_code (0x6800 + i) ≡ true
+    coded i h = ap (λ (t : Bool). t && nat_lt (0x6800 + i) 0x6A87) (le-leb 0x6800 (0x6800 + i) (omega arith))
+        ∙ le-leb (suc (0x6800 + i)) 0x6A87 (omega (arith, h))
+
+    other : (b : ℕ) → nat_eq b p ≡ false → put p v mem b ≡ mem b
+    other b is = ap (λ (t : Bool). if t then v else mem b) is
+
+loaded_nmi : IsLoaded (nmi (memory 2 0xE2 3))
+loaded_nmi = loaded_put 0 _ _ refl (omega arith) (loaded_put 0x1FD _ _ refl (omega arith) (loaded_put 0x1FE _ _ refl (omega arith)
+    (loaded_put 0x1FF _ _ refl (omega arith) (loaded (page 2 0xE2 3) world (small 2 0xE2 3 (omega arith) (omega arith) (omega arith))
+    world_small))))
+
+-- what the offer has written by then: `from`, `pages`, `end`, `second`, `to`, `at`, and the phase
+loaded_decided : IsLoaded (Calls.after decided).mem
+loaded_decided = loaded_put 0x10 0x80 _ refl (omega arith) (loaded_put 0x13 2 _ refl (omega arith)
+    (loaded_put 0x15 0x44 _ refl (omega arith) (loaded_put 0x14 0 _ refl (omega arith) (loaded_put 0x18 0 _ refl (omega arith)
+    (loaded_put 0x17 12 _ refl (omega arith) (loaded_put 0x17 11 _ refl (omega arith) (loaded_put 0x17 10 _ refl (omega arith)
+    (loaded_put 0x16 0 _ refl (omega arith) (loaded_put 0x16 0 _ refl (omega arith) (loaded_put 0x1A 0x50 _ refl (omega arith)
+    (loaded_put 0x19 0 _ refl (omega arith) loaded_nmi)))))))))))
+
+decided_alone : AreHarmless (guards kept 0xFF) 0xFF decided.others 28 decided.from
+decided_alone = once_harmless (guards kept 0xFF) nmi 3 0xFF 28 decided.from
+    (λ b is. nmi_leaves (run 0xFF 3 decided.from).mem b is)
+
+session_decided : IsSession (decided ∷ look ∷ peek ∷ reset ∷ [])
+session_decided = (
+  enters 0x68FE 0x50 2 0xE2 3 (omega arith) (omega arith) (omega arith) (omega arith),
+  has_table,
+  decided_alone,
+  ((refl, untouched (look ∷ peek ∷ reset ∷ []) (run 0xFF 8 look.from).mem (memory 2 0xE2 3) after_look), session_look),
+)
+
+session_feed : IsSession (feed ∷ decided ∷ look ∷ peek ∷ reset ∷ [])
+session_feed = (
+  record {
+    entry = refl;
+    log = refl;
+    loaded = loaded_decided;
+    a = omega arith;
+    x = omega arith;
+    s = omega arith;
+  },
+  tt,
+  still_harmless (guards (is_kept (Calls.is_table feed (decided ∷ look ∷ peek ∷ reset ∷ []))) 0xF7) 0xF7 20 feed.from,
+  (
+    (refl, untouched (decided ∷ look ∷ peek ∷ reset ∷ []) (Calls.after decided).mem (Calls.after decided).mem refl),
+    session_decided,
+  ),
+)
+
+pub some_ticks : SomeTicks
+some_ticks = (
+  feed,
+  decided,
+  look ∷ peek ∷ reset ∷ [],
+  session_feed,
+  refl,
+  refl,
+  refl,
+  refl,
+  (
+    Did (Wrote 0x402 0x00) ∷ [],
+    Offered H1 stroke ∷ Did (Read true) ∷ Did Peek ∷ [],
+    refl,
+    (refl, tt),
+    (Offered H1 stroke ∷ [], Did (Read true) ∷ Did Peek ∷ [], refl, (refl, refl), life_look),
+  ),
+  idle,
+  7,
+  record {
+    entry = refl;
+    log = refl;
+    loaded = loaded_nmi;
+    a = omega arith;
+    x = omega arith;
+    s = omega arith;
+  },
+  refl,
+  refl,
+)
+
 draft : IsDraft stroke
 draft = record {
   count = omega arith;
@@ -235,7 +337,7 @@ answered = record {
   calls = look ∷ peek ∷ reset ∷ [];
   session = session;
   makes = life_look;
-  returns = refl;
+  over = refl;
   carry = refl;
 }
 

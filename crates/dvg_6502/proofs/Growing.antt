@@ -1,13 +1,13 @@
 -- Logs grow, and a routine's return is where a run stays.
-use Rattle.std.proofs.Common.{◌≡◌, ℕ, zero, suc, inl, inr, ◌+◌, ◌-◌, Bool, true, false, List, [], ◌∷◌, ◌++◌, refl}
+use Rattle.std.proofs.Common.{◌≡◌, ℕ, zero, suc, inl, inr, ◌+◌, ◌-◌, ◌%◌, Bool, true, false, List, [], ◌∷◌, ◌++◌, refl}
 use Rattle.std.proofs.Common.{sym, ap, ◌∙◌, arith, leb-true}
 use Rattle.std.proofs.lemmas.Bool.{leb-false}
 use Rattle.std.specs.Prelude.{nat_le, ◌⊎◌, if◌then◌else◌}
-use Rattle.dvg_6502.specs.Processor.{Cpu, Access, Reads, Writes, Mode, Immediate, ZeroPage, Absolute, IndirectIndexed}
-use Rattle.dvg_6502.specs.Processor.{Register, A, X, Y, Instr, Load, Store, Transfer, And, Or, Xor, Compare, TestBits}
+use Rattle.dvg_6502.specs.Processor.{Cpu, Access, Reads, Writes, Mode, Immediate, ZeroPage, ZeroPageX, Absolute}
+use Rattle.dvg_6502.specs.Processor.{IndirectIndexed, Register, A, X, Y, Instr, Load, Store, Transfer, And, Or, Xor, Compare, TestBits}
 use Rattle.dvg_6502.specs.Processor.{Change, Step, ShiftLeft, RotateLeft, ShiftLeftA, ShiftRightA, SetCarry, Branch}
 use Rattle.dvg_6502.specs.Processor.{Jump, Call, Return, Unknown, run, turn, step, does, decoded, opcodes, at_return}
-use Rattle.dvg_6502.specs.Processor.{reading, setting}
+use Rattle.dvg_6502.specs.Processor.{reading, setting, address, operand}
 use Rattle.dvg_6502.specs.Board.{seen, is_hardware}
 use Rattle.dvg_6502.proofs.Running.{run_more}
 
@@ -18,6 +18,7 @@ GoesOn now before = (pre : List Access) × (now ≡ pre ++ before)
 reads_on : (mode : Mode) (cpu : Cpu) → GoesOn (reading mode cpu).log cpu.log
 reads_on Immediate cpu = ([], refl)
 reads_on ZeroPage cpu = (_ ∷ [], refl)
+reads_on ZeroPageX cpu = (_ ∷ [], refl)
 reads_on Absolute cpu = (_ ∷ [], refl)
 reads_on IndirectIndexed cpu = (_ ∷ [], refl)
 
@@ -38,7 +39,10 @@ does_on (Or mode) cpu = reads_on mode cpu
 does_on (Xor mode) cpu = reads_on mode cpu
 does_on (Compare r mode) cpu = reads_on mode cpu
 does_on (TestBits mode) cpu = reads_on mode cpu
-does_on (Change k) cpu = (_ ∷ _ ∷ [], refl)
+does_on (Change mode k) cpu = changes_on (reads_on mode cpu)
+  where
+    changes_on : GoesOn (reading mode cpu).log cpu.log → GoesOn (does (Change mode k) cpu).log cpu.log
+    changes_on on = (_ ∷ on.0, ap (λ l. Writes (address mode cpu) ((operand mode cpu + k) % 256) ∷ l) on.1)
 does_on (Step r k) cpu = ([], sets_on r _ _)
 does_on ShiftLeft cpu = (_ ∷ _ ∷ [], refl)
 does_on RotateLeft cpu = (_ ∷ _ ∷ [], refl)

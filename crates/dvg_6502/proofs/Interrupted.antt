@@ -1,6 +1,6 @@
 -- Calls that others interrupt are as calls that nobody interrupts.
 use Rattle.std.proofs.Common.{◌≡◌, ℕ, zero, suc, ◌+◌, ◌*◌, ◌<◌, ◌≤◌, Bool, true, false, not, List, [], ◌∷◌, ◌++◌}
-use Rattle.std.proofs.Common.{length, refl, sym, ap, ◌∙◌, subst, arith, le-leb}
+use Rattle.std.proofs.Common.{length, refl, sym, ap, ◌∙◌, subst, arith, le-leb, eqb-true}
 use Rattle.std.specs.Prelude.{Option, Some, None, nat_eq, nat_le, nat_lt, ◌&&◌, ◌||◌, if◌then◌else◌}
 use Rattle.dvg_mem.specs.declared.half.Half.TheVariants.{H0}
 use Rattle.dvg_mem.specs.Areas.{other, half_of_high}
@@ -12,11 +12,15 @@ use Rattle.dvg_6502.specs.Amid.{is_work, amid, changed, AreHarmless, guards, is_
 use Rattle.dvg_6502.specs.Board.{IsLoaded, seen, is_own, is_ram, is_hardware}
 use Rattle.dvg_6502.specs.Holds.{Holds}
 use Rattle.dvg_6502.specs.Tables.{HasTable, table_of}
-use Rattle.dvg_6502.specs.Routines.{Enters, put_by}
+use Rattle.dvg_6502.specs.Routines.{Enters, Put, Pair, Labs, Vector, put_by}
 use Rattle.dvg_6502.specs.Calls as calls
 use Rattle.dvg_6502.specs.Calls.{Routine}
+use Rattle.dvg_6502.specs.Decided.{IsDecided, CallsDecide}
 use Rattle.dvg_6502.proofs.Plain as plain
 use Rattle.dvg_6502.proofs.Acting.{Covers}
+use Rattle.dvg_6502.proofs.Running.{run_more}
+use Rattle.dvg_6502.proofs.Memory.{both_true}
+use Rattle.dvg_6502.proofs.Decided.{looked, leaving}
 use Rattle.dvg_6502.proofs.AmidRun.{came_out}
 use Rattle.dvg_6502.proofs.Steady.{last_kept, steady_all, code_kept}
 use Rattle.dvg_6502.proofs.Standing.{Stood}
@@ -120,26 +124,26 @@ module _ (from : Cpu) (k : ℕ) (olds : List plain.Call) (tables : ℕ → Bool)
       ((close_ends from (plain.bounds olds).0 (plain.bounds olds).1 (plain.frame_of olds) covered.0.0 enters brings
       covered.0.2).1.goes k).steady tables covered.1
 
--- the same call, which nobody interrupts
-abbrev pub plain_of : calls.Call → plain.Call
-plain_of call = record { routine = call.routine; from = call.from; steps = call.steps }
+-- the same call, which nobody interrupts, after so many steps more
+abbrev pub plain_with : ℕ → calls.Call → plain.Call
+plain_with more call = record { routine = call.routine; from = call.from; steps = more + call.steps }
 
--- what a call adds, by its log and whether it is taken
+-- what a call adds, by what is seen of it and whether it is taken
 abbrev AddsAs : Routine → Cpu → List Access → Bool → List Item → Type 0
-AddsAs calls.Tick from log taken items = calls.AreShown items (seen log)
-AddsAs calls.Ticks from log taken items = calls.AreShown items (seen log)
-AddsAs calls.Run from log taken items = calls.AreShown items (seen log)
-AddsAs (calls.Offer F) from log taken items = (seen log ≡ [])
+AddsAs calls.Tick from shown taken items = calls.AreShown items shown
+AddsAs calls.Ticks from shown taken items = calls.AreShown items shown
+AddsAs calls.Run from shown taken items = calls.AreShown items shown
+AddsAs (calls.Offer F) from shown taken items = (shown ≡ [])
     × (items ≡ (if taken then Offered (other (half_of_high (from.mem 0x4001))) F ∷ [] else []))
-AddsAs calls.Redraw from log taken items = (seen log ≡ []) × (items ≡ (if taken then Asked ∷ [] else []))
-AddsAs (calls.Open F) from log taken items = (seen log ≡ [])
+AddsAs calls.Redraw from shown taken items = (shown ≡ []) × (items ≡ (if taken then Asked ∷ [] else []))
+AddsAs (calls.Open F) from shown taken items = (shown ≡ [])
     × (items ≡ (if taken then Offered (other (half_of_high (from.mem 0x4001))) F ∷ [] else []))
-AddsAs (calls.Puts part) from log taken items = calls.AreShown items (seen log)
-AddsAs calls.Close from log taken items = calls.AreShown items (seen log)
-AddsAs calls.Reset from log taken items = (seen log ≡ []) × (items ≡ [])
+AddsAs (calls.Puts part) from shown taken items = calls.AreShown items shown
+AddsAs calls.Close from shown taken items = calls.AreShown items shown
+AddsAs calls.Reset from shown taken items = (shown ≡ []) × (items ≡ [])
 
 to_new : (routine : Routine) (call : calls.Call) (items : List Item)
-    → AddsAs routine call.from (calls.after call).log (calls.is_taken call) items → calls.Adds routine call items
+    → AddsAs routine call.from (seen (calls.after call).log) (calls.is_taken call) items → calls.Adds routine call items
 to_new calls.Reset call items is = is
 to_new calls.Tick call items is = is
 to_new calls.Ticks call items is = is
@@ -151,7 +155,7 @@ to_new (calls.Puts part) call items is = is
 to_new calls.Close call items is = is
 
 of_new : (routine : Routine) (call : calls.Call) (items : List Item) → calls.Adds routine call items
-    → AddsAs routine call.from (calls.after call).log (calls.is_taken call) items
+    → AddsAs routine call.from (seen (calls.after call).log) (calls.is_taken call) items
 of_new calls.Reset call items is = is
 of_new calls.Tick call items is = is
 of_new calls.Ticks call items is = is
@@ -163,7 +167,7 @@ of_new (calls.Puts part) call items is = is
 of_new calls.Close call items is = is
 
 to_old : (routine : Routine) (call : plain.Call) (items : List Item)
-    → AddsAs routine call.from (plain.after call).log (plain.is_taken call) items → plain.Adds routine call items
+    → AddsAs routine call.from (seen (plain.after call).log) (plain.is_taken call) items → plain.Adds routine call items
 to_old calls.Reset call items is = is
 to_old calls.Tick call items is = is
 to_old calls.Ticks call items is = is
@@ -175,7 +179,7 @@ to_old (calls.Puts part) call items is = is
 to_old calls.Close call items is = is
 
 of_old : (routine : Routine) (call : plain.Call) (items : List Item) → plain.Adds routine call items
-    → AddsAs routine call.from (plain.after call).log (plain.is_taken call) items
+    → AddsAs routine call.from (seen (plain.after call).log) (plain.is_taken call) items
 of_old calls.Reset call items is = is
 of_old calls.Tick call items is = is
 of_old calls.Ticks call items is = is
@@ -223,17 +227,54 @@ since_lives (calls.Open F) old P Q f is = f old is
 since_lives (calls.Puts part) old P Q f is = f old is
 since_lives calls.Close old P Q f is = f old is
 
+-- a call that is over goes on to its return, where nobody interrupts: memory stays, and nothing more is seen
+record GoesHome (call : calls.Call) : Type 0 where
+  left : ℕ
+  over : calls.is_over call ≡ at_return call.from.s (run call.from.s (left + call.steps) call.from)
+  carry : calls.is_over call ≡ true → calls.answer call ≡ (run call.from.s (left + call.steps) call.from).c
+  memory : (run call.from.s (left + call.steps) call.from).mem ≡ (run call.from.s call.steps call.from).mem
+  shows : seen (run call.from.s (left + call.steps) call.from).log ≡ seen (run call.from.s call.steps call.from).log
+
+-- where it is decided
+decided_home : (call : calls.Call) (c : Bool) → calls.is_over call ≡ true → calls.answer call ≡ c
+    → IsDecided (run call.from.s call.steps call.from) c → (run call.from.s call.steps call.from).s ≡ call.from.s
+    → GoesHome call
+decided_home call c over told is level =
+    let pl : Cpu = run call.from.s call.steps call.from in
+    let on : run call.from.s (is.steps + call.steps) call.from ≡ run call.from.s is.steps pl =
+    run_more call.from.s call.steps is.steps call.from in
+    let back : at_return call.from.s (run call.from.s is.steps pl) ≡ true =
+    subst (λ q. at_return q (run q is.steps pl) ≡ true) level is.returns in
+    let c_is : (run call.from.s is.steps pl).c ≡ c = subst (λ q. (run q is.steps pl).c ≡ c) level is.carry in
+    let m_is : (run call.from.s is.steps pl).mem ≡ pl.mem = subst (λ q. (run q is.steps pl).mem ≡ pl.mem) level is.kept in
+    let l_is : seen (run call.from.s is.steps pl).log ≡ seen pl.log =
+    subst (λ q. seen (run q is.steps pl).log ≡ seen pl.log) level is.shows in
+    record {
+      left = is.steps;
+      over = over ∙ sym (ap (at_return call.from.s) on ∙ back);
+      carry = λ now. told ∙ sym (ap (λ (k : Cpu). k.c) on ∙ c_is);
+      memory = ap (λ (k : Cpu). k.mem) on ∙ m_is;
+      shows = ap (λ (k : Cpu). seen k.log) on ∙ l_is;
+    }
+
 -- calls, and the same calls which nobody interrupts
 pub record Bridge (call : calls.Call) (more : List calls.Call) : Type 0 where
+  pub left : ℕ
   pub rest : List plain.Call
-  pub session : plain.IsSession (plain_of call ∷ rest)
-  pub bounds : calls.bounds (call ∷ more) ≡ plain.bounds (plain_of call ∷ rest)
-  pub frame : calls.frame_of (call ∷ more) ≡ plain.frame_of (plain_of call ∷ rest)
-  pub same : CameOut (guards (is_kept (calls.is_table call more)) call.from.s) (plain.after (plain_of call))
-      (calls.after call)
-  pub returned : calls.has_returned call ≡ plain.has_returned (plain_of call)
-  pub forth : (items : List Item) → calls.IsLifeOf (call ∷ more) items → plain.IsLifeOf (plain_of call ∷ rest) items
-  pub back : (items : List Item) → plain.IsLifeOf (plain_of call ∷ rest) items → calls.IsLifeOf (call ∷ more) items
+  pub session : plain.IsSession (plain_with left call ∷ rest)
+  pub bounds : calls.bounds (call ∷ more) ≡ plain.bounds (plain_with left call ∷ rest)
+  pub frame : calls.frame_of (call ∷ more) ≡ plain.frame_of (plain_with left call ∷ rest)
+  pub kept : (b : ℕ) → is_kept (calls.is_table call more) b ≡ true
+      → (calls.after call).mem b ≡ (plain.after (plain_with left call)).mem b
+  pub same : CameOut (guards (is_kept (calls.is_table call more)) call.from.s)
+      (run call.from.s call.steps call.from) (calls.after call)
+  pub returned : calls.has_returned call ≡ at_return call.from.s (run call.from.s call.steps call.from)
+  pub over : calls.is_over call ≡ plain.has_returned (plain_with left call)
+  pub carry : calls.is_over call ≡ true → calls.answer call ≡ (plain.after (plain_with left call)).c
+  pub forth : (items : List Item) → calls.IsLifeOf (call ∷ more) items
+      → plain.IsLifeOf (plain_with left call ∷ rest) items
+  pub back : (items : List Item) → plain.IsLifeOf (plain_with left call ∷ rest) items
+      → calls.IsLifeOf (call ∷ more) items
   pub older : calls.UnlessReset call.routine
       ((items : List Item) → calls.IsLifeOf more items → plain.IsLifeOf rest items)
 
@@ -242,7 +283,7 @@ pub record Facts (call : calls.Call) (more : List calls.Call) (rest : List plain
   pub standing : Standing call.from rest
   pub bounds : calls.bounds more ≡ plain.bounds rest
   pub frame : calls.frame_of more ≡ plain.frame_of rest
-  pub follows : plain.Follows (plain_of call) rest
+  pub follows : (k : ℕ) → plain.Follows (plain_with k call) rest
   pub session : plain.IsSession rest
   pub forth : (items : List Item) → calls.IsLifeOf more items → plain.IsLifeOf rest items
   pub back : (items : List Item) → plain.IsLifeOf rest items → calls.IsLifeOf more items
@@ -259,6 +300,34 @@ both : (t u : Bool) → t ≡ true → u ≡ true → (t && u) ≡ true
 both true u a b = b
 both false u a b = absurd (cc)
 
+or_false : (t : Bool) → (t || false) ≡ t
+or_false true = refl
+or_false false = refl
+
+-- a call that is leaving amid others is leaving without them
+pub leaves_too : (s : ℕ) (kept : ℕ → Bool) (pl it : Cpu) (memory : ℕ → ℕ) → ((b : ℕ) → is_code b ≡ true → kept b ≡ true)
+    → it ≡ changed memory pl → ((b : ℕ) → kept b ≡ true → it.mem b ≡ pl.mem b) → calls.is_leaving s it ≡ true
+    → calls.is_leaving s pl ≡ true
+leaves_too s kept pl it memory code same agree is =
+    let same_pc : it.pc ≡ pl.pc = ap (λ (k : Cpu). k.pc) same in
+    let one = both_true (is_code it.pc) _ is in
+    let two = both_true (is_code (it.pc + 1)) _ one.1 in
+    let three = both_true (nat_eq (it.mem it.pc) 0x18) _ two.1 in
+    let clc = sym (ap pl.mem same_pc) ∙ sym (agree it.pc (code it.pc one.0)) in
+    let rts = sym (ap (λ p. pl.mem (p + 1)) same_pc) ∙ sym (agree (it.pc + 1) (code (it.pc + 1) two.0)) in
+    both (is_code pl.pc) _ (ap is_code (sym same_pc) ∙ one.0)
+    (both (is_code (pl.pc + 1)) _ (ap (λ p. is_code (p + 1)) (sym same_pc) ∙ two.0)
+    (both (nat_eq (pl.mem pl.pc) 0x18) _ (ap (λ k. nat_eq k 0x18) clc ∙ three.0)
+    (ap (λ k. nat_eq k 0x60 && nat_eq pl.s s) rts
+    ∙ ap (λ (k : Cpu). nat_eq (it.mem (it.pc + 1)) 0x60 && nat_eq k.s s) (sym same) ∙ three.1)))
+
+level_of : (s : ℕ) (cpu : Cpu) → calls.is_leaving s cpu ≡ true → cpu.s ≡ s
+level_of s cpu is =
+    let one = both_true (is_code cpu.pc) _ is in
+    let two = both_true (is_code (cpu.pc + 1)) _ one.1 in
+    let three = both_true (nat_eq (cpu.mem cpu.pc) 0x18) _ two.1 in
+    eqb-true cpu.s s (both_true (nat_eq (cpu.mem (cpu.pc + 1)) 0x60) (nat_eq cpu.s s) three.1).1
+
 within : (low high b : ℕ) → low ≤ b → b < high → (nat_le low b && nat_lt b high) ≡ true
 within low high b l h = both (nat_le low b) (nat_lt b high) (le-leb low b l) (le-leb (suc b) high h)
 
@@ -270,11 +339,8 @@ module _ (call : calls.Call) (more : List calls.Call) (rest : List plain.Call)
   abbrev tables : ℕ → Bool
   tables = calls.is_table call more
 
-  abbrev old : plain.Call
-  old = plain_of call
-
   abbrev pl : Cpu
-  pl = plain.after old
+  pl = run call.from.s call.steps call.from
 
   -- what it brings, where nobody interrupts
   brings_now : calls.UnlessReset call.routine (calls.Brings call.routine call.from (plain.frame_of rest))
@@ -300,18 +366,83 @@ module _ (call : calls.Call) (more : List calls.Call) (rest : List plain.Call)
   kept_same : (b : ℕ) → is_kept tables b ≡ true → (calls.after call).mem b ≡ pl.mem b
   kept_same b is = ap (λ (k : Cpu). k.mem b) same.same ∙ same.keeps b (left_true (is_kept tables b) _ is)
 
-  returned : calls.has_returned call ≡ plain.has_returned old
+  returned : calls.has_returned call ≡ at_return call.from.s pl
   returned = ap (at_return call.from.s) same.same
       ∙ ap (λ b. nat_eq b 0x60 && nat_eq pl.s call.from.s)
       (same.keeps pl.pc (left_true (is_kept tables pl.pc) _
       (last_kept (is_kept tables) call.from.s call.steps call.from (steady (suc call.steps)))))
 
-  taken : calls.is_taken call ≡ plain.is_taken old
-  taken = ap (λ (t : Bool). t && not (calls.after call).c) returned
-      ∙ ap (λ (k : Cpu). plain.has_returned old && not k.c) same.same
+  -- where it has looked, and is refused
+  refused_home : calls.is_refused call ≡ true → GoesHome call
+  refused_home is =
+      let two = both_true (nat_eq call.steps 1) (calls.finds_busy call.routine call.from.mem) is in
+      let once = sym (eqb-true call.steps 1 two.0) in
+      let done = looked call.from enters.loaded.code (enters.loaded.bytes 0x10) call.routine enters.entry two.1 in
+      let now = subst (λ k. IsDecided (run call.from.s k call.from) true × ((run call.from.s k call.from).s ≡ call.from.s))
+      once done in
+      decided_home call true
+      (right_true (calls.has_returned call) _ (left_true (calls.is_refused call) _ is))
+      (ap (λ (t : Bool). if t then true else (if calls.is_leaving call.from.s (calls.after call) then false
+      else (calls.after call).c)) is) now.0 now.1
 
-  logged : (calls.after call).log ≡ pl.log
-  logged = ap (λ (k : Cpu). k.log) same.same
+  -- where CLC and RTS are left
+  leaving_home : calls.is_refused call ≡ false → calls.is_leaving call.from.s (calls.after call) ≡ true → GoesHome call
+  leaving_home not_refused is =
+      let also : calls.is_leaving call.from.s pl ≡ true = leaves_too call.from.s (is_kept tables) pl (calls.after call)
+      same.memory (λ b code. code_kept tables b code) same.same kept_same is in
+      let level : pl.s ≡ call.from.s = level_of call.from.s pl also in
+      let here : calls.is_leaving pl.s pl ≡ true = subst (λ q. calls.is_leaving q pl ≡ true) (sym level) also in
+      decided_home call false
+      (right_true (calls.has_returned call) _ (right_true (calls.is_refused call) _ is))
+      (ap (λ (t : Bool). if t then true else (if calls.is_leaving call.from.s (calls.after call) then false
+      else (calls.after call).c)) not_refused
+      ∙ ap (λ (t : Bool). if t then false else (calls.after call).c) is) (leaving pl here) level
+
+  -- and else
+  plain_home : calls.is_refused call ≡ false → calls.is_leaving call.from.s (calls.after call) ≡ false → GoesHome call
+  plain_home not_refused not_leaving =
+      let none : call.steps ≡ 0 + call.steps = omega arith in
+      let on : pl ≡ run call.from.s (0 + call.steps) call.from = ap (λ k. run call.from.s k call.from) none in
+      record {
+        left = 0;
+        over = ap (λ (t : Bool). calls.has_returned call || (t || calls.is_leaving call.from.s (calls.after call)))
+            not_refused
+            ∙ ap (λ (t : Bool). calls.has_returned call || t) not_leaving ∙ or_false (calls.has_returned call) ∙ returned
+            ∙ ap (at_return call.from.s) on;
+        carry = λ now. ap (λ (t : Bool). if t then true else (if calls.is_leaving call.from.s (calls.after call) then false
+            else (calls.after call).c)) not_refused
+            ∙ ap (λ (t : Bool). if t then false else (calls.after call).c) not_leaving
+            ∙ ap (λ (k : Cpu). k.c) (same.same) ∙ ap (λ (k : Cpu). k.c) on;
+        memory = ap (λ (k : Cpu). k.mem) (sym on);
+        shows = ap (λ (k : Cpu). seen k.log) (sym on);
+      }
+
+  home : GoesHome call
+  home = by (calls.is_refused call) refl (calls.is_leaving call.from.s (calls.after call)) refl
+    where
+      by : (t : Bool) → calls.is_refused call ≡ t → (u : Bool)
+          → calls.is_leaving call.from.s (calls.after call) ≡ u → GoesHome call
+      by true is u leaves = refused_home is
+      by false is true leaves = leaving_home is leaves
+      by false is false leaves = plain_home is leaves
+
+  abbrev old : plain.Call
+  old = plain_with home.left call
+
+  abbrev end : Cpu
+  end = plain.after old
+
+  taken : calls.is_taken call ≡ plain.is_taken old
+  taken = by (calls.is_over call) refl
+    where
+      by : (t : Bool) → calls.is_over call ≡ t → calls.is_taken call ≡ plain.is_taken old
+      by true is = ap (λ (t : Bool). t && not (calls.answer call)) is ∙ ap not (home.carry is)
+          ∙ sym (ap (λ (t : Bool). t && not end.c) (sym home.over ∙ is))
+      by false is = ap (λ (t : Bool). t && not (calls.answer call)) is
+          ∙ sym (ap (λ (t : Bool). t && not end.c) (sym home.over ∙ is))
+
+  logged : seen (calls.after call).log ≡ seen end.log
+  logged = ap (λ (k : Cpu). seen k.log) same.same ∙ sym home.shows
 
   bounds_as : (routine : Routine) → calls.UnlessReset routine (calls.bounds more ≡ plain.bounds rest)
       → calls.taken_bounds routine call (calls.bounds more) ≡ plain.taken_bounds routine old (plain.bounds rest)
@@ -369,24 +500,28 @@ module _ (call : calls.Call) (more : List calls.Call) (rest : List plain.Call)
 
   linked : Bridge call more
   linked = record {
+    left = home.left;
     rest = rest;
     session = (
       enters,
       brings_as call.routine brings_now,
       unless_map call.routine (Facts call more rest)
-          (plain.Follows old rest × plain.IsSession rest) (λ f. (f.follows, f.session)) facts,
+          (plain.Follows old rest × plain.IsSession rest) (λ f. (f.follows home.left, f.session)) facts,
     );
     bounds = bounds_as call.routine (unless_map call.routine (Facts call more rest)
         (calls.bounds more ≡ plain.bounds rest) (λ f. f.bounds) facts);
     frame = frame_as call.routine (unless_map call.routine (Facts call more rest)
         (calls.frame_of more ≡ plain.frame_of rest) (λ f. f.frame) facts);
+    kept = λ b is. kept_same b is ∙ ap (λ (m : ℕ → ℕ). m b) (sym home.memory);
     same = same;
     returned = returned;
+    over = home.over;
+    carry = home.carry;
     forth = λ items life. (
       life.0,
       life.1,
       life.2,
-      to_old call.routine old life.0 (subst (λ (t : Bool). AddsAs call.routine call.from pl.log t life.0) taken
+      to_old call.routine old life.0 (subst (λ (t : Bool). AddsAs call.routine call.from (seen end.log) t life.0) taken
           (subst (λ l. AddsAs call.routine call.from l (calls.is_taken call) life.0) logged
           (of_new call.routine call life.0 life.3))),
       since_lives call.routine life.1 (λ l. calls.IsLifeOf more l) (λ l. plain.IsLifeOf rest l) forth_lives life.4,
@@ -397,7 +532,7 @@ module _ (call : calls.Call) (more : List calls.Call) (rest : List plain.Call)
       life.2,
       to_new call.routine call life.0
           (subst (λ l. AddsAs call.routine call.from l (calls.is_taken call) life.0) (sym logged)
-          (subst (λ (t : Bool). AddsAs call.routine call.from pl.log t life.0) (sym taken)
+          (subst (λ (t : Bool). AddsAs call.routine call.from (seen end.log) t life.0) (sym taken)
           (of_old call.routine old life.0 life.3))),
       since_lives call.routine life.1 (λ l. plain.IsLifeOf rest l) (λ l. calls.IsLifeOf more l) back_lives life.4,
     );
@@ -444,7 +579,7 @@ kept_table tables b is = right_true (is_own b) _ (right_true (is_work b) _ (righ
 -- what is known of the calls before one, by the newest of them
 pub facts_of : (call older : calls.Call) (olds : List calls.Call) → IsLoaded call.from.mem
     → calls.Follows call (older ∷ olds) → (bridge : Bridge older olds)
-    → Facts call (older ∷ olds) (plain_of older ∷ bridge.rest)
+    → Facts call (older ∷ olds) (plain_with bridge.left older ∷ bridge.rest)
 facts_of call older olds load follows bridge = record {
   standing = (was.life, was.is_life, was.holds);
   bounds = bridge.bounds;
@@ -458,17 +593,13 @@ facts_of call older olds load follows bridge = record {
     tables : ℕ → Bool
     tables = calls.is_table older olds
 
-    pl : Cpu
-    pl = plain.after (plain_of older)
-
     kept : (b : ℕ) → is_kept (calls.is_table older olds) b ≡ true
-        → (calls.after older).mem b ≡ (plain.after (plain_of older)).mem b
-    kept b is = ap (λ (k : Cpu). k.mem b) bridge.same.same
-        ∙ bridge.same.keeps b (left_true (is_kept (calls.is_table older olds) b) _ is)
+        → (calls.after older).mem b ≡ (plain.after (plain_with bridge.left older)).mem b
+    kept = bridge.kept
 
-    still : plain.Follows (plain_of call) (plain_of older ∷ bridge.rest)
-    still = (
-      sym bridge.returned ∙ follows.0,
+    still : (k : ℕ) → plain.Follows (plain_with k call) (plain_with bridge.left older ∷ bridge.rest)
+    still k = (
+      sym bridge.over ∙ follows.0,
       record {
         own = λ b is. follows.1.own b is ∙ kept b (kept_own (calls.is_table older olds) b is);
         ram = λ b is. follows.1.ram b is ∙ kept b (kept_ram (calls.is_table older olds) b is);
@@ -481,9 +612,9 @@ facts_of call older olds load follows bridge = record {
       },
     )
 
-    was : sessions.Before (plain_of call) (plain_of older ∷ bridge.rest)
-    was = sessions.before (plain_of call) (plain_of older ∷ bridge.rest) still load
-        (sessions.outcome (plain_of older ∷ bridge.rest) bridge.session)
+    was : sessions.Before (plain_with 0 call) (plain_with bridge.left older ∷ bridge.rest)
+    was = sessions.before (plain_with 0 call) (plain_with bridge.left older ∷ bridge.rest) (still 0) load
+        (sessions.outcome (plain_with bridge.left older ∷ bridge.rest) bridge.session)
 
 -- before a call stand others, unless it is a reset
 Prior : Routine → calls.Call → List calls.Call → Type 0
@@ -513,31 +644,31 @@ bridge call (older ∷ olds) session =
     (unless_map call.routine (calls.Follows call (older ∷ olds) × calls.IsSession (older ∷ olds))
     ((rest : List plain.Call) × Facts call (older ∷ olds) rest)
     (λ both. let b = bridge older olds both.1 in
-    (plain_of older ∷ b.rest, facts_of call older olds session.0.loaded both.0 b)) session.3) in
+    (plain_with b.left older ∷ b.rest, facts_of call older olds session.0.loaded both.0 b)) session.3) in
     linked call (older ∷ olds) before.0 session.0 session.1 session.2 before.1
 
 pub calls_live : calls.CallsLive
 calls_live [] session = absurd session
 calls_live (call ∷ more) session =
     let b = bridge call more session in
-    let made = sessions.calls_live (plain_of call ∷ b.rest) b.session in (made.0, b.back made.0 made.1, made.2)
+    let made = sessions.calls_live (plain_with b.left call ∷ b.rest) b.session in (made.0, b.back made.0 made.1, made.2)
 
-one_as : (routine : Routine) (from : Cpu) (log : List Access) (is_taken : Bool) (one other : List Item)
-    → AddsAs routine from log is_taken one → AddsAs routine from log is_taken other → one ≡ other
-one_as calls.Reset from log is_taken one other a b = a.1 ∙ sym b.1
-one_as calls.Tick from log is_taken one other a b = sessions.one_shown (seen log) one other a b
-one_as calls.Ticks from log is_taken one other a b = sessions.one_shown (seen log) one other a b
-one_as calls.Run from log is_taken one other a b = sessions.one_shown (seen log) one other a b
-one_as (calls.Offer F) from log is_taken one other a b = a.1 ∙ sym b.1
-one_as calls.Redraw from log is_taken one other a b = a.1 ∙ sym b.1
-one_as (calls.Open F) from log is_taken one other a b = a.1 ∙ sym b.1
-one_as (calls.Puts part) from log is_taken one other a b = sessions.one_shown (seen log) one other a b
-one_as calls.Close from log is_taken one other a b = sessions.one_shown (seen log) one other a b
+one_as : (routine : Routine) (from : Cpu) (shown : List Access) (is_taken : Bool) (one other : List Item)
+    → AddsAs routine from shown is_taken one → AddsAs routine from shown is_taken other → one ≡ other
+one_as calls.Reset from shown is_taken one other a b = a.1 ∙ sym b.1
+one_as calls.Tick from shown is_taken one other a b = sessions.one_shown shown one other a b
+one_as calls.Ticks from shown is_taken one other a b = sessions.one_shown shown one other a b
+one_as calls.Run from shown is_taken one other a b = sessions.one_shown shown one other a b
+one_as (calls.Offer F) from shown is_taken one other a b = a.1 ∙ sym b.1
+one_as calls.Redraw from shown is_taken one other a b = a.1 ∙ sym b.1
+one_as (calls.Open F) from shown is_taken one other a b = a.1 ∙ sym b.1
+one_as (calls.Puts part) from shown is_taken one other a b = sessions.one_shown shown one other a b
+one_as calls.Close from shown is_taken one other a b = sessions.one_shown shown one other a b
 
 pub one_life : calls.OneLife
 one_life [] one other a b = absurd a
 one_life (call ∷ more) one other a b =
-    a.2 ∙ ap (λ l. l ++ a.1) (one_as call.routine call.from (calls.after call).log (calls.is_taken call) a.0 b.0
+    a.2 ∙ ap (λ l. l ++ a.1) (one_as call.routine call.from (seen (calls.after call).log) (calls.is_taken call) a.0 b.0
     (of_new call.routine call a.0 a.3) (of_new call.routine call b.0 b.3))
     ∙ ap (λ l. b.0 ++ l)
     (sessions.one_since call.routine a.1 b.1 (λ l. calls.IsLifeOf more l) (one_life more a.1 b.1) a.4 b.4)
@@ -548,17 +679,17 @@ answered : (routine : Routine) (c : Bool) (life : List Item)
     → ((P : Type 0) → calls.UnlessReset routine P → P) → calls.IsAnswered routine c life
     → plain.IsAnswered routine c life
 answered routine c life no_reset a =
-    let call : calls.Call = record { routine = routine; from = a.from; steps = a.steps; others = a.others } in
+    let call : calls.Call = calls.call_of routine a.from a.steps a.others in
     let b = bridge call a.calls a.session in
     record {
       from = a.from;
-      steps = a.steps;
+      steps = b.left + a.steps;
       calls = b.rest;
       session = b.session;
       makes = no_reset ((items : List Item) → calls.IsLifeOf a.calls items → plain.IsLifeOf b.rest items) b.older life
           a.makes;
-      returns = sym b.returned ∙ a.returns;
-      carry = sym (ap (λ (k : Cpu). k.c) b.same.same) ∙ a.carry;
+      returns = sym b.over ∙ a.over;
+      carry = sym (b.carry a.over) ∙ a.carry;
     }
 
 pub offer_answers : calls.OfferAnswers
@@ -578,6 +709,74 @@ redraw_answers life = let old = sessions.redraw_answers life in (
   λ a. old.0 (answered calls.Redraw false life (λ P is. is) a),
   λ a. old.1 (answered calls.Redraw true life (λ P is. is) a),
 )
+
+-- a call whose answer is decided
+module _ (call : calls.Call) (more : List calls.Call) (session : calls.IsSession (call ∷ more)) where
+  abbrev it : Cpu
+  it = calls.after call
+
+  -- what its first step finds
+  abbrev first : Cpu
+  first = changed (call.others 0) call.from
+
+  abbrev Decided : ℕ → Type 0
+  Decided k = let now = amid call.from.s call.others k call.from in
+      IsDecided now true × (now.s ≡ call.from.s)
+
+  refused_decided : calls.is_refused call ≡ true → IsDecided it (calls.answer call) × (it.s ≡ call.from.s)
+  refused_decided is =
+      let two = both_true (nat_eq call.steps 1) (calls.finds_busy call.routine call.from.mem) is in
+      let once = eqb-true call.steps 1 two.0 in
+      let alone = subst (λ k. AreHarmless (guards (is_kept (calls.is_table call more)) call.from.s) call.from.s
+      call.others k call.from) once session.2 in
+      let found : ((b : ℕ) → is_kept (calls.is_table call more) b ≡ true → call.others 0 b ≡ call.from.mem b) =
+      λ b k. alone.0 b (left_true (is_kept (calls.is_table call more) b) _ k) in
+      let phase = found 0x10 refl in
+      let small = session.0.loaded.bytes 0x10 in
+      let done = looked first (λ i h. found (0x6800 + i) (code_kept (calls.is_table call more) (0x6800 + i)
+      (both (nat_le 0x6800 (0x6800 + i)) (nat_lt (0x6800 + i) 0x6A87) (le-leb 0x6800 (0x6800 + i) (omega arith))
+      (le-leb (suc (0x6800 + i)) 0x6A87 (omega (arith, h))))) ∙ session.0.loaded.code i h)
+      (omega (arith, phase, small)) call.routine session.0.entry
+      (busy_by call.routine (call.others 0) call.from.mem phase ∙ two.1) in
+      let now = subst Decided (sym once) done in (
+        subst (λ (c : Bool). IsDecided it c) (sym (ap (λ (t : Bool). if t then true
+            else (if calls.is_leaving call.from.s it then false else it.c)) is)) now.0,
+        now.1,
+      )
+    where
+      busy_by : (routine : Routine) (m mem : ℕ → ℕ) → m 0x10 ≡ mem 0x10
+          → calls.finds_busy routine m ≡ calls.finds_busy routine mem
+      busy_by calls.Reset m mem e = refl
+      busy_by calls.Tick m mem e = refl
+      busy_by calls.Ticks m mem e = refl
+      busy_by calls.Run m mem e = refl
+      busy_by (calls.Offer F) m mem e = ap (λ p. not (nat_eq p 2)) e
+      busy_by calls.Redraw m mem e = ap (λ p. not (nat_eq p 2)) e
+      busy_by (calls.Open F) m mem e = ap (λ p. not (nat_eq p 2)) e
+      busy_by (calls.Puts Put) m mem e = ap (λ p. not (nat_eq p 7)) e
+      busy_by (calls.Puts Pair) m mem e = ap (λ p. not (nat_eq p 7)) e
+      busy_by (calls.Puts Labs) m mem e = refl
+      busy_by (calls.Puts Vector) m mem e = refl
+      busy_by calls.Close m mem e = ap (λ p. not (nat_eq p 7)) e
+
+  decided_now : calls.is_decided call ≡ true → IsDecided it (calls.answer call) × (it.s ≡ call.from.s)
+  decided_now is = by (calls.is_refused call) refl
+    where
+      by : (t : Bool) → calls.is_refused call ≡ t → IsDecided it (calls.answer call) × (it.s ≡ call.from.s)
+      by true refused = refused_decided refused
+      by false not_refused =
+          let leaves : calls.is_leaving call.from.s it ≡ true =
+          sym (ap (λ (t : Bool). t || calls.is_leaving call.from.s it) not_refused) ∙ is in
+          let level = level_of call.from.s it leaves in (
+            subst (λ (c : Bool). IsDecided it c)
+                (sym (ap (λ (t : Bool). if t then true else (if calls.is_leaving call.from.s it then false else it.c)) not_refused
+                ∙ ap (λ (t : Bool). if t then false else it.c) leaves))
+                (leaving it (subst (λ q. calls.is_leaving q it ≡ true) (sym level) leaves)),
+            level,
+          )
+
+pub calls_decide : CallsDecide
+calls_decide call more session is = decided_now call more session is
 
 -- calls that nobody interrupts are among them: each step finds memory as the one before it left it
 pub still : (s n : ℕ) (cpu : Cpu) → amid s (λ k. (run s k cpu).mem) n cpu ≡ run s n cpu

@@ -17,6 +17,8 @@ pub mod Ticking
 pub mod OfferRun
 pub mod BuildRun
 pub mod PairRun
+pub mod VectorRun
+pub mod VectorCall
 pub mod Offering
 pub mod Growing
 pub mod Steady
@@ -24,6 +26,7 @@ pub mod Standing
 pub mod Going
 pub mod TickCall
 pub mod TicksRun
+pub mod IdleTicks
 pub mod BurstRun
 pub mod BurstStep
 pub mod BurstWord
@@ -36,6 +39,8 @@ pub mod BuildScript
 pub mod Building
 pub mod Closing
 pub mod Refusing
+pub mod VectorBuilds
+pub mod VectorDraws
 pub mod Built
 pub mod Decided
 pub mod BuildCalls
@@ -44,7 +49,9 @@ pub mod ExampleFrame
 pub mod Plain
 pub mod Sessions
 pub mod Interrupted
+pub mod Idling
 pub mod Drafts
 pub mod Programs
+pub mod BuildStays
 pub mod Joined
 pub mod Example

@@ -25,7 +25,7 @@ abbrev pub page_of : (phase free publish next t0 t1 pages end second f0 f1 : ℕ
 page_of phase free publish next t0 t1 pages end second f0 f1 =
     phase ∷ free ∷ publish ∷ next ∷ t0 ∷ t1 ∷ pages ∷ end ∷ second ∷ f0 ∷ f1 ∷ []
 
-swap2 : (w t : Bool) (byte old new rest : ℕ) → (w ≡ true → (t ≡ true) × (new ≡ byte))
+pub swap2 : (w t : Bool) (byte old new rest : ℕ) → (w ≡ true → (t ≡ true) × (new ≡ byte))
     → (w ≡ false → t ≡ true → old ≡ new)
     → cond w byte (cond t old rest) ≡ cond t new rest
 swap2 true true byte old new rest hit miss = sym (hit refl).1
@@ -45,7 +45,7 @@ both_true true true is = (refl, refl)
 both_true true false is = absurd (cc)
 both_true false u is = absurd (cc)
 
-same_eqb : (a b : ℕ) → a ≡ b → nat_eq a b ≡ true
+pub same_eqb : (a b : ℕ) → a ≡ b → nat_eq a b ≡ true
 same_eqb a b e = eq-eqb a b e
 
 pub le_not : (k b : ℕ) → b < k → nat_le k b ≡ false
@@ -84,6 +84,10 @@ put_out p byte page mem not_page not_code = fun_ext (λ b. swap3 (nat_eq b p) (i
     (λ is. let e = sym (eqb-true b p is) in
     (subst (λ q. in_page q ≡ false) e not_page, subst (λ q. in_code q ≡ false) e not_code)))
 
+-- the code is at its place
+abbrev pub HasCode : (ℕ → ℕ) → Type 0
+HasCode mem = (i : ℕ) → i < length code → mem (0x6800 + i) ≡ slice_index code i
+
 module _ (mem : ℕ → ℕ) where
   abbrev pub page_in : List ℕ
   page_in = page_of (mem 0x10) (mem 0x11) (mem 0x12) (mem 0x13) (mem 0x14) (mem 0x15) (mem 0x16) (mem 0x17) (mem 0x18)
@@ -117,14 +121,17 @@ module _ (mem : ℕ → ℕ) where
   choose false false x y z one two = refl
 
   -- each memory that has the code is of this form
-  pub known : IsLoaded mem → mem ≡ laid page_in mem
-  known load = fun_ext (λ b. choose (in_page b) (in_code b) (slice_index page_in (b - 0x10))
+  pub code_known : HasCode mem → mem ≡ laid page_in mem
+  code_known has = fun_ext (λ b. choose (in_page b) (in_code b) (slice_index page_in (b - 0x10))
       (slice_index code (b - 0x6800)) (mem b)
       (λ is. let there = within_page b is in let small : b - 0x10 < 11 = omega (arith, there.0, there.1) in
       let back : 0x10 + (b - 0x10) ≡ b = omega (arith, there.0) in in_list (b - 0x10) small ∙ ap mem back)
       (λ is. let there = within_code b is in let small : b - 0x6800 < 647 = omega (arith, there.0, there.1) in
-      let back : 0x6800 + (b - 0x6800) ≡ b = omega (arith, there.0) in sym (load.code (b - 0x6800) small)
+      let back : 0x6800 + (b - 0x6800) ≡ b = omega (arith, there.0) in sym (has (b - 0x6800) small)
       ∙ ap mem back))
+
+  pub known : IsLoaded mem → mem ≡ laid page_in mem
+  known load = code_known load.code
 
 -- bytes
 abbrev all_small : List ℕ → Bool
@@ -141,7 +148,7 @@ abbrev pub AreSmall : List ℕ → Type 0
 AreSmall [] = Unit {0}
 AreSmall (x ∷ xs) = (x < 256) × AreSmall xs
 
-are_small : (xs : List ℕ) → AreSmall xs → (i : ℕ) → slice_index xs i < 256
+pub are_small : (xs : List ℕ) → AreSmall xs → (i : ℕ) → slice_index xs i < 256
 are_small [] all i = omega arith
 are_small (x ∷ xs) all zero = all.0
 are_small (x ∷ xs) all (suc i) = are_small xs all.1 i
@@ -213,12 +220,16 @@ out_of_page q low =
     rw (a, b) refl
 
 -- any state, by its place
-pub state_is : (cpu : Cpu) (pc s : ℕ) → cpu.pc ≡ pc → cpu.s ≡ s → IsLoaded cpu.mem
+pub state_coded : (cpu : Cpu) (pc s : ℕ) → cpu.pc ≡ pc → cpu.s ≡ s → HasCode cpu.mem
     → at pc cpu.a cpu.x cpu.y s cpu.n cpu.z cpu.c cpu.v (laid (page_in cpu.mem) cpu.mem) cpu.flags cpu.log ≡ cpu
-state_is cpu pc s at_pc at_s load =
-    ap (λ (m : ℕ → ℕ). at pc cpu.a cpu.x cpu.y s cpu.n cpu.z cpu.c cpu.v m cpu.flags cpu.log) (sym (known cpu.mem load))
+state_coded cpu pc s at_pc at_s has =
+    ap (λ (m : ℕ → ℕ). at pc cpu.a cpu.x cpu.y s cpu.n cpu.z cpu.c cpu.v m cpu.flags cpu.log) (sym (code_known cpu.mem has))
     ∙ ap (λ t. at pc cpu.a cpu.x cpu.y t cpu.n cpu.z cpu.c cpu.v cpu.mem cpu.flags cpu.log) (sym at_s)
     ∙ ap (λ p. at p cpu.a cpu.x cpu.y cpu.s cpu.n cpu.z cpu.c cpu.v cpu.mem cpu.flags cpu.log) (sym at_pc)
+
+pub state_is : (cpu : Cpu) (pc s : ℕ) → cpu.pc ≡ pc → cpu.s ≡ s → IsLoaded cpu.mem
+    → at pc cpu.a cpu.x cpu.y s cpu.n cpu.z cpu.c cpu.v (laid (page_in cpu.mem) cpu.mem) cpu.flags cpu.log ≡ cpu
+state_is cpu pc s at_pc at_s load = state_coded cpu pc s at_pc at_s load.code
 
 -- the same, of a known phase
 pub phase_is : (cpu : Cpu) (pc phase : ℕ) → cpu.pc ≡ pc → cpu.mem 0x10 ≡ phase → IsLoaded cpu.mem

@@ -3,24 +3,27 @@ use Rattle.std.proofs.Common.{◌≡◌, ℕ, ◌+◌, ◌<◌, ◌≤◌, Bool,
 use Rattle.std.proofs.Common.{sym, ap, ◌∙◌, subst, arith, Some, Option, None, drop, leb-true}
 use Rattle.std.proofs.Math.Seq.{drop-append_seam}
 use Rattle.std.proofs.lemmas.Bool.{leb-false}
-use Rattle.std.specs.Prelude.{nat_le, nat_lt, ◌&&◌, ◌||◌, if◌then◌else◌}
+use Rattle.std.specs.Prelude.{nat_eq, nat_le, nat_lt, ◌&&◌, ◌||◌, if◌then◌else◌, ℤ, ◌/◌, ◌%◌}
 use Rattle.dvg_frame.specs.declared.op.OpKind.{OpKind}
-use Rattle.dvg_frame.specs.declared.op.OpKind.TheVariants.{Halt as Stop}
+use Rattle.dvg_frame.specs.declared.op.OpKind.TheVariants.{Draw, Halt as Stop}
+use Rattle.dvg_code.specs.declared.instr.Instr.TheVariants.{Vctr, Svec}
+use Rattle.dvg_code.specs.Acts.{Moves, act_of}
 use Rattle.dvg_driver.specs.Script.{Item}
 use Rattle.dvg_6502.specs.Processor.{Cpu, run, at_return}
 use Rattle.dvg_6502.specs.Amid.{AreHarmless, guards, is_kept}
 use Rattle.dvg_6502.specs.Tables.{table_of}
-use Rattle.dvg_6502.specs.Routines.{Enters, Part, begins, put_by}
+use Rattle.dvg_6502.specs.Routines.{Enters, Part, Put, Pair, Labs, Vector, begins, put_by}
+use Rattle.dvg_6502.specs.Moves.{number, is_vector, is_short, in_256s, vector, vector_bytes}
 use Rattle.dvg_6502.specs.Calls.{Routine, Reset, Tick, Ticks, Run, Offer, Redraw, Open, Puts, Close, Call, after}
-use Rattle.dvg_6502.specs.Calls.{has_returned, is_taken, is_offered, entry, bounds, taken_bounds, put_on, frame_of, frame_after, Brings}
-use Rattle.dvg_6502.specs.Calls.{IsLeftAlone, Follows, UnlessReset, IsSessionBy, IsSession, TicksReturn}
+use Rattle.dvg_6502.specs.Calls.{is_over, answer, finds_busy, is_leaving, is_taken, is_offered, entry, bounds, taken_bounds, put_on, frame_of, frame_after, Brings}
+use Rattle.dvg_6502.specs.Calls.{IsLeftAlone, IsRoomFor, Follows, UnlessReset, IsSessionBy, IsSession, TicksReturn}
 use Rattle.dvg_6502.specs.Build.{IsPut}
 use Rattle.dvg_6502.specs.Programs.{IsLabs, Tells, renamed, with_drafts, BuildsOnly, AreBuilt, Hindsight}
 use Rattle.dvg_6502.proofs.Plain as plain
 use Rattle.dvg_6502.proofs.TicksRun.{ticks_return}
 use Rattle.dvg_6502.proofs.Built.{holds_in, holds_goes}
 use Rattle.dvg_6502.proofs.BuildCalls.{puts_room, puts_over, close_some}
-use Rattle.dvg_6502.proofs.Interrupted.{plain_of, bridge, facts_of, unless_map}
+use Rattle.dvg_6502.proofs.Interrupted.{plain_with, bridge, facts_of, unless_map}
 use Rattle.dvg_6502.proofs.Drafts.{Fits, shortest, shortest_fits, fits_more, table_on, ends_some, buildable, is_built}
 
 -- what may come later in the frame that is being built
@@ -57,7 +60,7 @@ record Found (R : List ℕ) (later : List OpKind) (call : Call) (calls : List Ca
   session : IsSession (call_with call draft ∷ with_drafts calls drafts)
   built : AreBuilt R (call_with call draft ∷ with_drafts calls drafts)
   same : bounds (call_with call draft ∷ with_drafts calls drafts) ≡ bounds (call ∷ calls)
-  frame : has_returned call ≡ true
+  frame : is_over call ≡ true
       → frame_of (call_with call draft ∷ with_drafts calls drafts) ≡ with_later later (frame_of (call ∷ calls))
 
 -- for all that may come later there are such drafts; and there is room for the HALT
@@ -65,21 +68,21 @@ record Finds (R : List ℕ) (call : Call) (calls : List Call) : Type 0 where
   found : (later : List OpKind) → MayCome R (frame_of (call ∷ calls)) later → Found R later call calls
   room : HasRoom (frame_of (call ∷ calls))
 
--- a call comes out amid others with the C that it has without them
+-- a call comes out amid others with the C that it has without them, and so where it is decided
 told : (call : Call) (calls : List Call) → IsSession (call ∷ calls) → (c : Bool)
     → ((k : ℕ) → at_return call.from.s (run call.from.s k call.from) ≡ true → (run call.from.s k call.from).c ≡ c)
-    → has_returned call ≡ true → (after call).c ≡ c
+    → is_over call ≡ true → answer call ≡ c
 told call calls session c carry here = let is = bridge call calls session in
-    ap (λ (k : Cpu). k.c) is.same.same ∙ carry call.steps (sym is.returned ∙ here)
+    is.carry here ∙ carry (is.left + call.steps) (sym is.over ∙ here)
 
 -- what holds at a call that follows others
-held : (call older : Call) (olds : List Call) → Enters call.from (entry call.routine) → Follows call (older ∷ olds)
+pub held : (call older : Call) (olds : List Call) → Enters call.from (entry call.routine) → Follows call (older ∷ olds)
     → IsSession (older ∷ olds)
     → (begin : ℕ) × ((stop : ℕ) × ((life : List Item) × holds_in begin stop (frame_of (older ∷ olds)) call.from.mem life))
 held call older olds enters follows session =
     let was = bridge older olds session in
     let facts = facts_of call older olds enters.loaded follows was in
-    let ends = plain.bounds (plain_of older ∷ was.rest) in (
+    let ends = plain.bounds (plain_with was.left older ∷ was.rest) in (
       ends.0,
       (
         ends.1,
@@ -97,11 +100,30 @@ ticks_come_back from others (older ∷ olds) session =
     let first = session 0 in
     let was = held call older olds first.0 first.3.0 first.3.1 in
     let done = ticks_return (holds_in was.0 was.1.0 (frame_of (older ∷ olds))) from was.0 was.1.0 was.1.1.0
-    (holds_goes was.0 was.1.0 (frame_of (older ∷ olds))) first.0.entry first.0.a first.0.s was.1.1.1 in (
+    (holds_goes was.0 was.1.0 (frame_of (older ∷ olds))) first.0.entry first.0.a first.0.s was.1.1.1 in
+    let all = bridge (record { routine = Ticks; from = from; steps = done.0; others = others }) (older ∷ olds)
+    (session done.0) in (
       done.0,
-      (bridge (record { routine = Ticks; from = from; steps = done.0; others = others }) (older ∷ olds)
-          (session done.0)).returned ∙ done.1,
+      all.returned ∙ done.1,
+      ap (λ (k : Cpu). k.mem 0x1F) all.same.same ∙ all.same.keeps 0x1F refl ∙ done.2,
     )
+
+-- the draft doesn't matter to whether a call is over
+busy_renamed : (routine : Routine) (G : List OpKind) (mem : ℕ → ℕ)
+    → finds_busy (renamed routine G) mem ≡ finds_busy routine mem
+busy_renamed Reset G mem = refl
+busy_renamed Tick G mem = refl
+busy_renamed Ticks G mem = refl
+busy_renamed Run G mem = refl
+busy_renamed (Offer F) G mem = refl
+busy_renamed Redraw G mem = refl
+busy_renamed (Open F) G mem = refl
+busy_renamed (Puts part) G mem = refl
+busy_renamed Close G mem = refl
+
+over_renamed : (call : Call) (G : List OpKind) → is_over (call_with call G) ≡ is_over call
+over_renamed call G = ap (λ (t : Bool). at_return call.from.s (after call)
+    || ((nat_eq call.steps 1 && t) || is_leaving call.from.s (after call))) (busy_renamed call.routine G call.from.mem)
 
 -- one call more; what it brings is told of the drafts that were found
 module _ (R : List ℕ) (call older : Call) (olds : List Call) (enters : Enters call.from (entry call.routine))
@@ -119,7 +141,7 @@ module _ (R : List ℕ) (call older : Call) (olds : List Call) (enters : Enters 
 
   follows' : Follows call olds'
   follows' = (
-    follows.0,
+    over_renamed older found.draft ∙ follows.0,
     record {
       own = follows.1.own;
       ram = follows.1.ram;
@@ -132,18 +154,47 @@ module _ (R : List ℕ) (call older : Call) (olds : List Call) (enters : Enters 
   frame' = found.frame follows.0
 
 -- the C of an answer says whether the call was taken
-taken_is : (call : Call) (c : Bool) → has_returned call ≡ true → (after call).c ≡ c → is_taken call ≡ not c
-taken_is call c here is = ap (λ (t : Bool). t && not (after call).c) here ∙ ap not is
+taken_is : (call : Call) (c : Bool) → is_over call ≡ true → answer call ≡ c → is_taken call ≡ not c
+taken_is call c here is = ap (λ (t : Bool). t && not (answer call)) here ∙ ap not is
 
-not_taken : (call : Call) → has_returned call ≡ false → is_taken call ≡ false
-not_taken call open_yet = ap (λ (t : Bool). t && not (after call).c) open_yet
+not_taken : (call : Call) → is_over call ≡ false → is_taken call ≡ false
+not_taken call open_yet = ap (λ (t : Bool). t && not (answer call)) open_yet
 
-returned_if : (call : Call) → is_taken call ≡ true → has_returned call ≡ true
-returned_if call is = by (has_returned call) refl
+-- a vector is one that a program may put
+vector_put : (R : List ℕ) (scale : ℕ) (dx dy : ℤ) (z : ℕ) → IsPut R (Draw (vector scale dx dy z))
+vector_put R scale dx dy z = by (is_short scale dx dy)
   where
-    by : (t : Bool) → has_returned call ≡ t → has_returned call ≡ true
-    by true here = here
-    by false open_yet = absurd (let e = sym is ∙ not_taken call open_yet in cc)
+    by : (t : Bool) → let instr = if t then Svec scale (in_256s dx) (in_256s dy) z else Vctr scale dx dy z in
+        act_of instr ≡ Moves instr
+    by true = refl
+    by false = refl
+
+vector_table : (scale : ℕ) (dx dy : ℤ) (z : ℕ) → 1 ≤ length (vector_bytes scale dx dy z)
+    → vector_bytes scale dx dy z ≡ table_of (Draw (vector scale dx dy z) ∷ [])
+vector_table scale dx dy z = by (is_vector scale dx dy)
+  where
+    by : (t : Bool) → let now = if t then table_of (Draw (vector scale dx dy z) ∷ []) else [] in
+        1 ≤ length now → now ≡ table_of (Draw (vector scale dx dy z) ∷ [])
+    by true some = refl
+    by false some = absurd (omega (arith, some))
+
+-- what a part puts is the words of an operation
+told_op : (R : List ℕ) (part : Part) (from : Cpu) (frame : ℕ × List ℕ) → Tells R (Puts part) from (Some frame)
+    → IsRoomFor part from frame.0
+    → (op : OpKind) × (put_by part from ≡ table_of (op ∷ [])) × IsPut R op × (frame.0 ≡ 0 → IsLabs op)
+told_op R Put from frame tells room = tells room
+told_op R Pair from frame tells room = tells room
+told_op R Labs from frame tells room = tells room
+told_op R Vector from frame tells room =
+    let scale = from.a / 16 in
+    let dx = number (from.mem 0x1D) (from.mem 0x1E) in
+    let dy = number (from.mem 0x1B) (from.mem 0x1C) in
+    let z = from.a % 16 in (
+      Draw (vector scale dx dy z),
+      vector_table scale dx dy z room.0,
+      vector_put R scale dx dy z,
+      λ none. absurd (omega (arith, tells, none)),
+    )
 
 -- a call that puts a part, over a frame that is being built
 module _ (R : List ℕ) (part : Part) (from : Cpu) (steps : ℕ) (others : ℕ → ℕ → ℕ) (older : Call) (olds : List Call)
@@ -170,7 +221,7 @@ module _ (R : List ℕ) (part : Part) (from : Cpu) (steps : ℕ) (others : ℕ �
       )
 
       made : (draft later : List OpKind) → Brings (Puts part) from (frame_of before)
-          → (has_returned putting ≡ true → frame_of (putting ∷ before) ≡ with_later later (frame_of (putting ∷ older ∷ olds)))
+          → (is_over putting ≡ true → frame_of (putting ∷ before) ≡ with_later later (frame_of (putting ∷ older ∷ olds)))
           → Found R later putting (older ∷ olds)
       made draft later brings frame = record {
         draft = draft;
@@ -182,12 +233,12 @@ module _ (R : List ℕ) (part : Part) (from : Cpu) (steps : ℕ) (others : ℕ �
       }
 
     module _ (frame : ℕ × List ℕ) (is : frame_of (older ∷ olds) ≡ Some frame) where
-      tells_now : frame.0 + width ≤ 1020 → (op : OpKind) × (put_by part from ≡ table_of (op ∷ [])) × IsPut R op
+      tells_now : IsRoomFor part from frame.0 → (op : OpKind) × (put_by part from ≡ table_of (op ∷ [])) × IsPut R op
           × (frame.0 ≡ 0 → IsLabs op)
-      tells_now = subst (λ f. Tells R (Puts part) from f) is tells
+      tells_now = told_op R part from frame (subst (λ f. Tells R (Puts part) from f) is tells)
 
-      -- it has room
-      module _ (room : frame.0 + width ≤ 1020) where
+      -- there is room
+      module _ (room : IsRoomFor part from frame.0) where
         abbrev op : OpKind
         op = (tells_now room).0
 
@@ -211,12 +262,12 @@ module _ (R : List ℕ) (part : Part) (from : Cpu) (steps : ℕ) (others : ℕ �
               (λ less. (table_of later, refl, ends_some R later fits.ends))
 
           -- so it is taken
-          takes : has_returned putting ≡ true → is_taken putting ≡ true
+          takes : is_over putting ≡ true → is_taken putting ≡ true
           takes here =
               let holds = held putting (call_with older found_next.draft) (with_drafts olds found_next.drafts) enters
               (follows' R putting older olds enters alone follows (op ∷ later) found_next) found_next.session in
               let did = puts_room part from holds.0 holds.1.0 (frame.0, put_by part from ++ table_of later) (table_of later)
-              holds.1.1.0 enters
+              holds.1.1.0 enters room.0
               (subst (λ f. holds_in holds.0 holds.1.0 f from.mem holds.1.1.0) frame_before holds.1.1.1) refl
               (ends_some R later fits.ends) in
               taken_is putting false here
@@ -239,32 +290,32 @@ module _ (R : List ℕ) (part : Part) (from : Cpu) (steps : ℕ) (others : ℕ �
 
         room_finds : Finds R putting (older ∷ olds)
         room_finds = record {
-          found = λ later may. by later (has_returned putting) refl may;
+          found = λ later may. by later (is_over putting) refl may;
           room = has_room (is_taken putting);
         }
           where
             has_room : (t : Bool) → HasRoom (if t then put_on (put_by part from) (frame_of (older ∷ olds))
                 else frame_of (older ∷ olds))
-            has_room true = subst (λ f. HasRoom (put_on (put_by part from) f)) (sym is) room
+            has_room true = subst (λ f. HasRoom (put_on (put_by part from) f)) (sym is) room.1
             has_room false = finds.room
 
-            taken_now : has_returned putting ≡ true → frame_of (putting ∷ older ∷ olds)
+            taken_now : is_over putting ≡ true → frame_of (putting ∷ older ∷ olds)
                 ≡ Some (frame.0 + width, drop width frame.1)
             taken_now here = ap (λ (t : Bool). if t then put_on (put_by part from) (frame_of (older ∷ olds))
-                else frame_of (older ∷ olds)) (takes (shortest (frame.0 + width)) (shortest_fits R (frame.0 + width) room) here)
+                else frame_of (older ∷ olds)) (takes (shortest (frame.0 + width)) (shortest_fits R (frame.0 + width) room.1) here)
                 ∙ ap (put_on (put_by part from)) is
 
-            by : (later : List OpKind) (t : Bool) → has_returned putting ≡ t
+            by : (later : List OpKind) (t : Bool) → is_over putting ≡ t
                 → MayCome R (frame_of (putting ∷ older ∷ olds)) later → Found R later putting (older ∷ olds)
             by later true here may = found_put later (subst (λ f. MayCome R f later) (taken_now here) may)
             by later false open_yet may =
                 let least = shortest (frame.0 + width) in
-                let fits = shortest_fits R (frame.0 + width) room in
+                let fits = shortest_fits R (frame.0 + width) room.1 in
                 made (op ∷ least) (found_next least fits) [] later (brings_next least fits)
                 (λ here. absurd (let e = sym open_yet ∙ here in cc))
 
-      -- it has none
-      module _ (over : 1020 < frame.0 + width) where
+      -- there is none
+      module _ (over : IsRoomFor part from frame.0 → ⊥) where
         over_may : (later : List OpKind) → MayCome R (frame_of (putting ∷ older ∷ olds)) later
             → is_taken putting ≡ false → MayCome R (frame_of (older ∷ olds)) later
         over_may later may untaken = subst (λ (t : Bool). MayCome R (if t then put_on (put_by part from)
@@ -275,9 +326,9 @@ module _ (R : List ℕ) (part : Part) (from : Cpu) (steps : ℕ) (others : ℕ �
           frame_over = frame' R putting older olds enters alone follows later found ∙ ap (with_later later) is
 
           brings_over : Brings (Puts part) from (frame_of (before later found))
-          brings_over = subst (λ f. Brings (Puts part) from f) (sym frame_over) (λ less. absurd (omega (arith, less, over)))
+          brings_over = subst (λ f. Brings (Puts part) from f) (sym frame_over) (λ less. absurd (over less))
 
-          refuses : has_returned putting ≡ true → is_taken putting ≡ false
+          refuses : is_over putting ≡ true → is_taken putting ≡ false
           refuses here =
               let holds = held putting (call_with older found.draft) (with_drafts olds found.drafts) enters
               (follows' R putting older olds enters alone follows later found) found.session in
@@ -287,9 +338,9 @@ module _ (R : List ℕ) (part : Part) (from : Cpu) (steps : ℕ) (others : ℕ �
               (told putting (before later found) (put_session later found brings_over) true did.carry here)
 
         untaken : is_taken putting ≡ false
-        untaken = by (has_returned putting) refl
+        untaken = by (is_over putting) refl
           where
-            by : (t : Bool) → has_returned putting ≡ t → is_taken putting ≡ false
+            by : (t : Bool) → is_over putting ≡ t → is_taken putting ≡ false
             by true here = refuses (some_later (frame_of (older ∷ olds)))
                 (finds.found (some_later (frame_of (older ∷ olds)))
                 (some_may_come R (frame_of (older ∷ olds)) finds.room)) here
@@ -311,13 +362,16 @@ module _ (R : List ℕ) (part : Part) (from : Cpu) (steps : ℕ) (others : ℕ �
     puts_find : Finds R putting (older ∷ olds)
     puts_find = by (frame_of (older ∷ olds)) refl
       where
-        split : (frame : ℕ × List ℕ) → frame_of (older ∷ olds) ≡ Some frame → (t : Bool) → nat_le (frame.0 + width) 1020 ≡ t
-            → Finds R putting (older ∷ olds)
-        split frame is true less = room_finds frame is (leb-true (frame.0 + width) 1020 less)
-        split frame is false more = over_finds frame is (leb-false (frame.0 + width) 1020 more)
+        split : (frame : ℕ × List ℕ) → frame_of (older ∷ olds) ≡ Some frame → (t : Bool) → nat_le 1 width ≡ t
+            → (u : Bool) → nat_le (frame.0 + width) 1020 ≡ u → Finds R putting (older ∷ olds)
+        split frame is true any true less = room_finds frame is (leb-true 1 width any, leb-true (frame.0 + width) 1020 less)
+        split frame is false none u less = over_finds frame is
+            (λ room. let no = leb-false 1 width none in let some = room.0 in absurd (omega (arith, no, some)))
+        split frame is true any false more = over_finds frame is
+            (λ room. let above = leb-false (frame.0 + width) 1020 more in let low = room.1 in absurd (omega (arith, above, low)))
 
         by : (frame : Option (ℕ × List ℕ)) → frame_of (older ∷ olds) ≡ frame → Finds R putting (older ∷ olds)
-        by (Some frame) is = split frame is (nat_le (frame.0 + width) 1020) refl
+        by (Some frame) is = split frame is (nat_le 1 width) refl (nat_le (frame.0 + width) 1020) refl
         by None is = record {
           found = λ later may. let found = finds.found later (subst (λ f. MayCome R f later) (sym is) tt) in
               let none : frame_of (before later found) ≡ None =
@@ -446,7 +500,7 @@ module _ (R : List ℕ) (from : Cpu) (steps : ℕ) (others : ℕ → ℕ → ℕ
       )
 
       ended : (later : List OpKind) → Brings Close from (frame_of earlier)
-          → (has_returned closing ≡ true → frame_of (closing ∷ earlier) ≡ with_later later (frame_of (closing ∷ older ∷ olds)))
+          → (is_over closing ≡ true → frame_of (closing ∷ earlier) ≡ with_later later (frame_of (closing ∷ older ∷ olds)))
           → Found R later closing (older ∷ olds)
       ended later brings frame = record {
         draft = [];
@@ -474,7 +528,7 @@ module _ (R : List ℕ) (from : Cpu) (steps : ℕ) (others : ℕ → ℕ → ℕ
       brings_halt : Brings Close from (frame_of (earlier (Stop ∷ []) found_halt))
       brings_halt = subst (λ f. Brings Close from f) (sym frame_halt) refl
 
-      closes : has_returned closing ≡ true → is_taken closing ≡ true
+      closes : is_over closing ≡ true → is_taken closing ≡ true
       closes here =
           let holds = held closing (call_with older found_halt.draft) (with_drafts olds found_halt.drafts) enters
           (follows' R closing older olds enters alone follows (Stop ∷ []) found_halt) found_halt.session in

@@ -5,7 +5,9 @@ use Rattle.std.specs.Prelude.{nat_eq, nat_le, nat_lt, bit_and, bit_or, bit_xor}
 use Rattle.dvg_6502.specs.Processor.{Cpu, Access, Reads, Writes, put, run}
 use Rattle.dvg_6502.specs.Board.{IsLoaded, seen, is_own}
 use Rattle.dvg_6502.specs.Amid.{is_kept, are_steady}
-use Rattle.dvg_6502.specs.Routines.{Enters, Part, Put, Pair, Labs, begins}
+use Rattle.dvg_6502.specs.Routines.{Enters, Pair, Labs, put_by}
+use Rattle.dvg_6502.specs.Decided.{is_labs, LabsIsPair}
+use Rattle.dvg_6502.proofs.AmidRun.{came_out}
 use Rattle.dvg_6502.proofs.Running.{Comes, by, at, returned}
 use Rattle.dvg_6502.proofs.Memory.{laid, page_of, page_in, known, loaded, put_small, both_true, state_is}
 use Rattle.dvg_6502.proofs.FedByte.{compared}
@@ -55,7 +57,7 @@ module _ (q a x y s : ℕ) (n z c v : Bool) (phase free publish next t0 t1 pages
         there = refl;
       })
 
-  pair_refuses : nat_eq phase 7 ≡ false
+  pub pair_refuses : nat_eq phase 7 ≡ false
       → Comes q (at 0x6989 a x y s n z c v (laid page mem) flags log) s true (laid page mem) (seen log) []
   pair_refuses other =
       by q 2 _ (told 0x698D 7 false) s true _ _ (ap (told 0x698D 7) (compared phase 7 small (omega arith) ∙ other))
@@ -88,7 +90,7 @@ module _ (q a x y s : ℕ) (n z c v : Bool) (phase free publish next t0 t1 pages
       })
 
 -- two words have no room
-pair_full : (q a x y s : ℕ) (n z c v : Bool) (free publish next t0 t1 pages end second f0 f1 : ℕ) (mem flags : ℕ → ℕ)
+pub pair_full : (q a x y s : ℕ) (n z c v : Bool) (free publish next t0 t1 pages end second f0 f1 : ℕ) (mem flags : ℕ → ℕ)
     (log : List Access) → nat_le 3 pages ≡ true → nat_le 0xFC next ≡ true
     → let page = page_of 7 free publish next t0 t1 pages end second f0 f1 in
     Comes q (at 0x6989 a x y s n z c v (laid page mem) flags log) s true (laid page mem) (seen log) []
@@ -210,31 +212,29 @@ module _ (cpu : Cpu) (enters : Enters cpu 0x6979) where
           ∙ sym (ap (λ (m : ℕ → ℕ). m b) (known cpu.mem enters.loaded))
 
 -- no frame is being built
-pub puts_refused : (part : Part) (cpu : Cpu) → Enters cpu (begins part) → nat_eq (cpu.mem 0x10) 7 ≡ false → Refuses cpu
-puts_refused Put cpu enters other = unchanged cpu 0x6957 enters
+pub put_refused : (cpu : Cpu) → Enters cpu 0x6957 → nat_eq (cpu.mem 0x10) 7 ≡ false → Refuses cpu
+put_refused cpu enters other = unchanged cpu 0x6957 enters
     (put_refuses cpu.s cpu.a cpu.x cpu.y cpu.s cpu.n cpu.z cpu.c cpu.v (cpu.mem 0x11) (cpu.mem 0x12)
     (cpu.mem 0x13) (cpu.mem 0x14) (cpu.mem 0x15) (cpu.mem 0x16) (cpu.mem 0x17) (cpu.mem 0x18) (cpu.mem 0x19) (cpu.mem 0x1A)
     cpu.mem cpu.flags [] (cpu.mem 0x10) (enters.loaded.bytes 0x10) other)
-puts_refused Pair cpu enters other = unchanged cpu 0x6989 enters
+
+pub pair_refused : (cpu : Cpu) → Enters cpu 0x6989 → nat_eq (cpu.mem 0x10) 7 ≡ false → Refuses cpu
+pair_refused cpu enters other = unchanged cpu 0x6989 enters
     (pair_refuses cpu.s cpu.a cpu.x cpu.y cpu.s cpu.n cpu.z cpu.c cpu.v (cpu.mem 0x10) (cpu.mem 0x11) (cpu.mem 0x12)
     (cpu.mem 0x13) (cpu.mem 0x14) (cpu.mem 0x15) (cpu.mem 0x16) (cpu.mem 0x17) (cpu.mem 0x18) (cpu.mem 0x19) (cpu.mem 0x1A)
     cpu.mem cpu.flags [] (enters.loaded.bytes 0x10) other)
-puts_refused Labs cpu enters other = labs_as_pair cpu enters
+
+pub labs_refused : (cpu : Cpu) → Enters cpu 0x6979 → nat_eq (cpu.mem 0x10) 7 ≡ false → Refuses cpu
+labs_refused cpu enters other = labs_as_pair cpu enters
     (pair_refuses cpu.s (h cpu enters) cpu.x cpu.y cpu.s (nat_le 128 (h cpu enters)) (nat_eq (h cpu enters) 0) cpu.c cpu.v
     (cpu.mem 0x10) (cpu.mem 0x11) (cpu.mem 0x12)
     (cpu.mem 0x13) (cpu.mem 0x14) (cpu.mem 0x15) (cpu.mem 0x16) (cpu.mem 0x17) (cpu.mem 0x18) (cpu.mem 0x19) (cpu.mem 0x1A)
     (set cpu enters) cpu.flags (log4 cpu enters) (enters.loaded.bytes 0x10) other)
 
--- from which place of the last page on a part has no room
-abbrev pub last_of : Part → ℕ
-last_of Put = 0xFE
-last_of Pair = 0xFC
-last_of Labs = 0xFC
-
--- it has no room
-pub puts_full : (part : Part) (cpu : Cpu) → Enters cpu (begins part) → cpu.mem 0x10 ≡ 7 → nat_le 3 (cpu.mem 0x16) ≡ true
-    → nat_le (last_of part) (cpu.mem 0x13) ≡ true → Refuses cpu
-puts_full Put cpu enters is last late = unchanged cpu 0x6957 enters
+-- there is no room
+pub full_put : (cpu : Cpu) → Enters cpu 0x6957 → cpu.mem 0x10 ≡ 7 → nat_le 3 (cpu.mem 0x16) ≡ true
+    → nat_le 0xFE (cpu.mem 0x13) ≡ true → Refuses cpu
+full_put cpu enters is last late = unchanged cpu 0x6957 enters
     (subst (λ p. Comes cpu.s (at 0x6957 cpu.a cpu.x cpu.y cpu.s cpu.n cpu.z cpu.c cpu.v (laid (page_of p (cpu.mem 0x11)
     (cpu.mem 0x12) (cpu.mem 0x13) (cpu.mem 0x14) (cpu.mem 0x15) (cpu.mem 0x16) (cpu.mem 0x17) (cpu.mem 0x18) (cpu.mem 0x19)
     (cpu.mem 0x1A)) cpu.mem) cpu.flags []) cpu.s true (laid (page_of p (cpu.mem 0x11)
@@ -243,7 +243,10 @@ puts_full Put cpu enters is last late = unchanged cpu 0x6957 enters
     (put_full cpu.s cpu.a cpu.x cpu.y cpu.s cpu.n cpu.z cpu.c cpu.v (cpu.mem 0x11) (cpu.mem 0x12)
     (cpu.mem 0x13) (cpu.mem 0x14) (cpu.mem 0x15) (cpu.mem 0x16) (cpu.mem 0x17) (cpu.mem 0x18) (cpu.mem 0x19) (cpu.mem 0x1A)
     cpu.mem cpu.flags [] last late))
-puts_full Pair cpu enters is last late = unchanged cpu 0x6989 enters
+
+pub full_pair : (cpu : Cpu) → Enters cpu 0x6989 → cpu.mem 0x10 ≡ 7 → nat_le 3 (cpu.mem 0x16) ≡ true
+    → nat_le 0xFC (cpu.mem 0x13) ≡ true → Refuses cpu
+full_pair cpu enters is last late = unchanged cpu 0x6989 enters
     (subst (λ p. Comes cpu.s (at 0x6989 cpu.a cpu.x cpu.y cpu.s cpu.n cpu.z cpu.c cpu.v (laid (page_of p (cpu.mem 0x11)
     (cpu.mem 0x12) (cpu.mem 0x13) (cpu.mem 0x14) (cpu.mem 0x15) (cpu.mem 0x16) (cpu.mem 0x17) (cpu.mem 0x18) (cpu.mem 0x19)
     (cpu.mem 0x1A)) cpu.mem) cpu.flags []) cpu.s true (laid (page_of p (cpu.mem 0x11)
@@ -252,7 +255,10 @@ puts_full Pair cpu enters is last late = unchanged cpu 0x6989 enters
     (pair_full cpu.s cpu.a cpu.x cpu.y cpu.s cpu.n cpu.z cpu.c cpu.v (cpu.mem 0x11) (cpu.mem 0x12)
     (cpu.mem 0x13) (cpu.mem 0x14) (cpu.mem 0x15) (cpu.mem 0x16) (cpu.mem 0x17) (cpu.mem 0x18) (cpu.mem 0x19) (cpu.mem 0x1A)
     cpu.mem cpu.flags [] last late))
-puts_full Labs cpu enters is last late = labs_as_pair cpu enters
+
+pub full_labs : (cpu : Cpu) → Enters cpu 0x6979 → cpu.mem 0x10 ≡ 7 → nat_le 3 (cpu.mem 0x16) ≡ true
+    → nat_le 0xFC (cpu.mem 0x13) ≡ true → Refuses cpu
+full_labs cpu enters is last late = labs_as_pair cpu enters
     (subst (λ p. Comes cpu.s (at 0x6989 (h cpu enters) cpu.x cpu.y cpu.s (nat_le 128 (h cpu enters))
     (nat_eq (h cpu enters) 0) cpu.c cpu.v (laid (page_of p (cpu.mem 0x11)
     (cpu.mem 0x12) (cpu.mem 0x13) (cpu.mem 0x14) (cpu.mem 0x15) (cpu.mem 0x16) (cpu.mem 0x17) (cpu.mem 0x18) (cpu.mem 0x19)
@@ -263,3 +269,37 @@ puts_full Labs cpu enters is last late = labs_as_pair cpu enters
     (cpu.mem 0x11) (cpu.mem 0x12)
     (cpu.mem 0x13) (cpu.mem 0x14) (cpu.mem 0x15) (cpu.mem 0x16) (cpu.mem 0x17) (cpu.mem 0x18) (cpu.mem 0x19) (cpu.mem 0x1A)
     (set cpu enters) cpu.flags (log4 cpu enters) last late))
+
+-- dvg_labs, up to where it is dvg_pair
+module _ (cpu : Cpu) (enters : Enters cpu 0x6979) where
+  abbrev now : Cpu
+  now = paired cpu enters
+
+  labs_at : run cpu.s 8 cpu ≡ now
+  labs_at = sym (ap (run cpu.s 8) (here_is cpu 0x6979 enters))
+      ∙ labs_run cpu.s cpu.a cpu.x cpu.y cpu.s cpu.n cpu.z cpu.c cpu.v (page_in cpu.mem) cpu.mem cpu.flags []
+
+  labs_kept : (b : ℕ) → b ≢ 0x1C → b ≢ 0x1E → now.mem b ≡ cpu.mem b
+  labs_kept b not_y not_x = past_low 0x1C (h cpu enters) (page_in cpu.mem) (put 0x1E (l cpu enters) cpu.mem) refl refl b not_y
+      ∙ past_low 0x1E (l cpu enters) (page_in cpu.mem) cpu.mem refl refl b not_x
+      ∙ sym (ap (λ (m : ℕ → ℕ). m b) (known cpu.mem enters.loaded))
+
+  labs_words : put_by Pair now ≡ put_by Labs cpu
+  labs_words = ap (λ h. cpu.mem 0x1B ∷ h ∷ cpu.mem 0x1D ∷ l cpu enters ∷ []) (opened (cpu.mem 0x1C) (enters.loaded.bytes 0x1C))
+      ∙ ap (λ l. cpu.mem 0x1B ∷ (0xA0 + cpu.mem 0x1C % 16) ∷ cpu.mem 0x1D ∷ l ∷ [])
+      (mixed cpu.a (cpu.mem 0x1E) enters.a (enters.loaded.bytes 0x1E))
+
+  labs_alone : are_steady is_labs cpu.s 8 cpu ≡ true
+  labs_alone = ap (are_steady is_labs cpu.s 8) (sym (here_is cpu 0x6979 enters))
+
+pub labs_is_pair : LabsIsPair
+labs_is_pair cpu enters =
+    let at_pair = labs_at cpu enters in
+    record {
+      place = ap (λ (k : Cpu). k.pc) at_pair;
+      stack = ap (λ (k : Cpu). k.s) at_pair;
+      shows = ap (λ (k : Cpu). seen k.log) at_pair;
+      words = ap (put_by Pair) at_pair ∙ labs_words cpu enters;
+      kept = λ b not_y not_x. ap (λ (k : Cpu). k.mem b) at_pair ∙ labs_kept cpu enters b not_y not_x;
+      alike = λ others harmless. came_out is_labs cpu.s 8 cpu cpu.mem others (λ b is. refl) (labs_alone cpu enters) harmless;
+    }

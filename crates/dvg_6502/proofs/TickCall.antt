@@ -22,7 +22,7 @@ use Rattle.dvg_6502.proofs.Standing.{Stood, stood_on, stood_tick, items_of, show
 use Rattle.dvg_6502.proofs.Going.{Claim, GoesTo, Keeps, Stretch, stood_in, finish}
 
 -- what was put somewhere is found there
-found : (p v : ℕ) (page : List ℕ) (mem : ℕ → ℕ) → in_page p ≡ false → in_code p ≡ false → laid page (put p v mem) p ≡ v
+pub found : (p v : ℕ) (page : List ℕ) (mem : ℕ → ℕ) → in_page p ≡ false → in_code p ≡ false → laid page (put p v mem) p ≡ v
 found p v page mem not_page not_code = sym (ap (λ (m : ℕ → ℕ). m p) (put_out p v page mem not_page not_code))
     ∙ ap (λ (t : Bool). if t then v else laid page mem p) (eq-eqb p p refl)
 
@@ -32,7 +32,7 @@ pub past_low : (p v : ℕ) (page : List ℕ) (mem : ℕ → ℕ) → in_page p �
 past_low p v page mem not_page not_code b not = sym (ap (λ (m : ℕ → ℕ). m b) (put_out p v page mem not_page not_code))
     ∙ ap (λ (t : Bool). if t then v else laid page mem b) (ne_eqb b p not)
 
-on_stack : (p : ℕ) → 0x100 ≤ p → p < 0x200 → (in_page p ≡ false) × (in_code p ≡ false)
+pub on_stack : (p : ℕ) → 0x100 ≤ p → p < 0x200 → (in_page p ≡ false) × (in_code p ≡ false)
 on_stack p low high =
     let a : nat_le 0x10 p ≡ true = le-leb 0x10 p (omega arith) in
     let b : nat_lt p 0x1B ≡ false = le_not (suc p) 0x1B (omega arith) in
@@ -144,7 +144,7 @@ abbrev pub Turned : (q : ℕ) (site : Bool) → Cpu → (begin stop : ℕ) → L
 Turned q site cpu begin stop life = TurnedTo (stood_in begin stop) q site cpu begin stop life
 
 -- a return within a call
-rts : (q : ℕ) (cpu : Cpu) → cpu.mem cpu.pc ≡ 0x60 → nat_eq cpu.s q ≡ false → turn q cpu ≡ does Return cpu
+pub rts : (q : ℕ) (cpu : Cpu) → cpu.mem cpu.pc ≡ 0x60 → nat_eq cpu.s q ≡ false → turn q cpu ≡ does Return cpu
 rts q cpu opcode inner =
     ap (λ b. if (nat_eq b 0x60 && nat_eq cpu.s q) then cpu else does (decoded opcodes b) cpu) opcode
     ∙ ap (λ (t : Bool). if t then cpu else does Return cpu) inner

@@ -75,7 +75,7 @@ module _ (q a x y : ℕ) (n z c v : Bool) (mem flags : ℕ → ℕ) (log : List 
   abbrev told : Bool → (ℕ → ℕ) → Cpu
   told t m = at 0x6867 a x y q (nat_le 128 r) t c v m flags (Writes 0x1F r ∷ Reads 0x1F (mem 0x1F) ∷ log)
 
-  abbrev then_at : ℕ → Bool → Cpu
+  abbrev pub then_at : ℕ → Bool → Cpu
   then_at pc t = record (told t (laid (page_in mem) (put 0x1F r mem))) { pc = pc }
 
   counts : (t : Bool) → nat_eq r 0 ≡ t → run q 1 from ≡ told t (laid (page_in mem) (put 0x1F r mem))
@@ -161,7 +161,8 @@ module _ (P : Claim) (begin stop : ℕ) (goes : GoesByTicks P begin stop) (q : �
 
   -- they come to their end
   ticks_end : (n : ℕ) (cpu : Cpu) (life : List Item) → n ≤ 255 → cpu.pc ≡ 0x6862 → cpu.s ≡ q
-      → cpu.mem 0x1F ≡ suc n % 256 → P cpu.mem life → (k : ℕ) × (at_return q (run q k cpu) ≡ true)
+      → cpu.mem 0x1F ≡ suc n % 256 → P cpu.mem life
+      → (k : ℕ) × (at_return q (run q k cpu) ≡ true) × ((run q k cpu).mem 0x1F ≡ 0)
   ticks_end zero cpu life most at_pc at_q count stood =
       let t = tick_call_to P begin stop goes q false cpu life q_small at_pc at_q stood in
       let mid = run q t.steps cpu in
@@ -171,6 +172,7 @@ module _ (P : Claim) (begin stop : ℕ) (goes : GoesByTicks P begin stop) (q : �
         2 + t.steps,
         ap (at_return q) (run_more q t.steps 2 cpu ∙ is)
             ∙ returned q (then_at q mid.a mid.x mid.y mid.n mid.z mid.c mid.v mid.mem mid.flags mid.log 0x6869 true) refl refl,
+        ap (λ (c : Cpu). c.mem 0x1F) (run_more q t.steps 2 cpu ∙ is) ∙ ap (λ m. (m + 255) % 256) (t.kept ∙ count),
       )
   ticks_end (suc n) cpu life most at_pc at_q count stood =
       let t = tick_call_to P begin stop goes q false cpu life q_small at_pc at_q stood in
@@ -185,6 +187,8 @@ module _ (P : Claim) (begin stop : ℕ) (goes : GoesByTicks P begin stop) (q : �
         rest.0 + (2 + t.steps),
         ap (at_return q) (run_more q (2 + t.steps) rest.0 cpu
             ∙ ap (run q rest.0) (run_more q t.steps 2 cpu ∙ is)) ∙ rest.1,
+        ap (λ (c : Cpu). c.mem 0x1F) (run_more q (2 + t.steps) rest.0 cpu
+            ∙ ap (run q rest.0) (run_more q t.steps 2 cpu ∙ is)) ∙ rest.2,
       )
     where
       lower : (n m : ℕ) → m ≡ suc (suc n) % 256 → suc n ≤ 255 → (m + 255) % 256 ≡ suc n % 256
@@ -216,11 +220,12 @@ ticks_go P k cpu begin stop life goes at_pc a_small s_small stood =
 -- it returns
 pub ticks_return : (P : Claim) (cpu : Cpu) (begin stop : ℕ) (life : List Item) → GoesByTicks P begin stop
     → cpu.pc ≡ 0x6860 → cpu.a < 256 → cpu.s < 256 → P cpu.mem life
-    → (k : ℕ) × (at_return cpu.s (run cpu.s k cpu) ≡ true)
+    → (k : ℕ) × (at_return cpu.s (run cpu.s k cpu) ≡ true) × ((run cpu.s k cpu).mem 0x1F ≡ 0)
 ticks_return P cpu begin stop life goes at_pc a_small s_small stood =
     let rest = ticks_end P begin stop goes cpu.s s_small ((cpu.a + 255) % 256) (run cpu.s 1 from) life
     (omega arith) refl refl (omega (arith, a_small)) counted in
-    (rest.0 + 1, ap (at_return cpu.s) (ap (run cpu.s (rest.0 + 1)) (sym is) ∙ run_more cpu.s 1 rest.0 from) ∙ rest.1)
+    let on = ap (run cpu.s (rest.0 + 1)) (sym is) ∙ run_more cpu.s 1 rest.0 from in
+    (rest.0 + 1, ap (at_return cpu.s) on ∙ rest.1, ap (λ (c : Cpu). c.mem 0x1F) on ∙ rest.2)
   where
     from : Cpu
     from = at 0x6860 cpu.a cpu.x cpu.y cpu.s cpu.n cpu.z cpu.c cpu.v (laid (page_in cpu.mem) cpu.mem) cpu.flags cpu.log

@@ -15,8 +15,8 @@ use Rattle.dvg_6502.specs.Processor.{Cpu, Writes, run, at_return}
 use Rattle.dvg_6502.specs.Amid.{ComesOut, guards, is_kept_building}
 use Rattle.dvg_6502.specs.Board.{seen, is_own, goal_in}
 use Rattle.dvg_6502.specs.Holds.{Holds, IsFeeding}
-use Rattle.dvg_6502.specs.Routines.{Enters, Part, Put, Pair, Labs, begins, put_by}
-use Rattle.dvg_6502.specs.Build.{IsBuilding, Builds, Closes, written}
+use Rattle.dvg_6502.specs.Routines.{Enters, Part, Put, Pair, Labs, Vector, begins, put_by}
+use Rattle.dvg_6502.specs.Build.{IsBuilding, Builds, IsRefused, Closes, written}
 use Rattle.dvg_6502.specs.Whole.{Done, end_of, IsDone, Parts, memory_after}
 use Rattle.dvg_6502.specs.Whole.{AreDone, bytes_put, seen_of, BuildsFrame, BuildsLife}
 use Rattle.dvg_6502.proofs.Growing.{same_end}
@@ -24,6 +24,7 @@ use Rattle.dvg_6502.proofs.Standing.{holds_on}
 use Rattle.dvg_6502.proofs.Built.{building_on, goal_on}
 use Rattle.dvg_6502.proofs.BuildScript.{builds_script}
 use Rattle.dvg_6502.proofs.Building.{put_takes}
+use Rattle.dvg_6502.proofs.VectorBuilds.{vector_takes, vector_refuses, own_not_work}
 use Rattle.dvg_6502.proofs.Closing.{open_is_taken, pair_takes, labs_takes, close_takes}
 
 written_append : (a : ℕ) (xs ys : List ℕ) → written a (xs ++ ys) ≡ written (a + length xs) ys ++ written a xs
@@ -64,13 +65,57 @@ same entry before call steps done out back =
     left_true true u is = refl
     left_true false u is = absurd (cc)
 
--- what a part does
-part_takes : (part : Part) (cpu : Cpu) (half : Half) (flipped : Bool) (rest : List ℕ) → Enters cpu (begins part)
+-- what a part does, whether it puts something or is refused
+record Does (cpu : Cpu) (half : Half) (flipped : Bool) (now rest : List ℕ) : Type 0 where
+  steps : ℕ
+  returns : at_return cpu.s (run cpu.s steps cpu) ≡ true
+  shows : seen (run cpu.s steps cpu).log ≡ written (goal_in cpu.mem) now
+  goes_on : goal_in (run cpu.s steps cpu).mem ≡ goal_in cpu.mem + length now
+  building : IsBuilding (run cpu.s steps cpu).mem half flipped rest
+  alike : ComesOut (guards is_kept_building cpu.s) cpu
+
+of_builds : (cpu : Cpu) (half : Half) (flipped : Bool) (now rest : List ℕ) → Builds cpu half flipped now rest
+    → Does cpu half flipped now rest
+of_builds cpu half flipped now rest did = record {
+  steps = did.steps;
+  returns = did.returns;
+  shows = did.shows;
+  goes_on = did.goes_on;
+  building = did.building;
+  alike = did.alike;
+}
+
+of_refusal : (cpu : Cpu) (half : Half) (flipped : Bool) (rest : List ℕ) → IsRefused cpu → IsBuilding cpu.mem half flipped rest
+    → Does cpu half flipped [] rest
+of_refusal cpu half flipped rest did building = record {
+  steps = did.steps;
+  returns = did.returns;
+  shows = did.shows;
+  goes_on = goal_on cpu.mem (run cpu.s did.steps cpu).mem own ∙ omega arith;
+  building = building_on cpu.mem (run cpu.s did.steps cpu).mem half flipped rest own building;
+  alike = did.alike;
+}
+  where
+    own : (b : ℕ) → is_own b ≡ true → (run cpu.s did.steps cpu).mem b ≡ cpu.mem b
+    own b is = did.kept b (own_not_work b is)
+
+part_does : (part : Part) (cpu : Cpu) (half : Half) (flipped : Bool) (rest : List ℕ) → Enters cpu (begins part)
     → IsBuilding cpu.mem half flipped (put_by part cpu ++ rest) → 2 ≤ length rest
-    → Builds cpu half flipped (put_by part cpu) rest
-part_takes Put cpu half flipped rest enters building more = put_takes cpu half flipped rest enters building more
-part_takes Pair cpu half flipped rest enters building more = pair_takes cpu half flipped rest enters building more
-part_takes Labs cpu half flipped rest enters building more = labs_takes cpu half flipped rest enters building more
+    → Does cpu half flipped (put_by part cpu) rest
+part_does Put cpu half flipped rest enters building more =
+    of_builds cpu half flipped _ rest (put_takes cpu half flipped rest enters building more)
+part_does Pair cpu half flipped rest enters building more =
+    of_builds cpu half flipped _ rest (pair_takes cpu half flipped rest enters building more)
+part_does Labs cpu half flipped rest enters building more =
+    of_builds cpu half flipped _ rest (labs_takes cpu half flipped rest enters building more)
+part_does Vector cpu half flipped rest enters building more = by (put_by Vector cpu) refl
+  where
+    by : (now : List ℕ) → put_by Vector cpu ≡ now → Does cpu half flipped (put_by Vector cpu) rest
+    by [] is = subst (λ l. Does cpu half flipped l rest) (sym is)
+        (of_refusal cpu half flipped rest (vector_refuses cpu enters (inl is))
+        (subst (λ l. IsBuilding cpu.mem half flipped (l ++ rest)) is building))
+    by (byte ∷ bytes) is = of_builds cpu half flipped (put_by Vector cpu) rest (vector_takes cpu half flipped rest enters
+        (let e = ap length is in omega (arith, e)) building more).0
 
 -- what parts do
 record Did (mem : ℕ → ℕ) (calls : Parts) (half : Half) (flipped : Bool) (rest : List ℕ) : Type 0 where
@@ -89,7 +134,7 @@ parts_do mem (call ∷ calls) half flipped rest done building more =
     (subst (IsBuilding mem half flipped) (append_assoc (bytes_put calls) now rest) building) long in
     let at_entry = building_on (memory_after mem calls) call.1.from.mem half flipped (now ++ rest) done.0.untouched
     older.building in
-    let did = part_takes call.0 call.1.from half flipped rest done.0.enters at_entry more in
+    let did = part_does call.0 call.1.from half flipped rest done.0.enters at_entry more in
     let out = same (begins call.0) (memory_after mem calls) call.1 did.steps done.0 did.alike did.returns in
     let goal : goal_in call.1.from.mem ≡ goal_in mem + length (bytes_put calls) =
     goal_on (memory_after mem calls) call.1.from.mem done.0.untouched ∙ older.goes_on in

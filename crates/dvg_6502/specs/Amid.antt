@@ -1,8 +1,8 @@
 -- Calls that are interrupted: between any two instructions others may change each byte that isn't guarded.
 use Rattle.std.specs.Prelude.{◌≡◌, ℕ, zero, suc, ◌+◌, ◌%◌, ◌&&◌, ◌||◌, Bool, true, false, not, nat_eq, nat_le}
 use Rattle.std.specs.Prelude.{nat_lt, List, [], ◌∷◌}
-use Rattle.dvg_6502.specs.Processor.{Cpu, Instr, Mode, Immediate, ZeroPage, Absolute, IndirectIndexed, Load, Store}
-use Rattle.dvg_6502.specs.Processor.{And, Or, Xor, Compare, TestBits, Change, ShiftLeft, RotateLeft}
+use Rattle.dvg_6502.specs.Processor.{Cpu, Instr, Mode, Immediate, ZeroPage, ZeroPageX, Absolute, IndirectIndexed, Load}
+use Rattle.dvg_6502.specs.Processor.{Store, And, Or, Xor, Compare, TestBits, Change, ShiftLeft, RotateLeft}
 use Rattle.dvg_6502.specs.Processor.{Branch, Jump, Call, Return}
 use Rattle.dvg_6502.specs.Processor.{decoded, opcodes, address, stack_place, turn, run, at_return}
 use Rattle.dvg_6502.specs.Board.{is_own, is_hardware}
@@ -15,6 +15,7 @@ changed mem cpu = record cpu { mem = mem }
 abbrev pub naming : Mode → Cpu → List ℕ
 naming Immediate cpu = []
 naming ZeroPage cpu = (cpu.pc + 1) ∷ []
+naming ZeroPageX cpu = (cpu.pc + 1) ∷ []
 naming Absolute cpu = (cpu.pc + 1) ∷ (cpu.pc + 2) ∷ []
 naming IndirectIndexed cpu = let zp = cpu.mem (cpu.pc + 1) in (cpu.pc + 1) ∷ zp ∷ ((zp + 1) % 256) ∷ []
 
@@ -22,6 +23,7 @@ naming IndirectIndexed cpu = let zp = cpu.mem (cpu.pc + 1) in (cpu.pc + 1) ∷ z
 abbrev pub named : Mode → Cpu → List ℕ
 named Immediate cpu = (cpu.pc + 1) ∷ []
 named ZeroPage cpu = address ZeroPage cpu ∷ naming ZeroPage cpu
+named ZeroPageX cpu = address ZeroPageX cpu ∷ naming ZeroPageX cpu
 named Absolute cpu = address Absolute cpu ∷ naming Absolute cpu
 named IndirectIndexed cpu = address IndirectIndexed cpu ∷ naming IndirectIndexed cpu
 
@@ -34,7 +36,7 @@ touches (Or mode) cpu = named mode cpu
 touches (Xor mode) cpu = named mode cpu
 touches (Compare r mode) cpu = named mode cpu
 touches (TestBits mode) cpu = named mode cpu
-touches (Change by) cpu = named ZeroPage cpu
+touches (Change mode by) cpu = named mode cpu
 touches ShiftLeft cpu = named ZeroPage cpu
 touches RotateLeft cpu = named ZeroPage cpu
 touches (Branch flag when) cpu = (cpu.pc + 1) ∷ []

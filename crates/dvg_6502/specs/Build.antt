@@ -1,6 +1,6 @@
--- Frames that a program builds, by dvg_open, dvg_put, dvg_pair, dvg_labs and dvg_close.
-use Rattle.std.specs.Prelude.{◌≡◌, ℕ, suc, ◌+◌, ◌-◌, ◌*◌, ◌%◌, ◌≤◌, Bool, true, false, not, List, [], ◌∷◌, ◌++◌}
-use Rattle.std.specs.Prelude.{length, ◌⊎◌, All, Some, ◌/◌}
+-- Frames that a program builds, by dvg_open, dvg_put, dvg_pair, dvg_labs, dvg_vector and dvg_close.
+use Rattle.std.specs.Prelude.{◌≡◌, ◌≢◌, ℕ, suc, ◌+◌, ◌-◌, ◌*◌, ◌%◌, ◌<◌, ◌≤◌, Bool, true, false, not, List, [], ◌∷◌}
+use Rattle.std.specs.Prelude.{◌++◌, length, ◌⊎◌, All, Some, ◌/◌, nat_eq}
 use Rattle.dvg_code.specs.declared.instr.Instr.TheVariants.{Labs}
 use Rattle.dvg_code.specs.Acts.{Moves, act_of}
 use Rattle.dvg_frame.specs.declared.op.OpKind.{OpKind}
@@ -13,13 +13,14 @@ use Rattle.dvg_driver.specs.declared.action.Action.TheVariants.{Wrote}
 use Rattle.dvg_driver.specs.Script.{Item, Did, word_zero}
 use Rattle.dvg_driver.specs.Place.{Resting, Writing, place_of_life}
 use Rattle.dvg_frame.specs.Bytes.{addressed}
-use Rattle.dvg_6502.specs.Amid.{ComesOut, guards, is_kept_building}
+use Rattle.dvg_6502.specs.Amid.{ComesOut, guards, is_kept_building, is_work}
 use Rattle.dvg_6502.specs.Calls.{AreShown}
-use Rattle.dvg_6502.specs.Processor.{Cpu, Access, Writes, run, at_return}
-use Rattle.dvg_6502.specs.Code.{dvg_tick, dvg_open, dvg_put, dvg_pair, dvg_labs, dvg_close}
-use Rattle.dvg_6502.specs.Board.{IsLoaded, seen, phase_in, free_in, publish_in, place_in, pages_in, goal_in}
+use Rattle.dvg_6502.specs.Processor.{Cpu, Access, Writes, run, at_return, stack_place}
+use Rattle.dvg_6502.specs.Code.{dvg_ticks, dvg_tick, dvg_open, dvg_put, dvg_pair, dvg_labs, dvg_vector, dvg_close}
+use Rattle.dvg_6502.specs.Board.{IsLoaded, seen, is_own, is_ram, phase_in, free_in, publish_in, place_in, pages_in}
+use Rattle.dvg_6502.specs.Board.{goal_in}
 use Rattle.dvg_6502.specs.Holds.{Holds, publish_byte}
-use Rattle.dvg_6502.specs.Routines.{Enters}
+use Rattle.dvg_6502.specs.Routines.{Enters, Vector, put_by}
 
 -- a frame is being built, of which these bytes are to come; the HALT's are the last ones
 pub record IsBuilding (mem : ℕ → ℕ) (half : Half) (flipped : Bool) (rest : List ℕ) : Type 0 where
@@ -68,6 +69,36 @@ LabsTakes = (cpu : Cpu) (half : Half) (flipped : Bool) (rest : List ℕ) → Ent
     → let now = cpu.mem 0x1B ∷ (0xA0 + cpu.mem 0x1C % 16) ∷ cpu.mem 0x1D ∷ (16 * (cpu.a / 16) + cpu.mem 0x1E % 16) ∷ [] in
     IsBuilding cpu.mem half flipped (now ++ rest) → 2 ≤ length rest → Builds cpu half flipped now rest
 
+-- dvg_vector puts the vector of dvg_x and dvg_y, each of -1023 to 1023; A is 16 times the scale, of 0 to 9, and the intensity;
+-- of memory it changes at most the driver's bytes, dvg_y, dvg_x, left, length, and the vector RAM
+abbrev pub VectorTakes : Type 0
+VectorTakes = (cpu : Cpu) (half : Half) (flipped : Bool) (rest : List ℕ) → Enters cpu dvg_vector
+    → let now = put_by Vector cpu in
+    1 ≤ length now → IsBuilding cpu.mem half flipped (now ++ rest) → 2 ≤ length rest
+    → (did : Builds cpu half flipped now rest) × ((b : ℕ) → is_own b ≡ false → is_work b ≡ false → is_ram b ≡ false
+    → (run cpu.s did.steps cpu).mem b ≡ cpu.mem b)
+
+-- the call returns with C set and S as it was, touches no hardware, and changes of memory at most dvg_y, dvg_x, left and
+-- length; the same amid others
+pub record IsRefused (cpu : Cpu) : Type 0 where
+  pub steps : ℕ
+  pub returns : at_return cpu.s (run cpu.s steps cpu) ≡ true
+  pub carry : (run cpu.s steps cpu).c ≡ true
+  pub shows : seen (run cpu.s steps cpu).log ≡ []
+  pub kept : (b : ℕ) → is_work b ≡ false → (run cpu.s steps cpu).mem b ≡ cpu.mem b
+  pub alike : ComesOut (guards is_kept_building cpu.s) cpu
+
+-- there is no room for so many bytes and the HALT
+abbrev pub HasNoRoom : (ℕ → ℕ) → ℕ → Type 0
+HasNoRoom mem count = (half : Half) × (flipped : Bool) × (rest : List ℕ) × IsBuilding mem half flipped rest
+    × (1022 < 256 * pages_in mem + place_in mem + count)
+
+-- where there is no such vector, no frame is being built, or there is no room, dvg_vector is refused
+abbrev pub VectorRefuses : Type 0
+VectorRefuses = (cpu : Cpu) → Enters cpu dvg_vector
+    → (put_by Vector cpu ≡ []) ⊎ ((nat_eq (phase_in cpu.mem) 7 ≡ false) ⊎ HasNoRoom cpu.mem (length (put_by Vector cpu)))
+    → IsRefused cpu
+
 -- the call returns with C clear and S as it was, and touches no hardware; a frame of these bytes is begun in the free
 -- half; the same amid others
 pub record Opens (cpu : Cpu) (half : Half) (flipped : Bool) (rest : List ℕ) : Type 0 where
@@ -112,6 +143,20 @@ pub record Idles (cpu : Cpu) : Type 0 where
 -- where the driver rests, and while a frame is being built, a tick changes nothing
 abbrev pub IdleTicks : Type 0
 IdleTicks = (cpu : Cpu) → Enters cpu dvg_tick → (phase_in cpu.mem ≡ 2) ⊎ (phase_in cpu.mem ≡ 7) → Idles cpu
+
+-- ticks that change nothing: the call returns with S as it was, touches no hardware, and leaves memory as it was, but for
+-- its count, which is 0, and two bytes of the stack below S
+pub record IdlesAll (cpu : Cpu) : Type 0 where
+  pub steps : ℕ
+  pub returns : at_return cpu.s (run cpu.s steps cpu) ≡ true
+  pub shows : seen (run cpu.s steps cpu).log ≡ []
+  pub count : (run cpu.s steps cpu).mem 0x1F ≡ 0
+  pub kept : (b : ℕ) → b ≢ 0x1F → b ≢ stack_place cpu.s → b ≢ stack_place (cpu.s + 255)
+      → (run cpu.s steps cpu).mem b ≡ cpu.mem b
+
+-- so dvg_ticks does nothing there
+abbrev pub IdleTicksAll : Type 0
+IdleTicksAll = (cpu : Cpu) → Enters cpu dvg_ticks → (phase_in cpu.mem ≡ 2) ⊎ (phase_in cpu.mem ≡ 7) → IdlesAll cpu
 
 -- a frame that calls one shape of the ROM
 abbrev pub calls_one : ℕ → List OpKind

@@ -1,6 +1,6 @@
 -- Many calls of the routines, and the life that their accesses make.
 use Rattle.std.specs.Prelude.{◌≡◌, ℕ, ◌+◌, ◌*◌, ◌<◌, ◌≤◌, ◌&&◌, Bool, true, false, not, List, [], ◌∷◌, ◌++◌, length}
-use Rattle.std.specs.Prelude.{Option, None, Some, drop, if◌then◌else◌, ◌||◌, nat_le, nat_lt}
+use Rattle.std.specs.Prelude.{Option, None, Some, drop, if◌then◌else◌, ◌||◌, nat_eq, nat_le, nat_lt}
 use Rattle.dvg_mem.specs.declared.half.Half.TheVariants.{H1}
 use Rattle.dvg_mem.specs.Areas.{other, half_of_high}
 use Rattle.dvg_frame.specs.declared.op.OpKind.{OpKind}
@@ -8,11 +8,11 @@ use Rattle.dvg_frame.specs.Bytes.{bytes}
 use Rattle.dvg_frame.specs.Layout.{laid}
 use Rattle.dvg_driver.specs.Script.{Item, Offered, Asked, Did, IsLife, IsWhole, has_flip}
 use Rattle.dvg_6502.specs.Processor.{Cpu, Access, at_return}
-use Rattle.dvg_6502.specs.Amid.{amid, AreHarmless, guards, is_kept}
+use Rattle.dvg_6502.specs.Amid.{amid, AreHarmless, guards, is_kept, is_code}
 use Rattle.dvg_6502.specs.Code.{dvg_reset, dvg_tick, dvg_ticks, dvg_run, dvg_offer, dvg_redraw, dvg_open, dvg_close}
 use Rattle.dvg_6502.specs.Board.{seen, is_own, is_ram, byte1_place, phase_in}
 use Rattle.dvg_6502.specs.Tables.{HasTable, table_of}
-use Rattle.dvg_6502.specs.Routines.{Enters, Shows, Part, begins, put_by}
+use Rattle.dvg_6502.specs.Routines.{Enters, Shows, Part, Put, Pair, begins, put_by}
 
 -- what is called; an offer is of a draft's table, and dvg_open of the draft that is built from there on
 pub data Routine : Type 0 where
@@ -53,9 +53,40 @@ after call = amid call.from.s call.others call.steps call.from
 abbrev pub has_returned : Call → Bool
 has_returned call = at_return call.from.s (after call)
 
--- it has returned with C clear
+-- the routine begins with a look at the phase, and is refused at the one that this memory has
+abbrev pub finds_busy : Routine → (ℕ → ℕ) → Bool
+finds_busy (Offer F) mem = not (nat_eq (phase_in mem) 2)
+finds_busy (Open F) mem = not (nat_eq (phase_in mem) 2)
+finds_busy Redraw mem = not (nat_eq (phase_in mem) 2)
+finds_busy (Puts Put) mem = not (nat_eq (phase_in mem) 7)
+finds_busy (Puts Pair) mem = not (nat_eq (phase_in mem) 7)
+finds_busy Close mem = not (nat_eq (phase_in mem) 7)
+finds_busy routine mem = false
+
+-- the call has looked, and is refused
+abbrev pub is_refused : Call → Bool
+is_refused call = nat_eq call.steps 1 && finds_busy call.routine call.from.mem
+
+-- what is left of a call that began with this S is the code's CLC and RTS: it has stored the phase
+abbrev pub is_leaving : ℕ → Cpu → Bool
+is_leaving s cpu = is_code cpu.pc && (is_code (cpu.pc + 1)
+    && (nat_eq (cpu.mem cpu.pc) 0x18 && (nat_eq (cpu.mem (cpu.pc + 1)) 0x60 && nat_eq cpu.s s)))
+
+-- its answer is decided: whatever others do from there on to all bytes but the code's, it returns with that C
+abbrev pub is_decided : Call → Bool
+is_decided call = is_refused call || is_leaving call.from.s (after call)
+
+-- it has returned, or its answer is decided, so that ticks of an NMI may follow
+abbrev pub is_over : Call → Bool
+is_over call = has_returned call || is_decided call
+
+-- the C that it returns with then
+abbrev pub answer : Call → Bool
+answer call = if is_refused call then true else (if is_leaving call.from.s (after call) then false else (after call).c)
+
+-- it is over, with C clear
 abbrev pub is_taken : Call → Bool
-is_taken call = has_returned call && not (after call).c
+is_taken call = is_over call && not (answer call)
 
 -- these bytes of a frame are put
 abbrev pub put_on : List ℕ → Option (ℕ × List ℕ) → Option (ℕ × List ℕ)
@@ -80,12 +111,16 @@ pub record IsBuildable (F : List OpKind) : Type 0 where
   pub some : 2 ≤ length (table_of F)
   pub fits : length (table_of F) ≤ 1022
 
--- what a call brings: a table, at A and X; a draft that can be built; of the frame that is being built, where it has room
--- for that and the HALT, what is next, with more after it; or its HALT
+-- the part puts something, and there is room for that and the HALT after this many bytes
+abbrev pub IsRoomFor : Part → Cpu → ℕ → Type 0
+IsRoomFor part cpu count = let now = put_by part cpu in (1 ≤ length now) × (count + length now ≤ 1020)
+
+-- what a call brings: a table, at A and X; a draft that can be built; of the frame that is being built, where there is
+-- room, what is next, with more after it; or its HALT
 abbrev pub Brings : Routine → Cpu → Option (ℕ × List ℕ) → Type 0
 Brings (Offer F) cpu frame = HasTable cpu.mem (cpu.a + 256 * cpu.x) F
 Brings (Open F) cpu frame = IsBuildable F
-Brings (Puts part) cpu (Some frame) = frame.0 + length (put_by part cpu) ≤ 1020
+Brings (Puts part) cpu (Some frame) = IsRoomFor part cpu frame.0
     → (more : List ℕ) × (frame.1 ≡ put_by part cpu ++ more) × (2 ≤ length more)
 Brings Close cpu (Some frame) = frame.1 ≡ 0x00 ∷ 0xB0 ∷ []
 Brings routine cpu frame = Unit {0}
@@ -126,10 +161,10 @@ pub record IsUntouched (calls : List Call) (before now : ℕ → ℕ) : Type 0 w
   pub ram : (b : ℕ) → is_ram b ≡ true → now b ≡ before b
   pub table : phase_in before ≡ 0x80 → (b : ℕ) → (bounds calls).0 ≤ b → b < (bounds calls).1 → now b ≡ before b
 
--- the call before this one has returned, and since then what must be untouched is
+-- the call before this one is over, and since then what must be untouched is
 abbrev pub Follows : Call → List Call → Type 0
 Follows call [] = ⊥
-Follows call (older ∷ calls) = (has_returned older ≡ true) × IsUntouched (older ∷ calls) (after older).mem call.from.mem
+Follows call (older ∷ calls) = (is_over older ≡ true) × IsUntouched (older ∷ calls) (after older).mem call.from.mem
 
 -- a reset may come at any time, over any memory
 abbrev pub UnlessReset : Routine → Type 0 → Type 0
@@ -188,16 +223,20 @@ CallsLive = (calls : List Call) → IsSession calls → (life : List Item) × Is
 abbrev pub OneLife : Type 0
 OneLife = (calls : List Call) (one other : List Item) → IsLifeOf calls one → IsLifeOf calls other → one ≡ other
 
--- after calls that make this life, a call of the routine returns with this C
+-- a call of this routine
+abbrev pub call_of : Routine → Cpu → ℕ → (ℕ → ℕ → ℕ) → Call
+call_of routine from steps others = record { routine = routine; from = from; steps = steps; others = others }
+
+-- after calls that make this life, a call of the routine returns with this C, or its answer is decided so
 pub record IsAnswered (routine : Routine) (c : Bool) (life : List Item) : Type 0 where
   pub from : Cpu
   pub steps : ℕ
   pub others : ℕ → ℕ → ℕ
   pub calls : List Call
-  pub session : IsSession (record { routine = routine; from = from; steps = steps; others = others } ∷ calls)
+  pub session : IsSession (call_of routine from steps others ∷ calls)
   pub makes : IsLifeOf calls life
-  pub returns : at_return from.s (amid from.s others steps from) ≡ true
-  pub carry : (amid from.s others steps from).c ≡ c
+  pub over : is_over (call_of routine from steps others) ≡ true
+  pub carry : answer (call_of routine from steps others) ≡ c
 
 -- an offer is taken, with C clear, exactly where the life is whole
 abbrev pub OfferAnswers : Type 0
@@ -214,8 +253,9 @@ abbrev pub RedrawAnswers : Type 0
 RedrawAnswers = (life : List Item) → (IsAnswered Redraw false life → (has_flip life ≡ true) × IsWhole life)
     × (IsAnswered Redraw true life → has_flip life ≡ true → ¬ IsWhole life)
 
--- a call of dvg_ticks returns, as long as it is in a session after each number of steps
+-- a call of dvg_ticks returns, as long as it is in a session after each number of steps; its count is 0 then
 abbrev pub TicksReturn : Type 0
 TicksReturn = (from : Cpu) (others : ℕ → ℕ → ℕ) (calls : List Call)
     → ((n : ℕ) → IsSession (record { routine = Ticks; from = from; steps = n; others = others } ∷ calls))
     → (n : ℕ) × (has_returned (record { routine = Ticks; from = from; steps = n; others = others }) ≡ true)
+    × ((after (record { routine = Ticks; from = from; steps = n; others = others })).mem 0x1F ≡ 0)

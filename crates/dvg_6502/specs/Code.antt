@@ -39,6 +39,9 @@ dvg_pair = 0x6989
 abbrev pub dvg_close : ℕ
 dvg_close = 0x6A00
 
+abbrev pub dvg_vector : ℕ
+dvg_vector = 0x6A17
+
 -- the bytes
 abbrev pub code : List ℕ
 code =

@@ -6,7 +6,7 @@ use Rattle.dvg_mem.specs.Memory.{IsImage, IsRom}
 use Rattle.dvg_frame.specs.declared.op.OpKind.{OpKind}
 use Rattle.dvg_frame.specs.declared.op.OpKind.TheVariants.{Draw, Halt}
 use Rattle.dvg_frame.specs.Faults.{Accepts}
-use Rattle.dvg_driver.specs.declared.action.Action.TheVariants.{Peek, Read}
+use Rattle.dvg_driver.specs.declared.action.Action.TheVariants.{Peek, Read, Wrote}
 use Rattle.dvg_driver.specs.Script
 use Rattle.dvg_driver.specs.Script.{Item, Did, has_flip}
 use Rattle.dvg_driver.specs.Stands.{Tells}
@@ -17,9 +17,12 @@ use Rattle.dvg_log.specs.declared.entry.Entry.TheVariants.{Offered, Busy, Asked,
 use Rattle.dvg_log.specs.Log.{◌⟼◌, Log, Throughout, open_run, life}
 use Rattle.dvg_log.specs.Legal.{IsLegal, Fits}
 use Rattle.dvg_log.specs.Headline.{KeepsHeadline}
+use Rattle.dvg_6502.specs.Processor.{Cpu, run, at_return}
+use Rattle.dvg_6502.specs.Code.{dvg_tick}
+use Rattle.dvg_6502.specs.Routines.{Enters}
 use Rattle.dvg_6502.specs.Build.{IsBuilt, put_items}
 use Rattle.dvg_6502.specs.Calls
-use Rattle.dvg_6502.specs.Calls.{Call, after, IsSession, IsLifeOf, IsAnswered}
+use Rattle.dvg_6502.specs.Calls.{Call, after, has_returned, IsSession, IsLifeOf, IsAnswered}
 
 -- calls of the routines make this life
 abbrev pub IsMade : List Item → Type 0
@@ -64,6 +67,17 @@ abbrev pub SomeCalls : Type 0
 SomeCalls = (call : Call) × (calls : List Call) × IsSession (call ∷ calls)
     × IsLifeOf (call ∷ calls) (Script.Offered H1 stroke ∷ Did (Read true) ∷ Did Peek ∷ [])
     × (call.from.mem 0 ≡ 0) × ((after call).mem 0 ≡ 1)
+
+-- there are calls of which an NMI does some: amid that offer a tick comes that is idle, after three instructions; and
+-- after its store of the phase, where it hasn't returned, one that writes the frame's first byte
+abbrev pub SomeTicks : Type 0
+SomeTicks = (tick : Call) × (offer : Call) × (calls : List Call) × IsSession (tick ∷ offer ∷ calls)
+    × (tick.routine ≡ Calls.Tick) × (offer.routine ≡ Calls.Offer stroke)
+    × (has_returned tick ≡ true) × (has_returned offer ≡ false)
+    × IsLifeOf (tick ∷ offer ∷ calls)
+    (Did (Wrote 0x402 0x00) ∷ Script.Offered H1 stroke ∷ Did (Read true) ∷ Did Peek ∷ [])
+    × (idle : Cpu) × (steps : ℕ) × Enters idle dvg_tick × (at_return idle.s (run idle.s steps idle) ≡ true)
+    × (offer.others 3 ≡ (run idle.s steps idle).mem)
 
 -- there are calls that build: after such a boot dvg_open, dvg_labs and dvg_close build a frame of one LABS
 abbrev pub SomeBuilding : Type 0

@@ -5,6 +5,7 @@ pub mod Amid
 pub mod Feed
 pub mod Holds
 pub mod Tables
+pub mod Moves
 pub mod Routines
 pub mod Calls
 pub mod Build

@@ -1,12 +1,12 @@
 -- What a program builds is known in hindsight.
-use Rattle.std.specs.Prelude.{◌≡◌, ℕ, ◌+◌, ◌*◌, ◌≤◌, List, [], ◌∷◌, length, Option, Some}
+use Rattle.std.specs.Prelude.{◌≡◌, ℕ, ◌+◌, ◌*◌, ◌≤◌, List, [], ◌∷◌, Option, Some}
 use Rattle.dvg_code.specs.declared.instr.Instr.TheVariants.{Labs}
 use Rattle.dvg_frame.specs.declared.op.OpKind.{OpKind}
 use Rattle.dvg_frame.specs.declared.op.OpKind.TheVariants.{Draw}
 use Rattle.dvg_6502.specs.Processor.{Cpu}
 use Rattle.dvg_6502.specs.Tables.{HasTable, table_of}
-use Rattle.dvg_6502.specs.Routines.{put_by}
-use Rattle.dvg_6502.specs.Calls.{Routine, Offer, Open, Puts, Close, Call, IsSessionBy, IsSession, UnlessReset}
+use Rattle.dvg_6502.specs.Routines.{put_by, Vector}
+use Rattle.dvg_6502.specs.Calls.{Routine, Offer, Open, Puts, Close, Call, IsRoomFor, IsSessionBy, IsSession, UnlessReset}
 use Rattle.dvg_6502.specs.Build.{IsPut, IsBuilt}
 
 -- the operation goes to a place
@@ -14,11 +14,12 @@ abbrev pub IsLabs : OpKind → Type 0
 IsLabs (Draw (Labs x y scale)) = Unit {0}
 IsLabs op = ⊥
 
--- what a call of a program brings that knows of no draft: a table, at A and X; where there is room, the words of an
--- operation that it may put, at first of a LABS; and it ends no frame of nothing
+-- what a call of a program brings that knows of no draft: a table, at A and X; a vector that isn't the first; where there
+-- is room, the words of an operation that it may put, at first of a LABS; and it ends no frame of nothing
 abbrev pub Tells : List ℕ → Routine → Cpu → Option (ℕ × List ℕ) → Type 0
 Tells R (Offer F) cpu frame = HasTable cpu.mem (cpu.a + 256 * cpu.x) F
-Tells R (Puts part) cpu (Some frame) = frame.0 + length (put_by part cpu) ≤ 1020
+Tells R (Puts Vector) cpu (Some frame) = 1 ≤ frame.0
+Tells R (Puts part) cpu (Some frame) = IsRoomFor part cpu frame.0
     → (op : OpKind) × (put_by part cpu ≡ table_of (op ∷ [])) × IsPut R op × (frame.0 ≡ 0 → IsLabs op)
 Tells R Close cpu (Some frame) = 1 ≤ frame.0
 Tells R routine cpu frame = Unit {0}

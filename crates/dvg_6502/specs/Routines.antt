@@ -10,10 +10,11 @@ use Rattle.dvg_driver.specs.Script.{Item, Did, frame_writes}
 use Rattle.dvg_driver.specs.Place.{Place, Start, Resting, Writing, Waiting}
 use Rattle.dvg_driver.specs.Stands.{Stage, StandsAfter, Tells, peeked_after}
 use Rattle.dvg_6502.specs.Processor.{Cpu, Access, Reads, Writes, put, run, at_return, flag_place}
-use Rattle.dvg_6502.specs.Code.{dvg_reset, dvg_tick, dvg_offer, dvg_redraw, dvg_put, dvg_pair, dvg_labs}
+use Rattle.dvg_6502.specs.Code.{dvg_reset, dvg_tick, dvg_offer, dvg_redraw, dvg_put, dvg_pair, dvg_labs, dvg_vector}
 use Rattle.dvg_6502.specs.Board.{seen, is_own, byte1_place, strobe_place, tells_halted, IsLoaded}
 use Rattle.dvg_6502.specs.Holds.{Holds}
 use Rattle.dvg_6502.specs.Tables.{HasTable, table_of}
+use Rattle.dvg_6502.specs.Moves.{number, vector_bytes}
 
 -- at a routine's entry, with nothing logged yet
 pub record Enters (cpu : Cpu) (here : ℕ) : Type 0 where
@@ -107,15 +108,19 @@ pub data Part : Type 0 where
   Put : Part
   Pair : Part
   Labs : Part
+  Vector : Part
 
 abbrev pub begins : Part → ℕ
 begins Put = dvg_put
 begins Pair = dvg_pair
 begins Labs = dvg_labs
+begins Vector = dvg_vector
 
--- the bytes that it puts
+-- the bytes that it puts; dvg_vector puts none where there is no such vector
 abbrev pub put_by : Part → Cpu → List ℕ
 put_by Put cpu = cpu.a ∷ cpu.x ∷ []
 put_by Pair cpu = cpu.mem 0x1B ∷ cpu.mem 0x1C ∷ cpu.mem 0x1D ∷ cpu.mem 0x1E ∷ []
 put_by Labs cpu =
     cpu.mem 0x1B ∷ (0xA0 + cpu.mem 0x1C % 16) ∷ cpu.mem 0x1D ∷ (16 * (cpu.a / 16) + cpu.mem 0x1E % 16) ∷ []
+put_by Vector cpu = vector_bytes (cpu.a / 16) (number (cpu.mem 0x1D) (cpu.mem 0x1E)) (number (cpu.mem 0x1B) (cpu.mem 0x1C))
+    (cpu.a % 16)

@@ -1,16 +1,17 @@
 //! The 6502 code of the driver, proved from its bytes: each routine does what the script says, but
-//! for dvg_copy and dvg_vector, of which no law speaks: they are tested.
+//! for dvg_copy, of which no law speaks: it is tested.
 //! There is no code here. Each law is the contract of a function that does nothing.
 #![tactic(auto)]
 
 ghost use Rattle.dvg_6502.specs.Calls.{CallsLive, OfferAnswers, OneLife, OpenAnswers, RedrawAnswers, TicksReturn};
-ghost use Rattle.dvg_6502.specs.Decided.{Decides};
+ghost use Rattle.dvg_6502.specs.Decided.{CallsDecide, Decides, LabsIsPair, StaysBuilding, StaysIdle};
 ghost use Rattle.dvg_6502.specs.Programs.{Hindsight};
-ghost use Rattle.dvg_6502.specs.Joined.{BoardKeeps, SomeBuilding, SomeCalls, SomeLogs};
+ghost use Rattle.dvg_6502.specs.Joined.{BoardKeeps, SomeBuilding, SomeCalls, SomeLogs, SomeTicks};
 ghost use Rattle.dvg_6502.specs.Routines.{OfferRefuses, OfferTakes, RedrawRefuses, RedrawTakes};
 ghost use Rattle.dvg_6502.specs.Routines.{ResetRefines, TickRefines};
-ghost use Rattle.dvg_6502.specs.Build.{BuildsScript, BuiltAccepted, CloseTakes, IdleTicks};
-ghost use Rattle.dvg_6502.specs.Build.{LabsTakes, OpenTakes, PairTakes, PutTakes};
+ghost use Rattle.dvg_6502.specs.Build.{BuildsScript, BuiltAccepted, CloseTakes, IdleTicks, IdleTicksAll};
+ghost use Rattle.dvg_6502.specs.Build.{LabsTakes, OpenTakes, PairTakes, PutTakes, VectorRefuses, VectorTakes};
+ghost use Rattle.dvg_6502.specs.Moves.{SomeVectors, VectorDraws};
 ghost use Rattle.dvg_6502.specs.Whole.{BuildsFrame, BuildsLife, SomeFrame};
 ghost use Rattle.dvg_6502.specs.Tables.{CheckedExpressible, TableLaw, TableMisses};
 
@@ -54,21 +55,23 @@ pub fn redraw()
 /// Over all calls since a reset, with any memory at first, also interrupted ones, where nobody else
 /// writes the driver's bytes, its code, the hardware or a table that is being written: the accesses of
 /// the hardware, in their order, with the frames and redraws that were taken, are a life of the script.
-/// A frame that the program builds counts as taken at `dvg_open`.
+/// A frame that the program builds counts as taken at `dvg_open`. The next call may begin as soon as the
+/// answer of the one before is decided, so the ticks of an NMI are calls like the others.
 pub fn calls_live()
     ensures { CallsLive }
 {}
 
 /// There are such calls: after the boot a frame's table is offered, and taken, and an NMI that
-/// counts comes amid that; or a frame of one LABS is built. And there are such logs, over each ROM
-/// and each first memory image.
+/// counts comes amid that, or one that ticks, before and after the answer is decided; or a frame of
+/// one LABS is built. And there are such logs, over each ROM and each first memory image.
 pub fn some_calls()
     ensures calls { SomeCalls }
+    ensures ticks { SomeTicks }
     ensures building { SomeBuilding }
     ensures logs { SomeLogs }
 {}
 
-/// A call of `dvg_ticks` returns, also amid interrupts.
+/// A call of `dvg_ticks` returns, also amid interrupts, with its count at 0.
 pub fn ticks_return()
     ensures { TicksReturn }
 {}
@@ -101,15 +104,22 @@ pub fn board_keeps()
     ensures { BoardKeeps }
 {}
 
-/// The routines that build a frame, one by one: what they put is written where the frame goes on, as the
-/// script's next writes, and after `dvg_close` word zero is to come.
+/// The routines that build a frame, one by one: what they put is written where the frame goes on, as
+/// the script's next writes, and after `dvg_close` word zero is to come. `dvg_vector` puts the
+/// canonical words of a vector, or the one word of the short vector that draws the same. Where there
+/// is no such vector, no frame or no room, it is refused. Ticks do nothing while a frame is being built.
 pub fn builds()
     ensures opens { OpenTakes }
     ensures puts { PutTakes }
     ensures pairs { PairTakes }
     ensures labs { LabsTakes }
+    ensures vector { VectorTakes }
+    ensures no_vector { VectorRefuses }
+    ensures vector_draws { VectorDraws }
+    ensures some_vectors { SomeVectors }
     ensures closes { CloseTakes }
     ensures idles { IdleTicks }
+    ensures idles_all { IdleTicksAll }
     ensures script { BuildsScript }
 {}
 
@@ -129,7 +139,13 @@ pub fn built_accepted()
 {}
 
 /// After its look at the phase, if that refuses, and after its store of the phase, a call of the main
-/// program takes its code alone: ticks of an NMI may act there, and it returns the same C.
+/// program takes its code alone: ticks of an NMI may act there, and it returns the same C. So does each
+/// of the calls whose answer is decided. Before that the driver is idle, or a frame is being built, so
+/// that ticks do nothing. `dvg_labs` is `dvg_pair` from its look on.
 pub fn decides()
-    ensures { Decides }
+    ensures places { Decides }
+    ensures calls { CallsDecide }
+    ensures idle { StaysIdle }
+    ensures building { StaysBuilding }
+    ensures labs { LabsIsPair }
 {}

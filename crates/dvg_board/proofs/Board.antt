@@ -53,7 +53,7 @@ module _ (image : List ℕ) where
   flag_ram false true halted log = refl
   flag_ram false false halted log = refl
 
-  looks_ram : (board : Board) (bus : Bus) (log : Log) → ram image (did (looks board bus) log) ≡ ram image log
+  pub looks_ram : (board : Board) (bus : Bus) (log : Log) → ram image (did (looks board bus) log) ≡ ram image log
   looks_ram board bus log = flag_ram (reads bus 0x2002) (reads bus 0x4001) (nat_eq (halted board.core) 1) log
 
   changed_by : (writes sends : Bool) (a byte : ℕ) (log : Log)
@@ -64,7 +64,7 @@ module _ (image : List ℕ) where
   changed_by false false a byte log = refl
 
   -- what it changes is the byte that it writes
-  changes_ram : (bus : Bus) (log : Log) → ram image (did (changes bus) log)
+  pub changes_ram : (bus : Bus) (log : Log) → ram image (did (changes bus) log)
       ≡ (if writes bus then slice_set (ram image log) (bus.a % 0x800) bus.d else ram image log)
   changes_ram bus log = changed_by (writes bus) (sends bus) (bus.a % 0x800) bus.d log
 
@@ -84,11 +84,11 @@ module _ (image : List ℕ) where
   word_ram true address word answer log = refl
   word_ram false address word answer log = of_ram address word answer log
 
-  entry_ram : (closed address : ℕ) (m : Met) (answer : Reply) (log : Log) → ram image ((Fetch ⟼ entry_by closed address m answer) ∷ log) ≡ ram image log
+  pub entry_ram : (closed address : ℕ) (m : Met) (answer : Reply) (log : Log) → ram image ((Fetch ⟼ entry_by closed address m answer) ∷ log) ≡ ram image log
   entry_ram closed address (Waits byte) answer log = low_ram (nat_eq closed 1) address byte log
   entry_ram closed address (Whole word) answer log = word_ram (nat_eq closed 1) address word answer log
 
-  core_ram : (r s p whole : Bool) (shown : Shown) (log : Log) → ram image ((Fetch ⟼ shown) ∷ log) ≡ ram image log
+  pub core_ram : (r s p whole : Bool) (shown : Shown) (log : Log) → ram image ((Fetch ⟼ shown) ∷ log) ≡ ram image log
       → ram image (if r then if s then if p then log else (Fetch ⟼ shown) ∷ log else (Strobe ⟼ Started) ∷ log
       else if whole then (ResetAll (ram image log) ⟼ Cleared) ∷ log else (ResetGen ⟼ Cleared) ∷ log)
       ≡ ram image log
@@ -146,11 +146,26 @@ module _ (board : Board) (bus : Bus) where
   abbrev named : Bool
   named = nat_eq (part 11 5 bus.a) 8
 
+  -- by their values, whatever the cells between are
+  ram_by : (x y z : Bool) → unused ≡ x → reading ≡ y → named ≡ z
+      → (clock board bus).ram ≡ ram_of (writes_of x y z) (on_of x z)
+  ram_by true y z a b c = rw a refl
+  ram_by false y false a b c = rw (a, c) refl
+  ram_by false true true a b c = rw (a, c, b) refl
+  ram_by false false true a b c = rw (a, c, b) refl
+
   ram_is : (clock board bus).ram ≡ ram_of (writes_of unused reading named) (on_of unused named)
-  ram_is = refl
+  ram_is = ram_by unused reading named refl refl refl
+
+  read_by : (x y z : Bool) → unused ≡ x → reading ≡ y → named ≡ z
+      → (clock board bus).read ≡ mux (writes_of x y z) board.read (board.ram (place_of (on_of x z)))
+  read_by true y z a b c = rw a refl
+  read_by false y false a b c = rw (a, c) refl
+  read_by false true true a b c = rw (a, c, b) refl
+  read_by false false true a b c = rw (a, c, b) refl
 
   read_is : (clock board bus).read ≡ mux (writes_of unused reading named) board.read (board.ram (place_of (on_of unused named)))
-  read_is = refl
+  read_is = read_by unused reading named refl refl refl
 
   -- the RAM after a clock is what the log says
   module _ (L : List ℕ) (size : length L ≡ 2048) (same : (a : ℕ) → a < 2048 → board.ram a ≡ slice_index L a) where
@@ -439,7 +454,8 @@ module _ (R image : List ℕ) (held : ℕ → ℕ) (log : Log) (older : List Bus
   same3 : (a : ℕ) → a < 2048 → (clock board bus).ram a ≡ slice_index (ram image log3) a
   same3 a small =
       let count = h.is_image.count in
-      written board bus L count h.same (nat_eq bus.access 0) (nat_eq bus.write 0) (nat_eq (part 11 5 bus.a) 8) a small
+      ap (λ (r : ℕ → ℕ). r a) (ram_is board bus)
+      ∙ written board bus L count h.same (nat_eq bus.access 0) (nat_eq bus.write 0) (nat_eq (part 11 5 bus.a) 8) a small
       ∙ ap (λ on. slice_index (if not (nat_eq bus.access 0) && (not (nat_eq bus.write 0) && on) then slice_set L (bus.a % 2048) bus.d else L) a) named_is
       ∙ ap (λ l. slice_index l a) (sym ram3)
 
@@ -467,7 +483,8 @@ module _ (R image : List ℕ) (held : ℕ → ℕ) (log : Log) (older : List Bus
       subst (λ n. n < 256) (sym (h.same a small)) (All-get_or (λ byte. byte < 256) L a 0 (omega arith) h.is_image.bytes)
 
   read3 : (clock board bus).read < 256
-  read3 = by (nat_eq bus.access 0) (nat_eq bus.write 0) (nat_eq (part 11 5 bus.a) 8)
+  read3 = subst (λ n. n < 256) (sym (read_is board bus))
+      (by (nat_eq bus.access 0) (nat_eq bus.write 0) (nat_eq (part 11 5 bus.a) 8))
     where
       other_small : other board bus < 2048
       other_small = let high = fits.high in omega arith
@@ -507,7 +524,9 @@ module _ (R image : List ℕ) (held : ℕ → ℕ) (log : Log) (older : List Bus
           let at_is = rest.0 in
           let high_is = rest.1 in
           let place : other board bus ≡ 2 * (clock board bus).core.at + (clock board bus).core.high = omega arith in
-          free.0 ∙ ap board.ram place ∙ sym (free.1 (2 * (clock board bus).core.at + (clock board bus).core.high))
+          let byte_at = 2 * (clock board bus).core.at + (clock board bus).core.high in
+          read_is board bus ∙ free.0 ∙ ap board.ram place
+          ∙ sym (ap (λ (r : ℕ → ℕ). r byte_at) (ram_is board bus) ∙ free.1 byte_at)
 
   pub step : FitsIf (FitsScript R image log) (looks board bus) → FitsIf (FitsScript R image log2) (changes bus)
       → Holds R image held log3 (bus ∷ older)

@@ -19,29 +19,29 @@ use Rattle.dvg_board.specs.Clocks.{IsBus, after, IsServed, looks, changes}
 use Rattle.dvg_board.specs.Logs.{did, answered, FitsIf, IsBoard, powers, clocks, acts, FitsScript}
 use Rattle.dvg_board.specs.Example.{zeros, stroke, SomeBoard}
 
-abbrev held : ℕ → ℕ
+abbrev pub held : ℕ → ℕ
 held = slice_index zeros
 
 abbrev On : Log → List Bus → Type 0
 On log older = IsBoard FitsScript zeros zeros held log older
 
 -- a clock without an access, one that reads, and one that writes
-abbrev quiet : Bus
+abbrev pub quiet : Bus
 quiet = record { reset = 0; hold = 0; access = 0; write = 0; a = 0; d = 0; big = 0; rom = 0; undefined = 0 }
 
-abbrev reading : ℕ → Bus
+abbrev pub reading : ℕ → Bus
 reading a = record quiet { access = 1; a = a }
 
-abbrev writing : ℕ → ℕ → Bus
+abbrev pub writing : ℕ → ℕ → Bus
 writing a d = record quiet { access = 1; write = 1; a = a; d = d }
 
-is_quiet : IsBus quiet
+pub is_quiet : IsBus quiet
 is_quiet = record { reset = omega arith; a = omega arith; d = omega arith; rom = omega arith }
 
-is_reading : (a : ℕ) → a < 65536 → IsBus (reading a)
+pub is_reading : (a : ℕ) → a < 65536 → IsBus (reading a)
 is_reading a small = record { reset = omega arith; a = small; d = omega arith; rom = omega arith }
 
-is_writing : (a d : ℕ) → a < 65536 → d < 256 → IsBus (writing a d)
+pub is_writing : (a d : ℕ) → a < 65536 → d < 256 → IsBus (writing a d)
 is_writing a d small byte = record { reset = omega arith; a = small; d = byte; rom = omega arith }
 
 -- the jumper is set for 2,048 bytes, and no byte of the ROM is fetched
@@ -55,7 +55,7 @@ first_least R = by (length R == 2048)
     by true = omega arith
     by false = omega arith
 
-served : (board : Board) (bus : Bus) → bus.big ≡ 0 → board.core.at < 0x400 → IsServed zeros board bus
+pub served : (board : Board) (bus : Bus) → bus.big ≡ 0 → board.core.at < 0x400 → IsServed zeros board bus
 served board bus big below = record {
   big = big ∙ small_rom;
   rom = λ e from to. let least = first_least zeros in absurd (omega arith);

@@ -1,6 +1,7 @@
 pub mod System
 pub mod Board
 pub mod Answered
-mod Example
+pub mod Example
 mod Vectors
 mod ClockVectors
+pub mod Lines

@@ -6,3 +6,4 @@ pub mod Whole
 mod Example
 mod Vectors
 mod ClockVectors
+mod Histories

@@ -102,3 +102,14 @@ pub record Agrees (clocks : List Pins) : Type 0 where
 -- whatever the pins were in each clock since power-up
 abbrev pub CoreRefines : Type 0
 CoreRefines = (clocks : List Pins) → All ArePins clocks → Agrees clocks
+
+-- what was fetched are words of 16 bits
+abbrev pub AreWords : List Told → Type 0
+AreWords [] = Unit {0}
+AreWords (Fed (Some word) ∷ history) = (word < 65536) × AreWords history
+AreWords (told ∷ history) = AreWords history
+
+-- the converse: each history that leaves a run has clocks since power-up that make it
+abbrev pub HasClocks : Type 0
+HasClocks = (history : List Told) (run : Newest) → Leaves history run → AreWords history
+    → (clocks : List Pins) × All ArePins clocks × (found : Option Met) × Hears clocks history None found

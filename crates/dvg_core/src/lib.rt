@@ -1,5 +1,5 @@
 //! The generator of `core/dvg_core.v`, proved from the cells that yosys reads in it: its pins are
-//! those of the definition, in each clock since power-up. There is no code here. The law is the
+//! those of the definition, in each clock since power-up. There is no code here. Each law is the
 //! contract of a function that does nothing.
 //!
 //! `specs/Core.antt` is made by `core/cells dvg_core`, and `specs/Cells.antt` says what each kind
@@ -7,7 +7,7 @@
 #![tactic(auto)]
 
 ghost use Rattle.dvg_core.specs.Example.{DrawsSome};
-ghost use Rattle.dvg_core.specs.Refines.{CoreRefines};
+ghost use Rattle.dvg_core.specs.Refines.{CoreRefines, HasClocks};
 
 /// Whatever the pins `reset`, `start`, `valid`, `hole` and `din` were in each clock since power-up:
 /// `halted` is whether no run is open, `at` and `high` name the byte that the open run wants next,
@@ -16,6 +16,13 @@ ghost use Rattle.dvg_core.specs.Refines.{CoreRefines};
 /// gives.
 pub fn core_refines()
     ensures { CoreRefines }
+{}
+
+/// The converse: each history of starts, resets, words and holes that leaves a run, by the definition
+/// of the generator, has clocks since power-up that make it. So the core can do all that the
+/// definition can.
+pub fn has_clocks()
+    ensures { HasClocks }
 {}
 
 /// An example: over the clocks of one frame the core shows the frame's stroke, and `done`.

@@ -8,3 +8,7 @@ mod SaidTokens
 mod TableLines
 pub mod Described
 pub mod SketchesLaid
+mod ChecksSaid
+mod EndsDrawn
+mod FramesDrawn
+mod RamLaid

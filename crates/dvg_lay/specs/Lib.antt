@@ -4,3 +4,6 @@ pub mod Refusals
 pub mod Forms
 pub mod Sketches
 pub mod Laws
+pub mod Checks
+pub mod Drawings
+pub mod DrawnSketches

@@ -126,7 +126,7 @@ fn tell<A: Allocator + Copy>(
 
 /// Returns the refusal of `frame`, whose picture has so many `words`, at the line of operation 0.
 /// Returns `Memory` where an allocation fails.
-pub fn tell_long<A: Allocator + Copy>(
+pub(crate) fn tell_long<A: Allocator + Copy>(
     alloc: A,
     names: &[RomName],
     frame: &NamedFrame,
@@ -146,7 +146,7 @@ pub fn tell_long<A: Allocator + Copy>(
 
 /// Returns `frame` checked, where `checker` accepts it over `rom`. Else returns its fault and the
 /// line or the word at fault, with one of `names`, as `lay_bytes` does.
-pub fn good_frame<A: Allocator + Copy>(
+pub(crate) fn good_frame<A: Allocator + Copy>(
     alloc: A,
     checker: &mut Checker,
     rom: &Rom<A>,

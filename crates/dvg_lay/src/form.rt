@@ -68,7 +68,7 @@ fn lay_text<A: Allocator + Copy>(
 
 /// Lays `frames` out in this `form`, over `rom`, whose names are `names`, or returns why a frame is
 /// refused. Returns `OutOfMemory` where an allocation fails.
-pub fn lay<A: Allocator + Copy>(
+pub(crate) fn lay<A: Allocator + Copy>(
     alloc: A,
     rom: &Rom<A>,
     names: &[RomName],

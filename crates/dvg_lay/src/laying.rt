@@ -23,7 +23,7 @@ const ROM_END: u16 = 0xC00;
 ///   it. For a fault of the whole draft that is the line of operation 0, or where there is none the
 ///   line that begins the frame.
 /// - `Memory`: an allocation failed.
-pub fn lay_bytes<A: Allocator + Copy>(
+pub(crate) fn lay_bytes<A: Allocator + Copy>(
     alloc: A,
     rom: &Rom<A>,
     names: &[RomName],
@@ -112,7 +112,7 @@ pub fn lay_tables<A: Allocator + Copy>(
 ///
 /// - `Refused`: the check refuses one of `frames` over `rom`, as with `lay_bytes`.
 /// - `Memory`: an allocation failed.
-pub fn lay_names<A: Allocator + Copy>(
+pub(crate) fn lay_names<A: Allocator + Copy>(
     alloc: A,
     rom: &Rom<A>,
     names: &[RomName],
@@ -152,7 +152,7 @@ fn rom_bytes<A: Allocator + Copy>(alloc: A, rom: &Rom<A>) -> Result<Vec<u8, A>, 
 ///
 /// - `Refused`: the check refuses one of `frames` over `rom`, as with `lay_bytes`.
 /// - `Memory`: an allocation failed.
-pub fn lay_rom<A: Allocator + Copy>(
+pub(crate) fn lay_rom<A: Allocator + Copy>(
     alloc: A,
     rom: &Rom<A>,
     names: &[RomName],

@@ -17,7 +17,7 @@ use std::alloc::Allocator;
 /// Returns all names that the laid `sections` give, in the order of the text, each with its word
 /// address. Returns `OutOfMemory` where an allocation fails. The time grows with the number of
 /// rows.
-pub fn rom_names<'a, A: Allocator>(
+pub(crate) fn rom_names<'a, A: Allocator>(
     alloc: A,
     sections: &[LaidRows<'_, 'a>],
 ) -> Result<Vec<RomName<'a>, A>, OutOfMemory>

@@ -17,7 +17,7 @@ use std::alloc::Allocator;
 /// the frame, and after `callrom` and `jumprom` that of a word of `rom`. Or else returns the place,
 /// counted from 0, of the first row that needs a name which isn't given. No memory is taken. The
 /// time grows with the number of rows of the frame.
-pub fn draft_of<A: Allocator + Copy>(
+pub(crate) fn draft_of<A: Allocator + Copy>(
     rows: &NamedRows<'_, '_, A>,
     rom: &LaidNames<'_, '_, '_, A>,
 ) -> Result<Draft, usize>

@@ -13,7 +13,7 @@ use std::alloc::Allocator;
 
 /// Why the operations of a frame aren't added.
 #[derive(Clone, Copy)]
-pub enum DraftFault {
+pub(crate) enum DraftFault {
     /// The row at this place, counted from 0, is the first that needs a name which isn't given.
     Ungiven(usize),
     /// An allocation failed.
@@ -22,7 +22,7 @@ pub enum DraftFault {
 
 /// Adds the operations of the frame of `rows` to `ops`, in order. The names of the ROM are those of
 /// `rom`. At an error `ops` stays as it was.
-pub fn push_draft<A: Allocator + Copy>(
+pub(crate) fn push_draft<A: Allocator + Copy>(
     alloc: A,
     ops: &mut Vec<Op, A>,
     rows: &[Row],

@@ -1,2 +1,5 @@
+mod Ram
+mod Published
 pub mod System
+mod Machine
 mod Example

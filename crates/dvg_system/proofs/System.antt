@@ -1,4 +1,5 @@
--- A processor that runs the machine code keeps the script, so what is proved of boards holds of it.
+-- A board whose processor's accesses are those of the machine code: it keeps the script, so what is proved of boards
+-- holds of it.
 use Rattle.std.proofs.Common.{◌≡◌, ℕ, ◌+◌, ◌/◌, ◌%◌, Bool, true, false, not, List, [], ◌∷◌, Option, Some, None, refl, sym, ap, ◌∙◌, subst, arith}
 use Rattle.std.specs.Prelude.{is_none, nat_eq, nat_le, if◌then◌else◌}
 use Rattle.std.proofs.lemmas.Bool.{eqb-true}
@@ -17,17 +18,39 @@ use Rattle.dvg_6502.specs.Joined.{IsMade, FitsBoard, IsBoards}
 use Rattle.dvg_6502.proofs.Interrupted.{calls_live, one_life}
 use Rattle.dvg_6502.proofs.Joined.{board_keeps as code_keeps}
 use Rattle.dvg_core.specs.Core.{halted}
+use Rattle.dvg_6502.specs.Processor.{Access}
+use Rattle.dvg_6502.specs.Routines.{Shows}
 use Rattle.dvg_board.specs.Board.{Bus, pins, q, clock}
 use Rattle.dvg_board.specs.Fetches.{entry}
 use Rattle.dvg_board.specs.Clocks.{IsBus, IsServed, after, cores, reads, writes, sends, looks, changes}
-use Rattle.dvg_board.specs.Logs.{did, answered, FitsIf, IsSilent, IsBoard, powers, clocks, acts, FitsScript, HoldsRam}
+use Rattle.dvg_board.specs.Logs.{Driver, did, answered, FitsIf, IsSilent, IsBoard, powers, clocks, acts, FitsScript, HoldsRam}
 use Rattle.dvg_board.proofs.System.{pin_is}
 use Rattle.dvg_board.proofs.Board as board
 use Rattle.dvg_board.proofs.Board.{core_is, holds}
 use Rattle.dvg_board.proofs.Answered.{answers_next, third}
-use Rattle.dvg_system.specs.System.{FitsCode, OfEachSystem, ShowsIf, ShowsNext}
 
-made_lives : (items : List Item) → IsMade items → IsLife items
+-- each line of the processor is an access, or an answer, of the machine code
+abbrev pub FitsCode : Driver
+FitsCode R image log Tick (Acted action) = IsMade (Did action ∷ life image log)
+FitsCode R image log event entry = FitsBoard R image log event entry
+
+-- this holds of each board whose processor runs it
+abbrev pub OfEachSystem : (List ℕ → List ℕ → (ℕ → ℕ) → Log → List Bus → Type 0) → Type 0
+OfEachSystem P = (R image : List ℕ) (held : ℕ → ℕ) (log : Log) (clocks : List Bus)
+    → IsBoard FitsCode R image held log clocks → P R image held log clocks
+
+-- what was done, if something was, shows in this access
+abbrev pub ShowsIf : Option Action → Access → Type 0
+ShowsIf None access = Unit {0}
+ShowsIf (Some action) access = Shows action (access ∷ [])
+
+-- what a clock looks at is a read of what `q` has in the next clock, whatever that is, and what it changes is a write
+abbrev pub ShowsNext : (ℕ → ℕ) → Log → List Bus → Type 0
+ShowsNext held log older = (bus next : Bus) → IsBus bus
+    → ShowsIf (looks (after held older) bus) (Reads bus.a (q (clock (after held older) bus) next))
+    × ShowsIf (changes bus) (Writes bus.a bus.d)
+
+pub made_lives : (items : List Item) → IsMade items → IsLife items
 made_lives items made = let lives = calls_live made.0 made.1 in
     subst IsLife (one_life made.0 lives.0 items lives.1 made.2) lives.2
 

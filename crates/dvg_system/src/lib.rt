@@ -1,32 +1,37 @@
-//! Both ends in one: the driver's machine code on a 6502, and a generator's board of cells. There
-//! is no code here. Each law is the contract of a function that does nothing.
+//! Both ends in one machine: the driver's machine code on a 6502, and a generator's board of cells
+//! on its bus. There is no code here. Each law is the contract of a function that does nothing.
 #![tactic(auto)]
 
 ghost use Rattle.dvg_log.specs.Headline.{KeepsHeadline};
 ghost use Rattle.dvg_log.specs.Legal.{IsLegal};
-ghost use Rattle.dvg_log.specs.Log.{Throughout};
+ghost use Rattle.dvg_log.specs.Log.{Throughout, life};
+ghost use Rattle.dvg_board.specs.Clocks.{after};
 ghost use Rattle.dvg_board.specs.Logs.{HoldsRam};
-ghost use Rattle.dvg_system.specs.System.{OfEachSystem, ShowsNext, SomeSystem};
+ghost use Rattle.dvg_system.specs.Example.{SomeMachine};
+ghost use Rattle.dvg_system.specs.Machine.{AcceptsPublished, AreDone, HaveRam, OfEachMachine};
 
-/// For every ROM, first content of the RAM and list of clocks of a board of these cells, where the
-/// accesses of the processor, in the order of their clocks, are those that the driver's bytes make
-/// on the definition of a 6502: the log of these clocks is legal, and each of its lines keeps the
-/// headline. The RAM holds what the log says.
-pub fn system_keeps()
-    ensures legal { OfEachSystem (λ R image held log clocks. IsLegal R image log) }
-    ensures headline { OfEachSystem
-        (λ R image held log clocks. Throughout (KeepsHeadline R image) log) }
-    ensures memory { OfEachSystem (λ R image held log clocks. HoldsRam image held log clocks) }
+/// For every ROM, first content of the RAM, and run of a machine whose processor calls the driver's
+/// routines, and whose board's clocks make the processor's accesses and answer its reads: the log
+/// of these clocks is legal, each of its lines keeps the headline, and the check accepts what is
+/// published. The RAM holds what the log says. The driver's lines are what the calls do, and what
+/// they have in memory at 4000 to 47FF is the RAM.
+pub fn machine_keeps()
+    ensures legal { OfEachMachine (λ R image held calls log clocks. IsLegal R image log) }
+    ensures headline { OfEachMachine
+        (λ R image held calls log clocks. Throughout (KeepsHeadline R image) log) }
+    ensures accepted { OfEachMachine
+        (λ R image held calls log clocks. AcceptsPublished R log) }
+    ensures memory { OfEachMachine
+        (λ R image held calls log clocks. HoldsRam image held log clocks) }
+    ensures done { OfEachMachine
+        (λ R image held calls log clocks. AreDone calls (life image log)) }
+    ensures shared { OfEachMachine
+        (λ R image held calls log clocks. HaveRam calls (after held clocks)) }
 {}
 
-/// What the pins do in a clock is the access by which the definition of the 6502 shows the line
-/// that the log has of it, with what the board answers on `q`.
-pub fn system_shows()
-    ensures { OfEachSystem (λ R image held log clocks. ShowsNext held log clocks) }
-{}
-
-/// There is such a system, over each ROM and each first content of the RAM: the machine code boots,
-/// and takes a frame.
-pub fn some_system()
-    ensures { SomeSystem }
+/// There is such a machine: over a RAM and a ROM of zeros the machine code boots, takes a table,
+/// writes and publishes its frame, and sends a strobe; the core draws it, and a read of the flag
+/// meanwhile finds it running.
+pub fn some_machine()
+    ensures { SomeMachine }
 {}

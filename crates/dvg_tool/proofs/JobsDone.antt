@@ -1,10 +1,10 @@
 -- From what an engine answers to what is answered of it.
 use Rattle.std.proofs.Common.{◌≡◌, List, ℕ, Option, Some, None, Ok, subst}
 use Rattle.std.specs.Prelude.{◌↔◌, All, Bool, IfSome, IsTrue}
-use Rattle.dvg_draw.specs.Checks.{ChecksSketch, IsGoodVerdict}
-use Rattle.dvg_draw.specs.Sketches.{Draws}
-use Rattle.dvg_draw.specs.declared.drawn.Drawn.{Drawn}
-use Rattle.dvg_draw.specs.declared.said.Said.{Said}
+use Rattle.dvg_lay.specs.Checks.{ChecksSketch, IsGoodVerdict}
+use Rattle.dvg_lay.specs.DrawnSketches.{Draws}
+use Rattle.dvg_lay.specs.declared.drawn.Drawn.{Drawn}
+use Rattle.dvg_lay.specs.declared.verdicts.Said.{Said}
 use Rattle.dvg_svg.specs.declared.show.Show.{Show}
 use Rattle.dvg_lay.specs.Sketches.{Lays}
 use Rattle.dvg_lay.specs.declared.form.Form.{Form}

@@ -3,11 +3,11 @@ use Rattle.std.specs.Prelude.{◌≡◌, ◌↔◌, All, IsTrue, ℕ, List, Opti
 use Rattle.dvg_io.specs.Faults.{ComesBeforeText, StopsBeforeWriting}
 use Rattle.dvg_io.specs.Watching.{TakesAtMost}
 use Rattle.dvg_io.specs.declared.fault.ToolFault.{ToolFault}
-use Rattle.dvg_draw.specs.Checks.{ChecksSketch, IsGoodVerdict}
-use Rattle.dvg_draw.specs.Sketches.{Draws}
-use Rattle.dvg_draw.specs.declared.drawn.Drawn.{Drawn}
-use Rattle.dvg_draw.specs.declared.drawn.Drawn.TheVariants as drawns
-use Rattle.dvg_draw.specs.declared.said.Said.{Said}
+use Rattle.dvg_lay.specs.Checks.{ChecksSketch, IsGoodVerdict}
+use Rattle.dvg_lay.specs.DrawnSketches.{Draws}
+use Rattle.dvg_lay.specs.declared.drawn.Drawn.{Drawn}
+use Rattle.dvg_lay.specs.declared.drawn.Drawn.TheVariants as drawns
+use Rattle.dvg_lay.specs.declared.verdicts.Said.{Said}
 use Rattle.dvg_lay.specs.Sketches.{Lays}
 use Rattle.dvg_lay.specs.declared.form.Form.{Form}
 use Rattle.dvg_lay.specs.declared.form.Form.TheVariants.{Bytes, Tables, RomBytes, RomNames}

@@ -115,7 +115,7 @@ impl<A: Allocator + Copy> Engine<A> for BoundEngine {
 ///
 /// Where it stops before it writes, which is at any fault but `Writer`, the writer is as it was.
 #[inline(never)]
-pub fn check_text<A: Allocator, R: Read, W: Write>(
+pub(crate) fn check_text<A: Allocator, R: Read, W: Write>(
     alloc: A,
     reader: &mut Watched<R>,
     writer: &mut Watched<W>,
@@ -131,7 +131,7 @@ pub fn check_text<A: Allocator, R: Read, W: Write>(
 /// but the line of a good draft gives its bound, too: `ok`, its number of words, and how many words
 /// the generator fetches in its whole run, word zero included.
 #[inline(never)]
-pub fn check_bound<A: Allocator, R: Read, W: Write>(
+pub(crate) fn check_bound<A: Allocator, R: Read, W: Write>(
     alloc: A,
     reader: &mut Watched<R>,
     writer: &mut Watched<W>,

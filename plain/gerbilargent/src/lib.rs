@@ -46,6 +46,10 @@ pub use dvg_moment::*;
 pub use dvg_world::*;
 pub use plain_std::alloc::{AllocError, AllocFailed, Allocator, Box, Global, Vec};
 
+/// The crate by which an allocator of one's own is written.
+#[cfg(feature = "allocator-api2")]
+pub use plain_std::alloc::allocator_api2;
+
 /// What a dump of the vector memory draws.
 pub use dvg_dump as dump;
 /// Sketches as texts: drafts with names, and shapes in a ROM.

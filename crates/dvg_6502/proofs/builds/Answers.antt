@@ -1,6 +1,10 @@
+use Rattle.std.proofs.Common.{refl}
 use Rattle.dvg_6502.proofs.Building.{put_takes}
 use Rattle.dvg_6502.proofs.Closing.{open_is_taken, pair_takes, labs_takes, close_takes, idle_ticks}
+use Rattle.dvg_6502.proofs.VectorBuilds.{vector_takes, vector_refuses}
+use Rattle.dvg_6502.proofs.VectorDraws.{vector_draws}
 use Rattle.dvg_6502.proofs.BuildScript.{builds_script}
+use Rattle.dvg_6502.proofs.IdleTicks.{idle_ticks_all}
 use Rattle.dvg_6502.proofs.builds.Goals as goal
 
 pub returns : goal.returns
@@ -9,7 +13,12 @@ returns c = record {
   puts = put_takes;
   pairs = pair_takes;
   labs = labs_takes;
+  vector = vector_takes;
+  no_vector = vector_refuses;
+  vector_draws = vector_draws;
+  some_vectors = (refl, refl, refl);
   closes = close_takes;
   idles = idle_ticks;
+  idles_all = idle_ticks_all;
   script = builds_script;
 }

@@ -1,6 +1,6 @@
 //! What the program can be asked to do.
 /// What is laid out of a sketch.
-#[derive(Clone, Copy, Debug, PartialEq, Eq)]
+#[derive(Clone, Copy, Debug, PartialEq, Eq, Hash)]
 pub enum LayForm {
     /// The bytes of each frame as it lies in half 0.
     Half0,
@@ -16,7 +16,7 @@ pub enum LayForm {
 
 /// What the program has to do. `percent` is a size of pictures, 10 to 400, and `rate` is how many
 /// are shown a second, 1 to 60.
-#[derive(Clone, Copy, Debug, PartialEq, Eq)]
+#[derive(Clone, Copy, Debug, PartialEq, Eq, Hash)]
 pub enum Job {
     /// List the instructions of words.
     List,

@@ -2,7 +2,9 @@
 use crate::instr::Instr;
 
 /// An instruction whose fields are all in range, so that words spell it.
-#[derive(Clone, Copy, Debug, PartialEq, Eq)]
+#[derive(Clone, Copy, Debug, PartialEq, Eq, Hash)]
+#[cfg_attr(feature = "serde", derive(serde::Serialize, serde::Deserialize))]
+#[cfg_attr(feature = "serde", serde(try_from = "Instr", into = "Instr"))]
 pub struct Code {
     instr: Instr,
 }

@@ -4,7 +4,8 @@ use crate::instr::Instr;
 use thiserror::Error;
 
 /// Why words begin with no instruction.
-#[derive(Clone, Copy, Debug, PartialEq, Eq, Error)]
+#[derive(Clone, Copy, Debug, PartialEq, Eq, Error, Hash)]
+#[cfg_attr(feature = "serde", derive(serde::Serialize, serde::Deserialize))]
 pub enum CodeFault {
     /// There is no word.
     #[error("there is no word")]

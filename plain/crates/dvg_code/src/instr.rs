@@ -3,7 +3,8 @@
 ///
 /// The formats and the names are those of Atari's DVG documentation and of Margolin's *The Secret
 /// Life of Vector Generators*.
-#[derive(Clone, Copy, Debug, PartialEq, Eq)]
+#[derive(Clone, Copy, Debug, PartialEq, Eq, Hash)]
+#[cfg_attr(feature = "serde", derive(serde::Serialize, serde::Deserialize))]
 pub enum Instr {
     /// Moves the beam, drawing where the intensity isn't 0. Two words.
     Vctr {

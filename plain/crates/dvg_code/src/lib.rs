@@ -24,3 +24,7 @@ pub use instr::Instr;
 pub use listing::{Listed, Listing};
 pub use memory::OutOfMemory;
 pub use word::word_at;
+
+#[path = "../rust.rs"]
+mod rust;
+pub use rust::*;

@@ -3,7 +3,8 @@ use crate::code::Code;
 use crate::decoding::{CodeFault, decode};
 
 /// What stands at a place of a list of words. Places count words, from 0.
-#[derive(Clone, Copy, Debug, PartialEq, Eq)]
+#[derive(Clone, Copy, Debug, PartialEq, Eq, Hash)]
+#[cfg_attr(feature = "serde", derive(serde::Serialize, serde::Deserialize))]
 pub enum Listed {
     /// An instruction, at the place of its first word.
     At(usize, Code),

@@ -5,8 +5,9 @@ use std::alloc::{AllocError, AllocFailed};
 use thiserror::Error;
 
 /// An allocation failed. What was to grow has not changed.
-#[derive(Clone, Copy, Debug, PartialEq, Eq, Error)]
+#[derive(Clone, Copy, Debug, PartialEq, Eq, Error, Hash)]
 #[error("out of memory")]
+#[cfg_attr(feature = "serde", derive(serde::Serialize, serde::Deserialize))]
 pub struct OutOfMemory;
 
 impl From<AllocError> for OutOfMemory {

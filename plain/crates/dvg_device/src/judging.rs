@@ -4,7 +4,7 @@ use crate::request::Request;
 use dvg_moment::MomentJudge;
 
 /// A line of a log, as a judge of moments is told it.
-#[derive(Clone, Copy, Debug, PartialEq, Eq)]
+#[derive(Clone, Copy, Debug, PartialEq, Eq, Hash)]
 pub enum JudgeLine {
     /// It says nothing of memory or of a run.
     Passed,

@@ -12,7 +12,7 @@ use dvg_frame::{Op, OpKind};
 /// | 3, 4 | call, jump | `x`, the number of an operation of the draft |
 /// | 5, 6 | call, jump into the ROM | `x`, a word address |
 /// | 7, 8 | return, halt | |
-#[derive(Clone, Copy, Debug, PartialEq, Eq)]
+#[derive(Clone, Copy, Debug, PartialEq, Eq, Hash)]
 pub struct Operation {
     /// Which operation, 0 to 8.
     pub kind: u8,

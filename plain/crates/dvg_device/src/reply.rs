@@ -7,7 +7,7 @@ use dvg_gen::Stroke;
 use dvg_log::Entry;
 
 /// How the newest run of a log stands, of which a judge was told a line.
-#[derive(Clone, Copy, Debug, PartialEq, Eq)]
+#[derive(Clone, Copy, Debug, PartialEq, Eq, Hash)]
 pub enum RunState {
     /// No run is open.
     NoRun,
@@ -24,7 +24,7 @@ pub enum RunState {
 /// What a device replies. As a number, its lowest byte is the kind, which stands first here, an
 /// address stands in bits 8 to 23, and a value from bit 24 on; but the reply to a question about
 /// strokes is what was asked for, and nothing else.
-#[derive(Clone, Copy, Debug, PartialEq, Eq)]
+#[derive(Clone, Copy, Debug, PartialEq, Eq, Hash)]
 pub enum Reply {
     /// 0 to 17: what came of it, as a log shows it; the strokes of a run that came to a HALT can be
     /// asked for. In the order of `Entry`, which says what each is:

@@ -1,7 +1,8 @@
 //! What the driver does in a tick.
 /// What the driver did in a tick. Whoever calls `tick` has done the reads beforehand, and does the
 /// write or sends the strobe afterwards.
-#[derive(Clone, Copy, Debug, PartialEq, Eq)]
+#[derive(Clone, Copy, Debug, PartialEq, Eq, Hash)]
+#[cfg_attr(feature = "serde", derive(serde::Serialize, serde::Deserialize))]
 pub enum Action {
     /// It looked at byte 001 of the RAM, which names the current half.
     Peek,

@@ -2,7 +2,8 @@
 use thiserror::Error;
 
 /// Why the driver refuses a frame or a redraw. Nothing has changed then.
-#[derive(Clone, Copy, Debug, PartialEq, Eq, Error)]
+#[derive(Clone, Copy, Debug, PartialEq, Eq, Error, Hash)]
+#[cfg_attr(feature = "serde", derive(serde::Serialize, serde::Deserialize))]
 pub enum DriverFault {
     /// It isn't idle: it still boots, or a frame or a redraw is under way.
     #[error("the driver isn't idle")]

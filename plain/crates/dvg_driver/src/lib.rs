@@ -22,3 +22,7 @@ mod fault;
 pub use action::Action;
 pub use driver::Driver;
 pub use fault::DriverFault;
+
+#[path = "../rust.rs"]
+mod rust;
+pub use rust::*;

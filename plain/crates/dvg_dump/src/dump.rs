@@ -10,7 +10,7 @@ pub const SMALL_DUMP_BYTES: usize = 2 * MEMORY_BYTES;
 pub const LARGE_DUMP_BYTES: usize = MEMORY_BYTES + LARGE_ROM_BYTES;
 
 /// Why a dump was not taken.
-#[derive(Clone, Copy, Debug, PartialEq, Eq, Error)]
+#[derive(Clone, Copy, Debug, PartialEq, Eq, Error, Hash)]
 pub enum DumpFault {
     /// There are neither 4,096 bytes nor 6,144.
     #[error("there are neither 4,096 bytes nor 6,144")]

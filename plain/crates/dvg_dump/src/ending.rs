@@ -27,7 +27,7 @@ pub enum Ending<A: Allocator = Global> {
 }
 
 /// How a run ends, by name alone.
-#[derive(Clone, Copy, Debug, PartialEq, Eq)]
+#[derive(Clone, Copy, Debug, PartialEq, Eq, Hash)]
 pub enum Outcome {
     /// A HALT ended it: there is a picture.
     Picture,

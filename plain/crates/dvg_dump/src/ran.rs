@@ -3,7 +3,7 @@ use dvg_code::Code;
 use dvg_gen::{Beam, Stroke};
 
 /// An instruction that was run.
-#[derive(Clone, Copy, Debug, PartialEq, Eq)]
+#[derive(Clone, Copy, Debug, PartialEq, Eq, Hash)]
 pub struct Ran {
     /// The word address of its first word.
     pub address: u16,

@@ -7,12 +7,13 @@ use thiserror::Error;
 pub(crate) const MAX_OPS: usize = 511;
 
 /// There is no room: a draft has at most 511 operations.
-#[derive(Clone, Copy, Debug, PartialEq, Eq, Error)]
+#[derive(Clone, Copy, Debug, PartialEq, Eq, Error, Hash)]
 #[error("the draft has its 511 operations already")]
+#[cfg_attr(feature = "serde", derive(serde::Serialize, serde::Deserialize))]
 pub struct DraftFull;
 
 /// A list of at most 511 operations, numbered from 0.
-#[derive(Clone, Debug, PartialEq, Eq)]
+#[derive(Clone, Debug, PartialEq, Eq, Hash)]
 pub struct Draft {
     ops: ArrayVec<Op, MAX_OPS>,
 }

@@ -4,7 +4,8 @@ use thiserror::Error;
 
 /// Why a draft is refused. The faults have the numbers 1 to 9, in this order (this project's own
 /// choice).
-#[derive(Clone, Copy, Debug, PartialEq, Eq, Error)]
+#[derive(Clone, Copy, Debug, PartialEq, Eq, Error, Hash)]
+#[cfg_attr(feature = "serde", derive(serde::Serialize, serde::Deserialize))]
 pub enum FrameFault {
     /// 1: there is no operation.
     #[error("there is no operation")]

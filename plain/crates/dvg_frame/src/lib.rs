@@ -30,3 +30,7 @@ pub use fault::FrameFault;
 pub use frame::Frame;
 pub use op::{Op, OpKind};
 pub use place::Place;
+
+#[path = "../rust.rs"]
+mod rust;
+pub use rust::*;

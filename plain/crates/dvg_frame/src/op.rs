@@ -2,7 +2,8 @@
 use dvg_code::{Code, Instr};
 
 /// What an operation does. An operation of the draft is named by its number, counted from 0.
-#[derive(Clone, Copy, Debug, PartialEq, Eq)]
+#[derive(Clone, Copy, Debug, PartialEq, Eq, Hash)]
+#[cfg_attr(feature = "serde", derive(serde::Serialize, serde::Deserialize))]
 pub enum OpKind {
     /// Executes a VCTR, an SVEC or a LABS.
     Draw(Code),
@@ -21,7 +22,9 @@ pub enum OpKind {
 }
 
 /// An operation of a draft.
-#[derive(Clone, Copy, Debug, PartialEq, Eq)]
+#[derive(Clone, Copy, Debug, PartialEq, Eq, Hash)]
+#[cfg_attr(feature = "serde", derive(serde::Serialize, serde::Deserialize))]
+#[cfg_attr(feature = "serde", serde(try_from = "OpKind", into = "OpKind"))]
 pub struct Op {
     kind: OpKind,
 }

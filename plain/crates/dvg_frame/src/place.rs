@@ -2,7 +2,8 @@
 use std::fmt;
 
 /// Where a draft's run can be.
-#[derive(Clone, Copy, Debug, PartialEq, Eq)]
+#[derive(Clone, Copy, Debug, PartialEq, Eq, Hash)]
+#[cfg_attr(feature = "serde", derive(serde::Serialize, serde::Deserialize))]
 pub enum Place {
     /// At this operation of the draft.
     InFrame(u16),

@@ -9,7 +9,8 @@ const CIRCLE: u32 = 2_097_152;
 ///
 /// Positions are exact, and go round: past the edge at 4,096 units the beam comes in at the other
 /// one. Nothing is rounded or clipped (this project's own choice).
-#[derive(Clone, Copy, Debug, PartialEq, Eq)]
+#[derive(Clone, Copy, Debug, PartialEq, Eq, Hash)]
+#[cfg_attr(feature = "serde", derive(serde::Serialize, serde::Deserialize))]
 pub struct Beam {
     /// The position along x, below 2,097,152.
     pub x: u32,

@@ -20,3 +20,7 @@ pub use beam::Beam;
 pub use generator::Generator;
 pub use stroke::Stroke;
 pub use taken::{GenFault, Step, Taken};
+
+#[path = "../rust.rs"]
+mod rust;
+pub use rust::*;

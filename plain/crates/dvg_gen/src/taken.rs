@@ -6,7 +6,8 @@ use std::alloc::Allocator;
 use thiserror::Error;
 
 /// Why a run broke. That each of these stops the run is this project's own choice.
-#[derive(Clone, Copy, Debug, PartialEq, Eq, Error)]
+#[derive(Clone, Copy, Debug, PartialEq, Eq, Error, Hash)]
+#[cfg_attr(feature = "serde", derive(serde::Serialize, serde::Deserialize))]
 pub enum GenFault {
     /// A call with four return addresses saved.
     #[error("a call with four return addresses saved")]
@@ -32,7 +33,7 @@ impl GenFault {
 }
 
 /// What a fetch led to, without the strokes of a finished run.
-#[derive(Clone, Copy, Debug, PartialEq, Eq)]
+#[derive(Clone, Copy, Debug, PartialEq, Eq, Hash)]
 pub enum Step {
     /// That was the low byte of a word, whose high byte comes next.
     Low,

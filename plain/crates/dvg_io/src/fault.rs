@@ -4,7 +4,7 @@ use dvg_read::{TextFault, TraceFault};
 use thiserror::Error;
 
 /// Why an engine stopped. Its text is what `dvg` prints of it (this project's own choice).
-#[derive(Clone, Copy, Debug, PartialEq, Eq, Error)]
+#[derive(Clone, Copy, Debug, PartialEq, Eq, Error, Hash)]
 pub enum ToolFault {
     /// What was read is at fault.
     #[error(transparent)]

@@ -3,7 +3,7 @@ use std::io::{Read, Write};
 use thiserror::Error;
 
 /// A reader or writer failed, and the failure was counted.
-#[derive(Clone, Copy, Debug, PartialEq, Eq, Error)]
+#[derive(Clone, Copy, Debug, PartialEq, Eq, Error, Hash)]
 #[error("a reader or writer failed")]
 pub struct StreamFailed;
 

@@ -23,7 +23,7 @@ fn text_fault(fault: NamedFault) -> TextFault {
 }
 
 /// Returns `fault`, by which a sketch isn't read, as a fault of the program.
-pub fn tool_fault(fault: SketchFault) -> ToolFault {
+pub(crate) fn tool_fault(fault: SketchFault) -> ToolFault {
     match fault {
         SketchFault::Text(fault) => ToolFault::Text(text_fault(fault)),
         SketchFault::Memory => ToolFault::Memory,

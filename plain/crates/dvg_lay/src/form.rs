@@ -9,7 +9,7 @@ use dvg_named::{NamedFrame, RomName};
 use std::alloc::{Allocator, Global};
 
 /// What is laid out of a sketch.
-#[derive(Clone, Copy, Debug, PartialEq, Eq)]
+#[derive(Clone, Copy, Debug, PartialEq, Eq, Hash)]
 pub enum Form {
     /// The bytes of each frame as it lies in this half, as `lay_bytes` makes them.
     Bytes(Half),
@@ -58,7 +58,7 @@ fn lay_text<A: Allocator + Copy>(
 
 /// Lays `frames` out in this `form`, over `rom`, whose names are `names`, or returns why a frame is
 /// refused. Returns `OutOfMemory` where an allocation fails.
-pub fn lay<A: Allocator + Copy>(
+pub(crate) fn lay<A: Allocator + Copy>(
     alloc: A,
     rom: &Rom<A>,
     names: &[RomName],

@@ -1,29 +1,34 @@
-//! What is laid out of a sketch: the bytes of its frames as they lie in a half of the vector RAM,
-//! tables of them for an assembler, the bytes of its ROM, and the names of the ROM (all formats are
-//! this project's own choice). Each frame is checked first. A refused one is named by its line of
-//! the sketch, or by a word of the ROM.
+//! What is made of a sketch. Its frames are laid out: as their bytes in a half of the vector RAM, or
+//! as tables for an assembler; so are the bytes of its ROM, and the names of that. Or its frames are
+//! drawn, as SVG. Or the check tells of each (all formats are this project's own choice).
 //!
-//! Everything is made in memory, so that it can be written whole. The engine reads the text of a
-//! sketch, and writes what is laid out of it.
+//! Each frame is checked first. A refused one is named by its line of the sketch, or by a word of
+//! the ROM. What is laid out is made in memory, so that it can be written whole. A frame is drawn by
+//! a run of the generator over a memory that has it.
 #![no_std]
 
 extern crate plain_std as std;
 
 mod checking;
+mod drawing;
+mod drawn;
 mod engine;
 mod form;
+mod frames;
 mod laying;
-mod lent;
+mod memory;
 mod names;
+mod picture;
 mod refusal;
 mod said;
 mod table;
 mod text;
+mod verdicts;
 
-pub use checking::{good_frame, tell_long};
-pub use engine::{lay_sketch, tool_fault};
-pub use form::{Form, Laid, lay};
-pub use laying::{lay_bytes, lay_names, lay_rom, lay_tables};
-pub use lent::are_lent;
+pub use drawing::draw_sketch;
+pub use drawn::Drawn;
+pub use engine::lay_sketch;
+pub use form::{Form, Laid};
+pub use laying::lay_tables;
 pub use refusal::{Blamed, Reason, Refusal, Unlaid};
-pub use table::put_laid;
+pub use verdicts::{Said, check_sketch};

@@ -7,7 +7,7 @@ use std::alloc::{AllocFailed, Allocator, Global};
 use std::fmt;
 
 /// What is blamed for a refusal.
-#[derive(Debug, PartialEq, Eq)]
+#[derive(Debug, PartialEq, Eq, Hash)]
 pub enum Blamed<A: Allocator = Global> {
     /// A line of the sketch.
     Line {
@@ -26,7 +26,7 @@ pub enum Blamed<A: Allocator = Global> {
 }
 
 /// Why a frame is refused.
-#[derive(Clone, Copy, Debug, PartialEq, Eq)]
+#[derive(Clone, Copy, Debug, PartialEq, Eq, Hash)]
 pub enum Reason {
     /// The check picks this fault.
     Fault(FrameFault),
@@ -37,7 +37,7 @@ pub enum Reason {
 }
 
 /// A frame that is refused. Its text is what `dvg` prints of it (this project's own choice).
-#[derive(Debug, PartialEq, Eq)]
+#[derive(Debug, PartialEq, Eq, Hash)]
 pub struct Refusal<A: Allocator = Global> {
     /// What is blamed.
     pub blamed: Blamed<A>,

@@ -12,7 +12,7 @@ use std::alloc::{AllocError, Allocator};
 
 /// Appends the bytes of `frame` as it lies in `half` to `text`, the low byte of each word first.
 /// Returns `AllocError` where an allocation fails.
-pub fn put_laid<A: Allocator>(
+pub(crate) fn put_laid<A: Allocator>(
     text: &mut Vec<u8, A>,
     frame: Frame,
     half: Half,

@@ -9,7 +9,8 @@ use std::alloc::Global;
 /// What an event led to. Each event has exactly one entry.
 ///
 /// `S` is what a finished run drew.
-#[derive(Clone, Copy, Debug, PartialEq, Eq)]
+#[derive(Clone, Copy, Debug, PartialEq, Eq, Hash)]
+#[cfg_attr(feature = "serde", derive(serde::Serialize, serde::Deserialize))]
 pub enum Entry<S = Vec<Stroke>> {
     /// The draft was checked, and the driver took its frame.
     Offered,

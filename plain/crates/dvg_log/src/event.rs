@@ -9,7 +9,8 @@ use std::alloc::Global;
 /// given as an event is a lost one, and one that is given again is a repeated one.
 ///
 /// `D` is what an offer brings, and `I` what a reset of the whole system does.
-#[derive(Clone, Copy, Debug, PartialEq, Eq)]
+#[derive(Clone, Copy, Debug, PartialEq, Eq, Hash)]
+#[cfg_attr(feature = "serde", derive(serde::Serialize, serde::Deserialize))]
 pub enum Event<D = Box<Draft>, I = Image> {
     /// The driver is handed a draft to show.
     Offer(D),

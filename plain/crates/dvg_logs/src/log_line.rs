@@ -8,7 +8,7 @@ pub(crate) const RAM_END: u16 = 0x800;
 pub const MOST_LINE_BYTES: usize = 64;
 
 /// What a line says.
-#[derive(Clone, Copy, Debug, PartialEq, Eq)]
+#[derive(Clone, Copy, Debug, PartialEq, Eq, Hash)]
 pub enum LogLine {
     /// Nothing, as it is passed over.
     Passed,

@@ -6,7 +6,7 @@ use dvg_world::Judge;
 use memchr::memchr;
 
 /// Why the reading of a log stops before its text ends.
-#[derive(Clone, Copy, Debug, PartialEq, Eq)]
+#[derive(Clone, Copy, Debug, PartialEq, Eq, Hash)]
 pub enum LogStop {
     /// The line of this number, counted from 1, writes `byte` at the byte address `address`, in the
     /// half that the open run draws. `counts` are those of the lines up to there.
@@ -65,7 +65,7 @@ fn counted(counts: LogCounts, logged: LogLine, draws: bool) -> LogCounts {
 }
 
 /// The lines that have ended. None of them is torn or at fault.
-#[derive(Clone, Copy, Debug, PartialEq, Eq)]
+#[derive(Clone, Copy, Debug, PartialEq, Eq, Hash)]
 pub struct JudgedLines {
     judge: Judge,
     /// How many there are.

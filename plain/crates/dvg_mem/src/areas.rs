@@ -2,7 +2,8 @@
 use crate::half::Half;
 
 /// What a word address belongs to.
-#[derive(Clone, Copy, Debug, PartialEq, Eq)]
+#[derive(Clone, Copy, Debug, PartialEq, Eq, Hash)]
+#[cfg_attr(feature = "serde", derive(serde::Serialize, serde::Deserialize))]
 pub enum Area {
     /// Word zero, where each run begins.
     Zero,

@@ -1,7 +1,8 @@
 //! The two halves of the vector RAM.
 /// One half of the vector RAM. The processor writes a frame into one while the generator draws the
 /// other.
-#[derive(Clone, Copy, Debug, PartialEq, Eq)]
+#[derive(Clone, Copy, Debug, PartialEq, Eq, Hash)]
+#[cfg_attr(feature = "serde", derive(serde::Serialize, serde::Deserialize))]
 pub enum Half {
     /// Words 001 to 1FF.
     H0,

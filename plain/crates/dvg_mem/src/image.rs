@@ -6,7 +6,8 @@ use std::alloc::{AllocError, Allocator, Global};
 use thiserror::Error;
 
 /// Why a memory was not made.
-#[derive(Clone, Copy, Debug, PartialEq, Eq, Error)]
+#[derive(Clone, Copy, Debug, PartialEq, Eq, Error, Hash)]
+#[cfg_attr(feature = "serde", derive(serde::Serialize, serde::Deserialize))]
 pub enum MemFault {
     /// The number of bytes isn't that of the memory: 2,048, or for a ROM 2,048 or 4,096.
     #[error("there are not as many bytes as the memory has")]

@@ -62,3 +62,7 @@ pub const FIRST_LARGE_ROM_WORD: u16 = 0x400;
 
 /// The word address of a ROM's last word.
 pub const LAST_ROM_WORD: u16 = 0xBFF;
+
+#[path = "../rust.rs"]
+mod rust;
+pub use rust::*;

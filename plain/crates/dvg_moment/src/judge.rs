@@ -5,7 +5,7 @@ use dvg_mem::MEMORY_BYTES;
 use std::alloc::Allocator;
 
 // How the open run stands.
-#[derive(Clone, Copy, Debug, PartialEq, Eq)]
+#[derive(Clone, Copy, Debug, PartialEq, Eq, Hash)]
 enum Phase {
     // No run is open.
     Closed,

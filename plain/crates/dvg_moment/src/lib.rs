@@ -7,3 +7,7 @@ pub mod examples;
 mod judge;
 
 pub use judge::MomentJudge;
+
+#[path = "../rust.rs"]
+mod rust;
+pub use rust::*;

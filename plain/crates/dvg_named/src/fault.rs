@@ -2,7 +2,7 @@
 use thiserror::Error;
 
 /// Why the text of a sketch denotes nothing. Lines are counted from 1 (this project's own choice).
-#[derive(Clone, Copy, Debug, PartialEq, Eq, Error)]
+#[derive(Clone, Copy, Debug, PartialEq, Eq, Error, Hash)]
 pub enum NamedFault {
     /// The text has more than 1,048,576 bytes.
     #[error("too long")]
@@ -28,7 +28,7 @@ pub enum NamedFault {
 }
 
 /// Why a sketch isn't read.
-#[derive(Clone, Copy, Debug, PartialEq, Eq, Error)]
+#[derive(Clone, Copy, Debug, PartialEq, Eq, Error, Hash)]
 pub enum SketchFault {
     /// The text has a fault.
     #[error(transparent)]

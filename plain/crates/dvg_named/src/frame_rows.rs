@@ -7,7 +7,7 @@ use std::alloc::Allocator;
 
 /// The rows of a frame, and the lines that they stand in.
 #[derive(Clone, Copy)]
-pub struct FrameRows<'r, 'a> {
+pub(crate) struct FrameRows<'r, 'a> {
     /// Its name, if it has one.
     pub name: Option<&'a [u8]>,
     /// The line that begins it. A frame at the top begins with the text's first line.

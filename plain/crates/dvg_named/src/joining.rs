@@ -34,7 +34,7 @@ pub struct JoinedFrames<'a, A: Allocator> {
 
 /// Returns the drafts of `frames`, with the names of the ROM from `rom`. Returns `Ungiven` where
 /// one needs a name that isn't given, and `Memory` where an allocation fails.
-pub fn join_frames<'a, A: Allocator + Copy>(
+pub(crate) fn join_frames<'a, A: Allocator + Copy>(
     alloc: A,
     frames: &[FrameRows<'_, 'a>],
     rom: &LaidNames<'_, '_, '_, A>,

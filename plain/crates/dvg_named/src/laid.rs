@@ -9,7 +9,7 @@ use std::alloc::Allocator;
 /// The rows of a section of the ROM, and the word address that its line `.rom` gives, if it gives
 /// one.
 #[derive(Clone, Copy)]
-pub struct RomRows<'r, 'a> {
+pub(crate) struct RomRows<'r, 'a> {
     /// The word address that is given.
     pub address: Option<u16>,
     /// The rows, in order.
@@ -18,7 +18,7 @@ pub struct RomRows<'r, 'a> {
 
 /// The rows of a section of the ROM, and the word address from which on they are laid.
 #[derive(Clone, Copy)]
-pub struct LaidRows<'r, 'a> {
+pub(crate) struct LaidRows<'r, 'a> {
     /// The word address of the first word.
     pub start: usize,
     /// The rows, in order.
@@ -26,7 +26,7 @@ pub struct LaidRows<'r, 'a> {
 }
 
 /// Laid sections, and a table of all names that they give.
-pub struct LaidNames<'s, 'r, 'a, A: Allocator + Copy> {
+pub(crate) struct LaidNames<'s, 'r, 'a, A: Allocator + Copy> {
     sections: &'s [LaidRows<'r, 'a>],
     addresses: NameTable<'a, A>,
 }
@@ -69,7 +69,7 @@ fn table_of<'a, A: Allocator + Copy>(
 /// the first word after all that were laid before, which for the first section is `free` (this
 /// project's own choice). Returns `OutOfMemory` where an allocation fails. The time grows with the
 /// number of rows.
-pub fn lay<'r, 'a, A: Allocator>(
+pub(crate) fn lay<'r, 'a, A: Allocator>(
     alloc: A,
     free: usize,
     sections: &[RomRows<'r, 'a>],
@@ -90,7 +90,7 @@ pub fn lay<'r, 'a, A: Allocator>(
 /// Returns the first word address that is free after one more line `rom`, where `free` was it
 /// before and `end` is the address after the line's words. Before the first line it is that of the
 /// ROM's first word.
-pub fn free_with(free: u16, end: u16) -> u16 {
+pub(crate) fn free_with(free: u16, end: u16) -> u16 {
     free.max(end)
 }
 
@@ -107,7 +107,7 @@ fn start_of(address: Option<u16>, next: usize) -> usize {
 ///
 /// Where each name is given once, no other address is that of `name`. A name after the last
 /// operation of its section is the address after the section (this project's own choice).
-pub fn address_of<A: Allocator + Copy>(
+pub(crate) fn address_of<A: Allocator + Copy>(
     sections: &LaidNames<'_, '_, '_, A>,
     name: &[u8],
 ) -> Option<u16> {

@@ -24,17 +24,12 @@ mod stated_rom;
 mod text_reading;
 mod unknown;
 
-pub use addresses::rom_names;
-pub use drafting::draft_of;
-pub use dvg_rows::{
-    Doing, Head, MAX_TOKENS, NamedRows, Row, Source, number_of, read_head, read_row, size,
-    tokens_of,
-};
+pub use dvg_rows::{Doing, Head, MAX_TOKENS, Row, Source, read_head, read_row, tokens_of};
 pub use fault::{NamedFault, SketchFault};
-pub use flat_draft::{DraftFault, push_draft};
-pub use frame_rows::FrameRows;
-pub use joining::{FrameSpan, JoinedFrames, join_frames};
-pub use laid::{LaidNames, LaidRows, RomRows, address_of, free_with, lay};
+pub use joining::{FrameSpan, JoinedFrames};
 pub use meaning::{NamedFrame, RomName};
-pub use rom_words::{RomRow, put_sections};
 pub use sketch::{Sketch, read_sketch};
+
+#[path = "../rust.rs"]
+mod rust;
+pub use rust::*;

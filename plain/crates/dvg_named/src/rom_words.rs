@@ -6,8 +6,8 @@ use dvg_rows::{Doing, ROM_END};
 use std::alloc::Allocator;
 
 /// A row of a section of the ROM, by the numbers of both, counted from 0.
-#[derive(Clone, Copy, Debug, PartialEq, Eq)]
-pub struct RomRow {
+#[derive(Clone, Copy, Debug, PartialEq, Eq, Hash)]
+pub(crate) struct RomRow {
     /// The number of the section.
     pub section: usize,
     /// The number of the row in it.
@@ -19,7 +19,7 @@ pub struct RomRow {
 /// gave the words become those that the same words would have made of them, given by further lines.
 /// Or else returns the first row that needs a name which isn't given; what was put before it stays.
 /// No memory is taken. The time grows with the number of rows.
-pub fn put_sections<A: Allocator + Copy>(
+pub(crate) fn put_sections<A: Allocator + Copy>(
     rom: &mut [u8],
     sections: &LaidNames<'_, '_, '_, A>,
 ) -> Result<(), RomRow> {

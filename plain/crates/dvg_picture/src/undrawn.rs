@@ -7,7 +7,7 @@ use std::fmt;
 
 /// Why a run over a dump drew no picture. Its text is what `dvg` prints of it (this project's own
 /// choice).
-#[derive(Clone, Copy, Debug, PartialEq, Eq)]
+#[derive(Clone, Copy, Debug, PartialEq, Eq, Hash)]
 pub enum Undrawn {
     /// It broke.
     Broke {

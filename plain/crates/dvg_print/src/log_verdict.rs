@@ -3,7 +3,7 @@ use crate::line::Line;
 use dvg_driver::Action;
 
 /// What was counted in the lines of a log, up to the one that decided.
-#[derive(Clone, Copy, Debug, PartialEq, Eq)]
+#[derive(Clone, Copy, Debug, PartialEq, Eq, Hash)]
 pub struct LogCounts {
     /// Strobes that began a run.
     pub runs: usize,
@@ -16,7 +16,7 @@ pub struct LogCounts {
 }
 
 /// What the judge finds in a log.
-#[derive(Clone, Copy, Debug, PartialEq, Eq)]
+#[derive(Clone, Copy, Debug, PartialEq, Eq, Hash)]
 pub enum LogFinding {
     /// No byte was written in the half that the open run draws.
     NotTorn,
@@ -28,7 +28,7 @@ pub enum LogFinding {
 }
 
 /// What the judge says of a log.
-#[derive(Clone, Copy, Debug, PartialEq, Eq)]
+#[derive(Clone, Copy, Debug, PartialEq, Eq, Hash)]
 pub struct LogVerdict {
     /// What it finds.
     pub finding: LogFinding,

@@ -2,7 +2,7 @@
 use dvg_frame::FrameFault;
 
 /// What the check says of a draft over a ROM.
-#[derive(Clone, Copy, Debug, PartialEq, Eq)]
+#[derive(Clone, Copy, Debug, PartialEq, Eq, Hash)]
 pub enum Verdict {
     /// It may be drawn, and has this many words.
     Good(u16),
@@ -11,7 +11,7 @@ pub enum Verdict {
 }
 
 /// What the check says of a draft over a ROM, with the bound of a good one.
-#[derive(Clone, Copy, Debug, PartialEq, Eq)]
+#[derive(Clone, Copy, Debug, PartialEq, Eq, Hash)]
 pub enum BoundedVerdict {
     /// It may be drawn. `words` is how many words it has. `bound` is how many words the generator
     /// fetches in the whole run, word zero included.

@@ -2,7 +2,7 @@
 use thiserror::Error;
 
 /// A fault of an input. Its text is what `dvg` prints of it (this project's own choice).
-#[derive(Clone, Copy, Debug, PartialEq, Eq, Error)]
+#[derive(Clone, Copy, Debug, PartialEq, Eq, Error, Hash)]
 pub enum TextFault {
     /// The input has more bytes, or a log more lines, than are allowed.
     #[error("too long")]
@@ -52,7 +52,7 @@ pub enum TextFault {
 }
 
 /// Why the text of a trace isn't read.
-#[derive(Clone, Copy, Debug, PartialEq, Eq, Error)]
+#[derive(Clone, Copy, Debug, PartialEq, Eq, Error, Hash)]
 pub enum TraceFault {
     /// The text is at fault.
     #[error(transparent)]

@@ -27,3 +27,7 @@ pub use rom_area::{ROM_END, RomArea};
 pub use row::{Doing, Head, Row, read_head, read_row};
 pub use sizes::{size, words_of_row};
 pub use source::Source;
+
+#[path = "../rust.rs"]
+mod rust;
+pub use rust::*;

@@ -2,7 +2,7 @@
 use thiserror::Error;
 
 /// Why no draft is made of a sketch. Steps are counted from 0 (this project's own choice).
-#[derive(Clone, Copy, Debug, PartialEq, Eq, Error)]
+#[derive(Clone, Copy, Debug, PartialEq, Eq, Error, Hash)]
 pub enum SketchFault {
     /// There are more than 511 operations.
     #[error("there are more than 511 operations")]

@@ -2,7 +2,7 @@
 use dvg_frame::Op;
 
 /// A step of a sketch.
-#[derive(Clone, Copy, Debug, PartialEq, Eq)]
+#[derive(Clone, Copy, Debug, PartialEq, Eq, Hash)]
 pub enum Step<'a> {
     /// Names the operation that comes next.
     Name(&'a str),

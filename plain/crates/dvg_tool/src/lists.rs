@@ -9,7 +9,7 @@ use std::io::{Read, Write};
 
 /// The most bytes that `list` takes as its input: 4,096 words, all that an address of 12 bits names
 /// (this project's own choice).
-pub const MOST_LIST_BYTES: usize = 8192;
+pub(crate) const MOST_LIST_BYTES: usize = 8192;
 
 /// Writes the line of `code`, the instruction that stands at `place` in `words`, to `writer`,
 /// listed at `address`. The line is made in `line`.

@@ -38,7 +38,7 @@ fn list_words_at<W: Write>(at: u16, words: &[u16], writer: &mut Watched<W>) -> R
 /// Lists words from `reader` to `writer` as `list` does, where the first one has the address `at`
 /// and the others count on from it, modulo 4,096. Lines and the fault `Cut` give these addresses;
 /// all else is as `list` has it.
-pub fn list_at<A: Allocator, R: Read, W: Write>(
+pub(crate) fn list_at<A: Allocator, R: Read, W: Write>(
     alloc: A,
     reader: &mut Watched<R>,
     writer: &mut Watched<W>,

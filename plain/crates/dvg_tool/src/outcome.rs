@@ -8,7 +8,7 @@ use std::alloc::{Allocator, Global};
 use std::io::Write;
 
 /// What an engine that is done reports.
-#[derive(Debug, PartialEq, Eq)]
+#[derive(Debug, PartialEq, Eq, Hash)]
 pub enum Done<A: Allocator = Global> {
     /// The text was written.
     Written,

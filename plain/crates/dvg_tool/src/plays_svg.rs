@@ -77,7 +77,7 @@ impl<S: Store> Engine<S::Alloc> for SvgEngine<S> {
 /// The RAM is kept in any store. All of this holds whichever it is, so what is written doesn't
 /// depend on it.
 #[inline(never)]
-pub fn play_svg_in<S: Store, R: Read, W: Write>(
+pub(crate) fn play_svg_in<S: Store, R: Read, W: Write>(
     alloc: S::Alloc,
     reader: &mut Watched<R>,
     writer: &mut Watched<W>,
@@ -93,7 +93,7 @@ pub fn play_svg_in<S: Store, R: Read, W: Write>(
 
 /// Plays a trace from `reader` to `writer` over a RAM that is kept in one array: `play_svg_in` with
 /// the store `Flat`, and with its clauses. `show` is the size and the rate.
-pub fn play_svg<A: Allocator + Copy, R: Read, W: Write>(
+pub(crate) fn play_svg<A: Allocator + Copy, R: Read, W: Write>(
     alloc: A,
     reader: &mut Watched<R>,
     writer: &mut Watched<W>,

@@ -91,7 +91,7 @@ impl<A: Allocator + Copy> Engine<A> for RomEngine {
 /// - `Memory`: an allocation failed.
 ///
 /// Where it stops before it writes, which is at any fault but `Writer`, the writer is as it was.
-pub fn rom_text<A: Allocator, R: Read, W: Write>(
+pub(crate) fn rom_text<A: Allocator, R: Read, W: Write>(
     alloc: A,
     reader: &mut Watched<R>,
     writer: &mut Watched<W>,

@@ -8,7 +8,7 @@ use std::mem;
 
 /// What a fetch met, and what the generator returned. An entry would be made of it only to be taken
 /// apart where pictures alone are kept.
-#[derive(Clone, Copy, Debug, PartialEq, Eq)]
+#[derive(Clone, Copy, Debug, PartialEq, Eq, Hash)]
 pub(crate) struct FetchedByte {
     // The word address.
     pub(crate) address: u16,

@@ -5,7 +5,7 @@ use dvg_mem::Half;
 use std::alloc::Allocator;
 
 // What the open run of a log draws.
-#[derive(Clone, Copy, Debug, PartialEq, Eq)]
+#[derive(Clone, Copy, Debug, PartialEq, Eq, Hash)]
 enum Drawing {
     // No half: there is no open run, or it began with no jump to one.
     Nothing,
@@ -74,7 +74,7 @@ impl Drawing {
 /// A judge of one log, whoever made it. It is handed the log's lines in order: each by its event
 /// and its entry, or by what it shows. It keeps no more than which half the open run draws, and
 /// takes no memory.
-#[derive(Clone, Copy, Debug, PartialEq, Eq)]
+#[derive(Clone, Copy, Debug, PartialEq, Eq, Hash)]
 pub struct Judge {
     drawing: Drawing,
 }

@@ -30,3 +30,7 @@ pub use pictures::{Drawn, Picture, draw_trace};
 pub use runs::{run, run_trace};
 pub use stopped::Stopped;
 pub use world::World;
+
+#[path = "../rust.rs"]
+mod rust;
+pub use rust::*;

@@ -7,7 +7,7 @@ use thiserror::Error;
 
 /// A run that stopped because an allocation failed, and for no other cause (which is tested).
 #[derive(Error)]
-#[derive(Debug, PartialEq, Eq)]
+#[derive(Debug, PartialEq, Eq, Hash)]
 #[error("memory was refused at event {event}")]
 #[derive(Clone)]
 pub struct Stopped<A: Allocator = Global> {

@@ -130,6 +130,12 @@ impl<T: Copy + PartialEq, const N: usize> PartialEq for ArrayVec<T, N> {
 
 impl<T: Copy + Eq, const N: usize> Eq for ArrayVec<T, N> {}
 
+impl<T: Copy + core::hash::Hash, const N: usize> core::hash::Hash for ArrayVec<T, N> {
+    fn hash<H: core::hash::Hasher>(&self, state: &mut H) {
+        self.as_slice().hash(state);
+    }
+}
+
 impl<'a, T: Copy, const N: usize> IntoIterator for &'a ArrayVec<T, N> {
     type Item = &'a T;
     type IntoIter = core::slice::Iter<'a, T>;

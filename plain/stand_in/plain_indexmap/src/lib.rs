@@ -3,7 +3,7 @@
 //! `Result`.
 #![no_std]
 
-use plain_std::alloc::{AllocError, AllocFailed, Global, Vec};
+use plain_std::alloc::{AllocError, AllocFailed, Allocator, Global, Vec};
 use plain_std::hash::{BuildHasher, BuildHasherDefault, FoldHasher, Hash};
 
 /// What is looked up in the place of a key, of which it has the hash.
@@ -19,14 +19,14 @@ impl<T: Eq + Hash> Equivalent<&[T]> for &[T] {
 }
 
 /// A map.
-pub struct IndexMap<K, V, S = BuildHasherDefault<FoldHasher>, A = Global> {
+pub struct IndexMap<K, V, S = BuildHasherDefault<FoldHasher>, A: Allocator = Global> {
     entries: Vec<(K, V), A>,
     // For each place the number of its entry, counted from 1, or 0. Half of them are 0, or more.
     places: Vec<u32, A>,
     hash_builder: S,
 }
 
-impl<K, V, S: Default, A: Copy> IndexMap<K, V, S, A> {
+impl<K, V, S: Default, A: Allocator + Copy> IndexMap<K, V, S, A> {
     /// An empty map. The first entry takes memory.
     pub fn new(alloc: A) -> IndexMap<K, V, S, A> {
         IndexMap {
@@ -37,7 +37,7 @@ impl<K, V, S: Default, A: Copy> IndexMap<K, V, S, A> {
     }
 }
 
-impl<K: Copy + Eq + Hash, V, S: BuildHasher, A> IndexMap<K, V, S, A> {
+impl<K: Copy + Eq + Hash, V, S: BuildHasher, A: Allocator> IndexMap<K, V, S, A> {
     /// The value of a key.
     pub fn get<Q: Equivalent<K>>(&self, key: Q) -> Option<&V> {
         if self.entries.is_empty() {
@@ -105,11 +105,11 @@ impl<K: Copy + Eq + Hash, V, S: BuildHasher, A> IndexMap<K, V, S, A> {
 }
 
 /// A set.
-pub struct IndexSet<T, S = BuildHasherDefault<FoldHasher>, A = Global> {
+pub struct IndexSet<T, S = BuildHasherDefault<FoldHasher>, A: Allocator = Global> {
     map: IndexMap<T, (), S, A>,
 }
 
-impl<T, S: Default, A: Copy> IndexSet<T, S, A> {
+impl<T, S: Default, A: Allocator + Copy> IndexSet<T, S, A> {
     /// An empty set. The first value takes memory.
     pub fn new(alloc: A) -> IndexSet<T, S, A> {
         IndexSet {
@@ -118,7 +118,7 @@ impl<T, S: Default, A: Copy> IndexSet<T, S, A> {
     }
 }
 
-impl<T: Copy + Eq + Hash, S: BuildHasher, A> IndexSet<T, S, A> {
+impl<T: Copy + Eq + Hash, S: BuildHasher, A: Allocator> IndexSet<T, S, A> {
     /// Forgets all values, and keeps their room.
     pub fn clear(&mut self) {
         self.map.clear();

@@ -1,21 +1,16 @@
 //! Allocators, boxes and vectors.
-use core::alloc::Layout;
+use crate::floor;
 use core::error::Error;
 use core::fmt;
-use core::mem::ManuallyDrop;
+use core::hash::{Hash, Hasher};
 use core::ops::{Deref, DerefMut};
 use heap::vec;
 
-/// What hands out memory. Here all of it comes from Rust's global allocator.
-pub trait Allocator {}
+pub use crate::floor::{Allocator, Global};
 
-/// Rust's global allocator.
-#[derive(Clone, Copy, Debug, Default, PartialEq, Eq)]
-pub struct Global;
-
-impl Allocator for Global {}
-
-impl<A: Allocator> Allocator for &A {}
+/// The crate whose `Allocator` this one's is. Its `AllocError` is another one than ours.
+#[cfg(feature = "allocator-api2")]
+pub use allocator_api2;
 
 /// Memory was refused.
 #[derive(Clone, Copy, Debug, PartialEq, Eq)]
@@ -28,6 +23,13 @@ impl fmt::Display for AllocError {
 }
 
 impl Error for AllocError {}
+
+#[cfg(feature = "allocator-api2")]
+impl From<allocator_api2::alloc::AllocError> for AllocError {
+    fn from(_refused: allocator_api2::alloc::AllocError) -> AllocError {
+        AllocError
+    }
+}
 
 /// Memory was refused for a value, which comes back.
 #[derive(Clone, Copy, PartialEq, Eq)]
@@ -71,38 +73,19 @@ impl<T: Copy> Clone for T {
 }
 
 /// A value in memory of its own.
-#[derive(Debug, PartialEq, Eq)]
-pub struct Box<T: ?Sized, A = Global> {
-    alloc: A,
-    value: heap::boxed::Box<T>,
-}
+pub struct Box<T: ?Sized, A: Allocator = Global>(floor::Box<T, A>);
 
-impl<T, A> Box<T, A> {
+impl<T, A: Allocator> Box<T, A> {
     /// The value in memory of its own, or back where that is refused.
     pub fn new(alloc: A, value: T) -> Result<Box<T, A>, AllocFailed<T>> {
-        let layout = Layout::new::<T>();
-        if layout.size() == 0 {
-            let value = heap::boxed::Box::new(value);
-            return Ok(Box { alloc, value });
-        }
-        // SAFETY: the layout has bytes; the pointer is to memory of this layout, which is written
-        // before it is a box.
-        let value = unsafe {
-            let at = heap::alloc::alloc(layout).cast::<T>();
-            if at.is_null() {
-                return Err(AllocFailed(value));
-            }
-            at.write(value);
-            heap::boxed::Box::from_raw(at)
-        };
-        Ok(Box { alloc, value })
+        floor::boxed(alloc, value).map(Box).map_err(AllocFailed)
     }
 }
 
 impl<T> Box<T> {
     /// Where the value is, which is to be freed by `from_raw`.
     pub fn into_raw(this: Box<T>) -> *mut T {
-        heap::boxed::Box::into_raw(this.value)
+        floor::into_raw(this.0)
     }
 
     /// The box of a value.
@@ -110,43 +93,40 @@ impl<T> Box<T> {
     /// # Safety
     /// The pointer is one that `into_raw` gave, and comes back once.
     pub unsafe fn from_raw(alloc: Global, at: *mut T) -> Box<T> {
-        Box {
-            alloc,
-            // SAFETY: as said above.
-            value: unsafe { heap::boxed::Box::from_raw(at) },
-        }
+        // SAFETY: as said above.
+        Box(unsafe { floor::from_raw(alloc, at) })
     }
 }
 
-impl<T: ?Sized, A> Box<T, A> {
+impl<T: ?Sized, A: Allocator> Box<T, A> {
     /// The allocator.
     pub fn allocator(this: &Box<T, A>) -> &A {
-        &this.alloc
+        floor::Box::allocator(&this.0)
     }
 }
 
-impl<T: ?Sized, A> Deref for Box<T, A> {
+impl<T: ?Sized, A: Allocator> Deref for Box<T, A> {
     type Target = T;
 
     fn deref(&self) -> &T {
-        &self.value
+        &self.0
     }
 }
 
-impl<T: ?Sized, A> DerefMut for Box<T, A> {
+impl<T: ?Sized, A: Allocator> DerefMut for Box<T, A> {
     fn deref_mut(&mut self) -> &mut T {
-        &mut self.value
+        &mut self.0
     }
 }
 
 /// Texts in small letters. Rust's slices have `to_ascii_lowercase`, which is handed no allocator.
 pub trait Lowercase {
     /// The same text with small letters in place of capitals.
-    fn to_ascii_lowercase_in<A>(&self, alloc: A) -> Result<Vec<u8, A>, AllocError>;
+    fn to_ascii_lowercase_in<A: Allocator>(&self, alloc: A) -> Result<Vec<u8, A>, AllocError>;
 }
 
 impl Lowercase for [u8] {
-    fn to_ascii_lowercase_in<A>(&self, alloc: A) -> Result<Vec<u8, A>, AllocError> {
+    fn to_ascii_lowercase_in<A: Allocator>(&self, alloc: A) -> Result<Vec<u8, A>, AllocError> {
         let mut made = Vec::from_slice(alloc, self)?;
         made.make_ascii_lowercase();
         Ok(made)
@@ -154,18 +134,15 @@ impl Lowercase for [u8] {
 }
 
 /// A vector.
-#[derive(Debug, PartialEq, Eq)]
-pub struct Vec<T, A = Global> {
-    alloc: A,
-    items: vec::Vec<T>,
+pub struct Vec<T, A: Allocator = Global> {
+    items: floor::Vec<T, A>,
 }
 
-impl<T, A> Vec<T, A> {
+impl<T, A: Allocator> Vec<T, A> {
     /// A vector of nothing.
     pub const fn new(alloc: A) -> Vec<T, A> {
         Vec {
-            alloc,
-            items: vec::Vec::new(),
+            items: floor::Vec::new_in(alloc),
         }
     }
 
@@ -178,29 +155,12 @@ impl<T, A> Vec<T, A> {
 
     /// Gives back the room that is left, unless that is refused.
     pub fn shrink_to_fit(&mut self) {
-        let (length, room) = (self.items.len(), self.items.capacity());
-        let (Ok(old), Ok(new)) = (Layout::array::<T>(room), Layout::array::<T>(length)) else {
-            return;
-        };
-        if new.size() == 0 {
-            self.items.shrink_to_fit();
-        } else if new.size() < old.size() {
-            let mut items = ManuallyDrop::new(core::mem::take(&mut self.items));
-            let at = items.as_mut_ptr();
-            // SAFETY: the block is that of the vector, which is made again of what it became: a
-            // smaller one with the same elements, or, where that is refused, the same one.
-            self.items = unsafe {
-                match heap::alloc::realloc(at.cast(), old, new.size()).cast::<T>() {
-                    smaller if smaller.is_null() => vec::Vec::from_raw_parts(at, length, room),
-                    smaller => vec::Vec::from_raw_parts(smaller, length, length),
-                }
-            };
-        }
+        floor::shrink(&mut self.items);
     }
 
     /// The allocator.
     pub fn allocator(&self) -> &A {
-        &self.alloc
+        self.items.allocator()
     }
 
     /// The elements.
@@ -243,7 +203,7 @@ impl<T, A> Vec<T, A> {
     }
 }
 
-impl<T: Copy, A> Vec<T, A> {
+impl<T: Copy, A: Allocator> Vec<T, A> {
     /// A vector of these elements.
     pub fn from_slice(alloc: A, items: &[T]) -> Result<Vec<T, A>, AllocError> {
         let mut made = Vec::with_capacity(alloc, items.len())?;
@@ -266,7 +226,7 @@ impl<T: Copy, A> Vec<T, A> {
     }
 }
 
-impl<T, A> Deref for Vec<T, A> {
+impl<T, A: Allocator> Deref for Vec<T, A> {
     type Target = [T];
 
     fn deref(&self) -> &[T] {
@@ -274,22 +234,22 @@ impl<T, A> Deref for Vec<T, A> {
     }
 }
 
-impl<T, A> DerefMut for Vec<T, A> {
+impl<T, A: Allocator> DerefMut for Vec<T, A> {
     fn deref_mut(&mut self) -> &mut [T] {
         &mut self.items
     }
 }
 
-impl<T, A> IntoIterator for Vec<T, A> {
+impl<T, A: Allocator> IntoIterator for Vec<T, A> {
     type Item = T;
-    type IntoIter = vec::IntoIter<T>;
+    type IntoIter = <floor::Vec<T, A> as IntoIterator>::IntoIter;
 
-    fn into_iter(self) -> vec::IntoIter<T> {
+    fn into_iter(self) -> Self::IntoIter {
         self.items.into_iter()
     }
 }
 
-impl<'a, T, A> IntoIterator for &'a Vec<T, A> {
+impl<'a, T, A: Allocator> IntoIterator for &'a Vec<T, A> {
     type Item = &'a T;
     type IntoIter = core::slice::Iter<'a, T>;
 
@@ -298,7 +258,7 @@ impl<'a, T, A> IntoIterator for &'a Vec<T, A> {
     }
 }
 
-impl<'a, T, A> IntoIterator for &'a mut Vec<T, A> {
+impl<'a, T, A: Allocator> IntoIterator for &'a mut Vec<T, A> {
     type Item = &'a mut T;
     type IntoIter = core::slice::IterMut<'a, T>;
 
@@ -310,46 +270,84 @@ impl<'a, T, A> IntoIterator for &'a mut Vec<T, A> {
 /// The elements of a vector of Rust's own, without a copy.
 impl<T> From<vec::Vec<T>> for Vec<T> {
     fn from(items: vec::Vec<T>) -> Vec<T> {
-        let alloc = Global;
-        Vec { alloc, items }
+        Vec {
+            items: floor::of_heap(items),
+        }
     }
 }
 
-/// The elements as a vector of Rust's own, without a copy.
-impl<T, A> From<Vec<T, A>> for vec::Vec<T> {
+/// The elements as a vector of Rust's own: without a copy, but with the feature `allocator-api2`.
+impl<T, A: Allocator> From<Vec<T, A>> for vec::Vec<T> {
     fn from(vector: Vec<T, A>) -> vec::Vec<T> {
-        vector.items
+        floor::to_heap(vector.items)
     }
 }
 
-impl<T: PartialEq, A> PartialEq<[T]> for Vec<T, A> {
+impl<T: PartialEq, A: Allocator> PartialEq<[T]> for Vec<T, A> {
     fn eq(&self, other: &[T]) -> bool {
-        self.items == other
+        self.as_slice() == other
     }
 }
 
-impl<T: PartialEq, A, const N: usize> PartialEq<[T; N]> for Vec<T, A> {
+impl<T: PartialEq, A: Allocator, const N: usize> PartialEq<[T; N]> for Vec<T, A> {
     fn eq(&self, other: &[T; N]) -> bool {
-        self.items == other
+        self.as_slice() == other
+    }
+}
+
+/// Vectors and boxes are compared, hashed and printed as what they hold.
+impl<T: PartialEq, A: Allocator> PartialEq for Vec<T, A> {
+    fn eq(&self, other: &Vec<T, A>) -> bool {
+        self.as_slice() == other.as_slice()
+    }
+}
+
+impl<T: Eq, A: Allocator> Eq for Vec<T, A> {}
+
+impl<T: Hash, A: Allocator> Hash for Vec<T, A> {
+    fn hash<H: Hasher>(&self, state: &mut H) {
+        self.as_slice().hash(state);
+    }
+}
+
+impl<T: fmt::Debug, A: Allocator> fmt::Debug for Vec<T, A> {
+    fn fmt(&self, f: &mut fmt::Formatter<'_>) -> fmt::Result {
+        self.as_slice().fmt(f)
+    }
+}
+
+impl<T: ?Sized + PartialEq, A: Allocator> PartialEq for Box<T, A> {
+    fn eq(&self, other: &Box<T, A>) -> bool {
+        **self == **other
+    }
+}
+
+impl<T: ?Sized + Eq, A: Allocator> Eq for Box<T, A> {}
+
+impl<T: ?Sized + Hash, A: Allocator> Hash for Box<T, A> {
+    fn hash<H: Hasher>(&self, state: &mut H) {
+        (**self).hash(state);
+    }
+}
+
+impl<T: ?Sized + fmt::Debug, A: Allocator> fmt::Debug for Box<T, A> {
+    fn fmt(&self, f: &mut fmt::Formatter<'_>) -> fmt::Result {
+        (**self).fmt(f)
     }
 }
 
 /// Rust's own traits, whose calls take memory that can't be refused: they end the process there.
-impl<T: core::clone::Clone, A: core::clone::Clone> core::clone::Clone for Vec<T, A> {
+impl<T: core::clone::Clone, A: Allocator + core::clone::Clone> core::clone::Clone for Vec<T, A> {
     fn clone(&self) -> Vec<T, A> {
         Vec {
-            alloc: self.alloc.clone(),
-            items: self.items.clone(),
+            items: core::clone::Clone::clone(&self.items),
         }
     }
 }
 
-impl<T: core::clone::Clone, A: core::clone::Clone> core::clone::Clone for Box<T, A> {
+impl<T: core::clone::Clone, A: Allocator + core::clone::Clone> core::clone::Clone for Box<T, A> {
     fn clone(&self) -> Box<T, A> {
-        Box {
-            alloc: self.alloc.clone(),
-            value: self.value.clone(),
-        }
+        Box(core::clone::Clone::clone(&self.0))
     }
 }
 
@@ -359,7 +357,7 @@ impl<T> FromIterator<T> for Vec<T> {
     }
 }
 
-impl<T, A> Extend<T> for Vec<T, A> {
+impl<T, A: Allocator> Extend<T> for Vec<T, A> {
     fn extend<I: IntoIterator<Item = T>>(&mut self, items: I) {
         self.items.extend(items);
     }

@@ -1,0 +1,86 @@
+-- What the lines of a clock, up to the core's, leave of the RAM and of the driver's life.
+use Rattle.std.proofs.Common.{◌≡◌, ℕ, Bool, true, false, List, [], ◌∷◌, Option, Some, None, refl, ap, ◌∙◌}
+use Rattle.std.specs.Prelude.{nat_eq, if◌then◌else◌}
+use Rattle.dvg_gen.specs.Bytes.{Met, Waits, Whole, met}
+use Rattle.dvg_gen.specs.Told.{Reply, More, Drew, Fails}
+use Rattle.dvg_driver.specs.Script.{Item}
+use Rattle.dvg_log.specs.declared.event.Event.TheVariants.{Strobe, Fetch, ResetGen, ResetAll}
+use Rattle.dvg_log.specs.Entries.{Shown}
+use Rattle.dvg_log.specs.declared.entry.Entry.TheVariants.{Started, Low, Still, Cleared}
+use Rattle.dvg_log.specs.Log.{◌⟼◌, Log, ram, low_byte, life}
+use Rattle.dvg_core.specs.Core.{Pins, halted}
+use Rattle.dvg_core.specs.Refines.{byte_of, drew}
+use Rattle.dvg_core.specs.Refines as core
+use Rattle.dvg_core.specs.Shown.{says}
+use Rattle.dvg_board.specs.Board.{Board, Bus, pins}
+use Rattle.dvg_board.specs.Fetches.{entry, entry_by, entry_of}
+use Rattle.dvg_board.specs.Clocks.{after, cores, looks}
+use Rattle.dvg_board.specs.Logs.{did, answered}
+use Rattle.dvg_board.proofs.Board.{looks_ram, entry_ram, core_ram}
+
+module _ (image : List ℕ) where
+  of_life : (address : ℕ) (word : Option ℕ) (answer : Reply) (log : Log)
+      → life image ((Fetch ⟼ entry_of address word answer) ∷ log) ≡ life image log
+  of_life address (Some word) More log = refl
+  of_life address (Some word) (Drew lines) log = refl
+  of_life address (Some word) (Fails fault) log = refl
+  of_life address None More log = refl
+  of_life address None (Drew lines) log = refl
+  of_life address None (Fails fault) log = refl
+
+  low_life : (b : Bool) (address byte : ℕ) (log : Log)
+      → life image ((Fetch ⟼ (if b then Still else Low address byte)) ∷ log) ≡ life image log
+  low_life true address byte log = refl
+  low_life false address byte log = refl
+
+  word_life : (b : Bool) (address : ℕ) (word : Option ℕ) (answer : Reply) (log : Log)
+      → life image ((Fetch ⟼ (if b then Still else entry_of address word answer)) ∷ log) ≡ life image log
+  word_life true address word answer log = refl
+  word_life false address word answer log = of_life address word answer log
+
+  entry_life : (closed address : ℕ) (m : Met) (answer : Reply) (log : Log)
+      → life image ((Fetch ⟼ entry_by closed address m answer) ∷ log) ≡ life image log
+  entry_life closed address (Waits byte) answer log = low_life (nat_eq closed 1) address byte log
+  entry_life closed address (Whole word) answer log = word_life (nat_eq closed 1) address word answer log
+
+  -- a reset of the whole system begins a life anew
+  core_life : (r s p whole : Bool) (bytes : List ℕ) (shown : Shown) (log : Log)
+      → life image ((Fetch ⟼ shown) ∷ log) ≡ life image log
+      → life image (if r then if s then if p then log else (Fetch ⟼ shown) ∷ log else (Strobe ⟼ Started) ∷ log
+      else if whole then (ResetAll bytes ⟼ Cleared) ∷ log else (ResetGen ⟼ Cleared) ∷ log)
+      ≡ (if r then life image log else if whole then [] else life image log)
+  core_life true true true whole bytes shown log e = refl
+  core_life true true false whole bytes shown log e = e
+  core_life true false p whole bytes shown log e = refl
+  core_life false s p true bytes shown log e = refl
+  core_life false s p false bytes shown log e = refl
+
+module _ (image : List ℕ) (held : ℕ → ℕ) (older : List Bus) (bus : Bus) (whole : Bool) (log : Log) where
+  abbrev board : Board
+  board = after held older
+
+  abbrev looked : Log
+  looked = did (looks board bus) log
+
+  abbrev cs : List Pins
+  cs = cores held older
+
+  abbrev cs' : List Pins
+  cs' = pins board bus ∷ cs
+
+  abbrev answer : Reply
+  answer = says (core.after cs').done (core.after cs').fault (drew cs')
+
+  pub answered_ram : ram image (answered image held older bus whole log) ≡ ram image log
+  answered_ram =
+      core_ram image (nat_eq bus.reset 0) (nat_eq board.starting 0) (nat_eq board.pending 0) whole
+      (entry looked cs (pins board bus)) looked
+      (entry_ram image (halted (core.after cs)) (core.after cs).at (met (low_byte looked) (byte_of (pins board bus))) answer looked)
+      ∙ looks_ram image board bus log
+
+  pub answered_life : life image (answered image held older bus whole log)
+      ≡ (if nat_eq bus.reset 0 then life image looked else if whole then [] else life image looked)
+  answered_life =
+      core_life image (nat_eq bus.reset 0) (nat_eq board.starting 0) (nat_eq board.pending 0) whole (ram image looked)
+      (entry looked cs (pins board bus)) looked
+      (entry_life image (halted (core.after cs)) (core.after cs).at (met (low_byte looked) (byte_of (pins board bus))) answer looked)

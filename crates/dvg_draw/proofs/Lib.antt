@@ -1,4 +1,0 @@
-mod ChecksSaid
-mod EndsDrawn
-mod FramesDrawn
-mod Laying

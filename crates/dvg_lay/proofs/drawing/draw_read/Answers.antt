@@ -1,0 +1,12 @@
+use Rattle.std.proofs.Common.{All, subst, sym}
+use Rattle.dvg_named.specs.ReadSketches.{IsSketchOf}
+use Rattle.dvg_lay.specs.Refusals.{IsLent}
+use Rattle.dvg_lay.proofs.SketchesLaid.{all_lent}
+use Rattle.dvg_lay.proofs.drawing.draw_read.Goals as goal
+
+pub draw_frames-requires : goal.draw_frames-requires
+draw_frames-requires g c =
+    let sketch = c.args.sketch.now in
+    subst (All IsLent) (sym c.as_slice-3.ensures.value)
+    (all_lent c.requires.read.0 sketch.rom.items sketch.names.items c.in-Ok.frames.items
+    (subst (IsSketchOf c.requires.read.0 sketch.rom.items sketch.names.items) (sym c.in-Ok.ensures) c.requires.read.1))

@@ -1,0 +1,5 @@
+use Rattle.dvg_system.proofs.Example as example
+use Rattle.dvg_system.proofs.some_machine.Goals as goal
+
+pub returns : goal.returns
+returns c = example.some_machine

@@ -1,0 +1,21 @@
+-- An example: a machine that draws a frame.
+use Rattle.std.specs.Prelude.{List, [], ◌∷◌, slice_index, false}
+use Rattle.dvg_gen.specs.declared.stroke.Stroke.{Stroke}
+use Rattle.dvg_driver.specs.declared.action.Action.TheVariants.{Read}
+use Rattle.dvg_log.specs.declared.event.Event.TheVariants.{Fetch, Tick}
+use Rattle.dvg_log.specs.declared.entry.Entry.TheVariants.{Done, Low, Acted}
+use Rattle.dvg_log.specs.Log.{◌⟼◌, Log}
+use Rattle.dvg_6502.specs.Calls.{Call}
+use Rattle.dvg_board.specs.Board.{Bus}
+use Rattle.dvg_board.specs.Example.{zeros}
+use Rattle.dvg_system.specs.Machine.{IsMachine}
+
+-- the stroke of `labs 512 512 0`, `vctr 9 100 0 7`
+abbrev pub stroke : Stroke
+stroke = record { x0 = 262144; y0 = 262144; x1 = 313344; y1 = 262144; z = 7 }
+
+-- over a ROM and a RAM of zeros there is a machine whose newest lines are those of a run to HALT, which drew this, and
+-- before them of a read of the flag, which found it running
+abbrev pub SomeMachine : Type 0
+SomeMachine = (calls : List Call) × (log : Log) × (clocks : List Bus) × IsMachine zeros zeros (slice_index zeros) calls
+    ((Fetch ⟼ Done 0x205 0xB000 (stroke ∷ [])) ∷ (Fetch ⟼ Low 0x205 0x00) ∷ (Tick ⟼ Acted (Read false)) ∷ log) clocks

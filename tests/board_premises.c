@@ -1,0 +1,353 @@
+/* Whether a program keeps to the premises under which docs/BOARD.md speaks of it, as far as a run
+ * shows it.
+ *
+ *     board_premises DRIVER PROGRAM LABELS EQUATES SECONDS SEED
+ *
+ * DRIVER has the bytes that are proved, PROGRAM those from 6800 on, LABELS is ld65's list, and
+ * EQUATES is build/shapes.equates. The program runs by the 6502 of board_cpu.h, and an NMI comes
+ * each 6,144 cycles, at chance between two instructions, and also amid another NMI; but not amid the
+ * first cycles after power-on, in which a program can't have set a byte yet. Prints how much was
+ * seen, or the first thing that is against a premise (status 1). */
+#include <stdarg.h>
+#include <stdio.h>
+#include <stdlib.h>
+#include <string.h>
+#include "board_cpu.h"
+#include "board_labels.h"
+
+enum {
+    CODE = 0x6800, PROGRAM_BYTES = 0x1800, VARIABLES = 0x10, OPERANDS = 0x1B, OPERANDS_END = 0x1F,
+    VARIABLES_END = 0x21, FLAG = 0x2002, STROBE = 0x3000, VECTOR_RAM = 0x4000, MEMORY = 0x8000,
+    BEGUN = 8, NMI_CYCLES = 6144, NMI_MOST_CYCLES = 6048, NMI_MOST_TICKS = 53,
+    CYCLES_A_SECOND = 1512000, LEAST_STACK = 0x60
+};
+enum { IDLE = 2, BUILD = 7, WRITING = 0x80 };
+enum routine { RESET, RUN, TICKS, TICK, OFFER, REDRAW, OPEN, PUT, PAIR, SET, VECTOR, COPY, CLOSE };
+
+static const char *const names[] = {
+    "dvg_reset", "dvg_run", "dvg_ticks", "dvg_tick", "dvg_offer", "dvg_redraw", "dvg_open",
+    "dvg_put", "dvg_pair", "dvg_labs", "dvg_vector", "dvg_copy", "dvg_close"
+};
+enum { ROUTINES = sizeof names / sizeof names[0] };
+
+/* Who runs: the program, its NMI, or an NMI amid that. */
+typedef struct {
+    cpu before;                         /* of an NMI: the registers that it has to give back */
+    uint64_t since;                     /* and when it came */
+    int in_driver;                      /* amid a call of this routine */
+    enum routine routine;
+    cpu at_entry;
+    uint16_t back;                      /* its return address */
+    int ticks;                          /* of this NMI */
+} context;
+
+static uint8_t memory[MEMORY];
+static cpu processor;
+static context contexts[3], *now = contexts;
+static uint64_t run_ends;
+static int code_end, was_reset, ticks_in_main, ticks_in_nmi, instructions;
+static int table_from, table_to;        /* the table that is being written */
+static int tables, tables_low, tables_high, shapes[1024], shape_count;
+static long calls, nmis, nested, frames_built, frames_offered;
+static uint64_t seed;
+
+static void fail(const char *format, ...)
+{
+    va_list list;
+    va_start(list, format);
+    vprintf(format, list);
+    va_end(list);
+    printf(", before %04X, after %.3f seconds\n", processor.pc,
+        (double)processor.cycles / CYCLES_A_SECOND);
+    exit(1);
+}
+
+static int below(int count)
+{
+    seed ^= seed << 13;
+    seed ^= seed >> 7;
+    seed ^= seed << 17;
+    return (int)((uint32_t)(seed >> 20) % (uint32_t)count);
+}
+
+static int is_nmi(void) { return now != contexts; }
+
+static const char *whose(void) { return is_nmi() ? "the NMI" : "the program"; }
+
+/* --- The bus --- */
+
+static int is_hardware(int at)
+{
+    return at == FLAG || at == STROBE || (at >= VECTOR_RAM && at < VECTOR_RAM + 0x800);
+}
+
+uint8_t bus_fetch(uint16_t at) { return memory[at % MEMORY]; }
+
+uint8_t bus_read(uint16_t at, int dummy)
+{
+    (void)dummy;
+    at %= MEMORY;
+    if (is_hardware(at) && !now->in_driver) fail("%s reads %04X", whose(), at);
+    if (at == FLAG) return processor.cycles < run_ends ? 0xFF : 0x7F;
+    if (at >= 0x2000 && at < 0x3000) return 0x7F;
+    return memory[at];
+}
+
+/* A write that isn't the driver's. */
+static void check_write(int at)
+{
+    int is_operand = at >= OPERANDS && at < OPERANDS_END;
+    if (is_hardware(at)) fail("%s writes %04X", whose(), at);
+    if (at >= 0x5000) fail("%s writes %04X, which is ROM", whose(), at);
+    if (at >= VARIABLES && at < VARIABLES_END && was_reset && (is_nmi() || !is_operand))
+        fail("%s writes the driver's byte %02X", whose(), at);
+    if (at >= table_from && at < table_to && memory[VARIABLES] == WRITING)
+        fail("%s writes %04X, of the table that is being written", whose(), at);
+    if (is_nmi() && at >> 8 == 1 && (at & 0xFF) > now->before.s)
+        fail("the NMI writes %04X, which stands on the stack above S", at);
+}
+
+void bus_write(uint16_t at, uint8_t value)
+{
+    at %= MEMORY;
+    if (!now->in_driver) check_write(at);
+    if (at == STROBE) run_ends = processor.cycles + 500 + (uint64_t)below(30000);
+    if (at < 0x400 || (at >= VECTOR_RAM && at < VECTOR_RAM + 0x800)) memory[at] = value;
+}
+
+/* --- What is built --- */
+
+/* Ten bits of magnitude and a sign, which zero doesn't have, and no free bit. */
+static int is_number(int word) { return !(word & 0x800) && (word & 0x7FF) != 0x400; }
+
+static int is_shape(int word)
+{
+    for (int i = 0; i < shape_count; i++)
+        if (shapes[i] == (word & 0xFFF)) return 1;
+    return 0;
+}
+
+/* The canonical word of a short vector, or a call of a shape. */
+static int is_instruction(int word)
+{
+    if (word >> 12 == 12) return is_shape(word);
+    return word >> 12 == 15 && (word & 0x700) != 0x400 && (word & 7) != 4;
+}
+
+static int is_vector(int first, int second)
+{
+    return first >> 12 < 10 && is_number(first) && is_number(second);
+}
+
+static void check_put(int first, int second, int is_pair)
+{
+    int is_labs = is_pair && first >> 12 == 10;
+    if (!instructions && !is_labs) fail("a frame doesn't begin with a LABS, but with %04X", first);
+    if (is_pair && !is_labs && !is_vector(first, second))
+        fail("no canonical vector: %04X %04X", first, second);
+    if (!is_pair && !is_instruction(first))
+        fail("no short vector, nor a call of a shape: %04X", first);
+    instructions++;
+}
+
+static int word_at(int at) { return memory[at] | memory[at + 1] << 8; }
+
+static int is_building(void) { return memory[VARIABLES] == BUILD; }
+
+/* --- Calls of the driver --- */
+
+static void check_table(int at)
+{
+    int words, known = !tables;
+    if (at < 0x200 || at >= MEMORY - 4) fail("a table at %04X", at);
+    words = word_at(at);
+    table_from = at;
+    table_to = at + 2 * words + 2;
+    for (int i = at; i < table_to; i++)
+        if (is_hardware(i)) fail("a table at %04X, in the hardware", at);
+    for (int i = 0; i < tables; i++)
+        known |= at == (memory[tables_low + i] | memory[tables_high + i] << 8);
+    if (!known) fail("a table at %04X, where `dvg lay` wrote none", at);
+    if (table_to > MEMORY || words < 1 || words > 511)
+        fail("a table of %d words at %04X", words, at);
+}
+
+static int does_tick(enum routine routine)
+{
+    return routine == TICK || routine == TICKS || routine == RUN;
+}
+
+/* What one must do before a call of this routine. */
+static void check_call(enum routine routine)
+{
+    const cpu *c = &processor;
+    if (!was_reset && (routine != RESET || is_nmi()))
+        fail("%s calls %s before dvg_reset has returned", whose(), names[routine]);
+    if (c->p & DECIMAL) fail("D is set");
+    if (now == contexts + 2 && contexts[1].in_driver)
+        fail("an NMI amid the ticks of an NMI calls %s", names[routine]);
+    if (is_nmi() && !does_tick(routine)) fail("the NMI calls %s", names[routine]);
+    if (does_tick(routine)) *(is_nmi() ? &ticks_in_nmi : &ticks_in_main) = 1;
+    if (ticks_in_main && ticks_in_nmi) fail("ticks from two places");
+    if (routine == OFFER && memory[VARIABLES] == IDLE) check_table(c->a | c->x << 8);
+    if (routine == OPEN && is_building()) fail("dvg_open before dvg_close");
+    if (routine == COPY) fail("dvg_copy, of which nothing is proved");
+    if (!is_building()) return;
+    if (routine == PUT) check_put(c->a | c->x << 8, 0, 0);
+    if (routine == PAIR) check_put(word_at(OPERANDS), word_at(OPERANDS + 2), 1);
+    if (routine == SET) check_put(0xA000, 0, 1);
+    if (routine == VECTOR && !instructions++) fail("a frame begins with a vector");
+    if (routine == CLOSE && !instructions) fail("a frame with nothing in it is closed");
+}
+
+static void begin_call(void)
+{
+    int routine = 0;
+    while (routine < ROUTINES && label(names[routine]) != processor.pc) routine++;
+    if (routine == ROUTINES) fail("%s jumps to %04X, amid the driver", whose(), processor.pc);
+    check_call((enum routine)routine);
+    now->in_driver = 1;
+    now->routine = (enum routine)routine;
+    now->at_entry = processor;
+    now->back = (uint16_t)(word_at(0x101 + processor.s) + 1);
+    calls++;
+}
+
+static void end_call(void)
+{
+    int is_taken = !(processor.p & CARRY);
+    now->in_driver = 0;
+    if (processor.s != (uint8_t)(now->at_entry.s + 2) || processor.pc != now->back)
+        fail("%s doesn't return to where it was called", names[now->routine]);
+    if (now->routine == RESET) was_reset = 1;
+    if (now->routine == OPEN && is_taken) instructions = 0;
+    frames_offered += now->routine == OFFER && is_taken;
+    frames_built += now->routine == CLOSE && is_taken;
+}
+
+/* --- NMIs --- */
+
+static void take_nmi(void)
+{
+    int is_nested = is_nmi();
+    now++;
+    memset(now, 0, sizeof *now);
+    now->before = processor;
+    now->since = processor.cycles;
+    now->in_driver = 1;                 /* the pushes are no one's */
+    begin_nmi(&processor);
+    now->in_driver = 0;
+    nmis++;
+    nested += is_nested;
+}
+
+/* An NMI is over where S is as it was. One that is itself interrupted takes longer. */
+static void end_nmi(int was_interrupted)
+{
+    const cpu *old = &now->before;
+    int lasted = (int)(processor.cycles - now->since);
+    if (processor.a != old->a || processor.x != old->x || processor.y != old->y ||
+        processor.pc != old->pc || ((processor.p ^ old->p) & ~(BREAK | UNUSED)))
+        fail("the NMI doesn't give back the registers");
+    if (!was_interrupted && lasted > NMI_MOST_CYCLES) fail("the NMI lasts %d cycles", lasted);
+    now--;
+}
+
+/* Whether an NMI comes before this instruction. */
+static int comes(uint64_t *next, int *was_interrupted)
+{
+    if (now == contexts + 1 && !below(400)) {
+        *was_interrupted = 1;
+        return 1;
+    }
+    if (is_nmi() || processor.cycles < BEGUN) return 0;
+    if (processor.cycles < *next && below(5000)) return 0;
+    *next = processor.cycles + NMI_CYCLES;
+    *was_interrupted = 0;
+    return 1;
+}
+
+/* --- A run --- */
+
+static void run_one(void)
+{
+    int inside = processor.pc >= CODE && processor.pc < code_end;
+    if (inside && !now->in_driver) begin_call();
+    else if (!inside && now->in_driver) end_call();
+    if (is_nmi() && processor.pc == label(names[TICK]) && ++now->ticks > NMI_MOST_TICKS)
+        fail("more than %d ticks in an NMI", NMI_MOST_TICKS);
+    if (processor.s < LEAST_STACK && was_reset) fail("the stack grows down to %02X", processor.s);
+    if (!step(&processor)) fail("no opcode");
+}
+
+static void run(uint64_t cycles)
+{
+    uint64_t next = BEGUN;
+    int was_interrupted = 0;
+    while (processor.cycles < cycles) {
+        if (comes(&next, &was_interrupted)) take_nmi();
+        run_one();
+        if (is_nmi() && processor.s == now->before.s) end_nmi(was_interrupted);
+    }
+}
+
+static size_t read_file(const char *path, uint8_t *into, size_t most)
+{
+    FILE *file = fopen(path, "rb");
+    size_t size = file ? fread(into, 1, most, file) : 0;
+    if (!size) exit(2);
+    fclose(file);
+    return size;
+}
+
+static void read_shapes(const char *path)
+{
+    FILE *file = fopen(path, "r");
+    char line[200];
+    unsigned at;
+    if (!file) exit(2);
+    while (fgets(line, sizeof line, file))
+        if (sscanf(line, "%*s = $%x", &at) == 1 && shape_count < 1024)
+            shapes[shape_count++] = (int)at;
+    fclose(file);
+}
+
+/* Whether the code stands where it is proved, as the bytes that are proved, and its variables. */
+static void check_place(const uint8_t *driver, size_t size)
+{
+    if (memcmp(memory + CODE, driver, size)) fail("the code from %04X on isn't the driver's", CODE);
+    if (label("dvg_phase") != VARIABLES || label("length") != VARIABLES_END - 1)
+        fail("the driver's variables stand from %02X on", label("dvg_phase"));
+    code_end = CODE + (int)size;
+}
+
+/* The lists of tables, if the program has some. */
+static void find_tables(void)
+{
+    for (int i = 0; i < label_count; i++) {
+        if (!strcmp(labels[i].name, "tables_low")) tables_low = labels[i].at;
+        if (!strcmp(labels[i].name, "tables_high")) tables_high = labels[i].at;
+    }
+    tables = tables_high - tables_low;
+}
+
+int main(int count, char **words)
+{
+    uint8_t driver[PROGRAM_BYTES];
+    if (count != 7) return 64;
+    ready_opcodes();
+    read_file(words[2], memory + CODE, PROGRAM_BYTES);
+    read_labels(words[3]);
+    read_shapes(words[4]);
+    seed = strtoull(words[6], 0, 10) * 0x9E3779B97F4A7C15u + 1;
+    check_place(driver, read_file(words[1], driver, sizeof driver));
+    find_tables();
+    for (int i = 0; i < 0x400; i++) memory[i] = (uint8_t)below(256);
+    processor.p = UNUSED | INTERRUPT;
+    processor.s = 0xFD;
+    processor.pc = (uint16_t)word_at(MEMORY - 4);
+    run(strtoull(words[5], 0, 10) * CYCLES_A_SECOND);
+    printf("%ld calls, %ld NMIs, %ld of them amid an NMI, %ld frames offered and %ld built\n",
+        calls, nmis, nested, frames_offered, frames_built);
+    return 0;
+}

@@ -1,0 +1,296 @@
+//! What serde writes and reads of the crates: JSON here. The last line is 'N passed, M failed'.
+use std::fmt::Debug;
+use std::process::ExitCode;
+
+use gerbilargent::{
+    Action, Area, Beam, Box, Code, CodeFault, Draft, DraftFull, DriverFault, Entry, Event,
+    FrameFault, GenFault, Global, Half, Image, Instr, Listed, MemFault, Op, OpKind, OutOfMemory,
+    Place, Rom, Stroke, Vec,
+};
+use serde::Serialize;
+use serde::de::DeserializeOwned;
+
+/// What was expected, and what came.
+#[derive(Default)]
+struct Counts {
+    passed: u32,
+    failed: u32,
+}
+
+impl Counts {
+    fn expect(&mut self, holds: bool, what: &str) {
+        self.passed += u32::from(holds);
+        self.failed += u32::from(!holds);
+        if !holds {
+            println!("FAILED: {what}");
+        }
+    }
+
+    /// A value is written as this text, and the text read as the value.
+    fn expect_form<T: Serialize + DeserializeOwned + PartialEq + Debug>(
+        &mut self,
+        value: T,
+        text: &str,
+    ) {
+        let written = serde_json::to_string(&value).unwrap_or_else(|error| error.to_string());
+        self.expect(
+            written == text,
+            &format!("{value:?} is written as {written}, not {text}"),
+        );
+        let read = serde_json::from_str::<T>(text);
+        self.expect(
+            read.as_ref().is_ok_and(|read| *read == value),
+            &format!("{text}: {read:?}"),
+        );
+    }
+
+    /// A text is refused, with a message that has these words.
+    fn expect_refused<T: DeserializeOwned + Debug>(&mut self, text: &str, why: &str) {
+        let read = serde_json::from_str::<T>(text);
+        let is_refused = matches!(&read, Err(error) if error.to_string().contains(why));
+        self.expect(
+            is_refused,
+            &format!("{:.60} isn't refused by '{why}': {read:?}", text),
+        );
+    }
+}
+
+/// An operation that draws.
+fn draws(instr: Instr) -> Result<Op, std::boxed::Box<dyn std::error::Error>> {
+    Ok(Op::try_from(OpKind::Draw(Code::try_from(instr)?))?)
+}
+
+/// A draft with an operation of each kind, and its text.
+fn draft() -> Result<(Draft, String), std::boxed::Box<dyn std::error::Error>> {
+    let mut draft = Draft::default();
+    draft.push(draws(Instr::Labs {
+        x: 4095,
+        y: 0,
+        scale: 15,
+    })?)?;
+    draft.push(draws(Instr::Vctr {
+        scale: 9,
+        dx: -1023,
+        dy: 1023,
+        z: 15,
+    })?)?;
+    draft.push(draws(Instr::Svec {
+        scale: 5,
+        dx: 3,
+        dy: -3,
+        z: 0,
+    })?)?;
+    for kind in [
+        OpKind::CallRom(4095),
+        OpKind::JumpRom(0),
+        OpKind::Call(65535),
+        OpKind::Jump(5),
+    ] {
+        draft.push(Op::try_from(kind)?)?;
+    }
+    draft.push(Op::try_from(OpKind::Return)?)?;
+    draft.push(Op::default())?;
+    let text = concat!(
+        r#"[{"Draw":{"Labs":{"x":4095,"y":0,"scale":15}}},"#,
+        r#"{"Draw":{"Vctr":{"scale":9,"dx":-1023,"dy":1023,"z":15}}},"#,
+        r#"{"Draw":{"Svec":{"scale":5,"dx":3,"dy":-3,"z":0}}},"#,
+        r#"{"CallRom":4095},{"JumpRom":0},{"Call":65535},{"Jump":5},"Return","Halt"]"#
+    );
+    Ok((draft, text.to_owned()))
+}
+
+/// A list of this many bytes, as a text.
+fn list(length: usize) -> String {
+    format!("[{}0]", "0,".repeat(length - 1))
+}
+
+/// Instructions, operations and drafts.
+fn test_drafts(counts: &mut Counts) -> Result<(), std::boxed::Box<dyn std::error::Error>> {
+    let (draft, text) = draft()?;
+    counts.expect_form(draft, &text);
+    for (instr, text) in [
+        (Instr::Halt, r#""Halt""#),
+        (Instr::Rtsl, r#""Rtsl""#),
+        (Instr::Jsrl(4095), r#"{"Jsrl":4095}"#),
+        (Instr::Jmpl(0), r#"{"Jmpl":0}"#),
+    ] {
+        counts.expect_form(instr, text);
+        counts.expect_form(Code::try_from(instr)?, text);
+    }
+    counts.expect_form(Instr::Jmpl(4096), r#"{"Jmpl":4096}"#);
+    counts.expect_form(
+        Listed::At(3, Code::try_from(Instr::Halt)?),
+        r#"{"At":[3,"Halt"]}"#,
+    );
+    counts.expect_form(Listed::Cut(3), r#"{"Cut":3}"#);
+    Ok(())
+}
+
+/// Values that a type excludes are refused.
+fn test_refused(counts: &mut Counts) {
+    let field = "a field of the instruction is out of its range";
+    counts.expect_refused::<Code>(r#"{"Jmpl":4096}"#, field);
+    counts.expect_refused::<Code>(r#"{"Labs":{"x":4096,"y":0,"scale":0}}"#, field);
+    counts.expect_refused::<Code>(r#"{"Vctr":{"scale":9,"dx":0,"dy":-1024,"z":0}}"#, field);
+    counts.expect_refused::<Code>(r#"{"Svec":{"scale":1,"dx":0,"dy":0,"z":0}}"#, field);
+    counts.expect_refused::<Op>(r#"{"Draw":{"Labs":{"x":0,"y":0,"scale":16}}}"#, field);
+    counts.expect_refused::<Op>(r#"{"Draw":"Halt"}"#, "no draft may hold this operation");
+    counts.expect_refused::<Op>(r#"{"CallRom":4096}"#, "no draft may hold this operation");
+    counts.expect_refused::<Draft>(r#"[{"JumpRom":4096}]"#, "no draft may hold this operation");
+    let full = format!("[{}\"Halt\"]", "\"Halt\",".repeat(510));
+    let read = serde_json::from_str::<Draft>(&full);
+    counts.expect(
+        read.is_ok_and(|draft| draft.len() == 511),
+        "511 operations are read",
+    );
+    let over = format!("[\"Halt\",{}", &full[1..]);
+    counts.expect_refused::<Draft>(&over, "the draft has its 511 operations already");
+    let why = "there are not as many bytes as the memory has";
+    for (length, is_image, is_rom) in [
+        (1, false, false),
+        (2047, false, false),
+        (2048, true, true),
+        (2049, false, false),
+        (4095, false, false),
+        (4096, false, true),
+        (4097, false, false),
+    ] {
+        let text = list(length);
+        let image = serde_json::from_str::<Image>(&text);
+        let rom = serde_json::from_str::<Rom>(&text);
+        counts.expect(
+            image.is_ok() == is_image,
+            &format!("an image of {length} bytes"),
+        );
+        counts.expect(rom.is_ok() == is_rom, &format!("a ROM of {length} bytes"));
+        if !is_rom {
+            counts.expect_refused::<Image>(&text, why);
+            counts.expect_refused::<Rom>(&text, why);
+        }
+    }
+    counts.expect_refused::<Image>("[256]", "invalid value: integer `256`, expected u8");
+    counts.expect_refused::<OpKind>(r#""Stop""#, "unknown variant `Stop`");
+    counts.expect_refused::<Stroke>(r#"{"x0":1,"y0":2,"x1":3,"y1":4}"#, "missing field `z`");
+}
+
+/// Images and ROMs are the lists of their bytes.
+fn test_memories(counts: &mut Counts) -> Result<(), std::boxed::Box<dyn std::error::Error>> {
+    let bytes: std::vec::Vec<u8> = (0..4096_u32).map(|k| (k * k / 7) as u8).collect();
+    let image = Image::new(Global, &bytes[..2048])?;
+    counts.expect_form(image, &serde_json::to_string(&bytes[..2048])?);
+    for length in [2048, 4096] {
+        let rom = Rom::new(Global, &bytes[..length])?;
+        let text = serde_json::to_string(&rom)?;
+        counts.expect(
+            text == serde_json::to_string(&bytes[..length])?,
+            "a ROM is its bytes",
+        );
+        let read: Rom = serde_json::from_str(&text)?;
+        let words = |rom: &Rom| -> std::vec::Vec<u16> {
+            (rom.first()..rom.first() + rom.len_words())
+                .map(|a| rom.word(a))
+                .collect()
+        };
+        counts.expect(
+            words(&read) == words(&rom),
+            "a ROM is read as it was written",
+        );
+    }
+    Ok(())
+}
+
+/// Events and entries, and what they are made of.
+fn test_logs(counts: &mut Counts) -> Result<(), std::boxed::Box<dyn std::error::Error>> {
+    let (draft, text) = draft()?;
+    let offer: Event = Event::Offer(Box::new(Global, draft)?);
+    counts.expect_form(offer, &format!(r#"{{"Offer":{text}}}"#));
+    let reset: Event = Event::ResetAll(Image::new(Global, &[7; 2048])?);
+    counts.expect_form(
+        reset,
+        &format!(r#"{{"ResetAll":{}}}"#, list(2048).replace('0', "7")),
+    );
+    let events = r#"["Redraw","Tick","Strobe","Fetch","ResetGen","ResetCpu"]"#;
+    let all: Vec<Event> = [
+        Event::Redraw,
+        Event::Tick,
+        Event::Strobe,
+        Event::Fetch,
+        Event::ResetGen,
+        Event::ResetCpu,
+    ]
+    .into_iter()
+    .collect();
+    counts.expect_form(all, events);
+    let stroke = Stroke {
+        x0: 262144,
+        y0: 0,
+        x1: 2097151,
+        y1: 1,
+        z: 15,
+    };
+    let strokes: Vec<Stroke> = [stroke].into_iter().collect();
+    let text = r#"{"Done":[517,45056,[{"x0":262144,"y0":0,"x1":2097151,"y1":1,"z":15}]]}"#;
+    counts.expect_form(Entry::Done(0x205, 0xB000, strokes), text);
+    let entries: std::vec::Vec<(Entry, &str)> = vec![
+        (Entry::Offered, r#""Offered""#),
+        (
+            Entry::Refused(FrameFault::OutOfRom(Place::InRom(1))),
+            r#"{"Refused":{"OutOfRom":{"InRom":1}}}"#,
+        ),
+        (
+            Entry::Refused(FrameFault::Target(9)),
+            r#"{"Refused":{"Target":9}}"#,
+        ),
+        (Entry::Busy, r#""Busy""#),
+        (Entry::Asked, r#""Asked""#),
+        (Entry::NothingPublished, r#""NothingPublished""#),
+        (
+            Entry::Acted(Action::Wrote(1, 226)),
+            r#"{"Acted":{"Wrote":[1,226]}}"#,
+        ),
+        (
+            Entry::Acted(Action::Read(true)),
+            r#"{"Acted":{"Read":true}}"#,
+        ),
+        (Entry::Acted(Action::Idle), r#"{"Acted":"Idle"}"#),
+        (Entry::Started, r#""Started""#),
+        (Entry::NoStrobe, r#""NoStrobe""#),
+        (Entry::Low(0, 1), r#"{"Low":[0,1]}"#),
+        (Entry::Fetched(0, 57857), r#"{"Fetched":[0,57857]}"#),
+        (
+            Entry::Broke(4095, GenFault::Hole),
+            r#"{"Broke":[4095,"Hole"]}"#,
+        ),
+        (Entry::Still, r#""Still""#),
+        (Entry::Cleared, r#""Cleared""#),
+    ];
+    for (entry, text) in entries {
+        counts.expect_form(entry, text);
+    }
+    Ok(())
+}
+
+/// What is small: faults, places and the beam.
+fn test_rest(counts: &mut Counts) {
+    counts.expect_form(Beam::place(1, 2, 3), r#"{"x":512,"y":1024,"scale":3}"#);
+    counts.expect_form(Half::H1, r#""H1""#);
+    counts.expect_form(Area::Rom, r#""Rom""#);
+    counts.expect_form(Place::InFrame(4), r#"{"InFrame":4}"#);
+    counts.expect_form(CodeFault::Cut, r#""Cut""#);
+    counts.expect_form(MemFault::Size, r#""Size""#);
+    counts.expect_form(DriverFault::NothingPublished, r#""NothingPublished""#);
+    counts.expect_form(FrameFault::Loops, r#""Loops""#);
+    counts.expect_form(DraftFull, "null");
+    counts.expect_form(OutOfMemory, "null");
+}
+
+fn main() -> Result<ExitCode, std::boxed::Box<dyn std::error::Error>> {
+    let mut counts = Counts::default();
+    test_drafts(&mut counts)?;
+    test_refused(&mut counts);
+    test_memories(&mut counts)?;
+    test_logs(&mut counts)?;
+    test_rest(&mut counts);
+    println!("{} passed, {} failed", counts.passed, counts.failed);
+    Ok(ExitCode::from(u8::from(counts.failed > 0)))
+}
