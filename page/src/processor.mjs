@@ -4,21 +4,23 @@ import { hex } from './drafts.mjs';
 
 /* The instructions by their opcodes: a name, and how it finds its operand. */
 const CODES = `
-  05 ORA zp    06 ASL zp    09 ORA imm   0A ASL acc   11 ORA iny   18 CLC none  20 JSR abs
-  26 ROL zp    29 AND imm   2C BIT abs   30 BMI rel   38 SEC none  45 EOR zp    49 EOR imm
-  4A LSR acc   4C JMP abs   60 RTS none  84 STY zp    85 STA zp    86 STX zp    88 DEY none
-  8A TXA none  8D STA abs   90 BCC rel   91 STA iny   98 TYA none  A0 LDY imm   A2 LDX imm
-  A4 LDY zp    A5 LDA zp    A6 LDX zp    A9 LDA imm   AA TAX none  AD LDA abs   B0 BCS rel
-  B1 LDA iny   C0 CPY imm   C4 CPY zp    C6 DEC zp    C8 INY none  C9 CMP imm   CA DEX none
-  D0 BNE rel   E6 INC zp    F0 BEQ rel`;
+  05 ORA zp    06 ASL zp    09 ORA imm   0A ASL acc   10 BPL rel   11 ORA iny   18 CLC none
+  20 JSR abs   24 BIT zp    26 ROL zp    29 AND imm   2C BIT abs   30 BMI rel   38 SEC none
+  45 EOR zp    49 EOR imm   4A LSR acc   4C JMP abs   50 BVC rel   60 RTS none  84 STY zp
+  85 STA zp    86 STX zp    88 DEY none  8A TXA none  8D STA abs   90 BCC rel   91 STA iny
+  95 STA zpx   98 TYA none  A0 LDY imm   A2 LDX imm   A4 LDY zp    A5 LDA zp    A6 LDX zp
+  A9 LDA imm   AA TAX none  AD LDA abs   B0 BCS rel   B1 LDA iny   B5 LDA zpx   C0 CPY imm
+  C4 CPY zp    C6 DEC zp    C8 INY none  C9 CMP imm   CA DEX none  D0 BNE rel   D6 DEC zpx
+  E6 INC zp    F0 BEQ rel`;
 
-const SIZES = { none: 1, acc: 1, imm: 2, zp: 2, iny: 2, rel: 2, abs: 3 };
+const SIZES = { none: 1, acc: 1, imm: 2, zp: 2, zpx: 2, iny: 2, rel: 2, abs: 3 };
 
 export const OPCODES = new Map([...CODES.matchAll(/(\w\w) (\w{3}) (\w+)/g)]
   .map(([, code, name, mode]) => [parseInt(code, 16), { name, mode, size: SIZES[mode] }]));
 
 const BRANCHES = {
-  BMI: ['n', 1], BCC: ['c', 0], BCS: ['c', 1], BNE: ['z', 0], BEQ: ['z', 1],
+  BPL: ['n', 0], BMI: ['n', 1], BVC: ['v', 0], BCC: ['c', 0], BCS: ['c', 1], BNE: ['z', 0],
+  BEQ: ['z', 1],
 };
 const TRANSFERS = { TXA: ['x', 'a'], TYA: ['y', 'a'], TAX: ['a', 'x'] };
 const COUNTS = { DEX: ['x', -1], DEY: ['y', -1], INY: ['y', 1] };
@@ -52,6 +54,7 @@ export class Processor {
     if (mode === 'imm') return first;
     if (mode === 'abs') return this.word(first, (at + 2) & 0xFFFF);
     const zero = this.bus.read(first);
+    if (mode === 'zpx') return (zero + this.x) & 0xFF;
     return mode === 'zp' ? zero : (this.word(zero, (zero + 1) & 0xFF) + this.y) & 0xFFFF;
   }
 
