@@ -79,7 +79,6 @@ fn name_errors() {
     is_error::<OutOfMemory>();
     is_error::<Stopped>();
     is_error::<dump::DumpFault>();
-    is_error::<named::DraftFault>();
     is_error::<named::NamedFault>();
     is_error::<named::SketchFault>();
     is_error::<read::TextFault>();
