@@ -19,9 +19,9 @@ export const TOUR_STEPS = [
   },
   {
     title: 'Torn', cut: true, least: 0,
-    text: `This picture is torn: it began as one frame and went on as the next. Red came too early;
-      the ring marks where the tear begins. With the wire, the driver would have waited until the
-      picture was done.`,
+    text: `This picture is torn: it began as one frame and went on as a later one; faint are both,
+      whole. Red came too early; the ring marks where the tear begins. With the wire, the driver
+      would have waited until the picture was done. Mend it, and see.`,
   },
 ];
 
