@@ -149,7 +149,7 @@ async function testBeginning() {
   await tab.size(1600, 1000);
   await openPage();
   expect('what is proved is said',
-    /runs the erased form of the proved sources, as WebAssembly: it is\s+tested, not proved\./,
+    /runs the erased form of the proved sources, as\s+WebAssembly: it is tested, not proved\./,
     await tab.value('document.querySelector(".proved").textContent'));
   expect('a newcomer sees a picture', /^Picture [0-9]+, .* whole\. It is frame (\w+ of )?[AB]\./,
     await tab.text('picture-text'));
