@@ -71,8 +71,17 @@ class Chromium {
   }
 
   async stop() {
+    await this.end(() => this.send('Browser.close').catch(() => this.child.kill('SIGKILL')));
+  }
+
+  // Ends a browser that gives no answer.
+  async kill() {
+    await this.end(() => this.child.kill('SIGKILL'));
+  }
+
+  async end(act) {
     const ended = new Promise((resolve) => { this.child.on('exit', resolve); });
-    await this.send('Browser.close').catch(() => this.child.kill());
+    await act();
     await ended;
     rmSync(this.profile, { recursive: true, force: true, maxRetries: 5 });
   }
