@@ -6,7 +6,7 @@
 // FOLDER is for what is thrown away; the screenshots come there, too. Tests that are named are done
 // alone. The last line is 'N passed, M failed'.
 import { execFileSync, spawnSync } from 'node:child_process';
-import { existsSync, readFileSync, readdirSync, writeFileSync } from 'node:fs';
+import { existsSync, readFileSync, readdirSync, statSync, writeFileSync } from 'node:fs';
 import { createServer } from 'node:http';
 import { startChromium } from './page_chromium.mjs';
 import { DROP_LONG_LOG, MOVE_OVER_IT, movesText } from './page_long.mjs';
@@ -164,9 +164,16 @@ async function saved(name, button) {
   return taken(name);
 }
 
+// Whether a file that the page saves is there, and whole: a browser makes an empty one first.
+function isSaved(name) {
+  const isPartOf = (file) => file.endsWith('.crdownload');
+  return existsSync(`${work}/${name}`) && statSync(`${work}/${name}`).size > 0
+    && !readdirSync(work).some(isPartOf);
+}
+
 // The text of a file that the page has saved.
 async function taken(name) {
-  for (let k = 0; k < 400 && !existsSync(`${work}/${name}`); k++) {
+  for (let k = 0; k < 400 && !isSaved(name); k++) {
     await new Promise((resolve) => { setTimeout(resolve, 25); });
   }
   const text = readFileSync(`${work}/${name}`, 'utf8');
@@ -790,9 +797,10 @@ async function testGrey() {
     await openPage();
     for (const [state, reach] of Object.entries(states)) {
       await reach();
+      expect(`${width} pixels, ${state}: something is grey`, true, await tab.until(
+        "[...document.querySelectorAll('button:disabled')].some((one) => one.checkVisibility())"));
       const grey = await tab.value(`[...document.querySelectorAll('button:disabled')]
         .filter((one) => one.checkVisibility()).map((one) => one.id || one.dataset.event)`);
-      expect(`${width} pixels, ${state}: something is grey`, true, grey.length > 0);
       for (const id of grey) {
         const why = await tab.value(`(() => {
           const one = document.getElementById('${id}')
