@@ -45,7 +45,7 @@ drawn_inside beam (Jmpl address) b r = All-nil IsStroke
 drawn_inside beam (Svec scale dx dy z) b r = line_inside beam _ z b (moved_inside beam (Svec scale dx dy z) b r) r.4
 
 -- what words spell is in range
-spelled_range : {code : Instr} {words : List ℕ} → Spells code words → InRange code
+pub spelled_range : {code : Instr} {words : List ℕ} → Spells code words → InRange code
 spelled_range (vctr r p q) = r
 spelled_range (labs r p q) = r
 spelled_range (halt p q) = tt

@@ -10,3 +10,4 @@ pub mod Drawn
 pub mod Rows
 pub mod Inside
 pub mod Seen
+pub mod Moves

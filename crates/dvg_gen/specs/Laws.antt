@@ -7,6 +7,7 @@ use Rattle.dvg_gen.specs.declared.beam.Beam.{Beam}
 use Rattle.dvg_gen.specs.declared.stroke.Stroke.{Stroke}
 use Rattle.dvg_gen.specs.Completing.{IsSeen}
 use Rattle.dvg_gen.specs.Drawing.{shifted, moved, drawn}
+use Rattle.dvg_gen.specs.Moving.{moves, seen}
 use Rattle.dvg_gen.specs.Position.{IsBeam, IsStroke}
 use Rattle.dvg_gen.specs.Returning.{IsAnswered}
 use Rattle.dvg_code.specs.Acts.{Calls, Returns, act_of}
@@ -74,3 +75,7 @@ AnswersACall = (older : List Visit) (call : Visit) → IsAnswered older call →
 abbrev pub PastTheCall : Type 0
 PastTheCall = (back : Visit) (older : List Visit) (call : Visit) → act_of back.code ≡ Returns → IsAnswered older call
     → next (back ∷ older) ≡ on call.place 1
+
+-- the strokes of instructions are what is seen of their moves
+abbrev pub StrokesAreSeen : Type 0
+StrokesAreSeen = (beam : Beam) (visits : List Visit) → strokes beam visits ≡ seen (moves beam visits)

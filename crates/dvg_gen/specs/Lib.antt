@@ -9,5 +9,7 @@ pub mod Completing
 pub mod Machine
 pub mod Stacks
 pub mod Obeyed
+pub mod Moving
+pub mod Saved
 pub mod Numbers
 pub mod Laws

@@ -1,7 +1,7 @@
 //! The generator.
 ghost use Rattle.std.specs.Prelude.{◌≡◌, ◌↔◌, ◌+◌, ◌%◌, ◌<◌, ◌≤◌, true, false, ℕ, List, Option, []};
 ghost use Rattle.std.specs.Prelude.{◌∷◌, ◌++◌, IsTrue, IsNone, IsSome, IsOk, IfSome, IfOk, OnErr};
-ghost use Rattle.std.specs.Prelude.{Some, None, Vec};
+ghost use Rattle.std.specs.Prelude.{Some, None, Vec, length, option_to_list, reverse};
 ghost use Rattle.dvg_code.specs.Acts.{Moves, act_of};
 ghost use Rattle.dvg_code.specs.Ranges.{InRange};
 ghost use Rattle.dvg_code.specs.Spelling.{IsFirst};
@@ -9,13 +9,17 @@ ghost use Rattle.dvg_code.specs.declared.instr.Instr.{Instr};
 ghost use Rattle.dvg_gen.specs.Bytes.{Whole, met, word_of};
 ghost use Rattle.dvg_gen.specs.Completing.{Completes, DrawsNothing, IsSeen};
 ghost use Rattle.dvg_gen.specs.Drawing.{drawn};
-ghost use Rattle.dvg_gen.specs.Machine.{Answers, IsOnward, HasTaken, taken_by};
+ghost use Rattle.dvg_gen.specs.Machine.{Answers, HasTaken, IsOnward, Machine, taken_by};
+ghost use Rattle.dvg_gen.specs.Moving.{AddsMoves, CompletesMove, IsMove, begins_at};
 ghost use Rattle.dvg_gen.specs.Obeyed.{IsLabs, Obeyed};
 ghost use Rattle.dvg_gen.specs.Run as spec;
+ghost use Rattle.dvg_gen.specs.Saved.{IsReturns, IsState, machine_of};
 ghost use Rattle.dvg_gen.specs.Told.{Told, Start, Reset, wants};
 ghost use Rattle.dvg_gen.specs.declared.stroke.Stroke.{Stroke};
 
 use crate::beam::Beam;
+use crate::moving::Move;
+use crate::state::GeneratorState;
 use crate::stroke::Stroke;
 use crate::taken::{GenFault, Step, Taken};
 use arrayvec::ArrayVec;
@@ -153,6 +157,73 @@ impl<A: Allocator + Copy> Generator<A> {
         self.has_low.then_some(self.low)
     }
 
+    /// Returns the first word of the next word's instruction, if it was fetched and its second word
+    /// comes next.
+    pub fn first_word(&self) -> Option<u16>
+        ensures value { result ≡ self.now.held }
+        ensures run { (history : List Told) (low : Option ℕ)
+            (after : HasTaken self.now history low) → after.run.is_open ≡ true
+            → result ≡ after.run.held }
+    {
+        self.held
+    }
+
+    /// Returns the beam.
+    pub fn beam(&self) -> Beam
+        ensures value { result ≡ self.now.beam }
+        ensures run { (history : List Told) (low : Option ℕ)
+            (after : HasTaken self.now history low)
+            → result ≡ spec.beam_after after.run.first after.run.visits }
+    {
+        self.beam
+    }
+
+    /// Returns the return addresses, at most four, the newest last. In an open run these are the
+    /// addresses past the calls that are still open. Where a run is over they stay until the next
+    /// one.
+    pub fn return_addresses(&self) -> &[u16]
+        ensures value { reverse result.now ≡ self.now.stack }
+        ensures fits { length result.now ≤ 4 }
+        ensures run { (history : List Told) (low : Option ℕ)
+            (after : HasTaken self.now history low) → after.run.is_open ≡ true
+            → IsReturns (reverse result.now) after.run.visits }
+    {
+        self.stack.as_slice()
+    }
+
+    /// Returns the strokes of the newest run so far, in the order drawn. They are none where it
+    /// came to a HALT, as they were handed out.
+    pub fn strokes(&self) -> &[Stroke]
+        ensures value { result.now ≡ self.now.strokes }
+        ensures run { (history : List Told) (low : Option ℕ)
+            (after : HasTaken self.now history low) → after.run.is_open ≡ true
+            → result.now ≡ spec.strokes after.run.first after.run.visits }
+    {
+        self.strokes.as_slice()
+    }
+
+    /// Returns the move that `byte`, the next one, completes, before it is taken. The generator stays
+    /// as it is. `None` means that no run is open or that the byte moves no beam: a low byte or a
+    /// first word, a word of another instruction than VCTR, SVEC and LABS, or no memory.
+    pub fn move_by(&self, byte: Option<u8>) -> Option<Move>
+        ensures moves { (history : List Told) (low : Option ℕ)
+            (after : HasTaken self.now history low) → after.run.is_open ≡ true
+            → AddsMoves history after.run (met low byte) (option_to_list result) }
+        ensures halted { self.now.is_open ≡ false → IsNone result }
+        ensures in_range { IfSome result IsMove }
+    {
+        if self.halted() {
+            return None;
+        }
+        let Some(high) = byte else {
+            return None;
+        };
+        let Some(low) = self.low_byte() else {
+            return None;
+        };
+        self.move_of(u16::from_le_bytes([low, high]))
+    }
+
     /// Takes `byte`, and returns what it led to. `byte` is the low byte of the word at the address
     /// that `wants` returns, or its high byte where `wants_high` is true. `None` means that no
     /// memory answers there. A run must be open. After `Done` or `Broke` the generator is halted.
@@ -225,6 +296,70 @@ impl<A: Allocator + Copy> Generator<A> {
             self.strokes = strokes;
             self.strokes.clear();
         }
+    }
+
+    /// Returns all that the generator keeps but its strokes.
+    pub fn state(&self) -> GeneratorState
+        ensures machine { self.now ≡ machine_of result self.now.strokes }
+        ensures valid { (history : List Told) (low : Option ℕ) → HasTaken self.now history low
+            → IsState result }
+    {
+        let Beam { x, y, scale } = self.beam;
+        GeneratorState {
+            is_open: self.is_open,
+            at: self.at,
+            held: self.held,
+            low: self.low_byte(),
+            return_addresses: copied(&self.stack),
+            x,
+            y,
+            scale,
+        }
+    }
+
+    /// Brings the generator into `state`, with `strokes` as what its run drew so far, and returns
+    /// `true`. So it goes on as the one whose `state` and `strokes` these were. Returns `false`
+    /// exactly where `state` isn't valid, and then nothing has changed.
+    pub fn resume(&mut self, state: &GeneratorState, strokes: Vec<Stroke, A>) -> bool
+        ensures taken { IsTrue result ↔ IsState state.now }
+        ensures machine { IsTrue result → self.new ≡ machine_of state.now strokes.items }
+        ensures stands { IsTrue result → (saved : Machine) (history : List Told) (low : Option ℕ)
+            → saved ≡ machine_of state.now strokes.items → HasTaken saved history low
+            → HasTaken self.new history low }
+        ensures refused { (IsTrue result → ⊥) → self.new ≡ self.old }
+    {
+        if !state.is_valid() {
+            return false;
+        }
+        self.is_open = state.is_open;
+        self.at = state.at;
+        self.held = state.held;
+        self.has_low = state.low.is_some();
+        self.low = state.low.unwrap_or(0);
+        self.stack = copied(&state.return_addresses);
+        self.beam = Beam {
+            x: state.x,
+            y: state.y,
+            scale: state.scale,
+        };
+        self.strokes = strokes;
+        true
+    }
+
+    // Returns the move of the instruction that the whole word `word` completes.
+    fn move_of(&self, word: u16) -> Option<Move>
+        ensures moves { CompletesMove self.now word (option_to_list result) }
+        ensures in_range { IfSome result IsMove }
+    {
+        if let Some(first) = self.held {
+            let code = of_two(first, word);
+            return Move::of(&self.beam, &code, before(self.at));
+        }
+        if word < 0xB000 {
+            return None;
+        }
+        let code = of_one(word);
+        Move::of(&self.beam, &code, self.at)
     }
 
     // Takes the whole word `word`, as `take_into` takes a high byte. The strokes of a finished run
@@ -380,6 +515,26 @@ fn after(address: u16) -> u16
     ensures { result ≡ spec.on address 1 }
 {
     (address + 1) % 4096
+}
+
+// Returns a copy of `addresses`.
+fn copied(addresses: &ArrayVec<u16, 4>) -> ArrayVec<u16, 4>
+    ensures { result.items ≡ addresses.now.items }
+{
+    let mut copies = ArrayVec::new();
+    match copies.try_extend_from_slice(addresses.as_slice()) {
+        Ok(()) => copies,
+        Err(_) => unreachable!(),
+    }
+}
+
+// Returns the address one word before `address`, where FFF comes before 000.
+fn before(address: u16) -> u16
+    requires { address ≤ 4095 }
+    ensures value { result ≡ begins_at (Some address) address }
+    ensures in_range { result < 4096 }
+{
+    (address + 4095) % 4096
 }
 
 // Returns the instruction of `word`, which has an opcode of B to F.

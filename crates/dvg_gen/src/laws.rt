@@ -1,7 +1,7 @@
 //! Laws of the definitions alone. Each is the contract of a function that does nothing.
 ghost use Rattle.dvg_gen.specs.Laws.{AnswersACall, BeamOfAll, LeastResidue, OneCall, OneRun};
 ghost use Rattle.dvg_gen.specs.Laws.{OneRunOfMemory, PastTheCall, RunInRange, SeenDraws};
-ghost use Rattle.dvg_gen.specs.Laws.{StaysInRange, UnseenDrawsNothing};
+ghost use Rattle.dvg_gen.specs.Laws.{StaysInRange, StrokesAreSeen, UnseenDrawsNothing};
 
 /// A moved position is exact: the least residue modulo 2,097,152 of the old one and the way.
 pub fn least_residue()
@@ -49,4 +49,9 @@ pub fn one_run_of_memory()
 /// The beam is that of all whole instructions of a history, whatever run they stand in.
 pub fn beam_of_all()
     ensures { BeamOfAll }
+{}
+
+/// The strokes of a run are those moves that are seen: the ones of intensity 1 to 15, in order.
+pub fn seen_moves()
+    ensures { StrokesAreSeen }
 {}

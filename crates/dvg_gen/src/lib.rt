@@ -12,10 +12,14 @@
 mod beam;
 mod generator;
 pub mod laws;
+mod moving;
+mod state;
 mod stroke;
 mod taken;
 
 pub use beam::Beam;
 pub use generator::Generator;
+pub use moving::Move;
+pub use state::GeneratorState;
 pub use stroke::Stroke;
 pub use taken::{GenFault, Step, Taken};

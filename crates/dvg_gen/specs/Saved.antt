@@ -1,0 +1,31 @@
+-- A generator's state as a plain value.
+use Rattle.std.specs.Prelude.{◌≡◌, ℕ, ◌+◌, ◌<◌, List, length, reverse, slice_index, IsSome, true}
+use Rattle.dvg_gen.specs.declared.state.GeneratorState.{GeneratorState}
+use Rattle.dvg_gen.specs.declared.stroke.Stroke.{Stroke}
+use Rattle.dvg_gen.specs.Machine.{Machine, IsKept}
+use Rattle.dvg_gen.specs.Position.{IsBeam}
+use Rattle.dvg_gen.specs.Run.{Visit, past_call, calls, returns}
+
+-- these are the return addresses of a run, newest first: one past each call that is still open
+pub record IsReturns (addresses : List ℕ) (visits : List Visit) : Type 0 where
+  pub count : calls visits ≡ returns visits + length addresses
+  pub brackets : (k : ℕ) → k < length addresses → slice_index addresses k ≡ past_call k visits
+
+-- a generator can be in a state: it could keep its addresses and words, a low byte waits only in an open run, and its
+-- beam is one
+pub record IsState (state : GeneratorState) : Type 0 where
+  pub kept : IsKept state.at state.held state.return_addresses.items
+  pub waits : IsSome state.low → state.is_open ≡ true
+  pub beam : IsBeam state.x state.y state.scale
+
+-- the machine in a state, with these strokes
+abbrev pub machine_of : GeneratorState → List Stroke → Machine
+machine_of state strokes = record {
+  at = state.at;
+  held = state.held;
+  low = state.low;
+  stack = reverse state.return_addresses.items;
+  beam = record { x = state.x; y = state.y; scale = state.scale };
+  strokes = strokes;
+  is_open = state.is_open;
+}
