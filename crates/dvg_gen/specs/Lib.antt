@@ -10,6 +10,7 @@ pub mod Machine
 pub mod Stacks
 pub mod Obeyed
 pub mod Moving
+pub mod Counting
 pub mod Saved
 pub mod Numbers
 pub mod Laws

@@ -1,5 +1,6 @@
 -- What each instruction of a run did to the beam, also where nothing is seen.
-use Rattle.std.specs.Prelude.{◌≡◌, ℕ, zero, suc, ◌+◌, ◌%◌, ◌<◌, ◌≤◌, List, [], ◌∷◌, ◌++◌, Option, Some, None}
+use Rattle.std.specs.Prelude.{◌≡◌, ℕ, zero, suc, ◌+◌, ◌%◌, ◌<◌, ◌≤◌, Bool, true, false, List, [], ◌∷◌, ◌++◌, Option, Some}
+use Rattle.std.specs.Prelude.{None}
 use Rattle.dvg_code.specs.declared.instr.Instr.{Instr}
 use Rattle.dvg_code.specs.declared.instr.Instr.TheVariants.{Vctr, Labs, Svec}
 use Rattle.dvg_code.specs.Spelling.{IsFirst}
@@ -13,15 +14,17 @@ use Rattle.dvg_gen.specs.Machine.{Machine}
 use Rattle.dvg_gen.specs.Run.{Visit, beam_after}
 use Rattle.dvg_gen.specs.Told.{Told, Fed, Newest, Leaves}
 
--- the move from one position of the beam to another, of this intensity, by the instruction at this address
-abbrev pub going : Beam → Beam → ℕ → ℕ → Move
-going from to z address = record { x0 = from.x; y0 = from.y; x1 = to.x; y1 = to.y; z = z; address = address }
+-- the move from one position of the beam to another, of this intensity, by the instruction at this address, which may be
+-- a LABS
+abbrev pub going : Beam → Beam → ℕ → Bool → ℕ → Move
+going from to z placed address =
+    record { x0 = from.x; y0 = from.y; x1 = to.x; y1 = to.y; z = z; placed = placed; address = address }
 
 -- what an instruction at an address did to the beam: a vector moved it, LABS placed it unseen, and the others did nothing
 abbrev pub made : Beam → ℕ → Instr → List Move
-made beam address (Vctr scale dx dy z) = going beam (moved beam (Vctr scale dx dy z)) z address ∷ []
-made beam address (Labs x y scale) = going beam (moved beam (Labs x y scale)) 0 address ∷ []
-made beam address (Svec scale dx dy z) = going beam (moved beam (Svec scale dx dy z)) z address ∷ []
+made beam address (Vctr scale dx dy z) = going beam (moved beam (Vctr scale dx dy z)) z false address ∷ []
+made beam address (Labs x y scale) = going beam (moved beam (Labs x y scale)) 0 true address ∷ []
+made beam address (Svec scale dx dy z) = going beam (moved beam (Svec scale dx dy z)) z false address ∷ []
 made beam address _ = []
 
 -- the moves of these instructions, in order, from the beam before them

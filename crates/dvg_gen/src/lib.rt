@@ -10,6 +10,7 @@
 #![tactic(auto)]
 
 mod beam;
+mod counters;
 mod generator;
 pub mod laws;
 mod moving;
@@ -18,6 +19,7 @@ mod stroke;
 mod taken;
 
 pub use beam::Beam;
+pub use counters::Counters;
 pub use generator::Generator;
 pub use moving::Move;
 pub use state::GeneratorState;

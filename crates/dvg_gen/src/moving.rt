@@ -21,6 +21,8 @@ pub struct Move {
     pub y1: u32,
     /// Its intensity, 0 (blank) to 15. That of a LABS is 0.
     pub z: u8,
+    /// Whether a LABS placed the beam there.
+    pub placed: bool,
     /// The address of the instruction's first word, below 4,096.
     pub address: u16,
 }
@@ -33,17 +35,19 @@ impl Move {
         ensures in_range { address < 4096 → IfSome result spec.IsMove }
     {
         match code.instr() {
-            Instr::Vctr { z, .. } | Instr::Svec { z, .. } => Some(going(beam, code, z, address)),
-            Instr::Labs { .. } => Some(going(beam, code, 0, address)),
+            Instr::Vctr { z, .. } | Instr::Svec { z, .. } => {
+                Some(going(beam, code, z, false, address))
+            }
+            Instr::Labs { .. } => Some(going(beam, code, 0, true, address)),
             Instr::Halt | Instr::Jsrl(_) | Instr::Rtsl | Instr::Jmpl(_) => None,
         }
     }
 }
 
 // Returns the move of intensity `z` that `code`, whose first word is at `address`, makes from
-// `beam`.
-fn going(beam: &Beam, code: &Code, z: u8, address: u16) -> Move
-    ensures value { result ≡ spec.going beam.now (moved beam.now code.now) z address }
+// `beam`; `placed` says whether it is a LABS.
+fn going(beam: &Beam, code: &Code, z: u8, placed: bool, address: u16) -> Move
+    ensures value { result ≡ spec.going beam.now (moved beam.now code.now) z placed address }
     ensures in_range { z ≤ 15 → address < 4096 → spec.IsMove result }
 {
     let Beam { x, y, scale } = *beam;
@@ -55,6 +59,7 @@ fn going(beam: &Beam, code: &Code, z: u8, address: u16) -> Move
         x1: after.x,
         y1: after.y,
         z,
+        placed,
         address,
     }
 }
