@@ -13,7 +13,7 @@ use Rattle.dvg_gen.specs.Run.{Visit, next, beam_after, strokes, first, one, two}
 use Rattle.dvg_gen.specs.Told.{Told, Newest, Leaves, new, starts, resets, meets_hole, takes}
 use Rattle.dvg_gen.proofs.Residues.{shifted_below}
 
-abbrev Inside : Beam → Type 0
+abbrev pub Inside : Beam → Type 0
 Inside beam = IsBeam beam.x beam.y beam.scale
 
 -- an instruction in range moves a beam to a beam
@@ -55,10 +55,10 @@ spelled_range (jmpl r p) = r
 spelled_range (svec r p) = r
 
 -- a run began with a beam, stands at one, and drew strokes in range
-record RunInside (run : Newest) : Type 0 where
-  began : Inside run.first
-  stands : Inside (beam_after run.first run.visits)
-  drew : All IsStroke (strokes run.first run.visits)
+pub record RunInside (run : Newest) : Type 0 where
+  pub began : Inside run.first
+  pub stands : Inside (beam_after run.first run.visits)
+  pub drew : All IsStroke (strokes run.first run.visits)
 
 one_more : (run : Newest) (visit : Visit) → RunInside run → InRange visit.code
     → Inside (beam_after run.first (visit ∷ run.visits)) × All IsStroke (strokes run.first (visit ∷ run.visits))
@@ -67,7 +67,7 @@ one_more run visit it range = (
   All-append IsStroke (strokes run.first run.visits) _ it.drew (drawn_inside (beam_after run.first run.visits) visit.code it.stands range),
 )
 
-run_inside : {history : List Told} {run : Newest} → Leaves history run → RunInside run
+pub run_inside : {history : List Told} {run : Newest} → Leaves history run → RunInside run
 run_inside new = record {
   began = record { x_inside = omega arith; y_inside = omega arith; scale_small = omega arith };
   stands = record { x_inside = omega arith; y_inside = omega arith; scale_small = omega arith };

@@ -11,3 +11,4 @@ pub mod Rows
 pub mod Inside
 pub mod Seen
 pub mod Moves
+pub mod Counted

@@ -7,7 +7,9 @@ use Rattle.dvg_gen.specs.declared.beam.Beam.{Beam}
 use Rattle.dvg_gen.specs.declared.stroke.Stroke.{Stroke}
 use Rattle.dvg_gen.specs.Completing.{IsSeen}
 use Rattle.dvg_gen.specs.Drawing.{shifted, moved, drawn}
-use Rattle.dvg_gen.specs.Moving.{moves, seen}
+use Rattle.dvg_gen.specs.Moving.{made, moves, seen}
+use Rattle.dvg_gen.specs.Counting.{clocked, counters, followed_all}
+use Rattle.dvg_gen.specs.declared.counters.Counters.{Counters}
 use Rattle.dvg_gen.specs.Position.{IsBeam, IsStroke}
 use Rattle.dvg_gen.specs.Returning.{IsAnswered}
 use Rattle.dvg_code.specs.Acts.{Calls, Returns, act_of}
@@ -79,3 +81,13 @@ PastTheCall = (back : Visit) (older : List Visit) (call : Visit) → act_of back
 -- the strokes of instructions are what is seen of their moves
 abbrev pub StrokesAreSeen : Type 0
 StrokesAreSeen = (beam : Beam) (visits : List Visit) → strokes beam visits ≡ seen (moves beam visits)
+
+-- what an instruction in range counts is what its move, from a beam, leads the counters to
+abbrev pub CountersOfMoves : Type 0
+CountersOfMoves = (old : Counters) (beam : Beam) (address : ℕ) (code : Instr) → IsBeam beam.x beam.y beam.scale
+    → InRange code → clocked old beam.scale code ≡ followed_all old (made beam address code)
+
+-- the same of the newest run of a history
+abbrev pub CountersOfRun : Type 0
+CountersOfRun = (history : List Told) (run : Newest) (old : Counters) → Leaves history run
+    → counters run.first old run.visits ≡ followed_all old (moves run.first run.visits)

@@ -1,6 +1,6 @@
 //! Laws of the definitions alone. Each is the contract of a function that does nothing.
-ghost use Rattle.dvg_gen.specs.Laws.{AnswersACall, BeamOfAll, LeastResidue, OneCall, OneRun};
-ghost use Rattle.dvg_gen.specs.Laws.{OneRunOfMemory, PastTheCall, RunInRange, SeenDraws};
+ghost use Rattle.dvg_gen.specs.Laws.{AnswersACall, BeamOfAll, CountersOfMoves, CountersOfRun};
+ghost use Rattle.dvg_gen.specs.Laws.{LeastResidue, OneCall, OneRun, OneRunOfMemory, PastTheCall, RunInRange, SeenDraws};
 ghost use Rattle.dvg_gen.specs.Laws.{StaysInRange, StrokesAreSeen, UnseenDrawsNothing};
 
 /// A moved position is exact: the least residue modulo 2,097,152 of the old one and the way.
@@ -54,4 +54,11 @@ pub fn beam_of_all()
 /// The strokes of a run are those moves that are seen: the ones of intensity 1 to 15, in order.
 pub fn seen_moves()
     ensures { StrokesAreSeen }
+{}
+
+/// Counters that follow a run's moves, which know positions alone, are those that an instruction's
+/// own fields count: of a vector its magnitudes times the unit of its scale, rounded.
+pub fn counted_moves()
+    ensures step { CountersOfMoves }
+    ensures run { CountersOfRun }
 {}
