@@ -1,8 +1,8 @@
 -- Counters that follow the moves are those that the instructions count.
-use Rattle.std.proofs.Common.{◌≡◌, ℕ, zero, suc, ◌+◌, ◌-◌, ◌*◌, ◌/◌, ◌%◌, ◌^◌, ◌<◌, ◌≤◌, true, false, ℤ, pos, negsuc, ◌*ℤ◌, neg_ℤ, List, [], ◌∷◌, ◌++◌, refl, sym, ap, ◌∙◌, subst, ⊎_elim, arith, cond, ltb, leb, mul-le-mul_left}
+use Rattle.std.proofs.Common.{◌≡◌, ℕ, zero, suc, ◌+◌, ◌-◌, ◌*◌, ◌/◌, ◌%◌, ◌^◌, ◌<◌, ◌≤◌, true, false, ℤ, pos, negsuc, ◌*ℤ◌, neg_ℤ, List, [], ◌∷◌, ◌++◌, refl, sym, ap, ◌∙◌, arith, cond, ltb, leb, mul-le-mul_left}
 use Rattle.std.specs.Prelude.{unsigned_abs}
 use Rattle.std.proofs.Math.Pow.{pow_mono}
-use Rattle.std.proofs.lemmas.Bool.{cases_lt, cases_Bool, ltb-true, ltb-false, leb-true}
+use Rattle.std.proofs.lemmas.Bool.{ltb-true, ltb-false, leb-true}
 use Rattle.dvg_code.specs.Fields.{signed}
 use Rattle.dvg_code.specs.Ranges.{InRange}
 use Rattle.dvg_code.specs.declared.instr.Instr.{Instr}
@@ -10,13 +10,13 @@ use Rattle.dvg_code.specs.declared.instr.Instr.TheVariants.{Vctr, Labs, Halt, Js
 use Rattle.dvg_gen.specs.declared.beam.Beam.{Beam}
 use Rattle.dvg_gen.specs.declared.counters.Counters.{Counters}
 use Rattle.dvg_gen.specs.declared.moving.Move.{Move}
-use Rattle.dvg_gen.specs.Counting.{whole, rounded, counted, stepped, clocked, counters, ahead, whole_way, followed, followed_all}
-use Rattle.dvg_gen.specs.Drawing.{unit, shifted, moved}
+use Rattle.dvg_gen.specs.Counting.{whole, rounded, counted, clocked, counters, ahead, whole_way, followed, followed_all}
+use Rattle.dvg_gen.specs.Drawing.{unit, shifted}
 use Rattle.dvg_gen.specs.Moving.{made, moves}
 use Rattle.dvg_gen.specs.Position.{IsBeam}
 use Rattle.dvg_gen.specs.Run.{Visit, next, beam_after, first, one, two}
 use Rattle.dvg_gen.specs.Told.{Told, Newest, Leaves, new, starts, resets, meets_hole, takes}
-use Rattle.dvg_gen.proofs.Inside.{RunInside, run_inside, spelled_range}
+use Rattle.dvg_gen.proofs.Inside.{run_inside, spelled_range}
 
 -- a way of less than half the circle is the one ahead
 way_ahead : (from to a : ℕ) → ahead from to ≡ a → a < 1048576 → whole_way from to ≡ pos (whole a)

@@ -4,18 +4,17 @@ use Rattle.dvg_code.specs.declared.instr.Instr.{Instr}
 use Rattle.dvg_code.specs.declared.instr.Instr.TheVariants.{Vctr, Labs, Halt, Jsrl, Rtsl, Jmpl, Svec}
 use Rattle.dvg_code.specs.Acts.{Act, Moves, Jumps, Calls, Returns, Halts, act_of}
 use Rattle.dvg_code.specs.Ranges.{InRange}
-use Rattle.dvg_code.specs.Spelling.{IsFirst, Spells}
+use Rattle.dvg_code.specs.Spelling.{IsFirst}
 use Rattle.dvg_code.proofs.Unique.{same_spelling}
 use Rattle.dvg_gen.specs.declared.beam.Beam.{Beam}
 use Rattle.dvg_gen.specs.declared.moving.Move.{Move}
-use Rattle.dvg_gen.specs.declared.stroke.Stroke.{Stroke}
 use Rattle.dvg_gen.specs.Bytes.{Met, Waits, Whole, met}
 use Rattle.dvg_gen.specs.Completing.{Completes}
 use Rattle.dvg_gen.specs.Drawing.{drawn}
 use Rattle.dvg_gen.specs.Machine.{Machine, IsInRun, HasTaken}
 use Rattle.dvg_gen.specs.Moving.{made, moves, seen_by, seen, AddsMoves, begins_at, CompletesMove}
-use Rattle.dvg_gen.specs.Run.{Visit, on, back_over, past_call, led, next, wanted, beam_after, strokes, Adds, first, one, two}
-use Rattle.dvg_gen.specs.Told.{Told, Fed, Newest, stopped, grown, Leaves, new, starts, resets, meets_hole, takes}
+use Rattle.dvg_gen.specs.Run.{Visit, back_over, past_call, led, next, wanted, beam_after, strokes, Adds, first, one, two}
+use Rattle.dvg_gen.specs.Told.{Told, Fed, Newest, Leaves, new, starts, resets, meets_hole, takes}
 use Rattle.dvg_gen.proofs.Inside.{spelled_range}
 use Rattle.dvg_gen.proofs.Same.{leaves_same}
 use Rattle.dvg_gen.proofs.Words.{not_first}

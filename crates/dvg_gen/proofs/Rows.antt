@@ -1,12 +1,14 @@
 -- Worked examples of the beam and of a generator alone.
-use Rattle.std.proofs.Common.{◌≡◌, ℕ, ◌-◌, pos, negsuc, List, [], ◌∷◌, Option, Some, None, refl, lit<, lit≤}
+use Rattle.std.proofs.Common.{◌≡◌, ℕ, ◌-◌, pos, negsuc, true, false, List, [], ◌∷◌, Option, Some, None, refl, lit<, lit≤}
 use Rattle.dvg_code.specs.declared.instr.Instr.{Instr}
 use Rattle.dvg_code.specs.declared.instr.Instr.TheVariants.{Vctr, Labs, Jsrl, Rtsl, Jmpl, Svec}
 use Rattle.dvg_code.specs.Spelling.{Spells, jmpl, jsrl, rtsl}
 use Rattle.dvg_gen.specs.declared.beam.Beam.{Beam}
 use Rattle.dvg_gen.specs.declared.stroke.Stroke.{Stroke}
 use Rattle.dvg_gen.specs.declared.taken.GenFault.TheVariants.{StackOver, StackUnder, Hole}
+use Rattle.dvg_gen.specs.Counting.{counted, whole_way}
 use Rattle.dvg_gen.specs.Drawing.{moved, drawn}
+use Rattle.dvg_gen.specs.Moving.{moves}
 use Rattle.dvg_gen.specs.Run.{Visit, first, one, next, fate, Breaks, Goes}
 use Rattle.dvg_gen.specs.Told.{Told, Start, Fed, Newest, Leaves, new, starts, takes, meets_hole, Reply, Fails, reply, wants}
 
@@ -40,6 +42,26 @@ blank = refl
 
 abbrev visit : ℕ → Instr → Visit
 visit place code = record { place = place; code = code }
+
+-- a LABS at 002 moves the beam unseen, and a blank vector at 004 does so too
+pub unseen_moves : moves (at 7 0 0) (visit 4 (Vctr 9 (pos 1) (pos 0) 0) ∷ visit 2 (Labs 4095 0 0) ∷ visit 0 (Jmpl 2) ∷ [])
+    ≡ record { x0 = 7; y0 = 0; x1 = 2096640; y1 = 0; z = 0; placed = true; address = 2 }
+    ∷ record { x0 = 2096640; y0 = 0; x1 = 0; y1 = 0; z = 0; placed = false; address = 4 } ∷ []
+unseen_moves = refl
+
+-- half a unit is rounded away from zero, both ways, also over the edge, and less is none
+pub half_ahead : whole_way 2097000 104 ≡ pos 1
+half_ahead = refl
+
+pub half_back : whole_way 104 2097000 ≡ negsuc 0
+half_back = refl
+
+pub less_than_half : whole_way 255 0 ≡ pos 0
+less_than_half = refl
+
+-- a counter goes round, too
+pub counted_round : counted 0 (negsuc 0) ≡ 4095
+counted_round = refl
 
 -- a return on an empty stack
 pub no_caller : fate (visit 0 Rtsl ∷ []) ≡ Breaks StackUnder

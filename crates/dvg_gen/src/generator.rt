@@ -157,8 +157,8 @@ impl<A: Allocator + Copy> Generator<A> {
         self.has_low.then_some(self.low)
     }
 
-    /// Returns the first word of the next word's instruction, if it was fetched and its second word
-    /// comes next.
+    /// Returns the first word of an instruction whose second word comes next. It stays where the
+    /// run breaks there, until the next run.
     pub fn first_word(&self) -> Option<u16>
         ensures value { result ≡ self.now.held }
         ensures run { (history : List Told) (low : Option ℕ)
@@ -191,8 +191,8 @@ impl<A: Allocator + Copy> Generator<A> {
         self.stack.as_slice()
     }
 
-    /// Returns the strokes of the newest run so far, in the order drawn. They are none where it
-    /// came to a HALT, as they were handed out.
+    /// Returns the strokes that the newest run drew so far, in the order drawn. One that came to a
+    /// HALT has handed its own out.
     pub fn strokes(&self) -> &[Stroke]
         ensures value { result.now ≡ self.now.strokes }
         ensures run { (history : List Told) (low : Option ℕ)
@@ -318,8 +318,9 @@ impl<A: Allocator + Copy> Generator<A> {
     }
 
     /// Brings the generator into `state`, with `strokes` as what its run drew so far, and returns
-    /// `true`. So it goes on as the one whose `state` and `strokes` these were. Returns `false`
-    /// exactly where `state` isn't valid, and then nothing has changed.
+    /// `true`. So it goes on as the one whose `state` and `strokes` these were; with no strokes,
+    /// those are missing where the run ends. Returns `false` exactly where `state` isn't valid, and
+    /// then nothing has changed.
     pub fn resume(&mut self, state: &GeneratorState, strokes: Vec<Stroke, A>) -> bool
         ensures taken { IsTrue result ↔ IsState state.now }
         ensures machine { IsTrue result → self.new ≡ machine_of state.now strokes.items }
