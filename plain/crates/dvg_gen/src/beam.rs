@@ -3,7 +3,7 @@ use crate::stroke::Stroke;
 use dvg_code::{Code, Instr};
 
 // The number of positions along x, and along y: 4,096 screen units of 512 each.
-const CIRCLE: u32 = 2_097_152;
+pub(crate) const CIRCLE: u32 = 2_097_152;
 
 /// Where the beam stands, in 1/512 of a screen unit, and the global scale.
 ///

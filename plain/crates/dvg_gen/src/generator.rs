@@ -2,6 +2,8 @@
 use std::prelude::*;
 
 use crate::beam::Beam;
+use crate::moving::Move;
+use crate::state::GeneratorState;
 use crate::stroke::Stroke;
 use crate::taken::{GenFault, Step, Taken};
 use arrayvec::ArrayVec;
@@ -88,6 +90,46 @@ impl<A: Allocator + Copy> Generator<A> {
         self.has_low.then_some(self.low)
     }
 
+    /// Returns the first word of an instruction whose second word comes next. It stays where the
+    /// run breaks there, until the next run.
+    pub fn first_word(&self) -> Option<u16> {
+        self.held
+    }
+
+    /// Returns the beam.
+    pub fn beam(&self) -> Beam {
+        self.beam
+    }
+
+    /// Returns the return addresses, at most four, the newest last. In an open run these are the
+    /// addresses past the calls that are still open. Where a run is over they stay until the next
+    /// one.
+    pub fn return_addresses(&self) -> &[u16] {
+        self.stack.as_slice()
+    }
+
+    /// Returns the strokes that the newest run drew so far, in the order drawn. One that came to a
+    /// HALT has handed its own out.
+    pub fn strokes(&self) -> &[Stroke] {
+        self.strokes.as_slice()
+    }
+
+    /// Returns the move that `byte`, the next one, completes, before it is taken. The generator stays
+    /// as it is. `None` means that no run is open or that the byte moves no beam: a low byte or a
+    /// first word, a word of another instruction than VCTR, SVEC and LABS, or no memory.
+    pub fn move_by(&self, byte: Option<u8>) -> Option<Move> {
+        if self.halted() {
+            return None;
+        }
+        let Some(high) = byte else {
+            return None;
+        };
+        let Some(low) = self.low_byte() else {
+            return None;
+        };
+        self.move_of(u16::from_le_bytes([low, high]))
+    }
+
     /// Takes `byte`, and returns what it led to. `byte` is the low byte of the word at the address
     /// that `wants` returns, or its high byte where `wants_high` is true. `None` means that no
     /// memory answers there. A run must be open. After `Done` or `Broke` the generator is halted.
@@ -136,6 +178,57 @@ impl<A: Allocator + Copy> Generator<A> {
             self.strokes = strokes;
             self.strokes.clear();
         }
+    }
+
+    /// Returns all that the generator keeps but its strokes.
+    pub fn state(&self) -> GeneratorState {
+        let Beam { x, y, scale } = self.beam;
+        GeneratorState {
+            is_open: self.is_open,
+            at: self.at,
+            held: self.held,
+            low: self.low_byte(),
+            return_addresses: copied(&self.stack),
+            x,
+            y,
+            scale,
+        }
+    }
+
+    /// Brings the generator into `state`, with `strokes` as what its run drew so far, and returns
+    /// `true`. So it goes on as the one whose `state` and `strokes` these were; with no strokes,
+    /// those are missing where the run ends. Returns `false` exactly where `state` isn't valid, and
+    /// then nothing has changed.
+    pub fn resume(&mut self, state: &GeneratorState, strokes: Vec<Stroke, A>) -> bool {
+        if !state.is_valid() {
+            return false;
+        }
+        self.is_open = state.is_open;
+        self.at = state.at;
+        self.held = state.held;
+        self.has_low = state.low.is_some();
+        self.low = state.low.unwrap_or(0);
+        self.stack = copied(&state.return_addresses);
+        self.beam = Beam {
+            x: state.x,
+            y: state.y,
+            scale: state.scale,
+        };
+        self.strokes = strokes;
+        true
+    }
+
+    // Returns the move of the instruction that the whole word `word` completes.
+    fn move_of(&self, word: u16) -> Option<Move> {
+        if let Some(first) = self.held {
+            let code = of_two(first, word);
+            return Move::of(&self.beam, &code, before(self.at));
+        }
+        if word < 0xB000 {
+            return None;
+        }
+        let code = of_one(word);
+        Move::of(&self.beam, &code, self.at)
     }
 
     // Takes the whole word `word`, as `take_into` takes a high byte. The strokes of a finished run
@@ -247,6 +340,20 @@ fn taken<A: Allocator>(step: Step, drawn: Vec<Stroke, A>) -> Taken<A> {
 // Returns the address one word after `address`, where 000 comes after FFF.
 fn after(address: u16) -> u16 {
     (address + 1) % 4096
+}
+
+// Returns a copy of `addresses`.
+fn copied(addresses: &ArrayVec<u16, 4>) -> ArrayVec<u16, 4> {
+    let mut copies = ArrayVec::new();
+    match copies.try_extend_from_slice(addresses.as_slice()) {
+        Ok(()) => copies,
+        Err(_) => unreachable!(),
+    }
+}
+
+// Returns the address one word before `address`, where FFF comes before 000.
+fn before(address: u16) -> u16 {
+    (address + 4095) % 4096
 }
 
 // Returns the instruction of `word`, which has an opcode of B to F.

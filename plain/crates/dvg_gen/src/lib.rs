@@ -12,12 +12,18 @@
 extern crate plain_std as std;
 
 mod beam;
+mod counters;
 mod generator;
+mod moving;
+mod state;
 mod stroke;
 mod taken;
 
 pub use beam::Beam;
+pub use counters::Counters;
 pub use generator::Generator;
+pub use moving::Move;
+pub use state::GeneratorState;
 pub use stroke::Stroke;
 pub use taken::{GenFault, Step, Taken};
 
