@@ -44,7 +44,8 @@ abbrev visit : ℕ → Instr → Visit
 visit place code = record { place = place; code = code }
 
 -- a LABS at 002 moves the beam unseen, and a blank vector at 004 does so too
-pub unseen_moves : moves (at 7 0 0) (visit 4 (Vctr 9 (pos 1) (pos 0) 0) ∷ visit 2 (Labs 4095 0 0) ∷ visit 0 (Jmpl 2) ∷ [])
+pub unseen_moves : moves (at 7 0 0)
+    (visit 4 (Vctr 9 (pos 1) (pos 0) 0) ∷ visit 2 (Labs 4095 0 0) ∷ visit 0 (Jmpl 2) ∷ [])
     ≡ record { x0 = 7; y0 = 0; x1 = 2096640; y1 = 0; z = 0; placed = true; address = 2 }
     ∷ record { x0 = 2096640; y0 = 0; x1 = 0; y1 = 0; z = 0; placed = false; address = 4 } ∷ []
 unseen_moves = refl

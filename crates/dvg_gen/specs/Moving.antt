@@ -1,6 +1,6 @@
 -- What each instruction of a run did to the beam, also where nothing is seen.
-use Rattle.std.specs.Prelude.{◌≡◌, ℕ, zero, suc, ◌+◌, ◌%◌, ◌<◌, ◌≤◌, Bool, true, false, List, [], ◌∷◌, ◌++◌, Option, Some}
-use Rattle.std.specs.Prelude.{None}
+use Rattle.std.specs.Prelude.{◌≡◌, ℕ, zero, suc, ◌+◌, ◌%◌, ◌<◌, ◌≤◌, Bool, true, false, List, [], ◌∷◌, ◌++◌, Option}
+use Rattle.std.specs.Prelude.{Some, None}
 use Rattle.dvg_code.specs.declared.instr.Instr.{Instr}
 use Rattle.dvg_code.specs.declared.instr.Instr.TheVariants.{Vctr, Labs, Svec}
 use Rattle.dvg_code.specs.Spelling.{IsFirst}
@@ -14,13 +14,14 @@ use Rattle.dvg_gen.specs.Machine.{Machine}
 use Rattle.dvg_gen.specs.Run.{Visit, beam_after}
 use Rattle.dvg_gen.specs.Told.{Told, Fed, Newest, Leaves}
 
--- the move from one position of the beam to another, of this intensity, by the instruction at this address, which may be
--- a LABS
+-- the move from one position of the beam to another, of this intensity, by the instruction at this address, which may
+-- be a LABS
 abbrev pub going : Beam → Beam → ℕ → Bool → ℕ → Move
 going from to z placed address =
     record { x0 = from.x; y0 = from.y; x1 = to.x; y1 = to.y; z = z; placed = placed; address = address }
 
--- what an instruction at an address did to the beam: a vector moved it, LABS placed it unseen, and the others did nothing
+-- what an instruction at an address did to the beam: a vector moved it, LABS placed it unseen, and the others did
+-- nothing
 abbrev pub made : Beam → ℕ → Instr → List Move
 made beam address (Vctr scale dx dy z) = going beam (moved beam (Vctr scale dx dy z)) z false address ∷ []
 made beam address (Labs x y scale) = going beam (moved beam (Labs x y scale)) 0 true address ∷ []
@@ -47,8 +48,8 @@ abbrev pub IsMove : Move → Type 0
 IsMove move = (move.x0 < 2097152) × (move.y0 < 2097152) × (move.x1 < 2097152) × (move.y1 < 2097152)
     × (move.z ≤ 15) × (move.address < 4096)
 
--- a fetch after a history that leaves this run adds these moves: a low byte adds none, and a word or a hole those of the
--- run that it leaves
+-- a fetch after a history that leaves this run adds these moves: a low byte adds none, and a word or a hole those of
+-- the run that it leaves
 abbrev pub AddsMoves : List Told → Newest → Met → List Move → Type 0
 AddsMoves history run (Waits byte) added = added ≡ []
 AddsMoves history run (Whole word) added = (later : Newest) → Leaves (Fed word ∷ history) later
@@ -61,6 +62,6 @@ begins_at (Some first) at = (at + 4095) % 4096
 
 -- the moves of the instruction that a word completes; none of a first word
 abbrev pub CompletesMove : Machine → ℕ → List Move → Type 0
-CompletesMove machine word added =
-    ((code : Instr) → Completes machine.held word code → added ≡ made machine.beam (begins_at machine.held machine.at) code)
+CompletesMove machine word added = ((code : Instr) → Completes machine.held word code
+    → added ≡ made machine.beam (begins_at machine.held machine.at) code)
     × (machine.held ≡ None → IsFirst word → added ≡ [])

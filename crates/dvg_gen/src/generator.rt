@@ -202,9 +202,9 @@ impl<A: Allocator + Copy> Generator<A> {
         self.strokes.as_slice()
     }
 
-    /// Returns the move that `byte`, the next one, completes, before it is taken. The generator stays
-    /// as it is. `None` means that no run is open or that the byte moves no beam: a low byte or a
-    /// first word, a word of another instruction than VCTR, SVEC and LABS, or no memory.
+    /// Returns the move that `byte`, the next one, completes, before it is taken. The generator
+    /// stays as it is. `None` means that no run is open or that the byte moves no beam: a low byte
+    /// or a first word, a word of another instruction than VCTR, SVEC and LABS, or no memory.
     pub fn move_by(&self, byte: Option<u8>) -> Option<Move>
         ensures moves { (history : List Told) (low : Option ℕ)
             (after : HasTaken self.now history low) → after.run.is_open ≡ true

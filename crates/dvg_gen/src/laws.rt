@@ -1,7 +1,8 @@
 //! Laws of the definitions alone. Each is the contract of a function that does nothing.
 ghost use Rattle.dvg_gen.specs.Laws.{AnswersACall, BeamOfAll, CountersOfMoves, CountersOfRun};
-ghost use Rattle.dvg_gen.specs.Laws.{LeastResidue, OneCall, OneRun, OneRunOfMemory, PastTheCall, RunInRange, SeenDraws};
-ghost use Rattle.dvg_gen.specs.Laws.{StaysInRange, StrokesAreSeen, UnseenDrawsNothing};
+ghost use Rattle.dvg_gen.specs.Laws.{LeastResidue, OneCall, OneRun, OneRunOfMemory, PastTheCall};
+ghost use Rattle.dvg_gen.specs.Laws.{RunInRange, SeenDraws, StaysInRange, StrokesAreSeen};
+ghost use Rattle.dvg_gen.specs.Laws.{UnseenDrawsNothing};
 
 /// A moved position is exact: the least residue modulo 2,097,152 of the old one and the way.
 pub fn least_residue()

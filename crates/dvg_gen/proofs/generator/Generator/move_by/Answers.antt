@@ -17,6 +17,7 @@ returns-clause-moves g c =
     let word = c.from_le_bytes.ensures in
     let sum : c.in-Some-low_byte.low + 256 * c.in-Some.high ≡ c.from_le_bytes.result = omega arith in
     let whole =
-    ap (λ l. met l c.args.byte) low ∙ ap (met (Some c.in-Some-low_byte.low)) c.in-Some.is ∙ ap (λ w. Whole (Some w)) sum in
+    ap (λ l. met l c.args.byte) low ∙ ap (met (Some c.in-Some-low_byte.low)) c.in-Some.is
+    ∙ ap (λ w. Whole (Some w)) sum in
     adds_moves now c.args.byte (Whole (Some c.from_le_bytes.result)) (option_to_list c.move_of.result) whole
     c.move_of.ensures.moves
