@@ -12,3 +12,4 @@ pub mod Laying
 pub mod FourFrames
 pub mod TraceRuns
 pub mod Handed
+pub mod Moved

@@ -15,6 +15,7 @@ use Rattle.test_facts.specs.declared.driver.Answer.{Answer}
 use Rattle.test_facts.specs.declared.driver.Answer.TheVariants.{Asked, Ticked}
 use Rattle.dvg_dump.specs.Ends.{Ends, Complete}
 use Rattle.dvg_gen.specs.Run.{Visit}
+use Rattle.dvg_gen.specs.declared.moving.Move.{Move}
 use Rattle.dvg_gen.specs.declared.stroke.Stroke.{Stroke}
 use Rattle.dvg_print.specs.Lines.{spaced}
 use Rattle.dvg_log.specs.Events.{Happening}
@@ -25,6 +26,10 @@ use Rattle.dvg_log.specs.declared.entry.Entry.TheVariants.{Acted, Offered, Start
 -- VCTR 9 -100 100 7
 abbrev pub long_vector : Instr
 long_vector = Vctr 9 (negsuc 99) (pos 100) 7
+
+-- a move by two units along x from 0, 0, by the instruction at 000, with intensity 7
+abbrev pub two_units : Move
+two_units = record { x0 = 0; y0 = 0; x1 = 1024; y1 = 0; z = 7; placed = false; address = 0 }
 
 -- labs 512 400 0; halt
 abbrev pub blank_frame : List OpKind

@@ -1,8 +1,11 @@
 //! What follows from the contracts of `Generator`.
-ghost use Rattle.std.specs.Prelude.{◌≡◌, [], IfOk, IfSome};
+ghost use Rattle.std.specs.Prelude.{◌≡◌, ℕ, [], List, Option, Some, None, IfOk, IfSome, IsTrue};
+ghost use Rattle.dvg_gen.specs.Machine.{HasTaken};
+ghost use Rattle.dvg_gen.specs.Told.{Told};
+ghost use Rattle.test_facts.specs.Facts.{two_units};
 
 use dvg_code::OutOfMemory;
-use dvg_gen::{GenFault, Generator, Step, Stroke, Taken};
+use dvg_gen::{GenFault, Generator, Move, Step, Stroke, Taken};
 use std::alloc::Global;
 
 /// A return at word zero breaks the run, as no call is open. Returns `None` where the generator
@@ -49,4 +52,38 @@ pub fn halt_hands_out_an_empty_picture(alloc: Global, drawn: &mut Vec<Stroke>) -
         Ok(step) => Some(step),
         Err(_) => None,
     }
+}
+
+/// A low byte moves no beam.
+pub fn low_byte_moves_nothing(alloc: Global) -> Option<Move>
+    ensures { result ≡ None }
+{
+    let mut generator = Generator::new(alloc);
+    generator.start();
+    generator.move_by(Some(0x71))
+}
+
+/// The high byte of F071 at word zero, SVEC 2 1 0 7, moves the beam by two units along x. Returns
+/// `None` where the generator asks for memory, which it doesn't.
+pub fn short_vector_moves(alloc: Global) -> Option<Option<Move>>
+    ensures { IfSome result (λ made. made ≡ Some two_units) }
+{
+    let mut generator = Generator::new(alloc);
+    generator.start();
+    let Ok(Taken::Low) = generator.take_byte(Some(0x71)) else {
+        return None;
+    };
+    Some(generator.move_by(Some(0xF0)))
+}
+
+/// A generator into which what another one has was put, strokes apart, has it, and each one that
+/// stands after some history can be put into another.
+pub fn goes_on_as_saved(saved: &Generator<Global>, other: &mut Generator<Global>) -> bool
+    ensures same { IsTrue result → other.new ≡ record saved.now { strokes = [] } }
+    ensures done { (history : List Told) (low : Option ℕ) → HasTaken saved.now history low
+        → IsTrue result }
+{
+    let state = saved.state();
+    let none = other.no_strokes();
+    other.resume(&state, none)
 }
