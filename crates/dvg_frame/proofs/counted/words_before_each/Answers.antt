@@ -21,8 +21,7 @@ loop-op-preserved c =
     let within = c.loop-op-test.true in
     let item = c.op-item.is in
     let words = size_item c.args.ops.now _ _ _ _ _ c.loop-op.invariant.1 within item c.kind.ensures.value
-    c.words_of-words.ensures.value in
-    (
+    c.words_of-words.ensures.value in (
       counts_item c.args.ops.now _ _ _ _ _ within item c.loop-op.invariant.0 words c.push-in-loop-op.ensures.items,
       words,
     )

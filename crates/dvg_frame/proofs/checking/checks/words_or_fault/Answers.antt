@@ -6,24 +6,21 @@ use Rattle.dvg_frame.proofs.checking.checks.words_or_fault.Goals as goal
 
 pub returns-then-count-gt-MAX_OPS : goal.returns-then-count-gt-MAX_OPS
 returns-then-count-gt-MAX_OPS c = λ R.
-    let op = read_op c.args.draft.now 0 _ (omega (arith, c.if-count-eq0.false)) c.index-draft-0.is in
-    (
+    let op = read_op c.args.draft.now 0 _ (omega (arith, c.if-count-eq0.false)) c.index-draft-0.is in (
       begins_with _ _ _ op c.kind.ensures.value (c.is_labs.ensures.0 c.if-not-is_labs.false),
       long_list _ c.if-count-gt-MAX_OPS.true,
     )
 
 pub returns-then-words-gt-MAX_WORDS : goal.returns-then-words-gt-MAX_WORDS
 returns-then-words-gt-MAX_WORDS c = λ R.
-    let op = read_op c.args.draft.now 0 _ (omega (arith, c.if-count-eq0.false)) c.index-draft-0.is in
-    (
+    let op = read_op c.args.draft.now 0 _ (omega (arith, c.if-count-eq0.false)) c.index-draft-0.is in (
       begins_with _ _ _ op c.kind.ensures.value (c.is_labs.ensures.0 c.if-not-is_labs.false),
       too_long _ _ c.words_of_all-words.ensures c.if-words-gt-MAX_WORDS.true,
     )
 
 pub returns-in-Some : goal.returns-in-Some
 returns-in-Some c = λ R.
-    let op = read_op c.args.draft.now 0 _ (omega (arith, c.if-count-eq0.false)) c.index-draft-0.is in
-    (
+    let op = read_op c.args.draft.now 0 _ (omega (arith, c.if-count-eq0.false)) c.index-draft-0.is in (
       begins_with _ _ _ op c.kind.ensures.value (c.is_labs.ensures.0 c.if-not-is_labs.false),
       fits_by _ _ c.words_of_all-words.ensures c.if-words-gt-MAX_WORDS.false,
       c.in-Some.ensures.0,
@@ -33,9 +30,8 @@ returns-in-Some c = λ R.
 pub returns-in-None : goal.returns-in-None
 returns-in-None c =
     let op = read_op c.args.draft.now 0 _ (omega (arith, c.if-count-eq0.false)) c.index-draft-0.is in
-    let draft : IsDraft c.args.draft.now = record { count = c.if-count-gt-MAX_OPS.false; ops = c.are_ops.ensures } in
-    (
+    let draft : IsDraft c.args.draft.now = record { count = c.if-count-gt-MAX_OPS.false; ops = c.are_ops.ensures } in (
       frame_by _ _ _ _ draft op c.kind.ensures.value (c.is_labs.ensures.0 c.if-not-is_labs.false)
-      c.words_of_all-words.ensures c.if-words-gt-MAX_WORDS.false c.in-None.ensures,
+          c.words_of_all-words.ensures c.if-words-gt-MAX_WORDS.false c.in-None.ensures,
       c.words_of_all-words.ensures,
     )
