@@ -116,7 +116,7 @@ pub fn check_short(alloc: Global) -> Option<Passed> {
     let mut checker = Checker::new();
     let mut passed = Passed::none();
     for _ in 0..SHORT_CHECKS {
-        if let Ok(checked) = checker.check(&draft, &rom) {
+        if let Ok(checked) = checker.check(draft.ops(), &rom) {
             passed = passed.with_draft(checked.len_words(), checked.bound());
         }
     }

@@ -77,7 +77,7 @@ pub fn tick_often(alloc: Global) -> Option<Ticked> {
         match driver.tick(true, 0xE0) {
             Action::Wrote(address, byte) => ticked = ticked.with_write(address, byte),
             Action::Idle => {
-                if let Ok(checked) = checker.check(&draft, &rom) {
+                if let Ok(checked) = checker.check(draft.ops(), &rom) {
                     if driver.offer_checked(&checked).is_ok() {
                         ticked.frames = ticked.frames.wrapping_add(1);
                     }

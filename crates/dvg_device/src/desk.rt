@@ -27,7 +27,7 @@ pub(crate) fn ask_driver(desk: &mut Desk, request: Request, draft: &Draft) -> Re
         result }
 {
     match request {
-        Request::Offer => Reply::Came(desk.offer(draft)),
+        Request::Offer => Reply::Came(desk.offer(draft.ops())),
         Request::Redraw => Reply::Came(desk.redraw()),
         Request::Tick { halted, byte1 } => tick_driver(desk, halted, byte1),
         Request::ResetProcessor => {

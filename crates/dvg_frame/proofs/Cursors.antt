@@ -1,5 +1,5 @@
 -- What a cursor has still to give, as it goes on.
-use Rattle.std.proofs.Common.{◌≡◌, ◌≢◌, ℕ, zero, suc, ◌+◌, ◌*◌, ◌/◌, ◌%◌, ◌<◌, ◌≤◌, List, [], ◌∷◌, ◌++◌, drop, length, Some, refl, sym, ap, ◌∙◌, inl, inr, add-one, arith}
+use Rattle.std.proofs.Common.{◌≡◌, ◌≢◌, ℕ, zero, suc, ◌+◌, ◌*◌, ◌/◌, ◌%◌, ◌<◌, ◌≤◌, List, [], ◌∷◌, ◌++◌, drop, length, Some, refl, sym, ap, ◌∙◌, subst, inl, inr, add-one, arith}
 use Rattle.std.specs.Prelude.{All, slice_get}
 use Rattle.std.proofs.lemmas.Option.{slice_get_cases}
 use Rattle.std.proofs.Math.ListN.{drop_of_length-le}
@@ -10,6 +10,7 @@ use Rattle.dvg_frame.specs.declared.op.OpKind.{OpKind}
 use Rattle.dvg_frame.specs.Bytes.{IsBehindWordZero, addressed, bytes}
 use Rattle.dvg_frame.specs.own.Frames.{IsSpelling}
 use Rattle.dvg_frame.specs.Layout.{op_code, laid}
+use Rattle.dvg_frame.specs.Steps.{Begins}
 use Rattle.dvg_frame.specs.declared.cursor.Cursor.TheInside.{Inside}
 use Rattle.dvg_frame.specs.own.Counting.{IsCounted}
 use Rattle.dvg_frame.specs.Cursors.{laid_ops, bytes_from, bytes_left, items_left, IsCursor}
@@ -72,10 +73,11 @@ gives to_come half F words given op word byte ready word_is byte_is =
 
 -- a cursor whose words at hand have a byte to give; its items to come are those of another one
 pub record GoesOn (old new : Inside) : Type 0 where
-  pub ready : IsReady (bytes_left old) new.half new.frame.operations new.words.items new.given new.op
+  pub ready : IsReady (bytes_left old) new.half new.draft new.words.items new.given new.op
   pub address : new.address ≡ old.address
   pub left : new.left ≡ old.left
-  pub counted : IsCounted new.frame.operations new.words_before.items
+  pub begins : Begins new.draft
+  pub counted : IsCounted new.draft new.words_before.items
 
 -- the cursor after its first item
 pub record IsNext (old new : Inside) (address byte : ℕ) : Type 0 where
@@ -84,7 +86,8 @@ pub record IsNext (old new : Inside) (address byte : ℕ) : Type 0 where
   pub given : new.given ≤ 2 * length new.words.items
   pub rises : new.address ≡ suc old.address
   pub left : suc new.left ≡ old.left
-  pub counted : IsCounted new.frame.operations new.words_before.items
+  pub begins : Begins new.draft
+  pub counted : IsCounted new.draft new.words_before.items
 
 pub next_items : (old new : Inside) (items : List (ℕ × ℕ)) (address byte : ℕ) → items_left old ≡ items → IsNext old new address byte → items ≡ (address, byte) ∷ items_left new
 next_items old new items address byte items_is next =
@@ -92,6 +95,7 @@ next_items old new items address byte items_is next =
 
 pub next_kept : (old new : Inside) (address byte : ℕ) → IsCursor old → IsNext old new address byte → IsCursor new
 next_kept old new address byte kept next = record {
+  begins = next.begins;
   counted = next.counted;
   given = next.given;
   left = let count : length (bytes_left old) ≡ suc (length (bytes_left new)) = ap length next.bytes in let before = kept.left in let less = next.left in omega arith;
@@ -115,3 +119,28 @@ in_ram half F words a count none a_is count_is few =
     let low = base_low half in
     let high = base_high half in
     addressed_in_ram (2 * a) (bytes_from half F words 0 0) (omega arith) (omega arith)
+
+-- a cursor that gives the bytes of this draft from the first on
+pub begun : (cursor : Inside) (F : List OpKind) (count : ℕ) → cursor.draft ≡ F → Begins F → IsCounted F cursor.words_before.items
+    → cursor.words.items ≡ [] → cursor.given ≡ 0 → cursor.op ≡ 0 → cursor.address ≡ 2 * base cursor.half → cursor.left ≡ 2 * count
+    → length (laid cursor.half F) ≡ count → count ≤ 511 → IsCursor cursor
+begun cursor F count draft_is begins counted none given_is op_is address_is left_is count_is few =
+    let half = cursor.half in
+    let words = cursor.words.items in
+    record {
+      begins = subst Begins (sym draft_is) begins;
+      counted = subst (λ G. IsCounted G cursor.words_before.items) (sym draft_is) counted;
+      given = omega arith;
+      left = left_is ∙ (begins-length half F words count none count_is
+          ∙ (ap (λ G. length (bytes_from half G words 0 0)) (sym draft_is)
+          ∙ (ap (λ k. length (bytes_from half cursor.draft words k 0)) (sym given_is)
+          ∙ ap (λ k. length (bytes_from half cursor.draft words cursor.given k)) (sym op_is))));
+      in_ram = let low = base_low half in omega arith;
+    }
+
+-- its items
+pub begun_items : (half : Half) (F G : List OpKind) (words : List ℕ) (a : ℕ) → G ≡ F → words ≡ [] → a ≡ base half
+    → addressed (2 * a) (bytes_from half G words 0 0) ≡ addressed (2 * base half) (bytes (laid half F))
+begun_items half F G words a same none a_is =
+    ap (λ a. addressed (2 * a) (bytes_from half G words 0 0)) a_is
+    ∙ ap (addressed (2 * base half)) (begins half G words none ∙ ap (λ G. bytes (laid half G)) same)

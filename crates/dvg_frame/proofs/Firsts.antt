@@ -18,6 +18,7 @@ use Rattle.dvg_frame.specs.own.Firsts.{DrawsLabs, NamesNone}
 use Rattle.dvg_frame.specs.FaultNumbers.{number_of}
 use Rattle.dvg_frame.specs.own.Frames.{IsFrame}
 use Rattle.dvg_frame.specs.Ops.{IsDraft}
+use Rattle.dvg_frame.proofs.Sizes.{length-le-size}
 
 -- operation 0 is a LABS exactly where the draft begins with one
 labs_by_code : (instr : Instr) (ops : List OpKind) → IsLabs instr → BeginsWithLabs (Draw instr ∷ ops)
@@ -85,6 +86,9 @@ names_some F i op kind begins is kind_is none = begins.targets i (misses_at F i 
 -- what the looks at faults 1 to 4 show
 pub too_long : (F : List OpKind) (words : ℕ) → words ≡ size F → 511 < words → 511 < size F
 too_long F words words_is long = omega arith
+
+pub long_list : (F : List OpKind) → 511 < length F → 511 < size F
+long_list F long = let each = length-le-size F in omega arith
 
 pub fits_by : (F : List OpKind) (words : ℕ) → words ≡ size F → words ≤ 511 → size F ≤ 511
 fits_by F words words_is fits = omega arith

@@ -1,5 +1,5 @@
 -- What stands at a place is one thing, and what is wrong there shows by how it leads on.
-use Rattle.std.proofs.Common.{◌≡◌, ℕ, ◌+◌, ◌≤◌, inl, inr, ⊎_elim, List, [], ◌∷◌, length, Option, Some, None, refl, sym, ap, ◌∙◌, subst, arith}
+use Rattle.std.proofs.Common.{◌≡◌, ℕ, ◌+◌, ◌<◌, ◌≤◌, inl, inr, ⊎_elim, List, [], ◌∷◌, length, Option, Some, None, refl, sym, ap, ◌∙◌, subst, arith}
 use Rattle.std.specs.Prelude.{slice_get}
 use Rattle.dvg_code.specs.declared.instr.Instr.{Instr}
 use Rattle.dvg_code.specs.Spelling.{Spells, IsFirst, word_count}
@@ -17,7 +17,7 @@ use Rattle.dvg_frame.specs.declared.checking.pair.Pair.{Pair}
 use Rattle.dvg_frame.specs.declared.checking.way.Way.{Way}
 use Rattle.dvg_frame.specs.Steps.{SpelledAt, one, two, op_act, Stands, in_frame, in_rom, GoesPast, Names, Bad, last, target, second, past, deep, bare, IsFine}
 use Rattle.dvg_frame.specs.Faults.{rank}
-use Rattle.dvg_frame.specs.own.Ways.{way, EndsWithin, StandsSo, GoesOn, Outside, LeadsOutside, IsCall, IsReturn, HasFaultAt, IsLeast}
+use Rattle.dvg_frame.specs.own.Ways.{IsPlaceOf, way, EndsWithin, StandsSo, GoesOn, Outside, LeadsOutside, IsCall, IsReturn, HasFaultAt, IsLeast}
 
 -- one instruction at most is spelled at an address
 spelled_once : (mem : ℕ → Option ℕ) (a : ℕ) (instr other : Instr) → SpelledAt mem a instr → SpelledAt mem a other → instr ≡ other
@@ -143,6 +143,9 @@ module _ (F : List OpKind) (R : List ℕ) where
   by_bad act after stands (bare stood depth) =
       let same = same_standing stood stands in
       (refl, subst (λ x. IsReturn (way x after)) same.0 tt, depth)
+
+  pub in_list : (p : Place) (i n : ℕ) → IsPlaceOf F R p → p ≡ InFrame i → n ≡ i → n < length F
+  in_list p i n inside place n_is = let here = subst (IsPlaceOf F R) place inside in let low = here.0 in omega arith
 
   pub stands_there : (p : Place) (i n : ℕ) (op kind : OpKind) (seen : Way) → p ≡ InFrame i → n ≡ i → slice_get F n ≡ Some op → kind ≡ op → seen ≡ way (op_act kind) (InFrame (i + 1)) → StandsSo F R p seen
   stands_there p i n op kind seen place n_is is kind_is seen_is =

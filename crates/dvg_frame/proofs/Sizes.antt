@@ -24,6 +24,15 @@ some_words (Draw (Vctr scale dx dy z)) = omega arith
 some_words (Draw (Labs x y scale)) = omega arith
 some_words _ = omega arith
 
+-- so a list has as many words as operations, or more
+pub length-le-size : (F : List OpKind) → length F ≤ size F
+length-le-size [] = omega arith
+length-le-size (op ∷ ops) = let rest = length-le-size ops in let one = some_words op in omega arith
+
+-- the item that was read
+pub read_op : (F : List OpKind) (k : ℕ) (item : OpKind) → k < length F → item ≡ get_or F k item → slice_get F k ≡ Some item
+read_op F k item within is = slice_get-get_or F k item within ∙ ap Some (sym is)
+
 -- one more operation
 size-take_suc : (F : List OpKind) (k : ℕ) (op : OpKind) → slice_get F k ≡ Some op → size (take (suc k) F) ≡ size (take k F) + op_words op
 size-take_suc [] k op is = let within = slice_get_within [] k op is in absurd (omega arith)
@@ -49,7 +58,7 @@ size-take_all F n all = ap (λ m. size (take m F)) all ∙ ap size (take-length 
 pub size_item : (F : List OpKind) (k : ℕ) (item kind : OpKind) (words more : ℕ) → words ≡ size (take k F) → k < length F → item ≡ get_or F k item → kind ≡ item → more ≡ op_words kind
     → words + more ≡ size (take (k + 1) F)
 size_item F k item kind words more so_far within is kind_is more_is =
-    size-take_more F k item kind words more so_far (slice_get-get_or F k item within ∙ ap Some (sym is)) kind_is more_is
+    size-take_more F k item kind words more so_far (read_op F k item within is) kind_is more_is
 
 -- some operations have no more words than all
 pub size-take_le : (F : List OpKind) (n : ℕ) → size (take n F) ≤ size F

@@ -1,5 +1,5 @@
 -- A sweep comes to each pair that is reached, and to no other.
-use Rattle.std.proofs.Common.{◌≡◌, ◌≢◌, ℕ, suc, ◌+◌, ◌<◌, ◌≤◌, ◌⊎◌, inl, inr, ⊎_elim, List, [], ◌∷◌, ◌++◌, length, get_or, Option, Some, None, refl, sym, ap, ◌∙◌, subst, arith, length-append}
+use Rattle.std.proofs.Common.{◌≡◌, ◌≢◌, ℕ, suc, ◌+◌, ◌<◌, ◌≤◌, ◌⊎◌, inl, inr, ⊎_elim, List, [], ◌++◌, length, get_or, Option, Some, None, refl, sym, ap, ◌∙◌, subst, arith, length-append}
 use Rattle.std.specs.Prelude.{slice_get, MatchOption, IfSome}
 use Rattle.std.specs.List.{Contains}
 use Rattle.std.proofs.lemmas.Bool.{cases_lt}
@@ -24,12 +24,11 @@ use Rattle.dvg_frame.specs.declared.checking.sweep.Found.{Found}
 use Rattle.dvg_frame.specs.Steps.{Stands, in_frame, in_rom, GoesPast, Names, last, target, past, deep, IsFine, Leads, on, jump, call, back, Reached, begin, step, BeginsWithLabs, labs, misses, Begins}
 use Rattle.dvg_frame.specs.Faults.{Precedes, Least}
 use Rattle.dvg_frame.specs.own.Growth.{Grows}
-use Rattle.dvg_frame.specs.Layout.{size}
 use Rattle.dvg_frame.specs.own.Pairs.{IsPlace, IsPair, pair_of, first_pair, index}
 use Rattle.dvg_frame.specs.own.Ways.{way, IsPlaceOf, StandsSo, IsLeast}
 use Rattle.dvg_frame.specs.own.Sweeps.{ReachedPair, BadPair, FinePair, Follows, StaysIn, IsFound, IsUpTo, IsDone, Sweeps}
 use Rattle.dvg_frame.proofs.Judged.{same_standing}
-use Rattle.dvg_frame.proofs.Sizes.{some_words}
+use Rattle.dvg_frame.proofs.Sizes.{length-le-size}
 use Rattle.dvg_frame.proofs.Marks.{contains_nil, both_grow}
 
 -- what a way leads to joins a list
@@ -95,10 +94,6 @@ pub contains_read : (xs : List Pair) (x : Pair) → Contains xs x → (j : ℕ) 
 contains_read xs x (j, within, is) = (j, within, slice_get-get_or xs j x within ∙ ap Some is)
 
 -- a draft of at most 511 words has at most 511 operations
-length-le-size : (F : List OpKind) → length F ≤ size F
-length-le-size [] = omega arith
-length-le-size (op ∷ ops) = let rest = length-le-size ops in let one = some_words op in omega arith
-
 pub few_ops : (F : List OpKind) → Begins F → length F ≤ 511
 few_ops F begins = let each = length-le-size F in let fits = begins.fits in omega arith
 

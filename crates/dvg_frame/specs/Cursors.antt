@@ -7,6 +7,7 @@ use Rattle.dvg_frame.specs.declared.cursor.Cursor.TheInside.{Inside}
 use Rattle.dvg_frame.specs.Bytes.{addressed, bytes}
 use Rattle.dvg_frame.specs.own.Counting.{IsCounted}
 use Rattle.dvg_frame.specs.Layout.{op_code}
+use Rattle.dvg_frame.specs.Steps.{Begins}
 
 -- the canonical words of these operations of a draft, one after the other
 abbrev pub laid_ops : Half → (F ops : List OpKind) → List ℕ
@@ -18,16 +19,17 @@ bytes_from half F words given op = drop given (bytes words) ++ bytes (laid_ops h
 
 -- the bytes that are still to come
 abbrev pub bytes_left : Inside → List ℕ
-bytes_left cursor = bytes_from cursor.half cursor.frame.operations cursor.words.items cursor.given cursor.op
+bytes_left cursor = bytes_from cursor.half cursor.draft cursor.words.items cursor.given cursor.op
 
 -- each with its address
 abbrev pub items_left : Inside → List (ℕ × ℕ)
 items_left cursor = addressed cursor.address (bytes_left cursor)
 
--- the words before each operation are counted, no more bytes of the words at hand were given than they have, the number
--- of the bytes to come is known, and their addresses lie in the RAM
+-- the draft has none of the faults 1 to 4, the words before each operation are counted, no more bytes of the words at
+-- hand were given than they have, the number of the bytes to come is known, and their addresses lie in the RAM
 pub record IsCursor (cursor : Inside) : Type 0 where
-  pub counted : IsCounted cursor.frame.operations cursor.words_before.items
+  pub begins : Begins cursor.draft
+  pub counted : IsCounted cursor.draft cursor.words_before.items
   pub given : cursor.given ≤ 2 * length cursor.words.items
   pub left : cursor.left ≡ length (bytes_left cursor)
   pub in_ram : cursor.address + cursor.left ≤ 0x800

@@ -5,7 +5,7 @@ ghost use Rattle.dvg_frame.specs.Layout.{size};
 ghost use Rattle.dvg_frame.specs.Ops.{IsDraft};
 ghost use Rattle.dvg_frame.specs.declared.op.OpKind.{OpKind};
 
-use crate::draft::{Draft, MAX_OPS, words_of};
+use crate::draft::{MAX_OPS, words_of};
 use crate::op::Op;
 use arrayvec::ArrayVec;
 use std::marker::Model;
@@ -13,11 +13,11 @@ use std::marker::Model;
 /// One entry for each operation, and one for their end.
 pub(crate) const COUNTS: usize = MAX_OPS + 1;
 
-/// A draft and a table of how many words stand before each operation, both borrowed, so that the
-/// place of an operation is found in constant time.
+/// The operations of a draft and a table of how many words stand before each of them, both
+/// borrowed, so that the place of an operation is found in constant time.
 #[derive(Drop)]
 pub(crate) struct Counted<'a> {
-    draft: &'a Draft,
+    ops: &'a [Op],
     /// For each operation the number of words before it, and then the number of all words.
     words_before: &'a [u16],
 }
@@ -26,21 +26,18 @@ pub(crate) struct Counted<'a> {
 impl<'a> Model for Counted<'a> {
     ghost Value = { List OpKind };
 
-    ghost view = { λ counted. counted.draft.now };
+    ghost view = { λ counted. counted.ops.now };
 
-    ghost invariant = { λ counted. IsCounted counted.draft.now counted.words_before.now };
+    ghost invariant = { λ counted. IsCounted counted.ops.now counted.words_before.now };
 }
 
 impl<'a> Counted<'a> {
-    // Returns `draft` with its table `words_before`.
-    pub(crate) fn of(draft: &'a Draft, words_before: &'a [u16]) -> Counted<'a>
-        requires { IsCounted draft.now words_before.now }
-        ensures { result ≡ draft.now }
+    // Returns `ops` with their table `words_before`.
+    pub(crate) fn of(ops: &'a [Op], words_before: &'a [u16]) -> Counted<'a>
+        requires { IsCounted ops.now words_before.now }
+        ensures { result ≡ ops.now }
     {
-        Counted {
-            draft,
-            words_before,
-        }
+        Counted { ops, words_before }
     }
 
     // Returns the number of operations.
@@ -48,7 +45,7 @@ impl<'a> Counted<'a> {
         ensures value { result ≡ length self.now }
         ensures draft { IsDraft self.now }
     {
-        self.draft.len()
+        self.ops.len()
     }
 
     // Returns operation `i`, which must be there.
@@ -56,7 +53,8 @@ impl<'a> Counted<'a> {
         requires { i < length self.now }
         ensures { slice_get self.now i ≡ Some result }
     {
-        self.draft.op(i)
+        let ops = self.ops;
+        ops[i]
     }
 
     // Returns the number of words that the operations before number `i` have.
@@ -65,20 +63,21 @@ impl<'a> Counted<'a> {
         ensures value { result ≡ size (take i self.now) }
         ensures bound { result ≤ 1022 }
     {
-        let _ = self.draft.len();
-        self.words_before[i]
+        let words_before = self.words_before;
+        words_before[i]
     }
 }
 
-// Returns for each operation of `draft` the number of words before it, and then the number of all
-// words.
-pub(crate) fn words_before_each(draft: &Draft) -> ArrayVec<u16, COUNTS>
-    ensures { IsCounted draft.now result.items }
+// Returns for each of `ops`, which a draft holds, the number of words before it, and then the
+// number of all words.
+pub(crate) fn words_before_each(ops: &[Op]) -> ArrayVec<u16, COUNTS>
+    requires { IsDraft ops.now }
+    ensures { IsCounted ops.now result.items }
 {
     let mut words_before = ArrayVec::new();
     let mut words = 0;
     words_before.push(words);
-    for op in draft.ops() {
+    for op in ops {
         words += words_of(op.kind());
         words_before.push(words);
     }

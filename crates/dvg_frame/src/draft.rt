@@ -113,18 +113,10 @@ impl Draft {
     {
         self.ops.as_slice()
     }
-
-    // Replaces the operations with those of `other`, in the memory that the draft has.
-    pub(crate) fn copy_from(&mut self, other: &Draft)
-        ensures { self.new ≡ other.now }
-    {
-        self.clear();
-        self.try_extend_from_slice(other.ops()).unwrap();
-    }
 }
 
 // For the proof alone: each of `ops` satisfies `IsOp`, as its type says. Nothing is done.
-fn are_ops(ops: &[Op])
+pub(crate) fn are_ops(ops: &[Op])
     ensures { All IsOp ops.now }
 {
     for op in ops {

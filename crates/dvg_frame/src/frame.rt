@@ -5,7 +5,6 @@ ghost use Rattle.dvg_frame.specs.Bytes.{bytes};
 ghost use Rattle.dvg_frame.specs.Steps.{Begins};
 ghost use Rattle.dvg_frame.specs.Faults.{FrameState};
 ghost use Rattle.dvg_frame.specs.own.Firsts.{NamesNone};
-ghost use Rattle.dvg_frame.specs.own.Counting.{IsCounted};
 ghost use Rattle.dvg_frame.specs.own.Frames.{IsMeasured, IsSpelling};
 ghost use Rattle.dvg_frame.specs.Layout as layout;
 ghost use Rattle.dvg_frame.specs.Ops.{IsDraft, IsOp};
@@ -13,10 +12,9 @@ ghost use Rattle.dvg_frame.specs.declared.op.OpKind.{OpKind};
 ghost use Rattle.dvg_mem.specs.declared.half.Half.{Half};
 
 use crate::checked::Checked;
-use crate::counted::{COUNTS, Counted, words_before_each};
+use crate::counted::Counted;
 use crate::draft::{Draft, words_of};
 use crate::op::OpKind;
-use arrayvec::ArrayVec;
 use dvg_code::{Code, Instr, Words, encode};
 use dvg_mem::Half;
 use std::marker::Model;
@@ -24,8 +22,8 @@ use std::marker::Model;
 /// The most words that a frame has: those of a half of the RAM.
 pub(crate) const MAX_WORDS: u16 = 511;
 
-/// A draft that was checked. It keeps the draft, its number of words and its bound, and no laid
-/// words.
+/// A checked draft that owns its operations. It keeps its number of words and its bound, and no
+/// laid words.
 #[derive(Drop)]
 pub struct Frame {
     draft: Draft,
@@ -43,26 +41,24 @@ impl Model for Frame {
 }
 
 impl Frame {
-    // Returns the frame of `checked`, whose draft is copied.
-    pub(crate) fn of(checked: &Checked) -> Frame
-        ensures { result ≡ checked.now }
+    // Returns `draft` as a frame. It has none of the faults 1 to 4, `words` words and the bound
+    // `bound`.
+    pub(crate) fn of(draft: Draft, words: u16, bound: u64) -> Frame
+        requires { IsMeasured draft words bound }
+        ensures { result ≡ record { operations = draft; bound = bound } }
     {
-        let mut draft = Draft::new();
-        draft.copy_from(checked.draft);
         Frame {
             draft,
-            words: checked.words,
-            bound: checked.bound,
+            words,
+            bound,
         }
     }
 
-    // Becomes the frame of `checked`, in the memory that it has.
-    pub(crate) fn copy_from(&mut self, checked: &Checked)
-        ensures { self.new ≡ checked.now }
+    /// Returns the frame as a checked draft that lies where the frame does.
+    pub fn as_checked(&self) -> Checked<'_>
+        ensures { result ≡ self.now }
     {
-        self.draft.copy_from(checked.draft);
-        self.words = checked.words;
-        self.bound = checked.bound;
+        Checked::of(self.draft.ops(), self.words, self.bound)
     }
 
     /// Returns the number of words that the frame has in a half, at most 511.
@@ -72,53 +68,24 @@ impl Frame {
         ensures bound { result ≤ 511 }
         ensures draft { IsDraft self.now.operations }
     {
-        let _ = self.draft.len();
-        self.words
+        self.as_checked().len_words()
     }
 
-    /// Returns the number of words that the whole run of the frame fetches, from word zero to its
-    /// HALT. It is below 2^63. This holds for any run of the frame that nobody interrupts, over the
-    /// ROM that it was checked with.
+    /// Returns the number of words that the whole run of the frame fetches, as `Checked::bound`
+    /// does.
     pub fn bound(&self) -> u64
         ensures value { result ≡ self.now.bound }
         ensures small { result < 2 ^ 63 }
     {
-        self.bound
+        self.as_checked().bound()
     }
 
-    /// Returns byte `k` of the frame's words in `half`, the low byte of each word first. Byte 0
-    /// stands at twice the word address of the half's first word. `k` must be below twice the
-    /// number of words. The time is linear in the operations; a `Cursor` gives all bytes, each in
-    /// constant time.
+    /// Returns byte `k` of the frame's words in `half`, as `Checked::byte` does.
     pub fn byte(&self, half: Half, k: u16) -> u8
         requires { k < 2 * layout.size self.now.operations }
         ensures { slice_get (bytes (layout.laid half self.now.operations)) k ≡ Some result }
     {
-        let words_before = words_before_each(&self.draft);
-        let counted = Counted::of(&self.draft, words_before.as_slice());
-        byte_of(word_at(&counted, half, k / 2), k)
-    }
-
-    // Returns for each operation the number of words before it, and then the number of all words.
-    pub(crate) fn words_before_each(&self) -> ArrayVec<u16, COUNTS>
-        ensures { IsCounted self.now.operations result.items }
-    {
-        words_before_each(&self.draft)
-    }
-
-    // Returns the words of operation `i`, laid out for `half`. `words_before` has the number of
-    // words before each operation.
-    pub(crate) fn spelling(&self, words_before: &[u16], half: Half, i: u16) -> Words
-        requires counted { IsCounted self.now.operations words_before.now }
-        requires within { i < length self.now.operations }
-        ensures words { IsSpelling half self.now.operations i result.items }
-        ensures draft { IsDraft self.now.operations }
-    {
-        spelling(
-            &Counted::of(&self.draft, words_before),
-            half,
-            usize::from(i),
-        )
+        self.as_checked().byte(half, k)
     }
 }
 
@@ -131,7 +98,7 @@ pub(crate) fn byte_of(word: u16, k: u16) -> u8
 }
 
 // Returns word `n` of the layout of `draft` for `half`.
-fn word_at(draft: &Counted, half: Half, n: u16) -> u16
+pub(crate) fn word_at(draft: &Counted, half: Half, n: u16) -> u16
     requires begins { Begins draft.now }
     requires within { n < layout.size draft.now }
     ensures { slice_get (layout.laid half draft.now) n ≡ Some result }
@@ -148,7 +115,7 @@ fn word_at(draft: &Counted, half: Half, n: u16) -> u16
 }
 
 // Returns the words of operation `i` of `draft`, laid out for `half`.
-fn spelling(draft: &Counted, half: Half, i: usize) -> Words
+pub(crate) fn spelling(draft: &Counted, half: Half, i: usize) -> Words
     requires begins { Begins draft.now }
     requires within { i < length draft.now }
     ensures { IsSpelling half draft.now i result.items }

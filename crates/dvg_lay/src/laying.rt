@@ -42,7 +42,7 @@ pub(crate) fn lay_bytes<A: Allocator + Copy>(
             Ok(checked) => checked,
             Err(unlaid) => return Err(unlaid),
         };
-        if put_laid(&mut text, checked, half).is_err() {
+        if put_laid(&mut text, &checked, half).is_err() {
             return Err(Unlaid::Memory);
         }
     }
@@ -68,7 +68,7 @@ fn put_tables<A: Allocator + Copy>(
             Ok(checked) => checked,
             Err(unlaid) => return Err(unlaid),
         };
-        if put_table(alloc, &mut text, number, frame, checked).is_err() {
+        if put_table(alloc, &mut text, number, frame, &checked).is_err() {
             return Err(Unlaid::Memory);
         }
     }

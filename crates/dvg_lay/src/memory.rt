@@ -4,7 +4,7 @@ ghost use Rattle.dvg_log.specs.Held.{HoldsFrame};
 
 use crate::table::put_laid;
 use dvg_code::OutOfMemory;
-use dvg_frame::Frame;
+use dvg_frame::Checked;
 use dvg_mem::{Flat, Half, Image, MEMORY_BYTES, Store};
 use std::alloc::Allocator;
 
@@ -12,10 +12,10 @@ use std::alloc::Allocator;
 /// `OutOfMemory` where an allocation fails.
 pub(crate) fn laid_ram<A: Allocator + Copy>(
     alloc: A,
-    frame: Frame,
+    frame: &Checked,
     half: Half,
 ) -> Result<Flat<A>, OutOfMemory>
-    ensures { IfOk result (λ store. HoldsFrame store half frame.operations) }
+    ensures { IfOk result (λ store. HoldsFrame store half frame.now.operations) }
 {
     let count = 2 * frame.len_words();
     let mut bytes = Vec::new(alloc);

@@ -7,7 +7,7 @@ use crate::memory::laid_ram;
 use dvg_code::OutOfMemory;
 use dvg_dump::laws::one_end;
 use dvg_dump::{Dump, Ending};
-use dvg_frame::Frame;
+use dvg_frame::Checked;
 use dvg_gen::Stroke;
 use dvg_mem::{Half, Rom};
 use dvg_theorem::laws::undisturbed;
@@ -18,13 +18,13 @@ use std::alloc::Allocator;
 pub(crate) fn picture_of<A: Allocator + Copy>(
     alloc: A,
     rom: Rom<A>,
-    frame: Frame,
+    frame: &Checked,
 ) -> Result<Vec<Stroke, A>, OutOfMemory>
-    requires accepts { Accepts frame.operations rom }
-    requires bound { IsBound frame.operations rom frame.bound }
-    requires few { frame.bound ≤ 65536 }
+    requires accepts { Accepts frame.now.operations rom }
+    requires bound { IsBound frame.now.operations rom frame.now.bound }
+    requires few { frame.now.bound ≤ 65536 }
     ensures { IfOk result (λ strokes.
-        IsPicture frame.operations rom strokes.items frame.bound) }
+        IsPicture frame.now.operations rom strokes.items frame.now.bound) }
 {
     undisturbed();
     one_end();

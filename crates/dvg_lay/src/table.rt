@@ -9,7 +9,7 @@ ghost use Rattle.dvg_lay.specs.Texts.{frame_table, label, op_line, op_lines, wor
 use crate::said::put_said;
 use crate::text::{put, put_decimal, put_words};
 use dvg_code::OutOfMemory;
-use dvg_frame::{Cursor, Frame, Op, OpKind};
+use dvg_frame::{Checked, Cursor, Op, OpKind};
 use dvg_io::collect_words;
 use dvg_mem::Half;
 use dvg_named::{NamedFrame, Source};
@@ -19,10 +19,10 @@ use std::alloc::{AllocError, Allocator};
 /// Returns `AllocError` where an allocation fails.
 pub(crate) fn put_laid<A: Allocator>(
     text: &mut Vec<u8, A>,
-    frame: Frame,
+    frame: &Checked,
     half: Half,
 ) -> Result<(), AllocError>
-    ensures { OnOk result (text.new.items ≡ text.old.items ++ bytes (laid half frame.operations)) }
+    ensures { OnOk result (text.new.items ≡ text.old.items ++ bytes (laid half frame.now.operations)) }
 {
     for item in Cursor::new(frame, half) {
         text.push(item.1)?;
@@ -32,8 +32,8 @@ pub(crate) fn put_laid<A: Allocator>(
 
 // Returns the words of `frame` as it lies in half 0. Returns `OutOfMemory` where an allocation
 // fails.
-fn laid_words<A: Allocator + Copy>(alloc: A, frame: Frame) -> Result<Vec<u16, A>, OutOfMemory>
-    ensures { IfOk result (λ words. words.items ≡ laid H0 frame.operations) }
+fn laid_words<A: Allocator + Copy>(alloc: A, frame: &Checked) -> Result<Vec<u16, A>, OutOfMemory>
+    ensures { IfOk result (λ words. words.items ≡ laid H0 frame.now.operations) }
 {
     let mut bytes = Vec::new(alloc);
     put_laid(&mut bytes, frame, Half::H0)?;
@@ -122,10 +122,10 @@ pub(crate) fn put_table<A: Allocator + Copy>(
     text: &mut Vec<u8, A>,
     number: usize,
     named: &NamedFrame,
-    frame: Frame,
+    frame: &Checked,
 ) -> Result<(), OutOfMemory>
     requires lent { IsLent named.now }
-    requires same { frame.operations ≡ named.now.ops.now }
+    requires same { frame.now.operations ≡ named.now.ops.now }
     ensures { OnOk result (text.new.items ≡ text.old.items ++ frame_table number named.now) }
 {
     put_label(text, number, named.name)?;

@@ -11,7 +11,7 @@ ghost use Rattle.dvg_lay.specs.Checks.{ChecksFrames, ChecksOut, ChecksSketch, Is
 
 use crate::engine::tool_fault;
 use dvg_code::OutOfMemory;
-use dvg_frame::{Checker, Draft};
+use dvg_frame::Checker;
 use dvg_io::{Engine, StreamFailed, ToolFault, Watched, serve, write_lines};
 use dvg_mem::Rom;
 use dvg_named::{NamedFrame, Sketch, read_sketch};
@@ -47,9 +47,7 @@ fn judge<A: Allocator>(checker: &mut Checker, rom: &Rom<A>, frame: &NamedFrame) 
     requires { IsLent frame.now }
     ensures { IsBoundedVerdict frame.now.ops.now rom.now result }
 {
-    let mut draft = Draft::new();
-    draft.try_extend_from_slice(frame.ops).unwrap();
-    match checker.check(&draft, rom) {
+    match checker.check(frame.ops, rom) {
         Ok(checked) => BoundedVerdict::Good {
             words: checked.len_words(),
             bound: checked.bound(),

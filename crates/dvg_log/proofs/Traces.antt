@@ -2,13 +2,14 @@
 use Rattle.std.proofs.Common.{◌≡◌, ℕ, zero, suc, ◌+◌, ◌-◌, ◌<◌, ◌≤◌, ◌≢◌, ⊎_elim, List, [], ◌∷◌, ◌++◌, map, replicate, length, take, drop, get_or, set, slice_get, All, Option, Some, None, refl, sym, ap, ◌∙◌, subst, arith, append_assoc, length-append}
 use Rattle.std.proofs.lemmas.Bool.Decides.{eqb_tells}
 use Rattle.std.proofs.lemmas.Grind.{flat_map-append, get_or-set_at}
-use Rattle.std.proofs.lemmas.List.{append-nil, replicate-append-replicate, get_or_append_left, get_or-set_other, length-replicate, map-append, take-append-le, drop-append-le, length-drop, length-map}
-use Rattle.std.proofs.lemmas.List.Elements.{All-head, All-nil, All-push, All-tail}
+use Rattle.std.proofs.lemmas.List.{append-nil, replicate-append-replicate, get_or_append_left, get_or-set_other, length-replicate, map-append, take-append-le, drop-append-le, length-drop, length-map, length-take}
+use Rattle.std.proofs.lemmas.List.Elements.{All-append, All-drop, All-head, All-nil, All-push, All-tail, All-take}
 use Rattle.std.proofs.lemmas.List.Sums.{sum_by-append, sum_by-cons}
 use Rattle.std.proofs.lemmas.Option.{get_or_from_slice_get, none-some, same_Some, slice_get_within}
 use Rattle.std.proofs.Math.Seq.{drop-append_seam, get_or-append_seam, take-length}
 use Rattle.std.specs.List.{sum_by}
 use Rattle.dvg_frame.specs.declared.op.OpKind.{OpKind}
+use Rattle.dvg_frame.specs.Ops.{IsDraft, IsOp}
 use Rattle.dvg_log.specs.Events.{Happening}
 use Rattle.dvg_log.specs.declared.event.Event.TheVariants.{Offer, Redraw, Tick, Strobe, Fetch, ResetGen, ResetCpu, ResetAll}
 use Rattle.dvg_log.specs.declared.runs.Run.{Run}
@@ -124,7 +125,7 @@ keeps_run {count = count} {runs = runs} {offers = offers} {ops = ops} {images = 
     let few = trace.few in
     let reset = trace.reset in
     record {
-      are = record { lie = trace.are.lie; within = All-push (IsRunIn (length offers) (length images)) runs run trace.are.within (some, within) };
+      are = record { valid = trace.are.valid; lie = trace.are.lie; within = All-push (IsRunIn (length offers) (length images)) runs run trace.are.within (some, within) };
       total = omega (arith, sum, total);
       most = room;
       some = omega (arith, size, before, some);
@@ -162,9 +163,10 @@ filled_on numbers images more filled = record { found = λ byte n at. get_front 
 
 -- offers more, with one draft after all others
 pub keeps_offer : {count : ℕ} {runs : List Run} {offers : List (ℕ × ℕ)} {ops : List OpKind} {images : List (List ℕ)} {numbers : List (Option ℕ)} (F : List OpKind) (first size number times : ℕ) → IsTrace count runs offers ops images numbers
-    → 1 ≤ times → count + times ≤ 65536 → first ≡ length ops → size ≡ length F → length F ≤ 511 → number ≡ length offers
+    → 1 ≤ times → count + times ≤ 65536 → first ≡ length ops → size ≡ length F → IsDraft F → number ≡ length offers
     → IsTrace (count + times) (runs ++ record { step = Offer number; times = times } ∷ []) (offers ++ (first, size) ∷ []) (ops ++ F) images numbers
-keeps_offer {count = count} {runs = runs} {offers = offers} {ops = ops} {images = images} F first size number times trace some room begins counts short last =
+keeps_offer {count = count} {runs = runs} {offers = offers} {ops = ops} {images = images} F first size number times trace some room begins counts draft last =
+    let short = draft.count in
     let run : Run = record { step = Offer number; times = times } in
     let longer = length-append runs (run ∷ []) in
     let sum = sum_by-append (λ (run : Run). run.times) runs (run ∷ []) in
@@ -178,6 +180,7 @@ keeps_offer {count = count} {runs = runs} {offers = offers} {ops = ops} {images 
     let there : number < length (offers ++ (first, size) ∷ []) = omega (arith, more, last) in
     record {
       are = record {
+        valid = All-append IsOp ops F trace.are.valid draft.ops;
         lie = All-push (IsOfferIn (ops ++ F)) offers (first, size) (same_lie ops F offers trace.are.lie) (omega (arith, all, begins, counts), omega (arith, counts, short));
         within = All-push (IsRunIn (length (offers ++ (first, size) ∷ [])) (length images)) runs run
             (wider (length offers) (length images) (length (offers ++ (first, size) ∷ [])) (length images) (omega (arith, more)) (omega arith) runs trace.are.within) (some, there);
@@ -208,6 +211,7 @@ keeps_image {count = count} {runs = runs} {offers = offers} {ops = ops} {images 
     let there : number < length (images ++ image ∷ []) = omega (arith, more, last) in
     record {
       are = record {
+        valid = trace.are.valid;
         lie = trace.are.lie;
         within = All-push (IsRunIn (length offers) (length (images ++ image ∷ []))) runs run
             (wider (length offers) (length images) (length offers) (length (images ++ image ∷ [])) (omega arith) (omega (arith, more)) runs trace.are.within) (some, there);
@@ -275,7 +279,7 @@ count_of {runs = runs} {offers = offers} {ops = ops} {images = images} trace eve
 pub none_kept : (runs : List Run) (offers : List (ℕ × ℕ)) (ops : List OpKind) (images : List (List ℕ)) (numbers : List (Option ℕ)) → runs ≡ [] → offers ≡ [] → ops ≡ [] → images ≡ [] → numbers ≡ replicate 256 None
     → IsTrace 0 runs offers ops images numbers
 none_kept runs offers ops images numbers no_runs no_offers no_ops no_images no_numbers = rw (no_runs, no_offers, no_ops, no_images, no_numbers) (record {
-  are = record { lie = All-nil (IsOfferIn []); within = All-nil (IsRunIn 0 0) };
+  are = record { valid = All-nil IsOp; lie = All-nil (IsOfferIn []); within = All-nil (IsRunIn 0 0) };
   total = refl;
   most = omega arith;
   some = omega arith;
@@ -339,7 +343,7 @@ keeps_longer {offers = offers} {images = images} old new step times trace room l
     let first : All is_within front = λ k d low. subst is_within (get_or_append_left front (last ∷ []) d k low) (before k d (let size = length-append front (last ∷ []) in omega (arith, size, low))) in
     let ends : 1 ≤ longer.before + times = (let some = end.0 in omega (arith, some)) in
     record {
-      are = record { lie = trace.are.lie; within = subst (All is_within) (sym longer.is) (All-push is_within front run first (ends, end.1)) };
+      are = record { valid = trace.are.valid; lie = trace.are.lie; within = subst (All is_within) (sym longer.is) (All-push is_within front run first (ends, end.1)) };
       total = omega (arith, old_sum, new_sum, total);
       most = room;
       some = omega (arith, old_size, new_size, some);
@@ -348,3 +352,14 @@ keeps_longer {offers = offers} {images = images} old new step times trace room l
       reset = omega (arith, old_size, new_size, reset);
       filled = trace.filled;
     }
+
+-- the operations of an offer are those of a draft
+pub draft_of : (ops : List OpKind) (range : ℕ × ℕ) (F : List OpKind) → All IsOp ops → IsOfferIn ops range → F ≡ ops_in ops range → IsDraft F
+draft_of ops (first, count) F valid within is =
+    let count_is : first + count - first ≡ count = omega arith in
+    let few : length (take (first + count - first) (drop first ops)) ≤ 511 =
+    (let front = length-take (first + count - first) (drop first ops) in omega (arith, within.1)) in
+    subst IsDraft (sym is) (record {
+      count = few;
+      ops = All-take IsOp (first + count - first) (drop first ops) (All-drop IsOp first ops valid);
+    })

@@ -4,6 +4,7 @@ use Rattle.std.specs.Prelude.{Option, Some, None}
 use Rattle.std.specs.List.{flat_map}
 use Rattle.std.specs.Borrow.{Bor}
 use Rattle.dvg_frame.specs.declared.op.OpKind.{OpKind}
+use Rattle.dvg_frame.specs.Ops.{IsDraft}
 use Rattle.dvg_log.specs.declared.event.Event.{Event}
 use Rattle.dvg_log.specs.declared.event.Event.TheVariants.{Offer}
 use Rattle.dvg_log.specs.declared.runs.Run.{Run}
@@ -38,13 +39,13 @@ Seen = Event (Bor (List OpKind)) (Bor (List ℕ))
 abbrev pub seen_as : Seen → Happening
 seen_as event = map_event (λ ops. ops.now) (λ image. image.now) event
 
--- a draft can hold what an offer brings
-abbrev pub FitsInDraft : Seen → Type 0
-FitsInDraft (Offer ops) = length ops.now ≤ 511
-FitsInDraft event = Unit {0}
+-- what an offer brings is a draft
+abbrev pub BringsDraft : Seen → Type 0
+BringsDraft (Offer ops) = IsDraft ops.now
+BringsDraft event = Unit {0}
 
 -- the next run of the events that are left: None exactly where there is none, else an event, and how many times it
 -- comes before the others
 abbrev pub NextRun : List Happening → Option (Seen × ℕ) → List Happening → Type 0
 NextRun old None new = (old ≡ []) × (new ≡ [])
-NextRun old (Some run) new = FitsInDraft run.0 × (1 ≤ run.1) × (old ≡ replicate run.1 (seen_as run.0) ++ new)
+NextRun old (Some run) new = BringsDraft run.0 × (1 ≤ run.1) × (old ≡ replicate run.1 (seen_as run.0) ++ new)

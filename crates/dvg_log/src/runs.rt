@@ -1,6 +1,7 @@
 //! Runs of equal events in a trace.
 ghost use Rattle.std.specs.Prelude.{◌≡◌, length, map};
-ghost use Rattle.dvg_log.specs.Traces.{FitsInDraft, all_events, ops_in, seen_as, step_event};
+ghost use Rattle.dvg_frame.specs.Ops.{IsOp};
+ghost use Rattle.dvg_log.specs.Traces.{BringsDraft, all_events, ops_in, seen_as, step_event};
 ghost use Rattle.dvg_log.specs.own.Kept.{AreRuns, IsOfferIn, IsWithin};
 ghost use Rattle.std.specs.Prelude.{All};
 
@@ -22,7 +23,7 @@ pub(crate) struct Run {
 }
 
 /// An iterator over the events of a trace, as runs of equal ones: an event, and how many times in a
-/// row it comes. An offer has at most 511 operations.
+/// row it comes. The operations of an offer are those of a draft.
 #[derive(Drop)]
 pub struct Runs<'a, A: Allocator = Global> {
     runs: &'a [Run],
@@ -100,11 +101,12 @@ fn event_of<'a, A: Allocator>(
     images: &'a [Image<A>],
     step: Step,
 ) -> TraceEvent<'a, A>
+    requires valid { All IsOp ops.now }
     requires lie { All (IsOfferIn ops.now) offers.now }
     requires within { IsWithin (length offers.now) (length images.now) step }
     ensures value { seen_as result
         ≡ step_event (map (ops_in ops.now) offers.now) images.now step }
-    ensures draft { FitsInDraft result }
+    ensures draft { BringsDraft result }
 {
     match step {
         Step::Offer(offer) => {

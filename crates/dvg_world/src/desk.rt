@@ -6,7 +6,7 @@ ghost use Rattle.dvg_world.specs.Desks.{IsFresh, OfferAnswers, OfLives, RedrawAn
 
 use dvg_code::OutOfMemory;
 use dvg_driver::{Action, Driver, DriverFault};
-use dvg_frame::{Checker, Draft};
+use dvg_frame::{Checker, Op};
 use dvg_log::Entry;
 use dvg_mem::{MemFault, Rom};
 use std::alloc::{Allocator, Global};
@@ -76,12 +76,13 @@ impl<A: Allocator> Desk<A> {
         self.driver.is_idle()
     }
 
-    /// Hands `draft` to the driver to show, if the check accepts it. Returns the entry.
-    pub fn offer<S>(&mut self, draft: &Draft) -> Entry<S>
+    /// Hands the draft of the operations `ops` to the driver to show, if the check accepts it.
+    /// Returns the entry.
+    pub fn offer<S>(&mut self, ops: &[Op]) -> Entry<S>
         ensures rom { self.new.rom ≡ self.old.rom }
-        ensures answers { OfferAnswers self.old.rom draft.now self.old.stage self.new.stage result }
+        ensures answers { OfferAnswers self.old.rom ops.now self.old.stage self.new.stage result }
     {
-        let checked = match self.checker.check(draft, &self.rom) {
+        let checked = match self.checker.check(ops, &self.rom) {
             Ok(checked) => checked,
             Err(fault) => return Entry::Refused(fault),
         };

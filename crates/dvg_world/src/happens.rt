@@ -1,54 +1,30 @@
 //! Events of traces that happen to a world.
-ghost use Rattle.std.specs.Prelude.{◌≡◌, ◌≤◌, All, length, IfOk, OnErr};
-ghost use Rattle.dvg_frame.specs.Ops.{IsOp};
+ghost use Rattle.std.specs.Prelude.{◌≡◌, IfOk, OnErr};
 ghost use Rattle.dvg_log.specs.Entries.{shown_of};
-ghost use Rattle.dvg_log.specs.Traces.{FitsInDraft, seen_as};
+ghost use Rattle.dvg_log.specs.Traces.{BringsDraft, seen_as};
 ghost use Rattle.dvg_world.specs.Standing.{AddsLine};
 ghost use Rattle.dvg_world.specs.own.Stepping.{WantsMemory};
 
 use crate::world::World;
 use dvg_code::OutOfMemory;
-use dvg_frame::{Draft, Op};
 use dvg_log::{OwnEntry, TraceEvent};
 use dvg_mem::Store;
 
-// Replaces the operations of `draft` with `ops`, which are at most 511.
-pub(crate) fn fill(draft: &mut Draft, ops: &[Op])
-    requires { length ops.now ≤ 511 }
-    ensures { draft.new ≡ ops.now }
-{
-    draft.clear();
-    draft.try_extend_from_slice(ops).unwrap();
-}
-
-// For the proof alone: each of `ops` satisfies `IsOp`, as its type says. Nothing is done.
-pub(crate) fn are_ops(ops: &[Op])
-    ensures { All IsOp ops.now }
-{
-    for op in ops {
-        let _ = op.kind();
-    }
-}
-
-// Lets `event` happen to `world`, and returns its entry. The draft of an offer is made in `draft`.
-// Returns `OutOfMemory` where an allocation fails, and then `world` is as it was.
+// Lets `event` happen to `world`, and returns its entry. Returns `OutOfMemory` where an allocation
+// fails, and then `world` is as it was.
 #[inline(always)]
 pub(crate) fn happen<S: Store>(
     event: TraceEvent<'_, S::Alloc>,
-    draft: &mut Draft,
     world: &mut World<S>,
 ) -> Result<OwnEntry<S::Alloc>, OutOfMemory>
-    requires { FitsInDraft event }
+    requires { BringsDraft event }
     ensures stands { IfOk result (λ entry. AddsLine world.old (seen_as event.entry)
         (shown_of entry) world.new) }
     ensures room { OnErr result (WantsMemory (seen_as event.entry) world.old) }
     ensures refused { OnErr result (world.new ≡ world.old) }
 {
     match event {
-        TraceEvent::Offer(ops) => {
-            fill(draft, ops);
-            Ok(world.offer(draft))
-        }
+        TraceEvent::Offer(ops) => Ok(world.offer_ops(ops)),
         TraceEvent::Redraw => Ok(world.redraw()),
         TraceEvent::Tick => Ok(world.tick()),
         TraceEvent::Strobe => Ok(world.strobe()),

@@ -2,7 +2,7 @@
 ghost use Rattle.std.specs.Prelude.{◌≡◌, ◌⊎◌, ◌+◌, ◌≤◌, [], false, length, map, OnErr, OnOk};
 ghost use Rattle.std.specs.Prelude.{None, Some};
 ghost use Rattle.dvg_log.specs.Entries.{Shown, drew_in, map_entry, shown_of};
-ghost use Rattle.dvg_log.specs.Traces.{FitsInDraft, seen_as};
+ghost use Rattle.dvg_log.specs.Traces.{BringsDraft, seen_as};
 ghost use Rattle.dvg_log.specs.declared.event.Event.TheVariants.{Fetch, Tick};
 ghost use Rattle.dvg_world.specs.Keeping.{all_entries};
 ghost use Rattle.dvg_world.specs.Kept.{Logs};
@@ -14,11 +14,9 @@ ghost use Rattle.dvg_world.specs.own.Logging.{LogsRun, StopsLogging, room_left};
 ghost use Rattle.dvg_world.specs.own.Stepping.{WantsMemory};
 
 use crate::entries::{Alike, Entries};
-use crate::happens::fill;
 use crate::world::World;
 use dvg_code::OutOfMemory;
 use dvg_driver::Action;
-use dvg_frame::Draft;
 use dvg_gen::Stroke;
 use dvg_log::{Entry, OwnEntry, Trace, TraceEvent};
 use dvg_mem::{Image, Rom, Store};
@@ -130,17 +128,15 @@ impl<A: Allocator> EntriesKept<A> {
     }
 }
 
-// Lets `event` happen to `world`, as `happen` does, and keeps its entry in `entries`. The draft of
-// an offer is made in `draft`. The entry is kept where it comes about, so that the code knows which
-// entries there may be.
+// Lets `event` happen to `world`, as `happen` does, and keeps its entry in `entries`. The entry is
+// kept where it comes about, so that the code knows which entries there may be.
 #[inline(always)]
 fn keep_next<S: Store>(
     event: TraceEvent<'_, S::Alloc>,
     entries: &mut EntriesKept<S::Alloc>,
-    draft: &mut Draft,
     world: &mut World<S>,
 ) -> Result<(), OutOfMemory>
-    requires fits { FitsInDraft event }
+    requires brings { BringsDraft event }
     requires left { 1 ≤ room_left entries.old }
     ensures kept { OnOk result ((entry : Shown)
         × AddsLine world.old (seen_as event.entry) entry world.new
@@ -150,10 +146,7 @@ fn keep_next<S: Store>(
     ensures refused { OnErr result ((entries.new ≡ entries.old) × (world.new ≡ world.old)) }
 {
     match event {
-        TraceEvent::Offer(ops) => {
-            fill(draft, ops);
-            entries.keep(world.offer(draft));
-        }
+        TraceEvent::Offer(ops) => entries.keep(world.offer_ops(ops)),
         TraceEvent::Redraw => entries.keep(world.redraw()),
         TraceEvent::Tick => entries.keep(world.tick()),
         TraceEvent::Strobe => entries.keep(world.strobe()),
@@ -214,14 +207,13 @@ fn log_fetches<S: Store>(
 }
 
 // Lets the event of `run` happen to `world` as many times as `run` says, and keeps the entries in
-// `entries`. The draft of an offer is made in `draft`.
+// `entries`.
 fn log_run<S: Store>(
     run: (TraceEvent<'_, S::Alloc>, usize),
     entries: &mut EntriesKept<S::Alloc>,
-    draft: &mut Draft,
     world: &mut World<S>,
 ) -> Result<(), OutOfMemory>
-    requires fits { FitsInDraft run.0 }
+    requires brings { BringsDraft run.0 }
     requires room { run.1 ≤ room_left entries.old }
     ensures kept { OnOk result (LogsRun world.old entries.old (seen_as run.entry.0) run.entry.1
         world.new entries.new) }
@@ -239,7 +231,7 @@ fn log_run<S: Store>(
         _ => {}
     }
     for _again in 0..times {
-        match keep_next(event, entries, draft, world) {
+        match keep_next(event, entries, world) {
             Ok(()) => {}
             Err(refused) => return Err(refused),
         }
@@ -275,9 +267,8 @@ pub fn log_trace<S: Store>(
         return Logged::unstarted(alloc);
     };
     let mut entries = EntriesKept { kept, drawn };
-    let mut draft = Draft::new();
     for run in trace.runs() {
-        match log_run(run, &mut entries, &mut draft, &mut world) {
+        match log_run(run, &mut entries, &mut world) {
             Ok(()) => {}
             Err(_) => return entries.logged(false),
         }

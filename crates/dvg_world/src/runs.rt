@@ -9,7 +9,6 @@ ghost use Rattle.dvg_world.specs.Runs.{IsStop, log_by};
 use crate::happens::happen;
 use crate::stopped::Stopped;
 use crate::world::World;
-use dvg_frame::Draft;
 use dvg_log::{OwnEntry, OwnEvent, Trace};
 use dvg_mem::{Image, Rom, Store};
 use std::alloc::Allocator;
@@ -103,11 +102,10 @@ pub fn run_trace<S: Store>(
     let Ok(mut entries) = Vec::with_capacity(alloc, trace.len()) else {
         return Err(unstarted(alloc));
     };
-    let mut draft = Draft::new();
     let mut number = 0;
     for run in trace.runs() {
         for _again in 0..run.1 {
-            match happen(run.0, &mut draft, &mut world) {
+            match happen(run.0, &mut world) {
                 Ok(entry) => entries.push_reserved(entry),
                 Err(_) => {
                     return Err(Stopped {

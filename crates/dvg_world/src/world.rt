@@ -3,6 +3,7 @@ ghost use Rattle.std.specs.Prelude.{◌≡◌, ◌≢◌, ◌↔◌, ℕ, List, 
 ghost use Rattle.std.specs.Prelude.{IsErrOf, IsOk, IsTrue, None, Ok, OnErr, OnOk};
 ghost use Rattle.dvg_driver.specs.Script.{IsWhole};
 ghost use Rattle.dvg_driver.specs.Stands.{IsInRam};
+ghost use Rattle.dvg_frame.specs.Ops.{IsDraft};
 ghost use Rattle.dvg_log.specs.Entries.{drew_in, map_entry, shown_of};
 ghost use Rattle.dvg_log.specs.Events.{happening_of};
 ghost use Rattle.dvg_log.specs.declared.event.Event.TheVariants.{Offer, Redraw, Tick, Strobe};
@@ -21,7 +22,7 @@ use crate::desk::Desk;
 use crate::fetched::FetchedByte;
 use dvg_code::OutOfMemory;
 use dvg_driver::Action;
-use dvg_frame::Draft;
+use dvg_frame::{Draft, Op};
 use dvg_gen::{Generator, Stroke};
 use dvg_log::{Entry, Event, OwnEntry, OwnEvent};
 use dvg_mem::{Image, MemFault, Rom, Store, fetch_byte};
@@ -166,9 +167,17 @@ impl<S: Store> World<S> {
         ensures stands { AddsLine self.old (Offer draft.now) (shown_of result) self.new }
         ensures headline { KeepsHeadlineAfter self.old (Offer draft.now) (shown_of result) }
     {
-        // A draft has at most 511 operations, as its type says.
-        let _ = draft.len();
-        self.desk.offer(draft)
+        self.offer_ops(draft.ops())
+    }
+
+    // Hands the draft of the operations `ops` to the driver to show, as `offer` does. Returns the
+    // entry.
+    #[inline(always)]
+    pub(crate) fn offer_ops(&mut self, ops: &[Op]) -> OwnEntry<S::Alloc>
+        requires { IsDraft ops.now }
+        ensures { AddsLine self.old (Offer ops.now) (shown_of result) self.new }
+    {
+        self.desk.offer(ops)
     }
 
     /// Asks the driver to have the published frame drawn again, as by `Event::Redraw`. Returns the

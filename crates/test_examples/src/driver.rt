@@ -61,7 +61,7 @@ fn a_checked_draft_is_taken_where_the_driver_is_idle(rt: HostRuntime) -> Result<
     let rom = rom(rt.alloc(), &[])?;
     let draft = first_draft()?;
     let mut checker = Checker::new();
-    let Ok(checked) = checker.check(&draft, &rom) else {
+    let Ok(checked) = checker.check(draft.ops(), &rom) else {
         return Err("refused".into());
     };
     let mut driver = Driver::new();

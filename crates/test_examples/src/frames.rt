@@ -53,7 +53,7 @@ fn gives(cursor: &mut Cursor, from: u16, bytes: &[u8]) -> bool {
 #[test]
 fn a_cursor_gives_the_bytes_of_a_frame(rt: HostRuntime) -> Result<(), Fail> {
     let rom = rom(rt.alloc(), &[0xD000, 0xB000])?;
-    let mut cursor = Cursor::new(each_operation(&rom)?, Half::H1);
+    let mut cursor = Cursor::new(&each_operation(&rom)?.as_checked(), Half::H1);
     assert!(rt; gives(&mut cursor, 0x402, &BYTES));
     Ok(())
 }
@@ -61,11 +61,11 @@ fn a_cursor_gives_the_bytes_of_a_frame(rt: HostRuntime) -> Result<(), Fail> {
 #[test]
 fn a_cursor_that_begins_anew_gives_the_new_frame(rt: HostRuntime) -> Result<(), Fail> {
     let rom = rom(rt.alloc(), &[0xD000, 0xB000])?;
-    let mut cursor = Cursor::new(each_operation(&rom)?, Half::H1);
+    let mut cursor = Cursor::new(&each_operation(&rom)?.as_checked(), Half::H1);
     assert_eq!(rt; cursor.next(), Some((0x402, 0x00)));
     let short = behind_labs(0, 0, &[OpKind::Halt])?;
     let mut checker = Checker::new();
-    let Ok(checked) = checker.check(&short, &rom) else {
+    let Ok(checked) = checker.check(short.ops(), &rom) else {
         return Err("refused".into());
     };
     cursor.restart(&checked, Half::H0);
@@ -81,7 +81,7 @@ fn sizes(draft: &Draft, rom: &Rom) -> Result<(u16, u64), FrameFault> {
 
 /// Returns whether the next check by `checker`, of `draft` over `rom`, returns what `check` does.
 fn agrees(checker: &mut Checker, draft: &Draft, rom: &Rom) -> bool {
-    let answer = checker.check(draft, rom).map(|checked| {
+    let answer = checker.check(draft.ops(), rom).map(|checked| {
         let frame = checked.to_frame();
         (frame.len_words(), checked.bound())
     });

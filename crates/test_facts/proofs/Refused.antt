@@ -1,11 +1,12 @@
--- What the check answers of drafts that begin with no LABS.
-use Rattle.std.proofs.Common.{◌≡◌, ℕ, List, [], ◌∷◌, refl, arith}
+-- What the check answers of drafts that begin with no LABS, and of long ones.
+use Rattle.std.proofs.Common.{◌≡◌, ℕ, ◌<◌, List, [], ◌∷◌, refl, arith}
 use Rattle.std.specs.Prelude.{Result, Ok, Err}
 use Rattle.dvg_frame.specs.declared.op.OpKind.{OpKind}
 use Rattle.dvg_frame.specs.declared.op.OpKind.TheVariants.{Halt}
 use Rattle.dvg_frame.specs.declared.fault.FrameFault.{FrameFault}
 use Rattle.dvg_frame.specs.declared.fault.FrameFault.TheVariants.{Empty, NoLabs, TooLong, Target, RunsOff, OutOfRom, TooDeep, NoCaller, Loops}
 use Rattle.dvg_frame.specs.Faults.{FrameState, IsChecked}
+use Rattle.dvg_frame.specs.Layout.{size}
 use Rattle.dvg_frame.specs.Steps.{BeginsWithLabs, labs}
 
 -- a list that begins with a LABS is not empty
@@ -41,3 +42,17 @@ halt_refused R ops (Err (OutOfRom place)) is = not_halt is.0.begins refl
 halt_refused R ops (Err (TooDeep place)) is = not_halt is.0.begins refl
 halt_refused R ops (Err (NoCaller place)) is = not_halt is.0.begins refl
 halt_refused R ops (Err Loops) is = not_halt is.0.begins.begins refl
+
+-- one of more than 511 words that begins with a LABS is refused for fault 3
+pub long_refused : (F : List OpKind) (R : List ℕ) (answer : Result FrameState FrameFault) → BeginsWithLabs F → 511 < size F
+    → IsChecked F R answer → answer ≡ Err TooLong
+long_refused F R (Ok frame) labs long is = let fits = is.0.closed.begins.fits in absurd (omega arith)
+long_refused F R (Err Empty) labs long is = not_empty labs is
+long_refused F R (Err NoLabs) labs long is = absurd (is.1 labs)
+long_refused F R (Err TooLong) labs long is = refl
+long_refused F R (Err (Target i)) labs long is = let fits = is.1 in absurd (omega arith)
+long_refused F R (Err (RunsOff i)) labs long is = let fits = is.0.fits in absurd (omega arith)
+long_refused F R (Err (OutOfRom place)) labs long is = let fits = is.0.fits in absurd (omega arith)
+long_refused F R (Err (TooDeep place)) labs long is = let fits = is.0.fits in absurd (omega arith)
+long_refused F R (Err (NoCaller place)) labs long is = let fits = is.0.fits in absurd (omega arith)
+long_refused F R (Err Loops) labs long is = let fits = is.0.begins.fits in absurd (omega arith)

@@ -1,10 +1,11 @@
 //! What follows from the contracts of the check and of cursors.
-ghost use Rattle.std.specs.Prelude.{◌≡◌, ◌*◌, ◌<◌, ◌∷◌, [], Err, Some, slice_get, true};
+ghost use Rattle.std.specs.Prelude.{◌≡◌, ◌*◌, ◌<◌, ◌∷◌, [], Err, Some, length, slice_get, true};
 ghost use Rattle.dvg_mem.specs.Areas.{base};
 ghost use Rattle.dvg_frame.specs.Bytes.{addressed};
+ghost use Rattle.dvg_frame.specs.Steps.{BeginsWithLabs};
 ghost use Rattle.test_facts.specs.Facts.{blank_frame, jump_bytes, jump_frame};
 
-use dvg_frame::{Checker, Cursor, Draft, Frame, FrameFault, OpKind, check};
+use dvg_frame::{Checked, Checker, Cursor, Draft, Frame, FrameFault, Op, OpKind, check};
 use dvg_mem::{Half, Rom};
 use std::alloc::Global;
 
@@ -21,16 +22,28 @@ pub fn checker_answers_anew(draft: &Draft, rom: &Rom<Global>) -> bool
     ensures { result ≡ true }
 {
     let mut checker = Checker::new();
-    let _ = checker.check(&Draft::new(), rom);
-    match checker.check(draft, rom) {
+    let _ = checker.check(&[], rom);
+    match checker.check(draft.ops(), rom) {
         Ok(_) => false,
         Err(fault) => matches!(fault, FrameFault::NoLabs),
     }
 }
 
+/// A list of 512 operations that begins with a LABS is refused for fault 3, over each `rom`.
+pub fn long_list_is_refused(ops: &[Op], rom: &Rom<Global>) -> bool
+    requires labs { BeginsWithLabs ops.now }
+    requires long { length ops.now ≡ 512 }
+    ensures { result ≡ true }
+{
+    match Checker::new().check(ops, rom) {
+        Ok(_) => false,
+        Err(fault) => matches!(fault, FrameFault::TooLong),
+    }
+}
+
 /// The second byte of a `frame` that begins with LABS 512 400 0 goes to 403 in half 1, and is A1.
-pub fn second_byte(frame: Frame) -> Option<(u16, u8)>
-    requires { frame.operations ≡ blank_frame }
+pub fn second_byte(frame: &Checked) -> Option<(u16, u8)>
+    requires { frame.now.operations ≡ blank_frame }
     ensures { result ≡ Some (0x403, 0xA1) }
 {
     let mut cursor = Cursor::new(frame, Half::H1);
@@ -48,16 +61,16 @@ pub fn byte_of_a_jump(frame: &Frame, half: Half, k: u16) -> u8
 }
 
 /// A cursor over that `frame` in `half` gives all its bytes, each with its address.
-pub fn bytes_of_a_jump(frame: Frame, half: Half) -> Cursor
-    requires { frame.operations ≡ jump_frame }
+pub fn bytes_of_a_jump(frame: &Checked, half: Half) -> Cursor
+    requires { frame.now.operations ≡ jump_frame }
     ensures { result ≡ addressed (2 * base half) (jump_bytes half) }
 {
     Cursor::new(frame, half)
 }
 
 /// Eight bytes of that `frame` are left before the first is given, in either `half`.
-pub fn left_of_a_jump(frame: Frame, half: Half) -> u16
-    requires { frame.operations ≡ jump_frame }
+pub fn left_of_a_jump(frame: &Checked, half: Half) -> u16
+    requires { frame.now.operations ≡ jump_frame }
     ensures { result ≡ 8 }
 {
     Cursor::new(frame, half).left()

@@ -21,7 +21,7 @@ use crate::checking::look::look;
 use crate::checking::pair::{DEEPEST, FIRST, Pair};
 use crate::checking::table::{Drawn, Ending, Table};
 use crate::checking::way::{Span, Way, span_at};
-use crate::draft::Draft;
+use crate::op::Op;
 use crate::place::Place;
 use dvg_mem::Rom;
 use std::alloc::Allocator;
@@ -106,7 +106,7 @@ fn put_drawn(table: &mut Table, place: Place, drawn: Drawn) -> Drawn
 // drawn from that place, or `None` where a pair has a fault, or the steps come to no end.
 #[inline(always)]
 fn follow<A: Allocator>(
-    draft: &Draft,
+    draft: &[Op],
     rom: &Rom<A>,
     table: &mut Table,
     chain: &mut Chain,
@@ -152,7 +152,7 @@ fn follow<A: Allocator>(
 // in `table`, and returns that of `start`. Returns `None` where a pair has a fault, or steps at one
 // depth come to no end. The pairs of other depths stay in `chain`.
 fn settle<A: Allocator>(
-    draft: &Draft,
+    draft: &[Op],
     rom: &Rom<A>,
     table: &mut Table,
     chain: &mut Chain,
@@ -205,7 +205,7 @@ fn settle<A: Allocator>(
 /// the places that are reached. Only a loop takes longer: it is followed for as many steps as there
 /// are operations and ROM words.
 pub(crate) fn bound_of<A: Allocator>(
-    draft: &Draft,
+    draft: &[Op],
     rom: &Rom<A>,
     table: &mut Table,
     chain: &mut Chain,

@@ -1,12 +1,13 @@
 //! The check of a draft.
-ghost use Rattle.std.specs.Prelude.{◌≡◌, [], ℕ, ◌<◌, ◌↔◌, List, IsTrue, MatchOption, MatchResult};
+ghost use Rattle.std.specs.Prelude.{◌≡◌, [], ℕ, ◌<◌, ◌≤◌, ◌↔◌, List, IsTrue, MatchOption};
+ghost use Rattle.std.specs.Prelude.{MatchResult, length};
 ghost use Rattle.dvg_mem.specs.Memory.{IsRom};
 ghost use Rattle.dvg_frame.specs.Steps.{Begins, Misses};
 ghost use Rattle.dvg_frame.specs.Faults.{IsChecked, Refuses};
 ghost use Rattle.dvg_frame.specs.own.Firsts.{DrawsLabs, NamesNone};
 ghost use Rattle.dvg_frame.specs.own.Frames.{IsFrame};
 ghost use Rattle.dvg_frame.specs.Layout.{size};
-ghost use Rattle.dvg_frame.specs.own.Tables.{BoundOrFault, HasNone, IsRefused};
+ghost use Rattle.dvg_frame.specs.own.Tables.{BoundOrFault, HasNone};
 
 use crate::checked::Checked;
 use crate::checking::bounds::bound_of;
@@ -14,10 +15,10 @@ use crate::checking::chain::Chain;
 use crate::checking::sweep::sweep;
 use crate::checking::table::Table;
 use crate::checking::worklist::Worklist;
-use crate::draft::{Draft, words_of};
+use crate::draft::{Draft, MAX_OPS, are_ops, words_of};
 use crate::fault::FrameFault;
 use crate::frame::{Frame, MAX_WORDS};
-use crate::op::OpKind;
+use crate::op::{Op, OpKind};
 use dvg_code::Instr;
 use dvg_mem::Rom;
 use std::alloc::Allocator;
@@ -45,33 +46,35 @@ fn names_none(count: usize, kind: OpKind) -> bool
 
 // Returns the number of the first operation that names one which `draft` doesn't have, if there is
 // one.
-fn first_miss(draft: &Draft) -> Option<u16>
+fn first_miss(draft: &[Op]) -> Option<u16>
+    requires { length draft.now ≤ MAX_OPS }
     ensures { MatchOption result
         ((i : ℕ) → ¬ Misses draft.now i)
         (λ i. Misses draft.now i × ((k : ℕ) → k < i → ¬ Misses draft.now k)) }
 {
     let count = draft.len();
     for i in 0..count {
-        if names_none(count, draft.op(i).kind()) {
+        if names_none(count, draft[i].kind()) {
             return Some(i as u16);
         }
     }
     None
 }
 
-// Returns the number of words that the operations of `draft` have.
-fn words_of_all(draft: &Draft) -> u16
+// Returns the number of words that the operations of `draft` have, which are at most 511.
+fn words_of_all(draft: &[Op]) -> u16
+    requires { length draft.now ≤ MAX_OPS }
     ensures { result ≡ size draft.now }
 {
     let mut words = 0;
-    for op in draft.ops() {
+    for op in draft {
         words += words_of(op.kind());
     }
     words
 }
 
 // Returns the number of words of `draft`, or the first of the faults 1 to 4 that it has.
-fn words_or_fault(draft: &Draft) -> Result<u16, FrameFault>
+fn words_or_fault(draft: &[Op]) -> Result<u16, FrameFault>
     ensures { MatchResult result (λ words. IsFrame draft.now × (words ≡ size draft.now))
         (λ fault. (R : List ℕ) → Refuses draft.now R fault) }
 {
@@ -79,9 +82,14 @@ fn words_or_fault(draft: &Draft) -> Result<u16, FrameFault>
     if count == 0 {
         return Err(FrameFault::Empty);
     }
-    if !is_labs(draft.op(0).kind()) {
+    if !is_labs(draft[0].kind()) {
         return Err(FrameFault::NoLabs);
     }
+    // Each operation has a word at least.
+    if count > MAX_OPS {
+        return Err(FrameFault::TooLong);
+    }
+    are_ops(draft);
     let words = words_of_all(draft);
     if words > MAX_WORDS {
         return Err(FrameFault::TooLong);
@@ -122,11 +130,12 @@ impl Checker {
         }
     }
 
-    /// Checks `draft` over `rom`. Returns the checked draft where it has no fault, otherwise the
-    /// fault that is picked: faults 1 to 4 in their order, then that of the first reached pair of
-    /// place and depth that has one, then fault 9. Operations come before ROM words, each by
-    /// number, and of one place the lesser depth comes first; if several faults hold at that pair,
-    /// the one of least number is returned (this project's own choice).
+    /// Checks the draft of the operations `ops` over `rom`. Returns the checked draft, which lies
+    /// where `ops` does, where it has no fault, otherwise the fault that is picked: faults 1 to 4
+    /// in their order, then that of the first reached pair of place and depth that has one, then
+    /// fault 9. Operations come before ROM words, each by number, and of one place the lesser depth
+    /// comes first; if several faults hold at that pair, the one of least number is returned (this
+    /// project's own choice).
     ///
     /// The pairs begin with operation 0 at depth 0. A vector or a LABS leads to the place after it,
     /// a jump to its target, a call to its target one deeper and to the place after it at its own
@@ -137,19 +146,19 @@ impl Checker {
     /// followed for as many steps as there are places.
     pub fn check<'a, A: Allocator>(
         &mut self,
-        draft: &'a Draft,
+        ops: &'a [Op],
         rom: &Rom<A>,
     ) -> Result<Checked<'a>, FrameFault>
-        ensures { IsChecked draft.now rom.now result }
+        ensures { IsChecked ops.now rom.now result }
     {
-        let words = match words_or_fault(draft) {
+        let words = match words_or_fault(ops) {
             Ok(words) => words,
             Err(fault) => return Err(fault),
         };
         // A ROM has 2,048 or 4,096 bytes, as its type says.
         let _ = rom.len_words();
-        match self.bound_or_fault(draft, rom) {
-            Ok(bound) => Ok(Checked::of(draft, words, bound)),
+        match self.bound_or_fault(ops, rom) {
+            Ok(bound) => Ok(Checked::of(ops, words, bound)),
             Err(fault) => Err(fault),
         }
     }
@@ -158,7 +167,7 @@ impl Checker {
     // faults 1 to 4.
     fn bound_or_fault<A: Allocator>(
         &mut self,
-        draft: &Draft,
+        draft: &[Op],
         rom: &Rom<A>,
     ) -> Result<u64, FrameFault>
         requires rom { IsRom rom.now }
@@ -181,37 +190,14 @@ impl Checker {
     }
 }
 
-// Returns the fault that is picked of `draft` over `rom`. `draft` has none of the faults 1 to 4,
-// and a reached pair has a fault or steps at one depth come to no end. The list of pairs is laid
-// out for such a draft alone.
-#[inline(never)]
-fn picked<A: Allocator>(draft: &Draft, rom: &Rom<A>) -> FrameFault
-    requires rom { IsRom rom.now }
-    requires begins { Begins draft.now }
-    requires refused { IsRefused draft.now rom.now }
-    ensures { Refuses draft.now rom.now result }
-{
-    let mut reached = Worklist::new();
-    match sweep(&mut reached, draft, rom) {
-        Some(found) => found.fault,
-        None => FrameFault::Loops,
-    }
-}
-
 /// Returns the frame of `draft` where it has no fault over `rom`, otherwise the fault that is
-/// picked, as by a `Checker`. Its tables are laid out on the stack. A caller that checks many
-/// drafts should keep a `Checker`, which saves the time for that.
+/// picked, as by a `Checker`, whose tables are laid out on the stack. A caller that checks many
+/// drafts should keep one, which saves the time for that.
 pub fn check<A: Allocator>(draft: &Draft, rom: &Rom<A>) -> Result<Frame, FrameFault>
     ensures { IsChecked draft.now rom.now result }
 {
-    let words = match words_or_fault(draft) {
-        Ok(words) => words,
-        Err(fault) => return Err(fault),
-    };
-    // A ROM has 2,048 or 4,096 bytes, as its type says.
-    let _ = rom.len_words();
-    match bound_of(draft, rom, &mut Table::new(), &mut Chain::new()) {
-        Some(bound) => Ok(Checked::of(draft, words, bound).to_frame()),
-        None => Err(picked(draft, rom)),
+    match Checker::new().check(draft.ops(), rom) {
+        Ok(checked) => Ok(checked.to_frame()),
+        Err(fault) => Err(fault),
     }
 }

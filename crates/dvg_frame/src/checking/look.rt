@@ -7,8 +7,8 @@ ghost use Rattle.dvg_frame.specs.declared.fault.FrameFault.{FrameFault};
 
 use crate::checking::pair::{DEEPEST, Pair};
 use crate::checking::way::{Way, is_outside, way_at};
-use crate::draft::Draft;
 use crate::fault::FrameFault;
+use crate::op::Op;
 use crate::place::Place;
 use dvg_mem::Rom;
 use std::alloc::Allocator;
@@ -59,7 +59,7 @@ fn fault_at<A: Allocator>(rom: &Rom<A>, count: usize, pair: Pair, seen: Way) -> 
 
 // Returns the way on from `pair`, of `draft` over `rom`, or the fault of least number there.
 #[inline(always)]
-pub(crate) fn look<A: Allocator>(draft: &Draft, rom: &Rom<A>, pair: Pair) -> Result<Way, FrameFault>
+pub(crate) fn look<A: Allocator>(draft: &[Op], rom: &Rom<A>, pair: Pair) -> Result<Way, FrameFault>
     requires rom { IsRom rom.now }
     requires inside { IsPlaceOf draft.now rom.now pair.place }
     ensures { MatchResult result

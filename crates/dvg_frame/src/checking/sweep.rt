@@ -12,8 +12,8 @@ use crate::checking::look::look;
 use crate::checking::pair::{DEEPEST, FIRST, Pair, index_of};
 use crate::checking::way::Way;
 use crate::checking::worklist::Worklist;
-use crate::draft::Draft;
 use crate::fault::FrameFault;
+use crate::op::Op;
 use dvg_mem::Rom;
 use std::alloc::Allocator;
 
@@ -74,7 +74,7 @@ fn first_of(best: Option<Found>, found: Found) -> Found
 ///
 /// Each pair is looked at once, when its turn comes in a list without doubles, so the time is
 /// linear in the number of reached pairs.
-pub(crate) fn sweep<A: Allocator>(list: &mut Worklist, draft: &Draft, rom: &Rom<A>) -> Option<Found>
+pub(crate) fn sweep<A: Allocator>(list: &mut Worklist, draft: &[Op], rom: &Rom<A>) -> Option<Found>
     requires rom { IsRom rom.now }
     requires empty { list.old ≡ [] }
     requires begins { Begins draft.now }

@@ -3,6 +3,7 @@ use Rattle.std.specs.Prelude.{◌≡◌, ◌+◌, ◌*◌, ◌<◌, ◌≤◌, �
 use Rattle.std.specs.Prelude.{Option, Some, None}
 use Rattle.std.specs.List.{sum_by}
 use Rattle.dvg_frame.specs.declared.op.OpKind.{OpKind}
+use Rattle.dvg_frame.specs.Ops.{IsOp}
 use Rattle.dvg_log.specs.declared.event.Event.TheVariants.{Offer, ResetAll}
 use Rattle.dvg_log.specs.declared.runs.Run.{Run}
 use Rattle.dvg_log.specs.Traces.{Step}
@@ -21,8 +22,10 @@ IsWithin offers images step = Unit {0}
 abbrev pub IsRunIn : (offers images : ℕ) → Run → Type 0
 IsRunIn offers images run = (1 ≤ run.times) × IsWithin offers images run.step
 
--- runs, where the operations of their offers lie, these operations, and the images of their resets
+-- runs, where the operations of their offers lie, these operations, each of which a draft may hold, and the images of
+-- their resets
 pub record AreRuns (runs : List Run) (offers : List (ℕ × ℕ)) (ops : List OpKind) (images : List (List ℕ)) : Type 0 where
+  pub valid : All IsOp ops
   pub lie : All (IsOfferIn ops) offers
   pub within : All (IsRunIn (length offers) (length images)) runs
 

@@ -16,7 +16,7 @@ pub(crate) fn tick_driver(desk: &mut Desk, halted: bool, byte1: u8) -> Reply {
 #[inline(always)]
 pub(crate) fn ask_driver(desk: &mut Desk, request: Request, draft: &Draft) -> Reply {
     match request {
-        Request::Offer => Reply::Came(desk.offer(draft)),
+        Request::Offer => Reply::Came(desk.offer(draft.ops())),
         Request::Redraw => Reply::Came(desk.redraw()),
         Request::Tick { halted, byte1 } => tick_driver(desk, halted, byte1),
         Request::ResetProcessor => {

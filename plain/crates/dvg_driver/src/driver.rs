@@ -64,22 +64,15 @@ impl Driver {
         }
     }
 
-    /// Takes `frame`, which the next ticks write into the free half and publish. Returns `Busy`
-    /// exactly where the driver isn't idle; `frame` is dropped then, and nothing else has changed.
+    /// Takes `frame`, as `offer_checked` takes a checked draft; either way it is dropped. Returns
+    /// `Busy` exactly where the driver isn't idle, and then nothing else has changed.
     pub fn offer(&mut self, frame: Frame) -> Result<(), DriverFault> {
-        match self.phase {
-            Phase::Resting => {
-                self.cursor = Some(Cursor::new(frame, self.half.other()));
-                self.phase = Phase::Writing;
-                Ok(())
-            }
-            _ => Err(DriverFault::Busy),
-        }
+        self.offer_checked(&frame.as_checked())
     }
 
-    /// Takes `checked`, as `offer` takes its frame. The draft is copied only where it is taken,
-    /// into the memory that the driver has. Returns `Busy` exactly where the driver isn't idle, and
-    /// then nothing has changed.
+    /// Takes `checked`, which the next ticks write into the free half and publish. Its operations
+    /// are copied only where it is taken, into the memory that the driver has. Returns `Busy`
+    /// exactly where the driver isn't idle, and then nothing has changed.
     pub fn offer_checked(&mut self, checked: &Checked) -> Result<(), DriverFault> {
         match self.phase {
             Phase::Resting => {
@@ -162,11 +155,11 @@ impl Driver {
     }
 }
 
-// Makes `cursor` begin with the bytes of the frame of `checked`, laid out for `half`.
+// Makes `cursor` begin with the bytes of `checked`, laid out for `half`.
 fn begin(cursor: &mut Option<Cursor>, checked: &Checked, half: Half) {
     match cursor {
         Some(cursor) => cursor.restart(checked, half),
-        None => *cursor = Some(Cursor::new(checked.to_frame(), half)),
+        None => *cursor = Some(Cursor::new(checked, half)),
     }
 }
 

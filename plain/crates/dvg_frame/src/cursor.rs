@@ -1,21 +1,22 @@
 //! Cursors: the bytes of a frame, one after the other.
 use crate::checked::Checked;
-use crate::counted::COUNTS;
-use crate::frame::{Frame, byte_of};
+use crate::counted::{COUNTS, Counted};
+use crate::draft::Draft;
+use crate::frame::{byte_of, spelling};
 use arrayvec::ArrayVec;
 use dvg_code::Words;
 use dvg_mem::Half;
 use std::iter::FusedIterator;
 
-/// An iterator over the bytes of a frame that is laid out for a half, each with its byte address in
-/// the RAM: from the low byte of the half's first word on, in rising order.
+/// An iterator over the bytes of a checked draft that is laid out for a half, each with its byte
+/// address in the RAM: from the low byte of the half's first word on, in rising order.
 ///
-/// A cursor keeps the frame, its place in it, and how many words stand before each operation, so
+/// A cursor keeps the draft, its place in it, and how many words stand before each operation, so
 /// that an item takes constant time.
 #[derive(Clone, Debug)]
 pub struct Cursor {
-    frame: Frame,
-    /// For each operation of the frame the number of words before it, and then the number of all
+    draft: Draft,
+    /// For each operation of the draft the number of words before it, and then the number of all
     /// words.
     words_before: ArrayVec<u16, COUNTS>,
     half: Half,
@@ -32,34 +33,33 @@ pub struct Cursor {
 }
 
 impl Cursor {
-    /// Returns a cursor over the bytes of `frame`, laid out for `half`.
-    pub fn new(frame: Frame, half: Half) -> Cursor {
-        let left = 2 * frame.len_words();
-        let words_before = frame.words_before_each();
+    /// Returns a cursor over the bytes of `checked`, laid out for `half`. The operations are
+    /// copied.
+    pub fn new(checked: &Checked, half: Half) -> Cursor {
         Cursor {
-            frame,
-            words_before,
+            draft: checked.to_draft(),
+            words_before: checked.words_before_each(),
             half,
             words: Words::new(),
             given: 0,
             op: 0,
             address: 2 * half.base(),
-            left,
+            left: 2 * checked.len_words(),
         }
     }
 
-    /// Begins anew, with the bytes of the frame of `checked`, laid out for `half`. The draft is
-    /// copied into the memory that the cursor has: the time is linear in its operations, and in
-    /// those of the frame that the cursor kept.
+    /// Begins anew, with the bytes of `checked`, laid out for `half`. The operations are copied
+    /// into the memory that the cursor has: the time is linear in them, and in those that it kept.
     pub fn restart(&mut self, checked: &Checked, half: Half) {
-        self.frame.copy_from(checked);
-        self.words_before = self.frame.words_before_each();
+        self.draft.clear();
+        self.draft.try_extend_from_slice(checked.ops()).unwrap();
+        self.words_before = checked.words_before_each();
         self.half = half;
         self.words = Words::new();
         self.given = 0;
         self.op = 0;
         self.address = 2 * half.base();
-        self.left = 2 * self.frame.len_words();
+        self.left = 2 * checked.len_words();
     }
 
     /// Returns the number of items that are still to come.
@@ -77,8 +77,8 @@ impl Iterator for Cursor {
             return None;
         }
         if usize::from(self.given) == 2 * self.words.len() {
-            let words_before = self.words_before.as_slice();
-            self.words = self.frame.spelling(words_before, self.half, self.op);
+            let counted = Counted::of(self.draft.ops(), self.words_before.as_slice());
+            self.words = spelling(&counted, self.half, usize::from(self.op));
             self.given = 0;
             self.op += 1;
         }

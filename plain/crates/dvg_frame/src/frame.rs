@@ -1,17 +1,16 @@
 //! Frames: drafts that were checked.
 use crate::checked::Checked;
-use crate::counted::{COUNTS, Counted, words_before_each};
+use crate::counted::Counted;
 use crate::draft::{Draft, words_of};
 use crate::op::OpKind;
-use arrayvec::ArrayVec;
 use dvg_code::{Code, Instr, Words, encode};
 use dvg_mem::Half;
 
 /// The most words that a frame has: those of a half of the RAM.
 pub(crate) const MAX_WORDS: u16 = 511;
 
-/// A draft that was checked. It keeps the draft, its number of words and its bound, and no laid
-/// words.
+/// A checked draft that owns its operations. It keeps its number of words and its bound, and no
+/// laid words.
 #[derive(Clone, Debug)]
 pub struct Frame {
     draft: Draft,
@@ -20,60 +19,35 @@ pub struct Frame {
 }
 
 impl Frame {
-    // Returns the frame of `checked`, whose draft is copied.
-    pub(crate) fn of(checked: &Checked) -> Frame {
-        let mut draft = Draft::new();
-        draft.copy_from(checked.draft);
+    // Returns `draft` as a frame. It has none of the faults 1 to 4, `words` words and the bound
+    // `bound`.
+    pub(crate) fn of(draft: Draft, words: u16, bound: u64) -> Frame {
         Frame {
             draft,
-            words: checked.words,
-            bound: checked.bound,
+            words,
+            bound,
         }
     }
 
-    // Becomes the frame of `checked`, in the memory that it has.
-    pub(crate) fn copy_from(&mut self, checked: &Checked) {
-        self.draft.copy_from(checked.draft);
-        self.words = checked.words;
-        self.bound = checked.bound;
+    /// Returns the frame as a checked draft that lies where the frame does.
+    pub fn as_checked(&self) -> Checked<'_> {
+        Checked::of(self.draft.ops(), self.words, self.bound)
     }
 
     /// Returns the number of words that the frame has in a half, at most 511.
     pub fn len_words(&self) -> u16 {
-        let _ = self.draft.len();
-        self.words
+        self.as_checked().len_words()
     }
 
-    /// Returns the number of words that the whole run of the frame fetches, from word zero to its
-    /// HALT. It is below 2^63. This holds for any run of the frame that nobody interrupts, over the
-    /// ROM that it was checked with.
+    /// Returns the number of words that the whole run of the frame fetches, as `Checked::bound`
+    /// does.
     pub fn bound(&self) -> u64 {
-        self.bound
+        self.as_checked().bound()
     }
 
-    /// Returns byte `k` of the frame's words in `half`, the low byte of each word first. Byte 0
-    /// stands at twice the word address of the half's first word. `k` must be below twice the
-    /// number of words. The time is linear in the operations; a `Cursor` gives all bytes, each in
-    /// constant time.
+    /// Returns byte `k` of the frame's words in `half`, as `Checked::byte` does.
     pub fn byte(&self, half: Half, k: u16) -> u8 {
-        let words_before = words_before_each(&self.draft);
-        let counted = Counted::of(&self.draft, words_before.as_slice());
-        byte_of(word_at(&counted, half, k / 2), k)
-    }
-
-    // Returns for each operation the number of words before it, and then the number of all words.
-    pub(crate) fn words_before_each(&self) -> ArrayVec<u16, COUNTS> {
-        words_before_each(&self.draft)
-    }
-
-    // Returns the words of operation `i`, laid out for `half`. `words_before` has the number of
-    // words before each operation.
-    pub(crate) fn spelling(&self, words_before: &[u16], half: Half, i: u16) -> Words {
-        spelling(
-            &Counted::of(&self.draft, words_before),
-            half,
-            usize::from(i),
-        )
+        self.as_checked().byte(half, k)
     }
 }
 
@@ -84,7 +58,7 @@ pub(crate) fn byte_of(word: u16, k: u16) -> u8 {
 }
 
 // Returns word `n` of the layout of `draft` for `half`.
-fn word_at(draft: &Counted, half: Half, n: u16) -> u16 {
+pub(crate) fn word_at(draft: &Counted, half: Half, n: u16) -> u16 {
     let mut before = 0;
     for i in 0..draft.len() {
         let count = words_of(draft.op(i).kind());
@@ -97,7 +71,7 @@ fn word_at(draft: &Counted, half: Half, n: u16) -> u16 {
 }
 
 // Returns the words of operation `i` of `draft`, laid out for `half`.
-fn spelling(draft: &Counted, half: Half, i: usize) -> Words {
+pub(crate) fn spelling(draft: &Counted, half: Half, i: usize) -> Words {
     encode(&code_of(draft, half, draft.op(i).kind()))
 }
 

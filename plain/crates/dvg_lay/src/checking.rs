@@ -3,7 +3,7 @@ use std::prelude::*;
 
 use crate::refusal::{Blamed, Reason, Refusal, Unlaid};
 use crate::said::said;
-use dvg_frame::{Checker, Draft, Frame, FrameFault, Op, OpKind, Place};
+use dvg_frame::{Checked, Checker, FrameFault, Op, OpKind, Place};
 use dvg_mem::Rom;
 use dvg_named::{NamedFrame, RomName, Source};
 use std::alloc::{AllocError, Allocator};
@@ -121,17 +121,15 @@ pub(crate) fn tell_long<A: Allocator + Copy>(
 
 /// Returns `frame` checked, where `checker` accepts it over `rom`. Else returns its fault and the
 /// line or the word at fault, with one of `names`, as `lay_bytes` does.
-pub(crate) fn good_frame<A: Allocator + Copy>(
+pub(crate) fn good_frame<'a, A: Allocator + Copy>(
     alloc: A,
     checker: &mut Checker,
     rom: &Rom<A>,
     names: &[RomName],
-    frame: &NamedFrame,
-) -> Result<Frame, Unlaid<A>> {
-    let mut draft = Draft::new();
-    draft.try_extend_from_slice(frame.ops).unwrap();
-    match checker.check(&draft, rom) {
-        Ok(checked) => Ok(checked.to_frame()),
+    frame: &NamedFrame<'a>,
+) -> Result<Checked<'a>, Unlaid<A>> {
+    match checker.check(frame.ops, rom) {
+        Ok(checked) => Ok(checked),
         Err(fault) => Err(tell(alloc, names, frame, place_of(fault), Reason::Fault(fault))),
     }
 }

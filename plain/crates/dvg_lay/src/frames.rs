@@ -30,7 +30,7 @@ fn draw_frame<A: Allocator + Copy>(
     if checked.bound() > u64::from(MOST_WORDS) {
         return Err(tell_long(alloc, names, frame, checked.bound()));
     }
-    match picture_of(alloc, rom, checked) {
+    match picture_of(alloc, rom, &checked) {
         Ok(strokes) => Ok(strokes),
         Err(_) => Err(Unlaid::Memory),
     }

@@ -3,7 +3,7 @@ use std::prelude::*;
 
 use crate::table::put_laid;
 use dvg_code::OutOfMemory;
-use dvg_frame::Frame;
+use dvg_frame::Checked;
 use dvg_mem::{Flat, Half, Image, MEMORY_BYTES, Store};
 use std::alloc::Allocator;
 
@@ -11,7 +11,7 @@ use std::alloc::Allocator;
 /// `OutOfMemory` where an allocation fails.
 pub(crate) fn laid_ram<A: Allocator + Copy>(
     alloc: A,
-    frame: Frame,
+    frame: &Checked,
     half: Half,
 ) -> Result<Flat<A>, OutOfMemory> {
     let count = 2 * frame.len_words();

@@ -4,7 +4,7 @@ use std::prelude::*;
 use crate::memory::laid_ram;
 use dvg_code::OutOfMemory;
 use dvg_dump::{Dump, Ending};
-use dvg_frame::Frame;
+use dvg_frame::Checked;
 use dvg_gen::Stroke;
 use dvg_mem::{Half, Rom};
 use std::alloc::Allocator;
@@ -14,7 +14,7 @@ use std::alloc::Allocator;
 pub(crate) fn picture_of<A: Allocator + Copy>(
     alloc: A,
     rom: Rom<A>,
-    frame: Frame,
+    frame: &Checked,
 ) -> Result<Vec<Stroke, A>, OutOfMemory> {
     // A frame has a draft, and a ROM 2,048 or 4,096 bytes, as their types say.
     let _ = frame.len_words();

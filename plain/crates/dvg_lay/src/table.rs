@@ -4,7 +4,7 @@ use std::prelude::*;
 use crate::said::put_said;
 use crate::text::{put, put_decimal, put_words};
 use dvg_code::OutOfMemory;
-use dvg_frame::{Cursor, Frame, Op, OpKind};
+use dvg_frame::{Checked, Cursor, Op, OpKind};
 use dvg_io::collect_words;
 use dvg_mem::Half;
 use dvg_named::{NamedFrame, Source};
@@ -14,7 +14,7 @@ use std::alloc::{AllocError, Allocator};
 /// Returns `AllocError` where an allocation fails.
 pub(crate) fn put_laid<A: Allocator>(
     text: &mut Vec<u8, A>,
-    frame: Frame,
+    frame: &Checked,
     half: Half,
 ) -> Result<(), AllocError> {
     for item in Cursor::new(frame, half) {
@@ -25,7 +25,7 @@ pub(crate) fn put_laid<A: Allocator>(
 
 // Returns the words of `frame` as it lies in half 0. Returns `OutOfMemory` where an allocation
 // fails.
-fn laid_words<A: Allocator + Copy>(alloc: A, frame: Frame) -> Result<Vec<u16, A>, OutOfMemory> {
+fn laid_words<A: Allocator + Copy>(alloc: A, frame: &Checked) -> Result<Vec<u16, A>, OutOfMemory> {
     let mut bytes = Vec::new(alloc);
     put_laid(&mut bytes, frame, Half::H0)?;
     collect_words(alloc, bytes.as_slice())
@@ -100,7 +100,7 @@ pub(crate) fn put_table<A: Allocator + Copy>(
     text: &mut Vec<u8, A>,
     number: usize,
     named: &NamedFrame,
-    frame: Frame,
+    frame: &Checked,
 ) -> Result<(), OutOfMemory> {
     put_label(text, number, named.name)?;
     put(text, b":\n")?;

@@ -3,7 +3,7 @@ use std::prelude::*;
 
 use crate::engine::tool_fault;
 use dvg_code::OutOfMemory;
-use dvg_frame::{Checker, Draft};
+use dvg_frame::Checker;
 use dvg_io::{Engine, StreamFailed, ToolFault, Watched, serve, write_lines};
 use dvg_mem::Rom;
 use dvg_named::{NamedFrame, Sketch, read_sketch};
@@ -32,9 +32,7 @@ impl<A: Allocator> Said<A> {
 
 // Returns what `checker` says of `frame` over `rom`.
 fn judge<A: Allocator>(checker: &mut Checker, rom: &Rom<A>, frame: &NamedFrame) -> BoundedVerdict {
-    let mut draft = Draft::new();
-    draft.try_extend_from_slice(frame.ops).unwrap();
-    match checker.check(&draft, rom) {
+    match checker.check(frame.ops, rom) {
         Ok(checked) => BoundedVerdict::Good {
             words: checked.len_words(),
             bound: checked.bound(),

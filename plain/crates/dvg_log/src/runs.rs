@@ -17,7 +17,7 @@ pub(crate) struct Run {
 }
 
 /// An iterator over the events of a trace, as runs of equal ones: an event, and how many times in a
-/// row it comes. An offer has at most 511 operations.
+/// row it comes. The operations of an offer are those of a draft.
 #[derive(Clone, Debug)]
 pub struct Runs<'a, A: Allocator = Global> {
     runs: &'a [Run],

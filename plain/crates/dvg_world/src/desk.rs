@@ -3,7 +3,7 @@ use std::prelude::*;
 
 use dvg_code::OutOfMemory;
 use dvg_driver::{Action, Driver, DriverFault};
-use dvg_frame::{Checker, Draft};
+use dvg_frame::{Checker, Op};
 use dvg_log::Entry;
 use dvg_mem::{MemFault, Rom};
 use std::alloc::{Allocator, Global};
@@ -51,9 +51,10 @@ impl<A: Allocator> Desk<A> {
         self.driver.is_idle()
     }
 
-    /// Hands `draft` to the driver to show, if the check accepts it. Returns the entry.
-    pub fn offer<S>(&mut self, draft: &Draft) -> Entry<S> {
-        let checked = match self.checker.check(draft, &self.rom) {
+    /// Hands the draft of the operations `ops` to the driver to show, if the check accepts it.
+    /// Returns the entry.
+    pub fn offer<S>(&mut self, ops: &[Op]) -> Entry<S> {
+        let checked = match self.checker.check(ops, &self.rom) {
             Ok(checked) => checked,
             Err(fault) => return Entry::Refused(fault),
         };

@@ -2,11 +2,9 @@
 use std::prelude::*;
 
 use crate::entries::{Alike, Entries};
-use crate::happens::fill;
 use crate::world::World;
 use dvg_code::OutOfMemory;
 use dvg_driver::Action;
-use dvg_frame::Draft;
 use dvg_gen::Stroke;
 use dvg_log::{Entry, OwnEntry, Trace, TraceEvent};
 use dvg_mem::{Image, Rom, Store};
@@ -89,21 +87,16 @@ impl<A: Allocator> EntriesKept<A> {
     }
 }
 
-// Lets `event` happen to `world`, as `happen` does, and keeps its entry in `entries`. The draft of
-// an offer is made in `draft`. The entry is kept where it comes about, so that the code knows which
-// entries there may be.
+// Lets `event` happen to `world`, as `happen` does, and keeps its entry in `entries`. The entry is
+// kept where it comes about, so that the code knows which entries there may be.
 #[inline(always)]
 fn keep_next<S: Store>(
     event: TraceEvent<'_, S::Alloc>,
     entries: &mut EntriesKept<S::Alloc>,
-    draft: &mut Draft,
     world: &mut World<S>,
 ) -> Result<(), OutOfMemory> {
     match event {
-        TraceEvent::Offer(ops) => {
-            fill(draft, ops);
-            entries.keep(world.offer(draft));
-        }
+        TraceEvent::Offer(ops) => entries.keep(world.offer_ops(ops)),
         TraceEvent::Redraw => entries.keep(world.redraw()),
         TraceEvent::Tick => entries.keep(world.tick()),
         TraceEvent::Strobe => entries.keep(world.strobe()),
@@ -154,11 +147,10 @@ fn log_fetches<S: Store>(
 }
 
 // Lets the event of `run` happen to `world` as many times as `run` says, and keeps the entries in
-// `entries`. The draft of an offer is made in `draft`.
+// `entries`.
 fn log_run<S: Store>(
     run: (TraceEvent<'_, S::Alloc>, usize),
     entries: &mut EntriesKept<S::Alloc>,
-    draft: &mut Draft,
     world: &mut World<S>,
 ) -> Result<(), OutOfMemory> {
     let (event, times) = run;
@@ -171,7 +163,7 @@ fn log_run<S: Store>(
         _ => {}
     }
     for _again in 0..times {
-        match keep_next(event, entries, draft, world) {
+        match keep_next(event, entries, world) {
             Ok(()) => {}
             Err(refused) => return Err(refused),
         }
@@ -205,9 +197,8 @@ pub fn log_trace<S: Store>(
         return Logged::unstarted(alloc);
     };
     let mut entries = EntriesKept { kept, drawn };
-    let mut draft = Draft::new();
     for run in trace.runs() {
-        match log_run(run, &mut entries, &mut draft, &mut world) {
+        match log_run(run, &mut entries, &mut world) {
             Ok(()) => {}
             Err(_) => return entries.logged(false),
         }

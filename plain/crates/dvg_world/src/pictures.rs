@@ -1,11 +1,11 @@
 //! The pictures of a trace.
 use std::prelude::*;
 
-use crate::happens::{are_ops, fill, happen};
+use crate::happens::happen;
 use crate::world::World;
 use dvg_code::OutOfMemory;
 use dvg_driver::Action;
-use dvg_frame::{Draft, Op};
+use dvg_frame::Op;
 use dvg_gen::Stroke;
 use dvg_log::{Trace, TraceEvent};
 use dvg_mem::{Image, Rom, Store};
@@ -53,15 +53,10 @@ fn tick_times<S: Store>(world: &mut World<S>, times: usize) {
 
 // Offers the operations `ops` to `world` `times` times, which completes no picture. The first offer
 // is taken where the driver is idle and the check accepts the draft. Any other changes nothing,
-// whatever the check would return. So the draft, which is made in `draft`, is checked at most once,
-// where the driver is idle.
-fn offer_times<S: Store>(world: &mut World<S>, ops: &[Op], draft: &mut Draft, times: usize) {
+// whatever the check would return. So the draft is checked at most once, where the driver is idle.
+fn offer_times<S: Store>(world: &mut World<S>, ops: &[Op], times: usize) {
     if world.is_idle() {
-        fill(draft, ops);
-        let _answer = world.offer(draft);
-    } else {
-        // The draft is refused, or the driver is busy.
-        are_ops(ops);
+        let _answer = world.offer_ops(ops);
     }
 }
 
@@ -102,18 +97,17 @@ fn fetch_times<S: Store>(
 }
 
 // Lets the event of `run` happen to `world` as many times as `run` says, the first as event number
-// `number`, and adds the pictures to `pictures`. The draft of an offer is made in `draft`.
+// `number`, and adds the pictures to `pictures`.
 fn draw_run<S: Store>(
     run: (TraceEvent<'_, S::Alloc>, usize),
     number: usize,
-    draft: &mut Draft,
     world: &mut World<S>,
     pictures: &mut Vec<Picture<S::Alloc>, S::Alloc>,
 ) -> Result<(), OutOfMemory> {
     let (event, times) = run;
     match event {
         TraceEvent::Offer(ops) => {
-            offer_times(world, ops, draft, times);
+            offer_times(world, ops, times);
             return Ok(());
         }
         TraceEvent::Tick => {
@@ -124,7 +118,7 @@ fn draw_run<S: Store>(
         _ => {}
     }
     for done in 0..times {
-        match happen(event, draft, world) {
+        match happen(event, world) {
             Ok(entry) => keep_picture(pictures, number + done, entry.replace(()).1),
             Err(refused) => return Err(refused),
         }
@@ -157,11 +151,10 @@ pub fn draw_trace<S: Store>(
     let Ok(mut pictures) = Vec::with_capacity(alloc, trace.len()) else {
         return Drawn::unstarted(alloc);
     };
-    let mut draft = Draft::new();
     let mut number = 0;
     for run in trace.runs() {
         let times = run.1;
-        match draw_run(run, number, &mut draft, &mut world, &mut pictures) {
+        match draw_run(run, number, &mut world, &mut pictures) {
             Ok(()) => number += times,
             Err(_) => {
                 return Drawn {

@@ -5,7 +5,7 @@ use crate::desk::Desk;
 use crate::fetched::FetchedByte;
 use dvg_code::OutOfMemory;
 use dvg_driver::Action;
-use dvg_frame::Draft;
+use dvg_frame::{Draft, Op};
 use dvg_gen::{Generator, Stroke};
 use dvg_log::{Entry, Event, OwnEntry, OwnEvent};
 use dvg_mem::{Image, MemFault, Rom, Store, fetch_byte};
@@ -110,9 +110,14 @@ impl<S: Store> World<S> {
     /// Hands `draft` to the driver to show, as by `Event::Offer`. Returns the entry.
     #[inline(always)]
     pub fn offer(&mut self, draft: &Draft) -> OwnEntry<S::Alloc> {
-        // A draft has at most 511 operations, as its type says.
-        let _ = draft.len();
-        self.desk.offer(draft)
+        self.offer_ops(draft.ops())
+    }
+
+    // Hands the draft of the operations `ops` to the driver to show, as `offer` does. Returns the
+    // entry.
+    #[inline(always)]
+    pub(crate) fn offer_ops(&mut self, ops: &[Op]) -> OwnEntry<S::Alloc> {
+        self.desk.offer(ops)
     }
 
     /// Asks the driver to have the published frame drawn again, as by `Event::Redraw`. Returns the

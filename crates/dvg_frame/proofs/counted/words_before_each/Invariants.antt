@@ -4,4 +4,4 @@ use Rattle.dvg_frame.specs.Layout.{size}
 use Rattle.dvg_frame.proofs.counted.words_before_each.Given as goal
 
 abbrev pub invariant-loop-op : goal.invariant-loop-op
-invariant-loop-op l = (l.words_before.items ≡ counts_from 0 (take l.op-index l.draft)) × (l.words ≡ size (take l.op-index l.draft))
+invariant-loop-op l = (l.words_before.items ≡ counts_from 0 (take l.op-index l.ops)) × (l.words ≡ size (take l.op-index l.ops))

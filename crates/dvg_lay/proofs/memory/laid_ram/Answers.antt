@@ -8,13 +8,13 @@ use Rattle.dvg_lay.proofs.memory.laid_ram.Goals as goal
 
 pub bounds-laid-from : goal.bounds-laid-from
 bounds-laid-from g c =
-    let words = laid c.args.half c.args.frame.operations in
+    let words = laid c.args.half c.args.frame.now.operations in
     let is = c.as_slice-laid.ensures.value ∙ c.in_ok-put_laid.ensures ∙ ap (λ l. l ++ bytes words) c.new-bytes.ensures.items in
     omega (arith, ap length is, bytes-length words, c.len_words-count.ensures.laid c.args.half)
 
 pub loop-k-preserved : goal.loop-k-preserved
 loop-k-preserved g c =
-    let F = c.args.frame.operations in
+    let F = c.args.frame.now.operations in
     let words = laid c.args.half F in
     let is = c.as_slice-laid.ensures.value ∙ c.in_ok-put_laid.ensures ∙ ap (λ l. l ++ bytes words) c.new-bytes.ensures.items in
     let few : c.loop-k.k < 1022 = omega (arith, c.len_words-count.ensures.bound) in
@@ -27,5 +27,5 @@ loop-k-preserved g c =
 
 pub returns : goal.returns
 returns g c =
-    all_laid c.loop-k.store c.args.half c.args.frame.operations c.loop-k.k c.len_words-count.result
+    all_laid c.loop-k.store c.args.half c.args.frame.now.operations c.loop-k.k c.len_words-count.result
     c.loop-k.invariant c.loop-k-test.false (c.len_words-count.ensures.laid c.args.half)

@@ -1,14 +1,12 @@
-use Rattle.std.proofs.Common.{◌≡◌, ap, sym, ◌∙◌, subst}
+use Rattle.std.proofs.Common.{sym, subst}
 use Rattle.dvg_log.specs.Entries.{shown_of}
 use Rattle.dvg_log.specs.Traces.{seen_as}
-use Rattle.dvg_log.specs.declared.event.Event.TheVariants.{Offer}
 use Rattle.dvg_world.specs.Standing.{AddsLine}
 use Rattle.dvg_world.proofs.logging.keep_next.Goals as goal
 
 pub returns-in-Offer-clause-kept : goal.returns-in-Offer-clause-kept
 returns-in-Offer-clause-kept g c =
-    let event : Offer c.fill.new.draft ≡ seen_as c.args.event = ap Offer c.fill.ensures ∙ sym (ap seen_as c.in-Offer.is) in
-    (shown_of c.offer.result, subst (λ event. AddsLine c.args.world.now event (shown_of c.offer.result) c.offer.new.self) event c.offer.ensures.stands, c.keep.ensures.kept)
+    (shown_of c.offer_ops.result, subst (λ event. AddsLine c.args.world.now (seen_as event) (shown_of c.offer_ops.result) c.offer_ops.new.self) (sym c.in-Offer.is) c.offer_ops.ensures, c.keep.ensures.kept)
 
 pub returns-in-Redraw-clause-kept : goal.returns-in-Redraw-clause-kept
 returns-in-Redraw-clause-kept g c = (shown_of c.redraw.result, subst (λ event. AddsLine c.args.world.now (seen_as event) (shown_of c.redraw.result) c.redraw.new.self) (sym c.in-Redraw.is) c.redraw.ensures.stands, c.keep-in-Redraw.ensures.kept)

@@ -1,8 +1,8 @@
 //! What is wrong at a pair of place and depth.
 use crate::checking::pair::{DEEPEST, Pair};
 use crate::checking::way::{Way, is_outside, way_at};
-use crate::draft::Draft;
 use crate::fault::FrameFault;
+use crate::op::Op;
 use crate::place::Place;
 use dvg_mem::Rom;
 use std::alloc::Allocator;
@@ -47,7 +47,7 @@ fn fault_at<A: Allocator>(rom: &Rom<A>, count: usize, pair: Pair, seen: Way) -> 
 
 // Returns the way on from `pair`, of `draft` over `rom`, or the fault of least number there.
 #[inline(always)]
-pub(crate) fn look<A: Allocator>(draft: &Draft, rom: &Rom<A>, pair: Pair) -> Result<Way, FrameFault> {
+pub(crate) fn look<A: Allocator>(draft: &[Op], rom: &Rom<A>, pair: Pair) -> Result<Way, FrameFault> {
     match way_at(draft, rom, pair.place) {
         Some(seen) => match fault_at(rom, draft.len(), pair, seen) {
             Some(fault) => Err(fault),

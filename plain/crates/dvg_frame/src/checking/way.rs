@@ -1,7 +1,7 @@
 //! How what stands at a place leads on.
 use crate::checking::pair::ROM_END;
-use crate::draft::{Draft, words_of};
-use crate::op::OpKind;
+use crate::draft::words_of;
+use crate::op::{Op, OpKind};
 use crate::place::Place;
 use dvg_mem::Rom;
 use std::alloc::Allocator;
@@ -96,10 +96,10 @@ fn rom_way<A: Allocator>(rom: &Rom<A>, a: u16) -> Option<Way> {
 // Returns the way on from `place`, of `draft` over `rom`, or `None` where the ROM ends within the
 // instruction there.
 #[inline(always)]
-pub(crate) fn way_at<A: Allocator>(draft: &Draft, rom: &Rom<A>, place: Place) -> Option<Way> {
+pub(crate) fn way_at<A: Allocator>(draft: &[Op], rom: &Rom<A>, place: Place) -> Option<Way> {
     match place {
         Place::InFrame(i) => {
-            let op = draft.op(usize::from(i));
+            let op = draft[usize::from(i)];
             let after = Place::InFrame(i + 1);
             Some(way_of_op(op.kind(), after))
         }
@@ -110,9 +110,9 @@ pub(crate) fn way_at<A: Allocator>(draft: &Draft, rom: &Rom<A>, place: Place) ->
 // Returns the span of the way on from `place`, of `draft` over `rom`, by fewer branches than
 // `way_at` takes. Returns `None` where the ROM ends within the instruction there.
 #[inline(always)]
-pub(crate) fn span_at<A: Allocator>(draft: &Draft, rom: &Rom<A>, place: Place) -> Option<Span> {
+pub(crate) fn span_at<A: Allocator>(draft: &[Op], rom: &Rom<A>, place: Place) -> Option<Span> {
     match place {
-        Place::InFrame(i) => Some(span_of_op(draft.op(usize::from(i)).kind())),
+        Place::InFrame(i) => Some(span_of_op(draft[usize::from(i)].kind())),
         Place::InRom(a) => Some(span_of(rom_way(rom, a)?)),
     }
 }

@@ -4,8 +4,7 @@ use Rattle.dvg_mem.specs.Memory.{IsRom}
 use Rattle.dvg_frame.specs.declared.op.OpKind.{OpKind}
 use Rattle.dvg_frame.specs.declared.checking.pair.Pair.{Pair}
 use Rattle.dvg_frame.specs.declared.checking.chain.TheConstants.{LONGEST, ROOM}
-use Rattle.dvg_frame.specs.Ops.{IsDraft}
-use Rattle.dvg_frame.proofs.Swept.{in_place}
+use Rattle.dvg_frame.proofs.Swept.{few_ops, in_place}
 use Rattle.dvg_frame.proofs.Tabled.{good_by, goes_in, goes_good, linked_loops, has_linked_more}
 use Rattle.dvg_frame.proofs.Tabled.{onward_goes, ending_known, keeps_same, keeps_both}
 use Rattle.dvg_frame.proofs.checking.bounds.follow.Goals as goal
@@ -15,10 +14,9 @@ few_words R words (inl small) count = omega arith
 few_words R words (inr large) count = omega arith
 
 -- how many steps are taken at most
-few_steps : (F : List OpKind) (R : List ℕ) (ops words places : ℕ) → IsDraft F → IsRom R → ops ≡ length F
+few_steps : (F : List OpKind) (R : List ℕ) (ops words places : ℕ) → length F ≤ 511 → IsRom R → ops ≡ length F
     → length R ≡ 2 * words → places ≡ words → ops + places + 1 ≤ LONGEST
-few_steps F R ops words places draft rom all count same =
-    let most = draft.count in
+few_steps F R ops words places most rom all count same =
     let few = few_words R words rom.count count in
     omega arith
 
@@ -104,28 +102,27 @@ loop-step-preserved g c =
 pub returns-clause-followed : goal.returns-clause-followed
 returns-clause-followed g c =
     let i = c.loop-step.invariant in
-    let ops = c.len.ensures.value in
     let words = c.len_words.ensures.count in
     let count = i.count in
     linked_loops _ _ c.requires.begins _ _ _ i.pairs c.requires.reached i.linked (omega arith)
 
 pub overflow_add-step-end : goal.overflow_add-step-end
 overflow_add-step-end g c =
-    let few = few_steps _ _ _ _ _ c.len.ensures.draft c.requires.rom c.len.ensures.value c.len_words.ensures.count
-    c.from.ensures in
+    let most = few_ops _ c.requires.begins in
+    let few = few_steps c.args.draft.now _ _ _ _ most c.requires.rom refl c.len_words.ensures.count c.from.ensures in
     fits_below _ few
 
 pub overflow_add-step-end-2 : goal.overflow_add-step-end-2
 overflow_add-step-end-2 g c =
-    let few = few_steps _ _ _ _ _ c.len.ensures.draft c.requires.rom c.len.ensures.value c.len_words.ensures.count
-    c.from.ensures in
+    let most = few_ops _ c.requires.begins in
+    let few = few_steps c.args.draft.now _ _ _ _ most c.requires.rom refl c.len_words.ensures.count c.from.ensures in
     fits _ few
 
 pub returns-in-Some-clause-room : goal.returns-in-Some-clause-room
 returns-in-Some-clause-room g c =
     let i = c.loop-step.invariant in
-    let few = few_steps _ _ _ _ _ c.len.ensures.draft c.requires.rom c.len.ensures.value c.len_words.ensures.count
-    c.from.ensures in
+    let most = few_ops _ c.requires.begins in
+    let few = few_steps c.args.draft.now _ _ _ _ most c.requires.rom refl c.len_words.ensures.count c.from.ensures in
     in_room _ _ _ _ _ i.is i.count c.loop-step.auto.step-end few
 
 pub look-requires-clause-rom : goal.look-requires-clause-rom
@@ -137,15 +134,15 @@ look-requires-clause-inside g c = c.loop-step.invariant.inside
 pub returns-in_default-look-clause-room : goal.returns-in_default-look-clause-room
 returns-in_default-look-clause-room g c =
     let i = c.loop-step.invariant in
-    let few = few_steps _ _ _ _ _ c.len.ensures.draft c.requires.rom c.len.ensures.value c.len_words.ensures.count
-    c.from.ensures in
+    let most = few_ops _ c.requires.begins in
+    let few = few_steps c.args.draft.now _ _ _ _ most c.requires.rom refl c.len_words.ensures.count c.from.ensures in
     in_room _ _ _ _ _ i.is i.count c.loop-step.auto.step-end few
 
 pub push-requires : goal.push-requires
 push-requires g c =
     let i = c.loop-step.invariant in
-    let few = few_steps _ _ _ _ _ c.len.ensures.draft c.requires.rom c.len.ensures.value c.len_words.ensures.count
-    c.from.ensures in (
+    let most = few_ops _ c.requires.begins in
+    let few = few_steps c.args.draft.now _ _ _ _ most c.requires.rom refl c.len_words.ensures.count c.from.ensures in (
       lit< tt,
       (
         room_left _ _ _ _ _ i.is i.count c.loop-step-test.true few _ c.requires.depth c.requires.room,
@@ -156,8 +153,8 @@ push-requires g c =
 pub returns-in-Err-clause-room : goal.returns-in-Err-clause-room
 returns-in-Err-clause-room g c =
     let i = c.loop-step.invariant in
-    let few = few_steps _ _ _ _ _ c.len.ensures.draft c.requires.rom c.len.ensures.value c.len_words.ensures.count
-    c.from.ensures in
+    let most = few_ops _ c.requires.begins in
+    let few = few_steps c.args.draft.now _ _ _ _ most c.requires.rom refl c.len_words.ensures.count c.from.ensures in
     in_room _ _ _ _ _ i.is i.count c.loop-step.auto.step-end few
 
 pub loop-step-smaller : goal.loop-step-smaller
@@ -166,6 +163,6 @@ loop-step-smaller g c = closer _ _ c.loop-step-test.true
 pub returns-clause-room : goal.returns-clause-room
 returns-clause-room g c =
     let i = c.loop-step.invariant in
-    let few = few_steps _ _ _ _ _ c.len.ensures.draft c.requires.rom c.len.ensures.value c.len_words.ensures.count
-    c.from.ensures in
+    let most = few_ops _ c.requires.begins in
+    let few = few_steps c.args.draft.now _ _ _ _ most c.requires.rom refl c.len_words.ensures.count c.from.ensures in
     in_room _ _ _ _ _ i.is i.count c.loop-step.auto.step-end few

@@ -1,7 +1,8 @@
 use Rattle.std.proofs.Common.{◌≡◌, ◌+◌, ◌-◌, ◌*◌, ◌/◌, ◌<◌, length, refl, sym, ap, ◌∙◌, subst, Some, get_or, arith}
 use Rattle.std.specs.Prelude.{slice_get}
 use Rattle.std.proofs.lemmas.Option.{slice_get-get_or}
-use Rattle.dvg_frame.specs.own.Counting.{IsCounted}
+use Rattle.dvg_frame.specs.Steps.{Begins}
+use Rattle.dvg_frame.specs.own.Frames.{IsSpelling}
 use Rattle.dvg_frame.proofs.Cursors.{one_more, turns, stays, gives, GoesOn, IsNext, next_items, next_kept}
 use Rattle.dvg_frame.proofs.cursor.CursorIterator.next.Goals as goal
 use Rattle.dvg_frame.proofs.cursor.CursorIterator.next.Goals.{After-len, After-deref, After-byte_of, then-from-len, else-from-len}
@@ -9,16 +10,18 @@ use Rattle.dvg_frame.proofs.cursor.CursorIterator.next.Goals.{After-len, After-d
 pub spelling-self-inside-requires : goal.spelling-self-inside-requires
 spelling-self-inside-requires c =
     let S = c.self.inside in
+    let same = c.of-counted.ensures ∙ c.ops.ensures.value in
+    let within = one_more S.half S.draft S.words.items S.given S.op S.left c.self.invariant.left c.if-self-eq0.false (omega arith) in
     record {
-      counted = subst (IsCounted S.frame.operations) (sym c.as_slice-words_before.ensures.value) c.self.invariant.counted;
-      within = one_more S.half S.frame.operations S.words.items S.given S.op S.left c.self.invariant.left c.if-self-eq0.false (omega arith);
+      begins = subst Begins (sym same) c.self.invariant.begins;
+      within = let long = ap length same in let at = c.from-then-from-len.ensures in omega arith;
     }
 
 pub overflow_add-self : goal.overflow_add-self
 overflow_add-self c =
     let S = c.self.inside in
-    let within = one_more S.half S.frame.operations S.words.items S.given S.op S.left c.self.invariant.left c.if-self-eq0.false (omega arith) in
-    let few = c.spelling-self-inside.ensures.draft.count in
+    let within = one_more S.half S.draft S.words.items S.given S.op S.left c.self.invariant.left c.if-self-eq0.false (omega arith) in
+    let few = c.self.invariant.counted.draft.count in
     omega arith
 
 -- the words at hand have a byte to give
@@ -28,12 +31,16 @@ ready c =
     elim c.if-from-len.branch [
       | then-from-len w ↦ (
           let all : S.given ≡ 2 * length S.words.items = (let is = w.if-from-len.true in omega arith) in
-          let within = one_more S.half S.frame.operations S.words.items S.given S.op S.left c.self.invariant.left c.if-self-eq0.false all in
+          let within = one_more S.half S.draft S.words.items S.given S.op S.left c.self.invariant.left c.if-self-eq0.false all in
+          let same = w.of-counted.ensures ∙ w.ops.ensures.value in
+          let next = w.spelling-self-inside.result.items in
+          let spelled = subst (λ k. IsSpelling S.half S.draft k next) w.from-then-from-len.ensures
+          (subst (λ F. IsSpelling S.half F w.from-then-from-len.result next) same w.spelling-self-inside.ensures) in
           subst (λ N. GoesOn S N) (sym w.self-inside-is)
-          (record { ready = turns S.half S.frame.operations S.words.items w.spelling-self-inside.result.items S.given S.op all within w.spelling-self-inside.ensures.words; address = refl; left = refl; counted = c.self.invariant.counted }))
+          (record { ready = turns S.half S.draft S.words.items w.spelling-self-inside.result.items S.given S.op all within spelled; address = refl; left = refl; begins = c.self.invariant.begins; counted = c.self.invariant.counted }))
       | else-from-len w ↦
           subst (λ N. GoesOn S N) (sym w.self-inside-is)
-          (record { ready = stays S.half S.frame.operations S.words.items S.given S.op c.self.invariant.given (λ all. w.if-from-len.false (omega arith)); address = refl; left = refl; counted = c.self.invariant.counted })
+          (record { ready = stays S.half S.draft S.words.items S.given S.op c.self.invariant.given (λ all. w.if-from-len.false (omega arith)); address = refl; left = refl; begins = c.self.invariant.begins; counted = c.self.invariant.counted })
     ]
 
 pub bounds-deref-from : goal.bounds-deref-from
@@ -56,10 +63,11 @@ gave c on =
     ap (λ ws. slice_get ws (N.given / 2)) (sym c.deref.ensures.0) ∙ ap (slice_get words) (sym c.from-2.ensures) ∙ slice_get-get_or words k 0 within in
     record {
       here = on.address;
-      bytes = gives _ N.half N.frame.operations N.words.items N.given N.op (get_or words k 0) c.byte_of.result on.ready word_is c.byte_of.ensures;
+      bytes = gives _ N.half N.draft N.words.items N.given N.op (get_or words k 0) c.byte_of.result on.ready word_is c.byte_of.ensures;
       given = let room = on.ready.room in omega arith;
       rises = let same = on.address in omega arith;
       left = let same = on.left in omega arith;
+      begins = on.begins;
       counted = on.counted;
     }
 

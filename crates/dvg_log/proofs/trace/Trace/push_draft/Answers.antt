@@ -20,11 +20,11 @@ invariant_of-self-2 g c =
     let room : kept.count + c.args.times ≤ 65536 = omega (arith, count, c.requires.room) in
     let first : c.len-first.result ≡ length kept.ops.items = search rules in
     let number : c.len-number.result ≡ length kept.offers.items = search rules in
-    let short : length c.args.draft.now ≤ 511 = search rules in
+    let draft = c.len-count.ensures.draft in
     let runs_now : c.push_reserved-2.new.self.items ≡ kept.runs.items ++ record { step = Offer c.len-number.result; times = c.args.times } ∷ [] = search rules in
     let offers_now : c.push_reserved.new.self.items ≡ kept.offers.items ++ (c.len-first.result, c.len-count.result) ∷ [] = search rules in
     let ops_now : c.extend_from_slice.new.self.items ≡ kept.ops.items ++ c.args.draft.now = search rules in
-    rw (runs_now, offers_now, ops_now, c.from.ensures) (keeps_offer c.args.draft.now c.len-first.result c.len-count.result c.len-number.result c.args.times c.self.invariant c.requires.some room first c.len-count.ensures.value short number)
+    rw (runs_now, offers_now, ops_now, c.from.ensures) (keeps_offer c.args.draft.now c.len-first.result c.len-count.result c.len-number.result c.args.times c.self.invariant c.requires.some room first c.len-count.ensures.value draft number)
 
 pub returns-clause-pushed : goal.returns-clause-pushed
 returns-clause-pushed g c =

@@ -2,7 +2,7 @@ use Rattle.std.proofs.Common.{◌∙◌, ◌/◌, ap, sym}
 use Rattle.std.specs.Prelude.{slice_get}
 use Rattle.dvg_frame.specs.Layout.{laid}
 use Rattle.dvg_frame.proofs.Bytes.{byte_in_word}
-use Rattle.dvg_frame.proofs.frame.Frame.byte.Goals as goal
+use Rattle.dvg_frame.proofs.checked.Checked.byte.Goals as goal
 
 pub returns : goal.returns
 returns c =
