@@ -4,3 +4,4 @@ pub mod DrawnCounts
 pub mod OneVerdict
 pub mod Inputs
 pub mod NumberLines
+pub mod MomentLines

@@ -7,7 +7,7 @@ use Rattle.std.proofs.lemmas.Bool.{eqb-true, false_from_ne_true}
 use Rattle.std.proofs.lemmas.Nat.{le_or_l, le_or_r}
 use Rattle.std.proofs.lemmas.List.{drop_more, take_rest}
 use Rattle.std.proofs.lemmas.List.Elements.{All-cons}
-use Rattle.dvg_log.specs.Log.{Line}
+use Rattle.dvg_log.specs.Log.{Line, Log}
 use Rattle.dvg_read.specs.Texts.{IsHex, is_passed, parts}
 use Rattle.dvg_logs.specs.LogLines.{LogRow, Tells, logged}
 use Rattle.dvg_logs.specs.LogLineTells.{AreNumbers, BeginsWithNumbers}
@@ -163,39 +163,39 @@ fetched_head {a} {n} begins =
 
 -- ---- lines that are taken
 
-pub line_taken : {old new : JudgedLines} {logged : Line} {text rest : List ℕ} → HeadLine logged text rest
-    → ((before : List (List ℕ)) (line : List ℕ) → HasJudged old before → Tells logged line → HasJudged new (before ++ line ∷ [])) → TakesLine old new text rest
+pub line_taken : {J : Type 0} {Stands : J → Log → Type 0} {Passes : Log → Type 0} {old new : JudgedLines J} {logged : Line} {text rest : List ℕ} → HeadLine logged text rest
+    → ((before : List (List ℕ)) (line : List ℕ) → HasJudged Stands Passes old before → Tells logged line → HasJudged Stands Passes new (before ++ line ∷ [])) → TakesLine Stands Passes old new text rest
 line_taken head takes = record { line = head.line; split = head.split; unended = head.unended; judged = λ before judged. takes before head.line judged head.tells }
 
-pub none_taken : (judged : JudgedLines) (text : List ℕ) → TakesLines judged judged text text
-none_taken judged text = record {
+pub none_taken : {J : Type 0} {Stands : J → Log → Type 0} {Passes : Log → Type 0} (judged : JudgedLines J) (text : List ℕ) → TakesLines Stands Passes judged judged text text
+none_taken {Stands = Stands} {Passes = Passes} judged text = record {
   front = [];
   split = refl;
-  read = λ before read. subst (IsRead judged []) (sym (append-nil before)) read;
+  read = λ before read. subst (IsRead Stands Passes judged []) (sym (append-nil before)) read;
   farther = omega arith;
   some = λ some. absurd (omega (arith, some));
 }
 
-pub one_taken : {old between new : JudgedLines} {text rest after : List ℕ} → TakesLines old between text rest → TakesLine between new rest after → new.count ≡ between.count + 1 → TakesLines old new text after
-one_taken {new = new} {text = text} {rest = rest} {after = after} lines line count = record {
+pub one_taken : {J : Type 0} {Stands : J → Log → Type 0} {Passes : Log → Type 0} {old between new : JudgedLines J} {text rest after : List ℕ} → TakesLines Stands Passes old between text rest → TakesLine Stands Passes between new rest after → new.count ≡ between.count + 1 → TakesLines Stands Passes old new text after
+one_taken {Stands = Stands} {Passes = Passes} {new = new} {text = text} {rest = rest} {after = after} lines line count = record {
   front = lines.front ++ (line.line ++ 10 ∷ []);
   split = line_off lines.front line.line after rest text lines.split line.split;
   read = λ before read. let so_far = lines.read before read in
-      subst (IsRead new []) (append_assoc before lines.front (line.line ++ 10 ∷ []))
+      subst (IsRead Stands Passes new []) (append_assoc before lines.front (line.line ++ 10 ∷ []))
       (first_read line.line so_far line.unended refl new (line.judged so_far.texts so_far.fine));
   farther = omega (arith, count, lines.farther);
   some = λ some. omega (arith, count, lines.farther);
 }
 
 -- what is left gets shorter
-pub shorter : {old new : JudgedLines} {text rest : List ℕ} → TakesLine old new text rest → length rest < length text
+pub shorter : {J : Type 0} {Stands : J → Log → Type 0} {Passes : Log → Type 0} {old new : JudgedLines J} {text rest : List ℕ} → TakesLine Stands Passes old new text rest → length rest < length text
 shorter {rest = rest} line = omega (arith, ap length line.split, length-append line.line (10 ∷ rest))
 
 -- after a text that ends with a line
-pub lines_read : {old new : JudgedLines} {unfinished text after rest : List ℕ} (lines : TakesLines old new after rest) → unfinished ≡ [] → IsRead old unfinished text → IsRead new unfinished (text ++ lines.front)
-lines_read {old = old} {new = new} {text = text} lines none read =
-    subst (λ l. IsRead new l (text ++ lines.front)) (sym none) (lines.read text (subst (λ l. IsRead old l text) none read))
+pub lines_read : {J : Type 0} {Stands : J → Log → Type 0} {Passes : Log → Type 0} {old new : JudgedLines J} {unfinished text after rest : List ℕ} (lines : TakesLines Stands Passes old new after rest) → unfinished ≡ [] → IsRead Stands Passes old unfinished text → IsRead Stands Passes new unfinished (text ++ lines.front)
+lines_read {Stands = Stands} {Passes = Passes} {old = old} {new = new} {text = text} lines none read =
+    subst (λ l. IsRead Stands Passes new l (text ++ lines.front)) (sym none) (lines.read text (subst (λ l. IsRead Stands Passes old l text) none read))
 
 -- and of a piece, of which this front was read before
-pub lines_off : {old new : JudgedLines} {after rest : List ℕ} (front piece : List ℕ) (lines : TakesLines old new after rest) → piece ≡ front ++ after → piece ≡ (front ++ lines.front) ++ rest
+pub lines_off : {J : Type 0} {Stands : J → Log → Type 0} {Passes : Log → Type 0} {old new : JudgedLines J} {after rest : List ℕ} (front piece : List ℕ) (lines : TakesLines Stands Passes old new after rest) → piece ≡ front ++ after → piece ≡ (front ++ lines.front) ++ rest
 lines_off {rest = rest} front piece lines is = is ∙ (ap (λ l. front ++ l) lines.split ∙ sym (append_assoc front lines.front rest))

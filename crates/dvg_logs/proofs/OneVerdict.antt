@@ -1,5 +1,5 @@
 -- Of the text of a log one verdict is given at most, and none where a line tells nothing.
-use Rattle.std.proofs.Common.{◌≡◌, ◌<◌, ◌+◌, ◌-◌, ℕ, suc, List, [], ◌∷◌, ◌++◌, codes, length, take, drop, reverse, refl, sym, ap, ◌∙◌, subst, arith, append_assoc, length-append, ⊎_elim, inl, inr, Result, Ok, Err, IfErr, IfOk, Bool, true, false, true≢false, cond}
+use Rattle.std.proofs.Common.{◌≡◌, ◌<◌, ◌+◌, ◌-◌, ℕ, suc, List, [], ◌∷◌, ◌++◌, codes, length, take, drop, reverse, refl, sym, ap, ◌∙◌, subst, arith, append_assoc, length-append, ⊎_elim, inl, inr, Result, Ok, Err, IfErr, IfOk, Bool, true, false, true≢false, cond, Option, Some, None}
 use Rattle.std.specs.List.{AllZip}
 use Rattle.std.proofs.lemmas.Bool.{cases_lt}
 use Rattle.std.proofs.lemmas.List.{nil_from_length, reverse-append, reverse-reverse}
@@ -20,12 +20,12 @@ use Rattle.dvg_logs.specs.LogLines.{IsLogOf, LogRow, Tells, started, fetched, lo
 use Rattle.dvg_logs.specs.declared.log_reading.LogStop.{LogStop}
 use Rattle.dvg_logs.specs.declared.log_reading.LogStop.TheVariants as stop
 use Rattle.dvg_logs.specs.LogLaws.{IsJudged}
-use Rattle.dvg_logs.specs.LogReading.{IsTornLine}
+use Rattle.dvg_logs.specs.HalfLines.{EndsUntorn, FindsTorn, IsTornLine}
 use Rattle.dvg_logs.specs.LogReading as reading
 use Rattle.dvg_logs.specs.Judging.{found_in}
 use Rattle.dvg_logs.specs.LogCounts.{counts_of, no_run_drew}
-use Rattle.dvg_logs.specs.LogTexts.{Finds, HasLogFault, IsTornAt, IsUntornLog, IsWhole, JudgesLog, MeetsSyntax}
-use Rattle.dvg_logs.proofs.LogReads.{log_length}
+use Rattle.dvg_logs.specs.LogTexts.{Finds, HasLogFault, IsFoundAt, IsTornAt, IsUntornLog, IsWhole, JudgesLog, MeetsSyntax, Says}
+use Rattle.dvg_logs.proofs.LogReads.{log_length, torn_at}
 use Rattle.dvg_logs.proofs.LogRows.{NumberRow, fetched_line, fetched_row, low_line, low_row, passed_alone, row_of, wrote_line, wrote_row}
 
 -- ---- a line tells one thing at most
@@ -132,7 +132,7 @@ first_untorn log (event ⟼ entry) all = all.0
 stops_none : {texts : List (List ℕ)} {k : ℕ} (log : Log) (more : List (List ℕ)) (stop : StopsAt texts k) → IsUntornLog log (stop.before ++ stop.line ∷ more) → ⊥
 stops_none log more stop fine =
     let front = front_of log stop.before stop.line more fine.tells in
-    let all = behind_all IsUntorn front.later (front.line ∷ front.older) (subst (Throughout IsUntorn) front.split fine.untorn) in
+    let all = behind_all IsUntorn front.later (front.line ∷ front.older) (subst (Throughout IsUntorn) front.split fine.holds) in
     let same = log_once front.older stop.log stop.before front.tells_older stop.fine.tells in
     first_untorn front.older front.line all (subst (λ log. IsTornLine log front.line) (sym same) (stop.stops front.line front.tells))
 
@@ -152,7 +152,7 @@ one_stop : {texts : List (List ℕ)} {k j : ℕ} → StopsAt texts k → StopsAt
 one_stop {texts} {k} {j} one two =
     ⊎_elim (λ less. absurd (stops_sooner one two less)) (λ not_less. ⊎_elim (λ less. absurd (stops_sooner two one less)) (λ also. omega arith) (cases_lt j k)) (cases_lt k j)
 
-syntax_stops : {texts : List (List ℕ)} {n : ℕ} (at_fault : MeetsSyntax texts n) → StopsAt texts (length at_fault.before)
+syntax_stops : {texts : List (List ℕ)} {n : ℕ} (at_fault : MeetsSyntax (Throughout IsUntorn) texts n) → StopsAt texts (length at_fault.before)
 syntax_stops at_fault = record { before = at_fault.before; line = at_fault.line; after = at_fault.after; cut = at_fault.cut; at = refl; log = at_fault.log; fine = at_fault.fine; stops = λ logged tells. absurd (at_fault.wrong logged tells) }
 
 torn_stops : {texts : List (List ℕ)} {log : Log} {n address byte : ℕ} (torn : IsTornAt texts log n address byte) → StopsAt texts (length torn.before)
@@ -178,7 +178,7 @@ torn_stops {log = log} torn =
       cut = torn.cut;
       at = refl;
       log = front.older;
-      fine = record { tells = front.tells_older; untorn = subst (Throughout IsUntorn) log first.untorn };
+      fine = record { tells = front.tells_older; holds = subst (Throughout IsUntorn) log first.untorn };
       stops = λ logged tells. subst (IsTornLine front.older) (tells_once front.line logged torn.line front.tells tells) is_torn;
     }
 
@@ -187,14 +187,8 @@ never_stops log fine stop = stops_none log stop.after stop (subst (IsUntornLog l
 
 -- ---- each text
 
--- why the reading of a text stops is its verdict or its fault
-pub judged_at : (text : List ℕ) (stop : LogStop) → reading.StopsAt stop (lines text) → IsJudged text
-judged_at text (stop.Torn n address byte counts) (log, torn, counted) = inl (record { finding = Torn n address byte; counts = counts }, record { log = log; finds = torn; counts = counted })
-judged_at text (stop.Syntax n) stops = inr (Syntax n, stops)
-judged_at text stop.TooLong stops = inr (TooLong, stops)
-
 -- what is found in a log that was read to its end
-pub whole_judged : (text : List ℕ) (counts : LogCounts) (log : Log) → IsWhole (lines text) log → counts ≡ counts_of log → JudgesLog text (record { finding = found_in counts; counts = counts })
+pub whole_judged : (text : List ℕ) (counts : LogCounts) (log : Log) → IsWhole (Throughout IsUntorn) (lines text) log → counts ≡ counts_of log → JudgesLog text (record { finding = found_in counts; counts = counts })
 whole_judged text counts log whole is = record {
   log = log;
   finds = subst (λ counts. Finds (found_in counts) (lines text) log) (sym is) (found (no_run_drew (counts_of log)) refl);
@@ -205,12 +199,32 @@ whole_judged text counts log whole is = record {
     found true is = (whole, is)
     found false is = (whole, is)
 
+-- what decides in a text, and is said of it
+finding_torn : (verdict : LogVerdict) (n a byte : ℕ) (log : Log) (text : List ℕ) → verdict.finding ≡ Torn n a byte → verdict.counts ≡ counts_of log → IsTornAt (lines text) log n a byte → JudgesLog text verdict
+finding_torn verdict n a byte log text is counts torn = record { log = log; finds = subst (λ found. Finds found (lines text) log) (sym is) torn; counts = counts }
+
+pub torn_judged : (text : List ℕ) (n : ℕ) (verdict : LogVerdict) → IsFoundAt (Throughout IsUntorn) FindsTorn (lines text) n verdict → JudgesLog text verdict
+torn_judged text n verdict found =
+    let finds = found.finds in
+    let at : length found.log + 1 ≡ n = omega (arith, log_length found.log found.before found.fine.tells, found.number) in
+    let finding = finds.finding ∙ ap (λ n. Torn n finds.address finds.byte) at in
+    finding_torn verdict n finds.address finds.byte (found.line ∷ found.log) text finding finds.counts
+    (subst (λ texts. IsTornAt texts (found.line ∷ found.log) n finds.address finds.byte) (sym found.cut)
+    (torn_at found.log found.before found.line finds.address finds.byte found.text found.after finds.is found.fine found.tells finds.torn n found.number))
+
+pub halves_judged : (text : List ℕ) (verdict : LogVerdict) (decided : Option ℕ) → Says (Throughout IsUntorn) FindsTorn EndsUntorn verdict (lines text) decided → JudgesLog text verdict
+halves_judged text verdict (Some n) found = torn_judged text n verdict found
+halves_judged text verdict None (log, whole, is) = subst (JudgesLog text) (sym is) (whole_judged text (counts_of log) log whole refl)
+
+pub judged_at : (text : List ℕ) (why : LogStop LogVerdict) → reading.StopsAt (Throughout IsUntorn) FindsTorn why (lines text) → IsJudged text
+judged_at text (stop.Found n verdict) stops = inl (verdict, torn_judged text n verdict stops)
+judged_at text (stop.Syntax n) stops = inr (Syntax n, stops)
+judged_at text stop.TooLong stops = inr (TooLong, stops)
+
 -- so it is at the end of a text that was read
-pub judged_by : (HasRead : List ℕ → Type 0) (text : List ℕ) (answer : Result LogCounts LogStop) → HasRead text → IfErr answer (λ stop. (text : List ℕ) → HasRead text → reading.StopsAt stop (lines text))
-    → IfOk answer (λ counts. (text : List ℕ) → HasRead text → (log : Log) × IsWhole (lines text) log × (counts ≡ counts_of log)) → IsJudged text
-judged_by HasRead text (Ok counts) read stops judged =
-    let (log, whole, is) = judged text read in
-    inl (record { finding = found_in counts; counts = counts }, whole_judged text counts log whole is)
+pub judged_by : (HasRead : List ℕ → Type 0) (text : List ℕ) (answer : Result LogVerdict (LogStop LogVerdict)) → HasRead text → IfErr answer (λ stop. (text : List ℕ) → HasRead text → reading.StopsAt (Throughout IsUntorn) FindsTorn stop (lines text))
+    → IfOk answer (λ verdict. (text : List ℕ) → HasRead text → (log : Log) × IsWhole (Throughout IsUntorn) (lines text) log × EndsUntorn verdict log) → IsJudged text
+judged_by HasRead text (Ok verdict) read stops judged = inl (verdict, halves_judged text verdict None (judged text read))
 judged_by HasRead text (Err why) read stops judged = judged_at text why (stops text read)
 
 -- ---- the laws
@@ -234,11 +248,11 @@ record AreOne (one other : LogFinding) (log older : Log) : Type 0 where
   pub finding : other ≡ one
   pub same : older ≡ log
 
-whole_once : (texts : List (List ℕ)) (finding : LogFinding) (log other : Log) → IsWhole texts log → IsWhole texts other → AreOne finding finding log other
+whole_once : (texts : List (List ℕ)) (finding : LogFinding) (log other : Log) → IsWhole (Throughout IsUntorn) texts log → IsWhole (Throughout IsUntorn) texts other → AreOne finding finding log other
 whole_once texts finding log other one two = record { finding = refl; same = log_once other log texts two.fine.tells one.fine.tells }
 
 -- runs drew in a log or didn't
-drew_once : (texts : List (List ℕ)) (log other : Log) → IsWhole texts log → IsWhole texts other → no_run_drew (counts_of log) ≡ true → no_run_drew (counts_of other) ≡ false → ⊥
+drew_once : (texts : List (List ℕ)) (log other : Log) → IsWhole (Throughout IsUntorn) texts log → IsWhole (Throughout IsUntorn) texts other → no_run_drew (counts_of log) ≡ true → no_run_drew (counts_of other) ≡ false → ⊥
 drew_once texts log other one two none some =
     true≢false (sym none ∙ (ap (λ log. no_run_drew (counts_of log)) (log_once log other texts one.fine.tells two.fine.tells) ∙ some))
 

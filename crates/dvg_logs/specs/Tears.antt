@@ -1,5 +1,5 @@
 -- What `torn` answers, writes and takes.
-use Rattle.std.specs.Prelude.{◌+◌, ◌-◌, ◌^◌, ℕ, List, [], ◌∷◌, ◌++◌, flat_map, length, take, Option, Result, Ok, Err}
+use Rattle.std.specs.Prelude.{◌+◌, ◌-◌, ◌^◌, ℕ, List, [], ◌∷◌, ◌++◌, flat_map, length, take, Option, Some, None, Result, Ok, Err}
 use Rattle.std.specs.Io.KnownBytes.{Appends, Consumes, IsAtEnd}
 use Rattle.dvg_read.specs.Texts.{lines}
 use Rattle.dvg_print.specs.LogVerdicts.{log_verdict_text}
@@ -30,6 +30,11 @@ ended = flat_map (λ line. line ++ 10 ∷ [])
 -- piece of at most 32,768
 abbrev pub TakesUpTo : ℕ → (input : List ℕ) → Option (List ℕ) → Option (List ℕ) → Type 0
 TakesUpTo n input old new = TakesAtMost (length (ended (take (n - 1) (lines input))) + 32832) old new
+
+-- what was taken of an input: all of it, or up to line n
+abbrev pub TakesTo : Option ℕ → (input : List ℕ) → Option (List ℕ) → Option (List ℕ) → Type 0
+TakesTo None input old new = Consumes old new input × IsAtEnd new
+TakesTo (Some n) input old new = TakesUpTo n input old new
 
 -- what was taken of an input, when this was found: all of it, or up to the torn line
 abbrev pub TakesFor : LogFinding → (input : List ℕ) → Option (List ℕ) → Option (List ℕ) → Type 0

@@ -3,6 +3,7 @@
 ghost use Rattle.dvg_logs.specs.LogLaws.{IsJudged, NoVerdictBesideFault, OneLogFault};
 ghost use Rattle.dvg_logs.specs.LogLaws.{OneLogVerdict};
 
+use crate::half_lines::HalfLines;
 use crate::log_reading::LogReading;
 
 /// At most one verdict is given of the text of a log.
@@ -25,7 +26,7 @@ pub fn no_verdict_beside_fault()
 pub fn each_is_judged(text: &[u8])
     ensures { IsJudged text.now }
 {
-    let mut reading = LogReading::new();
+    let mut reading = LogReading::new(HalfLines::new());
     match reading.take_piece(text) {
         Ok(()) => {
             let _end = reading.finish();

@@ -3,4 +3,4 @@ use Rattle.dvg_logs.proofs.NumberLines.{one_taken}
 use Rattle.dvg_logs.proofs.log_reading.JudgedLines.take_number_lines.Goals as goal
 
 pub loop-judged-preserved : goal.loop-judged-preserved
-loop-judged-preserved c = one_taken c.loop-judged.invariant c.in-Some.ensures.taken (c.in-Some.ensures.count refl)
+loop-judged-preserved g c = one_taken c.loop-judged.invariant c.in-Some.ensures.taken (c.in-Some.ensures.count refl)
