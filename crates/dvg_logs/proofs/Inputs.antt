@@ -7,8 +7,6 @@ use Rattle.std.specs.Prelude.{Result, Ok, Err}
 use Rattle.dvg_log.specs.Log.{Line, Log, Throughout}
 use Rattle.dvg_log.specs.Torn.{IsUntorn}
 use Rattle.dvg_read.specs.Texts.{lines}
-use Rattle.dvg_read.specs.declared.fault.TextFault.{TextFault}
-use Rattle.dvg_read.specs.declared.fault.TextFault.TheVariants as faults
 use Rattle.dvg_io.specs.declared.fault.ToolFault.{ToolFault}
 use Rattle.dvg_io.specs.declared.fault.ToolFault.TheVariants.{Text, Reader, Writer, Memory}
 use Rattle.dvg_print.specs.declared.log_verdict.LogFinding.TheVariants.{NotTorn, NoRunDrew, Torn}
@@ -35,7 +33,7 @@ ended_front before more k fits =
     omega (arith, same, both, length-append (ended before) (ended (take rest more)))
 
 module _ {J V : Type 0} (Stands : J → Log → Type 0) (Passes : Log → Type 0) (Finds : V → Line → Log → Type 0) (Ends : V → Log → Type 0) where
-  Reads : Result V ToolFault → (input : List ℕ) → Option (List ℕ) → Option (List ℕ) → Type 0
+  abbrev pub Reads : Result V ToolFault → (input : List ℕ) → Option (List ℕ) → Option (List ℕ) → Type 0
   Reads = ReadsAs Passes Finds Ends
 
   read_as : (stop : LogStop V) (input : List ℕ) (old new : Option (List ℕ)) → StopsAt Passes Finds stop (lines input) → TakesUpTo (number_of stop) input old new → Reads (answer_of stop) input old new
@@ -101,14 +99,10 @@ takes_halves text verdict None old new (log, whole, is) takes = subst (λ verdic
 
 pub halves_of : (answer : Result LogVerdict ToolFault) (input : List ℕ) (old new : Option (List ℕ)) → ReadsAs (Throughout IsUntorn) FindsTorn EndsUntorn answer input old new → JudgesInput answer input old new
 halves_of (Ok verdict) input old new (decided, says, takes) = (halves_judged input verdict decided says, takes_halves input verdict decided old new says takes)
-halves_of (Err (Text (faults.Syntax n))) input old new (stops, takes) = (stops, takes)
-halves_of (Err (Text faults.TooLong)) input old new (stops, takes) = (stops, takes)
+halves_of (Err (Text fault)) input old new (stops, takes) = (stops, takes)
 halves_of (Err Reader) input old new reads = (tt, tt)
-halves_of (Err (Text faults.Odd)) input old new reads = absurd reads
-halves_of (Err (Text (faults.Cut at))) input old new reads = absurd reads
-halves_of (Err (Text faults.RomSize)) input old new reads = absurd reads
-halves_of (Err Writer) input old new reads = XX
-halves_of (Err Memory) input old new reads = (tt, tt)
+halves_of (Err Writer) input old new reads = absurd reads
+halves_of (Err Memory) input old new reads = absurd reads
 
 pub halves_known : (answer : Result LogVerdict ToolFault) (old new : Option (List ℕ)) → IfSome old (λ input. ReadsAs (Throughout IsUntorn) FindsTorn EndsUntorn answer input old new) → IfSome old (λ input. JudgesInput answer input old new)
 halves_known answer None new reads = tt

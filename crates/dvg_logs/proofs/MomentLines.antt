@@ -32,10 +32,10 @@ torn_of (line ∷ log) n last since = since.0
 module _ (log : Log) (event : Happening) (entry : Shown) (goes : entry ≢ Started) where
   -- no moment comes back
   stays : open_run ((event ⟼ entry) ∷ log) ≢ None → IsTorn log → IsTorn ((event ⟼ entry) ∷ log)
-  stays open torn = (open, torn_on told log event entry goes torn.1)
+  stays opened torn = (opened, torn_on told log event entry goes torn.1)
 
   since_on : (n : ℕ) (last : Line) → (open_run log ≢ None → open_run ((event ⟼ entry) ∷ log) ≢ None) → TornSince log n last → TornSince ((event ⟼ entry) ∷ log) n last
-  since_on n last open since = let torn = torn_of log n last since in (stays (open torn.0) torn, inl (torn, since))
+  since_on n last opened since = let torn = torn_of log n last since in (stays (opened torn.0) torn, inl (torn, since))
 
   -- a line that reads nothing leaves a moment
   keeps : ((a : ℕ) → reads log entry a ≡ None) → OfOneMoment told log → OfOneMoment told ((event ⟼ entry) ∷ log)
@@ -44,7 +44,7 @@ module _ (log : Log) (event : Happening) (entry : Shown) (goes : entry ≢ Start
   -- so it tears no run
   pub silent_tears : (tear : Option Tear) → ((a : ℕ) → reads log entry a ≡ None) → (open_run log ≡ open_run ((event ⟼ entry) ∷ log)) → TearsSo tear log → TearsSo tear ((event ⟼ entry) ∷ log)
   silent_tears None none same whole = λ torn. whole ((λ e. torn.0 (sym same ∙ e)), λ one. torn.1 (keeps none one))
-  silent_tears (Some tear) none same since = since_on tear.line (Fetch ⟼ reading_entry tear.reading) (λ open e. open (same ∙ e)) since
+  silent_tears (Some tear) none same since = since_on tear.line (Fetch ⟼ reading_entry tear.reading) (λ opened e. opened (same ∙ e)) since
 
 -- a run that begins isn't torn, and none is open that ended
 pub start_tears : (log : Log) → ¬ IsTorn ((Strobe ⟼ Started) ∷ log)
@@ -52,35 +52,25 @@ start_tears log torn = torn.1 (still_of_one told ((Strobe ⟼ Started) ∷ log) 
 
 -- a line that reads may leave no moment
 open_on : (reading : Reading) (log : Log) → open_run log ≢ None → open_run ((Fetch ⟼ reading_entry reading) ∷ log) ≢ None
-open_on (of.Low address byte) log open = open
-open_on (of.Fetched address word) log open = by_case (open_run log) open
+open_on (of.Low address byte) log opened = opened
+open_on (of.Fetched address word) log opened = by_case (open_run log) opened
   where
     by_case : (run : Option (List (ℕ × ℕ))) → run ≢ None → option_map (λ fetches. (address, word) ∷ fetches) run ≢ None
-    by_case None open e = open refl
-    by_case (Some fetches) open e = none-some _ (sym e)
+    by_case None opened e = opened refl
+    by_case (Some fetches) opened e = none-some _ (sym e)
 
 reading_goes : (reading : Reading) → reading_entry reading ≢ Started
 reading_goes (of.Low address byte) e = cc
 reading_goes (of.Fetched address word) e = cc
 
-pub reading_on : (reading : Reading) (log : Log) (tear : Option Tear) (torn : Bool) → TearsSo tear log → (IsTrue torn ↔ IsTorn ((Fetch ⟼ reading_entry reading) ∷ log)) → (torn ≡ false) ⊎ (tear ≢ None) → TearsSo tear ((Fetch ⟼ reading_entry reading) ∷ log)
-reading_on reading log None torn whole tells (inl not) = λ is. absurd (true≢false (sym (tells.1 is) ∙ not))
-reading_on reading log None torn whole tells (inr some) = absurd (some refl)
-reading_on reading log (Some tear) torn since tells either = since_on log Fetch (reading_entry reading) (reading_goes reading) tear.line (Fetch ⟼ reading_entry tear.reading) (open_on reading log) since
+pub reading_on : (reading : Reading) (log : Log) (tear : Tear) → TearsSo (Some tear) log → TearsSo (Some tear) ((Fetch ⟼ reading_entry reading) ∷ log)
+reading_on reading log tear since = since_on log Fetch (reading_entry reading) (reading_goes reading) tear.line (Fetch ⟼ reading_entry tear.reading) (open_on reading log) since
 
 pub torn_by : (reading : Reading) (log : Log) (line : ℕ) → ¬ IsTorn log → IsTorn ((Fetch ⟼ reading_entry reading) ∷ log) → line ≡ length log + 1
     → TearsSo (Some (record { line = line; reading = reading })) ((Fetch ⟼ reading_entry reading) ∷ log)
 torn_by reading log line whole torn at = (torn, inr (whole, at, refl))
 
 -- ---- what is counted
-
-pub begins_few : (log : Log) → count_by begins log ≤ length log
-begins_few [] = omega arith
-begins_few (line ∷ log) = by_case (begins line) (begins_few log)
-  where
-    by_case : (one : Bool) → count_by begins log ≤ length log → cond one (suc (count_by begins log)) (count_by begins log) ≤ suc (length log)
-    by_case true few = omega (arith, few)
-    by_case false few = omega (arith, few)
 
 pub halted_few : (log : Log) → halted_of log ≤ length log
 halted_few [] = omega arith
@@ -106,13 +96,19 @@ pub judged_more : (line : Line) (log : Log) → halts_run line log ≡ true → 
 judged_more line log one = ap (λ b. (b && has_read log) || has_judged log) one
 
 -- whether a run is open
-pub is_open : (run : Option (List (ℕ × ℕ))) → run ≢ None → is_some run ≡ true
-is_open None open = absurd (open refl)
-is_open (Some fetches) open = refl
+pub halts_is : (halts : Bool) (run : Option (List (ℕ × ℕ))) → IsTrue halts ↔ (run ≢ None) → halts ≡ is_some run
+halts_is true None tells = absurd (tells.0 refl refl)
+halts_is true (Some fetches) tells = refl
+halts_is false None tells = refl
+halts_is false (Some fetches) tells = tells.1 (λ e. none-some _ (sym e))
 
-pub is_closed : (run : Option (List (ℕ × ℕ))) → ¬ (run ≢ None) → is_some run ≡ false
-is_closed None closed = refl
-is_closed (Some fetches) closed = absurd (closed (λ e. none-some _ (sym e)))
+-- the counts after a line by which a run comes to its HALT or none does
+pub halted_on : (line : Line) (log : Log) (halts : Bool) (count : ℕ) → halts ≡ halts_run line log → count ≡ halted_of log → length log < 2 ^ 64 - 1 → cond halts ((count + 1) % 2 ^ 64) count ≡ halted_of (line ∷ log)
+halted_on line log true count is so few = let more = halted_more line log (sym is) in omega (arith, so, more, halted_few log, few)
+halted_on line log false count is so few = so ∙ sym (halted_same line log (sym is))
+
+pub judged_on : (line : Line) (log : Log) (halts read before : Bool) → halts ≡ halts_run line log → read ≡ has_read log → before ≡ has_judged log → ((halts && read) || before) ≡ has_judged (line ∷ log)
+judged_on line log halts read before is has so = rw (is, has, so) refl
 
 -- what reads nothing contradicts nothing
 pub silent_sound : (log : Log) (entry : Shown) → ((a : ℕ) → reads log entry a ≡ None) → ¬ Contradicts log entry

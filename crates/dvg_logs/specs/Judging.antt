@@ -1,5 +1,5 @@
 -- What is said of a log before that is written (for private contracts).
-use Rattle.std.specs.Prelude.{ℕ, ◌^◌, List, Option, Result, Ok, Err, cond}
+use Rattle.std.specs.Prelude.{ℕ, List, Option, Result, Ok, Err, cond}
 use Rattle.dvg_read.specs.declared.fault.TextFault.TheVariants as of_text
 use Rattle.dvg_print.specs.declared.log_verdict.LogVerdict.{LogVerdict}
 use Rattle.dvg_print.specs.declared.log_verdict.LogFinding.{LogFinding}
@@ -10,8 +10,8 @@ use Rattle.dvg_logs.specs.declared.log_reading.LogStop.{LogStop}
 use Rattle.dvg_logs.specs.declared.log_reading.LogStop.TheVariants.{Found, Syntax, TooLong}
 use Rattle.dvg_print.specs.declared.log_verdict.LogCounts.{LogCounts}
 use Rattle.dvg_logs.specs.LogCounts.{no_run_drew}
-use Rattle.dvg_logs.specs.LogTexts.{HasLogFault, JudgesLog, MeetsSyntax, MeetsTooMany, Says}
-use Rattle.dvg_logs.specs.Tears.{Takes, TakesTo, TakesUpTo}
+use Rattle.dvg_logs.specs.LogTexts.{HasFaultIn, HasLogFault, JudgesLog, Says}
+use Rattle.dvg_logs.specs.Tears.{Takes, TakesAtFault, TakesTo}
 use Rattle.dvg_log.specs.Log.{Line, Log}
 use Rattle.dvg_read.specs.Texts.{lines}
 
@@ -26,12 +26,10 @@ abbrev pub ReadsAs : {V : Type 0} → (Log → Type 0) → (V → Line → Log �
     → Result V ToolFault → (input : List ℕ) → Option (List ℕ) → Option (List ℕ) → Type 0
 ReadsAs Passes Finds Ends (Ok verdict) input old new =
     (decided : Option ℕ) × Says Passes Finds Ends verdict (lines input) decided × TakesTo decided input old new
-ReadsAs Passes Finds Ends (Err (Text (of_text.Syntax n))) input old new =
-    MeetsSyntax Passes (lines input) n × TakesUpTo n input old new
-ReadsAs Passes Finds Ends (Err (Text of_text.TooLong)) input old new =
-    MeetsTooMany Passes (lines input) × TakesUpTo (2 ^ 64) input old new
-ReadsAs Passes Finds Ends (Err (Text _)) input old new = ⊥
-ReadsAs Passes Finds Ends (Err _) input old new = Unit {0}
+ReadsAs Passes Finds Ends (Err (Text fault)) input old new =
+    HasFaultIn Passes input fault × TakesAtFault fault input old new
+ReadsAs Passes Finds Ends (Err Reader) input old new = Unit {0}
+ReadsAs Passes Finds Ends (Err _) input old new = ⊥
 
 -- what is found where no line is torn
 abbrev pub found_in : LogCounts → LogFinding

@@ -92,8 +92,12 @@ pub record JudgesLog (text : List ℕ) (verdict : LogVerdict) : Type 0 where
   pub finds : Finds verdict.finding (lines text) log
   pub counts : verdict.counts ≡ counts_of log
 
--- the fault of a log's text
+-- the fault of a log's text, where this holds of the log before it
+abbrev pub HasFaultIn : (Log → Type 0) → List ℕ → TextFault → Type 0
+HasFaultIn Holds text (Syntax n) = MeetsSyntax Holds (lines text) n
+HasFaultIn Holds text TooLong = MeetsTooMany Holds (lines text)
+HasFaultIn Holds text _ = ⊥
+
+-- the fault of a log's text, before which no line is torn
 abbrev pub HasLogFault : List ℕ → TextFault → Type 0
-HasLogFault text (Syntax n) = MeetsSyntax (Throughout IsUntorn) (lines text) n
-HasLogFault text TooLong = MeetsTooMany (Throughout IsUntorn) (lines text)
-HasLogFault text _ = ⊥
+HasLogFault = HasFaultIn (Throughout IsUntorn)

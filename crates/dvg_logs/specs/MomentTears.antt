@@ -1,18 +1,17 @@
 -- What `torn --moments` answers, writes and takes.
-use Rattle.std.specs.Prelude.{◌^◌, ℕ, List, Option, Result, Ok, Err}
+use Rattle.std.specs.Prelude.{ℕ, List, Option, Result, Ok, Err}
 use Rattle.std.specs.Io.KnownBytes.{Appends}
 use Rattle.dvg_log.specs.Log.{Throughout}
 use Rattle.dvg_read.specs.Texts.{lines}
 use Rattle.dvg_read.specs.declared.fault.TextFault.{TextFault}
-use Rattle.dvg_read.specs.declared.fault.TextFault.TheVariants.{TooLong, Syntax}
 use Rattle.dvg_print.specs.declared.moment_verdict.MomentVerdict.{MomentVerdict}
 use Rattle.dvg_print.specs.MomentVerdicts.{moment_verdict_text}
 use Rattle.dvg_io.specs.declared.fault.ToolFault.{ToolFault}
 use Rattle.dvg_io.specs.declared.fault.ToolFault.TheVariants.{Text, Reader, Writer, Memory}
 use Rattle.dvg_io.specs.Watching.{BeginsToWrite}
-use Rattle.dvg_logs.specs.LogTexts.{MeetsSyntax, MeetsTooMany, Says}
+use Rattle.dvg_logs.specs.LogTexts.{HasFaultIn, Says}
 use Rattle.dvg_logs.specs.MomentLogs.{Decides, Ends, IsSound}
-use Rattle.dvg_logs.specs.Tears.{TakesTo, TakesUpTo}
+use Rattle.dvg_logs.specs.Tears.{TakesAtFault, TakesTo}
 
 -- this is said of the text of a log: at line n, or at its end
 abbrev pub JudgesMoments : (text : List ℕ) → MomentVerdict → Option ℕ → Type 0
@@ -20,9 +19,7 @@ JudgesMoments text verdict decided = Says (Throughout IsSound) Decides Ends verd
 
 -- the fault of a log's text, before which no line decides
 abbrev pub HasMomentFault : List ℕ → TextFault → Type 0
-HasMomentFault text (Syntax n) = MeetsSyntax (Throughout IsSound) (lines text) n
-HasMomentFault text TooLong = MeetsTooMany (Throughout IsSound) (lines text)
-HasMomentFault text _ = ⊥
+HasMomentFault = HasFaultIn (Throughout IsSound)
 
 -- what `torn --moments` answers to an input, and what went out: the verdict's text, or at `Writer` a beginning of it
 -- (that nothing went out at the others is a clause of its own)
@@ -40,8 +37,7 @@ MomentTears (Err Memory) input old new = ⊥
 abbrev pub MomentTakes : Result MomentVerdict ToolFault → (input : List ℕ) → Option (List ℕ) → Option (List ℕ) → Type 0
 MomentTakes (Ok verdict) input old new =
     (decided : Option ℕ) × JudgesMoments input verdict decided × TakesTo decided input old new
-MomentTakes (Err (Text (Syntax n))) input old new = TakesUpTo n input old new
-MomentTakes (Err (Text _)) input old new = TakesUpTo (2 ^ 64) input old new
+MomentTakes (Err (Text fault)) input old new = TakesAtFault fault input old new
 MomentTakes (Err Writer) input old new = (verdict : MomentVerdict) × (decided : Option ℕ)
     × JudgesMoments input verdict decided × TakesTo decided input old new
 MomentTakes (Err _) input old new = Unit {0}

@@ -1,5 +1,5 @@
 //! The lines of a log by moments: each run is of one.
-ghost use Rattle.std.specs.Prelude.{◌≡◌, IfSome, IsNone, IsTrue};
+ghost use Rattle.std.specs.Prelude.{◌≡◌, ◌+◌, ◌%◌, ◌^◌, ◌&&◌, ◌||◌, cond, IfSome, IsNone, IsTrue};
 ghost use Rattle.dvg_print.specs.declared.moment_verdict.MomentVerdict.TheVariants as say;
 
 use crate::line_judge::LineJudge;
@@ -74,10 +74,16 @@ impl MomentLines {
             → line ≡ length judged + 1 → TearsSo self.now.tear judged
             → TearsSo result ((Fetch ⟼ reading_entry reading) ∷ judged) }
     {
-        if self.tear.is_none() && self.judge.is_torn() {
-            return Some(Tear { line, reading });
+        match self.tear {
+            Some(tear) => Some(tear),
+            None => {
+                if self.judge.is_torn() {
+                    Some(Tear { line, reading })
+                } else {
+                    None
+                }
+            }
         }
-        self.tear
     }
 
     // Takes the line number `number`, a fetch of the low byte `byte` at the word address `address`.
@@ -107,10 +113,9 @@ impl MomentLines {
         ensures { (log : Log) → StandsSo self.old log → length log < 2 ^ 64 - 1
             → StandsSo self.new (line_of says.Halted ∷ log) }
     {
-        if self.judge.is_open() {
-            self.halted = self.halted.wrapping_add(1);
-            self.some_judged = self.has_read || self.some_judged;
-        }
+        let halts = self.judge.is_open();
+        self.halted = halted_with(self.halted, halts);
+        self.some_judged = has_judged(halts, self.has_read, self.some_judged);
         self.judge.ended();
         self.tear = None;
     }
@@ -123,6 +128,26 @@ impl MomentLines {
         self.judge.reset();
         self.tear = None;
     }
+}
+
+// Returns `halted`, a count of the runs that came to their HALT, with one more where `halts`. It is
+// no greater than that of the lines, so it doesn't wrap.
+fn halted_with(halted: usize, halts: bool) -> usize
+    ensures { result ≡ cond halts ((halted + 1) % 2 ^ 64) halted }
+{
+    if halts {
+        halted.wrapping_add(1)
+    } else {
+        halted
+    }
+}
+
+// Returns whether a run came to its HALT that had fetched something: one did `before`, or one
+// `halts` that has.
+fn has_judged(halts: bool, has_read: bool, before: bool) -> bool
+    ensures { result ≡ ((halts && has_read) || before) }
+{
+    (halts && has_read) || before
 }
 
 // Returns what is said where the line number `number` reads `reading`, if it contradicts.

@@ -51,6 +51,3 @@ returns-in-Ok-finish-clause-reads g c =
     let none = subst (λ n. Consumes now new (take n c.read.new.buf)) c.if-count-eq0.true c.in-Ok.ensures.bytes.0 in
     let at_end = c.in-Ok.ensures.bytes.1 c.if-count-eq0.true (omega arith) in
     ends_input g.J.LineJudge.Stands g.J.LineJudge.Passes g.J.LineJudge.Finds g.J.LineJudge.Ends c.in-Ok-finish.verdict known now new text (c.in-Ok-finish.ensures.read text read) before none at_end
-
-pub loop-count-init : goal.loop-count-init
-loop-count-init g c = record { counted = refl; read = ([], Consumes-none _, c.new-reading.ensures c.requires.stands c.requires.passes) }
