@@ -76,11 +76,17 @@ fn numbers(bytes: &[u8], digits: usize) -> Option<(u16, u16)> {
     Some((hex(&bytes[..3])?, hex(&bytes[4..])?))
 }
 
-/// What a line says.
+/// What a line says, in small letters or capitals, and with a CR at its end or without.
 fn read_line(line: &[u8]) -> Option<LogLine> {
     if line.len() > MOST_LINE_BYTES {
         return None;
     }
+    let line = line.strip_suffix(b"\r").unwrap_or(line);
+    read_small(line).or_else(|| read_small(&line.to_ascii_lowercase()))
+}
+
+/// What a line in small letters says.
+fn read_small(line: &[u8]) -> Option<LogLine> {
     if let Some(rest) = line.strip_prefix(b"wrote ") {
         let (address, byte) = numbers(rest, 2)?;
         return (address < RAM_END).then_some(LogLine::Wrote(address, byte as u8));

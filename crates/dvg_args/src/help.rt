@@ -229,7 +229,8 @@ line per event:
                     to 7FF
 
 A line has at most 64 bytes. Numbers are hexadecimal, with as many digits as
-here. An empty line and a line that begins with `#` are passed over.
+here. Capitals, and a CR at the end, are read, too. An empty line and a line that
+begins with `#` are passed over.
 
 Take `torn` alone for a system that draws one half of the RAM while it writes the
 other: it names the first byte that breaks this. Take `torn --moments` for any

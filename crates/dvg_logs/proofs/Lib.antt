@@ -1,3 +1,4 @@
+pub mod SmallLines
 pub mod LogRows
 pub mod LogReads
 pub mod DrawnCounts

@@ -52,7 +52,8 @@ impl<J: LineJudge> JudgedLines<J> {
         ensures taken { (before : List (List ℕ)) → HasJudged J.Stands J.Passes self.old before
             → OnOk result (HasJudged J.Stands J.Passes self.new (before ++ line.now ∷ [])) }
         ensures stop { IfErr result (λ stop. (before after : List (List ℕ))
-            → HasJudged J.Stands J.Passes self.old before → StopsAt J.Passes J.Finds stop (before ++ line.now ∷ after)) }
+            → HasJudged J.Stands J.Passes self.old before
+            → StopsAt J.Passes J.Finds stop (before ++ line.now ∷ after)) }
         ensures next { IfErr result (λ stop. number_of stop ≡ self.old.count + 1) }
         ensures count { OnOk result (self.new.count ≡ self.old.count + 1) }
     {
@@ -118,7 +119,8 @@ impl<J: LineJudge> LogReading<J> {
         requires { IsOpen bytes.now }
         ensures read { (text : List ℕ) → HasRead J.Stands J.Passes self.old text
             → OnOk result (HasRead J.Stands J.Passes self.new (text ++ bytes.now)) }
-        ensures stop { IfErr result (λ stop. (text more : List ℕ) → HasRead J.Stands J.Passes self.old text
+        ensures stop { IfErr result (λ stop. (text more : List ℕ)
+            → HasRead J.Stands J.Passes self.old text
             → StopsAt J.Passes J.Finds stop (lines (text ++ (bytes.now ++ more)))) }
         ensures next { IfErr result (λ stop. number_of stop ≡ self.old.judged.count + 1) }
         ensures bytes { OnOk result (self.new.unfinished.items
@@ -136,7 +138,8 @@ impl<J: LineJudge> LogReading<J> {
         requires { IsOpen bytes.now }
         ensures read { (text : List ℕ) → HasRead J.Stands J.Passes self.old text
             → OnOk result (HasRead J.Stands J.Passes self.new (text ++ (bytes.now ++ 10 ∷ []))) }
-        ensures stop { IfErr result (λ stop. (text more : List ℕ) → HasRead J.Stands J.Passes self.old text
+        ensures stop { IfErr result (λ stop. (text more : List ℕ)
+            → HasRead J.Stands J.Passes self.old text
             → StopsAt J.Passes J.Finds stop (lines (text ++ (bytes.now ++ 10 ∷ more)))) }
         ensures next { IfErr result (λ stop. number_of stop ≡ self.old.judged.count + 1) }
         ensures count { OnOk result (self.new.judged.count ≡ self.old.judged.count + 1) }
@@ -160,7 +163,8 @@ impl<J: LineJudge> LogReading<J> {
     pub fn take_piece(&mut self, piece: &[u8]) -> Result<(), LogStop<J::Verdict>>
         ensures read { (text : List ℕ) → HasRead J.Stands J.Passes self.old text
             → OnOk result (HasRead J.Stands J.Passes self.new (text ++ piece.now)) }
-        ensures stop { IfErr result (λ stop. (text more : List ℕ) → HasRead J.Stands J.Passes self.old text
+        ensures stop { IfErr result (λ stop. (text more : List ℕ)
+            → HasRead J.Stands J.Passes self.old text
             → StopsAt J.Passes J.Finds stop (lines (text ++ (piece.now ++ more)))) }
         ensures later { IfErr result (λ stop. self.old.judged.count < number_of stop) }
         ensures farther { 0 < length piece.now

@@ -70,7 +70,8 @@ impl MomentLines {
     // judge was told.
     #[inline(always)]
     fn tear_by(&self, line: usize, reading: Reading) -> Option<Tear>
-        ensures { (judged : Log) → StandsAfter self.now.judge ((Fetch ⟼ reading_entry reading) ∷ judged)
+        ensures { (judged : Log)
+            → StandsAfter self.now.judge ((Fetch ⟼ reading_entry reading) ∷ judged)
             → line ≡ length judged + 1 → TearsSo self.now.tear judged
             → TearsSo result ((Fetch ⟼ reading_entry reading) ∷ judged) }
     {
@@ -153,7 +154,8 @@ fn has_judged(halts: bool, has_read: bool, before: bool) -> bool
 // Returns what is said where the line number `number` reads `reading`, if it contradicts.
 #[inline(always)]
 fn contradicted(contradicts: bool, line: usize, reading: Reading) -> Option<MomentVerdict>
-    ensures some { IfSome result (λ said. (said ≡ say.Contradicts line reading) × IsTrue contradicts) }
+    ensures some { IfSome result (λ said. (said ≡ say.Contradicts line reading)
+        × IsTrue contradicts) }
     ensures none { IsNone result → ¬ IsTrue contradicts }
 {
     if contradicts {

@@ -132,7 +132,8 @@ impl<J: LineJudge> JudgedLines<J> {
     #[inline(always)]
     fn take_number_line<'a>(&mut self, text: &'a [u8]) -> Option<&'a [u8]>
         requires room { self.old.count < 2 ^ 64 - 1 }
-        ensures taken { IfSome result (λ rest. TakesLine J.Stands J.Passes self.old self.new text.now rest.now) }
+        ensures taken { IfSome result (λ rest.
+            TakesLine J.Stands J.Passes self.old self.new text.now rest.now) }
         ensures count { IsSome result → self.new.count ≡ self.old.count + 1 }
         ensures none { IsNone result → self.new ≡ self.old }
     {

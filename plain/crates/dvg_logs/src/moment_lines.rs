@@ -52,10 +52,16 @@ impl MomentLines {
     // judge was told.
     #[inline(always)]
     fn tear_by(&self, line: usize, reading: Reading) -> Option<Tear> {
-        if self.tear.is_none() && self.judge.is_torn() {
-            return Some(Tear { line, reading });
+        match self.tear {
+            Some(tear) => Some(tear),
+            None => {
+                if self.judge.is_torn() {
+                    Some(Tear { line, reading })
+                } else {
+                    None
+                }
+            }
         }
-        self.tear
     }
 
     // Takes the line number `number`, a fetch of the low byte `byte` at the word address `address`.
@@ -76,10 +82,9 @@ impl MomentLines {
 
     // Takes a line that says that the run ended by a HALT.
     fn halt(&mut self) {
-        if self.judge.is_open() {
-            self.halted = self.halted.wrapping_add(1);
-            self.some_judged = self.some_judged || self.has_read;
-        }
+        let halts = self.judge.is_open();
+        self.halted = halted_with(self.halted, halts);
+        self.some_judged = has_judged(halts, self.has_read, self.some_judged);
         self.judge.ended();
         self.tear = None;
     }
@@ -89,6 +94,22 @@ impl MomentLines {
         self.judge.reset();
         self.tear = None;
     }
+}
+
+// Returns `halted`, a count of the runs that came to their HALT, with one more where `halts`. It is
+// no greater than that of the lines, so it doesn't wrap.
+fn halted_with(halted: usize, halts: bool) -> usize {
+    if halts {
+        halted.wrapping_add(1)
+    } else {
+        halted
+    }
+}
+
+// Returns whether a run came to its HALT that had fetched something: one did `before`, or one
+// `halts` that has.
+fn has_judged(halts: bool, has_read: bool, before: bool) -> bool {
+    (halts && has_read) || before
 }
 
 // Returns what is said where the line number `number` reads `reading`, if it contradicts.
