@@ -6,3 +6,4 @@ pub mod OneVerdict
 pub mod Inputs
 pub mod NumberLines
 pub mod MomentLines
+pub mod OneMoment

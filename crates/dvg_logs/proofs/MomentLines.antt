@@ -25,7 +25,7 @@ judged_length (line ∷ log) = ap suc (judged_length log)
 
 -- ---- what is torn
 
-torn_of : (log : Log) (n : ℕ) (last : Line) → TornSince log n last → IsTorn log
+pub torn_of : (log : Log) (n : ℕ) (last : Line) → TornSince log n last → IsTorn log
 torn_of [] n last since = absurd since
 torn_of (line ∷ log) n last since = since.0
 

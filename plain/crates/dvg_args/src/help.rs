@@ -266,9 +266,8 @@ Example:
   so far: 1 runs, 1 drew a half, 0 halted, 1 writes
   $ printf 'started\\nfetched 000 E201\\nhalted\\nwrote 402 90\\n' | dvg torn
   not torn: 1 runs, 1 drew a half, 1 halted, 1 writes
-  $ printf 'started\\nlow 001 05\\nwrote 002 06\\nlow 001 06\\nhalted\\n' |
-  > dvg torn --moments
-  torn at line 4: low 001 06";
+  $ printf 'started\\nlow 1FF 05\\nhalted\\n' | dvg torn --moments
+  whole: 1 runs, 1 halted";
 
 /// How `render` is called.
 pub(crate) const RENDER_USAGE: &str = "dvg render [--check] [--scale N] [--rate N] < SKETCH";
