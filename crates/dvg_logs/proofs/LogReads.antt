@@ -39,7 +39,16 @@ fine_more log before line text fine tells passes = record { tells = tells_more l
 pub found_at : {V : Type 0} {Passes : Log → Type 0} {Finds : V → Line → Log → Type 0} (log : Log) (before : List (List ℕ)) (line : Line) (text : List ℕ) (after : List (List ℕ)) (verdict : V)
     → IsLogSo Passes log before → Tells line text → Finds verdict line log → (n : ℕ) → n ≡ length before + 1 → IsFoundAt Passes Finds (before ++ text ∷ after) n verdict
 found_at log before line text after verdict fine tells finds n number = record {
-  before = before; text = text; after = after; cut = refl; number = number; log = log; fine = fine; line = line; tells = tells; finds = finds;
+  before = before;
+  text = text;
+  after = after;
+  cut = refl;
+  number = number;
+  log = log;
+  fine = fine;
+  line = line;
+  tells = tells;
+  finds = finds;
 }
 
 pub torn_at : (log : Log) (before : List (List ℕ)) (line : Line) (a byte : ℕ) (text : List ℕ) (after : List (List ℕ)) → line ≡ Tick ⟼ Acted (Wrote a byte) → IsUntornLog log before → Tells line text → IsTornLine log line

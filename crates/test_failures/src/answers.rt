@@ -1,7 +1,8 @@
 //! What a job returns, as a plain value: a refusal of a sketch without its line, which takes
 //! memory.
-use dvg_tool::{BoundedVerdict, Done, LogVerdict, MomentVerdict, Outcome};
-use dvg_tool::{ToolFault, Undrawn, Verdict};
+use dvg_tool::{
+    BoundedVerdict, Done, LogVerdict, MomentVerdict, Outcome, ToolFault, Undrawn, Verdict,
+};
 use std::alloc::Allocator;
 
 /// What an engine that is done reports.
