@@ -3,9 +3,12 @@
 //! moment of a run is tried in turn. See tests/moments.
 //!
 //! Some worked logs come first, with the verdict that each must have. The program of
-//! examples/moments reads each random log as a text, and must find what the definition does.
+//! examples/moments reads each random log as a text, and must find what the definition does. So must
+//! the engine of `dvg torn --moments`, up to what is found first.
 //!
 //! `moments COUNT SEED`: the last line is 'N passed, M failed'.
+use dvg_io::Watched;
+use dvg_logs::{MomentVerdict, torn_moments};
 use dvg_moment::MomentJudge;
 use moments::{Counts, Finding, Log};
 use std::process::ExitCode;
@@ -608,6 +611,40 @@ fn program_agrees(log: &[Line], spelling: &Spelling) -> Result<(), String> {
     Ok(())
 }
 
+/// What the engine of `dvg torn --moments` must say of a log: the line that is named, and whether a
+/// run is torn there or else it contradicts, or else whether a run could be judged.
+fn to_say(log: &[Line]) -> Result<(usize, bool), (bool, usize, usize)> {
+    let (found, counts) = to_find(log);
+    match found.first() {
+        Some(first) => Ok(*first),
+        None => Err((counts.judged > 0, counts.runs, counts.halted)),
+    }
+}
+
+/// Whether the engine of `dvg torn --moments` says of a log's text what it must.
+fn engine_agrees(log: &[Line]) -> Result<(), String> {
+    let plain = Spelling {
+        base: None,
+        capitals: false,
+        end: "\n",
+    };
+    let text: String = log.iter().flat_map(|line| plain.texts(*line)).collect();
+    let mut reader = Watched::new(text.as_bytes());
+    let mut writer = Watched::new(Vec::new());
+    let said = match torn_moments(&mut reader, &mut writer) {
+        Ok(MomentVerdict::Torn { line, .. }) => Ok((line, true)),
+        Ok(MomentVerdict::Contradicts { line, .. }) => Ok((line, false)),
+        Ok(MomentVerdict::Whole { runs, halted }) => Err((true, runs, halted)),
+        Ok(MomentVerdict::NoRun { runs, halted }) => Err((false, runs, halted)),
+        Err(fault) => return Err(format!("the engine answers {fault:?}")),
+    };
+    let wanted = to_say(log);
+    if said != wanted {
+        return Err(format!("the engine says {said:?}, and must say {wanted:?}"));
+    }
+    Ok(())
+}
+
 fn main() -> ExitCode {
     let words: Vec<u64> = std::env::args()
         .skip(1)
@@ -632,7 +669,10 @@ fn main() -> ExitCode {
         }
         let log = log(&mut chance);
         let spelling = spelling(&mut chance);
-        if let Err(why) = agree(&log, &mut seen).and_then(|()| program_agrees(&log, &spelling)) {
+        let agreed = agree(&log, &mut seen)
+            .and_then(|()| program_agrees(&log, &spelling))
+            .and_then(|()| engine_agrees(&log));
+        if let Err(why) = agreed {
             failed += 1;
             if failed <= PRINTED {
                 println!("FAILED: the log of {}: {why}: {log:?}", seed + number);

@@ -151,6 +151,11 @@ impl Moments {
         }
     }
 
+    /// Whether a run is open.
+    pub fn is_open(&self) -> bool {
+        self.run.is_some()
+    }
+
     fn standing(&self) -> Standing {
         match &self.run {
             None => Standing::NoRun,

@@ -1,5 +1,6 @@
-//! The first torn write of a log's text in plain Rust, for the plain twin.
+//! What is said of a log's text, by halves and by moments, in plain Rust, for the plain twin.
 
+use crate::moments::{Line, Moments, Standing};
 use crate::run::Run;
 use std::io::{self, Read};
 
@@ -48,9 +49,11 @@ impl From<io::Error> for LogFault {
 }
 
 /// What a line says.
+#[derive(Clone, Copy)]
 enum LogLine {
     Nothing,
     Started,
+    Low(u16, u8),
     Fetched(u16, u16),
     Wrote(u16, u8),
     Halted,
@@ -73,11 +76,17 @@ fn numbers(bytes: &[u8], digits: usize) -> Option<(u16, u16)> {
     Some((hex(&bytes[..3])?, hex(&bytes[4..])?))
 }
 
-/// What a line says.
+/// What a line says, in small letters or capitals, and with a CR at its end or without.
 fn read_line(line: &[u8]) -> Option<LogLine> {
     if line.len() > MOST_LINE_BYTES {
         return None;
     }
+    let line = line.strip_suffix(b"\r").unwrap_or(line);
+    read_small(line).or_else(|| read_small(&line.to_ascii_lowercase()))
+}
+
+/// What a line in small letters says.
+fn read_small(line: &[u8]) -> Option<LogLine> {
     if let Some(rest) = line.strip_prefix(b"wrote ") {
         let (address, byte) = numbers(rest, 2)?;
         return (address < RAM_END).then_some(LogLine::Wrote(address, byte as u8));
@@ -87,8 +96,8 @@ fn read_line(line: &[u8]) -> Option<LogLine> {
         return Some(LogLine::Fetched(address, word));
     }
     if let Some(rest) = line.strip_prefix(b"low ") {
-        numbers(rest, 2)?;
-        return Some(LogLine::Nothing);
+        let (address, byte) = numbers(rest, 2)?;
+        return Some(LogLine::Low(address, byte as u8));
     }
     match line {
         [] | [b'#', ..] => Some(LogLine::Nothing),
@@ -99,19 +108,62 @@ fn read_line(line: &[u8]) -> Option<LogLine> {
     }
 }
 
-/// A judge of the lines of a log.
+/// Takes a line, by its number. Some where it decides.
+fn take<T>(
+    number: usize,
+    line: &[u8],
+    judge: &mut impl FnMut(usize, LogLine) -> Option<T>,
+) -> Result<Option<T>, LogFault> {
+    let logged = read_line(line).ok_or(LogFault::Syntax(number))?;
+    Ok(judge(number, logged))
+}
+
+/// Reads a log to its end, or to the line that decides.
+fn read<T>(
+    reader: &mut impl Read,
+    mut judge: impl FnMut(usize, LogLine) -> Option<T>,
+) -> Result<Option<T>, LogFault> {
+    // An unfinished line stands at the front, and what is read after it.
+    let mut buffer = [0; MOST_LINE_BYTES + PIECE];
+    let mut held = 0;
+    let mut number = 0;
+    loop {
+        let count = reader.read(&mut buffer[held..held + PIECE])?;
+        if count == 0 {
+            break;
+        }
+        let mut rest = &buffer[..held + count];
+        while let Some(end) = rest.iter().position(|byte| *byte == b'\n') {
+            number += 1;
+            if let Some(found) = take(number, &rest[..end], &mut judge)? {
+                return Ok(Some(found));
+            }
+            rest = &rest[end + 1..];
+        }
+        if rest.len() > MOST_LINE_BYTES {
+            return Err(LogFault::Syntax(number + 1));
+        }
+        let begin = held + count - rest.len();
+        held = rest.len();
+        buffer.copy_within(begin..begin + held, 0);
+    }
+    if held == 0 {
+        return Ok(None);
+    }
+    take(number + 1, &buffer[..held], &mut judge)
+}
+
+/// A judge of halves.
 struct Judge {
     run: Run,
-    lines: usize,
     seen: Seen,
 }
 
 impl Judge {
     /// Takes the next line. Some where it is torn.
-    fn take(&mut self, line: &[u8]) -> Result<Option<Torn>, LogFault> {
-        self.lines += 1;
-        match read_line(line).ok_or(LogFault::Syntax(self.lines))? {
-            LogLine::Nothing => {}
+    fn take(&mut self, line: usize, logged: LogLine) -> Option<Torn> {
+        match logged {
+            LogLine::Nothing | LogLine::Low(..) => {}
             LogLine::Started => {
                 self.seen.runs += 1;
                 self.run = Run::Begun;
@@ -129,45 +181,15 @@ impl Judge {
             LogLine::Wrote(address, byte) => {
                 self.seen.writes += 1;
                 if self.run.is_torn_by(address) {
-                    return Ok(Some(Torn {
-                        line: self.lines,
+                    return Some(Torn {
+                        line,
                         address,
                         byte,
-                    }));
+                    });
                 }
             }
         }
-        Ok(None)
-    }
-
-    /// Reads a log to its end, or to the line that is torn.
-    fn read(&mut self, reader: &mut impl Read) -> Result<Option<Torn>, LogFault> {
-        // An unfinished line stands at the front, and what is read after it.
-        let mut buffer = [0; MOST_LINE_BYTES + PIECE];
-        let mut held = 0;
-        loop {
-            let count = reader.read(&mut buffer[held..held + PIECE])?;
-            if count == 0 {
-                break;
-            }
-            let mut rest = &buffer[..held + count];
-            while let Some(end) = rest.iter().position(|byte| *byte == b'\n') {
-                if let Some(torn) = self.take(&rest[..end])? {
-                    return Ok(Some(torn));
-                }
-                rest = &rest[end + 1..];
-            }
-            if rest.len() > MOST_LINE_BYTES {
-                return Err(LogFault::Syntax(self.lines + 1));
-            }
-            let begin = held + count - rest.len();
-            held = rest.len();
-            buffer.copy_within(begin..begin + held, 0);
-        }
-        if held == 0 {
-            return Ok(None);
-        }
-        self.take(&buffer[..held])
+        None
     }
 }
 
@@ -175,12 +197,94 @@ impl Judge {
 pub fn judge_text(reader: &mut impl Read) -> Result<Verdict, LogFault> {
     let mut judge = Judge {
         run: Run::Closed,
-        lines: 0,
         seen: Seen::default(),
     };
-    let torn = judge.read(reader)?;
+    let torn = read(reader, |number, logged| judge.take(number, logged))?;
     Ok(Verdict {
         torn,
         seen: judge.seen,
     })
+}
+
+/// A judge of moments.
+#[derive(Default)]
+struct MomentJudge {
+    moments: Moments,
+    runs: u64,
+    halted: u64,
+    judged: u64,
+    has_read: bool,
+    // The line after which the open run had no moment.
+    tear: Option<String>,
+}
+
+impl MomentJudge {
+    fn start(&mut self) {
+        self.moments.tell(Line::Started);
+        self.runs += 1;
+        self.has_read = false;
+        self.tear = None;
+    }
+
+    /// Takes what a line reads, and its text. Some where it contradicts.
+    fn read(&mut self, number: usize, line: Line, text: String) -> Option<String> {
+        self.has_read = true;
+        let (standing, contradicts) = self.moments.tell(line);
+        if contradicts {
+            return Some(format!("line {number} reads what was not written: {text}\n"));
+        }
+        if standing == Standing::NoMoment && self.tear.is_none() {
+            self.tear = Some(format!("torn at line {number}: {text}\n"));
+        }
+        None
+    }
+
+    /// Takes the end of a run by a HALT. Some where that is torn.
+    fn halt(&mut self) -> Option<String> {
+        if self.moments.is_open() {
+            self.halted += 1;
+            self.judged += u64::from(self.has_read);
+        }
+        self.moments.tell(Line::Ended);
+        self.tear.take()
+    }
+
+    /// Takes the next line. Some where it decides.
+    fn take(&mut self, number: usize, logged: LogLine) -> Option<String> {
+        match logged {
+            LogLine::Nothing => {
+                self.moments.tell(Line::Passed);
+            }
+            LogLine::Started => self.start(),
+            LogLine::Low(address, byte) => {
+                let text = format!("low {address:03X} {byte:02X}");
+                return self.read(number, Line::Low(address, byte), text);
+            }
+            LogLine::Fetched(address, word) => {
+                let text = format!("fetched {address:03X} {word:04X}");
+                return self.read(number, Line::Fetched(address, word), text);
+            }
+            LogLine::Halted => return self.halt(),
+            LogLine::Reset => {
+                self.moments.tell(Line::Reset);
+                self.tear = None;
+            }
+            LogLine::Wrote(address, byte) => {
+                self.moments.tell(Line::Wrote(address, byte));
+            }
+        }
+        None
+    }
+}
+
+/// What is said by moments of the log that a reader gives, and whether it is whole.
+pub fn judge_moments(reader: &mut impl Read) -> Result<(String, bool), LogFault> {
+    let mut judge = MomentJudge::default();
+    if let Some(found) = read(reader, |number, logged| judge.take(number, logged))? {
+        return Ok((found, false));
+    }
+    let is_whole = judge.judged > 0;
+    let said = if is_whole { "whole" } else { "no run to judge" };
+    let (runs, halted) = (judge.runs, judge.halted);
+    Ok((format!("{said}: {runs} runs, {halted} halted\n"), is_whole))
 }

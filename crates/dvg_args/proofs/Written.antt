@@ -24,6 +24,7 @@ text_job_arguments = (
   λ name. ((refl, refl), refl, refl),
   λ name. ((refl, refl), refl, refl),
   λ name. ((refl, refl), refl, refl),
+  λ name. ((refl, refl), refl, refl),
 )
 
 pub sketch_job_arguments : SketchJobArguments
@@ -57,6 +58,7 @@ help_arguments = (
 pub other_arguments : OtherArguments
 unfolding dvg_app clap_on_literals
 other_arguments = (
+  λ name. refl,
   λ name. refl,
   λ name. refl,
   λ name. refl,

@@ -54,6 +54,10 @@ abbrev pub play_app : App
 play_app =
     showing (with_flag (with_flag (with_flag (new_app (codes "play")) (codes "all")) (codes "banked")) (codes "svg"))
 
+-- the subcommand `torn`: by moments
+abbrev pub torn_app : App
+torn_app = with_flag (new_app (codes "torn")) (codes "moments")
+
 -- the subcommand `render`: of a size and a rate, or a check alone
 abbrev pub render_app : App
 render_app = showing (with_flag (new_app (codes "render")) (codes "check"))
@@ -75,7 +79,7 @@ program_app = record (new_app (codes "dvg")) {
 unfoldable pub dvg_app : App
 dvg_app = record {
   top = record (plain (codes "dvg")) { is_leaf = false; subcommand_required = true; has_version = true };
-  subs = list_app.top ∷ plain (codes "rom") ∷ picture_app.top ∷ check_app.top ∷ play_app.top ∷ plain (codes "torn")
+  subs = list_app.top ∷ plain (codes "rom") ∷ picture_app.top ∷ check_app.top ∷ play_app.top ∷ torn_app.top
       ∷ render_app.top ∷ lay_app.top ∷ [];
 }
 
@@ -111,7 +115,8 @@ IsJob (Play all banked) met = option_map {U = Text × Bool × Bool × Bool}
 IsJob (PlaySvg banked percent rate) met = option_map {U = Text × Bool × Bool × Option ℕ × Option ℕ}
     (λ p. (p.0, sets (codes "svg") p.1, sets (codes "banked") p.1, percent_of p.1, rate_of p.1)) met
     ≡ Some (codes "play", true, banked, Some percent, Some rate)
-IsJob Torn met = option_map (λ p. p.0) met ≡ Some (codes "torn")
+IsJob (Torn moments) met =
+    option_map {U = Text × Bool} (λ p. (p.0, sets (codes "moments") p.1)) met ≡ Some (codes "torn", moments)
 IsJob (Render percent rate) met = option_map {U = Text × Bool × Option ℕ × Option ℕ}
     (λ p. (p.0, sets (codes "check") p.1, percent_of p.1, rate_of p.1)) met
     ≡ Some (codes "render", false, Some percent, Some rate)

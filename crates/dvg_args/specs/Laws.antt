@@ -40,7 +40,8 @@ TextJobArguments = AskFor (codes "list" ∷ []) list_job
     × AskFor (codes "play" ∷ codes "--svg" ∷ []) (PlaySvg false 100 30)
     × AskFor (codes "play" ∷ codes "--rate" ∷ codes "60" ∷ codes "--svg" ∷ codes "--banked" ∷ codes "--scale=400" ∷ [])
     (PlaySvg true 400 60)
-    × AskFor (codes "torn" ∷ []) Torn
+    × AskFor (codes "torn" ∷ []) (Torn false)
+    × AskFor (codes "torn" ∷ codes "--moments" ∷ []) (Torn true)
 
 -- the arguments of each job that reads a sketch
 abbrev pub SketchJobArguments : Type 0
@@ -75,6 +76,7 @@ OtherArguments = FailAs [] (MissingSubcommand ∷ [])
     × FailAs (codes "draw" ∷ []) (UnknownArgument ∷ InvalidSubcommand ∷ [])
     × FailAs (codes "list" ∷ codes "--all" ∷ []) (UnknownArgument ∷ [])
     × FailAs (codes "check" ∷ codes "--all" ∷ []) (UnknownArgument ∷ [])
+    × FailAs (codes "torn" ∷ codes "--all" ∷ []) (UnknownArgument ∷ [])
     × FailAs (codes "play" ∷ codes "--all" ∷ codes "--all" ∷ []) (ArgumentConflict ∷ [])
     × FailAs (codes "list" ∷ codes "list" ∷ []) (UnknownArgument ∷ [])
 

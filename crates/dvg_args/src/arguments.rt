@@ -28,7 +28,9 @@ fn plain_job(name: &str, found: &ArgMatches) -> Option<Job>
             bound: is_set(found, "bound"),
         })
     } else if name == "torn" {
-        Some(Job::Torn)
+        Some(Job::Torn {
+            moments: is_set(found, "moments"),
+        })
     } else {
         None
     }

@@ -4,7 +4,7 @@ ghost use Rattle.clap.specs.Words.{app_of, new_app, rule_of, with_rule, with_sub
 ghost use Rattle.clap.specs.declared.builder.command.Command.TheViews.{out-Command as fields_of};
 ghost use Rattle.dvg_args.specs.Arguments as spec;
 ghost use Rattle.dvg_args.specs.Arguments.{check_app, dvg_app, flag, lay_app, list_app};
-ghost use Rattle.dvg_args.specs.Arguments.{picture_app, play_app, program_app, render_app, valued};
+ghost use Rattle.dvg_args.specs.Arguments.{picture_app, play_app, program_app, render_app, torn_app, valued};
 
 use crate::help;
 use clap::{Arg, ArgAction, Command};
@@ -148,6 +148,18 @@ fn play_command<'a>(alloc: Global) -> Result<Command<'a>, AllocError>
     showing(alloc, with_svg)
 }
 
+// Returns the subcommand `torn`.
+fn torn_command<'a>(alloc: Global) -> Result<Command<'a>, AllocError>
+    ensures app { IfOk result (λ c. app_of c ≡ torn_app) }
+    ensures local { IfOk result (λ c. (fields_of c).has_globals ≡ false) }
+{
+    let about = "Say whether a log tears a picture, and where";
+    let usage = "dvg torn [--moments] < LOG";
+    let torn = helped(alloc, "torn", about, usage, help::TORN);
+    let moments = "Say whether each run is of one moment, of any system";
+    with_flag(alloc, torn, "moments", moments)
+}
+
 // Returns the subcommand `render`.
 fn render_command<'a>(alloc: Global) -> Result<Command<'a>, AllocError>
     ensures app { IfOk result (λ c. app_of c ≡ render_app) }
@@ -207,14 +219,12 @@ pub(crate) fn command<'a>(alloc: Global) -> Result<Command<'a>, AllocError>
 {
     let rom_usage = "dvg rom < ROM";
     let rom = helped(alloc, "rom", "Write a ROM as text", rom_usage, help::ROM);
-    let about_torn = "Say whether a log tears a picture, and where";
-    let torn = helped(alloc, "torn", about_torn, "dvg torn < LOG", help::TORN);
     let with_list = with_part(program(alloc), list_command(alloc)?)?;
     let with_rom = with_part(with_list, rom)?;
     let with_picture = with_part(with_rom, picture_command(alloc)?)?;
     let with_check = with_part(with_picture, check_command(alloc)?)?;
     let with_play = with_part(with_check, play_command(alloc)?)?;
-    let with_torn = with_part(with_play, torn)?;
+    let with_torn = with_part(with_play, torn_command(alloc)?)?;
     let with_render = with_part(with_torn, render_command(alloc)?)?;
     with_part(with_render, lay_command(alloc)?)
 }

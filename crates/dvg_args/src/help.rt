@@ -20,7 +20,7 @@ Exit status:
    0  done, or a help text or the version that was asked for
    1  a fault of the input, or what was asked about isn't good: a draft that may
       not be drawn, also in a sketch, a dump that draws no picture, a log with a
-      torn picture, or one in which no run drew a half
+      torn picture, or one that says too little
    2  a failing read or write, or out of memory
   64  arguments that ask for nothing the program can do: a file is no argument,
       it is read by `<`
@@ -229,7 +229,13 @@ line per event:
                     to 7FF
 
 A line has at most 64 bytes. Numbers are hexadecimal, with as many digits as
-here. An empty line and a line that begins with `#` are passed over.
+here. Capitals, and a CR at the end, are read, too. An empty line and a line that
+begins with `#` are passed over.
+
+Take `torn` alone for a system that draws one half of the RAM while it writes the
+other: it names the first byte that breaks this. Take `torn --moments` for any
+other system, with one buffer or many: it says whether each run drew what stood in
+memory at one moment.
 
 A half of the RAM is being drawn from the first word that a run fetched on, if
 that is word 000, a jump to the half, until the run ends. Half 0 is bytes 002 to
@@ -242,15 +248,27 @@ half, nothing could be torn, and it is `no run drew a half: ..`: often word zero
 isn't logged after `started`, or the bytes of it are swapped. Lines are numbered
 from 1. Nothing is judged after the first line that is torn or at fault.
 
-Fault: `syntax at line N`. The status is 0 for `not torn`, and 1 for all else
-that is said of a log.
+With `--moments` it is `torn at line N: ..` for the first run that comes to its
+HALT and is of no moment: no byte that it reads may change between its moment and
+its reading, and by line N, which is shown, no such moment was left. It is
+`line N reads what was not written: ..` for the first line that reads another byte
+than the log told last; else `whole: R runs, H halted`. Where no run halted that
+fetched something, it is `no run to judge: ..`. `halted` tells no word, so the log
+before it is judged. After `reset`, which may be one of the whole system, nothing
+is known of memory. A byte that is written before the log tells what stood there
+counts as changed.
+
+Fault: `syntax at line N`. The status is 0 for `not torn` and `whole`, and 1 for
+all else that is said of a log.
 
 Example:
   $ printf 'started\\nfetched 000 E201\\nwrote 402 90\\n' | dvg torn
   torn at line 3: wrote 402 90
   so far: 1 runs, 1 drew a half, 0 halted, 1 writes
   $ printf 'started\\nfetched 000 E201\\nhalted\\nwrote 402 90\\n' | dvg torn
-  not torn: 1 runs, 1 drew a half, 1 halted, 1 writes";
+  not torn: 1 runs, 1 drew a half, 1 halted, 1 writes
+  $ printf 'started\\nlow 1FF 05\\nhalted\\n' | dvg torn --moments
+  whole: 1 runs, 1 halted";
 
 /// How `render` is called.
 pub(crate) const RENDER_USAGE: &str = "dvg render [--check] [--scale N] [--rate N] < SKETCH";

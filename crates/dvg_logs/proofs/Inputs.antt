@@ -3,31 +3,25 @@ use Rattle.std.proofs.Common.{◌≡◌, ◌<◌, ◌≤◌, ◌+◌, ◌-◌, �
 use Rattle.std.proofs.Math.Seq.{take-append-add}
 use Rattle.std.proofs.lemmas.Grind.{flat_map-append}
 use Rattle.std.specs.Io.KnownBytes.{Consumes, IsAtEnd}
-use Rattle.dvg_log.specs.Log.{Log}
+use Rattle.std.specs.Prelude.{Result, Ok, Err}
+use Rattle.dvg_log.specs.Log.{Line, Log, Throughout}
+use Rattle.dvg_log.specs.Torn.{IsUntorn}
 use Rattle.dvg_read.specs.Texts.{lines}
-use Rattle.dvg_print.specs.declared.log_verdict.LogCounts.{LogCounts}
-use Rattle.dvg_print.specs.declared.log_verdict.LogFinding.TheVariants.{NotTorn, NoRunDrew}
+use Rattle.dvg_io.specs.declared.fault.ToolFault.{ToolFault}
+use Rattle.dvg_io.specs.declared.fault.ToolFault.TheVariants.{Text, Reader, Writer, Memory}
+use Rattle.dvg_print.specs.declared.log_verdict.LogFinding.TheVariants.{NotTorn, NoRunDrew, Torn}
 use Rattle.dvg_print.specs.declared.log_verdict.LogVerdict.{LogVerdict}
-use Rattle.std.specs.Prelude.{Ok}
 use Rattle.dvg_logs.specs.declared.log_reading.LogStop.{LogStop}
-use Rattle.dvg_logs.specs.declared.log_reading.LogStop.TheVariants.{Torn, Syntax, TooLong}
+use Rattle.dvg_logs.specs.declared.log_reading.LogStop.TheVariants.{Found, Syntax, TooLong}
 use Rattle.dvg_logs.specs.declared.log_reading.LogReading.{LogReading}
-use Rattle.dvg_logs.specs.Judging.{Answers, JudgesInput, answer_of, found_in}
+use Rattle.dvg_logs.specs.HalfLines.{EndsUntorn, FindsTorn}
+use Rattle.dvg_logs.specs.Judging.{JudgesInput, ReadsAs, answer_of, found_in}
 use Rattle.dvg_logs.specs.LogCounts.{counts_of, no_run_drew}
 use Rattle.dvg_logs.specs.LogReading.{HasRead, StopsAt, number_of}
-use Rattle.dvg_logs.specs.LogTexts.{IsWhole}
-use Rattle.dvg_logs.specs.Tears.{Takes, TakesFor, TakesUpTo, ended}
-use Rattle.dvg_logs.proofs.OneVerdict.{whole_judged}
-
-answered : (stop : LogStop) (input : List ℕ) → StopsAt stop (lines input) → Answers (answer_of stop) input
-answered (Torn n a byte counts) input (log, torn, counted) = record { log = log; finds = torn; counts = counted }
-answered (Syntax n) input stops = stops
-answered TooLong input stops = stops
-
-took : (stop : LogStop) (input : List ℕ) (old new : Option (List ℕ)) → TakesUpTo (number_of stop) input old new → Takes (answer_of stop) input old new
-took (Torn n a byte counts) input old new takes = takes
-took (Syntax n) input old new takes = takes
-took TooLong input old new takes = takes
+use Rattle.dvg_logs.specs.LogTexts.{IsWhole, Says}
+use Rattle.dvg_logs.specs.Tears.{TakesFor, TakesTo, TakesUpTo, ended}
+use Rattle.dvg_logs.proofs.LogReads.{log_length}
+use Rattle.dvg_logs.proofs.OneVerdict.{halves_judged}
 
 -- the bytes of the lines before line n are no fewer than those of fewer lines
 ended_front : (before more : List (List ℕ)) (k : ℕ) → length before ≤ k → length (ended before) ≤ length (ended (take k (before ++ more)))
@@ -38,54 +32,78 @@ ended_front before more k fits =
     let both = ap length (flat_map-append (λ line. line ++ 10 ∷ []) before (take rest more)) in
     omega (arith, same, both, length-append (ended before) (ended (take rest more)))
 
--- reading stops at a piece, of an input that is known to have been read so
-stops_known : (reading : LogReading) (stop : LogStop) (text piece rest : List ℕ) (read : HasRead reading text) → length piece ≤ 32768 → length read.texts < number_of stop
-    → StopsAt stop (lines (text ++ (piece ++ rest))) → JudgesInput (answer_of stop) (text ++ (piece ++ rest)) (Some (text ++ (piece ++ rest))) (Some rest)
-stops_known reading stop text piece rest read short later stops =
-    let input : List ℕ = text ++ (piece ++ rest) in
-    let cut = read.cut (piece ++ rest) in
-    let front = ended_front read.texts (lines (reading.unfinished.items ++ (piece ++ rest))) (number_of stop - 1) (omega arith) in
-    let same = ap (λ ls. length (ended (take (number_of stop - 1) ls))) cut in
-    let most : length (text ++ piece) ≤ length (ended (take (number_of stop - 1) (lines input))) + 32832 = omega (arith, same, front, read.size, read.short, length-append text piece) in
-    (answered stop input stops, took stop input (Some input) (Some rest) (text ++ piece, most, sym (append_assoc text piece rest)))
+module _ {J V : Type 0} (Stands : J → Log → Type 0) (Passes : Log → Type 0) (Finds : V → Line → Log → Type 0) (Ends : V → Log → Type 0) where
+  abbrev pub Reads : Result V ToolFault → (input : List ℕ) → Option (List ℕ) → Option (List ℕ) → Type 0
+  Reads = ReadsAs Passes Finds Ends
 
-pub stops_input : (reading : LogReading) (stop : LogStop) (known now new : Option (List ℕ)) (text piece : List ℕ) (read : HasRead reading text) → length piece ≤ 32768 → length read.texts < number_of stop
-    → ((more : List ℕ) → StopsAt stop (lines (text ++ (piece ++ more)))) → Consumes known now text → Consumes now new piece → IfSome known (λ input. JudgesInput (answer_of stop) input known new)
-stops_input reading stop None now new text piece read short later stops before takes = tt
-stops_input reading stop (Some input) None new text piece read short later stops before takes = absurd before
-stops_input reading stop (Some input) (Some left) None text piece read short later stops before takes = absurd takes
-stops_input reading stop (Some input) (Some left) (Some rest) text piece read short later stops before takes =
-    let is : input ≡ text ++ (piece ++ rest) = before ∙ ap (λ l. text ++ l) takes in
-    subst (λ input. JudgesInput (answer_of stop) input (Some input) (Some rest)) (sym is) (stops_known reading stop text piece rest read short later (stops rest))
+  read_as : (stop : LogStop V) (input : List ℕ) (old new : Option (List ℕ)) → StopsAt Passes Finds stop (lines input) → TakesUpTo (number_of stop) input old new → Reads (answer_of stop) input old new
+  read_as (Found n verdict) input old new found takes = (Some n, found, takes)
+  read_as (Syntax n) input old new stops takes = (stops, takes)
+  read_as TooLong input old new stops takes = (stops, takes)
 
--- reading comes to the end, of which no byte is left
-abbrev pub said_of : LogCounts → LogVerdict
-said_of counts = record { finding = found_in counts; counts = counts }
+  -- reading stops at a piece, of an input that is known to have been read so
+  stops_known : (reading : LogReading J) (stop : LogStop V) (text piece rest : List ℕ) (read : HasRead Stands Passes reading text) → length piece ≤ 32768 → length read.texts < number_of stop
+      → StopsAt Passes Finds stop (lines (text ++ (piece ++ rest))) → Reads (answer_of stop) (text ++ (piece ++ rest)) (Some (text ++ (piece ++ rest))) (Some rest)
+  stops_known reading stop text piece rest read short later stops =
+      let input : List ℕ = text ++ (piece ++ rest) in
+      let cut = read.cut (piece ++ rest) in
+      let front = ended_front read.texts (lines (reading.unfinished.items ++ (piece ++ rest))) (number_of stop - 1) (omega arith) in
+      let same = ap (λ ls. length (ended (take (number_of stop - 1) ls))) cut in
+      let most : length (text ++ piece) ≤ length (ended (take (number_of stop - 1) (lines input))) + 32832 = omega (arith, same, front, read.size, read.short, length-append text piece) in
+      read_as stop input (Some input) (Some rest) stops (text ++ piece, most, sym (append_assoc text piece rest))
 
-takes_all : (counts : LogCounts) (text : List ℕ) (rest : List ℕ) → Consumes (Some text) (Some rest) text → IsAtEnd (Some rest) → Takes (Ok (said_of counts)) text (Some text) (Some rest)
-takes_all counts text rest takes at_end = by_case (no_run_drew counts)
+  pub stops_input : (reading : LogReading J) (stop : LogStop V) (known now new : Option (List ℕ)) (text piece : List ℕ) (read : HasRead Stands Passes reading text) → length piece ≤ 32768 → length read.texts < number_of stop
+      → ((more : List ℕ) → StopsAt Passes Finds stop (lines (text ++ (piece ++ more)))) → Consumes known now text → Consumes now new piece → IfSome known (λ input. Reads (answer_of stop) input known new)
+  stops_input reading stop None now new text piece read short later stops before takes = tt
+  stops_input reading stop (Some input) None new text piece read short later stops before takes = absurd before
+  stops_input reading stop (Some input) (Some left) None text piece read short later stops before takes = absurd takes
+  stops_input reading stop (Some input) (Some left) (Some rest) text piece read short later stops before takes =
+      let is : input ≡ text ++ (piece ++ rest) = before ∙ ap (λ l. text ++ l) takes in
+      subst (λ input. Reads (answer_of stop) input (Some input) (Some rest)) (sym is) (stops_known reading stop text piece rest read short later (stops rest))
+
+  -- reading comes to the end, of which no byte is left
+  pub ends_input : (verdict : V) (known now new : Option (List ℕ)) (text : List ℕ) → ((log : Log) × IsWhole Passes (lines text) log × Ends verdict log) → Consumes known now text → Consumes now new [] → IsAtEnd new
+      → IfSome known (λ input. Reads (Ok verdict) input known new)
+  ends_input verdict None now new text said before takes at_end = tt
+  ends_input verdict (Some input) None new text said before takes at_end = absurd before
+  ends_input verdict (Some input) (Some left) None text said before takes at_end = absurd takes
+  ends_input verdict (Some input) (Some left) (Some rest) text said before takes at_end =
+      let is : text ≡ input = sym (before ∙ ap (λ l. text ++ l) (takes ∙ at_end) ∙ append-nil text) in
+      let all : Consumes (Some text) (Some rest) text = sym (append-nil text) ∙ ap (λ l. text ++ l) (sym at_end) in
+      let read : Reads (Ok verdict) text (Some text) (Some rest) = (None, said, (all, at_end)) in
+      subst (λ input. Reads (Ok verdict) input (Some input) (Some rest)) is read
+
+  pub stops_at_end : (reading : LogReading J) (stop : LogStop V) (known now new : Option (List ℕ)) (text : List ℕ) (read : HasRead Stands Passes reading text) → length read.texts < number_of stop
+      → StopsAt Passes Finds stop (lines text) → Consumes known now text → Consumes now new [] → IsAtEnd new → IfSome known (λ input. Reads (answer_of stop) input known new)
+  stops_at_end reading stop None now new text read later stops before takes at_end = tt
+  stops_at_end reading stop (Some input) None new text read later stops before takes at_end = absurd before
+  stops_at_end reading stop (Some input) (Some left) None text read later stops before takes at_end = absurd takes
+  stops_at_end reading stop (Some input) (Some left) (Some rest) text read later stops before takes at_end =
+      let is : input ≡ text ++ [] = before ∙ ap (λ l. text ++ l) (takes ∙ at_end) in
+      let said = stops_known reading stop text [] [] read (omega arith) later (subst (λ l. StopsAt Passes Finds stop (lines l)) (sym (append-nil text)) stops) in
+      subst (λ input. Reads (answer_of stop) input (Some input) (Some rest)) (sym is) (subst (λ rest. Reads (answer_of stop) (text ++ []) (Some (text ++ [])) (Some rest)) (sym at_end) said)
+
+-- ---- by the rule of halves
+
+-- all was taken where nothing is torn, and else the lines up to the torn one
+takes_halves : (text : List ℕ) (verdict : LogVerdict) (decided : Option ℕ) (old new : Option (List ℕ)) → Says (Throughout IsUntorn) FindsTorn EndsUntorn verdict (lines text) decided → TakesTo decided text old new
+    → TakesFor verdict.finding text old new
+takes_halves text verdict (Some n) old new found takes =
+    let at : length found.log + 1 ≡ n = omega (arith, log_length found.log found.before found.fine.tells, found.number) in
+    subst (λ finding. TakesFor finding text old new) (sym (found.finds.finding ∙ ap (λ n. Torn n found.finds.address found.finds.byte) at)) takes
+takes_halves text verdict None old new (log, whole, is) takes = subst (λ verdict. TakesFor verdict.finding text old new) (sym is) (by_case (no_run_drew (counts_of log)))
   where
-    by_case : (none : Bool) → TakesFor (cond none NoRunDrew NotTorn) text (Some text) (Some rest)
-    by_case true = (takes, at_end)
-    by_case false = (takes, at_end)
+    by_case : (none : Bool) → TakesFor (cond none NoRunDrew NotTorn) text old new
+    by_case true = takes
+    by_case false = takes
 
-pub ends_input : (counts : LogCounts) (known now new : Option (List ℕ)) (text : List ℕ) (log : Log) → IsWhole (lines text) log → counts ≡ counts_of log → Consumes known now text → Consumes now new [] → IsAtEnd new
-    → IfSome known (λ input. JudgesInput (Ok (said_of counts)) input known new)
-ends_input counts None now new text log whole is before takes at_end = tt
-ends_input counts (Some input) None new text log whole is before takes at_end = absurd before
-ends_input counts (Some input) (Some left) None text log whole is before takes at_end = absurd takes
-ends_input counts (Some input) (Some left) (Some rest) text log whole counted before takes at_end =
-    let is : text ≡ input = sym (before ∙ ap (λ l. text ++ l) (takes ∙ at_end) ∙ append-nil text) in
-    let said : JudgesInput (Ok (said_of counts)) text (Some text) (Some rest)
-    = (whole_judged text counts log whole counted, takes_all counts text rest (sym (append-nil text) ∙ ap (λ l. text ++ l) (sym at_end)) at_end) in
-    subst (λ input. JudgesInput (Ok (said_of counts)) input (Some input) (Some rest)) is said
+pub halves_of : (answer : Result LogVerdict ToolFault) (input : List ℕ) (old new : Option (List ℕ)) → ReadsAs (Throughout IsUntorn) FindsTorn EndsUntorn answer input old new → JudgesInput answer input old new
+halves_of (Ok verdict) input old new (decided, says, takes) = (halves_judged input verdict decided says, takes_halves input verdict decided old new says takes)
+halves_of (Err (Text fault)) input old new (stops, takes) = (stops, takes)
+halves_of (Err Reader) input old new reads = (tt, tt)
+halves_of (Err Writer) input old new reads = absurd reads
+halves_of (Err Memory) input old new reads = absurd reads
 
-pub stops_at_end : (reading : LogReading) (stop : LogStop) (known now new : Option (List ℕ)) (text : List ℕ) (read : HasRead reading text) → length read.texts < number_of stop
-    → StopsAt stop (lines text) → Consumes known now text → Consumes now new [] → IsAtEnd new → IfSome known (λ input. JudgesInput (answer_of stop) input known new)
-stops_at_end reading stop None now new text read later stops before takes at_end = tt
-stops_at_end reading stop (Some input) None new text read later stops before takes at_end = absurd before
-stops_at_end reading stop (Some input) (Some left) None text read later stops before takes at_end = absurd takes
-stops_at_end reading stop (Some input) (Some left) (Some rest) text read later stops before takes at_end =
-    let is : input ≡ text ++ [] = before ∙ ap (λ l. text ++ l) (takes ∙ at_end) in
-    let said = stops_known reading stop text [] [] read (omega arith) later (subst (λ l. StopsAt stop (lines l)) (sym (append-nil text)) stops) in
-    subst (λ input. JudgesInput (answer_of stop) input (Some input) (Some rest)) (sym is) (subst (λ rest. JudgesInput (answer_of stop) (text ++ []) (Some (text ++ [])) (Some rest)) (sym at_end) said)
+pub halves_known : (answer : Result LogVerdict ToolFault) (old new : Option (List ℕ)) → IfSome old (λ input. ReadsAs (Throughout IsUntorn) FindsTorn EndsUntorn answer input old new) → IfSome old (λ input. JudgesInput answer input old new)
+halves_known answer None new reads = tt
+halves_known answer (Some input) new reads = halves_of answer input (Some input) new reads

@@ -8,7 +8,6 @@ use Rattle.dvg_driver.specs.declared.action.Action.TheVariants.{Wrote}
 use Rattle.dvg_log.specs.declared.entry.Entry.TheVariants.{Acted}
 use Rattle.dvg_log.specs.declared.event.Event.TheVariants.{Tick}
 use Rattle.dvg_log.specs.Log.{◌⟼◌, Line, Log, Throughout}
-use Rattle.dvg_world.specs.Judging.{StandsAfter}
 use Rattle.dvg_log.specs.Torn.{IsUntorn}
 use Rattle.std.proofs.lemmas.Bool.{cases_lt, eqb-true}
 use Rattle.dvg_read.specs.Texts.{lines}
@@ -16,10 +15,10 @@ use Rattle.dvg_read.proofs.LineEnds.{line_at, line_last}
 use Rattle.dvg_read.proofs.FirstBytes.{IsCutAt, behind}
 use Rattle.dvg_read.proofs.Zips.{zip_length, zip_push}
 use Rattle.dvg_logs.specs.LogLines.{IsLogOf, Tells, logged, passed}
-use Rattle.dvg_logs.specs.LogCounts.{counts_of}
-use Rattle.dvg_logs.specs.LogTexts.{IsTornAt, IsUntornLog, IsWhole}
+use Rattle.dvg_logs.specs.LogTexts.{IsFoundAt, IsLogSo, IsTornAt, IsUntornLog, IsWhole}
 use Rattle.dvg_logs.specs.declared.log_reading.JudgedLines.{JudgedLines}
-use Rattle.dvg_logs.specs.LogReading.{IsOpen, IsRead, IsTornLine, HasJudged}
+use Rattle.dvg_logs.specs.HalfLines.{IsTornLine}
+use Rattle.dvg_logs.specs.LogReading.{IsOpen, IsRead, HasJudged}
 use Rattle.dvg_logs.specs.Tears.{ended}
 
 -- ---- one more line
@@ -28,15 +27,29 @@ tells_more : (log : Log) (before : List (List ℕ)) (line : Line) (text : List �
 tells_more log before line text log_of tells =
     subst (λ l. AllZip Tells l (before ++ text ∷ [])) (sym (reverse-append (line ∷ []) log)) (zip_push Tells (reverse log) before line text log_of tells)
 
-untorn_more : (log : Log) (line : Line) → Throughout IsUntorn log → ¬ IsTornLine log line → Throughout IsUntorn (line ∷ log)
-untorn_more log (event ⟼ entry) whole untorn = (untorn, whole)
-
 -- the log is as long as its text has lines
 pub log_length : (log : Log) (texts : List (List ℕ)) → IsLogOf log texts → length log ≡ length texts
 log_length log texts log_of = sym (length-reverse log) ∙ zip_length Tells (reverse log) texts log_of
 
-pub fine_more : (log : Log) (before : List (List ℕ)) (line : Line) (text : List ℕ) → IsUntornLog log before → Tells line text → ¬ IsTornLine log line → IsUntornLog (line ∷ log) (before ++ text ∷ [])
-fine_more log before line text fine tells untorn = record { tells = tells_more log before line text fine.tells tells; untorn = untorn_more log line fine.untorn untorn }
+pub fine_more : {Passes : Log → Type 0} (log : Log) (before : List (List ℕ)) (line : Line) (text : List ℕ) → IsLogSo Passes log before → Tells line text → Passes (line ∷ log)
+    → IsLogSo Passes (line ∷ log) (before ++ text ∷ [])
+fine_more log before line text fine tells passes = record { tells = tells_more log before line text fine.tells tells; holds = passes }
+
+-- a line decides
+pub found_at : {V : Type 0} {Passes : Log → Type 0} {Finds : V → Line → Log → Type 0} (log : Log) (before : List (List ℕ)) (line : Line) (text : List ℕ) (after : List (List ℕ)) (verdict : V)
+    → IsLogSo Passes log before → Tells line text → Finds verdict line log → (n : ℕ) → n ≡ length before + 1 → IsFoundAt Passes Finds (before ++ text ∷ after) n verdict
+found_at log before line text after verdict fine tells finds n number = record {
+  before = before;
+  text = text;
+  after = after;
+  cut = refl;
+  number = number;
+  log = log;
+  fine = fine;
+  line = line;
+  tells = tells;
+  finds = finds;
+}
 
 pub torn_at : (log : Log) (before : List (List ℕ)) (line : Line) (a byte : ℕ) (text : List ℕ) (after : List (List ℕ)) → line ≡ Tick ⟼ Acted (Wrote a byte) → IsUntornLog log before → Tells line text → IsTornLine log line
     → (n : ℕ) → n ≡ length before + 1 → IsTornAt (before ++ text ∷ after) (line ∷ log) n a byte
@@ -49,7 +62,7 @@ torn_at log before line a byte text after is fine tells torn n number = subst (�
       cut = refl;
       number = number;
       tells = tells_more log before (Tick ⟼ Acted (Wrote a byte)) text fine.tells wrote;
-      torn = record { later = []; event = Tick; entry = Acted (Wrote a byte); before = log; split = refl; at = log_length log before fine.tells; torn = subst (IsTornLine log) is torn; untorn = fine.untorn };
+      torn = record { later = []; event = Tick; entry = Acted (Wrote a byte); before = log; split = refl; at = log_length log before fine.tells; torn = subst (IsTornLine log) is torn; untorn = fine.holds };
       wrote = wrote;
     })
 
@@ -96,16 +109,16 @@ length_ended-append texts text = ap length (flat_map-append (λ line. line ++ 10
     ∙ (length-append (ended texts) ((text ++ 10 ∷ []) ++ []) ∙ ap (λ n. length (ended texts) + n) (ap length (append-nil (text ++ 10 ∷ [])) ∙ length-append text (10 ∷ [])))
 
 -- before the first piece
-pub nothing_read : (judged : JudgedLines) → HasJudged judged [] → IsRead judged [] []
+pub nothing_read : {J : Type 0} {Stands : J → Log → Type 0} {Passes : Log → Type 0} (judged : JudgedLines J) → HasJudged Stands Passes judged [] → IsRead Stands Passes judged [] []
 nothing_read judged fine = record { texts = []; fine = fine; unended = λ k d inside. absurd (omega arith); short = omega arith; cut = λ more. refl; size = refl }
 
 -- what bytes of a line make of what was read
-module _ {judged : JudgedLines} {unfinished text : List ℕ} (bytes : List ℕ) (read : IsRead judged unfinished text) (unended : IsOpen bytes) where
+module _ {J : Type 0} {Stands : J → Log → Type 0} {Passes : Log → Type 0} {judged : JudgedLines J} {unfinished text : List ℕ} (bytes : List ℕ) (read : IsRead Stands Passes judged unfinished text) (unended : IsOpen bytes) where
   both_open : IsOpen (unfinished ++ bytes)
   both_open = All-append (λ b. eqb b 10 ≡ false) unfinished bytes read.unended unended
 
   -- it has not ended
-  pub bytes_read : length (unfinished ++ bytes) ≤ 64 → IsRead judged (unfinished ++ bytes) (text ++ bytes)
+  pub bytes_read : length (unfinished ++ bytes) ≤ 64 → IsRead Stands Passes judged (unfinished ++ bytes) (text ++ bytes)
   bytes_read short = record {
     texts = read.texts;
     fine = read.fine;
@@ -124,7 +137,7 @@ module _ {judged : JudgedLines} {unfinished text : List ℕ} (bytes : List ℕ) 
   pub line_stops : (P : List (List ℕ) → Type 0) → ((after : List (List ℕ)) → P (read.texts ++ (unfinished ++ bytes) ∷ after)) → (more : List ℕ) → P (lines (text ++ (bytes ++ 10 ∷ more)))
   line_stops P stops more = subst P (sym (ended_line more)) (stops (lines more))
 
-  pub line_read : (new : JudgedLines) → HasJudged new (read.texts ++ (unfinished ++ bytes) ∷ []) → IsRead new [] (text ++ (bytes ++ 10 ∷ []))
+  pub line_read : (new : JudgedLines J) → HasJudged Stands Passes new (read.texts ++ (unfinished ++ bytes) ∷ []) → IsRead Stands Passes new [] (text ++ (bytes ++ 10 ∷ []))
   line_read new fine = record {
     texts = read.texts ++ (unfinished ++ bytes) ∷ [];
     fine = fine;
@@ -144,7 +157,7 @@ module _ {judged : JudgedLines} {unfinished text : List ℕ} (bytes : List ℕ) 
       subst P (sym is) (stops ((unfinished ++ bytes) ++ starts.tail) starts.after (λ line tells. too_long ((unfinished ++ bytes) ++ starts.tail) (omega (arith, length-append (unfinished ++ bytes) starts.tail)) line tells))
 
 -- the end of a text, where no line has begun
-pub all_ended : {judged : JudgedLines} {unfinished text : List ℕ} (read : IsRead judged unfinished text) → unfinished ≡ [] → lines text ≡ read.texts
+pub all_ended : {J : Type 0} {Stands : J → Log → Type 0} {Passes : Log → Type 0} {judged : JudgedLines J} {unfinished text : List ℕ} (read : IsRead Stands Passes judged unfinished text) → unfinished ≡ [] → lines text ≡ read.texts
 all_ended {unfinished = unfinished} {text = text} read none =
     ap lines (sym (append-nil text)) ∙ (read.cut [] ∙ (ap (λ l. read.texts ++ lines (l ++ [])) none ∙ append-nil read.texts))
 
@@ -153,34 +166,40 @@ last_alone : (bytes : List ℕ) → IsOpen bytes → 0 < length bytes → lines 
 last_alone [] unended some = absurd (omega arith)
 last_alone (byte ∷ bytes) unended some = line_last byte bytes unended
 
-pub last_ended : {judged : JudgedLines} {unfinished text : List ℕ} (read : IsRead judged unfinished text) → 0 < length unfinished → lines text ≡ read.texts ++ unfinished ∷ []
+pub last_ended : {J : Type 0} {Stands : J → Log → Type 0} {Passes : Log → Type 0} {judged : JudgedLines J} {unfinished text : List ℕ} (read : IsRead Stands Passes judged unfinished text) → 0 < length unfinished → lines text ≡ read.texts ++ unfinished ∷ []
 last_ended {unfinished = unfinished} {text = text} read some =
     ap lines (sym (append-nil text)) ∙ (read.cut [] ∙ ap (λ ls. read.texts ++ ls) (ap lines (append-nil unfinished) ∙ last_alone unfinished read.unended some))
 
 -- where nothing of the line has come before
-module _ {judged : JudgedLines} {unfinished text : List ℕ} (bytes : List ℕ) (read : IsRead judged unfinished text) (unended : IsOpen bytes) (none : unfinished ≡ []) where
+module _ {J : Type 0} {Stands : J → Log → Type 0} {Passes : Log → Type 0} {judged : JudgedLines J} {unfinished text : List ℕ} (bytes : List ℕ) (read : IsRead Stands Passes judged unfinished text) (unended : IsOpen bytes) (none : unfinished ≡ []) where
   alone : unfinished ++ bytes ≡ bytes
   alone = ap (λ l. l ++ bytes) none
 
   pub first_stops : (P : List (List ℕ) → Type 0) → ((after : List (List ℕ)) → P (read.texts ++ bytes ∷ after)) → (more : List ℕ) → P (lines (text ++ (bytes ++ 10 ∷ more)))
   first_stops P stops more = line_stops bytes read unended P (λ after. subst (λ line. P (read.texts ++ line ∷ after)) (sym alone) (stops after)) more
 
-  pub first_read : (new : JudgedLines) → HasJudged new (read.texts ++ bytes ∷ []) → IsRead new unfinished (text ++ (bytes ++ 10 ∷ []))
-  first_read new fine = subst (λ l. IsRead new l (text ++ (bytes ++ 10 ∷ []))) (sym none)
-      (line_read bytes read unended new (subst (λ line. HasJudged new (read.texts ++ line ∷ [])) (sym alone) fine))
+  pub first_read : (new : JudgedLines J) → HasJudged Stands Passes new (read.texts ++ bytes ∷ []) → IsRead Stands Passes new unfinished (text ++ (bytes ++ 10 ∷ []))
+  first_read new fine = subst (λ l. IsRead Stands Passes new l (text ++ (bytes ++ 10 ∷ []))) (sym none)
+      (line_read bytes read unended new (subst (λ line. HasJudged Stands Passes new (read.texts ++ line ∷ [])) (sym alone) fine))
 
 -- all lines of a text
-pub all_judged : (judged : JudgedLines) (text : List ℕ) (texts : List (List ℕ)) → lines text ≡ texts → HasJudged judged texts → (log : Log) × IsWhole (lines text) log × (judged.counts ≡ counts_of log)
-all_judged judged text texts is fine =
-    (fine.log, record { fine = subst (IsUntornLog fine.log) (sym is) fine.fine; fits = omega (arith, ap length is, fine.count, fine.fits) }, fine.counts)
+pub all_judged : {J : Type 0} {Stands : J → Log → Type 0} {Passes : Log → Type 0} (judged : JudgedLines J) (text : List ℕ) (texts : List (List ℕ)) → lines text ≡ texts → HasJudged Stands Passes judged texts → (log : Log) × IsWhole Passes (lines text) log × Stands judged.judge log
+all_judged {Passes = Passes} judged text texts is fine =
+    (fine.log, record { fine = subst (IsLogSo Passes fine.log) (sym is) fine.fine; fits = omega (arith, ap length is, fine.count, fine.fits) }, fine.stands)
+
+-- and what is said of them
+pub all_said : {J V : Type 0} {Stands : J → Log → Type 0} {Passes : Log → Type 0} (Ends : V → Log → Type 0) (judged : JudgedLines J) (said : V) (text : List ℕ) (texts : List (List ℕ)) → lines text ≡ texts → HasJudged Stands Passes judged texts
+    → ((log : Log) → Stands judged.judge log → Ends said log) → (log : Log) × IsWhole Passes (lines text) log × Ends said log
+all_said Ends judged said text texts is fine ends =
+    let (log, whole, stands) = all_judged judged text texts is fine in (log, whole, ends log stands)
 
 -- what is said of an error
 pub if_err_weaker : {T E : Type 0} {P Q : E → Type 0} (answer : Result T E) → ((e : E) → P e → Q e) → IfErr answer P → IfErr answer Q
 if_err_weaker (Ok done) f p = tt
 if_err_weaker (Err e) f p = f e p
 
-pub begun : (judged : JudgedLines) → StandsAfter judged.judge [] → judged.counts ≡ counts_of [] → judged.count ≡ 0 → HasJudged judged []
-begun judged stands nothing none = record { log = []; fine = record { tells = tt; untorn = tt }; stands = stands; counts = nothing; count = none; fits = omega arith }
+pub begun : {J : Type 0} {Stands : J → Log → Type 0} {Passes : Log → Type 0} (judged : JudgedLines J) → Stands judged.judge [] → Passes [] → judged.count ≡ 0 → HasJudged Stands Passes judged []
+begun judged stands passes none = record { log = []; fine = record { tells = tt; holds = passes }; stands = stands; count = none; fits = omega arith }
 
 -- what is said of each, where it is done
 pub on_ok_all : {T E X : Type 0} (H Q : X → Type 0) (answer : Result T E) → ((x : X) → H x → OnOk answer (Q x)) → OnOk answer ((x : X) → H x → Q x)

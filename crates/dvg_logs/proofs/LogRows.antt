@@ -14,10 +14,11 @@ use Rattle.dvg_log.specs.declared.entry.Entry.TheVariants.{Acted, Fetched, Low}
 use Rattle.dvg_log.specs.declared.event.Event.TheVariants.{Tick, Fetch}
 use Rattle.dvg_log.specs.Log.{◌⟼◌, Line}
 use Rattle.dvg_read.specs.Texts.{IsHex, parts, is_passed}
+use Rattle.std.specs.Str.Lines.{strip_carriage_return}
 use Rattle.dvg_read.proofs.FirstBytes.{HasNone}
 use Rattle.dvg_read.proofs.Spaces.{no_space}
 use Rattle.dvg_logs.specs.declared.log_line.LogLine.{LogLine}
-use Rattle.dvg_logs.specs.LogLines.{LogRow, Tells, started, fetched, low, wrote, halted, reset, passed, logged}
+use Rattle.dvg_logs.specs.LogLines.{LogRow, Tells, small, started, fetched, low, wrote, halted, reset, passed, logged}
 use Rattle.dvg_logs.specs.LogLineTells.{AreNumbers, line_of}
 
 -- a line is its parts, with a space between each two
@@ -124,15 +125,15 @@ low_numbers text rest is row = numbers_in rest (low_row (subst (LogRow _) (ap pa
 
 -- ---- what is read of a whole line
 
-pub logged_by : (text : List ℕ) (answer : Option LogLine) → length text ≤ 64 → is_passed text ≡ false → IfSome answer (λ found. LogRow (line_of found) (parts text)) → IfSome answer (λ found. Tells (line_of found) text)
+pub logged_by : (text : List ℕ) (answer : Option LogLine) → length text ≤ 64 → is_passed (strip_carriage_return text) ≡ false → IfSome answer (λ found. LogRow (line_of found) (parts (small (strip_carriage_return text)))) → IfSome answer (λ found. Tells (line_of found) text)
 logged_by text None short not row = tt
 logged_by text (Some found) short not row = logged short not row
 
-pub row_of : {line : Line} (text : List ℕ) → is_passed text ≡ false → Tells line text → LogRow line (parts text)
+pub row_of : {line : Line} (text : List ℕ) → is_passed (strip_carriage_return text) ≡ false → Tells line text → LogRow line (parts (small (strip_carriage_return text)))
 row_of text not (passed short is) = absurd (true≢false (sym is ∙ not))
 row_of text not (logged short is row) = row
 
-pub passed_alone : {line : Line} (text : List ℕ) → is_passed text ≡ true → Tells line text → Tick ⟼ Acted Idle ≡ line
+pub passed_alone : {line : Line} (text : List ℕ) → is_passed (strip_carriage_return text) ≡ true → Tells line text → Tick ⟼ Acted Idle ≡ line
 passed_alone text is (passed short also) = refl
 passed_alone text is (logged short not row) = absurd (true≢false (sym is ∙ not))
 

@@ -1,19 +1,22 @@
 -- Lines that tell numbers, at the head of a text.
 use Rattle.std.proofs.Common.{◌≡◌, ◌<◌, ◌≤◌, ◌+◌, ◌*◌, ◌-◌, ℕ, List, [], ◌∷◌, ◌++◌, length, get_or, take, drop, min, refl, sym, ap, ◌∙◌, subst, arith, eqb, false, append_assoc, append-nil, length-append, bit_or, codes, zero, suc}
 use Rattle.std.specs.Prelude.{⊤}
-use Rattle.std.specs.Char.{digit_value}
+use Rattle.std.specs.Char.{digit_value, to_ascii_lowercase}
+use Rattle.std.specs.Str.Lines.{strip_carriage_return}
+use Rattle.std.specs.Prelude.{All}
 use Rattle.std.specs.Str.Parse.{AllDigits}
 use Rattle.std.proofs.lemmas.Bool.{eqb-true, false_from_ne_true}
 use Rattle.std.proofs.lemmas.Nat.{le_or_l, le_or_r}
-use Rattle.std.proofs.lemmas.List.{drop_more, take_rest}
+use Rattle.std.proofs.lemmas.List.{drop_more, map-append, take_rest}
 use Rattle.std.proofs.lemmas.List.Elements.{All-cons}
-use Rattle.dvg_log.specs.Log.{Line}
+use Rattle.dvg_log.specs.Log.{Line, Log}
 use Rattle.dvg_read.specs.Texts.{IsHex, is_passed, parts}
-use Rattle.dvg_logs.specs.LogLines.{LogRow, Tells, logged}
+use Rattle.dvg_logs.specs.LogLines.{LogRow, Tells, logged, small}
 use Rattle.dvg_logs.specs.LogLineTells.{AreNumbers, BeginsWithNumbers}
 use Rattle.dvg_logs.specs.declared.log_reading.JudgedLines.{JudgedLines}
 use Rattle.dvg_logs.specs.LogReading.{HasJudged, HeadLine, IsOpen, IsRead, TakesLine, TakesLines}
 use Rattle.dvg_logs.proofs.LogReads.{first_read, line_off}
+use Rattle.dvg_logs.proofs.SmallLines.{small_numbers, stripped}
 use Rattle.dvg_logs.proofs.LogRows.{fetched_line, fetched_made, low_line, low_made, wrote_line, wrote_made}
 
 -- ---- digits
@@ -88,48 +91,54 @@ head_of text k fits =
     let is : 0 + k ≡ k = omega arith in
     cut_from text 0 k (omega (arith, fits)) ∙ (ap (λ n. firsts 0 k text ++ drop n text) is ∙ ap (λ l. firsts 0 k text ++ l) (sym (take_rest text k)))
 
--- none of these bytes ends a line
-abbrev NoEnds : List ℕ → Type 0
-NoEnds [] = ⊤
-NoEnds (byte ∷ bytes) = (eqb byte 10 ≡ false) × NoEnds bytes
+-- none of these bytes is this one, which is no digit
+module _ (c : ℕ) (no_digit : 16 ≤ digit_value c) where
+  abbrev pub Lacks : List ℕ → Type 0
+  Lacks [] = ⊤
+  Lacks (byte ∷ bytes) = (eqb byte c ≡ false) × Lacks bytes
 
-open_of : (bytes : List ℕ) → NoEnds bytes → IsOpen bytes
-open_of [] none = λ k d inside. absurd (omega arith)
-open_of (byte ∷ bytes) (other, others) = All-cons (λ b. eqb b 10 ≡ false) byte bytes other (open_of bytes others)
+  pub none_of : (bytes : List ℕ) → Lacks bytes → All (λ byte. eqb byte c ≡ false) bytes
+  none_of [] none = λ k d inside. absurd (omega arith)
+  none_of (byte ∷ bytes) (other, others) = All-cons (λ b. eqb b c ≡ false) byte bytes other (none_of bytes others)
 
--- no digit does
-no_end : (digits : List ℕ) → AllDigits 16 digits → NoEnds digits
-no_end [] h = tt
-no_end (byte ∷ bytes) (h, others) = (false_from_ne_true (eqb byte 10) (λ is. absurd (omega (arith, h, ap digit_value (eqb-true byte 10 is)))), no_end bytes others)
+  -- no digit is
+  lacking : (digits : List ℕ) → AllDigits 16 digits → Lacks digits
+  lacking [] h = tt
+  lacking (byte ∷ bytes) (h, others) = (false_from_ne_true (eqb byte c) (λ is. absurd (omega (arith, h, no_digit, ap digit_value (eqb-true byte c is)))), lacking bytes others)
 
-no_ends : (one other : List ℕ) → NoEnds one → NoEnds other → NoEnds (one ++ other)
-no_ends [] other none h = h
-no_ends (byte ∷ bytes) other (none, more) h = (none, no_ends bytes other more h)
+  both_lack : (one other : List ℕ) → Lacks one → Lacks other → Lacks (one ++ other)
+  both_lack [] other none h = h
+  both_lack (byte ∷ bytes) other (none, more) h = (none, both_lack bytes other more h)
+
+  pub numbers_lack : (space : eqb 32 c ≡ false) {count a n : ℕ} {bytes : List ℕ} → AreNumbers count a n bytes → Lacks bytes
+  numbers_lack space numbers =
+      let back = lacking numbers.back numbers.number.digits in
+      subst Lacks (sym numbers.split)
+      (both_lack numbers.front (32 ∷ numbers.back) (lacking numbers.front numbers.address.digits) (space, back))
+
+  pub line_lacks : (space : eqb 32 c ≡ false) {count a n : ℕ} {bytes : List ℕ} (name : List ℕ) → Lacks name → AreNumbers count a n bytes → All (λ byte. eqb byte c ≡ false) (name ++ bytes)
+  line_lacks space {bytes = bytes} name none numbers = none_of (name ++ bytes) (both_lack name bytes none (numbers_lack space numbers))
 
 pub numbers : {count a n : ℕ} {front back : List ℕ} → IsHex 3 a front → IsHex count n back
     → AreNumbers count a n (front ++ 32 ∷ back)
 numbers {front = front} {back = back} address number =
     record { front = front; back = back; split = refl; address = address; number = number }
 
-numbers_open : {count a n : ℕ} {bytes : List ℕ} → AreNumbers count a n bytes → NoEnds bytes
-numbers_open numbers =
-    let back = no_end numbers.back numbers.number.digits in
-    subst NoEnds (sym numbers.split)
-    (no_ends numbers.front (32 ∷ numbers.back) (no_end numbers.front numbers.address.digits) (refl, back))
-
 -- so a name with its space, numbers and an end are a line at a text's head
 number_head : {count a n : ℕ} {text rest : List ℕ} (line : Line) (name : List ℕ)
-    (begins : BeginsWithNumbers count a n text rest) → NoEnds name → length name + count ≤ 60
-    → is_passed (name ++ begins.bytes) ≡ false
-    → LogRow line (parts (name ++ begins.bytes)) → HeadLine line (name ++ text) rest
-number_head {rest = rest} line name begins none few not row =
+    (begins : BeginsWithNumbers count a n text rest) → Lacks 10 (omega arith) name → Lacks 13 (omega arith) name → small name ≡ name
+    → length name + count ≤ 60 → is_passed (name ++ begins.bytes) ≡ false
+    → LogRow line (parts (name ++ small begins.bytes)) → HeadLine line (name ++ text) rest
+number_head {rest = rest} line name begins none no_cr in_small few not row =
     let bytes = begins.bytes in
     let numbers = begins.numbers in
     let size = length-append numbers.front (32 ∷ numbers.back) in
+    let whole : strip_carriage_return (name ++ bytes) ≡ name ++ bytes = stripped (name ++ bytes) (line_lacks 13 (omega arith) refl name no_cr numbers) in
+    let lowered : small (strip_carriage_return (name ++ bytes)) ≡ name ++ small bytes = ap small whole ∙ (map-append to_ascii_lowercase name bytes ∙ ap (λ l. l ++ small bytes) in_small) in
     record {
       line = name ++ bytes;
       split = ap (λ l. name ++ l) begins.split ∙ sym (append_assoc name bytes (10 ∷ rest));
-      unended = open_of (name ++ bytes) (no_ends name bytes none (numbers_open numbers));
+      unended = line_lacks 10 (omega arith) refl name none numbers;
       tells = logged (omega (
         arith,
         length-append name bytes,
@@ -138,64 +147,62 @@ number_head {rest = rest} line name begins none few not row =
         numbers.address.size,
         numbers.number.size,
         few,
-      )) not row;
+      )) (ap is_passed whole ∙ not) (subst (λ text. LogRow line (parts text)) (sym lowered) row);
     }
 
 pub wrote_head : {a n : ℕ} {text rest : List ℕ} → BeginsWithNumbers 2 a n text rest → a < 0x800
     → HeadLine (wrote_line a n) (codes "wrote " ++ text) rest
 wrote_head {a} {n} begins ram =
-    let ends : NoEnds (codes "wrote ") = (refl, (refl, (refl, (refl, (refl, (refl, tt)))))) in
-    number_head (wrote_line a n) (codes "wrote ") begins ends (omega arith) refl
-    (wrote_made (codes "wrote " ++ begins.bytes) begins.bytes refl ram begins.numbers)
+    number_head (wrote_line a n) (codes "wrote ") begins (refl, (refl, (refl, (refl, (refl, (refl, tt)))))) (refl, (refl, (refl, (refl, (refl, (refl, tt)))))) refl (omega arith) refl
+    (wrote_made (codes "wrote " ++ small begins.bytes) (small begins.bytes) refl ram (small_numbers begins.numbers))
 
 pub low_head : {a n : ℕ} {text rest : List ℕ} → BeginsWithNumbers 2 a n text rest
     → HeadLine (low_line a n) (codes "low " ++ text) rest
 low_head {a} {n} begins =
-    number_head (low_line a n) (codes "low ") begins (refl, (refl, (refl, (refl, tt)))) (omega arith) refl
-    (low_made (codes "low " ++ begins.bytes) begins.bytes refl begins.numbers)
+    number_head (low_line a n) (codes "low ") begins (refl, (refl, (refl, (refl, tt)))) (refl, (refl, (refl, (refl, tt)))) refl (omega arith) refl
+    (low_made (codes "low " ++ small begins.bytes) (small begins.bytes) refl (small_numbers begins.numbers))
 
 pub fetched_head : {a n : ℕ} {text rest : List ℕ} → BeginsWithNumbers 4 a n text rest
     → HeadLine (fetched_line a n) (codes "fetched " ++ text) rest
 fetched_head {a} {n} begins =
-    let ends : NoEnds (codes "fetched ") = (refl, (refl, (refl, (refl, (refl, (refl, (refl, (refl, tt)))))))) in
-    number_head (fetched_line a n) (codes "fetched ") begins ends (omega arith) refl
-    (fetched_made (codes "fetched " ++ begins.bytes) begins.bytes refl begins.numbers)
+    number_head (fetched_line a n) (codes "fetched ") begins (refl, (refl, (refl, (refl, (refl, (refl, (refl, (refl, tt)))))))) (refl, (refl, (refl, (refl, (refl, (refl, (refl, (refl, tt)))))))) refl (omega arith) refl
+    (fetched_made (codes "fetched " ++ small begins.bytes) (small begins.bytes) refl (small_numbers begins.numbers))
 
 -- ---- lines that are taken
 
-pub line_taken : {old new : JudgedLines} {logged : Line} {text rest : List ℕ} → HeadLine logged text rest
-    → ((before : List (List ℕ)) (line : List ℕ) → HasJudged old before → Tells logged line → HasJudged new (before ++ line ∷ [])) → TakesLine old new text rest
+pub line_taken : {J : Type 0} {Stands : J → Log → Type 0} {Passes : Log → Type 0} {old new : JudgedLines J} {logged : Line} {text rest : List ℕ} → HeadLine logged text rest
+    → ((before : List (List ℕ)) (line : List ℕ) → HasJudged Stands Passes old before → Tells logged line → HasJudged Stands Passes new (before ++ line ∷ [])) → TakesLine Stands Passes old new text rest
 line_taken head takes = record { line = head.line; split = head.split; unended = head.unended; judged = λ before judged. takes before head.line judged head.tells }
 
-pub none_taken : (judged : JudgedLines) (text : List ℕ) → TakesLines judged judged text text
-none_taken judged text = record {
+pub none_taken : {J : Type 0} {Stands : J → Log → Type 0} {Passes : Log → Type 0} (judged : JudgedLines J) (text : List ℕ) → TakesLines Stands Passes judged judged text text
+none_taken {Stands = Stands} {Passes = Passes} judged text = record {
   front = [];
   split = refl;
-  read = λ before read. subst (IsRead judged []) (sym (append-nil before)) read;
+  read = λ before read. subst (IsRead Stands Passes judged []) (sym (append-nil before)) read;
   farther = omega arith;
   some = λ some. absurd (omega (arith, some));
 }
 
-pub one_taken : {old between new : JudgedLines} {text rest after : List ℕ} → TakesLines old between text rest → TakesLine between new rest after → new.count ≡ between.count + 1 → TakesLines old new text after
-one_taken {new = new} {text = text} {rest = rest} {after = after} lines line count = record {
+pub one_taken : {J : Type 0} {Stands : J → Log → Type 0} {Passes : Log → Type 0} {old between new : JudgedLines J} {text rest after : List ℕ} → TakesLines Stands Passes old between text rest → TakesLine Stands Passes between new rest after → new.count ≡ between.count + 1 → TakesLines Stands Passes old new text after
+one_taken {Stands = Stands} {Passes = Passes} {new = new} {text = text} {rest = rest} {after = after} lines line count = record {
   front = lines.front ++ (line.line ++ 10 ∷ []);
   split = line_off lines.front line.line after rest text lines.split line.split;
   read = λ before read. let so_far = lines.read before read in
-      subst (IsRead new []) (append_assoc before lines.front (line.line ++ 10 ∷ []))
+      subst (IsRead Stands Passes new []) (append_assoc before lines.front (line.line ++ 10 ∷ []))
       (first_read line.line so_far line.unended refl new (line.judged so_far.texts so_far.fine));
   farther = omega (arith, count, lines.farther);
   some = λ some. omega (arith, count, lines.farther);
 }
 
 -- what is left gets shorter
-pub shorter : {old new : JudgedLines} {text rest : List ℕ} → TakesLine old new text rest → length rest < length text
+pub shorter : {J : Type 0} {Stands : J → Log → Type 0} {Passes : Log → Type 0} {old new : JudgedLines J} {text rest : List ℕ} → TakesLine Stands Passes old new text rest → length rest < length text
 shorter {rest = rest} line = omega (arith, ap length line.split, length-append line.line (10 ∷ rest))
 
 -- after a text that ends with a line
-pub lines_read : {old new : JudgedLines} {unfinished text after rest : List ℕ} (lines : TakesLines old new after rest) → unfinished ≡ [] → IsRead old unfinished text → IsRead new unfinished (text ++ lines.front)
-lines_read {old = old} {new = new} {text = text} lines none read =
-    subst (λ l. IsRead new l (text ++ lines.front)) (sym none) (lines.read text (subst (λ l. IsRead old l text) none read))
+pub lines_read : {J : Type 0} {Stands : J → Log → Type 0} {Passes : Log → Type 0} {old new : JudgedLines J} {unfinished text after rest : List ℕ} (lines : TakesLines Stands Passes old new after rest) → unfinished ≡ [] → IsRead Stands Passes old unfinished text → IsRead Stands Passes new unfinished (text ++ lines.front)
+lines_read {Stands = Stands} {Passes = Passes} {old = old} {new = new} {text = text} lines none read =
+    subst (λ l. IsRead Stands Passes new l (text ++ lines.front)) (sym none) (lines.read text (subst (λ l. IsRead Stands Passes old l text) none read))
 
 -- and of a piece, of which this front was read before
-pub lines_off : {old new : JudgedLines} {after rest : List ℕ} (front piece : List ℕ) (lines : TakesLines old new after rest) → piece ≡ front ++ after → piece ≡ (front ++ lines.front) ++ rest
+pub lines_off : {J : Type 0} {Stands : J → Log → Type 0} {Passes : Log → Type 0} {old new : JudgedLines J} {after rest : List ℕ} (front piece : List ℕ) (lines : TakesLines Stands Passes old new after rest) → piece ≡ front ++ after → piece ≡ (front ++ lines.front) ++ rest
 lines_off {rest = rest} front piece lines is = is ∙ (ap (λ l. front ++ l) lines.split ∙ sym (append_assoc front lines.front rest))

@@ -1,5 +1,5 @@
 -- Of the text of a log one verdict is given at most, and none where a line tells nothing.
-use Rattle.std.proofs.Common.{◌≡◌, ◌<◌, ◌+◌, ◌-◌, ℕ, suc, List, [], ◌∷◌, ◌++◌, codes, length, take, drop, reverse, refl, sym, ap, ◌∙◌, subst, arith, append_assoc, length-append, ⊎_elim, inl, inr, Result, Ok, Err, IfErr, IfOk, Bool, true, false, true≢false, cond}
+use Rattle.std.proofs.Common.{◌≡◌, ◌<◌, ◌+◌, ◌-◌, ℕ, suc, List, [], ◌∷◌, ◌++◌, codes, length, take, drop, reverse, refl, sym, ap, ◌∙◌, subst, arith, append_assoc, length-append, ⊎_elim, inl, inr, Result, Ok, Err, IfErr, IfOk, Bool, true, false, true≢false, cond, Option, Some, None}
 use Rattle.std.specs.List.{AllZip}
 use Rattle.std.proofs.lemmas.Bool.{cases_lt}
 use Rattle.std.proofs.lemmas.List.{nil_from_length, reverse-append, reverse-reverse}
@@ -7,6 +7,8 @@ use Rattle.std.proofs.Math.Seq.{take-append_seam, take-append-add, drop-append_s
 use Rattle.dvg_driver.specs.declared.action.Action.TheVariants.{Wrote}
 use Rattle.dvg_log.specs.declared.entry.Entry.TheVariants.{Acted, Started, Done, Cleared}
 use Rattle.dvg_log.specs.declared.event.Event.TheVariants.{Tick, Strobe, Fetch, ResetGen}
+use Rattle.dvg_log.specs.Entries.{Shown}
+use Rattle.dvg_log.specs.Events.{Happening}
 use Rattle.dvg_log.specs.Log.{◌⟼◌, Line, Log, Throughout}
 use Rattle.dvg_log.specs.Torn.{IsUntorn}
 use Rattle.dvg_read.specs.Texts.{IsHex, lines}
@@ -20,12 +22,12 @@ use Rattle.dvg_logs.specs.LogLines.{IsLogOf, LogRow, Tells, started, fetched, lo
 use Rattle.dvg_logs.specs.declared.log_reading.LogStop.{LogStop}
 use Rattle.dvg_logs.specs.declared.log_reading.LogStop.TheVariants as stop
 use Rattle.dvg_logs.specs.LogLaws.{IsJudged}
-use Rattle.dvg_logs.specs.LogReading.{IsTornLine}
+use Rattle.dvg_logs.specs.HalfLines.{EndsUntorn, FindsTorn, IsTornLine}
 use Rattle.dvg_logs.specs.LogReading as reading
 use Rattle.dvg_logs.specs.Judging.{found_in}
 use Rattle.dvg_logs.specs.LogCounts.{counts_of, no_run_drew}
-use Rattle.dvg_logs.specs.LogTexts.{Finds, HasLogFault, IsTornAt, IsUntornLog, IsWhole, JudgesLog, MeetsSyntax}
-use Rattle.dvg_logs.proofs.LogReads.{log_length}
+use Rattle.dvg_logs.specs.LogTexts.{Finds, HasLogFault, IsFoundAt, IsLogSo, IsTornAt, IsUntornLog, IsWhole, JudgesLog, MeetsSyntax, Says}
+use Rattle.dvg_logs.proofs.LogReads.{log_length, torn_at}
 use Rattle.dvg_logs.proofs.LogRows.{NumberRow, fetched_line, fetched_row, low_line, low_row, passed_alone, row_of, wrote_line, wrote_row}
 
 -- ---- a line tells one thing at most
@@ -56,12 +58,12 @@ row_once (wrote ram h k) row = numbers_once wrote_line h k (wrote_row row)
 row_once (fetched h k) row = numbers_once fetched_line h k (fetched_row row)
 row_once (low h k) row = numbers_once low_line h k (low_row row)
 
-tells_once : (line other : Line) (text : List ℕ) → Tells line text → Tells other text → line ≡ other
+pub tells_once : (line other : Line) (text : List ℕ) → Tells line text → Tells other text → line ≡ other
 tells_once line other text (passed short is) also = passed_alone text is also
 tells_once line other text (logged short not row) also = row_once row (row_of text not also)
 
 -- lines tell one log at most
-log_once : (log other : Log) (texts : List (List ℕ)) → IsLogOf log texts → IsLogOf other texts → log ≡ other
+pub log_once : (log other : Log) (texts : List (List ℕ)) → IsLogOf log texts → IsLogOf other texts → log ≡ other
 log_once log other texts one two =
     sym (reverse-reverse log) ∙ (ap reverse (zip_same Tells tells_once (reverse log) (reverse other) texts one two) ∙ reverse-reverse other)
 
@@ -109,53 +111,66 @@ front_of log before text after log_of =
 
 -- ---- the line at which a text stops
 
--- line number k, counted from 0, is torn or tells nothing, and none before it
-record StopsAt (texts : List (List ℕ)) (k : ℕ) : Type 0 where
+-- what holds throughout a log holds throughout an older part of it
+behind_all : (P : Log → Happening → Shown → Type 0) (later log : Log) → Throughout P (later ++ log) → Throughout P log
+behind_all P [] log all = all
+behind_all P ((event ⟼ entry) ∷ later) log all = behind_all P later log all.1
+
+-- of a line this holds or doesn't, after the log before it
+abbrev pub Of : (Log → Happening → Shown → Type 0) → Log → Line → Type 0
+Of P log (event ⟼ entry) = P log event entry
+
+first_of : (P : Log → Happening → Shown → Type 0) (log : Log) (line : Line) → Throughout P (line ∷ log) → Of P log line
+first_of P log (event ⟼ entry) all = all.0
+
+-- of line number k, counted from 0, this doesn't hold, or it tells nothing; and it holds of each before it
+pub record StopsAt (P : Log → Happening → Shown → Type 0) (texts : List (List ℕ)) (k : ℕ) : Type 0 where
   pub before : List (List ℕ)
   pub line : List ℕ
   pub after : List (List ℕ)
   pub cut : texts ≡ before ++ line ∷ after
   pub at : length before ≡ k
   pub log : Log
-  pub fine : IsUntornLog log before
-  pub stops : (logged : Line) → Tells logged line → IsTornLine log logged
+  pub fine : IsLogSo (Throughout P) log before
+  pub stops : (logged : Line) → Tells logged line → ¬ Of P log logged
 
--- what holds throughout a log holds throughout an older part of it
-behind_all : (P : Log → _ → _ → Type 0) (later log : Log) → Throughout P (later ++ log) → Throughout P log
-behind_all P [] log all = all
-behind_all P ((event ⟼ entry) ∷ later) log all = behind_all P later log all.1
+module _ (P : Log → Happening → Shown → Type 0) where
+  -- no line among those of which it holds stops a text
+  stops_none : {texts : List (List ℕ)} {k : ℕ} (log : Log) (more : List (List ℕ)) (stop : StopsAt P texts k) → IsLogSo (Throughout P) log (stop.before ++ stop.line ∷ more) → ⊥
+  stops_none log more stop fine =
+      let front = front_of log stop.before stop.line more fine.tells in
+      let all = behind_all P front.later (front.line ∷ front.older) (subst (Throughout P) front.split fine.holds) in
+      let same = log_once front.older stop.log stop.before front.tells_older stop.fine.tells in
+      stop.stops front.line front.tells (subst (λ log. Of P log front.line) same (first_of P front.older front.line all))
 
-first_untorn : (log : Log) (line : Line) → Throughout IsUntorn (line ∷ log) → ¬ IsTornLine log line
-first_untorn log (event ⟼ entry) all = all.0
+  -- a text that stops at a line stops at no later one
+  stops_sooner : {texts : List (List ℕ)} {k j : ℕ} → StopsAt P texts k → StopsAt P texts j → k < j → ⊥
+  stops_sooner {texts} {k} {j} one two sooner =
+      let m = j - suc k in
+      let p = one.at in
+      let q = two.at in
+      let far : length two.before ≡ length one.before + suc m = omega arith in
+      let is : two.before ≡ one.before ++ one.line ∷ take m one.after
+      = sym (take-append_seam two.before (two.line ∷ two.after)) ∙ (ap (take (length two.before)) (sym two.cut ∙ one.cut)
+      ∙ (ap (λ n. take n (one.before ++ one.line ∷ one.after)) far ∙ take-append-add one.before (one.line ∷ one.after) (suc m))) in
+      stops_none two.log (take m one.after) one (subst (IsLogSo (Throughout P) two.log) is two.fine)
 
--- no line among untorn ones stops a text
-stops_none : {texts : List (List ℕ)} {k : ℕ} (log : Log) (more : List (List ℕ)) (stop : StopsAt texts k) → IsUntornLog log (stop.before ++ stop.line ∷ more) → ⊥
-stops_none log more stop fine =
-    let front = front_of log stop.before stop.line more fine.tells in
-    let all = behind_all IsUntorn front.later (front.line ∷ front.older) (subst (Throughout IsUntorn) front.split fine.untorn) in
-    let same = log_once front.older stop.log stop.before front.tells_older stop.fine.tells in
-    first_untorn front.older front.line all (subst (λ log. IsTornLine log front.line) (sym same) (stop.stops front.line front.tells))
+  pub one_stop : {texts : List (List ℕ)} {k j : ℕ} → StopsAt P texts k → StopsAt P texts j → k ≡ j
+  one_stop {texts} {k} {j} one two =
+      ⊎_elim (λ less. absurd (stops_sooner one two less)) (λ not_less. ⊎_elim (λ less. absurd (stops_sooner two one less)) (λ also. omega arith) (cases_lt j k)) (cases_lt k j)
 
--- a text that stops at a line stops at no later one
-stops_sooner : {texts : List (List ℕ)} {k j : ℕ} → StopsAt texts k → StopsAt texts j → k < j → ⊥
-stops_sooner {texts} {k} {j} one two sooner =
-    let m = j - suc k in
-    let p = one.at in
-    let q = two.at in
-    let far : length two.before ≡ length one.before + suc m = omega arith in
-    let is : two.before ≡ one.before ++ one.line ∷ take m one.after
-    = sym (take-append_seam two.before (two.line ∷ two.after)) ∙ (ap (take (length two.before)) (sym two.cut ∙ one.cut)
-    ∙ (ap (λ n. take n (one.before ++ one.line ∷ one.after)) far ∙ take-append-add one.before (one.line ∷ one.after) (suc m))) in
-    stops_none two.log (take m one.after) one (subst (IsUntornLog two.log) is two.fine)
+  pub syntax_stops : {texts : List (List ℕ)} {n : ℕ} (at_fault : MeetsSyntax (Throughout P) texts n) → StopsAt P texts (length at_fault.before)
+  syntax_stops at_fault = record { before = at_fault.before; line = at_fault.line; after = at_fault.after; cut = at_fault.cut; at = refl; log = at_fault.log; fine = at_fault.fine; stops = λ logged tells. absurd (at_fault.wrong logged tells) }
 
-one_stop : {texts : List (List ℕ)} {k j : ℕ} → StopsAt texts k → StopsAt texts j → k ≡ j
-one_stop {texts} {k} {j} one two =
-    ⊎_elim (λ less. absurd (stops_sooner one two less)) (λ not_less. ⊎_elim (λ less. absurd (stops_sooner two one less)) (λ also. omega arith) (cases_lt j k)) (cases_lt k j)
+  pub never_stops : {texts : List (List ℕ)} {k : ℕ} (log : Log) → IsLogSo (Throughout P) log texts → StopsAt P texts k → ⊥
+  never_stops log fine stop = stops_none log stop.after stop (subst (IsLogSo (Throughout P) log) stop.cut fine)
 
-syntax_stops : {texts : List (List ℕ)} {n : ℕ} (at_fault : MeetsSyntax texts n) → StopsAt texts (length at_fault.before)
-syntax_stops at_fault = record { before = at_fault.before; line = at_fault.line; after = at_fault.after; cut = at_fault.cut; at = refl; log = at_fault.log; fine = at_fault.fine; stops = λ logged tells. absurd (at_fault.wrong logged tells) }
+-- ---- by the rule of halves
 
-torn_stops : {texts : List (List ℕ)} {log : Log} {n address byte : ℕ} (torn : IsTornAt texts log n address byte) → StopsAt texts (length torn.before)
+is_wrong : (log : Log) (line : Line) → IsTornLine log line → ¬ Of IsUntorn log line
+is_wrong log (event ⟼ entry) torn untorn = untorn torn
+
+torn_stops : {texts : List (List ℕ)} {log : Log} {n address byte : ℕ} (torn : IsTornAt texts log n address byte) → StopsAt IsUntorn texts (length torn.before)
 torn_stops {log = log} torn =
     let front = front_of log torn.before torn.line [] torn.tells in
     let first = torn.torn in
@@ -178,23 +193,14 @@ torn_stops {log = log} torn =
       cut = torn.cut;
       at = refl;
       log = front.older;
-      fine = record { tells = front.tells_older; untorn = subst (Throughout IsUntorn) log first.untorn };
-      stops = λ logged tells. subst (IsTornLine front.older) (tells_once front.line logged torn.line front.tells tells) is_torn;
+      fine = record { tells = front.tells_older; holds = subst (Throughout IsUntorn) log first.untorn };
+      stops = λ logged tells. is_wrong front.older logged (subst (IsTornLine front.older) (tells_once front.line logged torn.line front.tells tells) is_torn);
     }
-
-never_stops : {texts : List (List ℕ)} {k : ℕ} (log : Log) → IsUntornLog log texts → StopsAt texts k → ⊥
-never_stops log fine stop = stops_none log stop.after stop (subst (IsUntornLog log) stop.cut fine)
 
 -- ---- each text
 
--- why the reading of a text stops is its verdict or its fault
-pub judged_at : (text : List ℕ) (stop : LogStop) → reading.StopsAt stop (lines text) → IsJudged text
-judged_at text (stop.Torn n address byte counts) (log, torn, counted) = inl (record { finding = Torn n address byte; counts = counts }, record { log = log; finds = torn; counts = counted })
-judged_at text (stop.Syntax n) stops = inr (Syntax n, stops)
-judged_at text stop.TooLong stops = inr (TooLong, stops)
-
 -- what is found in a log that was read to its end
-pub whole_judged : (text : List ℕ) (counts : LogCounts) (log : Log) → IsWhole (lines text) log → counts ≡ counts_of log → JudgesLog text (record { finding = found_in counts; counts = counts })
+pub whole_judged : (text : List ℕ) (counts : LogCounts) (log : Log) → IsWhole (Throughout IsUntorn) (lines text) log → counts ≡ counts_of log → JudgesLog text (record { finding = found_in counts; counts = counts })
 whole_judged text counts log whole is = record {
   log = log;
   finds = subst (λ counts. Finds (found_in counts) (lines text) log) (sym is) (found (no_run_drew (counts_of log)) refl);
@@ -205,24 +211,44 @@ whole_judged text counts log whole is = record {
     found true is = (whole, is)
     found false is = (whole, is)
 
+-- what decides in a text, and is said of it
+finding_torn : (verdict : LogVerdict) (n a byte : ℕ) (log : Log) (text : List ℕ) → verdict.finding ≡ Torn n a byte → verdict.counts ≡ counts_of log → IsTornAt (lines text) log n a byte → JudgesLog text verdict
+finding_torn verdict n a byte log text is counts torn = record { log = log; finds = subst (λ found. Finds found (lines text) log) (sym is) torn; counts = counts }
+
+pub torn_judged : (text : List ℕ) (n : ℕ) (verdict : LogVerdict) → IsFoundAt (Throughout IsUntorn) FindsTorn (lines text) n verdict → JudgesLog text verdict
+torn_judged text n verdict found =
+    let finds = found.finds in
+    let at : length found.log + 1 ≡ n = omega (arith, log_length found.log found.before found.fine.tells, found.number) in
+    let finding = finds.finding ∙ ap (λ n. Torn n finds.address finds.byte) at in
+    finding_torn verdict n finds.address finds.byte (found.line ∷ found.log) text finding finds.counts
+    (subst (λ texts. IsTornAt texts (found.line ∷ found.log) n finds.address finds.byte) (sym found.cut)
+    (torn_at found.log found.before found.line finds.address finds.byte found.text found.after finds.is found.fine found.tells finds.torn n found.number))
+
+pub halves_judged : (text : List ℕ) (verdict : LogVerdict) (decided : Option ℕ) → Says (Throughout IsUntorn) FindsTorn EndsUntorn verdict (lines text) decided → JudgesLog text verdict
+halves_judged text verdict (Some n) found = torn_judged text n verdict found
+halves_judged text verdict None (log, whole, is) = subst (JudgesLog text) (sym is) (whole_judged text (counts_of log) log whole refl)
+
+pub judged_at : (text : List ℕ) (why : LogStop LogVerdict) → reading.StopsAt (Throughout IsUntorn) FindsTorn why (lines text) → IsJudged text
+judged_at text (stop.Found n verdict) stops = inl (verdict, torn_judged text n verdict stops)
+judged_at text (stop.Syntax n) stops = inr (Syntax n, stops)
+judged_at text stop.TooLong stops = inr (TooLong, stops)
+
 -- so it is at the end of a text that was read
-pub judged_by : (HasRead : List ℕ → Type 0) (text : List ℕ) (answer : Result LogCounts LogStop) → HasRead text → IfErr answer (λ stop. (text : List ℕ) → HasRead text → reading.StopsAt stop (lines text))
-    → IfOk answer (λ counts. (text : List ℕ) → HasRead text → (log : Log) × IsWhole (lines text) log × (counts ≡ counts_of log)) → IsJudged text
-judged_by HasRead text (Ok counts) read stops judged =
-    let (log, whole, is) = judged text read in
-    inl (record { finding = found_in counts; counts = counts }, whole_judged text counts log whole is)
+pub judged_by : (HasRead : List ℕ → Type 0) (text : List ℕ) (answer : Result LogVerdict (LogStop LogVerdict)) → HasRead text → IfErr answer (λ stop. (text : List ℕ) → HasRead text → reading.StopsAt (Throughout IsUntorn) FindsTorn stop (lines text))
+    → IfOk answer (λ verdict. (text : List ℕ) → HasRead text → (log : Log) × IsWhole (Throughout IsUntorn) (lines text) log × EndsUntorn verdict log) → IsJudged text
+judged_by HasRead text (Ok verdict) read stops judged = inl (verdict, halves_judged text verdict None (judged text read))
 judged_by HasRead text (Err why) read stops judged = judged_at text why (stops text read)
 
 -- ---- the laws
 
 -- two lines at one place are one
-same_lines : {texts : List (List ℕ)} (before other : List (List ℕ)) (x y : List ℕ) (after rest : List (List ℕ)) → texts ≡ before ++ x ∷ after → texts ≡ other ++ y ∷ rest → length before ≡ length other → x ≡ y
+pub same_lines : {texts : List (List ℕ)} (before other : List (List ℕ)) (x y : List ℕ) (after rest : List (List ℕ)) → texts ≡ before ++ x ∷ after → texts ≡ other ++ y ∷ rest → length before ≡ length other → x ≡ y
 same_lines before other x y after rest one two e =
     let behind : x ∷ after ≡ y ∷ rest = sym (drop-append_seam before (x ∷ after)) ∙ (ap (drop (length before)) (sym one ∙ two) ∙ (ap (λ n. drop n (other ++ y ∷ rest)) e ∙ drop-append_seam other (y ∷ rest))) in
     cc
 
 -- and so is what stands before them
-same_fronts : {texts : List (List ℕ)} (before other : List (List ℕ)) (x y : List ℕ) (after rest : List (List ℕ)) → texts ≡ before ++ x ∷ after → texts ≡ other ++ y ∷ rest → length before ≡ length other → before ≡ other
+pub same_fronts : {texts : List (List ℕ)} (before other : List (List ℕ)) (x y : List ℕ) (after rest : List (List ℕ)) → texts ≡ before ++ x ∷ after → texts ≡ other ++ y ∷ rest → length before ≡ length other → before ≡ other
 same_fronts before other x y after rest one two e =
     sym (take-append_seam before (x ∷ after)) ∙ (ap (take (length before)) (sym one ∙ two) ∙ (ap (λ n. take n (other ++ y ∷ rest)) e ∙ take-append_seam other (y ∷ rest)))
 
@@ -234,17 +260,17 @@ record AreOne (one other : LogFinding) (log older : Log) : Type 0 where
   pub finding : other ≡ one
   pub same : older ≡ log
 
-whole_once : (texts : List (List ℕ)) (finding : LogFinding) (log other : Log) → IsWhole texts log → IsWhole texts other → AreOne finding finding log other
+whole_once : (texts : List (List ℕ)) (finding : LogFinding) (log other : Log) → IsWhole (Throughout IsUntorn) texts log → IsWhole (Throughout IsUntorn) texts other → AreOne finding finding log other
 whole_once texts finding log other one two = record { finding = refl; same = log_once other log texts two.fine.tells one.fine.tells }
 
 -- runs drew in a log or didn't
-drew_once : (texts : List (List ℕ)) (log other : Log) → IsWhole texts log → IsWhole texts other → no_run_drew (counts_of log) ≡ true → no_run_drew (counts_of other) ≡ false → ⊥
+drew_once : (texts : List (List ℕ)) (log other : Log) → IsWhole (Throughout IsUntorn) texts log → IsWhole (Throughout IsUntorn) texts other → no_run_drew (counts_of log) ≡ true → no_run_drew (counts_of other) ≡ false → ⊥
 drew_once texts log other one two none some =
     true≢false (sym none ∙ (ap (λ log. no_run_drew (counts_of log)) (log_once log other texts one.fine.tells two.fine.tells) ∙ some))
 
 torn_once : (texts : List (List ℕ)) (log other : Log) (n m x y v w : ℕ) → IsTornAt texts log n x y → IsTornAt texts other m v w → AreOne (Torn n x y) (Torn m v w) log other
 torn_once texts log other n m x y v w a b =
-    let at = one_stop (torn_stops b) (torn_stops a) in
+    let at = one_stop IsUntorn (torn_stops b) (torn_stops a) in
     let p = a.number in
     let q = b.number in
     let line = same_lines b.before a.before b.line a.line b.after a.after b.cut a.cut at in
@@ -259,10 +285,10 @@ one_finding texts NotTorn NotTorn log older a b = whole_once texts NotTorn log o
 one_finding texts NoRunDrew NoRunDrew log older a b = whole_once texts NoRunDrew log older a.0 b.0
 one_finding texts NotTorn NoRunDrew log older a b = absurd (drew_once texts older log b.0 a.0 b.1 a.1)
 one_finding texts NoRunDrew NotTorn log older a b = absurd (drew_once texts log older a.0 b.0 a.1 b.1)
-one_finding texts NotTorn (Torn n x y) log older a b = absurd (never_stops log a.0.fine (torn_stops b))
-one_finding texts NoRunDrew (Torn n x y) log older a b = absurd (never_stops log a.0.fine (torn_stops b))
-one_finding texts (Torn n x y) NotTorn log older a b = absurd (never_stops older b.0.fine (torn_stops a))
-one_finding texts (Torn n x y) NoRunDrew log older a b = absurd (never_stops older b.0.fine (torn_stops a))
+one_finding texts NotTorn (Torn n x y) log older a b = absurd (never_stops IsUntorn log a.0.fine (torn_stops b))
+one_finding texts NoRunDrew (Torn n x y) log older a b = absurd (never_stops IsUntorn log a.0.fine (torn_stops b))
+one_finding texts (Torn n x y) NotTorn log older a b = absurd (never_stops IsUntorn older b.0.fine (torn_stops a))
+one_finding texts (Torn n x y) NoRunDrew log older a b = absurd (never_stops IsUntorn older b.0.fine (torn_stops a))
 one_finding texts (Torn n x y) (Torn m v w) log older a b = torn_once texts log older n m x y v w a b
 
 same_verdict : (one other : LogVerdict) → other.finding ≡ one.finding → other.counts ≡ one.counts → other ≡ one
@@ -275,16 +301,16 @@ one_verdict text one other a b =
 
 pub one_fault : (text : List ℕ) (n m : ℕ) → HasLogFault text (Syntax n) → HasLogFault text (Syntax m) → m ≡ n
 one_fault text n m a b =
-    let at = one_stop (syntax_stops a) (syntax_stops b) in
+    let at = one_stop IsUntorn (syntax_stops IsUntorn a) (syntax_stops IsUntorn b) in
     let p = a.number in
     let q = b.number in
     omega arith
 
 no_finding_beside_fault : (text : List ℕ) (finding : LogFinding) (log : Log) (n : ℕ) → Finds finding (lines text) log → ¬ HasLogFault text (Syntax n)
-no_finding_beside_fault text NotTorn log n found at_fault = never_stops log found.0.fine (syntax_stops at_fault)
-no_finding_beside_fault text NoRunDrew log n found at_fault = never_stops log found.0.fine (syntax_stops at_fault)
+no_finding_beside_fault text NotTorn log n found at_fault = never_stops IsUntorn log found.0.fine (syntax_stops IsUntorn at_fault)
+no_finding_beside_fault text NoRunDrew log n found at_fault = never_stops IsUntorn log found.0.fine (syntax_stops IsUntorn at_fault)
 no_finding_beside_fault text (Torn m x y) log n judged at_fault =
-    let at = one_stop (torn_stops judged) (syntax_stops at_fault) in
+    let at = one_stop IsUntorn (torn_stops judged) (syntax_stops IsUntorn at_fault) in
     let line = same_lines judged.before at_fault.before judged.line at_fault.line judged.after at_fault.after judged.cut at_fault.cut at in
     at_fault.wrong (Tick ⟼ Acted (Wrote x y)) (subst (Tells (Tick ⟼ Acted (Wrote x y))) line judged.wrote)
 

@@ -7,21 +7,37 @@ use Rattle.dvg_print.specs.declared.log_verdict.LogFinding.TheVariants as found
 use Rattle.dvg_io.specs.declared.fault.ToolFault.{ToolFault}
 use Rattle.dvg_io.specs.declared.fault.ToolFault.TheVariants.{Text, Reader}
 use Rattle.dvg_logs.specs.declared.log_reading.LogStop.{LogStop}
-use Rattle.dvg_logs.specs.declared.log_reading.LogStop.TheVariants.{Torn, Syntax, TooLong}
+use Rattle.dvg_logs.specs.declared.log_reading.LogStop.TheVariants.{Found, Syntax, TooLong}
 use Rattle.dvg_print.specs.declared.log_verdict.LogCounts.{LogCounts}
 use Rattle.dvg_logs.specs.LogCounts.{no_run_drew}
-use Rattle.dvg_logs.specs.LogTexts.{HasLogFault, JudgesLog}
-use Rattle.dvg_logs.specs.Tears.{Takes}
+use Rattle.dvg_logs.specs.LogTexts.{HasFaultIn, HasLogFault, JudgesLog, Says}
+use Rattle.dvg_logs.specs.Tears.{Takes, TakesAtFault, TakesTo}
+use Rattle.dvg_log.specs.Log.{Line, Log}
+use Rattle.dvg_read.specs.Texts.{lines}
 
 -- the answer to a log whose reading stops in this way
-abbrev pub answer_of : LogStop → Result LogVerdict ToolFault
-answer_of (Torn n address byte counts) = Ok (record { finding = found.Torn n address byte; counts = counts })
+abbrev pub answer_of : {V : Type 0} → LogStop V → Result V ToolFault
+answer_of (Found n verdict) = Ok verdict
 answer_of (Syntax n) = Err (Text (of_text.Syntax n))
 answer_of TooLong = Err (Text of_text.TooLong)
+
+-- the answer to an input, and what was taken of it
+abbrev pub ReadsAs : {V : Type 0} → (Log → Type 0) → (V → Line → Log → Type 0) → (V → Log → Type 0)
+    → Result V ToolFault → (input : List ℕ) → Option (List ℕ) → Option (List ℕ) → Type 0
+ReadsAs Passes Finds Ends (Ok verdict) input old new =
+    (decided : Option ℕ) × Says Passes Finds Ends verdict (lines input) decided × TakesTo decided input old new
+ReadsAs Passes Finds Ends (Err (Text fault)) input old new =
+    HasFaultIn Passes input fault × TakesAtFault fault input old new
+ReadsAs Passes Finds Ends (Err Reader) input old new = Unit {0}
+ReadsAs Passes Finds Ends (Err _) input old new = ⊥
 
 -- what is found where no line is torn
 abbrev pub found_in : LogCounts → LogFinding
 found_in counts = cond (no_run_drew counts) found.NoRunDrew found.NotTorn
+
+-- what is said where no line is torn
+abbrev pub said_of : LogCounts → LogVerdict
+said_of counts = record { finding = found_in counts; counts = counts }
 
 -- the faults that come while a log is read: its own, and that of the reader
 abbrev pub IsReadingFault : ToolFault → Type 0
@@ -35,6 +51,6 @@ Answers (Ok verdict) input = JudgesLog input verdict
 Answers (Err (Text fault)) input = HasLogFault input fault
 Answers (Err _) input = Unit {0}
 
--- the answer to an input, and what was taken of it
+-- the same, by the rule of halves
 abbrev pub JudgesInput : Result LogVerdict ToolFault → (input : List ℕ) → Option (List ℕ) → Option (List ℕ) → Type 0
 JudgesInput answer input old new = Answers answer input × Takes answer input old new

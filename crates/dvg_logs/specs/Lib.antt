@@ -6,3 +6,7 @@ pub mod LogLineTells
 pub mod LogReading
 pub mod Judging
 pub mod LogLaws
+pub mod HalfLines
+pub mod MomentLogs
+pub mod MomentLines
+pub mod MomentTears

@@ -1,5 +1,7 @@
 -- The lines of a log's text, and the log that they give.
-use Rattle.std.specs.Prelude.{◌≡◌, ℕ, ◌<◌, ◌≤◌, List, [], ◌∷◌, length, reverse, codes, true, false}
+use Rattle.std.specs.Prelude.{◌≡◌, ℕ, ◌<◌, ◌≤◌, List, [], ◌∷◌, length, map, reverse, codes, true, false}
+use Rattle.std.specs.Char.{to_ascii_lowercase}
+use Rattle.std.specs.Str.Lines.{strip_carriage_return}
 use Rattle.std.specs.List.{AllZip}
 use Rattle.dvg_driver.specs.declared.action.Action.TheVariants.{Wrote, Idle}
 use Rattle.dvg_log.specs.declared.entry.Entry.TheVariants.{Acted, Started, Low, Fetched, Done, Cleared}
@@ -20,11 +22,17 @@ pub data LogRow : Line → List (List ℕ) → Type 0 where
   halted : LogRow (Fetch ⟼ Done 0 0 []) (codes "halted" ∷ [])
   reset : LogRow (ResetGen ⟼ Cleared) (codes "reset" ∷ [])
 
--- a line of at most 64 bytes says what its parts say, or is passed over, which counts as an idle tick
+-- a line as it is read: in small letters
+abbrev pub small : List ℕ → List ℕ
+small = map to_ascii_lowercase
+
+-- a line of at most 64 bytes says what its parts say, without a CR at its end and in small letters; or it is passed
+-- over, which counts as an idle tick
 pub data Tells : Line → List ℕ → Type 0 where
-  passed : {text : List ℕ} → length text ≤ 64 → is_passed text ≡ true → Tells (Tick ⟼ Acted Idle) text
-  logged : {line : Line} {text : List ℕ} → length text ≤ 64 → is_passed text ≡ false → LogRow line (parts text)
-      → Tells line text
+  passed : {text : List ℕ} → length text ≤ 64 → is_passed (strip_carriage_return text) ≡ true
+      → Tells (Tick ⟼ Acted Idle) text
+  logged : {line : Line} {text : List ℕ} → length text ≤ 64 → is_passed (strip_carriage_return text) ≡ false
+      → LogRow line (parts (small (strip_carriage_return text))) → Tells line text
 
 -- these lines of text give this log, a line each
 abbrev pub IsLogOf : Log → List (List ℕ) → Type 0

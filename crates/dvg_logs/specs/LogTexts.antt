@@ -1,5 +1,5 @@
 -- What is said of the text of a log.
-use Rattle.std.specs.Prelude.{◌≡◌, ◌+◌, ◌-◌, ◌^◌, ◌<◌, ℕ, List, [], ◌∷◌, ◌++◌, length, true, false}
+use Rattle.std.specs.Prelude.{◌≡◌, ◌+◌, ◌-◌, ◌^◌, ◌<◌, ℕ, List, [], ◌∷◌, ◌++◌, length, true, false, Option, Some, None}
 use Rattle.dvg_driver.specs.declared.action.Action.TheVariants.{Wrote}
 use Rattle.dvg_log.specs.declared.entry.Entry.TheVariants.{Acted}
 use Rattle.dvg_log.specs.declared.event.Event.TheVariants.{Tick}
@@ -14,10 +14,14 @@ use Rattle.dvg_print.specs.declared.log_verdict.LogVerdict.{LogVerdict}
 use Rattle.dvg_logs.specs.LogCounts.{counts_of, no_run_drew}
 use Rattle.dvg_logs.specs.LogLines.{IsLogOf, Tells}
 
--- the lines give this log, and none of it is torn
-pub record IsUntornLog (log : Log) (texts : List (List ℕ)) : Type 0 where
+-- the lines give this log, of which this holds
+pub record IsLogSo (Holds : Log → Type 0) (log : Log) (texts : List (List ℕ)) : Type 0 where
   pub tells : IsLogOf log texts
-  pub untorn : Throughout IsUntorn log
+  pub holds : Holds log
+
+-- the lines give this log, and none of it is torn
+abbrev pub IsUntornLog : Log → List (List ℕ) → Type 0
+IsUntornLog = IsLogSo (Throughout IsUntorn)
 
 -- line n is the first torn one, and wrote this byte at this byte address; the lines up to it give this log
 pub record IsTornAt (texts : List (List ℕ)) (log : Log) (n address byte : ℕ) : Type 0 where
@@ -30,36 +34,56 @@ pub record IsTornAt (texts : List (List ℕ)) (log : Log) (n address byte : ℕ)
   pub torn : IsFirstTorn log (length before)
   pub wrote : Tells (Tick ⟼ Acted (Wrote address byte)) line
 
--- line n is the first that says nothing that a line may say, and none before it is torn
-pub record MeetsSyntax (texts : List (List ℕ)) (n : ℕ) : Type 0 where
+-- line n is the first that says nothing that a line may say, and of the log before it this holds
+pub record MeetsSyntax (Holds : Log → Type 0) (texts : List (List ℕ)) (n : ℕ) : Type 0 where
   pub before : List (List ℕ)
   pub line : List ℕ
   pub after : List (List ℕ)
   pub cut : texts ≡ before ++ line ∷ after
   pub number : n ≡ length before + 1
   pub log : Log
-  pub fine : IsUntornLog log before
+  pub fine : IsLogSo Holds log before
   pub wrong : (logged : Line) → ¬ Tells logged line
 
--- there are more than 2 ^ 64 - 1 lines, and none of the first 2 ^ 64 - 1 is torn or at fault
-pub record MeetsTooMany (texts : List (List ℕ)) : Type 0 where
+-- there are more than 2 ^ 64 - 1 lines, none of the first 2 ^ 64 - 1 is at fault, and of their log this holds
+pub record MeetsTooMany (Holds : Log → Type 0) (texts : List (List ℕ)) : Type 0 where
   pub before : List (List ℕ)
   pub line : List ℕ
   pub after : List (List ℕ)
   pub cut : texts ≡ before ++ line ∷ after
   pub number : length before ≡ 2 ^ 64 - 1
   pub log : Log
-  pub fine : IsUntornLog log before
+  pub fine : IsLogSo Holds log before
 
--- none of the lines is torn, they give this log, and they are fewer than 2 ^ 64
-pub record IsWhole (texts : List (List ℕ)) (log : Log) : Type 0 where
-  pub fine : IsUntornLog log texts
+-- the lines give this log, of which this holds, and they are fewer than 2 ^ 64
+pub record IsWhole (Holds : Log → Type 0) (texts : List (List ℕ)) (log : Log) : Type 0 where
+  pub fine : IsLogSo Holds log texts
   pub fits : length texts < 2 ^ 64
+
+-- at line n of a text this is found, by the log of the lines before it, of which this holds
+pub record IsFoundAt {V : Type 0} (Passes : Log → Type 0) (Finds : V → Line → Log → Type 0) (texts : List (List ℕ))
+    (n : ℕ) (verdict : V) : Type 0 where
+  pub before : List (List ℕ)
+  pub text : List ℕ
+  pub after : List (List ℕ)
+  pub cut : texts ≡ before ++ text ∷ after
+  pub number : n ≡ length before + 1
+  pub log : Log
+  pub fine : IsLogSo Passes log before
+  pub line : Line
+  pub tells : Tells line text
+  pub finds : Finds verdict line log
+
+-- this is said of lines: where it is found at line n, or by their log, as nothing is found in it
+abbrev pub Says : {V : Type 0} → (Log → Type 0) → (V → Line → Log → Type 0) → (V → Log → Type 0) → V → List (List ℕ)
+    → Option ℕ → Type 0
+Says Passes Finds Ends verdict texts None = (log : Log) × IsWhole Passes texts log × Ends verdict log
+Says Passes Finds Ends verdict texts (Some n) = IsFoundAt Passes Finds texts n verdict
 
 -- this is found in lines; those that are judged give this log
 abbrev pub Finds : LogFinding → List (List ℕ) → Log → Type 0
-Finds NotTorn texts log = IsWhole texts log × (no_run_drew (counts_of log) ≡ false)
-Finds NoRunDrew texts log = IsWhole texts log × (no_run_drew (counts_of log) ≡ true)
+Finds NotTorn texts log = IsWhole (Throughout IsUntorn) texts log × (no_run_drew (counts_of log) ≡ false)
+Finds NoRunDrew texts log = IsWhole (Throughout IsUntorn) texts log × (no_run_drew (counts_of log) ≡ true)
 Finds (Torn n address byte) texts log = IsTornAt texts log n address byte
 
 -- this is said of the text of a log: what is found in it, and what is counted up to there
@@ -68,8 +92,12 @@ pub record JudgesLog (text : List ℕ) (verdict : LogVerdict) : Type 0 where
   pub finds : Finds verdict.finding (lines text) log
   pub counts : verdict.counts ≡ counts_of log
 
--- the fault of a log's text
+-- the fault of a log's text, where this holds of the log before it
+abbrev pub HasFaultIn : (Log → Type 0) → List ℕ → TextFault → Type 0
+HasFaultIn Holds text (Syntax n) = MeetsSyntax Holds (lines text) n
+HasFaultIn Holds text TooLong = MeetsTooMany Holds (lines text)
+HasFaultIn Holds text _ = ⊥
+
+-- the fault of a log's text, before which no line is torn
 abbrev pub HasLogFault : List ℕ → TextFault → Type 0
-HasLogFault text (Syntax n) = MeetsSyntax (lines text) n
-HasLogFault text TooLong = MeetsTooMany (lines text)
-HasLogFault text _ = ⊥
+HasLogFault = HasFaultIn (Throughout IsUntorn)

@@ -1,8 +1,9 @@
 -- What `torn` answers, writes and takes.
-use Rattle.std.specs.Prelude.{◌+◌, ◌-◌, ◌^◌, ℕ, List, [], ◌∷◌, ◌++◌, flat_map, length, take, Option, Result, Ok, Err}
+use Rattle.std.specs.Prelude.{◌+◌, ◌-◌, ◌^◌, ℕ, List, [], ◌∷◌, ◌++◌, flat_map, length, take, Option, Some, None, Result, Ok, Err}
 use Rattle.std.specs.Io.KnownBytes.{Appends, Consumes, IsAtEnd}
 use Rattle.dvg_read.specs.Texts.{lines}
 use Rattle.dvg_print.specs.LogVerdicts.{log_verdict_text}
+use Rattle.dvg_read.specs.declared.fault.TextFault.{TextFault}
 use Rattle.dvg_read.specs.declared.fault.TextFault.TheVariants.{Syntax}
 use Rattle.dvg_print.specs.declared.log_verdict.LogVerdict.{LogVerdict}
 use Rattle.dvg_print.specs.declared.log_verdict.LogFinding.{LogFinding}
@@ -31,6 +32,16 @@ ended = flat_map (λ line. line ++ 10 ∷ [])
 abbrev pub TakesUpTo : ℕ → (input : List ℕ) → Option (List ℕ) → Option (List ℕ) → Type 0
 TakesUpTo n input old new = TakesAtMost (length (ended (take (n - 1) (lines input))) + 32832) old new
 
+-- what was taken of an input: all of it, or up to line n
+abbrev pub TakesTo : Option ℕ → (input : List ℕ) → Option (List ℕ) → Option (List ℕ) → Type 0
+TakesTo None input old new = Consumes old new input × IsAtEnd new
+TakesTo (Some n) input old new = TakesUpTo n input old new
+
+-- what was taken of an input with this fault
+abbrev pub TakesAtFault : TextFault → (input : List ℕ) → Option (List ℕ) → Option (List ℕ) → Type 0
+TakesAtFault (Syntax n) input old new = TakesUpTo n input old new
+TakesAtFault _ input old new = TakesUpTo (2 ^ 64) input old new
+
 -- what was taken of an input, when this was found: all of it, or up to the torn line
 abbrev pub TakesFor : LogFinding → (input : List ℕ) → Option (List ℕ) → Option (List ℕ) → Type 0
 TakesFor NotTorn input old new = Consumes old new input × IsAtEnd new
@@ -40,8 +51,7 @@ TakesFor (Torn n address byte) input old new = TakesUpTo n input old new
 -- what `torn` took of an input, by its answer
 abbrev pub Takes : Result LogVerdict ToolFault → (input : List ℕ) → Option (List ℕ) → Option (List ℕ) → Type 0
 Takes (Ok verdict) input old new = TakesFor verdict.finding input old new
-Takes (Err (Text (Syntax n))) input old new = TakesUpTo n input old new
-Takes (Err (Text _)) input old new = TakesUpTo (2 ^ 64) input old new
+Takes (Err (Text fault)) input old new = TakesAtFault fault input old new
 Takes (Err Writer) input old new = (verdict : LogVerdict) × JudgesLog input verdict
     × TakesFor verdict.finding input old new
 Takes (Err _) input old new = Unit {0}

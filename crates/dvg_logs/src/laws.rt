@@ -1,9 +1,11 @@
-//! Laws of the texts of logs. Each is the contract of a function that does nothing, but one, which
-//! reads the text.
-ghost use Rattle.dvg_logs.specs.LogLaws.{IsJudged, NoVerdictBesideFault, OneLogFault};
-ghost use Rattle.dvg_logs.specs.LogLaws.{OneLogVerdict};
+//! Laws of the texts of logs. Each is the contract of a function that does nothing, but two, which
+//! read the text.
+ghost use Rattle.dvg_logs.specs.LogLaws.{IsJudged, IsJudgedByMoments, NoVerdictBesideFault};
+ghost use Rattle.dvg_logs.specs.LogLaws.{OneLogFault, OneLogVerdict, OneMomentVerdict};
 
+use crate::half_lines::HalfLines;
 use crate::log_reading::LogReading;
+use crate::moment_lines::MomentLines;
 
 /// At most one verdict is given of the text of a log.
 pub fn one_verdict()
@@ -25,7 +27,25 @@ pub fn no_verdict_beside_fault()
 pub fn each_is_judged(text: &[u8])
     ensures { IsJudged text.now }
 {
-    let mut reading = LogReading::new();
+    let mut reading = LogReading::new(HalfLines::new());
+    match reading.take_piece(text) {
+        Ok(()) => {
+            let _end = reading.finish();
+        }
+        Err(_stop) => {}
+    }
+}
+
+/// At most one verdict is given of the text of a log by moments.
+pub fn one_moment_verdict()
+    ensures { OneMomentVerdict }
+{}
+
+/// Like `each_is_judged`, by moments.
+pub fn each_is_judged_by_moments(text: &[u8])
+    ensures { IsJudgedByMoments text.now }
+{
+    let mut reading = LogReading::new(MomentLines::new());
     match reading.take_piece(text) {
         Ok(()) => {
             let _end = reading.finish();

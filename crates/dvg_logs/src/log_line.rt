@@ -1,10 +1,12 @@
 //! Lines of logs.
-ghost use Rattle.std.specs.Prelude.{◌≡◌, ◌≤◌, [], ◌∷◌, ℕ, IfSome, IsSomeAnd, Some};
+ghost use Rattle.std.specs.Prelude.{◌≡◌, ◌≤◌, [], ◌∷◌, ℕ, length, IfSome, IsSomeAnd, Some};
+ghost use Rattle.std.specs.Str.Lines.{strip_carriage_return};
 ghost use Rattle.dvg_read.specs.Texts.{parts};
 ghost use Rattle.dvg_log.specs.Log.{Line};
-ghost use Rattle.dvg_logs.specs.LogLines.{LogRow, Tells};
+ghost use Rattle.dvg_logs.specs.LogLines.{LogRow, Tells, small};
 ghost use Rattle.dvg_logs.specs.LogLineTells.{AreNumbers, line_of};
 
+use arrayvec::ArrayVec;
 use dvg_read::{hex, is_passed};
 
 /// The first byte address that isn't one of the RAM.
@@ -39,8 +41,8 @@ pub enum LogLine {
 /// It may be `started`, `fetched` with a word address and the word there, `low` with a word address
 /// and a byte, `wrote` with a byte address of the RAM, 000 to 7FF, and the byte, `halted` or
 /// `reset`. One space stands between the parts. Or it is passed over, as it is empty or begins with
-/// `#`. An address has three hexadecimal digits, a word four and a byte two, of either case. A line
-/// has at most 64 bytes.
+/// `#`. An address has three hexadecimal digits, a word four and a byte two. Letters are of either
+/// case, and a CR may stand at the end. A line has at most 64 bytes.
 pub fn read_log_line(line: &[u8]) -> Option<LogLine>
     ensures found { IfSome result (λ logged. Tells (line_of logged) line.now) }
     ensures only { (logged : Line) → Tells logged line.now
@@ -49,13 +51,39 @@ pub fn read_log_line(line: &[u8]) -> Option<LogLine>
     if line.len() > MOST_LINE_BYTES {
         return None;
     }
+    let line = without_cr(line);
     if is_passed(line) {
         return Some(LogLine::Passed);
     }
-    row(line)
+    let small = in_small_letters(line);
+    row(small.as_slice())
 }
 
-// Returns what `line` says, which isn't passed over.
+// Returns `line` without a CR at its end.
+fn without_cr(line: &[u8]) -> &[u8]
+    ensures value { result.now ≡ strip_carriage_return line.now }
+    ensures fewer { length result.now ≤ length line.now }
+{
+    if line.is_empty() || line[line.len() - 1] != b'\r' {
+        line
+    } else {
+        &line[..line.len() - 1]
+    }
+}
+
+// Returns `line`, which has at most 64 bytes, in small letters.
+fn in_small_letters(line: &[u8]) -> ArrayVec<u8, MOST_LINE_BYTES>
+    requires { length line.now ≤ 64 }
+    ensures { result.items ≡ small line.now }
+{
+    let mut small = ArrayVec::new();
+    for byte in line {
+        small.push(byte.to_ascii_lowercase());
+    }
+    small
+}
+
+// Returns what `line` says, which is in small letters and isn't passed over.
 fn row(line: &[u8]) -> Option<LogLine>
     ensures found { IfSome result (λ logged. LogRow (line_of logged) (parts line.now)) }
     ensures only { (logged : Line) → LogRow logged (parts line.now)

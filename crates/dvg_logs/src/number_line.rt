@@ -3,6 +3,7 @@
 ghost use Rattle.std.specs.Prelude.{◌≡◌, ◌+◌, ◌*◌, ◌<◌, IfSome};
 ghost use Rattle.dvg_logs.specs.LogLineTells.{BeginsWithNumbers};
 
+use crate::line_judge::LineJudge;
 use crate::log_line::{LogLine, RAM_END};
 use crate::log_reading::JudgedLines;
 use dvg_read::digit_of;
@@ -66,8 +67,8 @@ fn address_and_word(text: &[u8]) -> Option<(u16, u16, &[u8])>
 }
 
 // Most lines of a log have numbers. Each is taken from the head of a text, if it ends there and
-// isn't torn. What comes after it is returned.
-impl JudgedLines {
+// doesn't decide. What comes after it is returned.
+impl<J: LineJudge> JudgedLines<J> {
     ghost use Rattle.std.specs.Prelude.{◌≡◌, ◌+◌, ◌-◌, ◌^◌, ◌<◌, ◌++◌, IfSome, IsNone, IsSome};
     ghost use Rattle.std.specs.Prelude.{codes};
     ghost use Rattle.dvg_logs.specs.LogReading.{TakesLine, TakesLines};
@@ -78,7 +79,7 @@ impl JudgedLines {
     fn take_wrote<'a>(&mut self, text: &'a [u8]) -> Option<&'a [u8]>
         requires room { self.old.count < 2 ^ 64 - 1 }
         ensures taken { IfSome result (λ rest.
-            TakesLine self.old self.new (codes "wrot" ++ text.now) rest.now) }
+            TakesLine J.Stands J.Passes self.old self.new (codes "wrot" ++ text.now) rest.now) }
         ensures count { IsSome result → self.new.count ≡ self.old.count + 1 }
         ensures none { IsNone result → self.new ≡ self.old }
     {
@@ -96,7 +97,7 @@ impl JudgedLines {
     fn take_low<'a>(&mut self, text: &'a [u8]) -> Option<&'a [u8]>
         requires room { self.old.count < 2 ^ 64 - 1 }
         ensures taken { IfSome result (λ rest.
-            TakesLine self.old self.new (codes "low " ++ text.now) rest.now) }
+            TakesLine J.Stands J.Passes self.old self.new (codes "low " ++ text.now) rest.now) }
         ensures count { IsSome result → self.new.count ≡ self.old.count + 1 }
         ensures none { IsNone result → self.new ≡ self.old }
     {
@@ -114,7 +115,7 @@ impl JudgedLines {
     fn take_fetched<'a>(&mut self, text: &'a [u8]) -> Option<&'a [u8]>
         requires room { self.old.count < 2 ^ 64 - 1 }
         ensures taken { IfSome result (λ rest.
-            TakesLine self.old self.new (codes "fetched " ++ text.now) rest.now) }
+            TakesLine J.Stands J.Passes self.old self.new (codes "fetched " ++ text.now) rest.now) }
         ensures count { IsSome result → self.new.count ≡ self.old.count + 1 }
         ensures none { IsNone result → self.new ≡ self.old }
     {
@@ -131,7 +132,8 @@ impl JudgedLines {
     #[inline(always)]
     fn take_number_line<'a>(&mut self, text: &'a [u8]) -> Option<&'a [u8]>
         requires room { self.old.count < 2 ^ 64 - 1 }
-        ensures taken { IfSome result (λ rest. TakesLine self.old self.new text.now rest.now) }
+        ensures taken { IfSome result (λ rest.
+            TakesLine J.Stands J.Passes self.old self.new text.now rest.now) }
         ensures count { IsSome result → self.new.count ≡ self.old.count + 1 }
         ensures none { IsNone result → self.new ≡ self.old }
     {
@@ -148,21 +150,19 @@ impl JudgedLines {
     }
 
     /// Takes lines that have numbers from the head of `text`, up to the first line that has none,
-    /// that is torn or that doesn't end. It stops, too, where fewer bytes are left than the longest
+    /// that decides or that doesn't end. It stops, too, where fewer bytes are left than the longest
     /// such line has. Returns what comes after the lines.
     #[inline(never)]
     pub fn take_number_lines<'a>(&mut self, text: &'a [u8]) -> &'a [u8]
-        ensures { TakesLines self.old self.new text.now result.now }
+        ensures { TakesLines J.Stands J.Passes self.old self.new text.now result.now }
     {
-        let mut judged = *self;
         let mut rest = text;
-        while judged.count < usize::MAX {
-            let Some(after) = judged.take_number_line(rest) else {
+        while self.count < usize::MAX {
+            let Some(after) = self.take_number_line(rest) else {
                 break;
             };
             rest = after;
         }
-        *self = judged;
         rest
     }
 }

@@ -5,53 +5,16 @@ ghost use Rattle.dvg_io.specs.Faults.{StopsBeforeWriting};
 ghost use Rattle.dvg_io.specs.Watching.{BeginsToWrite, CountsErrors, failures_of, stream_of};
 ghost use Rattle.dvg_print.specs.LogVerdicts.{log_verdict_text};
 ghost use Rattle.dvg_logs.specs.Tears.{Takes, Tears};
-ghost use Rattle.dvg_logs.specs.Judging.{IsReadingFault, JudgesInput, answer_of, found_in};
+ghost use Rattle.dvg_logs.specs.Judging.{IsReadingFault, JudgesInput};
 
-use crate::log_reading::{LogReading, LogStop};
+use crate::half_lines::HalfLines;
+use crate::judging::judge_text;
 use dvg_io::{StreamFailed, ToolFault, Watched, write_lines};
-use dvg_print::{Line, LogCounts, LogFinding, LogVerdict};
-use dvg_read::TextFault;
+use dvg_print::{Line, LogVerdict};
 use std::io::{Read, Write};
 
-/// The most bytes that one read takes.
-const PIECE: usize = 32_768;
-
-// Returns the verdict or the fault of a log whose reading stops by `stop`.
-fn answer(stop: LogStop) -> Result<LogVerdict, ToolFault>
-    ensures { result ≡ answer_of stop }
-{
-    match stop {
-        LogStop::Torn {
-            line,
-            address,
-            byte,
-            counts,
-        } => Ok(LogVerdict {
-            finding: LogFinding::Torn {
-                line,
-                address,
-                byte,
-            },
-            counts,
-        }),
-        LogStop::Syntax(line) => Err(ToolFault::Text(TextFault::Syntax(line))),
-        LogStop::TooLong => Err(ToolFault::Text(TextFault::TooLong)),
-    }
-}
-
-// Returns what is found in a log of which no line is torn, by its `counts`.
-fn found(counts: LogCounts) -> LogFinding
-    ensures { result ≡ found_in counts }
-{
-    if counts.drew == 0 {
-        LogFinding::NoRunDrew
-    } else {
-        LogFinding::NotTorn
-    }
-}
-
 // Returns what is said of the text of a log, which comes from `reader`.
-fn judge_text<R: Read>(reader: &mut Watched<R>) -> Result<LogVerdict, ToolFault>
+fn judge_halves<R: Read>(reader: &mut Watched<R>) -> Result<LogVerdict, ToolFault>
     requires fresh { failures_of reader.old ≡ 0 }
     ensures judges { IfSome (R.remaining (stream_of reader.old))
         (λ input. JudgesInput result input (R.remaining (stream_of reader.old))
@@ -60,27 +23,7 @@ fn judge_text<R: Read>(reader: &mut Watched<R>) -> Result<LogVerdict, ToolFault>
     ensures reader { IsErrOf result ToolFault.Reader ↔ (failures_of reader.new ≡ 1) }
     ensures stops { failures_of reader.new ≤ 1 }
 {
-    let mut reading = LogReading::new();
-    let mut piece = [0u8; PIECE];
-    loop {
-        let Ok(count) = reader.read(&mut piece) else {
-            return Err(ToolFault::Reader);
-        };
-        if count == 0 {
-            break;
-        }
-        match reading.take_piece(&piece[..count]) {
-            Ok(()) => {}
-            Err(stop) => return answer(stop),
-        }
-    }
-    match reading.finish() {
-        Ok(counts) => Ok(LogVerdict {
-            finding: found(counts),
-            counts,
-        }),
-        Err(stop) => answer(stop),
-    }
+    judge_text(HalfLines::new(), reader)
 }
 
 // Writes `verdict`, what is said of a log, to `writer`.
@@ -140,7 +83,7 @@ pub fn torn<R: Read, W: Write>(
     ensures writer { IsErrOf result ToolFault.Writer ↔ (failures_of writer.new ≡ 1) }
     ensures stops { (failures_of reader.new ≤ 1) × (failures_of writer.new ≤ 1) }
 {
-    let verdict = match judge_text(reader) {
+    let verdict = match judge_halves(reader) {
         Ok(verdict) => verdict,
         Err(fault) => return Err(fault),
     };

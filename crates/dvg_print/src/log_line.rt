@@ -32,7 +32,7 @@ impl Line {
     // Appends `name`, which says what a fetch led to, its word address `address`, and the `word`
     // there.
     #[inline(always)]
-    fn fetched(&mut self, name: &[u8], address: u16, word: u16)
+    pub(crate) fn fetched(&mut self, name: &[u8], address: u16, word: u16)
         requires { length self.old + length name.now + 10 ≤ 4096 }
         ensures text { self.new ≡ self.old ++ spaced (name.now ∷ hex_3 address ∷ hex_4 word ∷ []) }
         ensures grew { length self.new ≡ length self.old + length name.now + 10 }

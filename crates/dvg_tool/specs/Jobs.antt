@@ -14,6 +14,7 @@ use Rattle.dvg_lay.specs.declared.form.Form.TheVariants.{Bytes, Tables, RomBytes
 use Rattle.dvg_lay.specs.declared.form.Laid.{Laid}
 use Rattle.dvg_lay.specs.declared.form.Laid.TheVariants as laids
 use Rattle.dvg_mem.specs.declared.half.Half.TheVariants.{H0, H1}
+use Rattle.dvg_logs.specs.MomentTears.{MomentTakes, MomentTears}
 use Rattle.dvg_logs.specs.Tears.{Takes, Tears}
 use Rattle.dvg_picture.specs.Pictures.{Pictures}
 use Rattle.dvg_picture.specs.Svgs.{DrawsSvg}
@@ -25,6 +26,7 @@ use Rattle.dvg_tool.specs.PlaysSvg.{PlaysSvg}
 use Rattle.dvg_svg.specs.declared.show.Show.{Show}
 use Rattle.dvg_tool.specs.declared.outcome.Done.{Done}
 use Rattle.dvg_tool.specs.declared.outcome.Done.TheVariants.{Written, Judged, Bounded, Drew, DrewSvg, Searched}
+use Rattle.dvg_tool.specs.declared.outcome.Done.TheVariants.{SearchedMoments}
 use Rattle.dvg_tool.specs.declared.outcome.Done.TheVariants.{Refused, CheckedFrames}
 use Rattle.dvg_args.specs.declared.task.Job.{Job}
 use Rattle.dvg_args.specs.declared.task.Job.TheVariants.{List as list_job, ListAt, Rom, Picture, PictureSvg, Check}
@@ -55,7 +57,7 @@ answered_drawn (drawns.Pictures pictures) = Written
 answered_drawn (drawns.Refused refusal) = Refused refusal
 
 -- the answer to an input, and what went out: a check answers its verdict, `picture` what the run
--- came to, or as SVG why it drew no picture, `torn` what is said of the log, `lay` and `render` why a
+-- came to, or as SVG why it drew no picture, `torn` what is said of the log by its rule, `lay` and `render` why a
 -- frame is refused, `render --check` whether all frames are good, and no other job answers anything
 abbrev pub Performs : {A : Type 0} → Job → Result (Done A) ToolFault → (input : List ℕ) → Option (List ℕ)
     → Option (List ℕ) → Type 0
@@ -79,8 +81,10 @@ Performs {A} (PlaySvg banked percent rate) (Ok Written) input old new =
     PlaysSvg {T = Done A} (show_of percent rate) (Ok Written) input old new
 Performs {A} (PlaySvg banked percent rate) (Err fault) input old new =
     PlaysSvg {T = Done A} (show_of percent rate) (Err fault) input old new
-Performs Torn (Ok (Searched verdict)) input old new = Tears (Ok verdict) input old new
-Performs Torn (Err fault) input old new = Tears (Err fault) input old new
+Performs (Torn false) (Ok (Searched verdict)) input old new = Tears (Ok verdict) input old new
+Performs (Torn false) (Err fault) input old new = Tears (Err fault) input old new
+Performs (Torn true) (Ok (SearchedMoments verdict)) input old new = MomentTears (Ok verdict) input old new
+Performs (Torn true) (Err fault) input old new = MomentTears (Err fault) input old new
 Performs {A} (Lay form) (Ok done) input old new =
     (laid : Laid A) × (done ≡ answered laid) × Lays (form_of form) (Ok laid) input old new
 Performs {A} (Lay form) (Err fault) input old new = Lays {A = A} (form_of form) (Err fault) input old new
@@ -98,7 +102,7 @@ abbrev pub StaysUnwritten : Job → ToolFault → Type 0
 StaysUnwritten list_job fault = StopsBeforeWriting fault
 StaysUnwritten (ListAt address) fault = StopsBeforeWriting fault
 StaysUnwritten (Play all banked) fault = StopsBeforeShowing fault
-StaysUnwritten Torn fault = StopsBeforeWriting fault
+StaysUnwritten (Torn moments) fault = StopsBeforeWriting fault
 StaysUnwritten _ fault = ComesBeforeText fault
 
 -- what is taken of the input: at most this many bytes, and of a log no more than a piece after the
@@ -115,6 +119,9 @@ TakesBy (PlaySvg banked percent rate) answer old new = TakesAtMost 1048577 old n
 TakesBy (Render percent rate) answer old new = TakesAtMost 1048577 old new
 TakesBy RenderCheck answer old new = TakesAtMost 1048577 old new
 TakesBy (Lay form) answer old new = TakesAtMost 1048577 old new
-TakesBy Torn (Ok (Searched verdict)) old new = IfSome old (λ input. Takes (Ok verdict) input old new)
-TakesBy Torn (Ok _) old new = ⊥
-TakesBy Torn (Err fault) old new = IfSome old (λ input. Takes (Err fault) input old new)
+TakesBy (Torn false) (Ok (Searched verdict)) old new = IfSome old (λ input. Takes (Ok verdict) input old new)
+TakesBy (Torn false) (Err fault) old new = IfSome old (λ input. Takes (Err fault) input old new)
+TakesBy (Torn true) (Ok (SearchedMoments verdict)) old new =
+    IfSome old (λ input. MomentTakes (Ok verdict) input old new)
+TakesBy (Torn true) (Err fault) old new = IfSome old (λ input. MomentTakes (Err fault) input old new)
+TakesBy (Torn moments) (Ok _) old new = ⊥

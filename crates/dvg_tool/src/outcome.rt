@@ -6,7 +6,7 @@ ghost use Rattle.dvg_io.specs.Watching.{failures_of, stream_of};
 
 use dvg_io::{ToolFault, Watched};
 use dvg_lay::Refusal;
-use dvg_logs::{LogFinding, LogVerdict};
+use dvg_logs::{LogFinding, LogVerdict, MomentVerdict};
 use dvg_picture::{Outcome, Undrawn};
 use dvg_print::{BoundedVerdict, Verdict};
 use std::alloc::{Allocator, Global};
@@ -27,6 +27,8 @@ pub enum Done<A: Allocator = Global> {
     DrewSvg(Option<Undrawn>),
     /// This was said of a log, and the text of it was written.
     Searched(LogVerdict),
+    /// This was said of a log by moments, and the line of it was written.
+    SearchedMoments(MomentVerdict),
     /// A frame of a sketch is refused, and nothing was written.
     Refused(Refusal<A>),
     /// What the check says of the frames of a sketch was written, and whether it accepts all.
@@ -55,8 +57,8 @@ pub fn finish<A: Allocator, W: Write>(
 ///
 /// - 0: the job is done.
 /// - 1: a fault of the text, or what was asked about isn't good: a draft that `check` refuses, also
-///   in a sketch, a dump that draws no picture, a log with a torn picture or of which no run drew a
-///   half.
+///   in a sketch, a dump that draws no picture, a log with a torn picture or of which no run can
+///   be judged.
 /// - 2: a stream or an allocation failed.
 ///
 /// Arguments that ask for no job are 64, which no engine returns.
@@ -76,7 +78,8 @@ pub fn status<A: Allocator>(answer: &Result<Done<A>, ToolFault>) -> u8
                     finding: LogFinding::NotTorn,
                     ..
                 },
-            ),
+            )
+            | Done::SearchedMoments(MomentVerdict::Whole { .. }),
         ) => 0,
         Ok(
             Done::Judged(Verdict::Refused(_))
@@ -88,6 +91,11 @@ pub fn status<A: Allocator>(answer: &Result<Done<A>, ToolFault>) -> u8
                     finding: LogFinding::NoRunDrew | LogFinding::Torn { .. },
                     ..
                 },
+            )
+            | Done::SearchedMoments(
+                MomentVerdict::NoRun { .. }
+                | MomentVerdict::Torn { .. }
+                | MomentVerdict::Contradicts { .. },
             )
             | Done::Refused(_)
             | Done::CheckedFrames { good: false },

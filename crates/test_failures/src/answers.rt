@@ -1,6 +1,8 @@
 //! What a job returns, as a plain value: a refusal of a sketch without its line, which takes
 //! memory.
-use dvg_tool::{BoundedVerdict, Done, LogVerdict, Outcome, ToolFault, Undrawn, Verdict};
+use dvg_tool::{
+    BoundedVerdict, Done, LogVerdict, MomentVerdict, Outcome, ToolFault, Undrawn, Verdict,
+};
 use std::alloc::Allocator;
 
 /// What an engine that is done reports.
@@ -12,6 +14,7 @@ pub enum Report {
     Drew(Outcome),
     DrewSvg(Option<Undrawn>),
     Searched(LogVerdict),
+    SearchedMoments(MomentVerdict),
     Refused,
     Checked(bool),
 }
@@ -28,6 +31,7 @@ pub fn answered<A: Allocator>(answer: &Result<Done<A>, ToolFault>) -> Answer {
         Ok(Done::Drew(outcome)) => Ok(Report::Drew(*outcome)),
         Ok(Done::DrewSvg(undrawn)) => Ok(Report::DrewSvg(*undrawn)),
         Ok(Done::Searched(verdict)) => Ok(Report::Searched(*verdict)),
+        Ok(Done::SearchedMoments(verdict)) => Ok(Report::SearchedMoments(*verdict)),
         Ok(Done::Refused(_)) => Ok(Report::Refused),
         Ok(Done::CheckedFrames { good }) => Ok(Report::Checked(*good)),
         Err(fault) => Err(*fault),

@@ -84,6 +84,9 @@ fn a_failing_writer_got_the_lines_of_other_texts_before(rt: HostRuntime) -> Resu
         form: LayForm::Equates,
     };
     assert_eq!(rt; lines_written(alloc, equates, SHAPES.as_bytes())?, 3);
-    assert_eq!(rt; lines_written(alloc, Job::Torn, TORN.as_bytes())?, 2);
+    let halves = Job::Torn { moments: false };
+    assert_eq!(rt; lines_written(alloc, halves, TORN.as_bytes())?, 2);
+    let moments = Job::Torn { moments: true };
+    assert_eq!(rt; lines_written(alloc, moments, TORN.as_bytes())?, 1);
     Ok(())
 }

@@ -55,7 +55,7 @@ fn each_growth_is_refused_in_turn(rt: HostRuntime) -> Result<(), Fail> {
                 assert_eq!(rt; refusals(rt.alloc(), task)?, MOST_SLOTS);
                 continue;
             }
-            Job::Torn => {
+            Job::Torn { .. } => {
                 assert_eq!(rt; refusals(rt.alloc(), task)?, 0);
                 continue;
             }

@@ -3,8 +3,8 @@ use crate::answers::{Answer, Report, answered};
 use crate::traces::FIRST_PICTURE;
 use dvg_frame::{FrameFault, Place};
 use dvg_tool::{
-    BoundedVerdict, Job, LayForm, LogCounts, LogFinding, LogVerdict, Outcome, TextFault, ToolFault,
-    Verdict, Watched, perform,
+    BoundedVerdict, Job, LayForm, LogCounts, LogFinding, LogVerdict, MomentVerdict, Outcome,
+    TextFault, ToolFault, Verdict, Watched, perform,
 };
 use std::alloc::Global;
 use std::test::Fail;
@@ -69,13 +69,16 @@ pub const NOT_TORN: LogVerdict = LogVerdict {
     },
 };
 
+/// The verdict on it by moments.
+pub const OF_ONE_MOMENT: MomentVerdict = MomentVerdict::Whole { runs: 1, halted: 1 };
+
 /// A sketch, and one with a frame that is refused.
 const SKETCH: &str = "labs 0 0 0\nhalt\n.frame b\nlabs 0 0 0\nhalt\n";
 
 const REFUSED_SKETCH: &str = "labs 0 0 0\na: call a\nhalt\n";
 
 /// Returns the tasks. One reads `rom`, and two read `dump`, whose first word is a return.
-pub fn tasks<'a>(rom: &'a [u8], dump: &'a [u8]) -> [Task<'a>; 16] {
+pub fn tasks<'a>(rom: &'a [u8], dump: &'a [u8]) -> [Task<'a>; 17] {
     let task = |job, input, step, answer| Task {
         job,
         input,
@@ -119,7 +122,18 @@ pub fn tasks<'a>(rom: &'a [u8], dump: &'a [u8]) -> [Task<'a>; 16] {
         task(ENTRIES, picture, 64, Ok(Report::Written)),
         task(BANKED_PICTURES, picture, 1, Ok(Report::Written)),
         task(BANKED_ENTRIES, picture, 64, Ok(Report::Written)),
-        task(Job::Torn, LOG.as_bytes(), 1, Ok(Report::Searched(NOT_TORN))),
+        task(
+            Job::Torn { moments: false },
+            LOG.as_bytes(),
+            1,
+            Ok(Report::Searched(NOT_TORN)),
+        ),
+        task(
+            Job::Torn { moments: true },
+            LOG.as_bytes(),
+            1,
+            Ok(Report::SearchedMoments(OF_ONE_MOMENT)),
+        ),
         task(
             Job::ListAt { address: 0xFFF },
             WORDS.as_slice(),

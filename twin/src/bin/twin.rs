@@ -24,7 +24,7 @@ use twin::shows::write_entries;
 use twin::sketch::read_sketch;
 use twin::svg::{Show, write_svgs};
 use twin::texts::{MOST_TEXT_BYTES, TextFault, hex, read_draft};
-use twin::torn::{LogFault, Torn, judge_text};
+use twin::torn::{LogFault, Torn, judge_moments, judge_text};
 use twin::traces::read_trace;
 use twin::world::{Entry, run};
 
@@ -366,13 +366,23 @@ fn torn() -> Result<ExitCode, Fault> {
     let (halted, writes) = (seen.halted, seen.writes);
     let text =
         format!("{found}: {runs} runs, {drew} drew a half, {halted} halted, {writes} writes\n");
-    let status = ExitCode::from(u8::from(verdict.torn.is_some() || undrawn));
+    write_said(&text, verdict.torn.is_none() && !undrawn)
+}
+
+/// Does the same by moments.
+fn torn_moments() -> Result<ExitCode, Fault> {
+    let (text, is_whole) = judge_moments(&mut input()?)?;
+    write_said(&text, is_whole)
+}
+
+/// Writes what is said of a log.
+fn write_said(text: &str, is_whole: bool) -> Result<ExitCode, Fault> {
     let mut writer = output()?;
     writer
         .write_all(text.as_bytes())
         .and_then(|()| writer.flush())
         .map_err(|_| Fault::Writer)?;
-    Ok(status)
+    Ok(status_of(is_whole))
 }
 
 /// Writes a line on standard error. The status is the same where it can't be written, and
@@ -469,6 +479,7 @@ fn do_job(arguments: &[String]) -> Option<Result<ExitCode, Fault>> {
         "check" if options == ["--bound"] => Some(check_text(true)),
         "picture" => picture_by(options),
         "torn" if options.is_empty() => Some(torn()),
+        "torn" if options == ["--moments"] => Some(torn_moments()),
         "play" => play_by(options),
         "render" => render_by(options),
         "lay" => lay_by(options),
@@ -487,7 +498,8 @@ fn main() -> ExitCode {
     };
     let Some(done) = do_job(&arguments) else {
         complain(format_args!(
-            "usage: dvg list [--at HHH]|rom|check [--bound]|play [--all] [--banked]|torn|\
+            "usage: dvg list [--at HHH]|rom|check [--bound]|play [--all] [--banked]|\
+             torn [--moments]|\
              picture [--all]|render [--check]|lay [--half 0|1]"
         ));
         return ExitCode::from(MISUSE);

@@ -106,6 +106,15 @@ fn play_command<'a>(alloc: Global) -> Result<Command<'a>, AllocError> {
     showing(alloc, with_svg)
 }
 
+// Returns the subcommand `torn`.
+fn torn_command<'a>(alloc: Global) -> Result<Command<'a>, AllocError> {
+    let about = "Say whether a log tears a picture, and where";
+    let usage = "dvg torn [--moments] < LOG";
+    let torn = helped(alloc, "torn", about, usage, help::TORN);
+    let moments = "Say whether each run is of one moment, of any system";
+    with_flag(alloc, torn, "moments", moments)
+}
+
 // Returns the subcommand `render`.
 fn render_command<'a>(alloc: Global) -> Result<Command<'a>, AllocError> {
     let about = "Draw the frames of a sketch";
@@ -147,14 +156,12 @@ fn with_part<'a>(program: Command<'a>, part: Command<'a>) -> Result<Command<'a>,
 pub(crate) fn command<'a>(alloc: Global) -> Result<Command<'a>, AllocError> {
     let rom_usage = "dvg rom < ROM";
     let rom = helped(alloc, "rom", "Write a ROM as text", rom_usage, help::ROM);
-    let about_torn = "Say whether a log tears a picture, and where";
-    let torn = helped(alloc, "torn", about_torn, "dvg torn < LOG", help::TORN);
     let with_list = with_part(program(alloc), list_command(alloc)?)?;
     let with_rom = with_part(with_list, rom)?;
     let with_picture = with_part(with_rom, picture_command(alloc)?)?;
     let with_check = with_part(with_picture, check_command(alloc)?)?;
     let with_play = with_part(with_check, play_command(alloc)?)?;
-    let with_torn = with_part(with_play, torn)?;
+    let with_torn = with_part(with_play, torn_command(alloc)?)?;
     let with_render = with_part(with_torn, render_command(alloc)?)?;
     with_part(with_render, lay_command(alloc)?)
 }

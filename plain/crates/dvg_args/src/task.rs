@@ -51,8 +51,11 @@ pub enum Job {
         percent: u16,
         rate: u16,
     },
-    /// Say whether a log tears a picture.
-    Torn,
+    /// Say whether a log tears a picture: by the halves of the RAM, or with `moments` by whether each
+    /// run is of one moment.
+    Torn {
+        moments: bool,
+    },
     /// Draw the frames of a sketch as SVG, in the size `percent` and at the rate `rate`.
     Render {
         percent: u16,

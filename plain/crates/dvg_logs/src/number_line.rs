@@ -1,5 +1,6 @@
 //! Lines of logs that have numbers, as most do: each is read at the head of a text, with no search
 //! for its end.
+use crate::line_judge::LineJudge;
 use crate::log_line::{LogLine, RAM_END};
 use crate::log_reading::JudgedLines;
 use dvg_read::digit_of;
@@ -53,8 +54,8 @@ fn address_and_word(text: &[u8]) -> Option<(u16, u16, &[u8])> {
 }
 
 // Most lines of a log have numbers. Each is taken from the head of a text, if it ends there and
-// isn't torn. What comes after it is returned.
-impl JudgedLines {
+// doesn't decide. What comes after it is returned.
+impl<J: LineJudge> JudgedLines<J> {
     // Takes the rest of a line `wrote` from `text`, after `wrot`: four letters are compared as one
     // number, and six are not. Returns what comes after the line.
     #[inline(always)]
@@ -108,19 +109,17 @@ impl JudgedLines {
     }
 
     /// Takes lines that have numbers from the head of `text`, up to the first line that has none,
-    /// that is torn or that doesn't end. It stops, too, where fewer bytes are left than the longest
+    /// that decides or that doesn't end. It stops, too, where fewer bytes are left than the longest
     /// such line has. Returns what comes after the lines.
     #[inline(never)]
     pub fn take_number_lines<'a>(&mut self, text: &'a [u8]) -> &'a [u8] {
-        let mut judged = *self;
         let mut rest = text;
-        while judged.count < usize::MAX {
-            let Some(after) = judged.take_number_line(rest) else {
+        while self.count < usize::MAX {
+            let Some(after) = self.take_number_line(rest) else {
                 break;
             };
             rest = after;
         }
-        *self = judged;
         rest
     }
 }

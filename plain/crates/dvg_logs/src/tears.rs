@@ -1,66 +1,13 @@
 //! The engine `torn`.
-use crate::log_reading::{LogReading, LogStop};
+use crate::half_lines::HalfLines;
+use crate::judging::judge_text;
 use dvg_io::{StreamFailed, ToolFault, Watched, write_lines};
-use dvg_print::{Line, LogCounts, LogFinding, LogVerdict};
-use dvg_read::TextFault;
+use dvg_print::{Line, LogVerdict};
 use std::io::{Read, Write};
 
-/// The most bytes that one read takes.
-const PIECE: usize = 32_768;
-
-// Returns the verdict or the fault of a log whose reading stops by `stop`.
-fn answer(stop: LogStop) -> Result<LogVerdict, ToolFault> {
-    match stop {
-        LogStop::Torn {
-            line,
-            address,
-            byte,
-            counts,
-        } => Ok(LogVerdict {
-            finding: LogFinding::Torn {
-                line,
-                address,
-                byte,
-            },
-            counts,
-        }),
-        LogStop::Syntax(line) => Err(ToolFault::Text(TextFault::Syntax(line))),
-        LogStop::TooLong => Err(ToolFault::Text(TextFault::TooLong)),
-    }
-}
-
-// Returns what is found in a log of which no line is torn, by its `counts`.
-fn found(counts: LogCounts) -> LogFinding {
-    if counts.drew == 0 {
-        LogFinding::NoRunDrew
-    } else {
-        LogFinding::NotTorn
-    }
-}
-
 // Returns what is said of the text of a log, which comes from `reader`.
-fn judge_text<R: Read>(reader: &mut Watched<R>) -> Result<LogVerdict, ToolFault> {
-    let mut reading = LogReading::new();
-    let mut piece = [0u8; PIECE];
-    loop {
-        let Ok(count) = reader.read(&mut piece) else {
-            return Err(ToolFault::Reader);
-        };
-        if count == 0 {
-            break;
-        }
-        match reading.take_piece(&piece[..count]) {
-            Ok(()) => {}
-            Err(stop) => return answer(stop),
-        }
-    }
-    match reading.finish() {
-        Ok(counts) => Ok(LogVerdict {
-            finding: found(counts),
-            counts,
-        }),
-        Err(stop) => answer(stop),
-    }
+fn judge_halves<R: Read>(reader: &mut Watched<R>) -> Result<LogVerdict, ToolFault> {
+    judge_text(HalfLines::new(), reader)
 }
 
 // Writes `verdict`, what is said of a log, to `writer`.
@@ -95,7 +42,7 @@ pub fn torn<R: Read, W: Write>(
     reader: &mut Watched<R>,
     writer: &mut Watched<W>,
 ) -> Result<LogVerdict, ToolFault> {
-    let verdict = match judge_text(reader) {
+    let verdict = match judge_halves(reader) {
         Ok(verdict) => verdict,
         Err(fault) => return Err(fault),
     };

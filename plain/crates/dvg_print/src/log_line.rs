@@ -23,7 +23,7 @@ impl Line {
     // Appends `name`, which says what a fetch led to, its word address `address`, and the `word`
     // there.
     #[inline(always)]
-    fn fetched(&mut self, name: &[u8], address: u16, word: u16) {
+    pub(crate) fn fetched(&mut self, name: &[u8], address: u16, word: u16) {
         self.with_address(name, address);
         self.hex_4(word);
     }

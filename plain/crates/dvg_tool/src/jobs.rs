@@ -9,7 +9,7 @@ use crate::roms::rom_text;
 use dvg_args::{Job, LayForm};
 use dvg_io::{ToolFault, Watched};
 use dvg_lay::{Drawn, Form, Laid, check_sketch, draw_sketch, lay_sketch};
-use dvg_logs::torn;
+use dvg_logs::{torn, torn_moments};
 use dvg_mem::{Banked, Half};
 use dvg_picture::{picture, picture_svg};
 use dvg_svg::Show;
@@ -149,7 +149,10 @@ pub fn perform<A: Allocator + Copy, R: Read, W: Write>(
             let show = Show { percent, rate };
             play_shown(alloc, reader, writer, banked, show).map(|()| Done::Written)
         }
-        Job::Torn => torn(reader, writer).map(|verdict| Done::Searched(verdict)),
+        Job::Torn { moments: false } => torn(reader, writer).map(|verdict| Done::Searched(verdict)),
+        Job::Torn { moments: true } => torn_moments(reader, writer).map(
+            |verdict| Done::SearchedMoments(verdict),
+        ),
         Job::Render { percent, rate } => {
             draw_answered(alloc, reader, writer, Show { percent, rate })
         }

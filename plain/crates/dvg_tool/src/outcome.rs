@@ -1,7 +1,7 @@
 //! How the program ends.
 use dvg_io::{ToolFault, Watched};
 use dvg_lay::Refusal;
-use dvg_logs::{LogFinding, LogVerdict};
+use dvg_logs::{LogFinding, LogVerdict, MomentVerdict};
 use dvg_picture::{Outcome, Undrawn};
 use dvg_print::{BoundedVerdict, Verdict};
 use std::alloc::{Allocator, Global};
@@ -22,6 +22,8 @@ pub enum Done<A: Allocator = Global> {
     DrewSvg(Option<Undrawn>),
     /// This was said of a log, and the text of it was written.
     Searched(LogVerdict),
+    /// This was said of a log by moments, and the line of it was written.
+    SearchedMoments(MomentVerdict),
     /// A frame of a sketch is refused, and nothing was written.
     Refused(Refusal<A>),
     /// What the check says of the frames of a sketch was written, and whether it accepts all.
@@ -47,8 +49,8 @@ pub fn finish<A: Allocator, W: Write>(
 ///
 /// - 0: the job is done.
 /// - 1: a fault of the text, or what was asked about isn't good: a draft that `check` refuses, also
-///   in a sketch, a dump that draws no picture, a log with a torn picture or of which no run drew a
-///   half.
+///   in a sketch, a dump that draws no picture, a log with a torn picture or of which no run can
+///   be judged.
 /// - 2: a stream or an allocation failed.
 ///
 /// Arguments that ask for no job are 64, which no engine returns.
@@ -66,7 +68,8 @@ pub fn status<A: Allocator>(answer: &Result<Done<A>, ToolFault>) -> u8 {
                     finding: LogFinding::NotTorn,
                     ..
                 },
-            ),
+            )
+            | Done::SearchedMoments(MomentVerdict::Whole { .. }),
         ) => 0,
         Ok(
             Done::Judged(Verdict::Refused(_))
@@ -78,6 +81,11 @@ pub fn status<A: Allocator>(answer: &Result<Done<A>, ToolFault>) -> u8 {
                     finding: LogFinding::NoRunDrew | LogFinding::Torn { .. },
                     ..
                 },
+            )
+            | Done::SearchedMoments(
+                MomentVerdict::NoRun { .. }
+                | MomentVerdict::Torn { .. }
+                | MomentVerdict::Contradicts { .. },
             )
             | Done::Refused(_)
             | Done::CheckedFrames { good: false },

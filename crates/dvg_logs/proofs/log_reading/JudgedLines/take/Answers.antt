@@ -1,34 +1,22 @@
-use Rattle.std.proofs.Common.{◌∷◌, [], ◌+◌, ap, arith, refl, length-append}
+use Rattle.std.proofs.Common.{◌∷◌, [], ◌+◌, ◌∙◌, ap, arith, refl, sym, length-append}
 use Rattle.dvg_logs.specs.LogLineTells.{line_of}
-use Rattle.dvg_logs.proofs.DrawnCounts.{draws_by}
-use Rattle.dvg_logs.proofs.LogReads.{fine_more, log_length, torn_at}
+use Rattle.dvg_logs.proofs.LogReads.{fine_more, found_at, log_length}
 use Rattle.dvg_logs.proofs.log_reading.JudgedLines.take.Goals as goal
 
-pub returns-in-Some-torn-clause-stop : goal.returns-in-Some-torn-clause-stop
-returns-in-Some-torn-clause-stop c = λ before after judged.
-    let torn = rw c.in-Some-torn.is at c.tell-torn.ensures.torn judged.log judged.stands in
-    let log = line_of c.in-Some.logged ∷ judged.log in
+pub returns-in-Some-find-clause-stop : goal.returns-in-Some-find-clause-stop
+returns-in-Some-find-clause-stop g c = λ before after judged.
     let whole = log_length judged.log before judged.fine.tells in
-    let draws = draws_by (line_of c.in-Some.logged) judged.log c.begins-draws.result _ _ c.begins-draws.ensures
-    (c.is_drawing-drawn.ensures.counted judged.log judged.stands) (c.is_drawing.ensures.counted log (c.tell-torn.ensures.stands judged.log judged.stands)) in
-    let counts = c.counted-counts.ensures judged.log judged.counts (omega (arith, whole, judged.count)) draws in (
-      log,
-      torn_at judged.log before (line_of c.in-Some.logged) c.in-Some-torn.address c.in-Some-torn.byte c.args.line.now after torn.0 judged.fine c.in-Some.ensures.found torn.1
-          (c.args.self.now.count + 1) (ap (λ n. n + 1) judged.count),
-      counts,
-    )
+    let finds = rw c.in-Some-find.is at c.find.ensures.found judged.log judged.stands (omega (arith, whole, judged.count)) (omega (arith, whole, judged.count, judged.fits)) in
+    found_at judged.log before (line_of c.in-Some.logged) c.args.line.now after c.in-Some-find.verdict judged.fine c.in-Some.ensures.found finds (c.args.self.now.count + 1) (ap (λ n. n + 1) judged.count)
 
 pub returns-in-None-clause-taken : goal.returns-in-None-clause-taken
-returns-in-None-clause-taken c = λ before judged.
-    let untorn = rw c.in-None.is at c.tell-torn.ensures.untorn judged.log judged.stands in
+returns-in-None-clause-taken g c = λ before judged.
+    let whole = log_length judged.log before judged.fine.tells in
+    let passes = rw c.in-None.is at c.find.ensures.none judged.log judged.stands judged.fine.holds in
     record {
       log = line_of c.in-Some.logged ∷ judged.log;
-      fine = fine_more judged.log before (line_of c.in-Some.logged) c.args.line.now judged.fine c.in-Some.ensures.found (untorn refl);
-      stands = c.tell-torn.ensures.stands judged.log judged.stands;
-      counts = c.counted-counts.ensures judged.log judged.counts (omega (arith, log_length judged.log before judged.fine.tells, judged.count))
-          (draws_by (line_of c.in-Some.logged) judged.log c.begins-draws.result _ _ c.begins-draws.ensures
-          (c.is_drawing-drawn.ensures.counted judged.log judged.stands)
-          (c.is_drawing.ensures.counted (line_of c.in-Some.logged ∷ judged.log) (c.tell-torn.ensures.stands judged.log judged.stands)));
+      fine = fine_more judged.log before (line_of c.in-Some.logged) c.args.line.now judged.fine c.in-Some.ensures.found (passes refl);
+      stands = c.take.ensures judged.log judged.stands (omega (arith, whole, judged.count)) (omega (arith, whole, judged.count));
       count = omega (arith, judged.count, length-append before (c.args.line.now ∷ []));
       fits = omega (arith, judged.fits);
     }

@@ -2,5 +2,5 @@ use Rattle.dvg_logs.proofs.NumberLines.{line_taken, low_head}
 use Rattle.dvg_logs.proofs.log_reading.JudgedLines.take_low.Goals as goal
 
 pub returns-then-take_logged-clause-taken : goal.returns-then-take_logged-clause-taken
-returns-then-take_logged-clause-taken c =
+returns-then-take_logged-clause-taken g c =
     line_taken (low_head c.in_ok-address.ensures) (c.take_logged.ensures.taken c.if-take_logged.true)

@@ -2,8 +2,8 @@ use Rattle.std.proofs.Common.{length}
 use Rattle.dvg_logs.specs.LogReading.{TakesLines}
 use Rattle.dvg_logs.proofs.log_reading.JudgedLines.take_number_lines.Given as goal
 
-abbrev pub invariant-loop-judged : goal.invariant-loop-judged
-invariant-loop-judged l = TakesLines l.initial.self l.judged l.fn.text l.rest
+abbrev pub invariant-loop-self : goal.invariant-loop-self
+invariant-loop-self g l = TakesLines g.J.LineJudge.Stands g.J.LineJudge.Passes l.initial.self l.self l.fn.text l.rest
 
-abbrev pub decreases-loop-judged : goal.decreases-loop-judged
-decreases-loop-judged l = length l.rest
+abbrev pub decreases-loop-self : goal.decreases-loop-self
+decreases-loop-self g l = length l.rest

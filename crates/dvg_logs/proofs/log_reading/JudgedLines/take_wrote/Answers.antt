@@ -6,7 +6,7 @@ use Rattle.dvg_logs.proofs.NumberLines.{line_taken, wrote_head}
 use Rattle.dvg_logs.proofs.log_reading.JudgedLines.take_wrote.Goals as goal
 
 pub returns-then-take_logged-clause-taken : goal.returns-then-take_logged-clause-taken
-returns-then-take_logged-clause-taken c =
+returns-then-take_logged-clause-taken g c =
     let text = c.args.text.now in
     let named = after_name text (codes "e ") c.in_ok-strip_prefix.field-0 c.in_ok-strip_prefix.ensures.cases in
     let line = wrote_line c.in_ok-address.address c.in_ok-address.byte in

@@ -3,8 +3,8 @@ use Rattle.dvg_print.specs.declared.log_verdict.LogCounts.{LogCounts}
 use Rattle.dvg_logs.specs.LogCounts.{drew_of}
 use Rattle.dvg_logs.specs.LogLineTells.{line_of}
 use Rattle.dvg_logs.proofs.DrawnCounts.{drew_few, drew_more, drew_same, other_counts}
-use Rattle.dvg_logs.proofs.log_reading.counted.Goals as goal
-use Rattle.dvg_logs.proofs.log_reading.counted.Goals.{then-draws, else-draws}
+use Rattle.dvg_logs.proofs.half_lines.counted.Goals as goal
+use Rattle.dvg_logs.proofs.half_lines.counted.Goals.{then-draws, else-draws}
 
 pub returns-in_default : goal.returns-in_default
 returns-in_default c = λ log counts few draws.

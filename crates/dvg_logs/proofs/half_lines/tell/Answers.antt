@@ -1,5 +1,5 @@
 use Rattle.std.proofs.Common.{◌∙◌, refl, sym, true≢false, []}
-use Rattle.dvg_logs.proofs.log_reading.tell.Goals as goal
+use Rattle.dvg_logs.proofs.half_lines.tell.Goals as goal
 
 pub returns-then-wrote-clause-torn : goal.returns-then-wrote-clause-torn
 returns-then-wrote-clause-torn c = λ log stands. rw c.in-Wrote.is (refl, (c.wrote.ensures.torn c.in-Wrote.byte log stands).0 c.if-wrote.true)

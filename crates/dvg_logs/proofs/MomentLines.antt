@@ -1,0 +1,115 @@
+-- What lines make of what is known of a log, by the rule of moments.
+use Rattle.std.proofs.Common.{◌≡◌, ◌≢◌, ◌≤◌, ◌<◌, ◌+◌, ◌%◌, ◌^◌, ◌-◌, ℕ, suc, List, [], ◌∷◌, length, Option, Some, None, Bool, true, false, true≢false, ◌⊎◌, ◌&&◌, ◌||◌, cond, inl, inr, refl, sym, ap, ◌∙◌, arith, subst}
+use Rattle.std.specs.Prelude.{IsTrue, ◌↔◌, option_map, is_some}
+use Rattle.std.specs.List.{count_by}
+use Rattle.std.proofs.lemmas.Option.{none-some}
+use Rattle.dvg_log.specs.Entries.{Shown}
+use Rattle.dvg_log.specs.Events.{Happening}
+use Rattle.dvg_log.specs.declared.entry.Entry.TheVariants.{Started, Fetched}
+use Rattle.dvg_log.specs.declared.event.Event.TheVariants.{Fetch, Strobe}
+use Rattle.dvg_log.specs.Log.{◌⟼◌, Line, Log, open_run}
+use Rattle.dvg_moment.specs.Judging.{IsTorn}
+use Rattle.dvg_moment.specs.Moment.{Contradicts, OfOneMoment, reads, told}
+use Rattle.dvg_moment.proofs.Latest.{past_on, still_of_one, torn_on}
+use Rattle.dvg_print.specs.declared.moment_verdict.Reading.{Reading}
+use Rattle.dvg_print.specs.declared.moment_verdict.Reading.TheVariants as of
+use Rattle.dvg_logs.specs.LogCounts.{begins}
+use Rattle.dvg_logs.specs.MomentLogs.{TornSince, judged_log, halted_of, halts_run, has_judged, has_read, reading_entry}
+use Rattle.dvg_logs.specs.MomentLines.{TearsSo}
+use Rattle.dvg_logs.specs.declared.moment_lines.Tear.{Tear}
+
+-- a log has as many lines as it is judged by
+pub judged_length : (log : Log) → length (judged_log log) ≡ length log
+judged_length [] = refl
+judged_length (line ∷ log) = ap suc (judged_length log)
+
+-- ---- what is torn
+
+pub torn_of : (log : Log) (n : ℕ) (last : Line) → TornSince log n last → IsTorn log
+torn_of [] n last since = absurd since
+torn_of (line ∷ log) n last since = since.0
+
+module _ (log : Log) (event : Happening) (entry : Shown) (goes : entry ≢ Started) where
+  -- no moment comes back
+  stays : open_run ((event ⟼ entry) ∷ log) ≢ None → IsTorn log → IsTorn ((event ⟼ entry) ∷ log)
+  stays opened torn = (opened, torn_on told log event entry goes torn.1)
+
+  since_on : (n : ℕ) (last : Line) → (open_run log ≢ None → open_run ((event ⟼ entry) ∷ log) ≢ None) → TornSince log n last → TornSince ((event ⟼ entry) ∷ log) n last
+  since_on n last opened since = let torn = torn_of log n last since in (stays (opened torn.0) torn, inl (torn, since))
+
+  -- a line that reads nothing leaves a moment
+  keeps : ((a : ℕ) → reads log entry a ≡ None) → OfOneMoment told log → OfOneMoment told ((event ⟼ entry) ∷ log)
+  keeps none one = ((event ⟼ entry) ∷ one.0, one.1, past_on told log event entry goes one.0 one.1 one.2 (λ a read changed. absurd (read (none a))))
+
+  -- so it tears no run
+  pub silent_tears : (tear : Option Tear) → ((a : ℕ) → reads log entry a ≡ None) → (open_run log ≡ open_run ((event ⟼ entry) ∷ log)) → TearsSo tear log → TearsSo tear ((event ⟼ entry) ∷ log)
+  silent_tears None none same whole = λ torn. whole ((λ e. torn.0 (sym same ∙ e)), λ one. torn.1 (keeps none one))
+  silent_tears (Some tear) none same since = since_on tear.line (Fetch ⟼ reading_entry tear.reading) (λ opened e. opened (same ∙ e)) since
+
+-- a run that begins isn't torn, and none is open that ended
+pub start_tears : (log : Log) → ¬ IsTorn ((Strobe ⟼ Started) ∷ log)
+start_tears log torn = torn.1 (still_of_one told ((Strobe ⟼ Started) ∷ log) tt)
+
+-- a line that reads may leave no moment
+open_on : (reading : Reading) (log : Log) → open_run log ≢ None → open_run ((Fetch ⟼ reading_entry reading) ∷ log) ≢ None
+open_on (of.Low address byte) log opened = opened
+open_on (of.Fetched address word) log opened = by_case (open_run log) opened
+  where
+    by_case : (run : Option (List (ℕ × ℕ))) → run ≢ None → option_map (λ fetches. (address, word) ∷ fetches) run ≢ None
+    by_case None opened e = opened refl
+    by_case (Some fetches) opened e = none-some _ (sym e)
+
+reading_goes : (reading : Reading) → reading_entry reading ≢ Started
+reading_goes (of.Low address byte) e = cc
+reading_goes (of.Fetched address word) e = cc
+
+pub reading_on : (reading : Reading) (log : Log) (tear : Tear) → TearsSo (Some tear) log → TearsSo (Some tear) ((Fetch ⟼ reading_entry reading) ∷ log)
+reading_on reading log tear since = since_on log Fetch (reading_entry reading) (reading_goes reading) tear.line (Fetch ⟼ reading_entry tear.reading) (open_on reading log) since
+
+pub torn_by : (reading : Reading) (log : Log) (line : ℕ) → ¬ IsTorn log → IsTorn ((Fetch ⟼ reading_entry reading) ∷ log) → line ≡ length log + 1
+    → TearsSo (Some (record { line = line; reading = reading })) ((Fetch ⟼ reading_entry reading) ∷ log)
+torn_by reading log line whole torn at = (torn, inr (whole, at, refl))
+
+-- ---- what is counted
+
+pub halted_few : (log : Log) → halted_of log ≤ length log
+halted_few [] = omega arith
+halted_few (line ∷ log) = by_case (halts_run line log) (halted_few log)
+  where
+    by_case : (one : Bool) → halted_of log ≤ length log → cond one 1 0 + halted_of log ≤ suc (length log)
+    by_case true few = omega (arith, few)
+    by_case false few = omega (arith, few)
+
+-- a line by which no run comes to its HALT
+pub halted_same : (line : Line) (log : Log) → halts_run line log ≡ false → halted_of (line ∷ log) ≡ halted_of log
+halted_same line log none =
+    let same : halted_of (line ∷ log) ≡ 0 + halted_of log = ap (λ b. cond b 1 0 + halted_of log) none in
+    omega (arith, same)
+
+pub halted_more : (line : Line) (log : Log) → halts_run line log ≡ true → halted_of (line ∷ log) ≡ 1 + halted_of log
+halted_more line log one = ap (λ b. cond b 1 0 + halted_of log) one
+
+pub judged_same : (line : Line) (log : Log) → halts_run line log ≡ false → has_judged (line ∷ log) ≡ has_judged log
+judged_same line log none = ap (λ b. (b && has_read log) || has_judged log) none
+
+pub judged_more : (line : Line) (log : Log) → halts_run line log ≡ true → has_judged (line ∷ log) ≡ (has_read log || has_judged log)
+judged_more line log one = ap (λ b. (b && has_read log) || has_judged log) one
+
+-- whether a run is open
+pub halts_is : (halts : Bool) (run : Option (List (ℕ × ℕ))) → IsTrue halts ↔ (run ≢ None) → halts ≡ is_some run
+halts_is true None tells = absurd (tells.0 refl refl)
+halts_is true (Some fetches) tells = refl
+halts_is false None tells = refl
+halts_is false (Some fetches) tells = tells.1 (λ e. none-some _ (sym e))
+
+-- the counts after a line by which a run comes to its HALT or none does
+pub halted_on : (line : Line) (log : Log) (halts : Bool) (count : ℕ) → halts ≡ halts_run line log → count ≡ halted_of log → length log < 2 ^ 64 - 1 → cond halts ((count + 1) % 2 ^ 64) count ≡ halted_of (line ∷ log)
+halted_on line log true count is so few = let more = halted_more line log (sym is) in omega (arith, so, more, halted_few log, few)
+halted_on line log false count is so few = so ∙ sym (halted_same line log (sym is))
+
+pub judged_on : (line : Line) (log : Log) (halts read before : Bool) → halts ≡ halts_run line log → read ≡ has_read log → before ≡ has_judged log → ((halts && read) || before) ≡ has_judged (line ∷ log)
+judged_on line log halts read before is has so = rw (is, has, so) refl
+
+-- what reads nothing contradicts nothing
+pub silent_sound : (log : Log) (entry : Shown) → ((a : ℕ) → reads log entry a ≡ None) → ¬ Contradicts log entry
+silent_sound log entry none is = none-some is.1 (sym (none is.0) ∙ is.4)

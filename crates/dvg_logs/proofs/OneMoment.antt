@@ -1,0 +1,154 @@
+-- Of the text of a log one verdict by moments is given at most, and none where a line tells nothing.
+use Rattle.std.proofs.Common.{◌≡◌, ◌+◌, ℕ, List, [], ◌∷◌, ◌++◌, length, refl, sym, ap, ◌∙◌, subst, arith, inl, inr, Result, Ok, Err, IfErr, IfOk, true, false, true≢false, Option, Some, None}
+use Rattle.dvg_log.specs.Entries.{Shown}
+use Rattle.dvg_log.specs.Events.{Happening}
+use Rattle.dvg_log.specs.declared.entry.Entry.TheVariants.{Offered, Refused, Busy, Asked, NothingPublished, Acted, Started, NoStrobe, Low, Fetched, Done, Broke, Still, Cleared}
+use Rattle.dvg_log.specs.declared.event.Event.TheVariants.{Fetch}
+use Rattle.dvg_log.specs.Log.{◌⟼◌, Line, Log, Throughout}
+use Rattle.dvg_moment.specs.Judging.{IsTorn}
+use Rattle.dvg_read.specs.Texts.{lines}
+use Rattle.dvg_read.specs.declared.fault.TextFault.TheVariants.{Syntax, TooLong}
+use Rattle.dvg_print.specs.declared.moment_verdict.Reading.{Reading}
+use Rattle.dvg_print.specs.declared.moment_verdict.Reading.TheVariants as of
+use Rattle.dvg_print.specs.declared.moment_verdict.MomentVerdict.{MomentVerdict}
+use Rattle.dvg_print.specs.declared.moment_verdict.MomentVerdict.TheVariants as say
+use Rattle.dvg_logs.specs.declared.log_reading.LogStop.{LogStop}
+use Rattle.dvg_logs.specs.declared.log_reading.LogStop.TheVariants as stop
+use Rattle.dvg_logs.specs.LogLaws.{IsJudgedByMoments}
+use Rattle.dvg_logs.specs.LogCounts.{halts}
+use Rattle.dvg_logs.specs.LogLines.{IsLogOf, Tells}
+use Rattle.dvg_logs.specs.LogReading as reading
+use Rattle.dvg_logs.specs.LogTexts.{IsFoundAt, IsWhole}
+use Rattle.dvg_logs.specs.MomentLogs.{Decides, Ends, IsSound, TornSince, has_judged, judged_log, reading_entry}
+use Rattle.dvg_logs.specs.MomentTears.{HasMomentFault, JudgesMoments}
+use Rattle.dvg_logs.proofs.MomentLines.{torn_of}
+use Rattle.dvg_logs.proofs.OneVerdict.{Of, StopsAt, log_once, never_stops, one_stop, same_fronts, same_lines, syntax_stops, tells_once}
+
+-- ---- what decides
+
+-- a torn run is decided by its HALT alone
+pub record IsHalt (n : ℕ) (last line : Line) (log : Log) : Type 0 where
+  pub since : TornSince (judged_log log) n last
+  pub sound : Of IsSound log line → ¬ IsTorn (judged_log log)
+  pub halts : halts line ≡ true
+
+halt_of : (n : ℕ) (read : Reading) (line : Line) (log : Log) → Decides (say.Torn n read) line log → IsHalt n (Fetch ⟼ reading_entry read) line log
+halt_of n read (event ⟼ Done address word drew) log since = record { since = since; sound = λ sound. sound; halts = refl }
+halt_of n read (event ⟼ Offered) log since = absurd since
+halt_of n read (event ⟼ Refused fault) log since = absurd since
+halt_of n read (event ⟼ Busy) log since = absurd since
+halt_of n read (event ⟼ Asked) log since = absurd since
+halt_of n read (event ⟼ NothingPublished) log since = absurd since
+halt_of n read (event ⟼ Acted action) log since = absurd since
+halt_of n read (event ⟼ Started) log since = absurd since
+halt_of n read (event ⟼ NoStrobe) log since = absurd since
+halt_of n read (event ⟼ Low address byte) log since = absurd since
+halt_of n read (event ⟼ Fetched address word) log since = absurd since
+halt_of n read (event ⟼ Broke address fault) log since = absurd since
+halt_of n read (event ⟼ Still) log since = absurd since
+halt_of n read (event ⟼ Cleared) log since = absurd since
+
+-- a line that decides isn't sound
+unsound : (verdict : MomentVerdict) (line : Line) (log : Log) → Decides verdict line log → ¬ Of IsSound log line
+unsound (say.Whole runs halted) line log decides sound = absurd decides
+unsound (say.NoRun runs halted) line log decides sound = absurd decides
+unsound (say.Torn n read) line log decides sound =
+    let halt = halt_of n read line log decides in
+    halt.sound sound (torn_of (judged_log log) n (Fetch ⟼ reading_entry read) halt.since)
+unsound (say.Contradicts n (of.Low address byte)) line log (is, at, contradicts) sound = subst (Of IsSound log) is sound contradicts
+unsound (say.Contradicts n (of.Fetched address word)) line log (is, at, contradicts) sound = subst (Of IsSound log) is sound contradicts
+
+found_stops : {texts : List (List ℕ)} {n : ℕ} {verdict : MomentVerdict} (found : IsFoundAt (Throughout IsSound) Decides texts n verdict) → StopsAt IsSound texts (length found.before)
+found_stops {verdict = verdict} found = record {
+  before = found.before;
+  line = found.text;
+  after = found.after;
+  cut = found.cut;
+  at = refl;
+  log = found.log;
+  fine = found.fine;
+  stops = λ logged tells. subst (λ line. ¬ Of IsSound found.log line) (tells_once found.line logged found.text found.tells tells) (unsound verdict found.line found.log found.finds);
+}
+
+-- the line by which no moment is left is one
+since_once : (log : Log) (n m : ℕ) (one other : Line) → TornSince log n one → TornSince log m other → (n ≡ m) × (one ≡ other)
+since_once [] n m one other a b = absurd a
+since_once (line ∷ log) n m one other (torn, inl (before, a)) (also, inl (same, b)) = since_once log n m one other a b
+since_once (line ∷ log) n m one other (torn, inl (before, a)) (also, inr (whole, at, is)) = absurd (whole before)
+since_once (line ∷ log) n m one other (torn, inr (whole, at, is)) (also, inl (before, b)) = absurd (whole before)
+since_once (line ∷ log) n m one other (torn, inr (whole, at, is)) (also, inr (same, here, too)) = (at ∙ sym here, sym is ∙ too)
+
+read_once : (one other : Reading) → Fetch ⟼ reading_entry one ≡ Fetch ⟼ reading_entry other → one ≡ other
+read_once (of.Low a b) (of.Low x y) e = let p : a ≡ x = cc in let q : b ≡ y = cc in rw (p, q) refl
+read_once (of.Fetched a b) (of.Fetched x y) e = let p : a ≡ x = cc in let q : b ≡ y = cc in rw (p, q) refl
+read_once (of.Low a b) (of.Fetched x y) e = absurd cc
+read_once (of.Fetched a b) (of.Low x y) e = absurd cc
+
+reading_halts : (read : Reading) → halts (Fetch ⟼ reading_entry read) ≡ false
+reading_halts (of.Low address byte) = refl
+reading_halts (of.Fetched address word) = refl
+
+no_halt : (n m : ℕ) (read other : Reading) (line : Line) (log : Log) → Decides (say.Torn n read) line log → line ≡ Fetch ⟼ reading_entry other → ⊥
+no_halt n m read other line log decides is =
+    true≢false (sym (halt_of n read line log decides).halts ∙ (ap halts is ∙ reading_halts other))
+
+decides_once : (one other : MomentVerdict) (line : Line) (log : Log) → Decides one line log → Decides other line log → other ≡ one
+decides_once (say.Whole runs halted) other line log a b = absurd a
+decides_once (say.NoRun runs halted) other line log a b = absurd a
+decides_once (say.Torn n read) (say.Whole runs halted) line log a b = absurd b
+decides_once (say.Torn n read) (say.NoRun runs halted) line log a b = absurd b
+decides_once (say.Torn n read) (say.Torn m other) line log a b =
+    let since = (halt_of n read line log a).since in
+    let also = (halt_of m other line log b).since in
+    let (at, is) = since_once (judged_log log) m n (Fetch ⟼ reading_entry other) (Fetch ⟼ reading_entry read) also since in
+    let same = read_once other read is in rw (at, same) refl
+decides_once (say.Torn n read) (say.Contradicts m other) line log a b = absurd (no_halt n m read other line log a b.0)
+decides_once (say.Contradicts n read) (say.Whole runs halted) line log a b = absurd b
+decides_once (say.Contradicts n read) (say.NoRun runs halted) line log a b = absurd b
+decides_once (say.Contradicts n read) (say.Torn m other) line log a b = absurd (no_halt m n other read line log b a.0)
+decides_once (say.Contradicts n read) (say.Contradicts m other) line log a b =
+    let same = read_once other read (sym b.0 ∙ a.0) in
+    let number : m ≡ n = b.1 ∙ sym a.1 in rw (number, same) refl
+
+found_once : (texts : List (List ℕ)) (n m : ℕ) (one other : MomentVerdict) → IsFoundAt (Throughout IsSound) Decides texts n one → IsFoundAt (Throughout IsSound) Decides texts m other → other ≡ one
+found_once texts n m one other a b =
+    let at = one_stop IsSound (found_stops b) (found_stops a) in
+    let line = same_lines b.before a.before b.text a.text b.after a.after b.cut a.cut at in
+    let before = same_fronts b.before a.before b.text a.text b.after a.after b.cut a.cut at in
+    let log = log_once b.log a.log a.before (subst (IsLogOf b.log) before b.fine.tells) a.fine.tells in
+    let said = tells_once b.line a.line a.text (subst (Tells b.line) line b.tells) a.tells in
+    decides_once one other a.line a.log a.finds (subst (λ line. Decides other line a.log) said (subst (Decides other b.line) log b.finds))
+
+-- ---- what is said at the end
+
+ends_once : (one other : MomentVerdict) (log : Log) → Ends one log → Ends other log → other ≡ one
+ends_once (say.Whole r h) (say.Whole s k) log (a, b, c) (x, y, z) = let p : s ≡ r = x ∙ sym a in let q : k ≡ h = y ∙ sym b in rw (p, q) refl
+ends_once (say.NoRun r h) (say.NoRun s k) log (a, b, c) (x, y, z) = let p : s ≡ r = x ∙ sym a in let q : k ≡ h = y ∙ sym b in rw (p, q) refl
+ends_once (say.Whole r h) (say.NoRun s k) log (a, b, c) (x, y, z) = absurd (true≢false (sym c ∙ z))
+ends_once (say.NoRun r h) (say.Whole s k) log (a, b, c) (x, y, z) = absurd (true≢false (sym z ∙ c))
+ends_once (say.Whole r h) (say.Torn n read) log a b = absurd b
+ends_once (say.Whole r h) (say.Contradicts n read) log a b = absurd b
+ends_once (say.NoRun r h) (say.Torn n read) log a b = absurd b
+ends_once (say.NoRun r h) (say.Contradicts n read) log a b = absurd b
+ends_once (say.Torn n read) other log a b = absurd a
+ends_once (say.Contradicts n read) other log a b = absurd a
+
+-- ---- the laws
+
+pub one_moment_verdict : (text : List ℕ) (one other : MomentVerdict) (at end : Option ℕ) → JudgesMoments text one at → JudgesMoments text other end → other ≡ one
+one_moment_verdict text one other None None (log, whole, says) (same, also, ends) =
+    let is = log_once same log (lines text) also.fine.tells whole.fine.tells in
+    ends_once one other log says (subst (Ends other) is ends)
+one_moment_verdict text one other None (Some m) (log, whole, says) found = absurd (never_stops IsSound log whole.fine (found_stops found))
+one_moment_verdict text one other (Some n) None found (log, whole, says) = absurd (never_stops IsSound log whole.fine (found_stops found))
+one_moment_verdict text one other (Some n) (Some m) a b = found_once (lines text) n m one other a b
+
+pub moments_judged_at : (text : List ℕ) (why : LogStop MomentVerdict) → reading.StopsAt (Throughout IsSound) Decides why (lines text) → IsJudgedByMoments text
+moments_judged_at text (stop.Found n verdict) stops = inl (verdict, Some n, stops)
+moments_judged_at text (stop.Syntax n) stops = inr (Syntax n, stops)
+moments_judged_at text stop.TooLong stops = inr (TooLong, stops)
+
+pub moments_judged_by : (HasRead : List ℕ → Type 0) (text : List ℕ) (answer : Result MomentVerdict (LogStop MomentVerdict)) → HasRead text → IfErr answer (λ stop. (text : List ℕ) → HasRead text → reading.StopsAt (Throughout IsSound) Decides stop (lines text))
+    → IfOk answer (λ verdict. (text : List ℕ) → HasRead text → (log : Log) × IsWhole (Throughout IsSound) (lines text) log × Ends verdict log) → IsJudgedByMoments text
+moments_judged_by HasRead text (Ok verdict) read stops judged = inl (verdict, None, judged text read)
+moments_judged_by HasRead text (Err why) read stops judged = moments_judged_at text why (stops text read)

@@ -1,0 +1,19 @@
+use Rattle.std.proofs.Common.{◌+◌, ◌∙◌, ap, refl, sym}
+use Rattle.dvg_log.specs.declared.entry.Entry.TheVariants.{Fetched}
+use Rattle.dvg_log.specs.declared.event.Event.TheVariants.{Fetch}
+use Rattle.dvg_log.specs.Log.{◌⟼◌}
+use Rattle.dvg_logs.specs.MomentLogs.{judged_log}
+use Rattle.dvg_logs.proofs.MomentLines.{halted_same, judged_length}
+use Rattle.dvg_logs.proofs.moment_lines.MomentLines.fetched.Goals as goal
+
+pub returns : goal.returns
+returns c = λ log so at.
+    let stands = c.fetched.ensures (judged_log log) so.stands in
+    record {
+      stands = stands;
+      runs = so.runs;
+      halted = so.halted ∙ sym (halted_same (Fetch ⟼ Fetched c.args.address c.args.word) log refl);
+      some_judged = so.some_judged;
+      has_read = refl;
+      tear = c.tear_by-self.ensures (judged_log log) stands (at ∙ ap (λ n. n + 1) (sym (judged_length log))) so.tear;
+    }

@@ -1,0 +1,80 @@
+-- Logs by the rule of moments: what is found in one, and what is said of it.
+use Rattle.std.specs.Prelude.{◌≡◌, ◌⊎◌, ◌+◌, ℕ, Bool, true, false, ◌&&◌, ◌||◌, List, [], ◌∷◌, length, map, is_some}
+use Rattle.std.specs.Prelude.{if◌then◌else◌}
+use Rattle.std.specs.List.{count_by}
+use Rattle.dvg_log.specs.declared.entry.Entry.TheVariants.{Started, Low, Fetched, Done, Cleared}
+use Rattle.dvg_log.specs.declared.event.Event.TheVariants.{Fetch, ResetGen, ResetAll}
+use Rattle.dvg_log.specs.Entries.{Shown}
+use Rattle.dvg_log.specs.Events.{Happening}
+use Rattle.dvg_log.specs.Log.{◌⟼◌, Line, Log, Throughout, open_run}
+use Rattle.dvg_moment.specs.Judging.{IsTorn}
+use Rattle.dvg_moment.specs.Moment.{Contradicts}
+use Rattle.dvg_print.specs.declared.moment_verdict.Reading.{Reading}
+use Rattle.dvg_print.specs.declared.moment_verdict.Reading.TheVariants as reads
+use Rattle.dvg_print.specs.declared.moment_verdict.MomentVerdict.{MomentVerdict}
+use Rattle.dvg_print.specs.declared.moment_verdict.MomentVerdict.TheVariants as say
+use Rattle.dvg_logs.specs.LogCounts.{begins, halts}
+
+-- a HALT whose word isn't told ends a run as a reset of the generator does; a reset may be one of the whole system, so
+-- what was told of memory is void
+abbrev pub as_judged : Line → Line
+as_judged (event ⟼ Done address word drew) = ResetGen ⟼ Cleared
+as_judged (ResetGen ⟼ entry) = ResetAll [] ⟼ entry
+as_judged line = line
+
+-- the log that is judged
+abbrev pub judged_log : Log → Log
+judged_log [] = []
+judged_log (line ∷ log) = as_judged line ∷ judged_log log
+
+-- what a fetch brought, as a log shows it
+abbrev pub reading_entry : Reading → Shown
+reading_entry (reads.Low address byte) = Low address byte
+reading_entry (reads.Fetched address word) = Fetched address word
+
+-- the open run is of no moment, and since line n none was left: this one
+abbrev pub TornSince : Log → ℕ → Line → Type 0
+TornSince [] n last = ⊥
+TornSince (line ∷ log) n last = IsTorn (line ∷ log)
+    × ((IsTorn log × TornSince log n last) ⊎ ((¬ IsTorn log) × (n ≡ length log + 1) × (line ≡ last)))
+
+-- a line contradicts nothing that was told, and ends no torn run by a HALT
+abbrev pub IsSound : Log → Happening → Shown → Type 0
+IsSound log event (Done address word drew) = ¬ IsTorn (judged_log log)
+IsSound log event entry = ¬ Contradicts (judged_log log) entry
+
+-- a line decides: by it a torn run comes to its HALT, or it contradicts
+abbrev pub Decides : MomentVerdict → Line → Log → Type 0
+Decides (say.Torn n reading) (event ⟼ Done address word drew) log =
+    TornSince (judged_log log) n (Fetch ⟼ reading_entry reading)
+Decides (say.Contradicts n reading) line log = (line ≡ Fetch ⟼ reading_entry reading) × (n ≡ length log + 1)
+    × Contradicts (judged_log log) (reading_entry reading)
+Decides verdict line log = ⊥
+
+-- the newest run has fetched something
+abbrev pub has_read : Log → Bool
+has_read [] = false
+has_read ((event ⟼ Started) ∷ log) = false
+has_read ((event ⟼ Low address byte) ∷ log) = true
+has_read ((event ⟼ Fetched address word) ∷ log) = true
+has_read (line ∷ log) = has_read log
+
+-- by this line an open run comes to its HALT
+abbrev pub halts_run : Line → Log → Bool
+halts_run line log = halts line && is_some (open_run (judged_log log))
+
+-- how many runs came to their HALT
+abbrev pub halted_of : Log → ℕ
+halted_of [] = 0
+halted_of (line ∷ log) = (if halts_run line log then 1 else 0) + halted_of log
+
+-- one of these had fetched something
+abbrev pub has_judged : Log → Bool
+has_judged [] = false
+has_judged (line ∷ log) = (halts_run line log && has_read log) || has_judged log
+
+-- what is said where no line decides
+abbrev pub Ends : MomentVerdict → Log → Type 0
+Ends (say.Whole runs halted) log = (runs ≡ count_by begins log) × (halted ≡ halted_of log) × (has_judged log ≡ true)
+Ends (say.NoRun runs halted) log = (runs ≡ count_by begins log) × (halted ≡ halted_of log) × (has_judged log ≡ false)
+Ends verdict log = ⊥

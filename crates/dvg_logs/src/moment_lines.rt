@@ -1,0 +1,223 @@
+//! The lines of a log by moments: each run is of one.
+ghost use Rattle.std.specs.Prelude.{◌≡◌, ◌+◌, ◌%◌, ◌^◌, ◌&&◌, ◌||◌, cond, IfSome, IsNone, IsTrue};
+ghost use Rattle.dvg_print.specs.declared.moment_verdict.MomentVerdict.TheVariants as say;
+
+use crate::line_judge::LineJudge;
+use crate::log_line::LogLine;
+use dvg_moment::MomentJudge;
+use dvg_print::{MomentVerdict, Reading};
+
+/// The line after which no moment of a run was left: its number, counted from 1, and what it read.
+#[derive(Clone, Copy, Debug, PartialEq, Eq)]
+pub struct Tear {
+    pub line: usize,
+    pub reading: Reading,
+}
+
+/// What is known of the lines that were told.
+#[derive(Clone, Copy)]
+pub struct MomentLines {
+    judge: MomentJudge,
+    // The runs that began.
+    runs: usize,
+    // Those that came to their HALT.
+    halted: usize,
+    // Whether one of these had fetched something.
+    some_judged: bool,
+    // Whether the newest run has fetched something.
+    has_read: bool,
+    // Where the open run tore, if it did.
+    tear: Option<Tear>,
+}
+
+impl MomentLines {
+    ghost use Rattle.std.specs.Prelude.{◌≡◌, ◌+◌, ◌-◌, ◌^◌, ◌<◌, ◌∷◌, [], length};
+    ghost use Rattle.dvg_log.specs.Log.{Log};
+    ghost use Rattle.dvg_log.specs.Log.{◌⟼◌};
+    ghost use Rattle.dvg_log.specs.declared.event.Event.TheVariants.{Fetch};
+    ghost use Rattle.dvg_moment.specs.Judging.{StandsAfter};
+    ghost use Rattle.dvg_logs.specs.LogLineTells.{line_of};
+    ghost use Rattle.dvg_logs.specs.declared.log_line.LogLine.TheVariants as says;
+    ghost use Rattle.dvg_logs.specs.MomentLines.{StandsSo, TearsSo};
+    ghost use Rattle.dvg_logs.specs.MomentLogs.{reading_entry};
+
+    /// Returns what is known before the first line.
+    pub fn new() -> MomentLines
+        ensures { StandsSo result [] }
+    {
+        MomentLines {
+            judge: MomentJudge::new(),
+            runs: 0,
+            halted: 0,
+            some_judged: false,
+            has_read: false,
+            tear: None,
+        }
+    }
+
+    // Takes a line that says that a strobe began a run.
+    fn start(&mut self)
+        ensures { (log : Log) → StandsSo self.old log → length log < 2 ^ 64 - 1
+            → StandsSo self.new (line_of says.Started ∷ log) }
+    {
+        self.judge.started();
+        self.runs = self.runs.wrapping_add(1);
+        self.has_read = false;
+        self.tear = None;
+    }
+
+    // Returns where the open run tore, once the line number `line` has read `reading`, which the
+    // judge was told.
+    #[inline(always)]
+    fn tear_by(&self, line: usize, reading: Reading) -> Option<Tear>
+        ensures { (judged : Log)
+            → StandsAfter self.now.judge ((Fetch ⟼ reading_entry reading) ∷ judged)
+            → line ≡ length judged + 1 → TearsSo self.now.tear judged
+            → TearsSo result ((Fetch ⟼ reading_entry reading) ∷ judged) }
+    {
+        match self.tear {
+            Some(tear) => Some(tear),
+            None => {
+                if self.judge.is_torn() {
+                    Some(Tear { line, reading })
+                } else {
+                    None
+                }
+            }
+        }
+    }
+
+    // Takes the line number `number`, a fetch of the low byte `byte` at the word address `address`.
+    #[inline(always)]
+    fn low(&mut self, number: usize, address: u16, byte: u8)
+        ensures { (log : Log) → StandsSo self.old log → number ≡ length log + 1
+            → StandsSo self.new (line_of (says.Low address byte) ∷ log) }
+    {
+        self.judge.low(address, byte);
+        self.has_read = true;
+        self.tear = self.tear_by(number, Reading::Low(address, byte));
+    }
+
+    // Takes the line number `number`, a fetch that completed `word` at the word address `address`.
+    #[inline(always)]
+    fn fetched(&mut self, number: usize, address: u16, word: u16)
+        ensures { (log : Log) → StandsSo self.old log → number ≡ length log + 1
+            → StandsSo self.new (line_of (says.Fetched address word) ∷ log) }
+    {
+        self.judge.fetched(address, word);
+        self.has_read = true;
+        self.tear = self.tear_by(number, Reading::Fetched(address, word));
+    }
+
+    // Takes a line that says that the run ended by a HALT.
+    fn halt(&mut self)
+        ensures { (log : Log) → StandsSo self.old log → length log < 2 ^ 64 - 1
+            → StandsSo self.new (line_of says.Halted ∷ log) }
+    {
+        let halts = self.judge.is_open();
+        self.halted = halted_with(self.halted, halts);
+        self.some_judged = has_judged(halts, self.has_read, self.some_judged);
+        self.judge.ended();
+        self.tear = None;
+    }
+
+    // Takes a line that says that the generator was reset, or the whole system.
+    fn reset(&mut self)
+        ensures { (log : Log) → StandsSo self.old log
+            → StandsSo self.new (line_of says.Reset ∷ log) }
+    {
+        self.judge.reset();
+        self.tear = None;
+    }
+}
+
+// Returns `halted`, a count of the runs that came to their HALT, with one more where `halts`. It is
+// no greater than that of the lines, so it doesn't wrap.
+fn halted_with(halted: usize, halts: bool) -> usize
+    ensures { result ≡ cond halts ((halted + 1) % 2 ^ 64) halted }
+{
+    if halts {
+        halted.wrapping_add(1)
+    } else {
+        halted
+    }
+}
+
+// Returns whether a run came to its HALT that had fetched something: one did `before`, or one
+// `halts` that has.
+fn has_judged(halts: bool, has_read: bool, before: bool) -> bool
+    ensures { result ≡ ((halts && has_read) || before) }
+{
+    (halts && has_read) || before
+}
+
+// Returns what is said where the line number `number` reads `reading`, if it contradicts.
+#[inline(always)]
+fn contradicted(contradicts: bool, line: usize, reading: Reading) -> Option<MomentVerdict>
+    ensures some { IfSome result (λ said. (said ≡ say.Contradicts line reading)
+        × IsTrue contradicts) }
+    ensures none { IsNone result → ¬ IsTrue contradicts }
+{
+    if contradicts {
+        Some(MomentVerdict::Contradicts { line, reading })
+    } else {
+        None
+    }
+}
+
+impl LineJudge for MomentLines {
+    ghost use Rattle.dvg_log.specs.Log.{Throughout};
+    ghost use Rattle.dvg_logs.specs.MomentLines.{StandsSo};
+    ghost use Rattle.dvg_logs.specs.MomentLogs.{Decides, Ends, IsSound};
+
+    type Verdict = MomentVerdict;
+
+    ghost Stands = { StandsSo };
+
+    ghost Passes = { Throughout IsSound };
+
+    ghost Finds = { Decides };
+
+    ghost Ends = { Ends };
+
+    #[inline(always)]
+    fn find(&self, number: usize, logged: LogLine) -> Option<MomentVerdict> {
+        match logged {
+            LogLine::Low(address, byte) => {
+                let contradicts = self.judge.contradicts_low(address, byte);
+                contradicted(contradicts, number, Reading::Low(address, byte))
+            }
+            LogLine::Fetched(address, word) => {
+                let contradicts = self.judge.contradicts_word(address, word);
+                contradicted(contradicts, number, Reading::Fetched(address, word))
+            }
+            LogLine::Halted => match self.tear {
+                Some(Tear { line, reading }) => Some(MomentVerdict::Torn { line, reading }),
+                None => None,
+            },
+            _ => None,
+        }
+    }
+
+    #[inline(always)]
+    fn take(&mut self, number: usize, logged: LogLine) {
+        match logged {
+            LogLine::Passed => self.judge.passed(),
+            LogLine::Started => self.start(),
+            LogLine::Low(address, byte) => self.low(number, address, byte),
+            LogLine::Fetched(address, word) => self.fetched(number, address, word),
+            LogLine::Wrote(address, byte) => self.judge.wrote(address, byte),
+            LogLine::Halted => self.halt(),
+            LogLine::Reset => self.reset(),
+        }
+    }
+
+    fn at_end(&self) -> MomentVerdict {
+        let (runs, halted) = (self.runs, self.halted);
+        if self.some_judged {
+            MomentVerdict::Whole { runs, halted }
+        } else {
+            MomentVerdict::NoRun { runs, halted }
+        }
+    }
+}

@@ -1,0 +1,46 @@
+//! The engine `torn --moments`.
+use crate::judging::judge_text;
+use crate::moment_lines::MomentLines;
+use dvg_io::{StreamFailed, ToolFault, Watched, write_lines};
+use dvg_print::{Line, MomentVerdict};
+use std::io::{Read, Write};
+
+// Writes `verdict`, what is said of a log, to `writer`.
+fn write_verdict<W: Write>(
+    writer: &mut Watched<W>,
+    verdict: MomentVerdict,
+) -> Result<(), StreamFailed> {
+    let mut line = Line::new();
+    line.become_moment_verdict(verdict);
+    write_lines(writer, line.as_bytes())
+}
+
+/// Reads the text of a log from `reader`, of any length and of any system, up to the first line
+/// that decides or is at fault, and writes what is said of it to `writer` (the text is this
+/// project's own choice):
+///
+/// - `torn at line N: ..`, where a run of no moment comes to its HALT: after line N, which is shown,
+///   no moment of it was left. No byte that a run reads may change between its moment and its
+///   reading;
+/// - `line N reads what was not written: ..`, where a line reads another byte than the log told of
+///   last;
+/// - `whole: R runs, H halted`, where no line does either: R runs began, and H of them came to
+///   their HALT;
+/// - `no run to judge:` and the same, where none of these had fetched something.
+///
+/// `halted` tells no word, so the log before it is judged. `reset` may be one of the whole system:
+/// after it nothing is known of memory. It takes no memory, and its faults are those of `torn`.
+#[inline(never)]
+pub fn torn_moments<R: Read, W: Write>(
+    reader: &mut Watched<R>,
+    writer: &mut Watched<W>,
+) -> Result<MomentVerdict, ToolFault> {
+    let verdict = match judge_text(MomentLines::new(), reader) {
+        Ok(verdict) => verdict,
+        Err(fault) => return Err(fault),
+    };
+    if write_verdict(writer, verdict).is_err() {
+        return Err(ToolFault::Writer);
+    }
+    Ok(verdict)
+}
