@@ -1,5 +1,6 @@
 -- How long runs over a memory take that has a frame.
-use Rattle.std.proofs.Common.{◌≡◌, ◌<◌, ◌≤◌, ◌+◌, ◌-◌, ◌++◌, ◌∷◌, [], ◌∙◌, ℕ, suc, Bool, true, false, ◌&&◌, List, Option, Some, None}
+use Rattle.std.proofs.Common.{◌≡◌, ◌<◌, ◌≤◌, ◌+◌, ◌-◌, ◌++◌, ◌∷◌, [], ◌∙◌, ℕ, suc, List, Option, Some, None}
+use Rattle.std.proofs.Common.{Bool, true, false, ◌&&◌}
 use Rattle.std.proofs.Common.{ap, arith, inl, inr, length, length-append, nat_le, nat_lt, refl, slice_index, subst, sym}
 use Rattle.std.specs.Prelude.{fold, if◌then◌else◌}
 use Rattle.std.proofs.lemmas.Bool.{le-leb, leb-true}
@@ -39,7 +40,8 @@ use Rattle.dvg_lay.specs.Timing.{with_ran}
 
 -- a vector leaves the global scale as it was
 scale_stays : (spent : Spent) (before : Beam) (code : Instr)
-    → with_one spent (moved before code).scale (local_scale code) ≡ with_one spent before.scale (local_scale code)
+    → with_one spent (moved before code).scale (local_scale code)
+    ≡ with_one spent before.scale (local_scale code)
 scale_stays spent before (Vctr scale dx dy z) = refl
 scale_stays spent before (Labs x y scale) = refl
 scale_stays spent before Halt = refl
@@ -49,7 +51,8 @@ scale_stays spent before (Jmpl address) = refl
 scale_stays spent before (Svec scale dx dy z) = refl
 
 -- what is added up of the recorded instructions is what they take
-trace_spent : (memory : ℕ → Option ℕ) (visits : List Visit) → fold with_ran nothing_spent (trace memory visits) ≡ spent_by visits
+trace_spent : (memory : ℕ → Option ℕ) (visits : List Visit)
+    → fold with_ran nothing_spent (trace memory visits) ≡ spent_by visits
 trace_spent memory [] = refl
 trace_spent memory (visit ∷ older) =
     let before = beam_after nothing.first older in
@@ -62,9 +65,11 @@ trace_length : (memory : ℕ → Option ℕ) (visits : List Visit) → length (t
 trace_length memory [] = refl
 trace_length memory (visit ∷ older) =
     let so_far = trace_length memory older in
-    length-append (trace memory older) (ran_of memory (beam_after nothing.first older) visit ∷ []) ∙ omega (arith, so_far)
+    length-append (trace memory older) (ran_of memory (beam_after nothing.first older) visit ∷ [])
+    ∙ omega (arith, so_far)
 
-runs_length : {memory : ℕ → Option ℕ} {words : ℕ} {visits : List Visit} {held : Option ℕ} → Runs memory words visits held → length visits ≤ words
+runs_length : {memory : ℕ → Option ℕ} {words : ℕ} {visits : List Visit} {held : Option ℕ}
+    → Runs memory words visits held → length visits ≤ words
 runs_length begins = omega arith
 runs_length (fetches r g m (first p)) = let so_far = runs_length r in omega (arith, so_far)
 runs_length (fetches r g m (one s)) = let so_far = runs_length r in omega (arith, so_far)
@@ -72,21 +77,26 @@ runs_length (fetches r g m (two s)) = let so_far = runs_length r in omega (arith
 
 -- a run over a memory is one over each memory that has its words
 grown_run : {small large : ℕ → Option ℕ} {words : ℕ} {visits : List Visit} {held : Option ℕ}
-    → ((a w : ℕ) → small a ≡ Some w → large a ≡ Some w) → Runs small words visits held → Runs large words visits held
+    → ((a w : ℕ) → small a ≡ Some w → large a ≡ Some w) → Runs small words visits held
+    → Runs large words visits held
 grown_run more begins = begins
 grown_run more (fetches r g m a) = fetches (grown_run more r) g (more _ _ m) a
 
 -- a memory that has a frame has the words of the least one
-module _ (memory : ℕ → Option ℕ) (half : Half) (F : List OpKind) (R : List ℕ) (has : HasFrame memory half F R) (a w : ℕ) where
-  in_half : base half ≤ a → a < base half + length (laid half F) → ◌≡◌ {A = Option ℕ} (Some (slice_index (laid half F) (a - base half))) (Some w) → memory a ≡ Some w
+module _ (memory : ℕ → Option ℕ) (half : Half) (F : List OpKind) (R : List ℕ) (has : HasFrame memory half F R)
+    (a w : ℕ) where
+  in_half : base half ≤ a → a < base half + length (laid half F)
+      → ◌≡◌ {A = Option ℕ} (Some (slice_index (laid half F) (a - base half))) (Some w) → memory a ≡ Some w
   in_half from below is =
       let back : base half + (a - base half) ≡ a = omega (arith, from) in
       let low : a - base half < length (laid half F) = omega (arith, from, below) in
       ap memory (sym back) ∙ has.laid (a - base half) low ∙ is
 
   by_place : (s t : Bool) → nat_le (base half) a ≡ s → nat_lt a (base half + length (laid half F)) ≡ t
-      → (if s && t then Some (slice_index (laid half F) (a - base half)) else rom_word R a) ≡ Some w → memory a ≡ Some w
-  by_place true true es et is = in_half (leb-true (base half) a es) (leb-true (suc a) (base half + length (laid half F)) et) is
+      → (if s && t then Some (slice_index (laid half F) (a - base half)) else rom_word R a) ≡ Some w
+      → memory a ≡ Some w
+  by_place true true es et is =
+      in_half (leb-true (base half) a es) (leb-true (suc a) (base half + length (laid half F)) et) is
   by_place true false es et is = has.shapes a w is
   by_place false t es et is = has.shapes a w is
 
@@ -94,7 +104,8 @@ module _ (memory : ℕ → Option ℕ) (half : Half) (F : List OpKind) (R : List
   least_in is =
       elim (eqb_tells a 0) [
         | inl t ↦ ap memory t.1 ∙ has.zero ∙ rw t.0 at is
-        | inr t ↦ by_place (nat_le (base half) a) (nat_lt a (base half + length (laid half F))) refl refl (rw t.0 at is)
+        | inr t ↦ by_place (nat_le (base half) a) (nat_lt a (base half + length (laid half F))) refl refl
+            (rw t.0 at is)
       ]
 
 -- a RAM beside a ROM has the frame that the RAM holds in half 0
@@ -108,14 +119,16 @@ rom_there ram R a w is =
     let past = behind_ram R in
     elim (leb_tells (suc a) 0x400) [ inl t ↦ absurd (omega (arith, t.1, from, past)) | inr t ↦ rw t.0 is ]
 
-ram_has : (ram R : List ℕ) (F : List OpKind) → length (laid H0 F) ≤ 511 → HoldsFrame ram H0 F → HasFrame (fetched ram R) H0 F R
+ram_has : (ram R : List ℕ) (F : List OpKind) → length (laid H0 F) ≤ 511 → HoldsFrame ram H0 F
+    → HasFrame (fetched ram R) H0 F R
 ram_has ram R F fits holds = record {
   zero = ram_word ram R 0 (omega arith) ∙ ap Some holds.zero;
   laid = λ k low. ram_word ram R (base H0 + k) (omega (arith, fits, low)) ∙ ap Some (holds.laid k low);
   shapes = rom_there ram R;
 }
 
-module _ (law : AnyMemory) (F : List OpKind) (R : List ℕ) (n : ℕ) (draft : IsDraft F) (rom : IsRom R) (closed : Closed F R) (bound : IsBound F R n) where
+module _ (law : AnyMemory) (F : List OpKind) (R : List ℕ) (n : ℕ) (draft : IsDraft F) (rom : IsRom R)
+    (closed : Closed F R) (bound : IsBound F R n) where
   fits : length (laid H0 F) ≤ 511
   fits = closed_fits H0 F R closed
 
@@ -130,12 +143,13 @@ module _ (law : AnyMemory) (F : List OpKind) (R : List ℕ) (n : ℕ) (draft : I
   there memory has = grown_run (least_in memory H0 F R has) least_run.runs
 
   -- each run that ends in HALT has its instructions
-  same_visits : (memory : ℕ → Option ℕ) (words : ℕ) (visits : List Visit) → HasFrame memory H0 F R → Runs memory words visits None
-      → fate visits ≡ Finished → least_run.visits ≡ visits
+  same_visits : (memory : ℕ → Option ℕ) (words : ℕ) (visits : List Visit) → HasFrame memory H0 F R
+      → Runs memory words visits None → fate visits ≡ Finished → least_run.visits ≡ visits
   same_visits memory words visits has runs finished = (same_end (there memory has) least_run.finished runs finished).1
 
-  module _ (one_end : OneEnd) (few : n ≤ 65536) (ram : List ℕ) (holds : HoldsFrame ram H0 F) (dump : DumpBytes) (ran : List Ran) (end : End)
-      (is : dump ≡ record { ram = ram; rom = R }) (told_run : TellsRun true (memory_of dump) ran end) where
+  module _ (one_end : OneEnd) (few : n ≤ 65536) (ram : List ℕ) (holds : HoldsFrame ram H0 F) (dump : DumpBytes)
+      (ran : List Ran) (end : End) (is : dump ≡ record { ram = ram; rom = R })
+      (told_run : TellsRun true (memory_of dump) ran end) where
     tells : TellsRun true (fetched ram R) ran end
     tells = subst (λ bytes. TellsRun true (memory_of bytes) ran end) is told_run
 
@@ -143,8 +157,8 @@ module _ (law : AnyMemory) (F : List OpKind) (R : List ℕ) (n : ℕ) (draft : I
     recorded =
         let has = ram_has ram R F fits holds in
         tells.2
-        ∙ ap (trace (fetched ram R)) (one_end.1 (fetched ram R) tells.0 least_run.visits end (Complete n (drawn_by least_run.visits)) tells.1
-        (halts (there (fetched ram R) has) few least_run.finished)).0
+        ∙ ap (trace (fetched ram R)) (one_end.1 (fetched ram R) tells.0 least_run.visits end
+        (Complete n (drawn_by least_run.visits)) tells.1 (halts (there (fetched ram R) has) few least_run.finished)).0
 
     pub few_ran : length ran ≤ 65536
     few_ran =
@@ -155,4 +169,5 @@ module _ (law : AnyMemory) (F : List OpKind) (R : List ℕ) (n : ℕ) (draft : I
     pub time_is : IsTimeOf F R (told (fold with_ran nothing_spent ran))
     time_is memory words visits has runs finished =
         ap (λ l. told (fold with_ran nothing_spent l)) recorded
-        ∙ ap told (trace_spent (fetched ram R) least_run.visits ∙ ap spent_by (same_visits memory words visits has runs finished))
+        ∙ ap told (trace_spent (fetched ram R) least_run.visits
+        ∙ ap spent_by (same_visits memory words visits has runs finished))

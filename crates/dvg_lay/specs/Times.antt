@@ -1,5 +1,6 @@
 -- How long the generator of the arcade emulator takes for a picture. Nothing is said of real hardware.
-use Rattle.std.specs.Prelude.{◌≡◌, ℕ, suc, ◌+◌, ◌*◌, ◌%◌, ◌/◌, List, [], ◌∷◌, ◌++◌, Option, Some, None, codes, decimal}
+use Rattle.std.specs.Prelude.{◌≡◌, ℕ, suc, ◌+◌, ◌*◌, ◌%◌, ◌/◌, List, [], ◌∷◌, ◌++◌}
+use Rattle.std.specs.Prelude.{Option, Some, None, codes, decimal}
 use Rattle.dvg_code.specs.declared.instr.Instr.{Instr}
 use Rattle.dvg_code.specs.declared.instr.Instr.TheVariants.{Vctr, Svec}
 use Rattle.dvg_mem.specs.declared.half.Half.TheVariants.{H0}
@@ -50,8 +51,8 @@ told spent = record {
   microseconds = (spent.parts + 94) / 189;
 }
 
--- this is the time of a frame's picture: each run that ends in HALT takes it, over each memory that has the frame in half
--- 0 and the words of the ROM
+-- this is the time of a frame's picture: each run that ends in HALT takes it, over each memory that has the frame in
+-- half 0 and the words of the ROM
 abbrev pub IsTimeOf : List OpKind → (R : List ℕ) → PictureTime → Type 0
 IsTimeOf F R time = (memory : ℕ → Option ℕ) (words : ℕ) (visits : List Visit) → HasFrame memory H0 F R
     → Runs memory words visits None → fate visits ≡ Finished → time ≡ told (spent_by visits)
