@@ -4,16 +4,15 @@
 #     ./dvg play --all <TRACE | awk -f time.awk
 #
 # A vector takes 2^(s+1) * 8 / 12.096 + 4 microseconds, where s is its own and the global scale
-# together, modulo 16, however short it is; one of 10 to 15, which moves nothing, counts as 0. Each
-# other instruction counts as 4. A line gives the vectors of each scale that comes up and their
-# time, and the last one all of it. Of several pictures it is the sum; `-v each=1` gives a last line
-# for each line `picture W N` instead.
+# together, modulo 16, however short it is; at 10 to 15, which moves nothing, it takes 4, as each
+# other instruction does. A line gives the vectors of each scale that comes up and their time, and
+# the last one all of it. Of several pictures it is the sum; `-v each=1` gives a last line for each
+# line `picture W N` instead. `dvg render --check` tells the last line of each frame of a sketch.
 
-function microseconds(scale) { return 2 ^ (scale + 1) * 8 / 12.096 + 4 }
+function microseconds(scale) { return (scale > 9 ? 0 : 2 ^ (scale + 1) * 8 / 12.096) + 4 }
 
 function vector(local, scale) {
     scale = (local + global) % 16
-    if (scale > 9) scale = 0
     vectors[scale]++
     all++
     sum += microseconds(scale)
@@ -76,7 +75,7 @@ END {
         print "time.awk: no run is told; is --all given?" | "cat 1>&2"
         exit 1
     }
-    for (scale = 0; scale <= 9; scale++)
+    for (scale = 0; scale <= 15; scale++)
         if (scale in vectors)
             printf "scale %d: %d vectors, %.0f microseconds\n", scale, vectors[scale],
                 vectors[scale] * microseconds(scale)

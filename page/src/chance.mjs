@@ -75,7 +75,7 @@ function actionTime(text) {
 
 /* How many the generator of the arcade emulator takes for a vector of a scale, and for all else. */
 function vectorTime(scale) {
-  return 2 ** ((scale > 9 ? 0 : scale) + 1) * 8 / 12.096 + 4;
+  return (scale > 9 ? 0 : 2 ** (scale + 1) * 8 / 12.096) + 4;
 }
 const OTHER_TIME = 4;
 

@@ -88,9 +88,9 @@ function withoutRom(said, lines) {
   return said.replace(/^(line|.* at line) ([0-9]+)/, (_, what, line) => `${what} ${line - lines}`);
 }
 
-/* What is said of good frames: of one what `dvg render --check` says, of more how many. */
+/* What is said of good frames: of one what `dvg check --bound` says, of more how many. */
 function goodText(said, frames) {
-  if (frames.length === 1) return said.replace(/^\w+: /, '');
+  if (frames.length === 1) return said.replace(/^\w+: |,.*/g, '');
   const most = Math.max(...said.match(/[0-9]+(?= words)/g).map(Number));
   return `ok ${frames.length} frames of at most ${most} words`;
 }

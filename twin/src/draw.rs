@@ -5,6 +5,7 @@ use crate::frames::{Frame, FrameFault, Op, Place, Rom, check};
 use crate::generator::{Generator, Stroke, Taken};
 use crate::sketch::{Sketch, SketchFrame, Source};
 use crate::svg::{Show, write_svgs};
+use crate::times::Time;
 use std::fmt;
 use std::io::{self, Write};
 
@@ -112,7 +113,11 @@ impl<'a> Sketch<'a> {
             }
             match check(&frame.ops, &self.rom) {
                 Ok(Frame { words, bound, .. }) => {
-                    writeln!(writer, "ok {words} words {bound} fetches")?;
+                    write!(writer, "ok {words} words {bound} fetches")?;
+                    if bound <= MOST_DRAWN {
+                        write!(writer, ", {}", self.run(frame).1)?;
+                    }
+                    writeln!(writer)?;
                 }
                 Err(fault) => {
                     good = false;
@@ -125,11 +130,13 @@ impl<'a> Sketch<'a> {
 
     /// Writes the pictures of the frames, which are good.
     pub fn write_svg(&self, show: Show, writer: &mut impl Write) -> io::Result<()> {
-        let pictures = self
-            .frames
-            .iter()
-            .map(|frame| picture(&words(&frame.ops, 0), &self.rom));
+        let pictures = self.frames.iter().map(|frame| self.run(frame).0);
         write_svgs(pictures, show, writer)
+    }
+
+    /// What a good frame draws, and the time of that.
+    fn run(&self, frame: &SketchFrame) -> (Vec<Stroke>, Time) {
+        run(&words(&frame.ops, 0), &self.rom)
     }
 
     /// Writes the bytes of each frame as it lies in a half.
@@ -224,9 +231,10 @@ fn write_words(words: &[u16], writer: &mut impl Write) -> io::Result<()> {
     writer.write_all(&bytes)
 }
 
-/// What a good frame of these words, which lies in half 0, draws over a ROM.
-fn picture(words: &[u16], rom: &Rom) -> Vec<Stroke> {
+/// What a good frame of these words, which lies in half 0, draws over a ROM, and the time of that.
+fn run(words: &[u16], rom: &Rom) -> (Vec<Stroke>, Time) {
     let mut generator = Generator::new();
+    let mut time = Time::default();
     generator.start();
     while let Some(address) = generator.wants() {
         let word = match address {
@@ -239,10 +247,11 @@ fn picture(words: &[u16], rom: &Rom) -> Vec<Stroke> {
             break;
         };
         let [low, high] = word.to_le_bytes();
+        time.take(word);
         generator.take_byte(Some(low));
         if let Taken::Done(strokes) = generator.take_byte(Some(high)) {
-            return strokes;
+            return (strokes, time);
         }
     }
-    Vec::new()
+    (Vec::new(), time)
 }

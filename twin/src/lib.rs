@@ -21,6 +21,7 @@ pub mod shows;
 pub mod sketch;
 pub mod svg;
 pub mod texts;
+pub mod times;
 pub mod torn;
 pub mod traces;
 pub mod world;
@@ -34,5 +35,6 @@ pub mod storm {
     pub mod recount;
     pub mod schedules;
     pub mod sketches;
+    pub mod spent;
     pub mod ways;
 }

@@ -3,12 +3,12 @@ use Rattle.std.proofs.Common.{◌≡◌, ◌<◌, ◌+◌, ◌++◌, ◌∷◌, 
 use Rattle.std.specs.List.{AllZip}
 use Rattle.std.proofs.lemmas.List.{append-nil, take_more}
 use Rattle.dvg_read.proofs.Zips.{zip_push}
-use Rattle.dvg_print.specs.declared.verdict.BoundedVerdict.{BoundedVerdict}
 use Rattle.dvg_named.specs.declared.meaning.NamedFrame.{NamedFrame}
+use Rattle.dvg_lay.specs.declared.verdicts.FrameVerdict.{FrameVerdict}
 use Rattle.dvg_lay.specs.Checks.{IsVerdictOn, said_line, said_lines}
 
 -- the lines of a frame more
-lines_push : (R : List ℕ) (frames : List NamedFrame) (verdicts : List BoundedVerdict) (frame : NamedFrame) (verdict : BoundedVerdict)
+lines_push : (R : List ℕ) (frames : List NamedFrame) (verdicts : List FrameVerdict) (frame : NamedFrame) (verdict : FrameVerdict)
     → AllZip (IsVerdictOn R) frames verdicts
     → said_lines (frames ++ frame ∷ []) (verdicts ++ verdict ∷ []) ≡ said_lines frames verdicts ++ said_line frame verdict
 lines_push R [] [] frame verdict are = append-nil (said_line frame verdict)
@@ -18,7 +18,7 @@ lines_push R (f ∷ frames) (v ∷ verdicts) frame verdict are =
     ap (λ l. said_line f v ++ l) (lines_push R frames verdicts frame verdict are.1)
     ∙ sym (append_assoc (said_line f v) (said_lines frames verdicts) (said_line frame verdict))
 
-module _ (R : List ℕ) (frames : List NamedFrame) (i : ℕ) (frame : NamedFrame) (old new : List BoundedVerdict) (verdict : BoundedVerdict)
+module _ (R : List ℕ) (frames : List NamedFrame) (i : ℕ) (frame : NamedFrame) (old new : List FrameVerdict) (verdict : FrameVerdict)
     (low : i < length frames) (is : frame ≡ get_or frames i frame) (pushed : new ≡ old ++ verdict ∷ [])
     (before : AllZip (IsVerdictOn R) (take i frames) old) where
   next : take (i + 1) frames ≡ take i frames ++ frame ∷ []

@@ -12,3 +12,4 @@ mod ChecksSaid
 mod EndsDrawn
 mod FramesDrawn
 mod RamLaid
+mod PictureTimes

@@ -1,7 +1,9 @@
 -- What is said of the frames of a sketch.
-use Rattle.std.specs.Prelude.{◌≡◌, ℕ, List, [], ◌∷◌, ◌++◌, Option, Some, None, map}
+use Rattle.std.specs.Prelude.{◌≡◌, ◌<◌, ◌≤◌, ◌-◌, ℕ, List, [], ◌∷◌, ◌++◌, Option, Some, None}
+use Rattle.std.specs.Prelude.{length, map, take}
 use Rattle.std.specs.Borrow.{Bor}
 use Rattle.std.specs.List.{AllZip}
+use Rattle.dvg_frame.specs.declared.op.OpKind.{OpKind}
 use Rattle.dvg_io.specs.Serving.{Answers, Meaning}
 use Rattle.dvg_print.specs.declared.verdict.BoundedVerdict.{BoundedVerdict}
 use Rattle.dvg_print.specs.declared.verdict.BoundedVerdict.TheVariants.{Good, Refused}
@@ -10,30 +12,53 @@ use Rattle.dvg_named.specs.declared.meaning.NamedFrame.{NamedFrame}
 use Rattle.dvg_named.specs.declared.meaning.RomName.{RomName}
 use Rattle.dvg_named.specs.ReadSketches.{IsSketchOf, lent_of}
 use Rattle.dvg_lay.specs.Sketches.{HasSketchFault}
+use Rattle.dvg_lay.specs.Times.{IsTimeOf, time_text}
+use Rattle.dvg_lay.specs.declared.time.PictureTime.{PictureTime}
+use Rattle.dvg_lay.specs.declared.verdicts.FrameVerdict.{FrameVerdict}
 use Rattle.dvg_lay.specs.declared.verdicts.Said.{Said}
 
 -- the verdict is that a frame is accepted
-abbrev pub IsGoodVerdict : BoundedVerdict → Type 0
-IsGoodVerdict (Good words bound) = Unit {0}
-IsGoodVerdict (Refused fault) = ⊥
+abbrev pub SaysGood : BoundedVerdict → Type 0
+SaysGood (Good words bound) = Unit {0}
+SaysGood (Refused fault) = ⊥
+
+-- what is said of a frame is that it is accepted
+abbrev pub IsGoodVerdict : FrameVerdict → Type 0
+IsGoodVerdict said = SaysGood said.verdict
 
 -- a name before what is said: a colon, which is 58, and a space, which is 32, come after it
 abbrev pub front : Option (Bor (List ℕ)) → List ℕ
 front None = []
 front (Some name) = name.now ++ 58 ∷ 32 ∷ []
 
--- the line of what is said of a frame
-abbrev pub said_line : NamedFrame → BoundedVerdict → List ℕ
-said_line frame verdict = front frame.name ++ bounded_line verdict
+-- a line without its LF
+abbrev pub unended : List ℕ → List ℕ
+unended line = take (length line - 1) line
 
--- the lines of frames and verdicts, in order
-abbrev pub said_lines : List NamedFrame → List BoundedVerdict → List ℕ
-said_lines (frame ∷ frames) (verdict ∷ verdicts) = said_line frame verdict ++ said_lines frames verdicts
+-- the line of a verdict, and before its LF, which is 10, the time
+abbrev pub timed_line : BoundedVerdict → Option PictureTime → List ℕ
+timed_line verdict None = bounded_line verdict
+timed_line verdict (Some time) = unended (bounded_line verdict) ++ time_text time ++ 10 ∷ []
+
+-- the line of what is said of a frame
+abbrev pub said_line : NamedFrame → FrameVerdict → List ℕ
+said_line frame said = front frame.name ++ timed_line said.verdict said.time
+
+-- the lines of what is said of frames, in order
+abbrev pub said_lines : List NamedFrame → List FrameVerdict → List ℕ
+said_lines (frame ∷ frames) (said ∷ more) = said_line frame said ++ said_lines frames more
 said_lines _ _ = []
 
--- this is the verdict on the frame over a ROM
-abbrev pub IsVerdictOn : (R : List ℕ) → NamedFrame → BoundedVerdict → Type 0
-IsVerdictOn R frame verdict = IsBoundedVerdict frame.ops.now R verdict
+-- the time of an accepted frame's picture is told where its run fetches at most 65,536 words, and no other one
+abbrev pub IsTimed : List OpKind → (R : List ℕ) → BoundedVerdict → Option PictureTime → Type 0
+IsTimed F R (Good words bound) (Some time) = (bound ≤ 65536) × IsTimeOf F R time
+IsTimed F R (Good words bound) None = 65536 < bound
+IsTimed F R (Refused fault) time = time ≡ None
+
+-- this is the verdict on the frame over a ROM, with its picture's time
+pub record IsVerdictOn (R : List ℕ) (frame : NamedFrame) (said : FrameVerdict) : Type 0 where
+  pub verdict : IsBoundedVerdict frame.ops.now R said.verdict
+  pub time : IsTimed frame.ops.now R said.verdict said.time
 
 -- these are the verdicts on all frames over a ROM, and their lines
 pub record ChecksFrames {A : Type 0} (R : List ℕ) (frames : List NamedFrame) (said : Said A) : Type 0 where

@@ -4,6 +4,8 @@ pub mod Refusals
 pub mod Forms
 pub mod Sketches
 pub mod Laws
+pub mod Times
+pub mod Timing
 pub mod Checks
 pub mod Drawings
 pub mod DrawnSketches

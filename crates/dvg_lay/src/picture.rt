@@ -1,9 +1,11 @@
-//! The picture of a frame.
+//! The picture of a frame, and how long the generator takes for it.
 ghost use Rattle.std.specs.Prelude.{◌≤◌, IfOk};
 ghost use Rattle.dvg_frame.specs.Faults.{Accepts};
 ghost use Rattle.dvg_frame.specs.Picture.{IsBound, IsPicture};
+ghost use Rattle.dvg_lay.specs.Times.{IsTimeOf};
 
 use crate::memory::laid_ram;
+use crate::time::{PictureTime, time_by};
 use dvg_code::OutOfMemory;
 use dvg_dump::laws::one_end;
 use dvg_dump::{Dump, Ending};
@@ -36,4 +38,26 @@ pub(crate) fn picture_of<A: Allocator + Copy>(
         Ending::Finished { strokes, .. } => Ok(strokes),
         Ending::Broke { .. } | Ending::Endless => unreachable!(),
     }
+}
+
+/// Returns how long the generator of the arcade emulator takes for the picture of `frame`, by the
+/// same run. Returns `OutOfMemory` where an allocation fails.
+pub(crate) fn time_of<A: Allocator + Copy>(
+    alloc: A,
+    rom: Rom<A>,
+    frame: &Checked,
+) -> Result<PictureTime, OutOfMemory>
+    requires accepts { Accepts frame.now.operations rom }
+    requires bound { IsBound frame.now.operations rom frame.now.bound }
+    requires few { frame.now.bound ≤ 65536 }
+    ensures { IfOk result (IsTimeOf frame.now.operations rom) }
+{
+    undisturbed();
+    one_end();
+    // A frame has a draft, and a ROM 2,048 or 4,096 bytes, as their types say.
+    let _ = frame.len_words();
+    let _ = rom.len_words();
+    let ram = laid_ram(alloc, frame, Half::H0)?;
+    let traced = Dump::of(alloc, ram, rom).run_traced()?;
+    Ok(time_by(traced.ran.as_slice()))
 }

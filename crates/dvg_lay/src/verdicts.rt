@@ -1,16 +1,20 @@
 //! What the check says of the frames of a sketch: the engine `check_sketch`.
 ghost use Rattle.std.specs.Prelude.{◌≡◌, ◌↔◌, ◌++◌, ℕ, List, All, IfErr, IfOk, IsTrue, OnOk};
 ghost use Rattle.dvg_frame.specs.Faults.{IsChecked};
-ghost use Rattle.dvg_print.specs.Verdicts.{IsBoundedVerdict};
 ghost use Rattle.dvg_io.specs.Faults.{ComesBeforeText};
 ghost use Rattle.dvg_io.specs.Serving.{AreFresh, Serves};
 ghost use Rattle.dvg_named.specs.ReadSketches.{AreInside, IsReadOf};
 ghost use Rattle.dvg_lay.specs.Refusals.{IsLent};
 ghost use Rattle.dvg_lay.specs.Sketches.{HasSketchFault};
-ghost use Rattle.dvg_lay.specs.Checks.{ChecksFrames, ChecksOut, ChecksSketch, IsGoodVerdict, said_line};
+ghost use Rattle.dvg_lay.specs.Checks.{ChecksFrames, ChecksOut, ChecksSketch};
+ghost use Rattle.dvg_lay.specs.Checks.{IsGoodVerdict, IsVerdictOn, said_line};
 
 use crate::engine::tool_fault;
+use crate::picture::time_of;
+use crate::text::put;
+use crate::time::{PictureTime, put_time};
 use dvg_code::OutOfMemory;
+use dvg_dump::MOST_WORDS;
 use dvg_frame::Checker;
 use dvg_io::{Engine, StreamFailed, ToolFault, Watched, serve, write_lines};
 use dvg_mem::Rom;
@@ -20,11 +24,20 @@ use dvg_read::MOST_TEXT_BYTES;
 use std::alloc::{AllocError, Allocator, Global};
 use std::io::{Read, Write};
 
-/// What the check says of the frames of a sketch.
+/// What is said of a frame.
+#[derive(Clone, Copy, Debug, PartialEq, Eq)]
+pub struct FrameVerdict {
+    /// What the check says of it.
+    pub verdict: BoundedVerdict,
+    /// How long its picture takes, if it may be drawn and its run fetches at most 65,536 words.
+    pub time: Option<PictureTime>,
+}
+
+/// What is said of the frames of a sketch.
 #[derive(Debug, Drop)]
 pub struct Said<A: Allocator = Global> {
     /// The verdict on each frame, in order.
-    pub verdicts: Vec<BoundedVerdict, A>,
+    pub verdicts: Vec<FrameVerdict, A>,
     /// A line for each frame.
     pub text: Vec<u8, A>,
 }
@@ -35,62 +48,89 @@ impl<A: Allocator> Said<A> {
         ensures { IsTrue result ↔ All IsGoodVerdict self.now.verdicts.items }
     {
         self.verdicts.iter().all(
-            |verdict|
-                ensures { IsTrue result ↔ IsGoodVerdict verdict.now }
-            { matches!(verdict, BoundedVerdict::Good { .. }) },
+            |said|
+                ensures { IsTrue result ↔ IsGoodVerdict said.now }
+            { matches!(said.verdict, BoundedVerdict::Good { .. }) },
         )
     }
 }
 
-// Returns what `checker` says of `frame` over `rom`.
-fn judge<A: Allocator>(checker: &mut Checker, rom: &Rom<A>, frame: &NamedFrame) -> BoundedVerdict
+// Returns the verdict of `checker` on `frame` over the ROM of `bytes`, and the picture's time.
+// Returns `OutOfMemory` where an allocation fails.
+fn judge<A: Allocator + Copy>(
+    alloc: A,
+    checker: &mut Checker,
+    bytes: &[u8],
+    frame: &NamedFrame,
+) -> Result<FrameVerdict, OutOfMemory>
     requires { IsLent frame.now }
-    ensures { IsBoundedVerdict frame.now.ops.now rom.now result }
+    ensures { IfOk result (IsVerdictOn bytes.now frame.now) }
 {
-    match checker.check(frame.ops, rom) {
-        Ok(checked) => BoundedVerdict::Good {
-            words: checked.len_words(),
-            bound: checked.bound(),
-        },
-        Err(fault) => BoundedVerdict::Refused(fault),
-    }
+    let Ok(rom) = Rom::new(alloc, bytes) else {
+        return Err(OutOfMemory);
+    };
+    let checked = match checker.check(frame.ops, &rom) {
+        Ok(checked) => checked,
+        Err(fault) => {
+            return Ok(FrameVerdict {
+                verdict: BoundedVerdict::Refused(fault),
+                time: None,
+            });
+        }
+    };
+    let (words, bound) = (checked.len_words(), checked.bound());
+    let time = if bound <= u64::from(MOST_WORDS) {
+        Some(time_of(alloc, rom, &checked)?)
+    } else {
+        None
+    };
+    Ok(FrameVerdict {
+        verdict: BoundedVerdict::Good { words, bound },
+        time,
+    })
 }
 
-// Appends the line of `frame` to `text`: its name, if it has one, and `verdict`. Returns
+// Appends the line of `frame` to `text`: its name, if it has one, and what is `said` of it. Returns
 // `AllocError` where an allocation fails.
 fn put_line<A: Allocator>(
     text: &mut Vec<u8, A>,
     frame: &NamedFrame,
-    verdict: BoundedVerdict,
+    said: FrameVerdict,
 ) -> Result<(), AllocError>
-    ensures { OnOk result (text.new.items ≡ text.old.items ++ said_line frame.now verdict) }
+    ensures { OnOk result (text.new.items ≡ text.old.items ++ said_line frame.now said) }
 {
     if let Some(name) = frame.name {
-        text.extend_from_slice(name)?;
-        text.extend_from_slice(b": ")?;
+        put(text, name)?;
+        put(text, b": ")?;
     }
     let mut line = Line::new();
-    line.become_bounded(verdict);
-    text.extend_from_slice(line.as_bytes())
+    line.become_bounded(said.verdict);
+    let Some(time) = said.time else {
+        return put(text, line.as_bytes());
+    };
+    let line = line.as_bytes();
+    put(text, &line[..line.len().saturating_sub(1)])?;
+    put_time(text, time)?;
+    put(text, b"\n")
 }
 
-// Returns what the check says of `frames` over `rom`. Returns `OutOfMemory` where an allocation
-// fails.
+// Returns what is said of `frames` over the ROM of `bytes`. Returns `OutOfMemory` where an
+// allocation fails.
 fn check_frames<A: Allocator + Copy>(
     alloc: A,
-    rom: &Rom<A>,
+    bytes: &[u8],
     frames: &[NamedFrame],
 ) -> Result<Said<A>, OutOfMemory>
     requires { All IsLent frames.now }
-    ensures { IfOk result (ChecksFrames rom.now frames.now) }
+    ensures { IfOk result (ChecksFrames bytes.now frames.now) }
 {
     let mut checker = Box::new(alloc, Checker::new())?;
     let mut verdicts = Vec::new(alloc);
     let mut text = Vec::new(alloc);
     for frame in frames {
-        let verdict = judge(&mut checker, rom, frame);
-        put_line(&mut text, frame, verdict)?;
-        verdicts.push(verdict)?;
+        let said = judge(alloc, &mut checker, bytes, frame)?;
+        put_line(&mut text, frame, said)?;
+        verdicts.push(said)?;
     }
     Ok(Said { verdicts, text })
 }
@@ -103,13 +143,10 @@ fn check_read<A: Allocator + Copy>(alloc: A, sketch: &Sketch<'_, A>) -> Result<S
         → ChecksOut text said) }
     ensures fault { IfErr result (λ fault. fault ≡ ToolFault.Memory) }
 {
-    let Ok(rom) = Rom::new(alloc, sketch.rom.as_slice()) else {
-        return Err(ToolFault::Memory);
-    };
     let Ok(frames) = sketch.frames(alloc) else {
         return Err(ToolFault::Memory);
     };
-    match check_frames(alloc, &rom, frames.as_slice()) {
+    match check_frames(alloc, sketch.rom.as_slice(), frames.as_slice()) {
         Ok(said) => Ok(said),
         Err(_) => Err(ToolFault::Memory),
     }
@@ -149,8 +186,10 @@ impl<A: Allocator + Copy> Engine<A> for CheckEngine {
 
 /// Reads a sketch as text from `reader`, as `draw_sketch` does, and writes a line to `writer` for
 /// each of its frames: its name and a colon, if it has a name, and what the check says of it over
-/// the ROM, as `check --bound` writes that (the format is this project's own choice). Returns what
-/// was said.
+/// the ROM, as `check --bound` writes that. Of a frame that may be drawn, and whose run fetches at
+/// most 65,536 words, the line goes on with how many vectors and other instructions the run has,
+/// and how many microseconds the generator of the arcade emulator takes for them (the format is
+/// this project's own choice). Returns what was said.
 ///
 /// - A fault of the text: that of the first line at fault. `TooLong`, the text has more than
 ///   1,048,576 bytes, of which no more than 1,048,577 are taken, comes before all others, and

@@ -10,6 +10,7 @@ use crate::sketch::{Sketch, read_sketch};
 use crate::storm::drafts::Op;
 use crate::storm::literal::{Denoted, Frame, denoted, has_fault};
 use crate::storm::sketches::Made;
+use crate::storm::spent::time;
 use crate::svg::Show;
 use crate::texts::read_draft;
 use crate::traces::read_trace;
@@ -22,6 +23,9 @@ const ROM_END: usize = 0xC00;
 
 /// The most fetches of bytes of a frame that is played.
 const MOST_FETCHES: usize = 60_000;
+
+/// The most words that the run of a frame fetches whose time is told.
+const MOST_TIMED: u64 = 65_536;
 
 /// The first words of the two halves.
 const BASES: [usize; 2] = [0x001, 0x201];
@@ -163,7 +167,15 @@ fn judge_sketch(sketch: &Sketch, denoted: &Denoted, counts: &mut Counts, wrong: 
             lines += &format!("{name}: ");
         }
         lines += &match check {
-            Ok((words, bound)) => format!("ok {words} words {bound} fetches\n"),
+            Ok((words, bound)) => {
+                let ops: Vec<Op> = frame.ops.iter().map(|row| row.op).collect();
+                let time = if *bound <= MOST_TIMED {
+                    time(&ops, &sketch.rom)
+                } else {
+                    String::new()
+                };
+                format!("ok {words} words {bound} fetches{time}\n")
+            }
             Err(fault) => format!("{fault}\n"),
         };
     }

@@ -281,8 +281,12 @@ Standard output: one SVG, in which the frames are shown in turn, and then from t
 first one again. At 100 percent a screen unit is a pixel.
 
 With `--check` it is a line for each frame instead, as `dvg check --bound` writes
-it of a draft, after the frame's name and a colon, if it has one. A size and a rate
-then say nothing. The status is 1 where a frame may not be drawn.
+it of a draft, after the frame's name and a colon, if it has one. Where the run of
+the frame fetches at most 65,536 words, the line goes on with its vectors, its other
+instructions, and how many microseconds the arcade emulator counts for all of them:
+2^(s+1) * 8 / 12.096 + 4 for a vector of an effective scale s of 0 to 9, and 4 for
+each other instruction and vector. Nothing is said of real hardware. A size and a
+rate then say nothing. The status is 1 where a frame may not be drawn.
 
 Without `--check` nothing is written of a sketch with such a frame: standard error
 tells the line at fault, or the word of the ROM and the name before it, with the
@@ -293,7 +297,7 @@ Faults of the text: those that `dvg help lay` tells.
 
 Example:
   $ printf 'labs 512 400 0\\nvctr 9 -100 100 7\\nhalt\\n' | dvg render --check
-  ok 5 words 6 fetches
+  ok 5 words 6 fetches, 1 vectors, 3 other instructions, 693 microseconds in the emulator
   $ printf 'labs 512 400 0\\nvctr 9 -100 100 7\\nhalt\\n' | dvg render | grep path
   <path d=\"M262144 204800l-51200 51200\" opacity=\".60\"/>";
 

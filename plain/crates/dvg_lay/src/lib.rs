@@ -1,6 +1,7 @@
 //! What is made of a sketch. Its frames are laid out: as their bytes in a half of the vector RAM, or
 //! as tables for an assembler; so are the bytes of its ROM, and the names of that. Or its frames are
-//! drawn, as SVG. Or the check tells of each (all formats are this project's own choice).
+//! drawn, as SVG. Or the check tells of each, and its picture's time (all formats are this
+//! project's own choice).
 //!
 //! Each frame is checked first. A refused one is named by its line of the sketch, or by a word of
 //! the ROM. What is laid out is made in memory, so that it can be written whole. A frame is drawn by
@@ -23,6 +24,7 @@ mod refusal;
 mod said;
 mod table;
 mod text;
+mod time;
 mod verdicts;
 
 pub use drawing::draw_sketch;
@@ -31,4 +33,5 @@ pub use engine::lay_sketch;
 pub use form::{Form, Laid};
 pub use laying::lay_tables;
 pub use refusal::{Blamed, Reason, Refusal, Unlaid};
-pub use verdicts::{Said, check_sketch};
+pub use time::PictureTime;
+pub use verdicts::{FrameVerdict, Said, check_sketch};

@@ -1,7 +1,8 @@
-//! The picture of a frame.
+//! The picture of a frame, and how long the generator takes for it.
 use std::prelude::*;
 
 use crate::memory::laid_ram;
+use crate::time::{PictureTime, time_by};
 use dvg_code::OutOfMemory;
 use dvg_dump::{Dump, Ending};
 use dvg_frame::Checked;
@@ -24,4 +25,19 @@ pub(crate) fn picture_of<A: Allocator + Copy>(
         Ending::Finished { strokes, .. } => Ok(strokes),
         Ending::Broke { .. } | Ending::Endless => unreachable!(),
     }
+}
+
+/// Returns how long the generator of the arcade emulator takes for the picture of `frame`, by the
+/// same run. Returns `OutOfMemory` where an allocation fails.
+pub(crate) fn time_of<A: Allocator + Copy>(
+    alloc: A,
+    rom: Rom<A>,
+    frame: &Checked,
+) -> Result<PictureTime, OutOfMemory> {
+    // A frame has a draft, and a ROM 2,048 or 4,096 bytes, as their types say.
+    let _ = frame.len_words();
+    let _ = rom.len_words();
+    let ram = laid_ram(alloc, frame, Half::H0)?;
+    let traced = Dump::of(alloc, ram, rom).run_traced()?;
+    Ok(time_by(traced.ran.as_slice()))
 }

@@ -11,9 +11,9 @@ loop-frame-preserved g c =
     let i = c.loop-frame.frame-index in
     let frame = c.frame-item.result in
     record {
-      verdicts = verdicts_more c.args.rom.now frames i frame c.loop-frame.verdicts.items c.push.new.self.items c.judge-verdict.result
-          c.loop-frame-test.true c.frame-item.is c.in_ok-push.ensures.items c.loop-frame.invariant.verdicts c.judge-verdict.ensures;
-      text = lines_more c.args.rom.now frames i frame c.loop-frame.verdicts.items c.push.new.self.items c.judge-verdict.result
+      verdicts = verdicts_more c.args.bytes.now frames i frame c.loop-frame.verdicts.items c.push.new.self.items c.in_ok-said.said
+          c.loop-frame-test.true c.frame-item.is c.in_ok-push.ensures.items c.loop-frame.invariant.verdicts c.in_ok-said.ensures;
+      text = lines_more c.args.bytes.now frames i frame c.loop-frame.verdicts.items c.push.new.self.items c.in_ok-said.said
           c.loop-frame-test.true c.frame-item.is c.in_ok-push.ensures.items c.loop-frame.invariant.verdicts c.loop-frame.text.items
           c.put_line.new.text.items c.in_ok-put_line.ensures c.loop-frame.invariant.text;
     }
@@ -23,6 +23,6 @@ returns g c =
     let all : length c.args.frames.now ≤ c.loop-frame.frame-index = omega arith in
     let whole = take_all c.loop-frame.frame-index c.args.frames.now all in
     record {
-      verdicts = subst (λ frames. AllZip (IsVerdictOn c.args.rom.now) frames c.loop-frame.verdicts.items) whole c.loop-frame.invariant.verdicts;
+      verdicts = subst (λ frames. AllZip (IsVerdictOn c.args.bytes.now) frames c.loop-frame.verdicts.items) whole c.loop-frame.invariant.verdicts;
       text = c.loop-frame.invariant.text ∙ ap (λ frames. said_lines frames c.loop-frame.verdicts.items) whole;
     }

@@ -5,6 +5,6 @@ use Rattle.dvg_lay.proofs.verdicts.check_frames.Given as goal
 
 abbrev pub invariant-loop-frame : goal.invariant-loop-frame
 invariant-loop-frame g l = record {
-  verdicts : AllZip (IsVerdictOn l.rom) (take l.frame-index l.frames) l.verdicts.items;
+  verdicts : AllZip (IsVerdictOn l.bytes) (take l.frame-index l.frames) l.verdicts.items;
   text : l.text.items ≡ said_lines (take l.frame-index l.frames) l.verdicts.items;
 }

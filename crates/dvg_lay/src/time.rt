@@ -1,0 +1,128 @@
+//! How long the generator of the arcade emulator takes for a picture.
+ghost use Rattle.std.specs.Prelude.{◌≡◌, ◌+◌, ◌*◌, ◌<◌, ◌≤◌, ◌++◌, IfSome, OnOk, fold, length};
+ghost use Rattle.dvg_lay.specs.Times.{local_scale, nothing_spent, time_text, told, vector_parts};
+ghost use Rattle.dvg_lay.specs.Timing.{with_ran};
+
+use crate::text::{put, put_decimal};
+use dvg_code::{Code, Instr};
+use dvg_dump::Ran;
+use std::alloc::{AllocError, Allocator};
+
+/// How long the generator of the arcade emulator takes for a picture, by its rule: a vector takes
+/// 2^(s+1) * 8 / 12.096 + 4 microseconds, where s is its effective scale, and 4 at a scale of 10 to
+/// 15, which moves nothing; each other instruction takes 4. Nothing is said of real hardware.
+#[derive(Clone, Copy, Debug, PartialEq, Eq)]
+pub struct PictureTime {
+    /// The number of vectors, short ones and blank ones included.
+    pub vectors: u32,
+    /// The number of other instructions, HALT and the jump in word zero included.
+    pub others: u32,
+    /// The microseconds of all of them together, rounded to the nearest.
+    pub microseconds: u32,
+}
+
+// What instructions take. `parts` is in 189ths of a microsecond: in these each time of the rule is
+// a whole number.
+#[derive(Clone, Copy)]
+struct Spent {
+    vectors: u32,
+    others: u32,
+    parts: u64,
+}
+
+// How long an instruction takes that is no vector, in 189ths of a microsecond: 4 microseconds.
+const OTHER_PARTS: u64 = 756;
+
+// Returns the local scale of `code`, or `None` where it is no vector.
+fn local_scale(code: &Code) -> Option<u8>
+    ensures scale { result ≡ local_scale code.now }
+    ensures small { IfSome result (λ scale. scale ≤ 9) }
+{
+    match code.instr() {
+        Instr::Vctr { scale, .. } | Instr::Svec { scale, .. } => Some(scale),
+        Instr::Labs { .. } | Instr::Halt | Instr::Jsrl(_) | Instr::Rtsl | Instr::Jmpl(_) => None,
+    }
+}
+
+// Returns how long a vector takes whose global and local scale are `scales` together, in 189ths of
+// a microsecond.
+fn vector_parts(scales: u8) -> u64
+    ensures exact { result ≡ vector_parts scales }
+    ensures small { result ≤ 128756 }
+{
+    let effective = scales % 16;
+    if effective <= 9 {
+        250 * (1 << effective) + OTHER_PARTS
+    } else {
+        OTHER_PARTS
+    }
+}
+
+impl Spent {
+    // Adds the instruction `ran`.
+    fn add(&mut self, ran: &Ran)
+        requires vectors { self.old.vectors < 65536 }
+        requires others { self.old.others < 65536 }
+        requires parts { self.old.parts ≤ 128756 * 65536 }
+        ensures added { self.new ≡ with_ran self.old ran.now }
+        ensures vectors { self.new.vectors ≤ self.old.vectors + 1 }
+        ensures others { self.new.others ≤ self.old.others + 1 }
+        ensures parts { self.new.parts ≤ self.old.parts + 128756 }
+    {
+        match local_scale(&ran.code) {
+            Some(scale) => {
+                self.vectors += 1;
+                self.parts += vector_parts(ran.beam.scale + scale);
+            }
+            None => {
+                self.others += 1;
+                self.parts += OTHER_PARTS;
+            }
+        }
+    }
+
+    // Returns what is told of it. The half of a microsecond is no whole number of parts.
+    fn told(self) -> PictureTime
+        requires { self.parts ≤ 128756 * 65536 }
+        ensures { result ≡ told self }
+    {
+        PictureTime {
+            vectors: self.vectors,
+            others: self.others,
+            microseconds: ((self.parts + 94) / 189) as u32,
+        }
+    }
+}
+
+/// Returns how long the instructions `ran`, at most 65,536, take together.
+pub(crate) fn time_by(ran: &[Ran]) -> PictureTime
+    requires { length ran.now ≤ 65536 }
+    ensures { result ≡ told (fold with_ran nothing_spent ran.now) }
+{
+    let mut spent = Spent {
+        vectors: 0,
+        others: 0,
+        parts: 0,
+    };
+    for one in ran {
+        spent.add(one);
+    }
+    spent.told()
+}
+
+/// Appends `time` to `text`, after a comma and a space. Returns `AllocError` where an allocation
+/// fails.
+pub(crate) fn put_time<A: Allocator>(
+    text: &mut Vec<u8, A>,
+    time: PictureTime,
+) -> Result<(), AllocError>
+    ensures { OnOk result (text.new.items ≡ text.old.items ++ time_text time) }
+{
+    put(text, b", ")?;
+    put_decimal(text, time.vectors as usize)?;
+    put(text, b" vectors, ")?;
+    put_decimal(text, time.others as usize)?;
+    put(text, b" other instructions, ")?;
+    put_decimal(text, time.microseconds as usize)?;
+    put(text, b" microseconds in the emulator")
+}
