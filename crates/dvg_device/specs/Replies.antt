@@ -1,5 +1,5 @@
 -- Replies, and their numbers of 64 bits.
-use Rattle.std.specs.Prelude.{ℕ, ◌+◌, ◌*◌, ◌%◌, ◌^◌, Bool, true, false, List, Option, Some, None, is_some}
+use Rattle.std.specs.Prelude.{ℕ, ◌+◌, ◌*◌, ◌^◌, Bool, true, false, List, Option, Some, None}
 use Rattle.dvg_gen.specs.declared.stroke.Stroke.{Stroke}
 use Rattle.dvg_gen.specs.Numbers.{fault_number}
 use Rattle.dvg_driver.specs.declared.action.Action.{Action}
@@ -17,7 +17,6 @@ use Rattle.dvg_device.specs.declared.reply.Reply.TheVariants.{Came, Pushed, NoOp
 use Rattle.dvg_device.specs.declared.reply.Reply.TheVariants.{WrongSize, Closed, Wants, Count, Point, Intensity}
 use Rattle.dvg_device.specs.declared.reply.Reply.TheVariants.{Judged, Moves, Nothing, Holds, ReturnsTo}
 use Rattle.dvg_device.specs.declared.reply.Reply.TheVariants.{Unknown, NoMemory}
-use Rattle.dvg_device.specs.declared.reply.Holding.{Holding}
 use Rattle.dvg_device.specs.declared.reply.RunState.{RunState}
 use Rattle.dvg_device.specs.declared.reply.RunState.TheVariants as runs
 
@@ -75,17 +74,6 @@ abbrev pub bit : Bool → ℕ
 bit true = 1
 bit false = 0
 
--- the first word, or 0 where there is none
-abbrev pub first_or_none : Option ℕ → ℕ
-first_or_none None = 0
-first_or_none (Some word) = word
-
--- what a generator holds besides that word, in bits: four of the scale, whether a low byte waits, whether there is a
--- first word, and above eight bits how many return addresses there are
-abbrev pub held_bits : Holding → ℕ
-held_bits holding = holding.scale % 16 + 0x10 * bit holding.low + 0x20 * bit (is_some holding.first)
-    + 0x100 * (holding.returns % 8)
-
 -- the number of a reply
 abbrev pub number_of : Reply → ℕ
 number_of (Came entry) = came entry
@@ -105,7 +93,7 @@ number_of (Judged run false) = judged run 0
 number_of (Judged run true) = judged run 1
 number_of (Moves address z placed) = packed 31 address (z + 0x100 * bit placed)
 number_of Nothing = packed 32 0 0
-number_of (Holds holding) = packed 33 (first_or_none holding.first) (held_bits holding)
+number_of (Holds first bits) = packed 33 first bits
 number_of (ReturnsTo address) = packed 34 address 0
 number_of Unknown = packed 254 0 0
 number_of NoMemory = packed 255 0 0

@@ -2,11 +2,11 @@
 ghost use Rattle.std.specs.Prelude.{◌≡◌, ◌⊎◌, slice_get};
 ghost use Rattle.dvg_gen.specs.Told.{wants};
 ghost use Rattle.dvg_device.specs.Generators.{Fetches, GeneratorAnswers, LacksRoom, OfHistories};
-ghost use Rattle.dvg_device.specs.Generators.{StaysStill, holding, told_end, told_move};
+ghost use Rattle.dvg_device.specs.Generators.{StaysStill, Tells, told_end, told_held, told_move};
 ghost use Rattle.dvg_device.specs.Generators.{told_return, wanting};
 
-use crate::reply::{Holding, Reply};
-use crate::request::Request;
+use crate::reply::{Reply, bit};
+use crate::request::{Question, Request};
 use dvg_gen::{Generator, Move, Stroke};
 use dvg_log::Entry;
 use std::alloc::Global;
@@ -33,12 +33,21 @@ pub(crate) fn ask_generator(
         }
         Request::Wants => wanted(generator),
         Request::Fetch(byte) => fetch(generator, byte, picture),
-        Request::Move(byte) => move_of(generator.move_by(byte)),
-        Request::MoveTo(byte) => end_of(generator.move_by(byte), generator),
-        Request::Beam => place_of(generator),
-        Request::Holds => held(generator),
-        Request::ReturnTo(i) => return_address(generator, i),
+        Request::Ask(question) => tell(generator, question),
         _ => Reply::Unknown,
+    }
+}
+
+// Returns the reply of `generator` to `question`.
+pub(crate) fn tell(generator: &Generator<Global>, question: Question) -> Reply
+    ensures { Tells question generator.now result }
+{
+    match question {
+        Question::Move(byte) => move_of(generator.move_by(byte)),
+        Question::MoveTo(byte) => end_of(generator.move_by(byte), generator),
+        Question::Beam => place_of(generator),
+        Question::Holds => held(generator),
+        Question::ReturnTo(i) => return_address(generator, i),
     }
 }
 
@@ -82,14 +91,13 @@ fn place_of(generator: &Generator<Global>) -> Reply
 
 // Returns the reply that says what else `generator` holds.
 fn held(generator: &Generator<Global>) -> Reply
-    ensures { result ≡ Reply.Holds (holding generator.now) }
+    ensures { result ≡ told_held generator.now }
 {
-    Reply::Holds(Holding {
-        first: generator.first_word(),
-        scale: generator.beam().scale,
-        low: generator.low_byte().is_some(),
-        returns: generator.return_addresses().len() as u8,
-    })
+    let first = generator.first_word();
+    let scale = u16::from(generator.beam().scale);
+    let waits = 0x10 * bit(generator.low_byte().is_some()) + 0x20 * bit(first.is_some());
+    let returns = generator.return_addresses().len() as u16;
+    Reply::Holds(first.unwrap_or(0), scale + waits + 0x100 * returns)
 }
 
 // Returns the reply that says what return address `i` of `generator` is, from 0, the newest one.

@@ -1,8 +1,8 @@
 //! What a device replies.
 ghost use Rattle.std.specs.Prelude.{◌≡◌, ◌≤◌, ◌+◌, ◌*◌};
 ghost use Rattle.dvg_log.specs.Entries.{shown_of};
-ghost use Rattle.dvg_device.specs.Replies.{acted, answered_by, bit, came, held_bits, judged};
-ghost use Rattle.dvg_device.specs.Replies.{number_of, packed, picture_by, placed, refusal};
+ghost use Rattle.dvg_device.specs.Replies.{acted, answered_by, bit, came, judged, number_of};
+ghost use Rattle.dvg_device.specs.Replies.{packed, picture_by, placed, refusal};
 
 use dvg_driver::Action;
 use dvg_frame::{FrameFault, Place};
@@ -22,19 +22,6 @@ pub enum RunState {
     Whole,
     /// The line is the HALT of a run of no moment.
     Torn,
-}
-
-/// What a generator holds besides its place and its beam's.
-#[derive(Clone, Copy, Debug, PartialEq, Eq)]
-pub struct Holding {
-    /// The first word of the instruction whose second word comes next, if there is one.
-    pub first: Option<u16>,
-    /// The global scale, 0 to 15.
-    pub scale: u8,
-    /// Whether a low byte waits for its high byte.
-    pub low: bool,
-    /// How many return addresses are saved, 0 to 4.
-    pub returns: u8,
 }
 
 /// What a device replies. As a number, its lowest byte is the kind, which stands first here, an
@@ -97,10 +84,11 @@ pub enum Reply {
     Moves(u16, u8, bool),
     /// 32: there is no move, or no such return address.
     Nothing,
-    /// 33: what a generator holds. The address is the first word, or 0. The value has the scale in
-    /// bits 0 to 3, whether a low byte waits in bit 4, whether there is a first word in bit 5, and
-    /// from bit 8 on how many return addresses there are.
-    Holds(Holding),
+    /// 33: what a generator holds: the first word of the instruction whose second word comes next,
+    /// or 0, and bits: the global scale in bits 0 to 3; in bit 4 whether a low byte waits, and in
+    /// bit 5 whether there is such a first word; and from bit 8 on how many return addresses there
+    /// are, 0 to 4. The word stands in the place of the address, and the bits are the value.
+    Holds(u16, u16),
     /// 34: a return address.
     ReturnsTo(u16),
     /// 254: there is no such request, or what is open has no such request. Nothing has changed.
@@ -133,7 +121,7 @@ impl Reply {
             Reply::Judged(run, true) => judged(run, 1),
             Reply::Moves(address, z, placed) => packed(31, address, move_bits(z, placed)),
             Reply::Nothing => packed(32, 0, 0),
-            Reply::Holds(holding) => packed(33, holding.first.unwrap_or(0), held_bits(holding)),
+            Reply::Holds(first, bits) => packed(33, first, bits),
             Reply::ReturnsTo(address) => packed(34, address, 0),
             Reply::Unknown => packed(254, 0, 0),
             Reply::NoMemory => packed(255, 0, 0),
@@ -142,7 +130,7 @@ impl Reply {
 }
 
 // Returns 1 where `flag` is true, else 0.
-fn bit(flag: bool) -> u16
+pub(crate) fn bit(flag: bool) -> u16
     ensures value { result ≡ bit flag }
     ensures small { result ≤ 1 }
 {
@@ -154,22 +142,6 @@ fn move_bits(z: u8, placed: bool) -> u16
     ensures { result ≡ z + 0x100 * bit placed }
 {
     u16::from(z) + 0x100 * bit(placed)
-}
-
-// Returns what `holding` has besides the first word, in bits.
-fn held_bits(holding: Holding) -> u16
-    ensures { result ≡ held_bits holding }
-{
-    let Holding {
-        first,
-        scale,
-        low,
-        returns,
-    } = holding;
-    u16::from(scale % 16)
-        + 0x10 * bit(low)
-        + 0x20 * bit(first.is_some())
-        + 0x100 * u16::from(returns % 8)
 }
 
 // Returns the number of the reply of a judge, by which the newest run stands as `run` says, with

@@ -32,5 +32,5 @@ mod request;
 pub use device::Device;
 pub use judging::JudgeLine;
 pub use operation::Operation;
-pub use reply::{Holding, Reply, RunState};
-pub use request::Request;
+pub use reply::{Reply, RunState};
+pub use request::{Question, Request};

@@ -1,8 +1,8 @@
 //! A generator alone.
 use std::prelude::*;
 
-use crate::reply::{Holding, Reply};
-use crate::request::Request;
+use crate::reply::{Reply, bit};
+use crate::request::{Question, Request};
 use dvg_gen::{Generator, Move, Stroke};
 use dvg_log::Entry;
 use std::alloc::Global;
@@ -26,12 +26,19 @@ pub(crate) fn ask_generator(
         }
         Request::Wants => wanted(generator),
         Request::Fetch(byte) => fetch(generator, byte, picture),
-        Request::Move(byte) => move_of(generator.move_by(byte)),
-        Request::MoveTo(byte) => end_of(generator.move_by(byte), generator),
-        Request::Beam => place_of(generator),
-        Request::Holds => held(generator),
-        Request::ReturnTo(i) => return_address(generator, i),
+        Request::Ask(question) => tell(generator, question),
         _ => Reply::Unknown,
+    }
+}
+
+// Returns the reply of `generator` to `question`.
+pub(crate) fn tell(generator: &Generator<Global>, question: Question) -> Reply {
+    match question {
+        Question::Move(byte) => move_of(generator.move_by(byte)),
+        Question::MoveTo(byte) => end_of(generator.move_by(byte), generator),
+        Question::Beam => place_of(generator),
+        Question::Holds => held(generator),
+        Question::ReturnTo(i) => return_address(generator, i),
     }
 }
 
@@ -67,12 +74,11 @@ fn place_of(generator: &Generator<Global>) -> Reply {
 
 // Returns the reply that says what else `generator` holds.
 fn held(generator: &Generator<Global>) -> Reply {
-    Reply::Holds(Holding {
-        first: generator.first_word(),
-        scale: generator.beam().scale,
-        low: generator.low_byte().is_some(),
-        returns: generator.return_addresses().len() as u8,
-    })
+    let first = generator.first_word();
+    let scale = u16::from(generator.beam().scale);
+    let waits = 0x10 * bit(generator.low_byte().is_some()) + 0x20 * bit(first.is_some());
+    let returns = generator.return_addresses().len() as u16;
+    Reply::Holds(first.unwrap_or(0), scale + waits + 0x100 * returns)
 }
 
 // Returns the reply that says what return address `i` of `generator` is, from 0, the newest one.
