@@ -218,7 +218,7 @@ class Move(NamedTuple):
 
 
 class Beam(NamedTuple):
-    """Where the beam is, in 1/512 of a screen unit, 0 to 2,097,151, and the global scale, 0 to 15."""
+    """Where the beam is, in 1/512 of a unit, 0 to 2,097,151, and the global scale, 0 to 15."""
 
     x: int
     y: int

@@ -60,7 +60,8 @@ static void test_moves(const Generator &generator) {
     dvg_strobe(generator);
     expect(!moves_by(generator, 0xC010, move) && !moves_by(generator, 0xC020, move), "calls");
     expect(!moves_by(generator, 0xA001, move) && moves_by(generator, 0x2003, move), "a LABS");
-    expect(move.placed && move.z == 0 && move.x1 == 3 * 512 && move.y1 == 512 && move.address == 0x20,
+    expect(move.placed && move.z == 0 && move.x1 == 3 * 512 && move.y1 == 512
+               && move.address == 0x20,
            "is a move");
     expect(moves_by(generator, 0xF071, move), "a short vector");
     expect(!move.placed && move.z == 7 && move.x0 == 3 * 512 && move.x1 == 3 * 512 + 4096

@@ -84,8 +84,8 @@ abbrev pub first_or_none : Option ℕ → ℕ
 first_or_none None = 0
 first_or_none (Some word) = word
 
--- what is told of what a generator holds: its first word, and in bits its scale, whether a low byte waits, whether there
--- is a first word, and how many return addresses there are
+-- what is told of what a generator holds: its first word, and in bits its scale, whether a low byte waits, whether
+-- there is a first word, and how many return addresses there are
 abbrev pub told_held : Machine → Reply
 told_held machine = Holds (first_or_none machine.held)
     (machine.beam.scale + (0x10 * bit (is_some machine.low) + 0x20 * bit (is_some machine.held))
