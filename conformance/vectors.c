@@ -3,7 +3,6 @@
  *
  *     vectors FOLDER COUNT    the runs 0 to COUNT - 1, the same each time; COUNT up to 99,999 */
 #include "dvg.h"
-#include "units.h"
 #include <stdio.h>
 #include <stdlib.h>
 
@@ -17,6 +16,11 @@ struct vector {
     uint16_t at[MOST_RUN], word[MOST_RUN];
     dvg_answer last;
 };
+
+/* The strokes of the last run in whole units. */
+static dvg_stroke units[MOST_RUN];
+static unsigned units_count;
+static uint32_t unit_x, unit_y;
 
 static uint64_t random_state = 1979;
 
@@ -48,10 +52,36 @@ static void make_memory(struct vector *vector, bool calls)
     }
 }
 
+/* A place in whole units after a move along an axis. */
+static uint32_t counted(uint32_t place, uint32_t from, uint32_t to)
+{
+    return (place + (uint32_t)dvg_units(from, to)) & 0xFFF;
+}
+
+/* Notes the move that the port makes of this byte, in whole units. */
+static void note_move(dvg *port, uint8_t byte)
+{
+    dvg_stroke stroke;
+    dvg_move move;
+    if (dvg_generator_move(port, byte, &move).kind != DVG_MOVES) {
+        return;
+    }
+    stroke.x0 = unit_x;
+    stroke.y0 = unit_y;
+    stroke.x1 = unit_x = move.placed ? move.x1 / 512 : counted(unit_x, move.x0, move.x1);
+    stroke.y1 = unit_y = move.placed ? move.y1 / 512 : counted(unit_y, move.y0, move.y1);
+    stroke.z = move.z;
+    if (move.z != 0) {
+        units[units_count++] = stroke;
+    }
+}
+
 /* Runs it from power on. From word `most` on a HALT is handed, so that strokes can be asked for. */
 static void run(dvg *port, struct vector *vector, unsigned most)
 {
     vector->count = 0;
+    units_count = 0;
+    unit_x = unit_y = 0;
     dvg_open_generator(port);
     vector->last = dvg_strobe(port);
     while (vector->count < MOST_RUN) {
@@ -63,7 +93,9 @@ static void run(dvg *port, struct vector *vector, unsigned most)
         if (vector->count < most && vector->hole[wanted.address]) {
             vector->last = dvg_generator_hole(port);
         } else {
-            vector->last = dvg_generator_fetch(port, (uint8_t)(wanted.value ? word >> 8 : word));
+            uint8_t byte = (uint8_t)(wanted.value ? word >> 8 : word);
+            note_move(port, byte);
+            vector->last = dvg_generator_fetch(port, byte);
         }
         if (vector->last.kind == DVG_FETCHED || vector->last.kind == DVG_DONE) {
             vector->at[vector->count] = vector->last.address;
@@ -100,18 +132,11 @@ static void write_memory(FILE *file, const struct vector *vector)
 }
 
 /* The strokes in whole units. */
-static void write_units(FILE *file, const struct vector *vector)
+static void write_units(FILE *file)
 {
     unsigned i;
-    units_start();
-    for (i = 0; i < vector->count; i++) {
-        units_word(vector->word[i]);
-    }
-    if (vector->last.kind != DVG_DONE) {
-        units_word(0xB000);
-    }
-    for (i = 0; i < units_strokes(); i++) {
-        dvg_stroke s = units_stroke(i);
+    for (i = 0; i < units_count; i++) {
+        dvg_stroke s = units[i];
         fprintf(file, "units %u %u %u %u %u\n", s.x0, s.y0, s.x1, s.y1, s.z);
     }
 }
@@ -139,7 +164,7 @@ static void write_run(FILE *file, dvg *port, const struct vector *vector)
             fprintf(file, "stroke %u %u %u %u %u\n", s.x0, s.y0, s.x1, s.y1, s.z);
         }
     }
-    write_units(file, vector);
+    write_units(file);
 }
 
 static FILE *open_file(const char *folder, unsigned long number, const char *ending)
@@ -158,7 +183,7 @@ int main(int count, char **arguments)
         fputs("vectors FOLDER COUNT\n", stderr);
         return 64;
     }
-    if (dvg_new(&port) != 0 || !units_open()) {
+    if (dvg_new(&port) != 0) {
         return 2;
     }
     for (number = 0; number < most; number++) {

@@ -99,8 +99,8 @@ const char *dvg_version(void);
 /* --- Requests and answers --- */
 
 /* The lowest byte of a request says which it is. What it brings stands above: a flag in bit 8, a
- * byte in bits 16 to 23, a count in bits 24 to 39, the number of a stroke from bit 8 on; and the
- * fields of DVG_REQUEST_PUSH, as dvg_push has them. */
+ * byte in bits 16 to 23, a count in bits 24 to 39, the number of a stroke or a return address from
+ * bit 8 on; and the fields of DVG_REQUEST_PUSH, as dvg_push has them. */
 enum dvg_request {
     DVG_REQUEST_OFFER = 0,
     DVG_REQUEST_REDRAW = 1,
@@ -124,7 +124,12 @@ enum dvg_request {
     DVG_REQUEST_STROKE_TO = 19,
     DVG_REQUEST_STROKE_INTENSITY = 20,
     DVG_REQUEST_OPEN_JUDGE = 21,
-    DVG_REQUEST_TELL = 22
+    DVG_REQUEST_TELL = 22,
+    DVG_REQUEST_MOVE = 23,
+    DVG_REQUEST_MOVE_TO = 24,
+    DVG_REQUEST_BEAM = 25,
+    DVG_REQUEST_HOLDS = 26,
+    DVG_REQUEST_RETURN_TO = 27
 };
 
 /* The kind of an answer, with what its address and its value are; both are 0 where nothing is said
@@ -176,6 +181,12 @@ typedef enum dvg_kind {
     DVG_NO_MOMENT = 28,        /*   the same, and no moment of the open run is left */
     DVG_WHOLE = 29,            /*   the line is the HALT of a run of one moment */
     DVG_TORN = 30,             /*   the line is the HALT of a run of no moment */
+    DVG_MOVES = 31,            /* = the byte makes a move, by the instruction whose first word is
+                                    at this word address; value: its intensity, and 0x100 more
+                                    where a LABS places the beam: dvg_generator_move */
+    DVG_NOTHING = 32,          /* = there is no move, or no such return address */
+    DVG_HOLDS = 33,            /* = what a generator holds: dvg_held_by */
+    DVG_RETURNS_TO = 34,       /* = a return address, which is this word address */
     DVG_UNKNOWN = 254,         /* = there is no such request, whatever is open, or none of
                                     what is open */
     DVG_NO_MEMORY = 255        /* = there was no memory for it */
@@ -221,6 +232,32 @@ typedef struct dvg_stroke {
     uint32_t y1;
     uint8_t z;
 } dvg_stroke;
+
+/* What an instruction does to the beam, also where nothing is seen: from x0, y0 to x1, y1, in 1/512
+ * of a screen unit, 0 to 2,097,151 each, with intensity z, 0 (blank) to 15. `address` is the word
+ * address of the instruction's first word. Where `placed`, a LABS places the beam, and z is 0. */
+typedef struct dvg_move {
+    uint32_t x0;
+    uint32_t y0;
+    uint32_t x1;
+    uint32_t y1;
+    uint8_t z;
+    bool placed;
+    uint16_t address;
+} dvg_move;
+
+/* What a generator holds. In an open run it has `returns` return addresses, 0 to 4, and stands
+ * before a high byte where `low`, and before a second word where `second`, after the first word
+ * `first`. After a run its return addresses and its first word stay until the next one. */
+typedef struct dvg_held {
+    uint32_t x;                 /* the beam's position, in 1/512 of a screen unit */
+    uint32_t y;
+    uint8_t scale;              /* the global scale, 0 to 15 */
+    bool low;
+    bool second;
+    uint16_t first;             /* 0 where not `second` */
+    uint8_t returns;
+} dvg_held;
 
 /* The answer that a number is. */
 static inline dvg_answer dvg_answer_of(uint64_t number)
@@ -296,6 +333,10 @@ static inline const char *dvg_kind_text(dvg_kind kind)
     case DVG_NO_MOMENT: return "no moment";
     case DVG_WHOLE: return "whole";
     case DVG_TORN: return "torn";
+    case DVG_MOVES: return "moves";
+    case DVG_NOTHING: return "nothing";
+    case DVG_HOLDS: return "holds";
+    case DVG_RETURNS_TO: return "returns to";
     case DVG_UNKNOWN: return "unknown";
     case DVG_NO_MEMORY: return "no memory";
     }
@@ -608,6 +649,65 @@ static inline dvg_answer dvg_generator_fetch(dvg *device, uint8_t byte)
 static inline dvg_answer dvg_generator_hole(dvg *device)
 {
     return dvg_ask(device, DVG_REQUEST_FETCH | 0x100);
+}
+
+/* Of a generator: which move it would make if it were handed this byte, which isn't handed to it.
+ * So ask before dvg_generator_fetch. Writes the move to *move and answers DVG_MOVES, as soon as the
+ * byte ends its instruction. DVG_NOTHING: the byte makes no move, as a low byte, a first word, and
+ * a HALT, JSRL, RTSL or JMPL don't, or the generator is halted; *move is as it was. */
+static inline dvg_answer dvg_generator_move(dvg *device, uint8_t byte, dvg_move *move)
+{
+    dvg_answer answer = dvg_ask(device, DVG_REQUEST_MOVE | (uint64_t)byte << 16);
+    uint64_t from, to;
+    if (answer.kind != DVG_MOVES) {
+        return answer;
+    }
+    from = dvg_turn(device, DVG_REQUEST_BEAM);
+    to = dvg_turn(device, DVG_REQUEST_MOVE_TO | (uint64_t)byte << 16);
+    move->x0 = (uint32_t)(from & 0xFFFFFFFF);
+    move->y0 = (uint32_t)(from >> 32);
+    move->x1 = (uint32_t)(to & 0xFFFFFFFF);
+    move->y1 = (uint32_t)(to >> 32);
+    move->z = (uint8_t)(answer.value & 0xF);
+    move->placed = (answer.value & 0x100) != 0;
+    move->address = answer.address;
+    return answer;
+}
+
+/* A move along an axis from a position to another, in whole screen units, as rate multipliers round
+ * it: a half away from zero. Counters of twelve bits that are loaded by each LABS with x1 / 512 and
+ * y1 / 512, and that count these units of each other move, modulo 4,096, have the beam's position
+ * in whole units. */
+static inline int dvg_units(uint32_t from, uint32_t to)
+{
+    uint32_t ahead = (to - from) & 0x1FFFFF;
+    return ahead < 0x100000 ? (int)((ahead + 256) / 512) : -(int)((0x200000 - ahead + 256) / 512);
+}
+
+/* Of a generator: writes what it holds to *held, and answers DVG_HOLDS. */
+static inline dvg_answer dvg_held_by(dvg *device, dvg_held *held)
+{
+    dvg_answer answer = dvg_ask(device, DVG_REQUEST_HOLDS);
+    uint64_t beam;
+    if (answer.kind != DVG_HOLDS) {
+        return answer;
+    }
+    beam = dvg_turn(device, DVG_REQUEST_BEAM);
+    held->x = (uint32_t)(beam & 0xFFFFFFFF);
+    held->y = (uint32_t)(beam >> 32);
+    held->scale = (uint8_t)(answer.value & 0xF);
+    held->low = (answer.value & 0x10) != 0;
+    held->second = (answer.value & 0x20) != 0;
+    held->first = answer.address;
+    held->returns = (uint8_t)(answer.value >> 8 & 0x7);
+    return answer;
+}
+
+/* Of a generator: its return address of this number; 0 is the newest one's, to which RTSL leads.
+ * DVG_RETURNS_TO; DVG_NOTHING. */
+static inline dvg_answer dvg_return_to(dvg *device, uint8_t number)
+{
+    return dvg_ask(device, DVG_REQUEST_RETURN_TO | (uint64_t)number << 8);
 }
 
 /* Of a world or a generator: a reset of the generator alone, which ends its run. DVG_CLEARED. */

@@ -89,6 +89,28 @@ public:
 class Generator : public Device {
 public:
     Generator() { expect_opened(dvg_open_generator(*this)); }
+
+    /* Whether this byte makes a move, if it is handed over next, and which: dvg_generator_move. */
+    bool move_by(std::uint8_t byte, dvg_move &move) const {
+        return dvg_generator_move(*this, byte, &move).kind == DVG_MOVES;
+    }
+
+    /* What it holds. */
+    dvg_held held() const {
+        dvg_held found = {};
+        dvg_held_by(*this, &found);
+        return found;
+    }
+
+    /* Its return addresses, the newest last, to which RTSL leads. */
+    std::vector<std::uint16_t> return_addresses() const {
+        std::vector<std::uint16_t> found(held().returns);
+        for (std::size_t number = 0; number < found.size(); ++number) {
+            dvg_answer answer = dvg_return_to(*this, static_cast<std::uint8_t>(number));
+            found[found.size() - 1 - number] = answer.address;
+        }
+        return found;
+    }
 };
 
 /* A judge of moments. std::bad_alloc. */

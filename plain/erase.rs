@@ -100,12 +100,13 @@ const SERDE: &str =
 
 /// The types that serde writes and reads, and by which other type it does: that is checked when it
 /// is read. Where none is named, each value of the type is one.
-const KEPT: [(&str, &str); 20] = [
+const KEPT: [(&str, &str); 22] = [
     ("enum Action", ""),
     ("enum Area", ""),
     ("struct Beam", ""),
     ("struct Code", "Instr"),
     ("enum CodeFault", ""),
+    ("struct Counters", ""),
     ("struct DraftFull", ""),
     ("enum DriverFault", ""),
     ("enum Entry", ""),
@@ -116,6 +117,7 @@ const KEPT: [(&str, &str); 20] = [
     ("enum Instr", ""),
     ("enum Listed", ""),
     ("enum MemFault", ""),
+    ("struct Move", ""),
     ("struct Op", "OpKind"),
     ("enum OpKind", ""),
     ("struct OutOfMemory", ""),

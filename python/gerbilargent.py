@@ -55,9 +55,9 @@ from pathlib import Path
 from typing import Iterable, Iterator, NamedTuple, Optional, TypeVar, Union
 
 __all__ = [
-    "BadByte", "BadLog", "BadOperation", "Break", "Busy", "Closed", "Draft", "DraftFull",
+    "BadByte", "BadLog", "BadOperation", "Beam", "Break", "Busy", "Closed", "Draft", "DraftFull",
     "DraftRefused", "Driver", "Endless", "Entry", "Error", "Event", "Fault", "Generator", "Halted",
-    "Judge", "Kind", "LibraryMissing", "MomentJudge", "NoBytes", "NoEvent", "NoInteger",
+    "Judge", "Kind", "LibraryMissing", "MomentJudge", "Move", "NoBytes", "NoEvent", "NoInteger",
     "NothingPublished", "NoStrobe", "OutOfMemory", "RETURNS", "RunBroke", "Stroke", "Picture",
     "Torn", "Verdict", "World", "WrongOrder", "WrongSize", "WrongThread", "Wanted", "judge",
     "picture", "svg",
@@ -121,6 +121,10 @@ class Kind(enum.IntEnum):
     NO_MOMENT = 28
     WHOLE = 29
     TORN = 30
+    MOVES = 31
+    NOTHING = 32
+    HOLDS = 33
+    RETURNS_TO = 34
     UNKNOWN = 254
     NO_MEMORY = 255
 
@@ -184,6 +188,41 @@ class Stroke(NamedTuple):
 
     def __str__(self) -> str:
         return f"{self.x0} {self.y0} {self.x1} {self.y1} {self.z}"
+
+
+class Move(NamedTuple):
+    """What an instruction does to the beam, also where nothing is seen.
+
+    It moves from x0, y0 to x1, y1, in 1/512 of a screen unit, 0 to 2,097,151 each, with intensity
+    z, 0 (blank) to 15. `address` is the word address of the instruction's first word. Where
+    `placed`, a LABS places the beam, and z is 0.
+    """
+
+    x0: int
+    y0: int
+    x1: int
+    y1: int
+    z: int
+    placed: bool
+    address: int
+
+    @property
+    def units(self) -> "tuple[int, int]":
+        """The move along both axes in whole screen units, each rounded a half away from zero.
+
+        That is how rate multipliers round it. Counters that each LABS loads, with x1 / 512 and
+        y1 / 512, and that count the units of each other move, modulo 4,096, have the beam's
+        position in whole units.
+        """
+        return _units(self.x0, self.x1), _units(self.y0, self.y1)
+
+
+class Beam(NamedTuple):
+    """Where the beam is, in 1/512 of a unit, 0 to 2,097,151, and the global scale, 0 to 15."""
+
+    x: int
+    y: int
+    scale: int
 
 
 class Entry(NamedTuple):
@@ -421,6 +460,11 @@ class _Request(enum.IntEnum):
     STROKE_INTENSITY = 20
     OPEN_JUDGE = 21
     TELL = 22
+    MOVE = 23
+    MOVE_TO = 24
+    BEAM = 25
+    HOLDS = 26
+    RETURN_TO = 27
 
 
 #: What is asked of each stroke, as numbers.
@@ -474,6 +518,12 @@ def _bytes(name: str, held: Bytes) -> bytes:
     if view.itemsize != 1:
         raise NoBytes(f"{name} is single bytes, not items of {view.itemsize} bytes")
     return view.tobytes()
+
+
+def _units(start: int, end: int) -> int:
+    """The move from one position to another in whole units, a half rounded away from zero."""
+    ahead = (end - start) % 0x200000
+    return (ahead + 256) // 512 if ahead < 0x100000 else -((0x200000 - ahead + 256) // 512)
 
 
 def _ram(ram: Optional[Bytes]) -> bytes:
@@ -852,6 +902,46 @@ class Generator(_Device):
         Halted; RunBroke; OutOfMemory, and then the same byte is still wanted.
         """
         return self._ask(_Request.FETCH, _byte(byte) << 16)
+
+    def move_by(self, byte: int) -> Optional[Move]:
+        """The move that it would make if it were handed this byte, 0 to 255, by `fetch`.
+
+        Nothing is handed to it. None where it would make none: of a low byte, a first word, another
+        instruction than VCTR, SVEC and LABS, and where it is halted.
+        """
+        place = _byte(byte) << 16
+        number = self._turn(_Request.MOVE, place)
+        if number & 0xFF != Kind.MOVES:
+            return None
+        beam = self._turn(_Request.BEAM)
+        end = self._turn(_Request.MOVE_TO, place)
+        value = number >> 24
+        return Move(
+            beam & 0xFFFFFFFF, beam >> 32, end & 0xFFFFFFFF, end >> 32,
+            value & 0xF, bool(value & 0x100), number >> 8 & 0xFFFF,
+        )
+
+    @property
+    def beam(self) -> Beam:
+        """Where its beam is, and the global scale."""
+        place = self._turn(_Request.BEAM)
+        return Beam(place & 0xFFFFFFFF, place >> 32, self._turn(_Request.HOLDS) >> 24 & 0xF)
+
+    @property
+    def first_word(self) -> Optional[int]:
+        """The first word of the instruction whose second word it wants next, if there is one."""
+        number = self._turn(_Request.HOLDS)
+        return number >> 8 & 0xFFFF if number >> 24 & 0x20 else None
+
+    @property
+    def return_addresses(self) -> "list[int]":
+        """Its return addresses, at most four word addresses, the newest last, to which RTSL leads.
+
+        After a run they stay until the next one.
+        """
+        count = self._turn(_Request.HOLDS) >> 32 & 0x7
+        found = [self._turn(_Request.RETURN_TO, number << 8) for number in range(count)]
+        return [number >> 8 & 0xFFFF for number in reversed(found)]
 
     def hole(self) -> Entry:
         """No memory answers at the address that it wants: raises RunBroke, or Halted."""

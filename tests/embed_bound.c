@@ -228,6 +228,8 @@ static void test_reset_without_memory(dvg *device)
 
 static void test_driver_without_memory(dvg *device)
 {
+    dvg_move move;
+    dvg_held held;
     dvg_open_driver(device, rom, sizeof rom);
     TAKES_NONE(dvg_driver_tick(device, true, 0), DVG_PEEK);
     TAKES_NONE(dvg_driver_tick(device, true, 0), DVG_READ);
@@ -239,6 +241,9 @@ static void test_driver_without_memory(dvg *device)
     TAKES_NONE(dvg_wants(device), DVG_STILL);
     TAKES_NONE(dvg_strobe(device), DVG_STARTED);
     TAKES_NONE(dvg_generator_fetch(device, 0x01), DVG_LOW);
+    TAKES_NONE(dvg_generator_move(device, 0xFF, &move), DVG_MOVES);
+    TAKES_NONE(dvg_held_by(device, &held), DVG_HOLDS);
+    TAKES_NONE(dvg_return_to(device, 0), DVG_NOTHING);
     TAKES_NONE(dvg_generator_fetch(device, 0xE0), DVG_FETCHED);
     TAKES_NONE(dvg_generator_hole(device), DVG_BROKE);
     TAKES_NONE(dvg_shut(device), DVG_CLOSED);
@@ -248,10 +253,10 @@ static void test_driver_without_memory(dvg *device)
 static void test_unknown(dvg *device)
 {
     expect(dvg_tick(device).kind == DVG_CLOSED, "nothing is open");
-    expect(dvg_ask(device, 23).kind == DVG_UNKNOWN, "no request, while nothing is open");
+    expect(dvg_ask(device, 28).kind == DVG_UNKNOWN, "no request, while nothing is open");
     expect(dvg_ask(device, 0x12FF).kind == DVG_UNKNOWN, "another one");
     dvg_open_generator(device);
-    expect(dvg_ask(device, 23).kind == DVG_UNKNOWN, "no request, while a generator is open");
+    expect(dvg_ask(device, 28).kind == DVG_UNKNOWN, "no request, while a generator is open");
     expect(dvg_offer(device).kind == DVG_UNKNOWN, "an offer to a generator");
 }
 

@@ -266,6 +266,10 @@ static void test_kind_texts(void)
     TEXT(dvg_kind_text, DVG_NO_MOMENT, "no moment");
     TEXT(dvg_kind_text, DVG_WHOLE, "whole");
     TEXT(dvg_kind_text, DVG_TORN, "torn");
+    TEXT(dvg_kind_text, DVG_MOVES, "moves");
+    TEXT(dvg_kind_text, DVG_NOTHING, "nothing");
+    TEXT(dvg_kind_text, DVG_HOLDS, "holds");
+    TEXT(dvg_kind_text, DVG_RETURNS_TO, "returns to");
     TEXT(dvg_kind_text, DVG_UNKNOWN, "unknown");
     TEXT(dvg_kind_text, DVG_NO_MEMORY, "no memory");
 }
@@ -290,7 +294,7 @@ static void test_other_texts(void)
     bool all = true;
     for (uint64_t number = 0; number < 256; number++) {
         const char *text = dvg_kind_text(dvg_answer_of(number).kind);
-        bool named = number <= DVG_TORN || number >= DVG_UNKNOWN;
+        bool named = number <= DVG_RETURNS_TO || number >= DVG_UNKNOWN;
         all = all && text != NULL && (strcmp(text, "no kind") == 0) != named;
     }
     expect(all, "each kind has a text, and a number that is none has 'no kind'");
@@ -300,6 +304,51 @@ static void test_other_texts(void)
         all = all && text != NULL && (strcmp(text, "no fault") == 0) == (number > DVG_FAULT_LOOPS);
     }
     expect(all, "each fault has a text, and a number that is none has 'no fault'");
+}
+
+/* --- Moves --- */
+
+static void test_moves(dvg *none)
+{
+    dvg_move move = {1, 2, 3, 4, 5, false, 6};
+    dvg_held held = {1, 2, 3, true, true, 4, 5};
+    answers[0] = DVG_NOTHING;
+    expect(dvg_generator_move(none, 0xA5, &move).kind == DVG_NOTHING && count == 1
+               && noted[0] == 0xA50017 && move.x0 == 1 && move.address == 6,
+           "a byte that makes no move is one request, and writes nothing");
+    answers[0] = DVG_MOVES | 0xABC00 | (uint64_t)0xF << 24;
+    answers[1] = (uint64_t)0x1FFFFE << 32 | 0x1FFFFF;
+    answers[2] = (uint64_t)0x1FFFFC << 32 | 0x1FFFFD;
+    expect(dvg_generator_move(none, 0xA5, &move).kind == DVG_MOVES && count == 3
+               && noted[1] == 25 && noted[2] == 0xA50018 && move.x0 == 0x1FFFFF
+               && move.y0 == 0x1FFFFE && move.x1 == 0x1FFFFD && move.y1 == 0x1FFFFC
+               && move.z == 15 && !move.placed && move.address == 0xABC,
+           "a move is three");
+    answers[0] = DVG_MOVES | (uint64_t)0x100 << 24;
+    expect(dvg_generator_move(none, 0, &move).kind == DVG_MOVES && move.z == 0 && move.placed,
+           "a LABS places the beam");
+    answers[0] = DVG_UNKNOWN;
+    expect(dvg_held_by(none, &held).kind == DVG_UNKNOWN && count == 1 && noted[0] == 26
+               && held.scale == 3,
+           "what isn't a generator holds nothing");
+    answers[0] = DVG_HOLDS | 0x123400 | (uint64_t)0x43F << 24;
+    answers[1] = (uint64_t)7 << 32 | 9;
+    expect(dvg_held_by(none, &held).kind == DVG_HOLDS && count == 2 && noted[1] == 25
+               && held.x == 9 && held.y == 7 && held.scale == 15 && held.low && held.second
+               && held.first == 0x1234 && held.returns == 4,
+           "what a generator holds");
+    answers[0] = DVG_HOLDS | (uint64_t)0x10 << 24;
+    dvg_held_by(none, &held);
+    expect(held.scale == 0 && held.low && !held.second && held.returns == 0, "a low byte alone");
+    answers[0] = DVG_HOLDS | (uint64_t)0x20 << 24;
+    dvg_held_by(none, &held);
+    expect(!held.low && held.second, "a first word alone");
+    ASKS(0x31B, dvg_return_to(none, 3));
+    expect(dvg_units(0, 255) == 0 && dvg_units(0, 256) == 1 && dvg_units(256, 0) == -1
+               && dvg_units(255, 0) == 0 && dvg_units(2097000, 104) == 1
+               && dvg_units(104, 2097000) == -1 && dvg_units(0, 768) == 2
+               && dvg_units(0, 1023 * 512) == 1023 && dvg_units(1023 * 512, 0) == -1023,
+           "a move in whole units, a half away from zero, also over the edge");
 }
 
 /* --- A memory, drawn once --- */
@@ -431,6 +480,7 @@ int main(void)
     test_answers(none);
     test_kind_texts();
     test_other_texts();
+    test_moves(none);
     test_fetching(none);
     test_drawing(none);
     printf("%d passed, %d failed\n", passed, failed);

@@ -212,6 +212,45 @@ def test_generator():
         )
 
 
+def test_moves():
+    with Generator() as generator:
+        expect_same(g.Beam(0, 0, 0), generator.beam, "a new beam")
+        expect_same((None, []), (generator.first_word, generator.return_addresses), "holds nothing")
+        expect_same(None, generator.move_by(0xF0), "a halted generator moves nothing")
+        ram = words(0xC002, 0xB000, 0xA190, 0x3200, 0x01FF, 0x7401, 0xF1F5, 0xD000)
+        ram = ram.ljust(2048, b"\0")
+        generator.strobe()
+        found = []
+        while (wanted := generator.wanted) is not None:
+            byte = ram[2 * wanted.address + wanted.high]
+            found.append((wanted.address, wanted.high, generator.move_by(byte)))
+            first, second = generator.move_by(byte), generator.fetch(byte)
+            expect_same(found[-1][2], first, "asked twice")
+            if first is not None:
+                expect_same((first.x1, first.y1), generator.beam[:2], "the beam is at its end")
+            if wanted.address == 4 and wanted.high:
+                expect_same(0x01FF, generator.first_word, "a first word")
+                expect_same([1], generator.return_addresses, "an open call")
+                expect_same(3, generator.beam.scale, "the scale of the LABS")
+        x, y = 512 * 0x200, 512 * 0x190
+        moves = [move for address, high, move in found if move is not None]
+        expect_same([
+            g.Move(0, 0, x, y, 0, True, 2),
+            g.Move(x, y, x - 8, y + 8 * 511, 7, False, 4),
+            g.Move(x - 8, y + 8 * 511, x - 8 - 256 * 32, y + 8 * 511 + 256 * 32, 15, False, 6),
+        ], moves, "the moves of a run")
+        expect_same([(0, 8), (-16, 16)], [move.units for move in moves[1:]], "in whole units")
+        expect_same([(3, True), (5, True), (6, True)], [
+            (address, high) for address, high, move in found if move is not None
+        ], "as soon as their words have ended")
+        expect_same([g.Stroke(*move[:5]) for move in moves[1:]], generator.strokes, "seen ones")
+        expect_same([], generator.return_addresses, "returned")
+        expect_raises(g.BadByte, lambda: generator.move_by(256))
+    expect_same((1, -1), (g._units(0, 256), g._units(256, 0)), "a half away from zero")
+    expect_same((1, -1), (g._units(2097000, 104), g._units(104, 2097000)), "over the edge")
+    expect_same(0, g._units(255, 0), "less than a half")
+
+
 def test_moment_judge():
     with g.MomentJudge() as judge:
         kinds = [judge.started(), judge.fetched(1, 0x0101), judge.wrote(2, 5), judge.wrote(4, 7)]
@@ -1000,6 +1039,7 @@ test_world()
 test_freeing()
 test_driver()
 test_generator()
+test_moves()
 test_moment_judge()
 test_refusals()
 test_no_memory()

@@ -46,7 +46,8 @@ uint64_t pair_turn(dvg *pair, uint64_t request)
     uint64_t plain = plain_turn(pair->plain, request);
     uint64_t code = request & 0xFF;
     requests++;
-    if (code < DVG_REQUEST_STROKES || code > DVG_REQUEST_STROKE_INTENSITY) {
+    if ((code < DVG_REQUEST_STROKES || code > DVG_REQUEST_STROKE_INTENSITY)
+        && code != DVG_REQUEST_MOVE_TO && code != DVG_REQUEST_BEAM) {
         kinds[proved & 0xFF]++;
     }
     if (proved != plain && equal) {
@@ -207,11 +208,32 @@ static void offer_random(dvg *pair)
     dvg_offer(pair);
 }
 
+/* Asks which moves a byte and a hole make, where they end, and what the generator holds. */
+static void ask_moves(dvg *pair, uint8_t byte)
+{
+    dvg_move move;
+    dvg_held held;
+    dvg_generator_move(pair, byte, &move);
+    pair_turn(pair, DVG_REQUEST_MOVE_TO | (uint64_t)byte << 16);
+    pair_turn(pair, DVG_REQUEST_MOVE | 0x100 | (uint64_t)byte << 16);
+    pair_turn(pair, DVG_REQUEST_MOVE_TO | 0x100);
+    if (dvg_held_by(pair, &held).kind == DVG_HOLDS) {
+        for (int i = 0; i <= held.returns; i++) {
+            dvg_return_to(pair, (uint8_t)i);
+        }
+    }
+    dvg_return_to(pair, random_byte());
+}
+
 /* Lets the generator fetch this many times: from the memory, and seldom something else. */
 static void fetch_often(dvg *pair, int count)
 {
     for (; count > 0; count--) {
         dvg_answer wanted = dvg_wants(pair);
+        if (below(4) == 0) {
+            ask_moves(pair, wanted.kind == DVG_WANTED && below(8) != 0
+                                ? memory[2 * wanted.address + wanted.value] : random_byte());
+        }
         if (wanted.kind != DVG_WANTED) {
             dvg_fetch(pair);
         } else if (below(500) == 0) {
@@ -322,7 +344,7 @@ static void blow(dvg *pair)
     case 12: pair_turn(pair, (uint64_t)random_word() << 32 | random_word()); break;
     case 13:
         pair_turn(pair, (uint64_t)random_word() << 32 | (random_word() & 0xFFFFFF00)
-                            | (uint64_t)below(26));
+                            | (uint64_t)below(30));
         break;
     default: blow_as_usual(pair); break;
     }
@@ -361,7 +383,7 @@ static bool storm(uint64_t seed)
 static bool all_kinds_came(void)
 {
     bool all = true;
-    for (int kind = DVG_OFFERED; kind <= DVG_TORN; kind++) {
+    for (int kind = DVG_OFFERED; kind <= DVG_RETURNS_TO; kind++) {
         if (kinds[kind] == 0) {
             printf("FAILED: no request was answered %d\n", kind);
             all = false;

@@ -3,9 +3,9 @@ use std::fmt::Debug;
 use std::process::ExitCode;
 
 use gerbilargent::{
-    Action, Area, Beam, Box, Code, CodeFault, Draft, DraftFull, DriverFault, Entry, Event,
-    FrameFault, GenFault, Global, Half, Image, Instr, Listed, MemFault, Op, OpKind, OutOfMemory,
-    Place, Rom, Stroke, Vec,
+    Action, Area, Beam, Box, Code, CodeFault, Counters, Draft, DraftFull, DriverFault, Entry,
+    Event, FrameFault, GenFault, Global, Half, Image, Instr, Listed, MemFault, Move, Op, OpKind,
+    OutOfMemory, Place, Rom, Stroke, Vec,
 };
 use serde::Serialize;
 use serde::de::DeserializeOwned;
@@ -270,9 +270,21 @@ fn test_logs(counts: &mut Counts) -> Result<(), std::boxed::Box<dyn std::error::
     Ok(())
 }
 
-/// What is small: faults, places and the beam.
+/// What is small: faults, places, the beam and its moves.
 fn test_rest(counts: &mut Counts) {
     counts.expect_form(Beam::place(1, 2, 3), r#"{"x":512,"y":1024,"scale":3}"#);
+    let made = Move {
+        x0: 1,
+        y0: 2,
+        x1: 3,
+        y1: 4,
+        z: 0,
+        placed: true,
+        address: 6,
+    };
+    let form = r#"{"x0":1,"y0":2,"x1":3,"y1":4,"z":0,"placed":true,"address":6}"#;
+    counts.expect_form(made, form);
+    counts.expect_form(Counters { x: 1, y: 2 }, r#"{"x":1,"y":2}"#);
     counts.expect_form(Half::H1, r#""H1""#);
     counts.expect_form(Area::Rom, r#""Rom""#);
     counts.expect_form(Place::InFrame(4), r#"{"InFrame":4}"#);

@@ -43,6 +43,38 @@ static void draw(World &world) {
     }
 }
 
+// Hands a word to a generator, and says whether its high byte makes a move, and which.
+static bool moves_by(const Generator &generator, unsigned word, dvg_move &move) {
+    dvg_move none;
+    const bool low = generator.move_by(static_cast<std::uint8_t>(word & 0xFF), none);
+    dvg_generator_fetch(generator, static_cast<std::uint8_t>(word & 0xFF));
+    const bool high = generator.move_by(static_cast<std::uint8_t>(word >> 8), move);
+    dvg_generator_fetch(generator, static_cast<std::uint8_t>(word >> 8));
+    return high && !low;
+}
+
+// Two calls, a LABS and a short vector: which moves they make, and what is held then.
+static void test_moves(const Generator &generator) {
+    dvg_move move = {};
+    expect(!generator.move_by(0xF0, move), "a halted generator moves nothing");
+    dvg_strobe(generator);
+    expect(!moves_by(generator, 0xC010, move) && !moves_by(generator, 0xC020, move), "calls");
+    expect(!moves_by(generator, 0xA001, move) && moves_by(generator, 0x2003, move), "a LABS");
+    expect(move.placed && move.z == 0 && move.x1 == 3 * 512 && move.y1 == 512
+               && move.address == 0x20,
+           "is a move");
+    expect(moves_by(generator, 0xF071, move), "a short vector");
+    expect(!move.placed && move.z == 7 && move.x0 == 3 * 512 && move.x1 == 3 * 512 + 4096
+               && move.y0 == 512 && move.y1 == 512 && move.address == 0x22,
+           "is a move, too");
+    const dvg_held held = generator.held();
+    expect(held.x == move.x1 && held.y == move.y1 && held.scale == 2 && !held.low && !held.second
+               && held.returns == 2,
+           "what is held");
+    expect(generator.return_addresses() == std::vector<std::uint16_t>({0x001, 0x011}),
+           "return addresses, the newest last");
+}
+
 template <typename Make>
 static bool refuses(Make make) {
     try {
@@ -70,6 +102,7 @@ int main() {
     expect(dvg_driver_tick(driver, true, 0).kind == DVG_PEEK, "a driver");
     Generator generator;
     expect(dvg_wants(generator).kind == DVG_STILL, "a generator");
+    test_moves(generator);
     expect(dvg_tick(Device()).kind == DVG_CLOSED, "a device in which nothing is open");
     expect(refuses([&] { World(Bytes(1), rom); }), "a RAM of one byte");
     expect(refuses([&] { World(ram, Bytes(2049)); }), "a ROM of 2,049 bytes");

@@ -53,9 +53,10 @@ SERDE = '#[cfg_attr(feature = "serde", derive(serde::Serialize, serde::Deseriali
 BY = '#[cfg_attr(feature = "serde", serde(try_from = "{0}", into = "{0}"))]'
 CHECKED = {("struct", "Code"): "Instr", ("struct", "Op"): "OpKind"}
 KEPT = """
-    enum Action, enum Area, struct Beam, enum CodeFault, struct DraftFull, enum DriverFault,
-    enum Entry, enum Event, enum FrameFault, enum GenFault, enum Half, enum Instr, enum Listed,
-    enum MemFault, enum OpKind, struct OutOfMemory, enum Place, struct Stroke
+    enum Action, enum Area, struct Beam, enum CodeFault, struct Counters, struct DraftFull,
+    enum DriverFault, enum Entry, enum Event, enum FrameFault, enum GenFault, enum Half, enum Instr,
+    enum Listed, enum MemFault, struct Move, enum OpKind, struct OutOfMemory, enum Place,
+    struct Stroke
 """
 KEPT = {tuple(item.split()) for item in KEPT.split(",")} | CHECKED.keys()
 # What stands at the end of a library with a file by hand beside its sources.

@@ -43,7 +43,8 @@ def pairs(pattern, text, number_first=False):
 
 def of_rust(texts):
     """The numbers that the Rust sources have: of requests, kinds, faults and breaks, and limits."""
-    requests = pairs(r"(\d+) => Request::(\w+)", texts["requests"], number_first=True)
+    request = r"(\d+) => Request::(?:Ask\(Question::)?(\w+)"
+    requests = pairs(request, texts["requests"], number_first=True)
     replies = pairs(r"(?:Entry|Reply|Action|RunState)::(\w+)(?:\(.*?\))* => packed\((\d+),", texts["replies"])
     numbers = {
         "request": {"WANTS" if it == "Wants" else in_capitals(it): n for it, n in requests.items()},

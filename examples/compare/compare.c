@@ -3,17 +3,21 @@
  *
  *     compare [BYTES [SEED]]    random memories, until as many bytes were compared; 1,000,000
  *     compare --image FILE..    images: the 2,048 bytes of a RAM, and 2,048 or 4,096 of a ROM
- *     compare --units ..        either of them, with strokes in whole units (units.h)
+ *     compare --units ..        either of them, with strokes in whole units
+ *     compare --moves ..        any of them, with each move, also an unseen one, as soon as it is
+ *                               made
  *
- * The port hands out strokes after a HALT alone. So each run gets one: after some words the kit
+ * Without --moves strokes are compared after a HALT. So each run gets one: after some words the kit
  * hands both sides B000 in place of the memory's words. A fifth call, a return without a call and
  * a word without memory break a run of the port, where hardware goes on: the comparison of that
  * run stops there, and its strokes up to there are compared. A first difference is shrunk.
  *
+ * In whole units the rate multipliers round each move along an axis, a half away from zero, also of
+ * a vector that isn't drawn, and a LABS sets the place.
+ *
  * Status 0: no difference; 1: a difference; 2: memory or a file failed; 64: arguments. */
 #include "dvg.h"
 #include "mine.h"
-#include "units.h"
 #include <stdio.h>
 #include <stdlib.h>
 #include <string.h>
@@ -44,17 +48,61 @@ struct outcome {
 static dvg *port;
 static dvg_stroke strokes[MOST_STROKES]; /* of mine, in the run that is open */
 static unsigned drawn;
-static bool in_units;
+static dvg_stroke port_strokes[MOST_STROKES]; /* of the port, in that run */
+static unsigned port_drawn;
+static uint32_t unit_x, unit_y; /* the port's beam in whole units */
+static bool in_units, by_moves;
 static uint64_t random_state;
 static unsigned long stopped_at_stack, stopped_at_hole, halts;
 
 void drew(uint32_t x0, uint32_t y0, uint32_t x1, uint32_t y1, unsigned z)
 {
     dvg_stroke stroke = {x0, y0, x1, y1, (uint8_t)z};
+    if (z == 0 && !by_moves) {
+        return;
+    }
     if (drawn < MOST_STROKES) {
         strokes[drawn] = stroke;
     }
     drawn++;
+}
+
+/* A place in whole units after a move of the port along an axis. */
+static uint32_t counted(uint32_t place, uint32_t from, uint32_t to)
+{
+    return (place + (uint32_t)dvg_units(from, to)) & 0xFFF;
+}
+
+/* The port's move as a stroke, in the units that are compared. */
+static dvg_stroke compared_move(dvg_move move)
+{
+    dvg_stroke stroke = {move.x0, move.y0, move.x1, move.y1, move.z};
+    if (in_units) {
+        stroke.x0 = unit_x;
+        stroke.y0 = unit_y;
+        stroke.x1 = move.placed ? move.x1 / 512 : counted(unit_x, move.x0, move.x1);
+        stroke.y1 = move.placed ? move.y1 / 512 : counted(unit_y, move.y0, move.y1);
+        unit_x = stroke.x1;
+        unit_y = stroke.y1;
+    }
+    return stroke;
+}
+
+/* Notes the move that this byte makes in the port, before it is handed over. */
+static void note_move(int byte)
+{
+    dvg_move move;
+    if (byte == HOLE || dvg_generator_move(port, (uint8_t)byte, &move).kind != DVG_MOVES) {
+        return;
+    }
+    dvg_stroke stroke = compared_move(move);
+    if (stroke.z == 0 && !by_moves) {
+        return;
+    }
+    if (port_drawn < MOST_STROKES) {
+        port_strokes[port_drawn] = stroke;
+    }
+    port_drawn++;
 }
 
 static uint32_t number_below(uint32_t bound)
@@ -103,22 +151,38 @@ static void compare_wanted(struct outcome *outcome, enum mine_state state)
     }
 }
 
-/* Compares the strokes of a run that halted. */
-static void compare_strokes(struct outcome *outcome)
+/* Writes the stroke of this number of a list, or that there is none. */
+static void write_stroke(char *text, size_t room, const dvg_stroke *list, unsigned count,
+                         unsigned number)
 {
-    uint64_t count = in_units ? units_strokes() : dvg_strokes(port);
-    uint64_t number;
-    for (number = 0; number < count || number < drawn; number++) {
-        dvg_stroke a = in_units ? units_stroke((unsigned)number) : dvg_stroke_at(port, number);
-        dvg_stroke b = {0, 0, 0, 0, 0};
-        if (number < drawn && number < MOST_STROKES) {
-            b = strokes[number];
+    if (number >= count || number >= MOST_STROKES) {
+        snprintf(text, room, "none");
+    } else {
+        dvg_stroke s = list[number];
+        snprintf(text, room, "%u %u %u %u %u", s.x0, s.y0, s.x1, s.y1, s.z);
+    }
+}
+
+static bool is_same(dvg_stroke a, dvg_stroke b)
+{
+    return a.x0 == b.x0 && a.y0 == b.y0 && a.x1 == b.x1 && a.y1 == b.y1 && a.z == b.z;
+}
+
+/* Compares the strokes of the run so far, from this one on; with --moves each move. */
+static void compare_strokes(struct outcome *outcome, unsigned number)
+{
+    for (; number < port_drawn || number < drawn; number++) {
+        char theirs[60], ours[60];
+        if (number < port_drawn && number < drawn && number < MOST_STROKES
+            && is_same(port_strokes[number], strokes[number])) {
+            continue;
         }
-        if (a.x0 != b.x0 || a.y0 != b.y0 || a.x1 != b.x1 || a.y1 != b.y1 || a.z != b.z) {
+        write_stroke(theirs, sizeof theirs, port_strokes, port_drawn, number);
+        write_stroke(ours, sizeof ours, strokes, drawn, number);
+        if (strcmp(theirs, ours) != 0) {
             outcome->differs = true;
-            snprintf(outcome->where, sizeof outcome->where,
-                     "stroke %u\nport: %u %u %u %u %u\nmine: %u %u %u %u %u", (unsigned)number,
-                     a.x0, a.y0, a.x1, a.y1, a.z, b.x0, b.y0, b.x1, b.y1, b.z);
+            snprintf(outcome->where, sizeof outcome->where, "%s %u\nport: %s\nmine: %s",
+                     by_moves ? "move" : "stroke", number, theirs, ours);
             return;
         }
     }
@@ -143,6 +207,8 @@ static dvg_answer hand_byte(const struct test *test, struct outcome *outcome)
     dvg_answer wanted = dvg_wants(port);
     int32_t word = outcome->words >= test->most ? HALT : test->words[wanted.address];
     int byte = word == HOLE ? HOLE : wanted.value ? word >> 8 : word & 0xFF;
+    unsigned before = port_drawn;
+    note_move(byte);
     dvg_answer answer = byte == HOLE ? dvg_generator_hole(port)
                                      : dvg_generator_fetch(port, (uint8_t)byte);
     mine_byte(byte);
@@ -151,12 +217,14 @@ static dvg_answer hand_byte(const struct test *test, struct outcome *outcome)
         outcome->at[outcome->words] = answer.address;
         outcome->word[outcome->words] = answer.value;
         outcome->words++;
-        if (in_units) {
-            units_word(answer.value);
-        }
     }
     outcome->broke = dvg_break_of(answer);
-    compare_wanted(outcome, state_of(answer));
+    if (by_moves && outcome->broke == DVG_BREAK_NONE) {
+        compare_strokes(outcome, before);
+    }
+    if (!outcome->differs) {
+        compare_wanted(outcome, state_of(answer));
+    }
     return answer;
 }
 
@@ -167,11 +235,8 @@ static void run_once(const struct test *test, struct outcome *outcome, bool powe
     unsigned byte;
     enum mine_state state = MINE_RUNS;
     dvg_strobe(port);
-    if (in_units) {
-        units_start();
-    }
     mine_start(power_on);
-    drawn = 0;
+    drawn = port_drawn = 0;
     outcome->words = 0;
     outcome->broke = DVG_BREAK_NONE;
     compare_wanted(outcome, state);
@@ -180,7 +245,7 @@ static void run_once(const struct test *test, struct outcome *outcome, bool powe
     }
     if (state == MINE_HALTED && !outcome->differs) {
         halts++;
-        compare_strokes(outcome);
+        compare_strokes(outcome, 0);
     }
 }
 
@@ -190,6 +255,7 @@ static void run(const struct test *test, struct outcome *outcome)
     struct test again;
     memset(outcome, 0, sizeof *outcome);
     dvg_open_generator(port);
+    unit_x = unit_y = 0;
     if (test->interrupted > 0) {
         run_once(test, outcome, true, test->interrupted);
     }
@@ -201,6 +267,7 @@ static void run(const struct test *test, struct outcome *outcome)
         again = *test;
         again.most = outcome->words;
         dvg_open_generator(port);
+        unit_x = unit_y = 0;
         run_once(&again, outcome, true, 2 * MOST_RUN + 8);
     }
 }
@@ -479,27 +546,35 @@ static int compare_random(struct test *test, unsigned long most_bytes)
     return 0;
 }
 
+/* Whether a word of the command line is an option, which is taken. */
+static bool is_option(const char *word)
+{
+    bool units = strcmp(word, "--units") == 0;
+    bool moves = strcmp(word, "--moves") == 0;
+    in_units |= units;
+    by_moves |= moves;
+    return units || moves;
+}
+
 int main(int count, char **arguments)
 {
     static struct test test;
     unsigned long bytes;
     bool images;
     int status;
-    if (count > 1 && strcmp(arguments[1], "--units") == 0) {
-        in_units = true;
-        count--;
+    for (; count > 1 && is_option(arguments[1]); count--) {
         arguments++;
     }
     bytes = count > 1 ? strtoul(arguments[1], NULL, 10) : 1000000;
     images = count > 2 && strcmp(arguments[1], "--image") == 0;
     random_state = count > 2 ? strtoull(arguments[2], NULL, 10) : 1;
     if (!images && (count > 3 || bytes == 0 || random_state == 0)) {
-        fputs("compare [--units] [BYTES [SEED]], both above 0, or [--units] --image FILE..\n",
+        fputs("compare [--units] [--moves] [BYTES [SEED]], both above 0, or .. --image FILE..\n",
               stderr);
         return 64;
     }
     random_state *= 0x9E3779B97F4A7C15u;
-    if (dvg_new(&port) != 0 || !units_open()) {
+    if (dvg_new(&port) != 0) {
         return 2;
     }
     status = images ? compare_images(&test, arguments + 2) : compare_random(&test, bytes);

@@ -34,7 +34,7 @@ static int with_sign(unsigned size, unsigned sign)
     return sign ? -(int)size : (int)size;
 }
 
-/* Moves the beam, and draws where z is above 0. Scales 10 to 15 move nothing. */
+/* Moves the beam, and draws. Scales 10 to 15 move nothing. */
 static void move(unsigned scale, int dx, int dy, unsigned z)
 {
     uint32_t x0 = x, y0 = y;
@@ -43,18 +43,18 @@ static void move(unsigned scale, int dx, int dy, unsigned z)
         x = (x + ((uint32_t)dx << sum)) & PLACES;
         y = (y + ((uint32_t)dy << sum)) & PLACES;
     }
-    if (z != 0) {
-        drew(x0, y0, x, y, z);
-    }
+    drew(x0, y0, x, y, z);
 }
 
 /* The second word of a labs or a vctr. */
 static void second_word(unsigned word)
 {
     if (first >> 12 == 0xA) {
+        uint32_t x0 = x, y0 = y;
         y = (uint32_t)(first & 0xFFF) << 9;
         x = (uint32_t)(word & 0xFFF) << 9;
         global_scale = word >> 12;
+        drew(x0, y0, x, y, 0);
     } else {
         int dx = with_sign(word & 0x3FF, word >> 10 & 1);
         int dy = with_sign(first & 0x3FF, first >> 10 & 1);

@@ -30,7 +30,11 @@ void mine_byte(int byte);
 struct mine_wanted mine_wants(void);
 
 /* The kit's: call it for each line or dot that is drawn (z above 0), in the order drawn. Places are
- * in 1/512 of a screen unit, 0 to 2,097,151; with --units in whole ones, 0 to 4,095. */
+ * in 1/512 of a screen unit, 0 to 2,097,151; with --units in whole ones, 0 to 4,095.
+ *
+ * With --moves call it also for what isn't seen, with z 0: for each vctr, svec and labs, once its
+ * last byte has come and before the next one is wanted. Without --moves calls with z 0 are passed
+ * over. */
 void drew(uint32_t x0, uint32_t y0, uint32_t x1, uint32_t y1, unsigned z);
 
 /* For a DVG that runs a whole list at once, and reads its words itself: at_once.c has yours 1 to 3,

@@ -19,6 +19,17 @@ pub struct Stroke {
     pub z: u8,
 }
 
+/// What an instruction does to the beam, also where nothing is seen.
+#[allow(dead_code)]
+pub struct Move {
+    pub to: Beam,
+    pub z: u8,
+    /// Whether a LABS places the beam.
+    pub placed: bool,
+    /// The address of the instruction's first word.
+    pub address: u16,
+}
+
 /// Why a run broke.
 #[derive(Clone, Copy)]
 #[allow(dead_code)]
@@ -128,6 +139,45 @@ impl Generator {
     /// Whether the next byte is the high one of its word.
     pub fn wants_high(&self) -> bool {
         self.low.is_some()
+    }
+
+    /// The first word of the instruction whose second word comes next.
+    #[allow(dead_code)]
+    pub fn first_word(&self) -> Option<u16> {
+        self.held
+    }
+
+    /// The return addresses, the newest last.
+    #[allow(dead_code)]
+    pub fn return_addresses(&self) -> &[u16] {
+        &self.stack[..self.saved]
+    }
+
+    /// The move that this byte, the next one, would make.
+    #[allow(dead_code)]
+    pub fn move_by(&self, byte: Option<u8>) -> Option<Move> {
+        if !self.open {
+            return None;
+        }
+        let word = u16::from_le_bytes([self.low?, byte?]);
+        let (z, placed) = match self.held {
+            Some(first) if first < 0xA000 => (word >> 12, false),
+            Some(_) => (0, true),
+            None if word >= 0xF000 => (word >> 4 & 0xF, false),
+            None => return None,
+        };
+        // Another one takes the byte.
+        let mut other = Generator {
+            strokes: Vec::new(),
+            ..*self
+        };
+        other.take_byte(byte);
+        Some(Move {
+            to: other.beam,
+            z: z as u8,
+            placed,
+            address: self.place,
+        })
     }
 
     fn vector(&mut self, local: u8, dx: i32, dy: i32, unit: i64, z: u8) {

@@ -6,7 +6,7 @@
 
 use crate::driver::{Action, Driver};
 use crate::frames::{FrameFault, Instr, MOST, Op, Place, Rom, check};
-use crate::generator::{GenFault, Generator, Stroke, Taken};
+use crate::generator::{Beam, GenFault, Generator, Move, Stroke, Taken};
 use crate::memory::{BYTES, Flat};
 use crate::moments::{Line, Moments, Standing};
 use crate::world::{Entry, World};
@@ -15,7 +15,7 @@ use crate::world::{Entry, World};
 const MOST_STAGED: usize = 6144;
 
 /// The greatest number of a request.
-const LAST_REQUEST: u8 = 22;
+const LAST_REQUEST: u8 = 27;
 
 /// The word address after a ROM's last word.
 const ROM_END: usize = 0xC00;
@@ -61,6 +61,7 @@ const FULL: u64 = packed(20, 0, 0);
 const OPENED: u64 = packed(22, 0, 0);
 const WRONG_SIZE: u64 = packed(23, 0, 0);
 const CLOSED: u64 = packed(24, 0, 0);
+const NOTHING: u64 = packed(32, 0, 0);
 const UNKNOWN: u64 = packed(254, 0, 0);
 
 /// A fault at a place.
@@ -127,6 +128,11 @@ fn answered(entry: Entry, picture: &mut Vec<Stroke>) -> u64 {
     }
 }
 
+/// Where the beam is.
+fn point(beam: Beam) -> u64 {
+    u64::from(beam.x) | u64::from(beam.y) << 32
+}
+
 /// The byte of a request.
 fn byte_of(request: u64) -> u8 {
     (request >> 16) as u8
@@ -184,12 +190,43 @@ fn rom_of(bytes: &[u8]) -> Option<Rom> {
     })
 }
 
+/// The byte that a request hands over. None where no memory answers.
+fn handed(request: u64) -> Option<u8> {
+    (!flag_of(request)).then_some(byte_of(request))
+}
+
 impl Lone {
+    fn holds(&self) -> u64 {
+        let first = self.generator.first_word();
+        let bits = u16::from(self.generator.beam().scale)
+            | u16::from(self.generator.wants_high()) << 4
+            | u16::from(first.is_some()) << 5
+            | (self.generator.return_addresses().len() as u16) << 8;
+        packed(33, first.unwrap_or(0), bits)
+    }
+
+    fn tell_move(&self, request: u64) -> u64 {
+        match self.generator.move_by(handed(request)) {
+            Some(Move {
+                z, placed, address, ..
+            }) => packed(31, address, u16::from(z) | u16::from(placed) << 8),
+            None => NOTHING,
+        }
+    }
+
+    fn return_to(&self, request: u64) -> u64 {
+        let newest_first = self.generator.return_addresses().iter().rev();
+        match newest_first.copied().nth((request >> 8) as usize) {
+            Some(address) => packed(34, address, 0),
+            None => NOTHING,
+        }
+    }
+
     fn fetch(&mut self, request: u64, picture: &mut Vec<Stroke>) -> u64 {
         let Some(address) = self.generator.wants() else {
             return STILL;
         };
-        let byte = (!flag_of(request)).then_some(byte_of(request));
+        let byte = handed(request);
         let taken = self.generator.take_byte(byte);
         let low = std::mem::replace(&mut self.last, byte.unwrap_or(0));
         let word = u16::from_le_bytes([low, self.last]);
@@ -218,6 +255,14 @@ impl Lone {
                 None => STILL,
                 Some(address) => packed(25, address, u16::from(self.generator.wants_high())),
             },
+            23 => self.tell_move(request),
+            24 => point(match self.generator.move_by(handed(request)) {
+                Some(Move { to, .. }) => to,
+                None => self.generator.beam(),
+            }),
+            25 => point(self.generator.beam()),
+            26 => self.holds(),
+            27 => self.return_to(request),
             _ => UNKNOWN,
         }
     }

@@ -1,3 +1,4 @@
 pub mod Found
 pub mod Left
 pub mod Judged
+pub mod Told

@@ -11,7 +11,7 @@ use Rattle.dvg_device.specs.Replies.{number_of, begins, ends, shines}
 use Rattle.dvg_device.specs.Worlds.{WorldAnswers}
 use Rattle.dvg_world.specs.Desks.{Driven, IsFresh}
 use Rattle.dvg_device.specs.Drivers.{DriverAnswers}
-use Rattle.dvg_device.specs.Generators.{GeneratorAnswers}
+use Rattle.dvg_device.specs.Generators.{GeneratorAnswers, Tells}
 use Rattle.dvg_moment.specs.declared.judge.MomentJudge.{MomentJudge}
 use Rattle.dvg_moment.specs.Judging.{StandsAfter}
 use Rattle.dvg_device.specs.Judges.{JudgeAnswers}
@@ -19,6 +19,7 @@ use Rattle.dvg_device.specs.declared.operation.Operation.{Operation}
 use Rattle.dvg_log.specs.declared.entry.Entry.TheVariants.{Cleared}
 use Rattle.dvg_device.specs.declared.reply.Reply.{Reply}
 use Rattle.dvg_device.specs.declared.reply.Reply.TheVariants as replies
+use Rattle.dvg_device.specs.declared.request.Question.{Question}
 use Rattle.dvg_device.specs.declared.request.Request.{Request}
 use Rattle.dvg_device.specs.declared.request.Request.TheVariants as requests
 
@@ -91,6 +92,12 @@ IsNewJudge part = ⊥
 abbrev pub unopened : Request → Reply
 unopened requests.Unknown = replies.Unknown
 unopened asked = replies.Closed
+
+-- the number of the reply to a question, by what is open
+abbrev pub ToldBy : Question → Open → ℕ → Type 0
+ToldBy question (Generator machine) answer = (told : Reply) × Tells question machine told × (answer ≡ number_of told)
+ToldBy question Nothing answer = answer ≡ number_of replies.Closed
+ToldBy question part answer = answer ≡ number_of replies.Unknown
 
 -- what is open comes to this by a request, beside the draft and the staged bytes
 abbrev pub PartAnswers : Open → Request → Held → Held → Reply → Type 0

@@ -1,19 +1,26 @@
 -- What a generator alone answers to a request.
-use Rattle.std.specs.Prelude.{◌≡◌, ◌⊎◌, ℕ, false, List, ◌∷◌, Option, Some, None, Vec, is_some}
+use Rattle.std.specs.Prelude.{◌≡◌, ◌⊎◌, ◌+◌, ◌*◌, ℕ, true, false, List, ◌∷◌, length, slice_get, Option}
+use Rattle.std.specs.Prelude.{Some, None, Vec, is_some, option_to_list}
 use Rattle.std.specs.Global.{Global}
+use Rattle.dvg_gen.specs.declared.beam.Beam.{Beam}
+use Rattle.dvg_gen.specs.declared.moving.Move.{Move}
 use Rattle.dvg_gen.specs.declared.stroke.Stroke.{Stroke}
 use Rattle.dvg_gen.specs.declared.taken.Step.{Step}
 use Rattle.dvg_gen.specs.Bytes.{met}
 use Rattle.dvg_gen.specs.Completing.{DrawsNothing}
 use Rattle.dvg_gen.specs.Machine.{Machine, HasTaken, Answers, taken_by}
+use Rattle.dvg_gen.specs.Moving.{AddsMoves}
 use Rattle.dvg_gen.specs.Told.{Told, Start, Reset, Newest, wants}
 use Rattle.dvg_log.specs.Entries.{Shown, entry_by}
 use Rattle.dvg_log.specs.declared.entry.Entry.TheVariants.{Started, Cleared, Still}
-use Rattle.dvg_device.specs.Replies.{answered_by, picture_by}
+use Rattle.dvg_device.specs.Replies.{answered_by, bit, picture_by}
 use Rattle.dvg_device.specs.declared.reply.Reply.{Reply}
-use Rattle.dvg_device.specs.declared.reply.Reply.TheVariants.{Came, Wants, Unknown, NoMemory}
+use Rattle.dvg_device.specs.declared.reply.Reply.TheVariants.{Came, Wants, Point, Moves, Nothing, Holds}
+use Rattle.dvg_device.specs.declared.reply.Reply.TheVariants.{ReturnsTo, Unknown, NoMemory}
 use Rattle.dvg_device.specs.declared.request.Request.{Request}
 use Rattle.dvg_device.specs.declared.request.Request.TheVariants as requests
+use Rattle.dvg_device.specs.declared.request.Question.{Question}
+use Rattle.dvg_device.specs.declared.request.Question.TheVariants as questions
 
 -- this holds of each history of words, with the low byte after it, that the generator stands after, and of the run that
 -- it leaves
@@ -55,6 +62,49 @@ pub record StaysStill (machine later : Machine) (drawn left : List Stroke) (repl
   pub same : later ≡ machine
   pub kept : left ≡ drawn
 
+-- this is the move that a byte or a hole would make, fetched next: where a run is open it is what such a fetch adds to
+-- the moves of the run, and else there is none
+pub record Foretold (byte : Option ℕ) (machine : Machine) (move : Option Move) : Type 0 where
+  pub adds : OfHistories machine (λ history low run. run.is_open ≡ true
+      → AddsMoves history run (met low byte) (option_to_list move))
+  pub halted : machine.is_open ≡ false → move ≡ None
+
+-- what is told of a move
+abbrev pub told_move : Option Move → Reply
+told_move None = Nothing
+told_move (Some move) = Moves move.address move.z move.placed
+
+-- where a move ends, from this beam; it stays where there is no move
+abbrev pub told_end : Option Move → Beam → Reply
+told_end None beam = Point beam.x beam.y
+told_end (Some move) beam = Point move.x1 move.y1
+
+-- the first word, or 0 where there is none
+abbrev pub first_or_none : Option ℕ → ℕ
+first_or_none None = 0
+first_or_none (Some word) = word
+
+-- what is told of what a generator holds: its first word, and in bits its scale, whether a low byte waits, whether
+-- there is a first word, and how many return addresses there are
+abbrev pub told_held : Machine → Reply
+told_held machine = Holds (first_or_none machine.held)
+    (machine.beam.scale + (0x10 * bit (is_some machine.low) + 0x20 * bit (is_some machine.held))
+    + 0x100 * length machine.stack)
+
+-- what is told of a return address
+abbrev pub told_return : Option ℕ → Reply
+told_return None = Nothing
+told_return (Some address) = ReturnsTo address
+
+-- what a question of a generator is answered
+abbrev pub Tells : Question → Machine → Reply → Type 0
+Tells (questions.Move byte) machine reply = (move : Option Move) × Foretold byte machine move × (reply ≡ told_move move)
+Tells (questions.MoveTo byte) machine reply = (move : Option Move) × Foretold byte machine move
+    × (reply ≡ told_end move machine.beam)
+Tells questions.Beam machine reply = reply ≡ Point machine.beam.x machine.beam.y
+Tells questions.Holds machine reply = reply ≡ told_held machine
+Tells (questions.ReturnTo n) machine reply = reply ≡ told_return (slice_get machine.stack n)
+
 -- what a generator with these strokes of the newest finished run comes to by a request
 abbrev pub GeneratorAnswers : Request → Machine → Machine → List Stroke → List Stroke → Reply → Type 0
 GeneratorAnswers requests.Strobe machine later drawn left reply = OfHistories machine
@@ -65,4 +115,6 @@ GeneratorAnswers requests.Wants machine later drawn left reply = (later ≡ mach
     × OfHistories machine (λ history low run. reply ≡ wanting (wants run) low)
 GeneratorAnswers (requests.Fetch byte) machine later drawn left reply = Fetches byte machine later drawn left reply
     ⊎ (LacksRoom byte machine later drawn left reply ⊎ StaysStill machine later drawn left reply)
+GeneratorAnswers (requests.Ask question) machine later drawn left reply = (later ≡ machine) × (left ≡ drawn)
+    × Tells question machine reply
 GeneratorAnswers request machine later drawn left reply = (later ≡ machine) × (left ≡ drawn) × (reply ≡ Unknown)

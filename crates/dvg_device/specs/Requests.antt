@@ -9,7 +9,8 @@ use Rattle.dvg_device.specs.declared.request.Request.TheVariants.{Offer, Redraw,
 use Rattle.dvg_device.specs.declared.request.Request.TheVariants.{ResetProcessor, ResetAll, Push, ClearDraft, Stage}
 use Rattle.dvg_device.specs.declared.request.Request.TheVariants.{Unstage, OpenWorld, OpenDriver, OpenGenerator, Close}
 use Rattle.dvg_device.specs.declared.request.Request.TheVariants.{Wants, CountStrokes, StrokeFrom, StrokeTo}
-use Rattle.dvg_device.specs.declared.request.Request.TheVariants.{StrokeIntensity, OpenJudge, Tell, Unknown}
+use Rattle.dvg_device.specs.declared.request.Request.TheVariants.{StrokeIntensity, OpenJudge, Tell, Ask, Unknown}
+use Rattle.dvg_device.specs.declared.request.Question.TheVariants.{Move, MoveTo, Beam, Holds, ReturnTo}
 
 -- the fields of an operation: a byte each of its kind, its scale and its intensity above the lowest byte, and 16 bits
 -- each of x and y
@@ -46,13 +47,19 @@ abbrev pub telling : Option JudgeLine → Request
 telling None = Unknown
 telling (Some line) = Tell line
 
+-- a byte to be handed over, or a hole where a flag says so
+abbrev pub handed : Bool → ℕ → Option ℕ
+handed flag byte = if flag then None else Some byte
+
 -- the request that a number is: its lowest byte says which, and what it brings stands above
 abbrev pub request_of : ℕ → Request
 request_of n = looked_up Unknown (n % 0x100)
     ((0, Offer) ∷ (1, Redraw) ∷ (2, Tick (flag_of n) (byte_of n)) ∷ (3, Strobe)
-    ∷ (4, Fetch (if flag_of n then None else Some (byte_of n))) ∷ (5, ResetGenerator) ∷ (6, ResetProcessor)
+    ∷ (4, Fetch (handed (flag_of n) (byte_of n))) ∷ (5, ResetGenerator) ∷ (6, ResetProcessor)
     ∷ (7, ResetAll)
     ∷ (8, Push (operation_of n)) ∷ (9, ClearDraft) ∷ (10, Stage (byte_of n) (n / 0x100_0000 % 0x1_0000)) ∷ (11, Unstage)
     ∷ (12, OpenWorld) ∷ (13, OpenDriver) ∷ (14, OpenGenerator) ∷ (15, Close)
     ∷ (16, Wants) ∷ (17, CountStrokes) ∷ (18, StrokeFrom (n / 0x100)) ∷ (19, StrokeTo (n / 0x100))
-    ∷ (20, StrokeIntensity (n / 0x100)) ∷ (21, OpenJudge) ∷ (22, telling (line_in n)) ∷ [])
+    ∷ (20, StrokeIntensity (n / 0x100)) ∷ (21, OpenJudge) ∷ (22, telling (line_in n))
+    ∷ (23, Ask (Move (handed (flag_of n) (byte_of n)))) ∷ (24, Ask (MoveTo (handed (flag_of n) (byte_of n))))
+    ∷ (25, Ask Beam) ∷ (26, Ask Holds) ∷ (27, Ask (ReturnTo (n / 0x100))) ∷ [])

@@ -2,17 +2,18 @@
 ghost use Rattle.std.specs.Prelude.{◌≡◌, ◌↔◌, [], length, drop, take, slice_get, IfSome, IsTrue};
 ghost use Rattle.dvg_world.specs.Standing.{WorldAfter};
 ghost use Rattle.dvg_device.specs.Devices.{Answered, Driver, IsNewDriver, IsOneOf, PartAnswers};
-ghost use Rattle.dvg_device.specs.Devices.{PushAnswers, StageAnswers, Turned, closed, unopened};
+ghost use Rattle.dvg_device.specs.Devices.{PushAnswers, StageAnswers, ToldBy, Turned, closed};
+ghost use Rattle.dvg_device.specs.Devices.{unopened};
 ghost use Rattle.dvg_device.specs.Parts.{open_of};
 ghost use Rattle.dvg_device.specs.Replies.{begins, ends, shines};
 
 use crate::cabinet::Cabinet;
 use crate::desk::{ask_driver, tick_driver};
 use crate::judging::ask_judge;
-use crate::lone::{ask_generator, fetch};
+use crate::lone::{ask_generator, fetch, tell};
 use crate::operation::Operation;
 use crate::reply::Reply;
-use crate::request::Request;
+use crate::request::{Question, Request};
 use dvg_frame::Draft;
 use dvg_gen::{Generator, Stroke};
 use dvg_log::Entry;
@@ -92,7 +93,22 @@ impl Device {
         match Request::of(request) {
             Request::Tick { halted, byte1 } => self.tick(halted, byte1).number(),
             Request::Fetch(byte) => self.fetch(byte).number(),
+            Request::Ask(question) => self.told(question),
             request => self.answer(request).number(),
+        }
+    }
+
+    // Returns the number of the reply to `question`. It stands apart, so that the requests of a run
+    // stay as fast.
+    #[inline(never)]
+    fn told(&mut self, question: Question) -> u64
+        ensures same { self.new ≡ self.old }
+        ensures told { ToldBy question self.old.open_part result }
+    {
+        match &self.part {
+            Part::Nothing => Reply::Closed.number(),
+            Part::Generator(generator) => tell(generator, question).number(),
+            Part::World(_) | Part::Driver(_) | Part::Judge(_) => Reply::Unknown.number(),
         }
     }
 

@@ -1,12 +1,13 @@
 //! A generator alone.
-ghost use Rattle.std.specs.Prelude.{◌≡◌, ◌⊎◌};
+ghost use Rattle.std.specs.Prelude.{◌≡◌, ◌⊎◌, slice_get};
 ghost use Rattle.dvg_gen.specs.Told.{wants};
 ghost use Rattle.dvg_device.specs.Generators.{Fetches, GeneratorAnswers, LacksRoom, OfHistories};
-ghost use Rattle.dvg_device.specs.Generators.{StaysStill, wanting};
+ghost use Rattle.dvg_device.specs.Generators.{StaysStill, Tells, told_end, told_held, told_move};
+ghost use Rattle.dvg_device.specs.Generators.{told_return, wanting};
 
-use crate::reply::Reply;
-use crate::request::Request;
-use dvg_gen::{Generator, Stroke};
+use crate::reply::{Reply, bit};
+use crate::request::{Question, Request};
+use dvg_gen::{Generator, Move, Stroke};
 use dvg_log::Entry;
 use std::alloc::Global;
 
@@ -32,7 +33,21 @@ pub(crate) fn ask_generator(
         }
         Request::Wants => wanted(generator),
         Request::Fetch(byte) => fetch(generator, byte, picture),
+        Request::Ask(question) => tell(generator, question),
         _ => Reply::Unknown,
+    }
+}
+
+// Returns the reply of `generator` to `question`.
+pub(crate) fn tell(generator: &Generator<Global>, question: Question) -> Reply
+    ensures { Tells question generator.now result }
+{
+    match question {
+        Question::Move(byte) => move_of(generator.move_by(byte)),
+        Question::MoveTo(byte) => end_of(generator.move_by(byte), generator),
+        Question::Beam => place_of(generator),
+        Question::Holds => held(generator),
+        Question::ReturnTo(i) => return_address(generator, i),
     }
 }
 
@@ -43,6 +58,58 @@ fn wanted(generator: &Generator<Global>) -> Reply
     match generator.wants() {
         Some(address) => Reply::Wants(address, generator.wants_high()),
         None => Reply::Came(Entry::Still),
+    }
+}
+
+// Returns the reply that says which move `made` is, if any.
+fn move_of(made: Option<Move>) -> Reply
+    ensures { result ≡ told_move made }
+{
+    match made {
+        Some(made) => Reply::Moves(made.address, made.z, made.placed),
+        None => Reply::Nothing,
+    }
+}
+
+// Returns the reply that says where the beam of `generator` is after the move `made`, if any.
+fn end_of(made: Option<Move>, generator: &Generator<Global>) -> Reply
+    ensures { result ≡ told_end made generator.now.beam }
+{
+    match made {
+        Some(made) => Reply::Point(made.x1, made.y1),
+        None => place_of(generator),
+    }
+}
+
+// Returns the reply that says where the beam of `generator` is.
+fn place_of(generator: &Generator<Global>) -> Reply
+    ensures { result ≡ Reply.Point generator.now.beam.x generator.now.beam.y }
+{
+    let beam = generator.beam();
+    Reply::Point(beam.x, beam.y)
+}
+
+// Returns the reply that says what else `generator` holds.
+fn held(generator: &Generator<Global>) -> Reply
+    ensures { result ≡ told_held generator.now }
+{
+    let first = generator.first_word();
+    let scale = u16::from(generator.beam().scale);
+    let waits = 0x10 * bit(generator.low_byte().is_some()) + 0x20 * bit(first.is_some());
+    let returns = generator.return_addresses().len() as u16;
+    Reply::Holds(first.unwrap_or(0), scale + waits + 0x100 * returns)
+}
+
+// Returns the reply that says what return address `i` of `generator` is, from 0, the newest one.
+fn return_address(generator: &Generator<Global>, i: u64) -> Reply
+    ensures { result ≡ told_return (slice_get generator.now.stack i) }
+{
+    let addresses = generator.return_addresses();
+    let count = addresses.len();
+    if i < count as u64 {
+        Reply::ReturnsTo(addresses[count - 1 - i as usize])
+    } else {
+        Reply::Nothing
     }
 }
 

@@ -1,13 +1,29 @@
 //! What a device is asked for.
 ghost use Rattle.std.specs.Prelude.{◌≡◌};
-ghost use Rattle.dvg_device.specs.Requests.{line_in, operation_of, request_of, telling};
+ghost use Rattle.dvg_device.specs.Requests.{handed, line_in, operation_of, request_of, telling};
 
 use crate::judging::JudgeLine;
 use crate::operation::Operation;
 
+/// What a generator alone is asked, which changes nothing.
+#[derive(Clone, Copy, Debug, PartialEq, Eq)]
+pub enum Question {
+    /// Which move would this byte make, or `None`, by the flag, if it were handed over next?
+    Move(Option<u8>),
+    /// Where would the beam be after this byte, or `None`, by the flag?
+    MoveTo(Option<u8>),
+    /// Where is the beam?
+    Beam,
+    /// What else does it hold: its global scale, a low byte, a first word, return addresses?
+    Holds,
+    /// Which return address has this number? The newest one has the number 0.
+    ReturnTo(u64),
+}
+
 /// What a device is asked for. As a number, its lowest byte is the code, which stands first here,
 /// and what it brings stands above: a flag in bit 8, a byte in bits 16 to 23, a count in bits 24 to
-/// 39, and the number of a stroke from bit 8 on. Bits that mean nothing may have any value.
+/// 39, and the number of a stroke or a return address from bit 8 on. Bits that mean nothing may
+/// have any value.
 #[derive(Clone, Copy, Debug, PartialEq, Eq)]
 pub enum Request {
     /// 0: the driver is handed the draft.
@@ -78,6 +94,8 @@ pub enum Request {
     /// reply that the line's event had: its kind in bits 8 to 15, its address in 16 to 31, and its
     /// value in 32 to 47. A kind above 16 is that of no line.
     Tell(JudgeLine),
+    /// 23 to 27, in the order of `Question`: what is asked of a generator alone.
+    Ask(Question),
     /// Any other number.
     Unknown,
 }
@@ -108,7 +126,7 @@ impl Request {
                 byte1: byte,
             },
             3 => Request::Strobe,
-            4 => Request::Fetch(if flag { None } else { Some(byte) }),
+            4 => Request::Fetch(handed(flag, byte)),
             5 => Request::ResetGenerator,
             6 => Request::ResetProcessor,
             7 => Request::ResetAll,
@@ -130,9 +148,22 @@ impl Request {
             20 => Request::StrokeIntensity(number / 0x100),
             21 => Request::OpenJudge,
             22 => Request::telling(line_in(number)),
+            23 => Request::Ask(Question::Move(handed(flag, byte))),
+            24 => Request::Ask(Question::MoveTo(handed(flag, byte))),
+            25 => Request::Ask(Question::Beam),
+            26 => Request::Ask(Question::Holds),
+            27 => Request::Ask(Question::ReturnTo(number / 0x100)),
             _ => Request::Unknown,
         }
     }
+}
+
+// Returns `byte`, or `None` where `flag` says that no memory answers.
+#[inline(always)]
+fn handed(flag: bool, byte: u8) -> Option<u8>
+    ensures { result ≡ handed flag byte }
+{
+    if flag { None } else { Some(byte) }
 }
 
 // Returns the operation in `number`.

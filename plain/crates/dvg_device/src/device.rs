@@ -4,10 +4,10 @@ use std::prelude::*;
 use crate::cabinet::Cabinet;
 use crate::desk::{ask_driver, tick_driver};
 use crate::judging::ask_judge;
-use crate::lone::{ask_generator, fetch};
+use crate::lone::{ask_generator, fetch, tell};
 use crate::operation::Operation;
 use crate::reply::Reply;
-use crate::request::Request;
+use crate::request::{Question, Request};
 use dvg_frame::Draft;
 use dvg_gen::{Generator, Stroke};
 use dvg_log::Entry;
@@ -65,7 +65,19 @@ impl Device {
         match Request::of(request) {
             Request::Tick { halted, byte1 } => self.tick(halted, byte1).number(),
             Request::Fetch(byte) => self.fetch(byte).number(),
+            Request::Ask(question) => self.told(question),
             request => self.answer(request).number(),
+        }
+    }
+
+    // Returns the number of the reply to `question`. It stands apart, so that the requests of a run
+    // stay as fast.
+    #[inline(never)]
+    fn told(&mut self, question: Question) -> u64 {
+        match &self.part {
+            Part::Nothing => Reply::Closed.number(),
+            Part::Generator(generator) => tell(generator, question).number(),
+            Part::World(_) | Part::Driver(_) | Part::Judge(_) => Reply::Unknown.number(),
         }
     }
 

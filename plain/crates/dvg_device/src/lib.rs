@@ -33,4 +33,4 @@ pub use device::Device;
 pub use judging::JudgeLine;
 pub use operation::Operation;
 pub use reply::{Reply, RunState};
-pub use request::Request;
+pub use request::{Question, Request};

@@ -23,7 +23,7 @@ pub enum RunState {
 
 /// What a device replies. As a number, its lowest byte is the kind, which stands first here, an
 /// address stands in bits 8 to 23, and a value from bit 24 on; but the reply to a question about
-/// strokes is what was asked for, and nothing else.
+/// strokes, and that of a place, is what was asked for, and nothing else.
 #[derive(Clone, Copy, Debug, PartialEq, Eq, Hash)]
 pub enum Reply {
     /// 0 to 17: what came of it, as a log shows it; the strokes of a run that came to a HALT can be
@@ -76,6 +76,18 @@ pub enum Reply {
     /// 26 to 30, in the order of `RunState`: how the newest run stands, of which a judge was told
     /// this line, and whether the line reads what was not written (1, else 0).
     Judged(RunState, bool),
+    /// 31: a move, by the instruction whose first word is at this address, with this intensity, 0
+    /// (blank) to 15. The value is the intensity, and 0x100 more where a LABS places the beam.
+    Moves(u16, u8, bool),
+    /// 32: there is no move, or no such return address.
+    Nothing,
+    /// 33: what a generator holds: the first word of the instruction whose second word comes next,
+    /// or 0, and bits: the global scale in bits 0 to 3; in bit 4 whether a low byte waits, and in
+    /// bit 5 whether there is such a first word; and from bit 8 on how many return addresses there
+    /// are, 0 to 4. The word stands in the place of the address, and the bits are the value.
+    Holds(u16, u16),
+    /// 34: a return address.
+    ReturnsTo(u16),
     /// 254: there is no such request, or what is open has no such request. Nothing has changed.
     Unknown,
     /// 255: there was no memory for it, and nothing has changed.
@@ -102,10 +114,24 @@ impl Reply {
             Reply::Intensity(z) => u64::from(z),
             Reply::Judged(run, false) => judged(run, 0),
             Reply::Judged(run, true) => judged(run, 1),
+            Reply::Moves(address, z, placed) => packed(31, address, move_bits(z, placed)),
+            Reply::Nothing => packed(32, 0, 0),
+            Reply::Holds(first, bits) => packed(33, first, bits),
+            Reply::ReturnsTo(address) => packed(34, address, 0),
             Reply::Unknown => packed(254, 0, 0),
             Reply::NoMemory => packed(255, 0, 0),
         }
     }
+}
+
+// Returns 1 where `flag` is true, else 0.
+pub(crate) fn bit(flag: bool) -> u16 {
+    if flag { 1 } else { 0 }
+}
+
+// Returns the intensity `z` of a move, and whether a LABS places the beam, in bits.
+fn move_bits(z: u8, placed: bool) -> u16 {
+    u16::from(z) + 0x100 * bit(placed)
 }
 
 // Returns the number of the reply of a judge, by which the newest run stands as `run` says, with

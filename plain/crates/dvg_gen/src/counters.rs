@@ -6,6 +6,7 @@ use crate::moving::Move;
 /// and a vector counts them on by its move, which the rate multipliers round to whole units, a half
 /// away from zero. So they can differ from the exact position.
 #[derive(Clone, Copy, Debug, PartialEq, Eq, Hash)]
+#[cfg_attr(feature = "serde", derive(serde::Serialize, serde::Deserialize))]
 pub struct Counters {
     /// The position along x, below 4,096.
     pub x: u16,

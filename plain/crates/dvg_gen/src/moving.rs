@@ -5,6 +5,7 @@ use dvg_code::{Code, Instr};
 /// What an instruction did to the beam, also where nothing is seen: a VCTR or an SVEC moved it, or
 /// a LABS placed it. Positions are in 1/512 of a screen unit, below 2,097,152.
 #[derive(Clone, Copy, Debug, PartialEq, Eq, Hash)]
+#[cfg_attr(feature = "serde", derive(serde::Serialize, serde::Deserialize))]
 pub struct Move {
     /// Where it begins along x.
     pub x0: u32,
