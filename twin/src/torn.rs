@@ -231,7 +231,9 @@ impl MomentJudge {
         self.has_read = true;
         let (standing, contradicts) = self.moments.tell(line);
         if contradicts {
-            return Some(format!("line {number} reads what was not written: {text}\n"));
+            return Some(format!(
+                "line {number} reads what was not written: {text}\n"
+            ));
         }
         if standing == Standing::NoMoment && self.tear.is_none() {
             self.tear = Some(format!("torn at line {number}: {text}\n"));
