@@ -1,6 +1,5 @@
-use Rattle.std.proofs.Common.{◌≡◌, Err, arith, sym, ◌∙◌}
+use Rattle.std.proofs.Common.{arith, sym, ◌∙◌}
 use Rattle.dvg_frame.proofs.Sizes.{length-le-size}
-use Rattle.dvg_frame.specs.declared.fault.FrameFault.TheVariants.{TooLong}
 use Rattle.test_facts.proofs.Refused.{long_refused}
 use Rattle.test_facts.proofs.frames.long_list_is_refused.Goals as goal
 
