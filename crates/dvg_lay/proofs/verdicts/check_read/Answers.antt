@@ -8,5 +8,5 @@ pub check_frames-requires : goal.check_frames-requires
 check_frames-requires g c =
     let sketch = c.args.sketch.now in
     subst (All IsLent) (sym c.as_slice-2.ensures.value)
-    (all_lent c.requires.read.0 sketch.rom.items sketch.names.items c.in-Ok-frames.frames.items
-    (subst (IsSketchOf c.requires.read.0 sketch.rom.items sketch.names.items) (sym c.in-Ok-frames.ensures) c.requires.read.1))
+    (all_lent c.requires.read.0 sketch.rom.items sketch.names.items c.in-Ok.frames.items
+    (subst (IsSketchOf c.requires.read.0 sketch.rom.items sketch.names.items) (sym c.in-Ok.ensures) c.requires.read.1))
