@@ -1,5 +1,5 @@
-# Reads a draft with names, as the page's editors do, and writes it as `dvg check` reads it. Tests
-# ask it beside the page and beside `dvg lay`. This is unproved.
+# Reads a draft with names, and writes it as `dvg check` reads it. Tests of traces ask it beside
+# `dvg lay`; it takes some texts that `dvg lay` refuses. This is unproved.
 #
 #     awk -f labels.awk <DRAFT_WITH_NAMES >DRAFT
 #

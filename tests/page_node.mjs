@@ -11,7 +11,7 @@ import { existsSync, mkdirSync, readFileSync, readdirSync, writeFileSync } from 
 import { COMMAND, Engine, OPTION } from '../page/src/engine.mjs';
 import { Board } from '../page/src/board.mjs';
 import { AREA, SIGN, areaOf, drawnHalf } from '../page/src/signs.mjs';
-import { hex, plainDraft, operationsOf, romOf, splitRom } from '../page/src/drafts.mjs';
+import { hex } from '../page/src/hex.mjs';
 import { playSteps, stepsOf, traceOf } from '../page/src/traces.mjs';
 import { Chance, Proportions, reelOf } from '../page/src/chance.mjs';
 import { Drawer, momentOf } from '../page/src/moments.mjs';
@@ -19,7 +19,7 @@ import { fragmentOf, plainFragment, stateOf } from '../page/src/links.mjs';
 import { kindOf } from '../page/src/files.mjs';
 import { Recording, boardOfDump } from '../page/src/recordings.mjs';
 import { logOfBus } from '../page/src/buses.mjs';
-import { readSketch } from '../page/src/sketches.mjs';
+import { readSketch, romOf } from '../page/src/sketches.mjs';
 import { SCENES, SCENE_FRAMES } from '../page/src/playfield.mjs';
 import { tearOf } from '../page/src/tears.mjs';
 import { driverOf, driverText, generatorOf } from '../page/src/inside.mjs';
@@ -46,29 +46,57 @@ function expect(what, wanted, found) {
 
 // --- The commands, on tests/cases ---
 
-// The cases of these texts as folders, which tests/unfold writes once.
-function unfolded(name, texts) {
+// The cases of these texts as folders, by tests/unfold.
+function unfolded(name, texts, ...options) {
   const folder = `${work}/${name}`;
-  if (existsSync(folder)) return folder;
   mkdirSync(folder);
-  const files = texts.map((text) => `${top}tests/${name}/${text}.md`);
-  const { status, stderr } = spawnSync(`${top}tests/unfold`, [folder, ...files]);
+  const files = texts.map((text) => `${top}tests/cases/${text}.md`);
+  const { status, stderr } = spawnSync(`${top}tests/unfold`, [...options, folder, ...files]);
   if (status !== 0) throw new Error(`tests/unfold: ${stderr}`);
   return folder;
 }
 
 const TEXTS = ['arguments', 'check', 'check_bound', 'list', 'picture', 'picture_all', 'play',
   'play_all', 'play_banked', 'rom', 'torn'];
-const OPTIONS = { picture: '--all', check: '--bound', play: '--all' };
+const SKETCH_TEXTS = ['lay', 'refused_sketches', 'render', 'render_check', 'sketch_faults',
+  'sketches'];
+const COMMANDS = {
+  list: COMMAND.list, rom: COMMAND.rom, picture: COMMAND.picture, check: COMMAND.check,
+  play: COMMAND.play, torn: COMMAND.torn, 'picture --all': COMMAND.picture + OPTION,
+  'check --bound': COMMAND.check + OPTION, 'play --all': COMMAND.play + OPTION,
+  render: COMMAND.sketch, 'render --check': COMMAND.sketch + OPTION, 'lay --rom': COMMAND.layRom,
+  'lay --equates': COMMAND.layRom + OPTION, 'lay --table': COMMAND.layTable,
+};
 const read = (folder, file) => (existsSync(`${folder}/${file}`) ? readFileSync(`${folder}/${file}`)
   : Buffer.alloc(0));
 
 // The number of the command of a case, or null where the page has none.
 function commandOf(folder) {
   const args = read(folder, 'arguments').toString().split('\n').slice(0, -1);
-  if (!(args[0] in COMMAND) || read(folder, 'status').toString().trim() === '64') return null;
-  if (args.length === 1) return COMMAND[args[0]];
-  return args.length === 2 && args[1] === OPTIONS[args[0]] ? COMMAND[args[0]] + OPTION : null;
+  return COMMANDS[args.join(' ')] ?? null;
+}
+
+// What the page's reader of sketches tells of a text: its fault, or what `dvg render --check` says,
+// and its frames.
+function testReader(name, text) {
+  const { stdout, stderr, status } = spawnSync(program, ['render', '--check'], { input: text });
+  const refused = () => spawnSync(program, ['render'], { input: text }).stderr;
+  const wanted = status === 0 ? stdout : stdout.length === 0 ? stderr : refused();
+  const { said, good, frames, rom } = readSketch(engine, text);
+  expect(`the sketch of ${name}: what is said`, wanted.toString().trim().replace(/^dvg: /gm, ''),
+    said);
+  expect(`the sketch of ${name}: whether it is good`, status === 0, good);
+  const texts = frames.map(({ lines }) => `${rom}${lines.map((line) => `${line}\n`).join('')}`);
+  const verdicts = frames.map(({ name: of }, k) => `${of === '' ? '' : `${of}: `}`
+    + runProgram(['check', '--bound'], texts[k]));
+  expect(`the sketch of ${name}: each of its frames`, stdout.toString(), verdicts.join(''));
+  if (!good) return;
+  const laid = (input) => spawnSync(program, ['lay'], { input, maxBuffer: 1 << 28 }).stdout;
+  expect(`the sketch of ${name}: their bytes`, laid(text).toString('hex'),
+    Buffer.concat(texts.map(laid)).toString('hex'));
+  if (frames.length > 0) expect(`the sketch of ${name}: its ROM`,
+    spawnSync(program, ['lay', '--rom'], { input: text }).stdout.toString('hex'),
+    spawnSync(program, ['lay', '--rom'], { input: texts[0] }).stdout.toString('hex'));
 }
 
 function testCases() {
@@ -93,11 +121,28 @@ function testCases() {
     + ' nothing, help, --banked');
 }
 
+// Each time that a case of a sketch asks `dvg`, what dvg.wasm answers is what the program does, and
+// what the page reads in the text is what the program says of it.
+function testSketchCases() {
+  const cases = unfolded('sketch_cases', SKETCH_TEXTS, '--asked');
+  for (const name of readdirSync(cases)) {
+    const command = commandOf(`${cases}/${name}`), input = read(`${cases}/${name}`, 'input');
+    if (command !== null) {
+      const args = read(`${cases}/${name}`, 'arguments').toString().trim().split('\n');
+      const wanted = spawnSync(program, args, { input, maxBuffer: 1 << 28 });
+      const got = engine.runBytes(command, input);
+      expect(`the case ${name}`, true, wanted.status === got.status
+        && wanted.stdout.equals(got.output) && wanted.stderr.equals(got.error));
+    }
+    testReader(name, input);
+  }
+}
+
 // --- The board that the page makes of a driver and a generator ---
 
 function testTrace(name, text) {
   const { rom, steps } = stepsOf(text);
-  const board = new Board(engine, romOf(rom));
+  const board = new Board(engine, romOf(engine, rom));
   playSteps(board, steps);
   expect(`the page's board on ${name}`, engine.run(COMMAND.play + OPTION, text).output,
     board.log());
@@ -114,13 +159,13 @@ function runProgram(args, input) {
 }
 
 const example = (name) => readFileSync(`${top}examples/frames/${name}.sketch`, 'utf8');
-const linesOf = (text) => operationsOf(plainDraft(text));
+const linesOf = (text) => readSketch(engine, text).frames[0].lines;
 const drafts = [linesOf(example('score')), linesOf(example('rocks'))];
 const reel = () => reelOf([{ lines: drafts[0] }], [{ lines: drafts[1] }]);
 
 // The board after this many events of a schedule.
 function runBoard(make, count, wireCut = false, rom = '') {
-  const board = new Board(engine, romOf(rom), wireCut), schedule = make();
+  const board = new Board(engine, romOf(engine, rom), wireCut), schedule = make();
   while (board.length < count) board.happen(schedule.next(board));
   return board;
 }
@@ -347,7 +392,7 @@ function testHalves() {
 
 // More events of a kind than a line of a trace can count.
 function testLongTrace() {
-  const board = new Board(engine, romOf(''));
+  const board = new Board(engine, romOf(engine, ''));
   for (let k = 0; k < 25000; k++) board.happen({ name: k < 20000 ? 'tick' : 'fetch' });
   expect('20,000 ticks: the log', runProgram(['play', '--all'], traceOf(board)), board.log());
   board.free();
@@ -355,38 +400,31 @@ function testLongTrace() {
 
 // --- Drafts with names, and ROMs ---
 
+// The examples, and texts in which a name is where one might not look for it.
+const NAMES = ['rom: labs 0 0 0\njump rom\n', 'map: labs 0 0 0\nHALT\n', 'a: b: halt\n',
+  '_a: labs 0 0 0\nhalt\n', 'labs 0 0 0\ncall add\nhalt\n', 'a:halt\n',
+  'labs 0 0 0\ncall 2\nhalt\n', 'Rock: labs 0 0 0\ncall ROCK\n', '.rom\nx: return\n',
+  '.frame\n.FRAME A # two\nlabs 1 2 3\nx:\n',
+  'labs 0 0 0\njump x\nx:\n', '.rom\na: return\n.frame\nlabs 0 0 0\ncallrom a\nx: jump x\n', '',
+  '#', 'map 4096\n', 'rom 800 D000\nlabs 0 0 0\nhalt', '\t labs  1 2 3 \r\nhalt#'];
+
 function testDrafts() {
-  const folder = unfolded('tool_cases', ['labels']);
-  const cases = readdirSync(folder).filter((name) => name.startsWith('labels'))
-    .map((name) => `${folder}/${name}/input`)
-    .filter((file) => existsSync(file)).concat(readdirSync(`${top}examples/frames`)
-      .filter((name) => name.endsWith('.sketch')).map((name) => `${top}examples/frames/${name}`));
-  for (const file of cases) {
-    const text = splitRom(readFileSync(file, 'utf8')).draft;
-    const awk = spawnSync('awk', ['-f', `${top}tests/labels.awk`], { input: text });
-    const plain = plainDraft(text);
-    expect(`${file}: a fault is told`, awk.status !== 0, plain.fault !== null);
-    if (awk.status !== 0) {
-      expect(`${file}: the fault`, awk.stderr.toString().split('\n')[0],
-        `labels.awk: ${plain.fault?.text}`);
-    } else {
-      const wanted = awk.stdout.toString().split('\n')
-        .filter((line) => line !== '' && !line.startsWith('#')).join('\n');
-      expect(`${file}: the operations`, wanted, operationsOf(plain).join('\n'));
-    }
-  }
-  console.log(`drafts: ${cases.length} beside labels.awk`);
+  const folders = ['frames', '.', 'board', 'first', 'asteroid_game', 'bat'];
+  const texts = folders.flatMap((folder) => readdirSync(`${top}examples/${folder}`)
+    .filter((name) => name.endsWith('.sketch')).map((name) => `${top}examples/${folder}/${name}`));
+  for (const file of texts) testReader(file, readFileSync(file));
+  for (const text of NAMES) testReader(JSON.stringify(text), text);
+  console.log(`sketches beside the program: ${texts.length} examples and ${NAMES.length} more`);
 }
 
 function testRoms() {
-  const shapes = splitRom(example('rom_shapes')).rom;
+  const { rom: shapes, frames: [shape] } = readSketch(engine, example('rom_shapes'));
   for (const text of ['', 'map 2048', 'map 4096\nrom 400 B000 F00A\nrom BFF E400', shapes]) {
-    const { bytes } = romOf(text);
+    const { bytes } = romOf(engine, text);
     const written = engine.run(COMMAND.rom, bytes).output;
     expect(`the ROM of ${JSON.stringify(text.slice(0, 30))}`, Buffer.from(bytes).toString('hex'),
-      Buffer.from(romOf(written).bytes).toString('hex'));
+      Buffer.from(romOf(engine, written).bytes).toString('hex'));
   }
-  const shape = { lines: linesOf(splitRom(example('rom_shapes')).draft) };
   const frame = () => reelOf([shape], [{ lines: drafts[1] }]);
   const board = runBoard(() => new Chance(7, frame), events, false, shapes);
   expect('a frame that calls the ROM: the log', runProgram(['play', '--all'], traceOf(board)),
@@ -459,7 +497,7 @@ function testFiles() {
 function testLessons() {
   LESSONS.forEach(({ title, sentences, shows, at }, k) => {
     const state = stateOfLesson(k), { rom, steps } = stepsOf(state.trace),
-      board = new Board(engine, romOf(rom));
+      board = new Board(engine, romOf(engine, rom));
     playSteps(board, steps);
     expect(`lesson ${title}: three sentences`, '1 1 1',
       sentences.map((one) => one.match(/[.]( |$)/g).length).join(' '));
@@ -688,6 +726,7 @@ function testTwin() {
 }
 
 testCases();
+testSketchCases();
 testProcessor();
 testTwin();
 testSchedules();

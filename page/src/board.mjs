@@ -2,9 +2,9 @@
  * the HALT wire can be cut, which nothing in `dvg` can do. Each event has an entry, and the entries
  * are what `play --all` writes, as long as the wire is whole. */
 import { COMMAND, KIND } from './engine.mjs';
-import { hex } from './drafts.mjs';
+import { hex } from './hex.mjs';
 import { Runs, resultOf, signOfPicture } from './runs.mjs';
-import { ROW, SIGN, areaOf } from './signs.mjs';
+import { AREA, ROW, SIGN, areaOf } from './signs.mjs';
 
 /* The most events, as `play` takes them. */
 export const MOST_EVENTS = 65536;
@@ -17,6 +17,7 @@ export class Board {
   constructor(engine, rom, wireCut = false) {
     this.engine = engine;
     this.rom = rom;
+    this.map = engine.mapOf(rom.bytes.length);
     this.driver = engine.device();
     this.driver.openDriver(rom.bytes);
     this.generator = engine.device();
@@ -145,19 +146,19 @@ export class Board {
     this.left.push(this.length);
   }
 
-  /* The byte that the memory answers with, or null where no memory is. */
-  byteAt(byte) {
-    if (byte < RAM_BYTES) return this.ram[byte];
-    const at = byte - 2 * this.rom.first;
-    return at >= 0 && at < this.rom.bytes.length ? this.rom.bytes[at] : null;
+  /* The byte that the memory answers with: the low or the high one of a word. */
+  byteAt(word, isHigh) {
+    return this.map[word] === AREA.ROM ? this.rom.bytes[2 * (word - this.rom.first) + isHigh]
+      : this.ram[2 * word + isHigh];
   }
 
   fetch() {
     const want = this.generator.wants();
     if (want.kind !== KIND.WANTED) return { text: 'still' };
-    const byte = this.byteAt(2 * want.address + want.value);
-    const got = byte === null ? this.generator.fetchHole() : this.generator.fetch(byte);
-    const shown = { row: ROW.GENERATOR, area: areaOf(want.address), fetched: want.address };
+    const area = this.map[want.address];
+    const got = area === AREA.HOLE ? this.generator.fetchHole()
+      : this.generator.fetch(this.byteAt(want.address, want.value));
+    const shown = { row: ROW.GENERATOR, area, fetched: want.address };
     const place = hex(got.address, 3);
     if (got.kind === KIND.LOW) {
       this.runs.low(this.length, got.address, got.value);

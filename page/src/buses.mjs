@@ -1,6 +1,6 @@
 /* A table of what a processor did on its bus, as a logic analyser saves it, made into a log as `dvg
  * torn` reads it, by the addresses of the Asteroids board. */
-import { hex } from './drafts.mjs';
+import { hex } from './hex.mjs';
 
 const RAM_FROM = 0x4000, RAM_TO = 0x47FF, STROBE = 0x3000, HALT_FLAG = 0x2002;
 const RESET_VECTORS = [0x7FFC, 0xFFFC];

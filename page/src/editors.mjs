@@ -1,8 +1,7 @@
 /* The editors of frames and of the ROM, each checked while one types. */
-import { COMMAND } from './engine.mjs';
-import { plainLines, romOf } from './drafts.mjs';
+import { hex } from './hex.mjs';
 import { drawSmall } from './screen.mjs';
-import { framesOf, hasRom, readSketch } from './sketches.mjs';
+import { readSketch, romOf } from './sketches.mjs';
 
 function make(tag, fields, ...children) {
   const element = Object.assign(document.createElement(tag), fields);
@@ -114,8 +113,13 @@ export class DraftEditor extends Editor {
     this.shown = 0;
     const later = !this.isSeen && this.known.includes(this.value);
     this.whenSeen = later ? () => this.tellOf(engine, rom) : null;
-    if (later) Object.assign(this, { ownRom: '', offerable: true, frames: framesOf(this.value) });
+    if (later) this.take(readSketch(engine, this.value));
     else this.tellOf(engine, rom);
+  }
+
+  /* Takes the frames and the ROM of a sketch that was read. */
+  take({ frames, rom: ownRom }) {
+    Object.assign(this, { frames, ownRom, offerable: frames.length > 0 });
   }
 
   /* Shows the text that was held back, and says what is to be said of it. */
@@ -126,18 +130,17 @@ export class DraftEditor extends Editor {
   }
 
   tellOf(engine, rom) {
-    const own = hasRom(this.value);
-    const { said, good, frames, rom: ownRom } = readSketch(engine, this.textOver(rom));
-    this.frames = frames;
-    this.ownRom = own ? ownRom ?? '' : '';
-    this.offerable = frames.length > 0;
-    const shown = withoutRom(said, own ? 0 : rom.lines);
-    this.tell(good ? goodText(shown, frames) : shown, good ? null : lineOfFault(shown));
+    const alone = readSketch(engine, this.value);
+    this.take(alone);
+    const isOver = this.offerable && this.ownRom === '' && rom.lines > 0;
+    const { said, good } = isOver ? readSketch(engine, rom.text + this.value) : alone;
+    const shown = isOver ? withoutRom(said, rom.lines) : said;
+    this.tell(good ? goodText(shown, this.frames) : shown, good ? null : lineOfFault(shown));
   }
 
   /* The text as `dvg` takes it: after the lines of the ROM, where it brings none. */
   textOver(rom) {
-    return hasRom(this.value) ? this.value : rom.text + this.value;
+    return this.ownRom === '' ? rom.text + this.value : this.value;
   }
 
   /* Draws the next frame beside the text, as strokes that `strokesOf` makes of its lines. */
@@ -163,16 +166,14 @@ export class DraftEditor extends Editor {
 }
 
 export class RomEditor extends Editor {
-  /* Checks the ROM, by the shortest draft over it: whether it is good. */
+  /* Reads the ROM: whether it is good. A frame has its own editor. */
   check(engine) {
-    const text = plainLines(this.value).join('\n');
-    const got = engine.run(COMMAND.check, `${text}\nlabs 0 0 0\nhalt\n`);
-    const line = /at line ([0-9]+)/.exec(got.error);
-    const good = got.status === 0;
-    this.rom = romOf(good ? this.value : '');
-    const bytes = this.rom.bytes.length;
-    this.tell(good ? `ok ${bytes} bytes, words ${this.rom.first.toString(16)} to BFF`
-      : got.error.replace(/^dvg: /, '').trim(), line ? Number(line[1]) : null);
-    return good;
+    const read = romOf(engine, this.value), isFrame = read.drafts.some(({ length }) => length > 0);
+    const fault = read.fault || (isFrame ? 'a frame, which has its own editor' : '');
+    this.rom = fault === '' ? read : romOf(engine, '');
+    const { bytes, first } = this.rom;
+    this.tell(fault || `ok ${bytes.length} bytes, words ${hex(first, 3)} to BFF`,
+      lineOfFault(fault));
+    return fault === '';
   }
 }

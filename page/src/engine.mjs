@@ -1,5 +1,7 @@
 /* dvg.wasm: the device of include/dvg.h, and each command of `dvg` over bytes. */
 
+import { learnMap } from './signs.mjs';
+
 /* The commands by their numbers. With OPTION more a command has its option: --all or --bound, of a
  * sketch --check, and of its ROM --equates. */
 export const COMMAND = {
@@ -26,9 +28,16 @@ const OPERATION = {
   vctr: 0, svec: 1, labs: 2, call: 3, jump: 4, callrom: 5, jumprom: 6, return: 7, halt: 8,
 };
 
+/* How many bytes the larger ROM has, and how many word addresses there are. */
+const LARGE_ROM_BYTES = 4096, WORDS = 4096;
+
+/* The lines that a judge of halves takes, by their numbers. */
+const HALVES = { STARTED: 0, FETCHED: 1, WROTE: 2, HALTED: 3 };
+
 export class Engine {
   constructor(instance) {
     this.wasm = instance.exports;
+    learnMap(this.mapOf(LARGE_ROM_BYTES), (word) => this.wasm.dvg_drawn_half(word));
   }
 
   static async of(bytes) {
@@ -38,11 +47,16 @@ export class Engine {
 
   /* Runs a command over bytes, or over a text: its status, and what it wrote, as bytes. */
   runBytes(command, input) {
+    this.put(input);
+    const status = this.wasm.dvg_run(command);
+    return { status, output: this.written(0), error: this.written(1) };
+  }
+
+  /* Hands in bytes, or a text. */
+  put(input) {
     const bytes = typeof input === 'string' ? new TextEncoder().encode(input) : input;
     const at = this.wasm.dvg_input(bytes.length);
     new Uint8Array(this.wasm.memory.buffer, at, bytes.length).set(bytes);
-    const status = this.wasm.dvg_run(command);
-    return { status, output: this.written(0), error: this.written(1) };
   }
 
   written(onError) {
@@ -58,9 +72,48 @@ export class Engine {
     return { status, output: text(output), error: text(error) };
   }
 
+  /* The frames of a sketch as drafts without names, after the lines of its ROM: each between
+   * `offer` and `end`. Of a text with a fault there is nothing. */
+  drafts(text) {
+    this.put(text);
+    this.wasm.dvg_drafts();
+    return new TextDecoder().decode(this.written(0));
+  }
+
   device() {
     return new Device(this.wasm);
   }
+
+  /* The area of each word address, with a ROM of so many bytes. */
+  mapOf(romBytes) {
+    const at = this.wasm.dvg_map(romBytes);
+    return new Uint8Array(this.wasm.memory.buffer, at, WORDS).slice();
+  }
+
+  halves() {
+    return new Halves(this.wasm);
+  }
+}
+
+/* The judge of halves, as `dvg torn` asks it. */
+class Halves {
+  constructor(wasm) {
+    this.wasm = wasm;
+    this.at = wasm.dvg_halves_new();
+  }
+
+  free() { this.wasm.dvg_halves_free(this.at); }
+
+  take(line, address = 0, value = 0) {
+    return this.wasm.dvg_halves_take(this.at, line, address, value) === 1;
+  }
+
+  started() { this.take(HALVES.STARTED); }
+  fetched(address, word) { this.take(HALVES.FETCHED, address, word); }
+  halted() { this.take(HALVES.HALTED); }
+
+  /* Whether a byte that is written comes into the half that is being drawn. */
+  wrote(address) { return this.take(HALVES.WROTE, address); }
 }
 
 export class Device {

@@ -1,6 +1,6 @@
 /* The machine's inside at a moment: what the generator is at, and what the driver did last. */
 import { areaOf, drawnHalf } from './signs.mjs';
-import { hex } from './drafts.mjs';
+import { hex } from './hex.mjs';
 
 const LABS = 0xA, HALT = 0xB, JSRL = 0xC, RTSL = 0xD;
 

@@ -1,7 +1,7 @@
 /* The page: what its buttons do, and what it shows. */
 import { COMMAND, Engine, OPTION } from './engine.mjs';
 import { Board, MOST_EVENTS } from './board.mjs';
-import { hex, splitRom } from './drafts.mjs';
+import { hex } from './hex.mjs';
 import { AREA, SIGN, areaOf } from './signs.mjs';
 import { playSteps, stepsOf, traceOf } from './traces.mjs';
 import { Drawer, marksOf, momentOf } from './moments.mjs';
@@ -13,7 +13,7 @@ import { logOfBus } from './buses.mjs';
 import { firstLines, kindOf } from './files.mjs';
 import { Recording, boardOfDump } from './recordings.mjs';
 import { Twin, bytesOfTable, linesOfListing } from './twin.mjs';
-import { isRomAlone, romTextOf } from './sketches.mjs';
+import { readSketch } from './sketches.mjs';
 import { LESSONS, stateOfLesson } from './lessons.mjs';
 import { TOUR_RATE, TOUR_STEPS, Tour } from './tour.mjs';
 import { Screen, drawSmall } from './screen.mjs';
@@ -977,22 +977,16 @@ function openTrace(name, text) {
 }
 
 function openDraft(name, text) {
-  const rom = isRomAlone(text) ? romTextOf(engine, text) : '';
-  if (rom !== '') return openRomText(name, rom);
+  const { frames, rom } = readSketch(engine, text);
+  if (rom !== '' && frames.length === 0) return openRomText(name, rom);
   useDraft(editorA, text);
   return tell(`${name}: it stands in editor A.`);
 }
 
-/* Puts a draft into an editor, and the lines of its ROM, if it has some, into theirs. */
+/* Puts a draft into an editor, and the ROM that it brings, if it does, into its own. */
 function useDraft(editor, text) {
-  const { rom, draft } = splitRom(text);
-  editor.value = draft;
-  if (rom === '') editor.check(engine, editorR.rom);
-  else {
-    setRunning(false);
-    setRom(rom);
-    beginAnew();
-  }
+  editor.value = text;
+  editor.check(engine, editorR.rom);
   takeRomOf(editor);
   changed();
 }

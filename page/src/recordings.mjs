@@ -1,9 +1,10 @@
 /* A log as `dvg torn` reads it, as something that is shown like a board: each line that tells
  * something is an event. What a line says is read again when it is wanted, so a log may be long. */
+import { COMMAND } from './engine.mjs';
 import { Board, KEPT_EVERY, RAM_BYTES } from './board.mjs';
-import { romOf } from './drafts.mjs';
 import { Runs, resultOf, signOfPicture } from './runs.mjs';
 import { ROW, SIGN, areaOf } from './signs.mjs';
+import { romOf } from './sketches.mjs';
 
 const NEWLINE = 10, REMARK = 0x23;
 
@@ -51,8 +52,9 @@ class RecordedPicture {
 
 export class Recording {
   /* `drawer` makes strokes of words. The RAM is as given before the first event, and else zero. */
-  constructor(name, bytes, drawer, ram = new Uint8Array(RAM_BYTES), rom = romOf('')) {
-    Object.assign(this, { name, drawer, rom, ram: ram.slice() });
+  constructor(name, bytes, drawer, ram = new Uint8Array(RAM_BYTES)) {
+    Object.assign(this, { name, drawer, ram: ram.slice() });
+    this.rom = romOf(drawer.engine, '');
     this.tornBytes = bytes;
     this.lines = linesOfLog(bytes);
     this.length = this.lines.number.length;
@@ -171,8 +173,8 @@ class RecordedEntry {
 
 /* The run over a dump, as a board that does nothing else. */
 export function boardOfDump(engine, name, bytes) {
-  const rom = { ...romOf(bytes.length > 4096 ? 'map 4096' : ''), bytes: bytes.slice(RAM_BYTES) };
-  const board = new Board(engine, rom);
+  const text = engine.run(COMMAND.rom, bytes.slice(RAM_BYTES)).output;
+  const board = new Board(engine, romOf(engine, text));
   board.ram.set(bytes.subarray(0, RAM_BYTES));
   board.kept = [board.ram.slice()];
   board.sent = true;

@@ -1,8 +1,8 @@
 /* The runs of a board or of a log, judged two ways: by halves, which bytes were written into the
- * half that is being drawn; and by moments, whether a run is of one moment, as the proved judge
- * says that stands in dvg.wasm. */
+ * half that is being drawn; and by moments, whether a run is of one moment. Both are what the
+ * proved judges say that stand in dvg.wasm. */
 import { KIND } from './engine.mjs';
-import { SIGN, areaOf, drawnHalf } from './signs.mjs';
+import { SIGN, drawnHalf } from './signs.mjs';
 
 export class Runs {
   /* `signs` has a sign for each event. That of an early byte is changed once the run reads it. */
@@ -10,10 +10,14 @@ export class Runs {
     this.signs = signs;
     this.judge = engine.device();
     this.judge.openJudge();
+    this.halves = engine.halves();
     Object.assign(this, { open: null, early: 0, seen: 0, contradicts: -1, contradictions: 0 });
   }
 
-  free() { this.judge.free(); }
+  free() {
+    this.judge.free();
+    this.halves.free();
+  }
 
   /* Tells the judge what an event did; keeps where a run came to be of no moment, and which event
    * read first what was not written. */
@@ -28,6 +32,7 @@ export class Runs {
 
   begin(at) {
     this.tell(at, KIND.STARTED);
+    this.halves.started();
     this.open = { at, half: 0, words: 0, early: 0, seen: 0, tornAt: -1, low: -1,
       written: new Map() };
   }
@@ -38,7 +43,7 @@ export class Runs {
     this.tell(at, KIND.WROTE, address, value);
     const { open } = this;
     if (open === null) return false;
-    const isEarly = open.half !== 0 && open.half === areaOf(address >> 1);
+    const isEarly = this.halves.wrote(address);
     if (isEarly) {
       open.early++;
       this.early++;
@@ -59,6 +64,7 @@ export class Runs {
   fetched(at, word, value, kind = KIND.FETCHED) {
     const { open } = this;
     this.tell(at, kind, word, value);
+    this.halves.fetched(word, value);
     if (open === null) return;
     if (open.low !== word) this.see(2 * word);
     this.see(2 * word + 1);
@@ -81,6 +87,7 @@ export class Runs {
   end() {
     const run = this.open;
     this.open = null;
+    this.halves.halted();
     return run;
   }
 

@@ -1,20 +1,24 @@
 /* Where a word of the memory is, and what an event shows in the rows beside its byte. */
 
-/* Half 0 or half 1, word zero, or none of these. And what else a fetch may find. */
-export const AREA = { HALF0: 1, HALF1: 2, ZERO: 3, ROM: 4, NONE: 5 };
+/* Half 0 or half 1, word zero, the ROM, the word that no frame uses, or no memory. */
+export const AREA = { HALF0: 1, HALF1: 2, ZERO: 3, ROM: 4, NONE: 5, HOLE: 6 };
+
+/* The map of the memory with the larger ROM, and which half a word zero lets a run draw, both as
+ * dvg.wasm tells them. */
+let areas = null, drawn = null;
+
+export function learnMap(map, drawnBy) {
+  areas = map;
+  drawn = drawnBy;
+}
 
 export function areaOf(word) {
-  if (word === 0) return AREA.ZERO;
-  if (word < 0x200) return AREA.HALF0;
-  if (word > 0x200 && word < 0x400) return AREA.HALF1;
-  return word < 0x400 ? AREA.NONE : AREA.ROM;
+  return areas[word];
 }
 
 /* The half that a run draws whose word zero is this: a jump to a word of that half, or none. */
 export function drawnHalf(word) {
-  if (word >> 12 !== 0xE) return 0;
-  const area = areaOf(word & 0xFFF);
-  return area === AREA.HALF0 || area === AREA.HALF1 ? area : 0;
+  return drawn(word);
 }
 
 /* A byte is EARLY that was written into the half that is being drawn, and SEEN once that run reads

@@ -1,69 +1,21 @@
-/* Sketches: frames with names, and the ROM that they share, as `dvg lay` reads them. */
+/* Sketches: frames with names, and the ROM that they share. All that is read in a text is what
+ * `dvg` reads in it: nothing here knows a name. */
 import { COMMAND, OPTION } from './engine.mjs';
-import { operationsOf, plainDraft } from './drafts.mjs';
+import { AREA } from './signs.mjs';
 
-const SECTION = /^\s*\.(frame|rom)\b/i;
-
-/* A frame: its name, and its operations, which are spelled out once they are asked for. */
-class SketchedFrame {
-  constructor(name, source) {
-    Object.assign(this, { name, source });
-  }
-
-  get lines() {
-    this.operations ??= operationsOf(plainDraft(this.source.join('\n')));
-    return this.operations;
-  }
-
-  set lines(operations) { this.operations = operations; }
+/* The lines of a text, each of which ends with LF. */
+function linesOfText(text) {
+  return text.split('\n').slice(0, -1);
 }
 
-/* The frames of a sketch: their names and their operations. What stands before the first section is
- * one without a name, if it has operations. Lines of a ROM are passed over. */
-export function framesOf(text) {
-  const sections = [{ kind: 'frame', name: '', lines: [] }];
-  for (const line of text.toLowerCase().split('\n')) {
-    const section = SECTION.exec(line);
-    if (section === null && !/^\s*(map|rom)\b/.test(line)) sections.at(-1).lines.push(line);
-    else if (section !== null) {
-      const [, name = ''] = line.replace(/#.*/, '').trim().split(/\s+/);
-      sections.push({ kind: section[1], name, lines: [] });
-    }
+/* The drafts among these lines, each between `offer` and `end`. */
+function draftsOf(lines) {
+  const drafts = [];
+  for (const line of lines) {
+    if (line === 'offer') drafts.push([]);
+    else if (line !== 'end') drafts.at(-1).push(line);
   }
-  const frames = sections.filter(({ kind }) => kind === 'frame')
-    .map(({ name, lines }) => new SketchedFrame(name, lines));
-  return frames[0].lines.length > 0 || frames.length === 1 ? frames : frames.slice(1);
-}
-
-/* The words at which the names of a ROM stand, as `dvg lay --equates` tells them. */
-function wordsOfNames(engine, text) {
-  const words = new Map();
-  for (const line of engine.run(COMMAND.layRom + OPTION, text).output.split('\n')) {
-    const [, name, address] = /^\s*([a-z_]\w*)\s*=\s*\$([0-9A-F]+)/i.exec(line) ?? [];
-    if (name !== undefined) words.set(name.toLowerCase(), address);
-  }
-  return words;
-}
-
-/* A line that leads into the ROM by a name, with its address instead. */
-function withAddress(line, words) {
-  const [name, target] = line.split(' ');
-  return name.endsWith('rom') && words.has(target) ? `${name} ${words.get(target)}` : line;
-}
-
-/* What `dvg render --check` says of a sketch; its fault, if it has one, as `dvg render` tells it;
- * its frames, each as the lines that `dvg check` reads; and the text of its own ROM. A frame that
- * is refused is told, and spelled. Of a text that spells no frames there are none. */
-export function readSketch(engine, text) {
-  const checked = engine.run(COMMAND.sketch + OPTION, text);
-  if (checked.error !== '') return { said: plainFault(checked.error), good: false, frames: [] };
-  const good = checked.status === 0;
-  const said = good ? checked.output.trim() : plainFault(engine.run(COMMAND.sketch, text).error);
-  const frames = framesOf(text);
-  if (!good || !hasRom(text)) return { said, good, frames, rom: '' };
-  const words = wordsOfNames(engine, text);
-  for (const frame of frames) frame.lines = frame.lines.map((line) => withAddress(line, words));
-  return { said, good, frames, rom: romTextOf(engine, text) };
+  return drafts;
 }
 
 /* A fault without the name of the program, which `dvg` writes before each line. */
@@ -71,17 +23,38 @@ function plainFault(text) {
   return text.trim().replace(/^dvg: /gm, '');
 }
 
-/* Whether a text is that of a ROM alone: of shapes, without a frame that calls them. */
-export function isRomAlone(text) {
-  return hasRom(text) && framesOf(text).every(({ lines }) => lines.length === 0);
+/* The ROM that a text brings, as lines of a text, and the drafts of its frames. Of a text with a
+ * fault there are none. */
+function readDrafts(engine, text) {
+  const lines = linesOfText(engine.drafts(text));
+  const first = lines.indexOf('offer'), count = first < 0 ? lines.length : first;
+  const rom = lines.slice(0, count).map((line) => `${line}\n`).join('');
+  return { rom, drafts: draftsOf(lines.slice(count)) };
 }
 
-/* The text of the ROM of a sketch. */
-export function romTextOf(engine, text) {
-  return engine.run(COMMAND.rom, engine.runBytes(COMMAND.layRom, text).output).output;
+/* What `dvg render --check` says of a sketch; its fault, if it has one, as `dvg render` tells it;
+ * its frames, each with its name and the lines that `dvg check` reads; and the text of its own ROM,
+ * which is empty where it brings none. A frame that is refused is told, and spelled. Of a text that
+ * spells no frames there are none. */
+export function readSketch(engine, text) {
+  const checked = engine.run(COMMAND.sketch + OPTION, text), good = checked.status === 0;
+  const { rom, drafts } = readDrafts(engine, text);
+  if (checked.error !== '') return { said: plainFault(checked.error), good, frames: [], rom };
+  const frames = linesOfText(checked.output).map((line, k) => {
+    const [, name = ''] = /^(\w+): /.exec(line) ?? [];
+    return { name, lines: drafts[k] };
+  });
+  const said = good ? checked.output.trim() : plainFault(engine.run(COMMAND.sketch, text).error);
+  return { said, good, frames, rom };
 }
 
-/* Whether a text brings its own ROM. */
-export function hasRom(text) {
-  return text.split('\n').some((line) => /^\s*(\.rom|map|rom)\b/i.test(line));
+/* The ROM that a text brings: its lines as a text, and how many they are; its bytes, and the word
+ * address that they begin at; and the fault of the text, if it has one. Without a ROM of its own,
+ * or with a fault, it is the ROM of which no line gives a word. */
+export function romOf(engine, text) {
+  const { rom, drafts } = readDrafts(engine, text);
+  const fault = plainFault(engine.run(COMMAND.sketch + OPTION, text).error);
+  const { output: bytes } = engine.runBytes(COMMAND.layRom, `${rom}labs 0 0 0\nhalt\n`);
+  const first = engine.mapOf(bytes.length).indexOf(AREA.ROM);
+  return { fault, text: rom, lines: linesOfText(rom).length, bytes, first, drafts };
 }

@@ -2,7 +2,7 @@
  * byte came in between. */
 import { COMMAND } from './engine.mjs';
 import { ramAt } from './moments.mjs';
-import { hex } from './drafts.mjs';
+import { hex } from './hex.mjs';
 
 /* What a run over this memory would draw, as strokes; none where it draws no picture. */
 export function strokesOfMemory(engine, ram, rom) {

@@ -1,6 +1,6 @@
 /* Traces as texts, as `dvg play` reads them. That the HALT wire is cut, or whole again, stands in a
  * remark, which `play` passes over: it has no such wire. */
-import { hex } from './drafts.mjs';
+import { hex } from './hex.mjs';
 
 const CUT = '# wire cut', WHOLE = '# wire whole';
 const MOST_TIMES = 9999;

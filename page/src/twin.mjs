@@ -1,6 +1,6 @@
 /* The board's driver in 6502 code, run beside the board's own: for each of its events the routine
  * is called that a program would call. Tested, not proved. */
-import { hex } from './drafts.mjs';
+import { hex } from './hex.mjs';
 import { Processor } from './processor.mjs';
 
 /* Where the driver finds the hardware, where its table lies here, and where routines return to. */

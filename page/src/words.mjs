@@ -1,6 +1,6 @@
 /* What is shown, in words. */
 import { COMMAND } from './engine.mjs';
-import { hex } from './drafts.mjs';
+import { hex } from './hex.mjs';
 import { AREA, SIGN } from './signs.mjs';
 
 export function counted(number, one, many = `${one}s`) {

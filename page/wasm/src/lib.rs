@@ -1,4 +1,5 @@
-//! What a page calls: the device, as `include/dvg.h` has it, and each command of `dvg` over bytes.
+//! What a page calls: the device, as `include/dvg.h` has it, each command of `dvg` over bytes, the
+//! drafts of a sketch, the map of the memory, and the judge of halves.
 //!
 //! The page owes what C owes: a device comes from `dvg_new`, and is used by one call at a time, and
 //! no more once `dvg_free` got it.
@@ -6,6 +7,10 @@ use dvg_device::Device;
 use dvg_tool::{Done, Job, LayForm, ToolFault, Watched, finish, perform, status};
 use plain_std::alloc::Global;
 use std::cell::RefCell;
+
+mod drafts;
+mod halves;
+mod map;
 
 // What `dvg` tells of a line at fault stands in its own crate, and is the same here.
 #[path = "../../crates/dvg/src/explain.rs"]
@@ -67,8 +72,8 @@ pub extern "C" fn dvg_input(length: usize) -> *mut u8 {
 }
 
 /// The command of a number: 0 list, 1 rom, 2 picture, 3 check, 4 play, 5 torn, 6 the SVG of a
-/// sketch, 7 the ROM of a sketch, 16 its frames as a table. With 8 more it has its option: `--all`, `--bound`, `--check`, and
-/// of the ROM `--equates`.
+/// sketch, 7 the ROM of a sketch, 16 its frames as a table. With 8
+/// more it has its option: `--all`, `--bound`, `--check`, and of the ROM `--equates`.
 fn job_of(number: u32) -> Option<Job> {
     let option = number & 8 != 0;
     match (number & !8, option) {
@@ -92,6 +97,14 @@ fn job_of(number: u32) -> Option<Job> {
         }),
         _ => None,
     }
+}
+
+/// Whether a job reads a sketch.
+fn reads_sketch(job: Job) -> bool {
+    matches!(
+        job,
+        Job::Render { .. } | Job::RenderCheck | Job::Lay { .. }
+    )
 }
 
 /// What standard error gets of a job over this input, whose sketch has a fault of its own kind.
@@ -124,9 +137,19 @@ pub extern "C" fn dvg_run(number: u32) -> u32 {
         let mut writer = Watched::new(&mut texts.output);
         let answer = perform(Global, job, &mut reader, &mut writer);
         let answer = finish(answer, &mut writer);
-        texts.error = said(&answer, number & 7 >= 6 || number == 16, &texts.input);
+        texts.error = said(&answer, reads_sketch(job), &texts.input);
         u32::from(status(&answer))
     })
+}
+
+/// Writes the frames of the sketch that the input is as drafts without names: first the lines of
+/// its ROM, and then each between `offer` and `end`. Nothing is written of a text with a fault.
+#[unsafe(no_mangle)]
+pub extern "C" fn dvg_drafts() {
+    TEXTS.with_borrow_mut(|texts| {
+        texts.output = drafts::drafts_of(&texts.input);
+        texts.error.clear();
+    });
 }
 
 /// Looks at what the newest command wrote on standard output, or on standard error.
