@@ -1,4 +1,5 @@
 mod Grew
+mod GivenRows
 mod LaidBytes
 mod LaidCuttings
 pub mod Lists
@@ -12,3 +13,6 @@ mod ChecksSaid
 mod EndsDrawn
 mod FramesDrawn
 mod RamLaid
+mod DraftsRead
+mod RomRead
+mod WholeDrafts
