@@ -1,9 +1,9 @@
 //! Frames as drafts without names, and the lines of their ROM.
 ghost use Rattle.std.specs.Prelude.{◌≡◌, ◌<◌, ◌++◌, ◌∷◌, flat_map, IfOk, OnOk, codes, decimal, length};
+ghost use Rattle.std.specs.Fmt.{signed_decimal};
 ghost use Rattle.dvg_print.specs.Lines.{hex_3, map_text};
 ghost use Rattle.dvg_lay.specs.Drafts.{draft_line, draft_lines, drafts_text, drawing_text};
 ghost use Rattle.dvg_lay.specs.Drafts.{frame_drafts, given_line, given_lines, offer_lines, op_text};
-ghost use Rattle.dvg_lay.specs.Drafts.{vector_text};
 
 use crate::laying::rom_bytes;
 use crate::text::{put, put_hex_3};
@@ -40,8 +40,8 @@ fn put_vector<A: Allocator>(
     dy: i16,
     z: u8,
 ) -> Result<(), AllocError>
-    ensures { OnOk result (text.new.items
-        ≡ text.old.items ++ vector_text name.now scale dx dy z) }
+    ensures { OnOk result (text.new.items ≡ text.old.items ++ name.now ++ 32 ∷ decimal scale
+        ++ 32 ∷ signed_decimal dx ++ 32 ∷ signed_decimal dy ++ 32 ∷ decimal z) }
 {
     put(text, name)?;
     put_number(text, scale)?;
@@ -239,6 +239,8 @@ pub(crate) fn lay_drafts<A: Allocator + Copy>(
 ) -> Result<Vec<u8, A>, OutOfMemory>
     ensures { IfOk result (λ text. text.items ≡ drafts_text rom.now frames.now) }
 {
+    // A ROM has an even number of bytes, as its type says.
+    let _ = rom.len_words();
     let bytes = rom_bytes(alloc, rom)?;
     let words = collect_words(alloc, bytes.as_slice())?;
     let mut text = Vec::new(alloc);
