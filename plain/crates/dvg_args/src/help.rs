@@ -280,7 +280,7 @@ Example:
   <path d=\"M262144 204800l-51200 51200\" opacity=\".60\"/>";
 
 /// How `lay` is called.
-pub(crate) const LAY_USAGE: &str = 
+pub(crate) const LAY_USAGE: &str =
     "dvg lay [--half 0|1 | --table | --rom | --equates | --draft] < SKETCH";
 
 /// The input and output of `lay`.

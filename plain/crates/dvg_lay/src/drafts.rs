@@ -197,6 +197,8 @@ pub(crate) fn lay_drafts<A: Allocator + Copy>(
     rom: &Rom<A>,
     frames: &[NamedFrame],
 ) -> Result<Vec<u8, A>, OutOfMemory> {
+    // A ROM has an even number of bytes, as its type says.
+    let _ = rom.len_words();
     let bytes = rom_bytes(alloc, rom)?;
     let words = collect_words(alloc, bytes.as_slice())?;
     let mut text = Vec::new(alloc);
