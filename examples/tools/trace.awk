@@ -1,6 +1,10 @@
 # Reads a draft, as `dvg check` reads it, and writes a trace that draws it once. This is unproved.
 #
 #     awk -f trace.awk <DRAFT | ./dvg play
+#     ./dvg lay --draft <SKETCH | awk -f trace.awk | ./dvg play --svg >PICTURES.svg
+#
+# Of several drafts, each between `offer` and `end`, as `dvg lay --draft` writes them, the trace draws
+# each once, in order.
 #
 # Lines `map` and `rom` come first, then `tick 2`, by which the driver boots: it looks at byte 001
 # and reads the HALT flag. After the draft come as many ticks as its W words take: 2W for their
@@ -14,38 +18,66 @@
 # error, with status 1.
 
 function begin() {
-    if (!begun++) trace[++most] = "tick 2\noffer"
+    if (open) return
+    open = 1
+    words = 0
+    trace[++most] = (drafts++ ? "" : "tick 2\n") "offer"
 }
 
 # As many events as `count` says, of at most 9,999 a line.
 function repeat(event, count) {
-    for (; count > 9999; count -= 9999) print event " 9999"
-    if (count > 0) print event " " count
+    for (; count > 9999; count -= 9999) trace[++most] = event " 9999"
+    if (count > 0) trace[++most] = event " " count
+}
+
+# Only the first draft has its byte 000 written.
+function finish() {
+    trace[++most] = "end"
+    repeat("tick", 2 * words + (drafts == 1 ? 4 : 3))
+    trace[++most] = "strobe"
+    repeat("fetch", fetches ? 2 * fetches : 60000)
+    open = 0
+}
+
+function refuse() {
+    print "trace.awk: no line of a draft at line " NR | "cat 1>&2"
+    refused = 1
+    exit 1
 }
 
 { sub(/\r$/, "") }
 
-/^(labs|vctr) / { words++ }
+# A text has one draft, or else each stands between these two lines.
+/^offer$/ {
+    if (drafts) if (open || !offers) refuse()
+    offers = 1
+    begin()
+    next
+}
+
+/^end$/ {
+    if (!offers || !open) refuse()
+    finish()
+    next
+}
 
 /^(labs|vctr|svec|call|callrom|jump|jumprom) / || /^(return|halt)$/ {
-    words++
+    if (offers && !open) refuse()
     begin()
+    words += /^(labs|vctr) / ? 2 : 1
 }
 
 !/^(labs|vctr|svec|call|callrom|jump|jumprom|map|rom) / && !/^(return|halt)$/ && !/^#/ && !/^$/ {
-    print "trace.awk: no line of a draft at line " NR | "cat 1>&2"
-    refused = 1
-    exit 1
+    refuse()
 }
 
 { trace[++most] = $0 }
 
 END {
     if (refused) exit 1
-    begin()
+    if (open || !offers) {
+        begin()
+        finish()
+    }
     for (i = 1; i <= most; i++) print trace[i]
-    print "end"
-    repeat("tick", 2 * words + 4)
-    print "strobe"
-    repeat("fetch", fetches ? 2 * fetches : 60000)
 }

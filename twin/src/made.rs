@@ -14,13 +14,14 @@ pub enum Made {
     Table,
     Rom,
     Equates,
+    Drafts,
 }
 
 impl Made {
     /// Refuses a sketch of which that can't be made.
     pub fn refuse<'a>(&self, sketch: &Sketch<'a>) -> Result<(), Refusal<'a>> {
         match self {
-            Made::Checks => Ok(()),
+            Made::Checks | Made::Drafts => Ok(()),
             Made::Svg(_) => sketch.check_drawn(),
             Made::Table => sketch.check().and_then(|()| sketch.check_table()),
             _ => sketch.check(),
@@ -37,6 +38,7 @@ impl Made {
             Made::Table => sketch.write_table(writer),
             Made::Rom => sketch.write_rom(writer),
             Made::Equates => sketch.write_equates(writer),
+            Made::Drafts => sketch.write_drafts(writer),
         }?;
         Ok(true)
     }

@@ -36,11 +36,11 @@ pub taken : (count : ℕ) (form : Option LayForm) (f : LayForm) → count ≤ 1 
 taken count form f few some = few_options count form few ∙ ap (λ g. cond (is_some g) [] (InvalidValue ∷ [])) some
 
 -- counts and forms of the same options
-pub same_count : (h h' t t' r r' e e' : Bool) → h ≡ h' → t ≡ t' → r ≡ r' → e ≡ e' → given_count h t r e ≡ given_count h' t' r' e'
-same_count h h' t t' r r' e e' a b c d = rw (a, b, c, d) refl
+pub same_count : (h h' t t' r r' e e' d d' : Bool) → h ≡ h' → t ≡ t' → r ≡ r' → e ≡ e' → d ≡ d' → given_count h t r e d ≡ given_count h' t' r' e' d'
+same_count h h' t t' r r' e e' d d' a b c f g = rw (a, b, c, f, g) refl
 
-pub same_form : (t t' r r' e e' : Bool) (h h' : Option Text) → t ≡ t' → r ≡ r' → e ≡ e' → h ≡ h' → form_by t r e h ≡ form_by t' r' e' h'
-same_form t t' r r' e e' h h' a b c d = rw (a, b, c, d) refl
+pub same_form : (t t' r r' e e' d d' : Bool) (h h' : Option Text) → t ≡ t' → r ≡ r' → e ≡ e' → d ≡ d' → h ≡ h' → form_by t r e d h ≡ form_by t' r' e' d' h'
+same_form t t' r r' e e' d d' h h' a b c f g = rw (a, b, c, f, g) refl
 
 pub mapped_some : {A B : Type 0} (f : A → B) (o : Option A) → is_some (option_map f o) ≡ is_some o
 mapped_some f None = refl

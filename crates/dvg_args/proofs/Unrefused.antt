@@ -25,9 +25,9 @@ good_show : (svg all scale rate percents rates : Bool) → svg ≡ false → sca
     → refused_by (svg && all) (not svg && (scale || rate)) (percents && rates) ≡ []
 good_show svg all scale rate percents rates a b c d e = rw (a, b, c, d, e) refl
 
-good_form : (half : Option Text) (table rom equates : Bool) → is_some half ≡ false → table ≡ false → rom ≡ false → equates ≡ false
-    → refused_by (nat_lt 1 (given_count (is_some half) table rom equates)) false (is_some (form_by table rom equates half)) ≡ []
-good_form half table rom equates a b c d = rw (none_given half a, b, c, d) refl
+good_form : (half : Option Text) (table rom equates draft : Bool) → is_some half ≡ false → table ≡ false → rom ≡ false → equates ≡ false → draft ≡ false
+    → refused_by (nat_lt 1 (given_count (is_some half) table rom equates draft)) false (is_some (form_by table rom equates draft half)) ≡ []
+good_form half table rom equates draft a b c d e = rw (none_given half a, b, c, d, e) refl
 
 four : (P : Text → Type 0) (a b c d : Text) → All P (a ∷ b ∷ c ∷ d ∷ []) → P a × P b × P c × P d
 four P a b c d h =
@@ -35,16 +35,21 @@ four P a b c d h =
     let f = All-tail P b (c ∷ d ∷ []) g in
     (All-head P a (b ∷ c ∷ d ∷ []) h, All-head P b (c ∷ d ∷ []) g, All-head P c (d ∷ []) f, All-head P d [] (All-tail P c (d ∷ []) f))
 
+five : (P : Text → Type 0) (a b c d e : Text) → All P (a ∷ b ∷ c ∷ d ∷ e ∷ []) → P a × P b × P c × P d × P e
+five P a b c d e h =
+    let more = four P b c d e (All-tail P a (b ∷ c ∷ d ∷ e ∷ []) h) in
+    (All-head P a (b ∷ c ∷ d ∷ e ∷ []) h, more.0, more.1, more.2, more.3)
+
 none_refused : (name : Text) (rows : List Row) → GivesNoneRefused rows → fault_in name rows ≡ []
 none_refused name rows none =
-    let set = four (λ id. sets id rows ≡ false) (codes "svg") (codes "table") (codes "rom") (codes "equates") none.0 in
+    let set = five (λ id. sets id rows ≡ false) (codes "svg") (codes "table") (codes "rom") (codes "equates") (codes "draft") none.0 in
     let given = four (λ id. gives id rows ≡ false) (codes "at") (codes "scale") (codes "rate") (codes "half") none.1 in
     let percents = good_number (codes "scale") 10 400 100 rows given.1 in
     let rates = good_number (codes "rate") 1 60 30 rows given.2 in
     let shown = good_show _ (sets (codes "all") rows) _ _ _ _ set.0 given.1 given.2 percents rates in
     let listed : list_fault rows ≡ [] = ap (λ b. refused_by false false (not b || is_some (address_of rows))) given.0 in
     let rendered : render_fault rows ≡ [] = good_show false false false false _ _ refl refl refl percents rates in
-    let laid = good_form _ _ _ _ given.3 set.1 set.2 set.3 in
+    let laid = good_form _ _ _ _ _ given.3 set.1 set.2 set.3 set.4 in
     either (bytes_eq name (codes "list")) _ _ listed
     (either (bytes_eq name (codes "picture")) _ _ shown
     (either (bytes_eq name (codes "play")) _ _ shown

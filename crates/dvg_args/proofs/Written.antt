@@ -41,6 +41,7 @@ sketch_job_arguments = (
   λ name. ((refl, refl), refl, refl),
   λ name. ((refl, refl), refl, refl),
   λ name. ((refl, refl), refl, refl),
+  λ name. ((refl, refl), refl, refl),
 )
 
 pub help_arguments : HelpArguments
@@ -71,6 +72,7 @@ other_arguments = (
 pub refused_options : RefusedOptions
 unfolding dvg_app clap_on_literals
 refused_options = (
+  λ name. refl,
   λ name. refl,
   λ name. refl,
   λ name. refl,

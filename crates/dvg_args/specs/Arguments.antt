@@ -62,11 +62,12 @@ torn_app = with_flag (new_app (codes "torn")) (codes "moments")
 abbrev pub render_app : App
 render_app = showing (with_flag (new_app (codes "render")) (codes "check"))
 
--- the subcommand `lay`: a half by its number, or one of three other forms
+-- the subcommand `lay`: a half by its number, or one of four other forms
 abbrev pub lay_app : App
 lay_app =
     let with_half = with_value (new_app (codes "lay")) (codes "half") in
-    with_flag (with_flag (with_flag with_half (codes "table")) (codes "rom")) (codes "equates")
+    let with_rom = with_flag (with_flag with_half (codes "table")) (codes "rom") in
+    with_flag (with_flag with_rom (codes "equates")) (codes "draft")
 
 -- the program without its subcommands, of which it requires one; it has a version (for a private contract)
 abbrev pub program_app : App

@@ -10,7 +10,7 @@ use Rattle.dvg_args.specs.Arguments.{IsJob, TakesArguments, arguments_fault, dvg
 use Rattle.dvg_args.specs.declared.task.Job.{Job}
 use Rattle.dvg_args.specs.declared.task.Job.TheVariants.{List as list_job, ListAt, Rom, Picture, PictureSvg, Check}
 use Rattle.dvg_args.specs.declared.task.Job.TheVariants.{Play, PlaySvg, Torn, Render, RenderCheck, Lay}
-use Rattle.dvg_args.specs.declared.task.LayForm.TheVariants.{Half0, Half1, Table, Rom as RomBytes, Equates}
+use Rattle.dvg_args.specs.declared.task.LayForm.TheVariants.{Half0, Half1, Table, Rom as RomBytes, Equates, Draft}
 
 -- after any name of the program, the arguments are taken and ask for the job
 abbrev pub AskFor : List Text → Job → Type 0
@@ -56,6 +56,7 @@ SketchJobArguments = AskFor (codes "render" ∷ []) (Render 100 30)
     × AskFor (codes "lay" ∷ codes "--table" ∷ []) (Lay Table)
     × AskFor (codes "lay" ∷ codes "--rom" ∷ []) (Lay RomBytes)
     × AskFor (codes "lay" ∷ codes "--equates" ∷ []) (Lay Equates)
+    × AskFor (codes "lay" ∷ codes "--draft" ∷ []) (Lay Draft)
 
 -- arguments that ask for help, or for the version; the arguments after `help` may name no
 -- subcommand
@@ -100,12 +101,13 @@ RefusedOptions = FailAs (codes "list" ∷ codes "--at" ∷ codes "12" ∷ []) (I
     × FailAs (codes "lay" ∷ codes "--half" ∷ []) (InvalidValue ∷ [])
     × FailAs (codes "lay" ∷ codes "--half" ∷ codes "0" ∷ codes "--rom" ∷ []) (ArgumentConflict ∷ [])
     × FailAs (codes "lay" ∷ codes "--rom" ∷ codes "--table" ∷ []) (ArgumentConflict ∷ [])
+    × FailAs (codes "lay" ∷ codes "--draft" ∷ codes "--rom" ∷ []) (ArgumentConflict ∷ [])
     × FailAs (codes "lay" ∷ codes "--half" ∷ codes "0" ∷ codes "--half" ∷ codes "1" ∷ []) (ArgumentConflict ∷ [])
 
 -- the matching gives none of the options that a subcommand may refuse
 abbrev pub GivesNoneRefused : List Row → Type 0
 GivesNoneRefused rows =
-    All (λ id. sets id rows ≡ false) (codes "svg" ∷ codes "table" ∷ codes "rom" ∷ codes "equates" ∷ [])
+    All (λ id. sets id rows ≡ false) (codes "svg" ∷ codes "table" ∷ codes "rom" ∷ codes "equates" ∷ codes "draft" ∷ [])
     × All (λ id. gives id rows ≡ false) (codes "at" ∷ codes "scale" ∷ codes "rate" ∷ codes "half" ∷ [])
 
 -- without these options nothing is refused after the matching, so arguments that the command takes fail only for want

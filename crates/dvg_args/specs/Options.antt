@@ -14,7 +14,7 @@ use Rattle.clap.specs.declared.error.kind.ErrorKind.TheVariants.{ArgumentConflic
 use Rattle.clap.specs.declared.error.kind.ErrorKind.TheVariants.{MissingRequiredArgument}
 use Rattle.dvg_args.specs.declared.options.Shown.{Shown}
 use Rattle.dvg_args.specs.declared.task.LayForm.{LayForm}
-use Rattle.dvg_args.specs.declared.task.LayForm.TheVariants.{Half0, Half1, Table, Rom as RomBytes, Equates}
+use Rattle.dvg_args.specs.declared.task.LayForm.TheVariants.{Half0, Half1, Table, Rom as RomBytes, Equates, Draft}
 
 -- the matching sets the flag
 abbrev pub sets : Text → List Row → Bool
@@ -62,10 +62,10 @@ address_of rows = option_and_then address_in (first_of (codes "at") rows)
 
 -- ---- the forms of `lay`
 
--- how many of the four options of `lay` are given
-abbrev pub given_count : (half table rom equates : Bool) → ℕ
-given_count half table rom equates =
-    count_by (λ is_given. is_given) (half ∷ table ∷ rom ∷ equates ∷ [])
+-- how many of the five options of `lay` are given
+abbrev pub given_count : (half table rom equates draft : Bool) → ℕ
+given_count half table rom equates draft =
+    count_by (λ is_given. is_given) (half ∷ table ∷ rom ∷ equates ∷ draft ∷ [])
 
 -- the form in a half of this number
 abbrev pub half_form : Text → Option LayForm
@@ -73,21 +73,22 @@ half_form number = if bytes_eq number (codes "0") then Some Half0
     else (if bytes_eq number (codes "1") then Some Half1 else None)
 
 -- the form that an option asks for; without one it is half 0
-abbrev pub form_by : (table rom equates : Bool) → (half : Option Text) → Option LayForm
-form_by true rom equates half = Some Table
-form_by false true equates half = Some RomBytes
-form_by false false true half = Some Equates
-form_by false false false half = option_map_or half_form half (Some Half0)
+abbrev pub form_by : (table rom equates draft : Bool) → (half : Option Text) → Option LayForm
+form_by true rom equates draft half = Some Table
+form_by false true equates draft half = Some RomBytes
+form_by false false true draft half = Some Equates
+form_by false false false true half = Some Draft
+form_by false false false false half = option_map_or half_form half (Some Half0)
 
 -- how many of the options of `lay` the matching gives
 abbrev pub forms_given : List Row → ℕ
 forms_given rows = given_count (gives (codes "half") rows) (sets (codes "table") rows)
-    (sets (codes "rom") rows) (sets (codes "equates") rows)
+    (sets (codes "rom") rows) (sets (codes "equates") rows) (sets (codes "draft") rows)
 
 -- the form that the options of `lay` ask for
 abbrev pub form_of : List Row → Option LayForm
 form_of rows = form_by (sets (codes "table") rows) (sets (codes "rom") rows)
-    (sets (codes "equates") rows) (first_of (codes "half") rows)
+    (sets (codes "equates") rows) (sets (codes "draft") rows) (first_of (codes "half") rows)
 
 -- ---- how options are refused
 

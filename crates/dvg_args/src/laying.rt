@@ -9,11 +9,11 @@ use crate::task::{Job, LayForm};
 use clap::ArgMatches;
 use clap::error::ErrorKind;
 
-// Returns how many of `half`, `table`, `rom` and `equates` are given.
-fn given_count(half: bool, table: bool, rom: bool, equates: bool) -> u8
-    ensures { result ≡ given_count half table rom equates }
+// Returns how many of `half`, `table`, `rom`, `equates` and `draft` are given.
+fn given_count(half: bool, table: bool, rom: bool, equates: bool, draft: bool) -> u8
+    ensures { result ≡ given_count half table rom equates draft }
 {
-    u8::from(half) + u8::from(table) + u8::from(rom) + u8::from(equates)
+    u8::from(half) + u8::from(table) + u8::from(rom) + u8::from(equates) + u8::from(draft)
 }
 
 // Returns the form for the half that `number` names, `0` or `1`. Returns `None` for any other text.
@@ -29,11 +29,17 @@ fn half_form(number: &str) -> Option<LayForm>
     }
 }
 
-// Returns the form for the first of `table`, `rom` and `equates` that is set, or else for `half`,
-// the value of `--half`, or else for half 0. Returns `None` where `half` decides and is neither `0`
-// nor `1`.
-fn form_by(table: bool, rom: bool, equates: bool, half: Option<&str>) -> Option<LayForm>
-    ensures { result ≡ form_by table rom equates (option_map (λ s. s.now) half.entry) }
+// Returns the form for the first of `table`, `rom`, `equates` and `draft` that is set, or else for
+// `half`, the value of `--half`, or else for half 0. Returns `None` where `half` decides and is
+// neither `0` nor `1`.
+fn form_by(
+    table: bool,
+    rom: bool,
+    equates: bool,
+    draft: bool,
+    half: Option<&str>,
+) -> Option<LayForm>
+    ensures { result ≡ form_by table rom equates draft (option_map (λ s. s.now) half.entry) }
 {
     if table {
         return Some(LayForm::Table);
@@ -43,6 +49,9 @@ fn form_by(table: bool, rom: bool, equates: bool, half: Option<&str>) -> Option<
     }
     if equates {
         return Some(LayForm::Equates);
+    }
+    if draft {
+        return Some(LayForm::Draft);
     }
     match half {
         Some(number) => half_form(number),
@@ -60,10 +69,11 @@ fn lay_form(found: &ArgMatches) -> Result<LayForm, ErrorKind>
     let table = is_set(found, "table");
     let rom = is_set(found, "rom");
     let equates = is_set(found, "equates");
-    if given_count(half.is_some(), table, rom, equates) > 1 {
+    let draft = is_set(found, "draft");
+    if given_count(half.is_some(), table, rom, equates, draft) > 1 {
         return Err(ErrorKind::ArgumentConflict);
     }
-    match form_by(table, rom, equates, half) {
+    match form_by(table, rom, equates, draft, half) {
         Some(form) => Ok(form),
         None => Err(ErrorKind::InvalidValue),
     }

@@ -1,4 +1,5 @@
 mod Grew
+mod GivenRows
 mod LaidBytes
 mod LaidCuttings
 pub mod Lists
@@ -13,3 +14,6 @@ mod EndsDrawn
 mod FramesDrawn
 mod RamLaid
 mod PictureTimes
+mod DraftsRead
+mod RomRead
+mod WholeDrafts

@@ -1,5 +1,5 @@
 -- The bytes of a ROM, word by word.
-use Rattle.std.proofs.Common.{◌≡◌, ◌∙◌, ◌+◌, ◌*◌, ◌-◌, ◌/◌, ◌%◌, ◌<◌, ◌≤◌, ℕ, List, [], ◌∷◌, ◌++◌, All, Some, ap, ap₂, arith, cond, drop, inl, inr, length, refl, subst, sym}
+use Rattle.std.proofs.Common.{◌≡◌, ◌∙◌, ◌+◌, ◌*◌, ◌-◌, ◌/◌, ◌%◌, ◌<◌, ◌≤◌, ℕ, List, [], ◌∷◌, ◌++◌, All, Some, ap, ap₂, arith, cond, drop, inl, inr, length, refl, subst, sym, ⊎_elim}
 use Rattle.std.specs.Int.{byte_at, to_le_bytes, w16}
 use Rattle.std.specs.Prelude.{◌⊎◌, nat_eq, slice_index}
 use Rattle.std.proofs.lemmas.Option.{same_Some}
@@ -51,3 +51,10 @@ word_added R a w old new rom low high there more before =
     word_bytes R k w rom.bytes within is ∙ ap (λ n. (w % 256) ∷ (w / 256) ∷ drop (2 * n) R) (sym next) in
     grew old ((w % 256) ∷ (w / 256) ∷ []) new (drop (2 * (a + 1 - first_word R)) R) R
     (more ∙ ap (λ bytes. old ++ bytes) (le_bytes_are w small)) (ap (λ l. old ++ l) (sym cut) ∙ before)
+
+-- a ROM has an even number of bytes
+pub even_rom : (R bytes : List ℕ) → IsRom R → bytes ≡ R → length bytes % 2 ≡ 0
+even_rom R bytes rom is = ⊎_elim
+    (λ small. let size = ap length is in omega (arith, size, small))
+    (λ large. let size = ap length is in omega (arith, size, large))
+    rom.count

@@ -1,13 +1,18 @@
 -- Laws of what is laid out.
-use Rattle.std.specs.Prelude.{◌≡◌, ℕ, List, [], Some, length, slice_get, take}
+use Rattle.std.specs.Prelude.{◌≡◌, ℕ, ◌<◌, ◌^◌, List, [], ◌∷◌, All, Some, length, slice_get, take}
 use Rattle.dvg_code.specs.Cutting.{Cutting, Placed}
 use Rattle.dvg_code.specs.Spelling.{canon}
 use Rattle.dvg_code.specs.Words.{words_of}
+use Rattle.dvg_mem.specs.Memory.{IsRom}
 use Rattle.dvg_mem.specs.declared.half.Half.{Half}
 use Rattle.dvg_frame.specs.declared.op.OpKind.{OpKind}
+use Rattle.dvg_frame.specs.declared.op.OpKind.TheVariants.{Call, Jump}
 use Rattle.dvg_frame.specs.Bytes.{bytes}
 use Rattle.dvg_frame.specs.Layout.{laid, op_code, size}
 use Rattle.dvg_frame.specs.Ops.{IsDraft}
+use Rattle.dvg_named.specs.declared.meaning.NamedFrame.{NamedFrame}
+use Rattle.dvg_read.specs.DraftReading.{Gives}
+use Rattle.dvg_lay.specs.Drafts.{drafts_text}
 
 -- an operation of a draft as an instruction at a place, with its canonical words for a half
 abbrev pub op_at : Half → List OpKind → ℕ → OpKind → Placed
@@ -30,3 +35,14 @@ ListsAsDraft = (half : Half) (F : List OpKind) → IsDraft F
 -- the bytes of a layout make its words again
 abbrev pub WordsAgain : Type 0
 WordsAgain = (half : Half) (F : List OpKind) → words_of (bytes (laid half F)) ≡ laid half F
+
+-- the number of a call or a jump has 16 bits, as each has in memory
+abbrev pub IsNumbered : OpKind → Type 0
+IsNumbered (Call n) = n < 2 ^ 16
+IsNumbered (Jump n) = n < 2 ^ 16
+IsNumbered op = Unit {0}
+
+-- what is written of one frame over a ROM is a text of its draft and of this ROM
+abbrev pub ReadAsDraft : Type 0
+ReadAsDraft = (R : List ℕ) (frame : NamedFrame) → IsRom R → IsDraft frame.ops.now → All IsNumbered frame.ops.now
+    → Gives (drafts_text R (frame ∷ [])) frame.ops.now R

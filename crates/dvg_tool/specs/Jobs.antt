@@ -10,7 +10,7 @@ use Rattle.dvg_lay.specs.declared.drawn.Drawn.TheVariants as drawns
 use Rattle.dvg_lay.specs.declared.verdicts.Said.{Said}
 use Rattle.dvg_lay.specs.Sketches.{Lays}
 use Rattle.dvg_lay.specs.declared.form.Form.{Form}
-use Rattle.dvg_lay.specs.declared.form.Form.TheVariants.{Bytes, Tables, RomBytes, RomNames}
+use Rattle.dvg_lay.specs.declared.form.Form.TheVariants.{Bytes, Tables, RomBytes, RomNames, Drafts}
 use Rattle.dvg_lay.specs.declared.form.Laid.{Laid}
 use Rattle.dvg_lay.specs.declared.form.Laid.TheVariants as laids
 use Rattle.dvg_mem.specs.declared.half.Half.TheVariants.{H0, H1}
@@ -45,6 +45,7 @@ form_of asked.Half1 = Bytes H1
 form_of asked.Table = Tables
 form_of asked.Rom = RomBytes
 form_of asked.Equates = RomNames
+form_of asked.Draft = Drafts
 
 -- what is said of a sketch that was laid out: why a frame is refused
 abbrev pub answered : {A : Type 0} → Laid A → Done A

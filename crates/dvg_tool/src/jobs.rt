@@ -71,6 +71,7 @@ fn form_of(form: LayForm) -> Form
         LayForm::Table => Form::Tables,
         LayForm::Rom => Form::RomBytes,
         LayForm::Equates => Form::RomNames,
+        LayForm::Draft => Form::Drafts,
     }
 }
 

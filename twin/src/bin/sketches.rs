@@ -17,13 +17,14 @@ use twin::storm::ways::{Counts, judge, judge_made};
 use twin::svg::Show;
 
 /// What is asked of each text, and what that is of the twin.
-const QUESTIONS: [(&[&str], Made); 7] = [
+const QUESTIONS: [(&[&str], Made); 8] = [
     (&["render", "--check"], Made::Checks),
     (&["lay"], Made::Bytes(0)),
     (&["lay", "--half", "1"], Made::Bytes(1)),
     (&["lay", "--table"], Made::Table),
     (&["lay", "--rom"], Made::Rom),
     (&["lay", "--equates"], Made::Equates),
+    (&["lay", "--draft"], Made::Drafts),
     (&["render"], Made::Svg(SHOW)),
 ];
 

@@ -448,9 +448,9 @@ fn render_by(arguments: &[String]) -> Option<Result<ExitCode, Fault>> {
 
 /// What `lay` is asked for.
 fn lay_by(arguments: &[String]) -> Option<Result<ExitCode, Fault>> {
-    let alone = ["--table", "--rom", "--equates"];
+    let alone = ["--table", "--rom", "--equates", "--draft"];
     let options = Options::read(arguments, &alone, &["--half"])?;
-    if options.count(&["--half", "--table", "--rom", "--equates"]) > 1 {
+    if options.count(&["--half", "--table", "--rom", "--equates", "--draft"]) > 1 {
         return None;
     }
     let made = if options.has("--table") {
@@ -459,6 +459,8 @@ fn lay_by(arguments: &[String]) -> Option<Result<ExitCode, Fault>> {
         Made::Rom
     } else if options.has("--equates") {
         Made::Equates
+    } else if options.has("--draft") {
+        Made::Drafts
     } else {
         Made::Bytes(match options.value("--half") {
             None | Some("0") => 0,

@@ -135,7 +135,9 @@ fn lay_command<'a>(alloc: Global) -> Result<Command<'a>, AllocError> {
     let rom = "Write the bytes of the ROM";
     let with_rom = with_flag(alloc, with_table, "rom", rom)?;
     let equates = "Write the names of the ROM with their addresses";
-    with_flag(alloc, with_rom, "equates", equates)
+    let with_equates = with_flag(alloc, with_rom, "equates", equates)?;
+    let draft = "Write the frames as drafts without names, as check and play read them";
+    with_flag(alloc, with_equates, "draft", draft)
 }
 
 // Returns the program's command without its subcommands.

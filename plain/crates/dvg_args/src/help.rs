@@ -302,7 +302,8 @@ Example:
   <path d=\"M262144 204800l-51200 51200\" opacity=\".60\"/>";
 
 /// How `lay` is called.
-pub(crate) const LAY_USAGE: &str = "dvg lay [--half 0|1 | --table | --rom | --equates] < SKETCH";
+pub(crate) const LAY_USAGE: &str =
+    "dvg lay [--half 0|1 | --table | --rom | --equates | --draft] < SKETCH";
 
 /// The input and output of `lay`.
 pub(crate) const LAY: &str = "Standard input: a sketch as text, at most 1,048,576 bytes: a draft, as
@@ -342,11 +343,16 @@ Standard output, by one option at most:
   --rom             the 2,048 or 4,096 bytes of the ROM, where D000 is each word
                     that the sketch doesn't give
   --equates         a line `NAME = $HHH` for each name of the ROM: its address
+  --draft           the lines of the ROM, with eight words each, but for lines of
+                    D000 alone, and each frame as a draft without names. One frame
+                    stands as `check` reads it, and several as `play` does, each
+                    between `offer` and `end`
 
 Nothing is written of a sketch with a frame that may not be drawn: standard error
 tells the line at fault, or the word of the ROM and the name before it, with the
 fault that `dvg check` would tell, and the status is 1. So it is with `--table`
-where a frame calls a word below 400 by `callrom`, or jumps there.
+where a frame calls a word below 400 by `callrom`, or jumps there. With `--draft`
+no frame is checked: `check` and `play` do that.
 
 Faults of the text: `too long` for more than 1,048,576 bytes, and of the first
 line at fault the first of these:
@@ -372,4 +378,8 @@ Example:
           .word $9064, $7464 ; vctr 9 -100 100 7
           .word $B000 ; halt
   $ printf '.rom 8A0\\ndash: svec 2 1 1 7\\nreturn\\n' | dvg lay --equates
-  dash = $8A0";
+  dash = $8A0
+  $ printf 'labs 512 400 0\\nagain: jump over\\nover: halt\\n' | dvg lay --draft
+  labs 512 400 0
+  jump 2
+  halt";

@@ -4,9 +4,9 @@ use crate::task::{Job, LayForm};
 use clap::ArgMatches;
 use clap::error::ErrorKind;
 
-// Returns how many of `half`, `table`, `rom` and `equates` are given.
-fn given_count(half: bool, table: bool, rom: bool, equates: bool) -> u8 {
-    u8::from(half) + u8::from(table) + u8::from(rom) + u8::from(equates)
+// Returns how many of `half`, `table`, `rom`, `equates` and `draft` are given.
+fn given_count(half: bool, table: bool, rom: bool, equates: bool, draft: bool) -> u8 {
+    u8::from(half) + u8::from(table) + u8::from(rom) + u8::from(equates) + u8::from(draft)
 }
 
 // Returns the form for the half that `number` names, `0` or `1`. Returns `None` for any other text.
@@ -20,10 +20,16 @@ fn half_form(number: &str) -> Option<LayForm> {
     }
 }
 
-// Returns the form for the first of `table`, `rom` and `equates` that is set, or else for `half`,
-// the value of `--half`, or else for half 0. Returns `None` where `half` decides and is neither `0`
-// nor `1`.
-fn form_by(table: bool, rom: bool, equates: bool, half: Option<&str>) -> Option<LayForm> {
+// Returns the form for the first of `table`, `rom`, `equates` and `draft` that is set, or else for
+// `half`, the value of `--half`, or else for half 0. Returns `None` where `half` decides and is
+// neither `0` nor `1`.
+fn form_by(
+    table: bool,
+    rom: bool,
+    equates: bool,
+    draft: bool,
+    half: Option<&str>,
+) -> Option<LayForm> {
     if table {
         return Some(LayForm::Table);
     }
@@ -32,6 +38,9 @@ fn form_by(table: bool, rom: bool, equates: bool, half: Option<&str>) -> Option<
     }
     if equates {
         return Some(LayForm::Equates);
+    }
+    if draft {
+        return Some(LayForm::Draft);
     }
     match half {
         Some(number) => half_form(number),
@@ -46,10 +55,11 @@ fn lay_form(found: &ArgMatches) -> Result<LayForm, ErrorKind> {
     let table = is_set(found, "table");
     let rom = is_set(found, "rom");
     let equates = is_set(found, "equates");
-    if given_count(half.is_some(), table, rom, equates) > 1 {
+    let draft = is_set(found, "draft");
+    if given_count(half.is_some(), table, rom, equates, draft) > 1 {
         return Err(ErrorKind::ArgumentConflict);
     }
-    match form_by(table, rom, equates, half) {
+    match form_by(table, rom, equates, draft, half) {
         Some(form) => Ok(form),
         None => Err(ErrorKind::InvalidValue),
     }

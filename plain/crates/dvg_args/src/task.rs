@@ -12,6 +12,8 @@ pub enum LayForm {
     Rom,
     /// The names of the ROM with their word addresses.
     Equates,
+    /// The frames as drafts without names, after the lines of the ROM.
+    Draft,
 }
 
 /// What the program has to do. `percent` is a size of pictures, 10 to 400, and `rate` is how many

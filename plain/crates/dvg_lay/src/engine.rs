@@ -77,7 +77,7 @@ impl<A: Allocator + Copy> Engine<A> for LayEngine {
     fn write<W: Write>(&self, laid: &Laid<A>, writer: &mut Watched<W>) -> Result<(), StreamFailed> {
         match self.form {
             Form::Bytes(_) | Form::RomBytes => write_whole(writer, laid.as_bytes()),
-            Form::Tables | Form::RomNames => write_lines(writer, laid.as_bytes()),
+            Form::Tables | Form::RomNames | Form::Drafts => write_lines(writer, laid.as_bytes()),
         }
     }
 }

@@ -1,6 +1,7 @@
 //! The forms in which a sketch is laid out.
 use std::prelude::*;
 
+use crate::drafts::lay_drafts;
 use crate::laying::{lay_bytes, lay_names, lay_rom, lay_tables};
 use crate::refusal::{Refusal, Unlaid};
 use dvg_code::OutOfMemory;
@@ -19,6 +20,8 @@ pub enum Form {
     RomBytes,
     /// The names of the ROM, as `lay_names` makes their lines.
     RomNames,
+    /// The frames as drafts without names, as `lay_drafts` makes them. They aren't checked.
+    Drafts,
 }
 
 /// What came of laying a sketch out.
@@ -53,6 +56,10 @@ fn lay_text<A: Allocator + Copy>(
         Form::Tables => lay_tables(alloc, rom, names, frames),
         Form::RomBytes => lay_rom(alloc, rom, names, frames),
         Form::RomNames => lay_names(alloc, rom, names, frames),
+        Form::Drafts => match lay_drafts(alloc, rom, frames) {
+            Ok(text) => Ok(text),
+            Err(_) => Err(Unlaid::Memory),
+        },
     }
 }
 
