@@ -133,8 +133,19 @@ row_read first n a b c d e f g h words rest fit low high false ungiven next =
       spelled = hex_4 a ∷ hex_4 b ∷ hex_4 c ∷ hex_4 d ∷ hex_4 e ∷ hex_4 f ∷ hex_4 g ∷ hex_4 h ∷ [];
       split = read.parted;
       address = is_hex_3 n (omega arith);
-      words = (is_hex_4 a (fit 0 0 (omega arith)), (is_hex_4 b (fit 1 0 (omega arith)), (is_hex_4 c (fit 2 0 (omega arith)), (is_hex_4 d (fit 3 0 (omega arith)),
-          (is_hex_4 e (fit 4 0 (omega arith)), (is_hex_4 f (fit 5 0 (omega arith)), (is_hex_4 g (fit 6 0 (omega arith)), (is_hex_4 h (fit 7 0 (omega arith)), tt))))))));
+      words = (
+        is_hex_4 a (fit 0 0 (omega arith)),
+        (
+          is_hex_4 b (fit 1 0 (omega arith)),
+          (
+            is_hex_4 c (fit 2 0 (omega arith)),
+            (
+              is_hex_4 d (fit 3 0 (omega arith)),
+              (is_hex_4 e (fit 4 0 (omega arith)), (is_hex_4 f (fit 5 0 (omega arith)), (is_hex_4 g (fit 6 0 (omega arith)), (is_hex_4 h (fit 7 0 (omega arith)), tt)))),
+            ),
+          ),
+        ),
+      );
       some = omega arith;
       most = omega arith;
       low = low;
@@ -157,8 +168,19 @@ rows_read first n [] rest rows size fit low high = record {
 }
 rows_read first n (a ∷ b ∷ c ∷ d ∷ e ∷ f ∷ g ∷ h ∷ words) rest rows size fit low high =
     let row : List ℕ = a ∷ b ∷ c ∷ d ∷ e ∷ f ∷ g ∷ h ∷ [] in
-    let fit_row : AreWords row = All-from_recursion IsWord row (fit 0 0 (omega arith), (fit 1 0 (omega arith), (fit 2 0 (omega arith), (fit 3 0 (omega arith),
-        (fit 4 0 (omega arith), (fit 5 0 (omega arith), (fit 6 0 (omega arith), (fit 7 0 (omega arith), tt)))))))) in
+    let fit_row : AreWords row = All-from_recursion IsWord row (
+      fit 0 0 (omega arith),
+      (
+        fit 1 0 (omega arith),
+        (
+          fit 2 0 (omega arith),
+          (
+            fit 3 0 (omega arith),
+            (fit 4 0 (omega arith), (fit 5 0 (omega arith), (fit 6 0 (omega arith), (fit 7 0 (omega arith), tt)))),
+          ),
+        ),
+      ),
+    ) in
     let later : AreWords words = λ k x inside. fit (suc (suc (suc (suc (suc (suc (suc (suc k)))))))) x (omega arith) in
     row_read first n a b c d e f g h words rest fit_row low (omega (arith, high)) (pointwise nat_eq row (replicate 8 0xD000)) (bytes_decides row (replicate 8 0xD000)).0
     (rows_read first (n + 8) words rest (rows - 1) (omega (arith, size)) later (omega (arith, low)) (omega (arith, high)))

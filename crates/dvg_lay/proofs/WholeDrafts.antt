@@ -139,7 +139,7 @@ module _ (R : List ℕ) (F : List OpKind) (rom : IsRom R) (draft : IsDraft F) (n
       let text_is : rom_part R ++ draft_lines F ≡ given_lines (first_word R) (words_of R) ++ draft_lines F = ap (λ l. (l ++ given_lines (first_word R) (words_of R)) ++ draft_lines F) none in
       let at_first : rom_part R ++ draft_lines F ≡ given_lines 0x800 (words_of R) ++ draft_lines F = text_is ∙ ap (λ n. given_lines n (words_of R) ++ draft_lines F) first in
       let begins : Begins (rom_part R ++ draft_lines F) [] (reads.ls ++ ops.ls) =
-          subst (λ text. Begins text [] (reads.ls ++ ops.ls)) (sym at_first) (joined _ (draft_lines F) [] reads.ls ops.ls reads.begins ops.begins) in
+      subst (λ text. Begins text [] (reads.ls ++ ops.ls)) (sym at_first) (joined _ (draft_lines F) [] reads.ls ops.ls reads.begins ops.begins) in
       record {
         rom = record { map = None; given = reads.given };
         denotes = record {
@@ -168,14 +168,14 @@ module _ (R : List ℕ) (F : List OpKind) (rom : IsRom R) (draft : IsDraft F) (n
       let reads = rows_read 0x400 0x400 (words_of R) (draft_lines F) 256 (omega (arith, size, count)) (words_fit R rom.bytes) (omega arith) (omega (arith, size, count)) in
       let rest = given_lines (first_word R) (words_of R) in
       let text_is : rom_part R ++ draft_lines F ≡ (codes "map 4096" ++ 10 ∷ []) ++ (rest ++ draft_lines F) =
-          ap (λ l. (l ++ rest) ++ draft_lines F) map ∙ append_assoc (codes "map 4096" ++ 10 ∷ []) rest (draft_lines F) in
+      ap (λ l. (l ++ rest) ++ draft_lines F) map ∙ append_assoc (codes "map 4096" ++ 10 ∷ []) rest (draft_lines F) in
       let at_first : rom_part R ++ draft_lines F ≡ (codes "map 4096" ++ 10 ∷ []) ++ (given_lines 0x400 (words_of R) ++ draft_lines F) =
-          text_is ∙ ap (λ n. (codes "map 4096" ++ 10 ∷ []) ++ (given_lines n (words_of R) ++ draft_lines F)) first in
+      text_is ∙ ap (λ n. (codes "map 4096" ++ 10 ∷ []) ++ (given_lines n (words_of R) ++ draft_lines F)) first in
       let both : Begins (given_lines 0x400 (words_of R) ++ draft_lines F) [] (reads.ls ++ ops.ls) = joined _ (draft_lines F) [] reads.ls ops.ls reads.begins ops.begins in
       let whole : Begins ((codes "map 4096" ++ 10 ∷ []) ++ (given_lines 0x400 (words_of R) ++ draft_lines F)) [] (codes "map 4096" ∷ (reads.ls ++ ops.ls)) =
-          record { cut = ap (λ l. codes "map 4096" ∷ l) both.cut; told = ap (λ l. codes "map 4096" ∷ l) both.told } in
+      record { cut = ap (λ l. codes "map 4096" ∷ l) both.cut; told = ap (λ l. codes "map 4096" ∷ l) both.told } in
       let begins : Begins (rom_part R ++ draft_lines F) [] (codes "map 4096" ∷ (reads.ls ++ ops.ls)) =
-          subst (λ text. Begins text [] (codes "map 4096" ∷ (reads.ls ++ ops.ls))) (sym at_first) whole in
+      subst (λ text. Begins text [] (codes "map 4096" ∷ (reads.ls ++ ops.ls))) (sym at_first) whole in
       record {
         rom = record { map = Some 0x400; given = reads.given };
         denotes = record {
