@@ -1343,9 +1343,11 @@ def judge(log: Union[str, Iterable[str]]) -> Verdict:
     for number, line in enumerate(log.split("\n") if isinstance(log, str) else log, 1):
         text = line[:-1] if line.endswith("\n") else line
         try:
-            if len(text.encode()) > 64:
+            said = text.encode()
+            if len(said) > 64:
                 raise ValueError(text)
-            found = None if text == "" or text.startswith("#") else _tell(judge_of, text.split(" "))
+            said = (said[:-1] if said.endswith(b"\r") else said).lower().decode()
+            found = None if said == "" or said.startswith("#") else _tell(judge_of, said.split(" "))
         except ValueError as error:
             raise BadLog(number, text) from error
         if found:

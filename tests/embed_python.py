@@ -845,8 +845,9 @@ def test_dumps(count):
 
 WRONG_LINES = (
     "wrote 4002 00", "wrote 002", "start", "started ", " started", "fetched 000 E00", "low 000",
-    "halted now", "#" * 65, "wrote 00G 00", "started\r",
+    "halted now", "#" * 65, "wrote 00G 00", "started\r\r", "\u017ftarted",
 )
+ODD_LINES = ("STARTED", "Halted\r", "\r", "WROTE 40a 9f", "Fetched 000 e201\r", "# A remark\r")
 
 
 def random_log(chance):
@@ -875,8 +876,8 @@ def random_log(chance):
             lines.append(f"wrote {address:03X} {chance.randrange(256):02X}")
         elif which < 19:
             lines.append(chance.choice(("", "# a remark", "#" * 64)))
-        elif chance.random() < 0.2:
-            lines.append(chance.choice(WRONG_LINES))
+        else:
+            lines.append(chance.choice(WRONG_LINES if chance.random() < 0.2 else ODD_LINES))
     return "\n".join(lines) + chance.choice(("", "\n"))
 
 

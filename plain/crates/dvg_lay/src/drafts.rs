@@ -70,11 +70,7 @@ fn put_drawing<A: Allocator>(text: &mut Vec<u8, A>, instr: Instr) -> Result<(), 
 
 // Appends `name` and the number `n` of an operation to `text`. Returns `AllocError` where an
 // allocation fails.
-fn put_target<A: Allocator>(
-    text: &mut Vec<u8, A>,
-    name: &[u8],
-    n: u16,
-) -> Result<(), AllocError> {
+fn put_target<A: Allocator>(text: &mut Vec<u8, A>, name: &[u8], n: u16) -> Result<(), AllocError> {
     put(text, name)?;
     put_number(text, n)
 }

@@ -110,7 +110,10 @@ pub(crate) fn lay_names<A: Allocator + Copy>(
 
 /// Returns the bytes of `rom`, the low byte of each word first. Returns `AllocError` where an
 /// allocation fails.
-pub(crate) fn rom_bytes<A: Allocator + Copy>(alloc: A, rom: &Rom<A>) -> Result<Vec<u8, A>, AllocError> {
+pub(crate) fn rom_bytes<A: Allocator + Copy>(
+    alloc: A,
+    rom: &Rom<A>,
+) -> Result<Vec<u8, A>, AllocError> {
     // A ROM has 2,048 or 4,096 bytes, as its type says.
     let _ = rom.len_words();
     let mut text = Vec::new(alloc);
