@@ -985,7 +985,7 @@ def test_script():
         expect_same((printed, "", 1), script("--log", str(log)), "a log in which no run drew one")
         log.write_bytes(b"started\r\n\xff")
         out, error, status = script("--log", str(log))
-        expect(status == 1 and "syntax at line 1" in error and out == "", "a log at fault")
+        expect(status == 1 and "syntax at line 2" in error and out == "", "a log at fault")
         out, error, status = script(DVG_LIBRARY=str(bad))
         expect(
             status == 70 and "./lib" in error and "Traceback" not in error, "no library names ./lib"
