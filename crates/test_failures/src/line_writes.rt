@@ -84,6 +84,10 @@ fn a_failing_writer_got_the_lines_of_other_texts_before(rt: HostRuntime) -> Resu
         form: LayForm::Equates,
     };
     assert_eq!(rt; lines_written(alloc, equates, SHAPES.as_bytes())?, 3);
+    let drafts = Job::Lay {
+        form: LayForm::Draft,
+    };
+    assert_eq!(rt; lines_written(alloc, drafts, SKETCH.as_bytes())?, 8);
     let halves = Job::Torn { moments: false };
     assert_eq!(rt; lines_written(alloc, halves, TORN.as_bytes())?, 2);
     let moments = Job::Torn { moments: true };
