@@ -72,8 +72,8 @@ pub extern "C" fn dvg_input(length: usize) -> *mut u8 {
 }
 
 /// The command of a number: 0 list, 1 rom, 2 picture, 3 check, 4 play, 5 torn, 6 the SVG of a
-/// sketch, 7 the ROM of a sketch, 16 its frames as a table. With 8
-/// more it has its option: `--all`, `--bound`, `--check`, and of the ROM `--equates`.
+/// sketch, 7 the ROM of a sketch, 16 its frames as a table. With 8 more it has its option: `--all`,
+/// `--bound`, `--moments`, `--check`, and of the ROM `--equates`.
 fn job_of(number: u32) -> Option<Job> {
     let option = number & 8 != 0;
     match (number & !8, option) {
@@ -82,7 +82,7 @@ fn job_of(number: u32) -> Option<Job> {
         (2, all) => Some(Job::Picture { all }),
         (3, bound) => Some(Job::Check { bound }),
         (4, all) => Some(Job::Play { all, banked: false }),
-        (5, false) => Some(Job::Torn),
+        (5, moments) => Some(Job::Torn { moments }),
         (6, false) => Some(Job::Render {
             percent: PERCENT,
             rate: RATE,
