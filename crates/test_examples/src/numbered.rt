@@ -62,7 +62,10 @@ fn a_closed_device_has_an_answer_to_each_request(rt: HostRuntime) {
     assert_eq!(rt; device.turn(15), 24);
     assert_eq!(rt; device.turn(0x1016), 24);
     assert_eq!(rt; device.turn(0x1116), 254);
-    for code in 23..256 {
+    for code in 23..28 {
+        assert_eq!(rt; device.turn(code), 24, "{code}");
+    }
+    for code in 28..256 {
         assert_eq!(rt; device.turn(code), 254, "{code}");
     }
 }
