@@ -7,7 +7,7 @@
 //
 // The last line is 'N passed, M failed'.
 import { spawnSync } from 'node:child_process';
-import { existsSync, mkdirSync, readFileSync, readdirSync, writeFileSync } from 'node:fs';
+import { existsSync, mkdirSync, readFileSync, readdirSync, rmSync, writeFileSync } from 'node:fs';
 import { COMMAND, Engine, OPTION } from '../page/src/engine.mjs';
 import { Board } from '../page/src/board.mjs';
 import { AREA, SIGN, areaOf, drawnHalf } from '../page/src/signs.mjs';
@@ -49,6 +49,7 @@ function expect(what, wanted, found) {
 // The cases of these texts as folders, by tests/unfold.
 function unfolded(name, texts, ...options) {
   const folder = `${work}/${name}`;
+  rmSync(folder, { recursive: true, force: true });
   mkdirSync(folder);
   const files = texts.map((text) => `${top}tests/cases/${text}.md`);
   const { status, stderr } = spawnSync(`${top}tests/unfold`, [...options, folder, ...files]);
@@ -76,6 +77,11 @@ function commandOf(folder) {
   return COMMANDS[args.join(' ')] ?? null;
 }
 
+// Verdicts of `dvg render --check` without the times of pictures, as `check --bound` writes them.
+function untimed(verdicts) {
+  return verdicts.replace(/, \d+ vectors, .* in the emulator$/gm, '');
+}
+
 // What the page's reader of sketches tells of a text: its fault, or what `dvg render --check` says,
 // and its frames.
 function testReader(name, text) {
@@ -89,7 +95,8 @@ function testReader(name, text) {
   const texts = frames.map(({ lines }) => `${rom}${lines.map((line) => `${line}\n`).join('')}`);
   const verdicts = frames.map(({ name: of }, k) => `${of === '' ? '' : `${of}: `}`
     + runProgram(['check', '--bound'], texts[k]));
-  expect(`the sketch of ${name}: each of its frames`, stdout.toString(), verdicts.join(''));
+  const told = untimed(stdout.toString());
+  expect(`the sketch of ${name}: each of its frames`, told, verdicts.join(''));
   if (!good) return;
   const laid = (input) => spawnSync(program, ['lay'], { input, maxBuffer: 1 << 28 }).stdout;
   expect(`the sketch of ${name}: their bytes`, laid(text).toString('hex'),
@@ -620,7 +627,7 @@ function testSketches() {
     expect('a sketch is good', true, good);
     const lines = frames.map(({ name, lines: operations }) => `${name === '' ? '' : `${name}: `}`
       + runProgram(['check', '--bound'], `${own}${operations.join('\n')}\n`).trim());
-    expect(`a sketch of ${frames.length}: each frame`, said, lines.join('\n'));
+    expect(`a sketch of ${frames.length}: each frame`, untimed(said), lines.join('\n'));
   }
   expect('the playfield', SCENE_FRAMES, readSketch(engine, Object.values(SCENES)[0]).frames.length);
 }
