@@ -1343,10 +1343,10 @@ def judge(log: Union[str, Iterable[str]]) -> Verdict:
     for number, line in enumerate(log.split("\n") if isinstance(log, str) else log, 1):
         text = line[:-1] if line.endswith("\n") else line
         try:
-            said = text.encode()
-            if len(said) > 64:
+            held = text.encode()
+            if len(held) > 64:
                 raise ValueError(text)
-            said = (said[:-1] if said.endswith(b"\r") else said).lower().decode()
+            said = (held[:-1] if held.endswith(b"\r") else held).lower().decode()
             found = None if said == "" or said.startswith("#") else _tell(judge_of, said.split(" "))
         except ValueError as error:
             raise BadLog(number, text) from error
