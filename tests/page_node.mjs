@@ -7,7 +7,7 @@
 //
 // The last line is 'N passed, M failed'.
 import { spawnSync } from 'node:child_process';
-import { existsSync, mkdirSync, readFileSync, readdirSync, rmSync, writeFileSync } from 'node:fs';
+import { existsSync, mkdirSync, readFileSync, readdirSync, writeFileSync } from 'node:fs';
 import { COMMAND, Engine, OPTION } from '../page/src/engine.mjs';
 import { Board } from '../page/src/board.mjs';
 import { AREA, SIGN, areaOf, drawnHalf } from '../page/src/signs.mjs';
@@ -46,10 +46,10 @@ function expect(what, wanted, found) {
 
 // --- The commands, on tests/cases ---
 
-// The cases of these texts as folders, by tests/unfold.
+// The cases of these texts as folders, which tests/unfold writes once.
 function unfolded(name, texts, ...options) {
   const folder = `${work}/${name}`;
-  rmSync(folder, { recursive: true, force: true });
+  if (existsSync(folder)) return folder;
   mkdirSync(folder);
   const files = texts.map((text) => `${top}tests/cases/${text}.md`);
   const { status, stderr } = spawnSync(`${top}tests/unfold`, [...options, folder, ...files]);
