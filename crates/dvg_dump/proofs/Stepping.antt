@@ -7,7 +7,7 @@ use Rattle.dvg_gen.specs.declared.stroke.Stroke.{Stroke}
 use Rattle.dvg_gen.specs.declared.taken.GenFault.{GenFault}
 use Rattle.dvg_gen.specs.declared.taken.GenFault.TheVariants.{Hole}
 use Rattle.dvg_gen.specs.declared.taken.Step.{Step}
-use Rattle.dvg_gen.specs.declared.taken.Step.TheVariants.{Low, Word, Done}
+use Rattle.dvg_gen.specs.declared.taken.Step.TheVariants.{Low, Word, Done, Broke}
 use Rattle.dvg_gen.specs.Bytes.{met}
 use Rattle.dvg_gen.specs.Machine.{Machine, HasTaken, Answers, answer_by}
 use Rattle.dvg_gen.specs.Run.{Visit, Goes, Breaks, fate, next, wanted, Adds, first, one, two, Runs, begins, fetches}
@@ -101,6 +101,13 @@ stepped {memory = memory} {visits = visits} {held = held} {words = words} {addre
     let beside = tells traces memory visits adds.0 held adds.1 (record { words = words; runs = f.runs; address_is = at; there = there; adds = adds.2 }) t in
     let word_added = at_word traces machine trail (reply (Some word) told.0.run) f.runs f.goes low at there adds.2 beside told.0 adds.3 (sym (ap (reply (Some word)) adds.3)) in
     subst (Stepped memory traces words address machine trail) (sym told.1) word_added
+
+-- only a low byte is answered by none
+pub is_low : (step : Step) (picture : List Stroke) → answer_by step picture ≡ None → step ≡ Low
+is_low Low picture is = refl
+is_low Word picture is = absurd (cc)
+is_low Done picture is = absurd (cc)
+is_low (Broke fault) picture is = absurd (cc)
 
 -- the answer to a hole
 pub takes_hole : {T E : Type 0} (answer : T → Option Reply) (result : Result T E) (old new : Machine) (word : Option ℕ) → word ≡ None

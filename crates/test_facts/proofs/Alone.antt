@@ -17,6 +17,13 @@ use Rattle.dvg_dump.proofs.OneEnd.{one_end}
 use Rattle.dvg_dump.proofs.Stepping.{stepped, wanted_is}
 use Rattle.test_facts.specs.Facts.{IsComplete}
 
+-- only a low byte is answered by none
+pub was_low : {A : Type 0} (taken : Taken A) → answer_of taken ≡ None → taken ≡ Low
+was_low Low is = refl
+was_low Word is = absurd (cc)
+was_low (Done list) is = absurd (cc)
+was_low (Broke fault) is = absurd (cc)
+
 -- it is in the run, after this many words
 pub record InRun (memory : ℕ → Option ℕ) (words : ℕ) (machine : Machine) : Type 0 where
   pub visits : List Visit

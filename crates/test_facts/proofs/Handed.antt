@@ -10,6 +10,7 @@ use Rattle.dvg_gen.specs.Machine.{Machine, HasTaken, Answers, answer_by, picture
 use Rattle.dvg_gen.specs.Run.{one}
 use Rattle.dvg_gen.specs.Told.{Told, Start, Drew, starts, takes}
 use Rattle.dvg_gen.proofs.Rows.{HasReply}
+use Rattle.dvg_dump.proofs.Stepping.{is_low}
 
 -- after a start, B000 finishes a run that drew nothing
 pub halt_after : {machine : Machine} {low : Option ℕ} (history : List Told) → HasTaken machine history low
@@ -17,14 +18,7 @@ pub halt_after : {machine : Machine} {low : Option ℕ} (history : List Told) �
 halt_after history after =
     record { run = _; leaves = takes (starts after.leaves) refl (one (halt (lit≤ tt) (lit< tt))); answered = refl }
 
--- what is answered as a low byte is one
-is_low : (answer : Step) (picture : List Stroke) → answer_by answer picture ≡ None → answer ≡ step.Low
-is_low step.Low picture is = refl
-is_low step.Word picture is = cc
-is_low step.Done picture is = cc
-is_low (step.Broke fault) picture is = cc
-
--- so is the answer to the first byte of a run
+-- the answer to the first byte of a run is that to a low byte
 pub low_result : {E : Type 0} (result : Result Step E) {old : Machine} (machine : Machine) (history : List Told)
     (byte : ℕ) → HasTaken old history None
     → IfOk result (λ answer. (told : List Told) (low : Option ℕ) → HasTaken old told low

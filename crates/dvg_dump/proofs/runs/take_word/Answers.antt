@@ -1,14 +1,17 @@
 use Rattle.std.proofs.Common.{◌≡◌, ◌%◌, ◌/◌, None, arith, get_or, rules}
 use Rattle.dvg_gen.specs.Machine.{answer_by}
 use Rattle.dvg_dump.proofs.Silent.{both_draw_nothing}
-use Rattle.dvg_dump.proofs.Stepping.{takes_both, takes_hole}
+use Rattle.dvg_dump.proofs.Stepping.{is_low, takes_both, takes_hole}
 use Rattle.dvg_dump.proofs.runs.take_word.Goals as goal
 
 pub returns-in_default-clause-takes : goal.returns-in_default-clause-takes
 returns-in_default-clause-takes g c = takes_hole (λ step. answer_by step c.feed.new.self.picture) c.feed.result _ _ _ c.in_default.is c.feed.ensures.answers
 
 pub unreachable-requires : goal.unreachable-requires
-unreachable-requires g c = c.in_default-2.not-Low (c.in_ok-feed.ensures.answers c.requires.stands.0 None c.requires.stands.1).1
+unreachable-requires g c = 
+    c.in_default-2.not-Low
+    (is_low c.in_ok-feed.field-0 c.feed-2.new.self.picture
+    (c.in_ok-feed.ensures.answers c.requires.stands.0 None c.requires.stands.1).1)
 
 pub returns-clause-takes : goal.returns-clause-takes
 returns-clause-takes g c =

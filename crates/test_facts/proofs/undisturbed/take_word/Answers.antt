@@ -1,6 +1,7 @@
 use Rattle.std.proofs.Common.{◌≡◌, ◌%◌, ◌/◌, None, arith, get_or, rules}
 use Rattle.dvg_gen.specs.Machine.{answer_of}
 use Rattle.dvg_dump.proofs.Stepping.{takes_both, takes_hole}
+use Rattle.test_facts.proofs.Alone.{was_low}
 use Rattle.test_facts.proofs.undisturbed.take_word.Goals as goal
 
 pub returns-in_default : goal.returns-in_default
@@ -10,7 +11,8 @@ returns-in_default c =
 pub unreachable-requires : goal.unreachable-requires
 unreachable-requires c =
     let stands = c.requires.stands in
-    c.in_default-2.not-Low (c.in_ok-take_byte.ensures.answers stands.0 None stands.1).1
+    c.in_default-2.not-Low
+    (was_low c.in_ok-take_byte.field-0 (c.in_ok-take_byte.ensures.answers stands.0 None stands.1).1)
 
 pub returns : goal.returns
 returns c =
