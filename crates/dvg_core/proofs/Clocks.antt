@@ -145,7 +145,7 @@ module _ (at done fault stroke x0 y0 x y z first low depth s0 s1 s2 s3 scale din
   calls (suc (suc (suc (suc n)))) less e = absurd (omega arith)
 
   overflows : part 4 4 din ≡ 12 → Obeyed (old 1 0 4) (Jsrl target) (new 1 0 4) (Broke StackOver)
-  overflows e = ((target, refl), refl, (rw e, refl, rw e), rw e)
+  overflows e = ((target, refl), refl, (rw e, refl, rw e), refl)
 
   returns : (depth : ℕ) → 1 ≤ depth → depth ≤ 4 → part 4 4 din ≡ 13 → Obeyed (old 1 0 depth) Rtsl (new 1 0 depth) Word
   returns zero some less e = absurd (omega arith)
@@ -156,7 +156,7 @@ module _ (at done fault stroke x0 y0 x y z first low depth s0 s1 s2 s3 scale din
   returns (suc (suc (suc (suc (suc n))))) some less e = absurd (omega arith)
 
   underflows : part 4 4 din ≡ 13 → Obeyed (old 1 0 0) Rtsl (new 1 0 0) (Broke StackUnder)
-  underflows e = (refl, refl, (rw e, refl, rw e), rw e)
+  underflows e = (refl, refl, (rw e, refl, rw e), refl)
 
   halts : part 4 4 din ≡ 11 → IsShut (old 1 0 depth) (new 1 0 depth)
   halts e = (rw e, refl, rw e)
