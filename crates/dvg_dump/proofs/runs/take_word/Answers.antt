@@ -8,7 +8,7 @@ pub returns-in_default-clause-takes : goal.returns-in_default-clause-takes
 returns-in_default-clause-takes g c = takes_hole (λ step. answer_by step c.feed.new.self.picture) c.feed.result _ _ _ c.in_default.is c.feed.ensures.answers
 
 pub unreachable-requires : goal.unreachable-requires
-unreachable-requires g c = 
+unreachable-requires g c =
     c.in_default-2.not-Low
     (is_low c.in_ok-feed.field-0 c.feed-2.new.self.picture
     (c.in_ok-feed.ensures.answers c.requires.stands.0 None c.requires.stands.1).1)
