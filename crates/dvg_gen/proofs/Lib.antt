@@ -13,3 +13,4 @@ pub mod Seen
 pub mod Moves
 pub mod Counted
 pub mod Turns
+pub mod Alike

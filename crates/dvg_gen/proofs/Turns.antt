@@ -9,7 +9,7 @@ use Rattle.dvg_gen.specs.declared.taken.Step.{Step}
 use Rattle.dvg_gen.specs.declared.taken.Step.TheVariants.{Word}
 use Rattle.dvg_gen.specs.Bytes.{Met, met, Waits, Whole}
 use Rattle.dvg_gen.specs.Machine.{Machine, HasTaken, Answers, IsInRun, answer_by}
-use Rattle.dvg_gen.specs.Run.{on, wanted}
+use Rattle.dvg_gen.specs.Run.{on}
 use Rattle.dvg_gen.specs.Told.{Told, Fed, Reply}
 use Rattle.dvg_gen.specs.Wrapping.{HasWrapped, AnswersWrapped, Wraps, Wrapped, is_turn, turn_of, jump_of, turned, meets_hole, takes, turns}
 use Rattle.dvg_gen.proofs.Standing.{claim_alone, jumped}
@@ -56,8 +56,7 @@ module _ (old : Wrapped) (history : List Told) (low : Option ℕ) (stands : HasW
       (record { told = Fed None ∷ stands.told; wraps = meets_hole stands.wraps; after = answers.0 }, answers.1)
   by_met machine answer (Whole (Some word)) none answers =
       let plain : is_turn stands.after.run.held word ≡ false =
-      ap (λ h. is_turn h word) (sym inside.held) ∙ no_turn (is_turn old.machine.held word) word none in
-      (
+      ap (λ h. is_turn h word) (sym inside.held) ∙ no_turn (is_turn old.machine.held word) word none in (
         record {
           told = Fed (Some word) ∷ stands.told;
           wraps = takes stands.wraps stands.after.leaves plain;
@@ -82,8 +81,7 @@ module _ (old : Wrapped) (history : List Told) (low : Option ℕ) (stands : HasW
       claim_alone {E = OutOfMemory} (Ok step) jump old.machine new.machine (Jmpl new.machine.at) opened alone spells obeyed
       stands.told low stands.after in
       let turned_on = subst (λ h. is_turn h word ≡ true) inside.held turn in
-      let same = registers ∙ ap (λ at. turned old.registers (on at 1) word) inside.at in
-      (
+      let same = registers ∙ ap (λ at. turned old.registers (on at 1) word) inside.at in (
         record {
           told = Fed (Some jump) ∷ stands.told;
           wraps = subst (Wraps (Fed (Some word) ∷ history) (Fed (Some jump) ∷ stands.told)) (sym same)

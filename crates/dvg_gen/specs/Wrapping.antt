@@ -65,3 +65,24 @@ abbrev pub AnswersWrapped : List Told → Met → Wrapped → Option Reply → T
 AnswersWrapped history (Waits byte) wrapped answer = HasWrapped wrapped history (Some byte) × (answer ≡ None)
 AnswersWrapped history (Whole word) wrapped answer = (stands : HasWrapped wrapped (Fed word ∷ history) None)
     × (answer ≡ Some (reply word stands.after.run))
+
+-- no call and no return breaks a run where the stack wraps
+abbrev pub WrapsUnbroken : Type 0
+WrapsUnbroken = (history told : List Told) (registers : List ℕ) (run : Newest) (fault : GenFault)
+    → Wraps history told registers → Leaves told run → fate run.visits ≡ Breaks fault → ⊥
+
+-- two runs want, hold and drew the same, and have come to the same
+pub record IsAlike (run other : Newest) : Type 0 where
+  pub is_open : other.is_open ≡ run.is_open
+  pub held : other.held ≡ run.held
+  pub wanted : wanted other.visits other.held ≡ wanted run.visits run.held
+  pub fate : fate other.visits ≡ fate run.visits
+  pub beam : beam_after other.first other.visits ≡ beam_after run.first run.visits
+  pub strokes : strokes other.first other.visits ≡ strokes run.first run.visits
+
+-- a run that no fifth call and no return without a call broke is alike where the stack wraps, whatever broke the ones
+-- before it
+abbrev pub WrapsAlike : Type 0
+WrapsAlike = (history told : List Told) (registers : List ℕ) (run other : Newest) → Leaves history run
+    → Wraps history told registers → Leaves told other → ((fault : GenFault) → fate run.visits ≡ Breaks fault → ⊥)
+    → IsAlike run other

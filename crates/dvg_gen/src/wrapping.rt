@@ -76,8 +76,8 @@ impl<A: Allocator + Copy> WrappingGenerator<A> {
     }
 
     /// Returns the generator in it, which tells what is wanted, where the beam is, what the next
-    /// byte moves, and the strokes and the picture. It has jumped for each call and each return, so
-    /// it has no return address.
+    /// byte moves, and the strokes and the picture. It jumps for each call and each return; their
+    /// addresses are in `registers`.
     #[inline(always)]
     pub fn generator(&self) -> &Generator<A>
         ensures { result.now ≡ self.now.machine }
@@ -111,7 +111,7 @@ impl<A: Allocator + Copy> WrappingGenerator<A> {
         ensures answers { IfOk result (λ step. (history : List Told) (low : Option ℕ)
             → HasWrapped self.old history low
             → AnswersWrapped history (met low byte) self.new
-                (answer_by step self.new.machine.picture)) }
+            (answer_by step self.new.machine.picture)) }
         ensures picture { IfOk result (λ step. self.new.machine.picture
             ≡ picture_after step self.old.machine) }
         ensures room { DrawsNothing self.old.machine.held (met self.old.machine.low byte)
