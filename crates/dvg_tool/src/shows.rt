@@ -17,7 +17,7 @@ use std::io::Write;
 // it finished. The line is made in `lines`.
 fn write_next<W: Write>(
     lines: &mut EntryLines,
-    entry: &Entry<u16>,
+    entry: &Entry<()>,
     strokes: &[Stroke],
     writer: &mut Watched<W>,
 ) -> Result<(), StreamFailed>
@@ -51,7 +51,7 @@ fn write_run<W: Write>(
     ensures next { OnOk result (lines.new.next ≡ lines.old.next + run.entry.times) }
 {
     for _again in 0..run.times {
-        write_next(lines, run.entry, run.strokes, writer)?;
+        write_next(lines, &run.entry, run.strokes, writer)?;
     }
     Ok(())
 }
