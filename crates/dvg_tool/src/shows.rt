@@ -51,7 +51,7 @@ fn write_run<W: Write>(
     ensures next { OnOk result (lines.new.next ≡ lines.old.next + run.entry.times) }
 {
     for _again in 0..run.times {
-        write_next(lines, &run.entry, run.strokes, writer)?;
+        write_next(lines, run.entry, run.strokes, writer)?;
     }
     Ok(())
 }

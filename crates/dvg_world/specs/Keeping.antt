@@ -66,7 +66,7 @@ strokes_in _ = []
 
 -- the entry of a run of equal ones, with the strokes that stand beside it
 abbrev pub entry_in : EntryRun → Shown
-entry_in run = map_entry (λ _. run.strokes.now) run.entry
+entry_in run = map_entry (λ _. run.strokes.now) run.entry.now
 
 -- the next run of the entries that are left: None exactly where there is none, else an entry, the
 -- strokes that it shows, and how many times it comes before the others

@@ -54,7 +54,7 @@ impl<A: Allocator> Entries<A> {
 #[derive(Clone, Copy)]
 pub struct EntryRun<'a> {
     /// The entry, without its strokes.
-    pub entry: Entry<()>,
+    pub entry: &'a Entry<()>,
     /// The number of times that it comes in a row.
     pub times: usize,
     /// What the generator's run drew, if the entry finished one; otherwise nothing.
@@ -100,7 +100,7 @@ impl<'a, A: Allocator> Iterator for EntryRuns<'a, A> {
         if kept.is_empty() {
             return None;
         }
-        let entry = kept[0].entry;
+        let entry = &kept[0].entry;
         let times = usize::from(kept[0].again) + 1;
         self.kept = &kept[1..];
         let drawn = self.drawn;

@@ -1,9 +1,9 @@
-use Rattle.std.proofs.Common.{rules, ◌≡◌, ◌+◌, ◌-◌, ◌<◌, ◌≤◌, ◌∷◌, ◌++◌, [], ◌∙◌, ap, arith}
+use Rattle.std.proofs.Common.{rules, ◌≡◌, ◌+◌, ◌-◌, ◌<◌, ◌≤◌, ◌∷◌, ◌++◌, [], arith}
 use Rattle.std.specs.Prelude.{option_to_list, vec_capacity, vec_len}
 use Rattle.dvg_world.specs.own.Entries.{entry_count}
 use Rattle.dvg_world.proofs.EntriesKept.{few_kept, kept_more}
-use Rattle.dvg_world.proofs.logging.EntriesKept.keep_parts.Goals.{in-Some, in_default}
-use Rattle.dvg_world.proofs.logging.EntriesKept.keep_parts.Goals as goal
+use Rattle.dvg_world.proofs.logging.EntriesKept.keep.Goals.{in-Some, in_default}
+use Rattle.dvg_world.proofs.logging.EntriesKept.keep.Goals as goal
 
 pub push_reserved-requires-2 : goal.push_reserved-requires-2
 push_reserved-requires-2 g c =
@@ -19,7 +19,7 @@ push_reserved-requires-2 g c =
     ]
 
 pub returns-clause-kept : goal.returns-clause-kept
-returns-clause-kept g c shown drawn same event log kept =
+returns-clause-kept g c picture drawn event log kept =
     let before = c.args.self.now in
     let times = c.args.times in
     let room : entry_count before.kept.items + times ≤ 65536 = search rules in
@@ -32,6 +32,5 @@ returns-clause-kept g c shown drawn same event log kept =
       | in-Some w ↦ search rules
       | in_default w ↦ search rules
     ] in
-    kept_more before.kept.items kept_now before.drawn.items drawn_now shown c.args.drew times event log
-    drawn kept.0 kept.1 c.requires.some room
-    (more ∙ ap (λ entry. before.kept.items ++ record { entry = entry; again = times - 1 } ∷ []) same) later
+    kept_more before.kept.items kept_now before.drawn.items drawn_now c.args.entry picture c.args.drew times event log
+    drawn kept.0 kept.1 c.requires.some room more later
