@@ -21,10 +21,6 @@ abbrev pub room_left : {A : Type 0} → EntriesKept A → ℕ
 room_left entries = min (min (vec_capacity entries.kept) 65536 - entry_count entries.kept.items)
     (min (vec_capacity entries.drawn) 65536 - vec_len entries.drawn)
 
--- one entry more is kept: that of the next line of a log
-abbrev pub KeepsEntry : {A : Type 0} → EntriesKept A → Shown → EntriesKept A → Type 0
-KeepsEntry old entry new = (event : Happening) (log : Log) → AreKept old log → AreKept new ((event ⟼ entry) ∷ log)
-
 -- so many equal entries more are kept: those of the next lines of a log, all of one event
 abbrev pub KeepsAlike : {A : Type 0} → EntriesKept A → Shown → (times : ℕ) → EntriesKept A → Type 0
 KeepsAlike old entry times new = (event : Happening) (log : Log) → AreKept old log
