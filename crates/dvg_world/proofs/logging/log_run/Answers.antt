@@ -1,5 +1,4 @@
 use Rattle.std.proofs.Common.{arith}
-use Rattle.dvg_log.specs.Traces.{seen_as}
 use Rattle.dvg_world.specs.Standing.{shown_in}
 use Rattle.dvg_world.proofs.Running.{logs_more, stops_logging}
 use Rattle.dvg_world.proofs.Standing.{then_keeps}
