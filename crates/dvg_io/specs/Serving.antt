@@ -2,8 +2,10 @@
 use Rattle.std.specs.Prelude.{◌≡◌, ℕ, ◌+◌, ◌≤◌, ◌↔◌, List, take, Option, Result, Ok, Err, IfErr, IfSome, IsErrOf}
 use Rattle.std.specs.Io.KnownBytes.{Appends}
 use Rattle.dvg_read.specs.declared.fault.TextFault.{TextFault}
+use Rattle.dvg_read.specs.declared.fault.Unread.{Unread}
+use Rattle.dvg_read.specs.declared.fault.Unread.TheVariants as unread
 use Rattle.dvg_io.specs.declared.fault.ToolFault.{ToolFault}
-use Rattle.dvg_io.specs.declared.fault.ToolFault.TheVariants.{Text, Reader, Writer, Memory}
+use Rattle.dvg_io.specs.declared.fault.ToolFault.TheVariants.{Text, Reader, Writer}
 use Rattle.dvg_io.specs.declared.watched.Watched.{Watched}
 use Rattle.dvg_io.specs.Watching.{BeginsToWrite, TakesAtMost, failures_of, stream_of}
 
@@ -14,11 +16,10 @@ OfInput most read Holds = (input : List ℕ) → read ≡ take (most + 1) input 
 
 -- what is found, or why nothing is: a fault of the text, or want of memory
 abbrev pub IsFinding : {F : Type 0} → (Finds : F → Type 0) → (HasFault : TextFault → Type 0)
-    → Result F ToolFault → Type 0
+    → Result F Unread → Type 0
 IsFinding Finds HasFault (Ok found) = Finds found
-IsFinding Finds HasFault (Err (Text fault)) = HasFault fault
-IsFinding Finds HasFault (Err Memory) = Unit {0}
-IsFinding Finds HasFault (Err _) = ⊥
+IsFinding Finds HasFault (Err (unread.Text fault)) = HasFault fault
+IsFinding Finds HasFault (Err unread.Memory) = Unit {0}
 
 -- what an answer to an input says, with what was written before it and after it
 abbrev pub Meaning : Type 0 → Type 1

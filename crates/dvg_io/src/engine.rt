@@ -8,6 +8,7 @@ ghost use Rattle.dvg_io.specs.Watching.{Writes};
 use crate::fault::ToolFault;
 use crate::transfer::read_up_to;
 use crate::watched::{StreamFailed, Watched};
+use dvg_read::Unread;
 use std::alloc::Allocator;
 use std::io::{Read, Write};
 
@@ -32,7 +33,7 @@ pub trait Engine<A: Allocator> {
     ghost text: { Self → Self.Found → List ℕ };
 
     /// Finds what there is in `read`, the bytes that were read. Its memory comes from `alloc`.
-    fn find(&self, alloc: A, read: &[u8]) -> Result<Self::Found, ToolFault>
+    fn find(&self, alloc: A, read: &[u8]) -> Result<Self::Found, Unread>
         ensures { OfInput MOST read.now (λ input.
             IsFinding (Finds self.now input) (HasFault self.now input) result) };
 

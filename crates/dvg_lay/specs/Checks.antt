@@ -11,7 +11,7 @@ use Rattle.dvg_print.specs.Verdicts.{IsBoundedVerdict, bounded_line}
 use Rattle.dvg_named.specs.declared.meaning.NamedFrame.{NamedFrame}
 use Rattle.dvg_named.specs.declared.meaning.RomName.{RomName}
 use Rattle.dvg_named.specs.ReadSketches.{IsSketchOf, lent_of}
-use Rattle.dvg_lay.specs.Sketches.{HasSketchFault}
+use Rattle.dvg_named.specs.SketchFaults.{HasSketchFault}
 use Rattle.dvg_lay.specs.Times.{IsTimeOf, time_text}
 use Rattle.dvg_lay.specs.declared.time.PictureTime.{PictureTime}
 use Rattle.dvg_lay.specs.declared.verdicts.FrameVerdict.{FrameVerdict}

@@ -11,7 +11,7 @@ use Rattle.dvg_rows.specs.declared.row.Doing as held_doing
 use Rattle.dvg_rows.specs.declared.row.Row as held
 use Rattle.dvg_rows.specs.HeldRows.{rows_of}
 use Rattle.dvg_named.specs.Meanings.{IsDrafted}
-use Rattle.dvg_named.specs.NamedFaults.{IsUngiven}
+use Rattle.dvg_named.specs.SketchFaults.{IsUngiven}
 use Rattle.dvg_named.specs.Places.{Laid}
 use Rattle.dvg_rows.specs.RowPlaces.{IsNumber, doings}
 use Rattle.dvg_rows.specs.RowValues.{doing_of, doing_of_some, row_of}

@@ -17,7 +17,7 @@ use Rattle.dvg_named.specs.FirstUnknown.{StopsDrafts, WantsNone, sections_in}
 use Rattle.dvg_named.specs.FlatFrames.{IsSpanOf, KnowsNames, StopsFrame, StopsFrames, frame_at}
 use Rattle.dvg_named.specs.FrameValues.{frame_held, frame_in, frames_of}
 use Rattle.dvg_named.specs.Meanings.{IsFrameOf}
-use Rattle.dvg_named.specs.NamedFaults.{IsUngiven}
+use Rattle.dvg_named.specs.SketchFaults.{IsUngiven}
 use Rattle.dvg_named.specs.Places.{Laid}
 use Rattle.dvg_rows.specs.Rows.{Doing, Head, Row, calls, calls_rom, frame, jumps, jumps_rom, plainly, rom, top}
 use Rattle.dvg_named.specs.Sections.{FrameRows, Section, Spelled, frames, sections, top_frame}

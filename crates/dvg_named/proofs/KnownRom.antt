@@ -9,7 +9,7 @@ use Rattle.dvg_named.specs.declared.rom_words.RomRow.{RomRow}
 use Rattle.dvg_named.specs.FirstUnknown.{WantsNone, sections_in}
 use Rattle.dvg_named.specs.GivenRoms.{IsLaidText}
 use Rattle.dvg_named.specs.LaidValues.{laid_sections}
-use Rattle.dvg_named.specs.NamedFaults.{IsUngiven}
+use Rattle.dvg_named.specs.SketchFaults.{IsUngiven}
 use Rattle.dvg_named.specs.Places.{Laid, laid_from}
 use Rattle.dvg_rows.specs.RowPlaces.{size}
 use Rattle.dvg_named.specs.RomBytes.{IsFirstInRom}

@@ -23,7 +23,7 @@ use Rattle.dvg_rows.specs.declared.row.Row as held
 use Rattle.dvg_rows.specs.HeldRows.{rows_of}
 use Rattle.dvg_named.specs.LaidValues.{laid_section, laid_sections}
 use Rattle.dvg_named.specs.Meanings.{IsEncoded, IsGiven}
-use Rattle.dvg_named.specs.NamedFaults.{IsUngiven}
+use Rattle.dvg_named.specs.SketchFaults.{IsUngiven}
 use Rattle.dvg_named.specs.Places.{Laid}
 use Rattle.dvg_rows.specs.RowPlaces.{doings, size, words_taken}
 use Rattle.dvg_named.specs.RomBytes.{ArePut, IsPut, MayStandInRom, TellsSections}

@@ -10,10 +10,10 @@ use Rattle.dvg_read.specs.RomTexts.{RomText}
 use Rattle.dvg_read.specs.RomReading.{unstated}
 use Rattle.dvg_read.specs.Texts.{lines, unpassed}
 use Rattle.dvg_read.proofs.ReadTo.{count_on, lines_length, unpassed_more, unpassed_one}
-use Rattle.dvg_rows.specs.declared.line_fault.LineFault.{LineFault}
-use Rattle.dvg_rows.specs.declared.line_fault.LineFault.TheVariants as line_fault
+use Rattle.dvg_read.specs.declared.fault.LineFault.{LineFault}
+use Rattle.dvg_read.specs.declared.fault.LineFault.TheVariants as line_fault
 use Rattle.dvg_named.specs.declared.reading.Reading.{Reading}
-use Rattle.dvg_named.specs.NamedFaults.{Meets, MeetsNothing, ReachesLine}
+use Rattle.dvg_named.specs.SketchFaults.{Meets, MeetsNothing, ReachesLine}
 use Rattle.dvg_rows.specs.PlainLines.{plain, tokens}
 use Rattle.dvg_named.specs.ReadParts.{sketch_of}
 use Rattle.dvg_named.specs.Sections.{Section, Spelled, SpellsSketch}
@@ -23,7 +23,8 @@ use Rattle.dvg_rows.specs.declared.source.Source.{Source}
 use Rattle.dvg_named.specs.SourcedRows.{AreSourced, IsLineAt}
 use Rattle.dvg_named.specs.LineNumbers.{AreNumbered, Numbers, adds, entries_in, head_at_top, keeps}
 use Rattle.std.specs.List.{join_with_byte}
-use Rattle.dvg_named.specs.TextReading.{StopsText, ReadsText, fault_at}
+use Rattle.dvg_read.specs.LineFaults.{fault_at}
+use Rattle.dvg_named.specs.TextReading.{StopsText, ReadsText}
 use Rattle.dvg_named.proofs.NumberSteps.{later_length, no_empty_head, no_empty_row, numbered_added, numbered_kept, numbered_none}
 use Rattle.dvg_named.proofs.FewTokens.{few_tokens}
 use Rattle.dvg_named.proofs.SourcedMore.{sourced_passed}
@@ -161,11 +162,12 @@ module _ {A : Type 0} (text : List ℕ) (left rest : List (List ℕ)) (n : ℕ) 
       stops_by : (fault : LineFault) → StopsSketch fault (spelled_in r.rom reading) (plain line)
           → StopsText (fault_at fault (n + 1)) whole
       stops_by line_fault.Syntax h = nothing_at h
-      stops_by line_fault.Twice h = breaks_at _ h
+      stops_by line_fault.NameGivenAgain h = breaks_at _ h
       stops_by line_fault.Full h = breaks_at _ h
       stops_by line_fault.OutOfRom h = breaks_at _ h
       stops_by line_fault.Overlap h = breaks_at _ h
       stops_by line_fault.Memory h = tt
+      stops_by _ h = absurd h
 
     -- a line that is not taken
     pub stops : (fault : LineFault) → ((rom : RomText) → Reads rom reading → StopsSketch fault (spelled_in rom reading) (plain line))

@@ -8,7 +8,7 @@ use Rattle.dvg_rows.specs.declared.row.Head as held_head
 use Rattle.dvg_rows.specs.declared.row.Row as held_row
 use Rattle.dvg_rows.specs.HeldRows.{rows_of}
 use Rattle.dvg_named.specs.LineNumbers.{Entry, entries_from, entries_last}
-use Rattle.dvg_named.specs.NamedFaults.{IsUngiven}
+use Rattle.dvg_named.specs.SketchFaults.{IsUngiven}
 use Rattle.dvg_named.specs.Places.{Laid}
 use Rattle.dvg_rows.specs.Rows.{Doing, Row}
 use Rattle.dvg_named.specs.Sections.{Section}

@@ -8,7 +8,7 @@ use Rattle.dvg_rows.specs.declared.row.Row as held
 use Rattle.dvg_rows.specs.HeldRows.{rows_of}
 use Rattle.dvg_named.specs.LaidValues.{laid_sections}
 use Rattle.dvg_named.specs.Meanings.{IsDrafted}
-use Rattle.dvg_named.specs.NamedFaults.{IsUngiven}
+use Rattle.dvg_named.specs.SketchFaults.{IsUngiven}
 use Rattle.dvg_named.specs.Places.{Laid}
 use Rattle.dvg_rows.specs.RowPlaces.{doings}
 use Rattle.dvg_rows.specs.RowValues.{doing_of}

@@ -3,7 +3,7 @@ ghost use Rattle.std.specs.Prelude.{◌≡◌, ◌≤◌, length, IfErr, IfNone,
 ghost use Rattle.dvg_rows.specs.HeldRows.{rows_of};
 ghost use Rattle.dvg_named.specs.LaidValues.{AreLow, laid_sections};
 ghost use Rattle.dvg_named.specs.Meanings.{IsDrafted};
-ghost use Rattle.dvg_named.specs.NamedFaults.{IsUngiven};
+ghost use Rattle.dvg_named.specs.SketchFaults.{IsUngiven};
 ghost use Rattle.dvg_rows.specs.RowPlaces.{doings};
 ghost use Rattle.dvg_rows.specs.RowValues.{doing_of};
 ghost use Rattle.dvg_named.specs.Ungiven.{Drafts, IsFirstInFrame, framed};

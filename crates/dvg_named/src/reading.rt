@@ -18,8 +18,9 @@ use arrayvec::ArrayVec;
 use dvg_code::OutOfMemory;
 use dvg_frame::OpKind;
 use dvg_mem::LARGE_ROM_BYTES;
+use dvg_read::LineFault;
 use dvg_rows::{
-    Doing, GivenNames, Head, LineFault, Part, RomArea, Row, Source, read_head, read_row,
+    Doing, GivenNames, Head, Part, RomArea, Row, Source, read_head, read_row,
     words_of_row,
 };
 use std::alloc::Allocator;
@@ -64,7 +65,7 @@ impl<'a, A: Allocator + Copy> Reading<'a, A> {
     ghost use Rattle.dvg_named.specs.GivenRoms.{GivesRom, IsLaidText};
     ghost use Rattle.dvg_named.specs.RomBytes.{IsFirstInRom};
     ghost use Rattle.dvg_named.specs.LaidValues.{laid_sections};
-    ghost use Rattle.dvg_named.specs.NamedFaults.{laid_of};
+    ghost use Rattle.dvg_named.specs.SketchFaults.{laid_of};
     ghost use Rattle.dvg_rows.specs.PlainLines.{plain};
     ghost use Rattle.dvg_named.specs.TextReading.{ReadsText};
     ghost use Rattle.dvg_named.specs.SketchSteps.{AreParts, line_of};
@@ -74,12 +75,12 @@ impl<'a, A: Allocator + Copy> Reading<'a, A> {
     ghost use Rattle.dvg_named.specs.LineNumbers.{head_at_top};
     ghost use Rattle.std.specs.Prelude.{None, IfNone, IfSome, map};
     ghost use Rattle.std.specs.Char.{to_ascii_lowercase};
-    ghost use Rattle.dvg_named.specs.declared.fault.NamedFault.TheVariants.{Unknown};
+    ghost use Rattle.dvg_read.specs.declared.fault.TextFault.TheVariants.{UnknownName};
     ghost use Rattle.dvg_named.specs.FirstUnknown.{StopsDrafts, WantsNone, sections_in};
     ghost use Rattle.dvg_named.specs.FlatFrames.{frame_at};
     ghost use Rattle.dvg_named.specs.Meanings.{IsFrameOf};
     ghost use Rattle.std.specs.List.{AllZip};
-    ghost use Rattle.dvg_named.specs.NamedFaults.{HasNamedFault};
+    ghost use Rattle.dvg_named.specs.SketchFaults.{HasSketchFault};
     ghost use Rattle.dvg_named.specs.ReadSketches.{IsInside, StandsIn, joined_at};
 
     /// Returns the reading before the line `first`, which is the text's first. Its memory comes
@@ -373,7 +374,7 @@ impl<'a, A: Allocator + Copy> Reading<'a, A> {
         ensures unknown { IfOk result (λ found. IfSome found (λ number. (small text : List ℕ)
             → (read : ReadsText small self.now)
             → laid_sections laid.now ≡ laid_of (spelled_in read.rom self.now)
-            → map to_ascii_lowercase text ≡ small → HasNamedFault text (Unknown number))) }
+            → map to_ascii_lowercase text ≡ small → HasSketchFault text (UnknownName number))) }
         ensures known { IfOk result (λ found. IfNone found
             (All (WantsNone (laid_sections laid.now)) (sections_in self.now))) }
     {

@@ -11,7 +11,7 @@ ghost use Rattle.dvg_rows.specs.HeldRows.{rows_of};
 ghost use Rattle.dvg_named.specs.LaidValues.{AreLow, IsAddressIn, NoneNames, laid_section};
 ghost use Rattle.dvg_named.specs.LaidValues.{laid_sections};
 ghost use Rattle.dvg_named.specs.Meanings.{IsEncoded};
-ghost use Rattle.dvg_named.specs.NamedFaults.{IsUngiven};
+ghost use Rattle.dvg_named.specs.SketchFaults.{IsUngiven};
 ghost use Rattle.dvg_named.specs.Places.{IsAddress, Laid, laid_end};
 ghost use Rattle.dvg_named.specs.RomBytes.{ArePut, IsFirstInRom, LieInRom, MayBeEncoded};
 ghost use Rattle.dvg_named.specs.RomBytes.{MayStandInRom, PutsSection, TellsSections};

@@ -4,6 +4,8 @@ use Rattle.std.proofs.lemmas.List.{drop_more, length-take}
 use Rattle.std.specs.Io.KnownBytes.{Appends}
 use Rattle.dvg_read.specs.declared.fault.TextFault.{TextFault}
 use Rattle.dvg_read.specs.declared.fault.TextFault.TheVariants.{DumpSize, LongDump}
+use Rattle.dvg_read.specs.declared.fault.Unread.{Unread}
+use Rattle.dvg_read.specs.declared.fault.Unread.TheVariants as unread
 use Rattle.dvg_io.specs.declared.fault.ToolFault.{ToolFault}
 use Rattle.dvg_io.specs.declared.fault.ToolFault.TheVariants.{Text, Reader, Writer, Memory}
 use Rattle.dvg_io.specs.Watching.{BeginsToWrite}
@@ -40,14 +42,12 @@ pub run_of : (all : Bool) (input read : List ℕ) (ran : List Ran) (end : End) �
 run_of all input read ran end e run = subst (λ dump. IsRunOf all dump ran end) (whole 6144 read input e (short read run.0)) run
 
 -- what is found of what was read is found of the input
-pub finds : {A : Type 0} (all : Bool) (read : List ℕ) (answer : Result (Traced A) ToolFault)
+pub finds : {A : Type 0} (all : Bool) (read : List ℕ) (answer : Result (Traced A) Unread)
     → IfOk answer (λ run. IsRunOf all read run.ran.items (end_of run.ending)) → IfErr answer (IsDumpFault read)
     → OfInput 6144 read (λ input. IsFinding (λ run. IsRunOf all input run.ran.items (end_of run.ending)) (HasDumpFault input) answer)
 finds all read (Ok run) ok err input e = run_of all input read run.ran.items (end_of run.ending) e ok
-finds all read (Err (Text fault)) ok err input e = faulted fault input read e err
-finds all read (Err Memory) ok err input e = tt
-finds all read (Err Reader) ok err input e = absurd err
-finds all read (Err Writer) ok err input e = absurd err
+finds all read (Err (unread.Text fault)) ok err input e = faulted fault input read e err
+finds all read (Err unread.Memory) ok err input e = tt
 
 -- a run is shown
 shows : (all : Bool) (input : List ℕ) (ran : List Ran) (end : End) (Holds : End → List ℕ → Type 0) → IsRunOf all input ran end

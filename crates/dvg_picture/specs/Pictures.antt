@@ -4,8 +4,10 @@ use Rattle.std.specs.Io.KnownBytes.{Appends}
 use Rattle.dvg_gen.specs.Run.{Visit}
 use Rattle.dvg_read.specs.declared.fault.TextFault.{TextFault}
 use Rattle.dvg_read.specs.declared.fault.TextFault.TheVariants.{DumpSize, LongDump}
+use Rattle.dvg_read.specs.declared.fault.Unread.{Unread}
+use Rattle.dvg_read.specs.declared.fault.Unread.TheVariants as unread
 use Rattle.dvg_io.specs.declared.fault.ToolFault.{ToolFault}
-use Rattle.dvg_io.specs.declared.fault.ToolFault.TheVariants.{Text, Writer, Memory}
+use Rattle.dvg_io.specs.declared.fault.ToolFault.TheVariants.{Text, Writer}
 use Rattle.dvg_io.specs.Watching.{BeginsToWrite}
 use Rattle.dvg_dump.specs.declared.ending.Outcome.{Outcome}
 use Rattle.dvg_dump.specs.declared.ran.Ran.{Ran}
@@ -45,7 +47,6 @@ IsRunOf traces dump ran end = HasDumpSize dump × TellsRun traces (memory_of (pa
 
 -- a fault at which no run is recorded: that of the size, or want of memory for a dump of a right
 -- size (for a private contract)
-abbrev pub IsDumpFault : List ℕ → ToolFault → Type 0
-IsDumpFault dump (Text fault) = HasDumpFault dump fault
-IsDumpFault dump Memory = HasDumpSize dump
-IsDumpFault dump _ = ⊥
+abbrev pub IsDumpFault : List ℕ → Unread → Type 0
+IsDumpFault dump (unread.Text fault) = HasDumpFault dump fault
+IsDumpFault dump unread.Memory = HasDumpSize dump

@@ -10,7 +10,7 @@ ghost use Rattle.dvg_picture.specs.Texts.{run_text};
 use crate::writes::write_run;
 use dvg_dump::{Dump, DumpFault, LARGE_DUMP_BYTES, Outcome, Traced};
 use dvg_io::{Engine, StreamFailed, ToolFault, Watched, serve};
-use dvg_read::TextFault;
+use dvg_read::{TextFault, Unread};
 use std::alloc::Allocator;
 use std::io::{Read, Write};
 
@@ -32,17 +32,17 @@ pub(crate) fn run_dump<A: Allocator + Copy>(
     alloc: A,
     bytes: &[u8],
     traces: bool,
-) -> Result<Traced<A>, ToolFault>
+) -> Result<Traced<A>, Unread>
     ensures run { IfOk result (λ run. IsRunOf traces bytes.now run.ran.items (end_of run.ending)) }
     ensures fault { IfErr result (IsDumpFault bytes.now) }
 {
     let dump = match Dump::new(alloc, bytes) {
         Ok(dump) => dump,
-        Err(DumpFault::Size) => return Err(ToolFault::Text(size_fault(bytes))),
-        Err(DumpFault::OutOfMemory) => return Err(ToolFault::Memory),
+        Err(DumpFault::Size) => return Err(Unread::Text(size_fault(bytes))),
+        Err(DumpFault::OutOfMemory) => return Err(Unread::Memory),
     };
     let Ok(run) = dump.run_telling(traces) else {
-        return Err(ToolFault::Memory);
+        return Err(Unread::Memory);
     };
     Ok(run)
 }
@@ -68,7 +68,7 @@ impl<A: Allocator + Copy> Engine<A> for PictureEngine {
 
     ghost text = { λ engine run. run_text run.ran.items (end_of run.ending) };
 
-    fn find(&self, alloc: A, read: &[u8]) -> Result<Traced<A>, ToolFault> {
+    fn find(&self, alloc: A, read: &[u8]) -> Result<Traced<A>, Unread> {
         run_dump(alloc, read, self.all)
     }
 

@@ -12,6 +12,7 @@ use dvg_code::OutOfMemory;
 use dvg_dump::{LARGE_DUMP_BYTES, Ran};
 use dvg_gen::Stroke;
 use dvg_io::{Engine, StreamFailed, ToolFault, Watched, serve};
+use dvg_read::Unread;
 use dvg_svg::write_svg;
 use std::alloc::Allocator;
 use std::io::{Read, Write};
@@ -38,13 +39,13 @@ fn collect_strokes<A: Allocator>(alloc: A, trace: &[Ran]) -> Result<Vec<Stroke, 
 }
 
 // Returns what the run over the dump `bytes` draws.
-fn draw_dump<A: Allocator + Copy>(alloc: A, bytes: &[u8]) -> Result<Drawn<A>, ToolFault>
+fn draw_dump<A: Allocator + Copy>(alloc: A, bytes: &[u8]) -> Result<Drawn<A>, Unread>
     ensures drawn { IfOk result (λ drawn. IsDrawn bytes.now drawn.strokes.items drawn.undrawn) }
     ensures fault { IfErr result (IsDumpFault bytes.now) }
 {
     let run = run_dump(alloc, bytes, true)?;
     let Ok(strokes) = collect_strokes(alloc, run.ran.as_slice()) else {
-        return Err(ToolFault::Memory);
+        return Err(Unread::Memory);
     };
     Ok(Drawn {
         strokes,
@@ -92,7 +93,7 @@ impl<A: Allocator + Copy> Engine<A> for SvgEngine {
 
     ghost text = { λ engine drawn. run_svg engine.percent drawn.undrawn drawn.strokes.items };
 
-    fn find(&self, alloc: A, read: &[u8]) -> Result<Drawn<A>, ToolFault> {
+    fn find(&self, alloc: A, read: &[u8]) -> Result<Drawn<A>, Unread> {
         draw_dump(alloc, read)
     }
 

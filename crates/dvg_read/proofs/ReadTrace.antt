@@ -6,17 +6,18 @@ use Rattle.std.specs.List.{AllZip}
 use Rattle.std.specs.Option.{is_some}
 use Rattle.dvg_frame.specs.declared.op.OpKind.{OpKind}
 use Rattle.dvg_log.specs.Events.{Happening}
-use Rattle.dvg_read.specs.declared.trace_text.LineFault.{LineFault}
-use Rattle.dvg_read.specs.declared.trace_text.LineFault.TheVariants.{Syntax, Full, Many, Memory}
+use Rattle.dvg_read.specs.declared.fault.LineFault.{LineFault}
+use Rattle.dvg_read.specs.declared.fault.LineFault.TheVariants.{Syntax, Full, Many, Memory}
 use Rattle.dvg_read.specs.Texts.{is_passed, lines, unpassed}
 use Rattle.dvg_read.specs.RomTexts.{RomText}
 use Rattle.dvg_read.specs.declared.rom_text.RomReading.{RomReading}
 use Rattle.dvg_read.specs.RomReading.{HoldsRom, unstated}
 use Rattle.dvg_read.specs.FirstFaults.{IsShort, Reaches}
+use Rattle.dvg_read.specs.LineFaults.{fault_at}
 use Rattle.dvg_read.specs.TraceTexts.{EndsInside, FitsTrace, IsFineTrace, SpellsTrace}
 use Rattle.dvg_read.specs.TraceEvents.{AddsEvents, BeginsWithEvent, SpellsEvent}
 use Rattle.dvg_read.specs.TraceGives.{BringsEvents, GivesTrace, ReadsAhead, StopsLine, StopsReading, TakesLine}
-use Rattle.dvg_read.specs.TraceGives.{events_read, fault_at, opened_of, reads_events, reads_ops}
+use Rattle.dvg_read.specs.TraceGives.{events_read, opened_of, reads_events, reads_ops}
 use Rattle.dvg_read.specs.TextLines.{AddsOps}
 use Rattle.dvg_read.specs.OpLines.{IsOpLine}
 use Rattle.dvg_read.specs.TraceReading.{does}
@@ -113,6 +114,7 @@ module _ (text : List ℕ) (left rest : List (List ℕ)) (n : ℕ) (old : List H
     some = h.1;
     few = h.2;
   }
+  stops _ short fits is h = absurd h
 
 -- lines that spell an event each
 all_events : (text : List ℕ) (rest : List (List ℕ)) (held : RomReading) (more : List Happening) (left ahead : List (List ℕ)) (n : ℕ) (old : List Happening) → AllZip SpellsEvent more ahead → left ≡ ahead ++ rest → ReadTrace text left n old None held

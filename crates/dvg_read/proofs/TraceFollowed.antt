@@ -4,11 +4,11 @@ use Rattle.std.proofs.lemmas.List.Elements.{All-append, All-nil}
 use Rattle.dvg_frame.specs.declared.op.OpKind.{OpKind}
 use Rattle.dvg_log.specs.Events.{Happening}
 use Rattle.dvg_log.specs.declared.event.Event.TheVariants.{Offer}
-use Rattle.dvg_read.specs.declared.fault.TraceFault.{TraceFault}
-use Rattle.dvg_read.specs.declared.fault.TraceFault.TheVariants as of_trace
+use Rattle.dvg_read.specs.declared.fault.Unread.{Unread}
+use Rattle.dvg_read.specs.declared.fault.Unread.TheVariants as unread
 use Rattle.dvg_read.specs.declared.trace_following.Following.{Following}
-use Rattle.dvg_read.specs.declared.trace_text.LineFault.{LineFault}
-use Rattle.dvg_read.specs.declared.trace_text.LineFault.TheVariants.{Syntax, Full, Many, Memory}
+use Rattle.dvg_read.specs.declared.fault.LineFault.{LineFault}
+use Rattle.dvg_read.specs.declared.fault.LineFault.TheVariants.{Syntax, Full, Many, Memory}
 use Rattle.dvg_read.specs.FirstFaults.{IsShort}
 use Rattle.dvg_read.specs.Texts.{is_passed, lines, parts}
 use Rattle.dvg_read.specs.OpLines.{IsOpLine}
@@ -17,7 +17,8 @@ use Rattle.dvg_read.specs.declared.rom_text.RomReading.{RomReading}
 use Rattle.dvg_read.specs.RomReading.{HoldsRom, TellsMore, unstated}
 use Rattle.dvg_read.specs.TraceTexts.{EndsInside, EventParts, FitsDraft, FitsTrace}
 use Rattle.dvg_read.specs.TraceReading.{events}
-use Rattle.dvg_read.specs.TraceGives.{StopsLine, StopsOperation, TakesLine, fault_at}
+use Rattle.dvg_read.specs.TraceGives.{StopsLine, StopsOperation, TakesLine}
+use Rattle.dvg_read.specs.LineFaults.{fault_at}
 use Rattle.dvg_read.specs.TraceFollowing.{FollowsLine, HasFaultOf, StandsFor, StopsFollowing, opened_in}
 use Rattle.dvg_read.specs.TraceLaws.{HasMeaning, IsTraceRead}
 use Rattle.dvg_read.proofs.TraceMoves.{any_opened, end_fits, end_stops, end_taken, fine_events, no_op_more, none_opened, offer_fits, offer_taken, op_taken, rom_taken, some_opened}
@@ -143,8 +144,7 @@ op_halts_by Syntax following line opens no_end h = λ old s.
     subst (λ opened. StopsLine Syntax old opened following.rom line) (sym (some_opened following.is_open following.draft opens)) (no_op_more Syntax old following.draft line following.rom no_end h)
 op_halts_by Full following line opens no_end h = λ old s.
     subst (λ opened. StopsLine Full old opened following.rom line) (sym (some_opened following.is_open following.draft opens)) (no_op_more Full old following.draft line following.rom no_end h)
-op_halts_by Many following line opens no_end h = absurd h
-op_halts_by Memory following line opens no_end h = absurd h
+op_halts_by _ following line opens no_end h = absurd h
 
 pub op_halts : {A : Type 0} (answer : Result A LineFault) (following : Following) (line : List ℕ)
     → following.is_open ≡ true → (line ≡ codes "end" → ⊥)
@@ -190,6 +190,7 @@ module _ (text : List ℕ) (left rest : List (List ℕ)) (n : ℕ) (following : 
   halted Full short is h = stops text left rest n f.events (opened_in following) following.rom line next f.read Full short f.stands.fits is (h f.events f.stands)
   halted Many short is h = stops text left rest n f.events (opened_in following) following.rom line next f.read Many short f.stands.fits is (h f.events f.stands)
   halted Memory short is h = absurd h
+  halted _ short is h = absurd (h f.events f.stands)
 
 -- at the text's end
 
@@ -209,9 +210,9 @@ pub few_lines : (text : List ℕ) (left : List (List ℕ)) (n : ℕ) (following 
 few_lines text left n following f short = bounded text left n f.events (opened_in following) following.rom f.read short
 
 -- each text has a meaning or a fault
-pub meaning_or_fault : {A : Type 0} (text : List ℕ) (answer : Result A TraceFault)
+pub meaning_or_fault : {A : Type 0} (text : List ℕ) (answer : Result A Unread)
     → IfOk answer (λ _. HasMeaning text) → IfErr answer (λ fault. HasFaultOf fault text)
     → IsTraceRead text
 meaning_or_fault text (Ok x) meaning fault = inl meaning
-meaning_or_fault text (Err (of_trace.Text found)) meaning fault = inr (found, fault)
-meaning_or_fault text (Err of_trace.Memory) meaning fault = absurd fault
+meaning_or_fault text (Err (unread.Text found)) meaning fault = inr (found, fault)
+meaning_or_fault text (Err unread.Memory) meaning fault = absurd fault

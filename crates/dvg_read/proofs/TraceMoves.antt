@@ -6,8 +6,8 @@ use Rattle.std.proofs.lemmas.List.Elements.{All-append, All-replicate}
 use Rattle.dvg_frame.specs.declared.op.OpKind.{OpKind}
 use Rattle.dvg_log.specs.Events.{Happening}
 use Rattle.dvg_log.specs.declared.event.Event.TheVariants.{Offer, Redraw, Tick, Strobe, Fetch, ResetGen, ResetCpu, ResetAll}
-use Rattle.dvg_read.specs.declared.trace_text.LineFault.{LineFault}
-use Rattle.dvg_read.specs.declared.trace_text.LineFault.TheVariants.{Syntax, Full, Many, Memory}
+use Rattle.dvg_read.specs.declared.fault.LineFault.{LineFault}
+use Rattle.dvg_read.specs.declared.fault.LineFault.TheVariants.{Syntax, Full, Many, Memory}
 use Rattle.dvg_read.specs.Texts.{parts}
 use Rattle.dvg_read.specs.OpLines.{IsOpLine}
 use Rattle.dvg_read.specs.RomTexts.{RomText}
@@ -102,8 +102,7 @@ many_events Memory old more l held p h =
     let count = length-append old more in
     let some = some_events p in
     (old ++ more, omega (arith, count, some), omega (arith, count, h), λ rom. events p)
-many_events Syntax old more l held p h = absurd h
-many_events Full old more l held p h = absurd h
+many_events _ old more l held p h = absurd h
 
 pub events_stop : {A : Type 0} (answer : Result A LineFault) (old more : List Happening) (opened : Option (List OpKind)) (l : List ℕ) (held : RomReading) → opened ≡ None → EventParts more (parts l) → IfErr answer (λ fault. StopsEvents fault old more)
     → IfErr answer (λ fault. StopsLine fault old opened held l)
@@ -144,8 +143,7 @@ nothing_inside F e no_end no_op ends = no_end refl
 pub no_op_more : (fault : LineFault) (old : List Happening) (F : List OpKind) (l : List ℕ) (held : RomReading) → (l ≡ codes "end" → ⊥) → StopsOperation fault F l → StopsLine fault old (Some F) held l
 no_op_more Syntax old F l held no_end h = λ rom now new left holds t. nothing_inside F refl no_end h t
 no_op_more Full old F l held no_end h = let full = h.1 in (F ++ h.0 ∷ [], omega (arith, length-append F (h.0 ∷ [])), λ rom. does h.0 h.2)
-no_op_more Many old F l held no_end h = absurd h
-no_op_more Memory old F l held no_end h = absurd h
+no_op_more _ old F l held no_end h = absurd h
 
 pub op_stops : {A : Type 0} (answer : Result A LineFault) (old : List Happening) (F : List OpKind) (opened : Option (List OpKind)) (l : List ℕ) (held : RomReading) → opened ≡ Some F → (l ≡ codes "end" → ⊥) → IfErr answer (λ fault. StopsOperation fault F l)
     → IfErr answer (λ fault. StopsLine fault old opened held l)

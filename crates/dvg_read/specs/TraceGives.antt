@@ -3,11 +3,10 @@ use Rattle.std.specs.Prelude.{◌≡◌, ℕ, ◌+◌, ◌<◌, ◌≤◌, List,
 use Rattle.std.specs.Prelude.{true, false, Option, Some, None}
 use Rattle.dvg_frame.specs.declared.op.OpKind.{OpKind}
 use Rattle.dvg_log.specs.Events.{Happening}
-use Rattle.dvg_read.specs.declared.fault.TextFault.TheVariants.{Syntax, Full, Many}
-use Rattle.dvg_read.specs.declared.fault.TraceFault.{TraceFault}
-use Rattle.dvg_read.specs.declared.fault.TraceFault.TheVariants.{Text, Memory}
-use Rattle.dvg_read.specs.declared.trace_text.LineFault.{LineFault}
-use Rattle.dvg_read.specs.declared.trace_text.LineFault.TheVariants as line_fault
+use Rattle.dvg_read.specs.declared.fault.Unread.{Unread}
+use Rattle.dvg_read.specs.declared.fault.Unread.TheVariants.{Text, Memory}
+use Rattle.dvg_read.specs.declared.fault.LineFault.{LineFault}
+use Rattle.dvg_read.specs.declared.fault.LineFault.TheVariants as line_fault
 use Rattle.dvg_read.specs.declared.trace_text.Reading.{Reading}
 use Rattle.dvg_read.specs.OpLines.{IsOpLine}
 use Rattle.dvg_read.specs.RomTexts.{IsRomOf, RomText}
@@ -40,18 +39,11 @@ pub record BringsEvents (text : List ℕ) : Type 0 where
   pub few : length events ≤ 65536
 
 -- why a trace isn't read: the fault of its text, or want of memory, where a line brings events
-abbrev pub StopsReading : TraceFault → List ℕ → Type 0
+abbrev pub StopsReading : Unread → List ℕ → Type 0
 StopsReading (Text fault) text = HasTraceFault text fault
 StopsReading Memory text = BringsEvents text
 
--- what a fault of a line is called at the line of this number (this and what follows is for private contracts)
-abbrev pub fault_at : LineFault → ℕ → TraceFault
-fault_at line_fault.Syntax n = Text (Syntax n)
-fault_at line_fault.Full n = Text (Full n)
-fault_at line_fault.Many n = Text (Many n)
-fault_at line_fault.Memory n = Memory
-
--- the events that were read
+-- the events that were read (this and what follows is for private contracts)
 abbrev pub events_read : {A : Type 0} → Reading A → List Happening
 events_read reading = reading.events
 
@@ -129,6 +121,7 @@ StopsLine line_fault.Many old opened held line = (new : List Happening) × (6553
 StopsLine line_fault.Memory old opened held line =
     (new : List Happening) × (1 ≤ length new) × (length new ≤ 65536)
     × ((rom : RomText) → Takes rom old opened line rom new None)
+StopsLine _ old opened held line = ⊥
 
 -- why one more operation isn't read
 abbrev pub StopsOperation : LineFault → List OpKind → List ℕ → Type 0

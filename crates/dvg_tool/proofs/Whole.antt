@@ -17,6 +17,8 @@ use Rattle.dvg_tool.specs.Roms.{HasRomFault, HasRomSize, IsRomFault, IsRomOf, Wr
 use Rattle.dvg_tool.proofs.RomLines.{text_of_words}
 use Rattle.dvg_tool.specs.Lists.{IsListable, Lists, ListsAt, ListsWords, ListsWordsAt}
 use Rattle.dvg_read.specs.declared.fault.TextFault.TheVariants.{TooLong, Cut, RomSize, Syntax, Full}
+use Rattle.dvg_read.specs.declared.fault.Unread.{Unread}
+use Rattle.dvg_read.specs.declared.fault.Unread.TheVariants as unread
 use Rattle.dvg_io.specs.declared.fault.ToolFault.{ToolFault}
 use Rattle.dvg_io.specs.declared.fault.ToolFault.TheVariants.{Text, Reader, Writer, Memory}
 
@@ -73,16 +75,14 @@ short_rom read (inl small) = omega arith
 short_rom read (inr large) = omega arith
 
 -- the words of what was read are those of the input
-pub finds_rom : {A : Type 0} (read : List ℕ) (answer : Result (Vec ℕ A) ToolFault) → IfOk answer (λ _. HasRomSize read)
+pub finds_rom : {A : Type 0} (read : List ℕ) (answer : Result (Vec ℕ A) Unread) → IfOk answer (λ _. HasRomSize read)
     → IfOk answer (λ words. words.items ≡ words_of read) → IfErr answer (IsRomFault read)
     → OfInput 4096 read (λ input. IsFinding (λ words. IsRomOf input words.items) (HasRomFault input) answer)
 finds_rom read (Ok words) size is fault input e =
     let same = whole 4096 read input e (short_rom read size) in
     (subst HasRomSize same size, is ∙ ap words_of same)
-finds_rom read (Err (Text fault)) size is h input e = rom_faulted fault input read e h
-finds_rom read (Err Memory) size is h input e = tt
-finds_rom read (Err Reader) size is h input e = absurd h
-finds_rom read (Err Writer) size is h input e = absurd h
+finds_rom read (Err (unread.Text fault)) size is h input e = rom_faulted fault input read e h
+finds_rom read (Err unread.Memory) size is h input e = tt
 
 -- what is written of a ROM's words is the text of the ROM
 rom_said : (input words : List ℕ) → IsRomOf input words → words_text words ≡ rom_text input
@@ -127,19 +127,17 @@ faulted fault input read e h = ⊎_elim
     (whole_or_long 1048576 read input e)
 
 -- so is where nothing is said
-stopped_by : {V : Type 0} (Says : List ℕ → V → Type 0) (fault : ToolFault) (read : List ℕ) → IsJudgingFault read fault
-    → OfInput 1048576 read (λ input. IsFinding {F = V} (Says input) (HasDraftFault input) (Err fault))
-stopped_by Says (Text fault) read h input e = faulted fault input read e h
-stopped_by Says Memory read h input e = tt
-stopped_by Says Reader read h input e = absurd h
-stopped_by Says Writer read h input e = absurd h
+stopped_by : {V : Type 0} (Says : List ℕ → V → Type 0) (stop : Unread) (read : List ℕ) → IsJudgingFault read stop
+    → OfInput 1048576 read (λ input. IsFinding {F = V} (Says input) (HasDraftFault input) (Err stop))
+stopped_by Says (unread.Text fault) read h input e = faulted fault input read e h
+stopped_by Says unread.Memory read h input e = tt
 
-pub unjudged : {V : Type 0} (Says : List ℕ → V → Type 0) (answer : Result V ToolFault) (fault : ToolFault) (read : List ℕ) → answer ≡ Err fault
-    → IsJudgingFault read fault → OfInput 1048576 read (λ input. IsFinding (Says input) (HasDraftFault input) answer)
-unjudged Says answer fault read is h =
-    subst (λ answer. OfInput 1048576 read (λ input. IsFinding (Says input) (HasDraftFault input) answer)) (sym is) (stopped_by Says fault read h)
+pub unjudged : {V : Type 0} (Says : List ℕ → V → Type 0) (answer : Result V Unread) (stop : Unread) (read : List ℕ) → answer ≡ Err stop
+    → IsJudgingFault read stop → OfInput 1048576 read (λ input. IsFinding (Says input) (HasDraftFault input) answer)
+unjudged Says answer stop read is h =
+    subst (λ answer. OfInput 1048576 read (λ input. IsFinding (Says input) (HasDraftFault input) answer)) (sym is) (stopped_by Says stop read h)
 
-pub finds_bound : (read : List ℕ) (answer : Result BoundedVerdict ToolFault) → IfOk answer (JudgesBound read) → IfErr answer (IsJudgingFault read)
+pub finds_bound : (read : List ℕ) (answer : Result BoundedVerdict Unread) → IfOk answer (JudgesBound read) → IfErr answer (IsJudgingFault read)
     → OfInput 1048576 read (λ input. IsFinding (JudgesBound input) (HasDraftFault input) answer)
 finds_bound read (Ok verdict) said fault input e = judged IsBoundedVerdict verdict input read e said
-finds_bound read (Err fault) said h input e = stopped_by JudgesBound fault read h input e
+finds_bound read (Err stop) said h input e = stopped_by JudgesBound stop read h input e

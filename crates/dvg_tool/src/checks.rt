@@ -10,22 +10,22 @@ use dvg_frame::check;
 use dvg_io::{Engine, StreamFailed, ToolFault, Watched, serve, write_whole};
 use dvg_mem::Rom;
 use dvg_print::{BoundedVerdict, Line, Verdict};
-use dvg_read::{MOST_TEXT_BYTES, read_draft};
+use dvg_read::{MOST_TEXT_BYTES, Unread, read_draft};
 use std::alloc::Allocator;
 use std::io::{Read, Write};
 
 // Returns what the check says of the draft that `text` denotes, over the ROM that it denotes.
 #[inline(never)]
-fn judge<A: Allocator>(alloc: A, text: &[u8]) -> Result<BoundedVerdict, ToolFault>
+fn judge<A: Allocator>(alloc: A, text: &[u8]) -> Result<BoundedVerdict, Unread>
     ensures said { IfOk result (JudgesBound text.now) }
     ensures fault { IfErr result (IsJudgingFault text.now) }
 {
     let drafted = match read_draft(text) {
         Ok(drafted) => drafted,
-        Err(fault) => return Err(ToolFault::Text(fault)),
+        Err(fault) => return Err(Unread::Text(fault)),
     };
     let Ok(rom) = Rom::new(alloc, drafted.rom.as_slice()) else {
-        return Err(ToolFault::Memory);
+        return Err(Unread::Memory);
     };
     match check(&drafted.draft, &rom) {
         Ok(frame) => Ok(BoundedVerdict::Good {
@@ -53,7 +53,7 @@ impl<A: Allocator + Copy> Engine<A> for CheckEngine {
 
     ghost text = { λ engine. verdict_line };
 
-    fn find(&self, alloc: A, read: &[u8]) -> Result<Verdict, ToolFault> {
+    fn find(&self, alloc: A, read: &[u8]) -> Result<Verdict, Unread> {
         let bounded = judge(alloc, read)?;
         Ok(bounded.verdict())
     }
@@ -86,7 +86,7 @@ impl<A: Allocator + Copy> Engine<A> for BoundEngine {
 
     ghost text = { λ engine. bounded_line };
 
-    fn find(&self, alloc: A, read: &[u8]) -> Result<BoundedVerdict, ToolFault> {
+    fn find(&self, alloc: A, read: &[u8]) -> Result<BoundedVerdict, Unread> {
         judge(alloc, read)
     }
 

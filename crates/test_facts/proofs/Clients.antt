@@ -15,8 +15,8 @@ use Rattle.dvg_gen.specs.declared.taken.Taken.TheVariants.{Low, Word, Done, Brok
 use Rattle.dvg_gen.specs.declared.taken.GenFault.TheVariants.{StackUnder}
 use Rattle.dvg_gen.specs.Told.{Fails}
 use Rattle.dvg_gen.specs.Machine.{IsReply}
-use Rattle.dvg_read.specs.declared.fault.TraceFault.{TraceFault}
-use Rattle.dvg_read.specs.declared.fault.TraceFault.TheVariants as of_trace
+use Rattle.dvg_read.specs.declared.fault.Unread.{TraceFault}
+use Rattle.dvg_read.specs.declared.fault.Unread.TheVariants as of_trace
 use Rattle.dvg_read.specs.Texts.{lines, unpassed}
 use Rattle.dvg_read.specs.RomTexts.{RomText, unmapped}
 use Rattle.dvg_read.specs.TraceTexts.{DenotesTrace, FitsDraft, tick, once, nothing, alone, whole}
