@@ -39,7 +39,7 @@ module _ {F : Type 0} (most : ℕ) (Finds : List ℕ → F → Type 0) (HasFault
         → Read most (remaining (stream_of old_reader)) read
         → TakesAtMost (most + 1) (remaining (stream_of old_reader)) (remaining (stream_of new_reader))
         → failures_of new_reader ≡ 0 → failures_of writer ≡ 0 → IsUnfound read stop
-        → Serves {V = F} remaining contents (most + 1) ComesBeforeText (Answers Finds HasFault text) (Err (called stop)) old_reader new_reader writer writer
+        → Serves {V = F} remaining contents most ComesBeforeText (Answers Finds HasFault text) (Err (called stop)) old_reader new_reader writer writer
     serves stop read old_reader new_reader writer e took reader writes h = record {
       means = answers stop (remaining (stream_of old_reader)) (contents (stream_of writer)) read e h;
       took = took;
@@ -53,7 +53,7 @@ module _ {F : Type 0} (most : ℕ) (Finds : List ℕ → F → Type 0) (HasFault
         → answer ≡ Err (called stop) → Read most (remaining (stream_of old_reader)) read
         → TakesAtMost (most + 1) (remaining (stream_of old_reader)) (remaining (stream_of new_reader))
         → failures_of new_reader ≡ 0 → failures_of writer ≡ 0 → IsUnfound read stop
-        → Serves remaining contents (most + 1) ComesBeforeText (Answers Finds HasFault text) answer old_reader new_reader writer writer
+        → Serves remaining contents most ComesBeforeText (Answers Finds HasFault text) answer old_reader new_reader writer writer
     unfound answer stop read old_reader new_reader writer is e took reader writes h =
-        subst (λ answer. Serves remaining contents (most + 1) ComesBeforeText (Answers Finds HasFault text) answer old_reader new_reader writer writer) (sym is)
+        subst (λ answer. Serves remaining contents most ComesBeforeText (Answers Finds HasFault text) answer old_reader new_reader writer writer) (sym is)
         (serves stop read old_reader new_reader writer e took reader writes h)

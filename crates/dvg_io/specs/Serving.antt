@@ -42,15 +42,15 @@ abbrev pub AreFresh : {R W : Type 0} → Watched R → Watched W → Type 0
 AreFresh reader writer = (failures_of reader ≡ 0) × (failures_of writer ≡ 0)
 
 -- what an engine keeps: where a reader's bytes are known, this is answered and went out; no more
--- than this many bytes are taken; at an early fault the writer is as it was; and a stream's failure
--- is counted and answered
+-- than one byte above the most is taken; at an early fault the writer is as it was; and a stream's
+-- failure is counted and answered
 pub record Serves {R W V : Type 0}
     (remaining : R → Option (List ℕ)) (contents : W → Option (List ℕ)) (most : ℕ)
     (IsEarly : ToolFault → Type 0) (Means : Meaning V) (answer : Result V ToolFault)
     (old_reader new_reader : Watched R) (old_writer new_writer : Watched W) : Type 0 where
   pub means : IfSome (remaining (stream_of old_reader)) (λ input.
       Means answer input (contents (stream_of old_writer)) (contents (stream_of new_writer)))
-  pub took : TakesAtMost most
+  pub took : TakesAtMost (most + 1)
       (remaining (stream_of old_reader)) (remaining (stream_of new_reader))
   pub unwritten : IfErr answer (λ fault. IsEarly fault → new_writer ≡ old_writer)
   pub reader : IsErrOf answer Reader ↔ (failures_of new_reader ≡ 1)

@@ -1,5 +1,5 @@
 //! What the engines of the program `dvg` have in common.
-ghost use Rattle.std.specs.Prelude.{ℕ, List, ◌+◌};
+ghost use Rattle.std.specs.Prelude.{ℕ, List};
 ghost use Rattle.dvg_read.specs.declared.fault.TextFault.{TextFault};
 ghost use Rattle.dvg_io.specs.Faults.{ComesBeforeText};
 ghost use Rattle.dvg_io.specs.Serving.{Answers, AreFresh, IsFinding, OfInput, Serves};
@@ -61,7 +61,7 @@ pub fn serve<E: Engine<A>, A: Allocator + Copy, R: Read, W: Write>(
     writer: &mut Watched<W>,
 ) -> Result<E::Found, ToolFault>
     requires fresh { AreFresh reader.old writer.old }
-    ensures { Serves R.remaining W.contents (E.MOST + 1) ComesBeforeText
+    ensures { Serves R.remaining W.contents E.MOST ComesBeforeText
         (Answers (E.Finds engine.now) (E.HasFault engine.now) (E.text engine.now))
         result reader.old reader.new writer.old writer.new }
 {

@@ -6,6 +6,7 @@ ghost use Rattle.dvg_io.specs.Watching.{Writes};
 ghost use Rattle.dvg_named.specs.ReadSketches.{AreInside, IsReadOf};
 ghost use Rattle.dvg_named.specs.SketchFaults.{HasSketchFault};
 ghost use Rattle.dvg_lay.specs.DrawnSketches.{Draws, DrawsOut, shown};
+ghost use Rattle.dvg_read.specs.declared.draft_text.TheConstants.{MOST_TEXT_BYTES};
 
 use crate::drawn::Drawn;
 use crate::frames::draw_frames;
@@ -51,7 +52,7 @@ impl<A: Allocator + Copy> Engine<A> for DrawEngine {
 
     const MOST: u32 = MOST_TEXT_BYTES as u32;
 
-    ghost MOST = { 1048576 };
+    ghost MOST = { MOST_TEXT_BYTES };
 
     ghost Finds = { λ engine. DrawsOut };
 
@@ -101,7 +102,7 @@ pub fn draw_sketch<A: Allocator + Copy, R: Read, W: Write>(
     show: Show,
 ) -> Result<Drawn<A>, ToolFault>
     requires fresh { AreFresh reader.old writer.old }
-    ensures { Serves R.remaining W.contents 1048577 ComesBeforeText (Draws show)
+    ensures { Serves R.remaining W.contents MOST_TEXT_BYTES ComesBeforeText (Draws show)
         result reader.old reader.new writer.old writer.new }
 {
     serve(&DrawEngine { show }, alloc, reader, writer)

@@ -6,6 +6,7 @@ ghost use Rattle.dvg_named.specs.ReadSketches.{AreInside, IsReadOf};
 ghost use Rattle.dvg_lay.specs.Forms.{shown};
 ghost use Rattle.dvg_lay.specs.Sketches.{Lays, LaysOut};
 ghost use Rattle.dvg_named.specs.SketchFaults.{HasSketchFault};
+ghost use Rattle.dvg_read.specs.declared.draft_text.TheConstants.{MOST_TEXT_BYTES};
 
 use crate::form::{Form, Laid, lay};
 use dvg_io::{Engine, StreamFailed, ToolFault, Watched, serve, write_lines, write_whole};
@@ -56,7 +57,7 @@ impl<A: Allocator + Copy> Engine<A> for LayEngine {
 
     const MOST: u32 = MOST_TEXT_BYTES as u32;
 
-    ghost MOST = { 1048576 };
+    ghost MOST = { MOST_TEXT_BYTES };
 
     ghost Finds = { λ engine. LaysOut engine.form };
 
@@ -102,7 +103,7 @@ pub fn lay_sketch<A: Allocator + Copy, R: Read, W: Write>(
     form: Form,
 ) -> Result<Laid<A>, ToolFault>
     requires fresh { AreFresh reader.old writer.old }
-    ensures { Serves R.remaining W.contents 1048577 ComesBeforeText (Lays form)
+    ensures { Serves R.remaining W.contents MOST_TEXT_BYTES ComesBeforeText (Lays form)
         result reader.old reader.new writer.old writer.new }
 {
     serve(&LayEngine { form }, alloc, reader, writer)

@@ -8,6 +8,7 @@ ghost use Rattle.dvg_lay.specs.Refusals.{IsLent};
 ghost use Rattle.dvg_named.specs.SketchFaults.{HasSketchFault};
 ghost use Rattle.dvg_lay.specs.Checks.{ChecksFrames, ChecksOut, ChecksSketch};
 ghost use Rattle.dvg_lay.specs.Checks.{IsGoodVerdict, IsVerdictOn, said_line};
+ghost use Rattle.dvg_read.specs.declared.draft_text.TheConstants.{MOST_TEXT_BYTES};
 
 use crate::picture::time_of;
 use crate::text::put;
@@ -160,7 +161,7 @@ impl<A: Allocator + Copy> Engine<A> for CheckEngine {
 
     const MOST: u32 = MOST_TEXT_BYTES as u32;
 
-    ghost MOST = { 1048576 };
+    ghost MOST = { MOST_TEXT_BYTES };
 
     ghost Finds = { λ engine. ChecksOut };
 
@@ -204,7 +205,7 @@ pub fn check_sketch<A: Allocator + Copy, R: Read, W: Write>(
     writer: &mut Watched<W>,
 ) -> Result<Said<A>, ToolFault>
     requires fresh { AreFresh reader.old writer.old }
-    ensures { Serves R.remaining W.contents 1048577 ComesBeforeText ChecksSketch
+    ensures { Serves R.remaining W.contents MOST_TEXT_BYTES ComesBeforeText ChecksSketch
         result reader.old reader.new writer.old writer.new }
 {
     serve(&CheckEngine, alloc, reader, writer)

@@ -24,6 +24,7 @@ use Rattle.dvg_named.proofs.OneSketch.{goes_on, says_nothing}
 use Rattle.dvg_named.proofs.ReadLimits.{IsInRom, IsOnce, IsSmall, framed}
 use Rattle.dvg_named.proofs.RowsCome.{StandsInLine, comes, line_comes, line_stays, no_row, row_at}
 use Rattle.dvg_named.proofs.RowsStay.{HasAt, HasRow, at_top}
+use Rattle.dvg_read.specs.declared.draft_text.TheConstants.{MOST_TEXT_BYTES}
 
 -- lines without fault, and the line of each row
 record IsRead (ls : List (List ℕ)) : Type 0 where
@@ -60,12 +61,12 @@ nothing_read : IsRead []
 nothing_read = record { sketch = bare; spelled = says_nothing; limits = bare_kept; lines = no_line }
 
 module _ (text : List ℕ) (none : (fault : TextFault) → ¬ HasSketchFault text fault) where
-  short_by : (1048576 < length text) ⊎ (length text ≤ 1048576) → IsShort text
+  short_by : (MOST_TEXT_BYTES < length text) ⊎ (length text ≤ MOST_TEXT_BYTES) → IsShort text
   short_by (inl over) = absurd (none TooLong over)
   short_by (inr short) = short
 
   short : IsShort text
-  short = short_by (cases_lt 1048576 (length text))
+  short = short_by (cases_lt MOST_TEXT_BYTES (length text))
 
   -- ---- one line more
 

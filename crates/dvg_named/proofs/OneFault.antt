@@ -6,6 +6,7 @@ use Rattle.dvg_read.specs.declared.fault.TextFault.TheVariants.{Full, NameGivenA
 use Rattle.dvg_read.specs.declared.fault.TextFault.TheVariants.{Syntax, TooLong, UnknownName}
 use Rattle.dvg_named.specs.SketchFaults.{HasSketchFault, WantsUngiven}
 use Rattle.dvg_named.proofs.LineFaults.{Kind, StandsAt, break_stands, full, never_stands, nothing, nothing_stands, one_stand, outside, overlap, twice}
+use Rattle.dvg_read.specs.declared.draft_text.TheConstants.{MOST_TEXT_BYTES}
 
 -- a fault of this kind in line n
 abbrev named : Kind → ℕ → TextFault
@@ -17,7 +18,7 @@ named overlap n = Overlap n
 
 -- the fault of a text: its length, that of a line, or a name that isn't given
 pub data Fault (text : List ℕ) (fault : TextFault) : Type 0 where
-  long : fault ≡ TooLong → 1048576 < length text → Fault text fault
+  long : fault ≡ TooLong → MOST_TEXT_BYTES < length text → Fault text fault
   stands : (n : ℕ) (kind : Kind) → fault ≡ named kind n → StandsAt text n kind → Fault text fault
   unknown : (n : ℕ) → fault ≡ UnknownName n → WantsUngiven text n → ((earlier : ℕ) → earlier < n → ¬ WantsUngiven text earlier)
       → Fault text fault
@@ -36,10 +37,10 @@ same_named : (kind other : Kind) (n m : ℕ) → m ≡ n → other ≡ kind → 
 same_named kind other n m e f = rw (e, f)
 
 -- a line that stands is of a short text
-stands_short : {text : List ℕ} {n : ℕ} {kind : Kind} → StandsAt text n kind → 1048576 < length text → ⊥
+stands_short : {text : List ℕ} {n : ℕ} {kind : Kind} → StandsAt text n kind → MOST_TEXT_BYTES < length text → ⊥
 stands_short h over = let short = h.reaches.short in omega (arith, short, over)
 
-wants_short : {text : List ℕ} {n : ℕ} → WantsUngiven text n → 1048576 < length text → ⊥
+wants_short : {text : List ℕ} {n : ℕ} → WantsUngiven text n → MOST_TEXT_BYTES < length text → ⊥
 wants_short h over = let short = h.short in omega (arith, short, over)
 
 -- no line at fault stands where a name isn't given

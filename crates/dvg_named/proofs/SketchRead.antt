@@ -30,6 +30,7 @@ use Rattle.dvg_named.proofs.FewTokens.{few_tokens}
 use Rattle.dvg_named.proofs.SourcedMore.{sourced_passed}
 use Rattle.dvg_named.proofs.OneSketch.{goes_on, says_more, says_nothing}
 use Rattle.dvg_named.proofs.PlainTokens.{parts_of_plain, passed_without_tokens, unpassed_with_tokens}
+use Rattle.dvg_read.specs.declared.draft_text.TheConstants.{MOST_TEXT_BYTES}
 
 -- n lines were read of a text in small letters, which spell what the reader holds; those are left
 pub record ReadTo {A : Type 0} (text : List ℕ) (left : List (List ℕ)) (n : ℕ) (reading : Reading A) : Type 0 where
@@ -171,14 +172,14 @@ module _ {A : Type 0} (text : List ℕ) (left rest : List (List ℕ)) (n : ℕ) 
 
     -- a line that is not taken
     pub stops : (fault : LineFault) → ((rom : RomText) → Reads rom reading → StopsSketch fault (spelled_in rom reading) (plain line))
-        → length text ≤ 1048576 → (whole : List ℕ) → map to_ascii_lowercase whole ≡ text
+        → length text ≤ MOST_TEXT_BYTES → (whole : List ℕ) → map to_ascii_lowercase whole ≡ text
         → StopsText (fault_at fault (n + 1)) whole
     stops fault h short whole is =
         let size = ap length is in
         stops_by whole is (omega (arith, short, size, length-map whole to_ascii_lowercase)) fault (h r.rom r.reads)
 
   -- a line of too many tokens
-  pub many : 10 < length (tokens line) → length text ≤ 1048576 → (whole : List ℕ) → map to_ascii_lowercase whole ≡ text
+  pub many : 10 < length (tokens line) → length text ≤ MOST_TEXT_BYTES → (whole : List ℕ) → map to_ascii_lowercase whole ≡ text
       → StopsText (fault_at line_fault.Syntax (n + 1)) whole
   many over short whole is =
       stops (omega arith) line_fault.Syntax
@@ -205,7 +206,7 @@ module _ {A : Type 0} (text : List ℕ) (left rest : List (List ℕ)) (n : ℕ) 
 
     pub stops_tokens : (fault : LineFault)
         → ((rom : RomText) → Reads rom reading → StopsSketch fault (spelled_in rom reading) (line_of cut))
-        → length text ≤ 1048576 → (whole : List ℕ) → map to_ascii_lowercase whole ≡ text
+        → length text ≤ MOST_TEXT_BYTES → (whole : List ℕ) → map to_ascii_lowercase whole ≡ text
         → StopsText (fault_at fault (n + 1)) whole
     stops_tokens fault h short whole is =
         stops some fault (λ rom reads. subst (λ ws. StopsSketch fault (spelled_in rom reading) (line_of ws)) e (h rom reads))
@@ -237,7 +238,7 @@ no_tokens held line r e all is = sym is ∙ none_held held (sym e ∙ all)
 
 -- at the text's end
 pub reads_all : {A : Type 0} (text : List ℕ) (left : List (List ℕ)) (n : ℕ) (reading : Reading A) → left ≡ []
-    → ReadTo text left n reading → length text ≤ 1048576 → AreSourced text (n + 1) reading → ReadsText text reading
+    → ReadTo text left n reading → length text ≤ MOST_TEXT_BYTES → AreSourced text (n + 1) reading → ReadsText text reading
 reads_all text left n reading none r short sourced = record {
   short = short;
   rom = r.rom;
@@ -252,7 +253,7 @@ reads_all text left n reading none r short sourced = record {
 
 -- no more lines were read than there are bytes
 pub bounded : {A : Type 0} (text : List ℕ) (left : List (List ℕ)) (n : ℕ) (reading : Reading A) → ReadTo text left n reading
-    → length text ≤ 1048576 → n ≤ 1048576
+    → length text ≤ MOST_TEXT_BYTES → n ≤ MOST_TEXT_BYTES
 bounded text left n reading r short =
     let few = lines_length text in
     let count = r.number in

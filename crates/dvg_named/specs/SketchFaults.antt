@@ -15,6 +15,7 @@ use Rattle.dvg_named.specs.Sections.{Section, Spelled, SpellsSketch, frames, rom
 use Rattle.dvg_named.specs.Places.{IsAddress, Laid, laid, laid_end}
 use Rattle.dvg_named.specs.Meanings.{Frame, IsMeant}
 use Rattle.dvg_read.specs.RomTexts.{RomText}
+use Rattle.dvg_read.specs.declared.draft_text.TheConstants.{MOST_TEXT_BYTES}
 
 -- each name is given once: in a frame, in the ROM, and among the names of frames
 pub record GivesOnce (sketch : Spelled) : Type 0 where
@@ -130,7 +131,7 @@ pub record WantsUngiven (text : List ℕ) (n : ℕ) : Type 0 where
 
 -- the fault of a sketch's text: that of the first line at fault, or else the first name not given
 abbrev pub HasSketchFault : List ℕ → TextFault → Type 0
-HasSketchFault text TooLong = 1048576 < length text
+HasSketchFault text TooLong = MOST_TEXT_BYTES < length text
 HasSketchFault text (Syntax n) = MeetsNothing text n
 HasSketchFault text (NameGivenAgain n) = Meets (λ sketch. ¬ GivesOnce sketch) text n
 HasSketchFault text (Full n) = Meets (λ sketch. GivesOnce sketch × (¬ DraftsFit sketch)) text n

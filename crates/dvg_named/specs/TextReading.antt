@@ -11,10 +11,11 @@ use Rattle.dvg_rows.specs.PlainLines.{plain}
 use Rattle.dvg_named.specs.Sections.{SpellsSketch}
 use Rattle.dvg_named.specs.SketchReading.{Reads, spelled_in}
 use Rattle.dvg_named.specs.SourcedRows.{AreSourced}
+use Rattle.dvg_read.specs.declared.draft_text.TheConstants.{MOST_TEXT_BYTES}
 
 -- all lines of a text in small letters spell what the reader holds, within the limits; it holds the line of each row
 pub record ReadsText {A : Type 0} (small : List ℕ) (reading : Reading A) : Type 0 where
-  pub short : length small ≤ 1048576
+  pub short : length small ≤ MOST_TEXT_BYTES
   pub rom : RomText
   pub spelled : SpellsSketch (spelled_in rom reading) (unpassed (map plain (lines small)))
   pub reads : Reads rom reading

@@ -16,6 +16,7 @@ use Rattle.dvg_dump.specs.Ends.{End, Ends}
 use Rattle.dvg_dump.specs.Following.{TellsRun}
 use Rattle.dvg_dump.specs.Memory.{HasDumpSize, memory_of, parts_of}
 use Rattle.dvg_picture.specs.Texts.{picture_text}
+use Rattle.dvg_dump.specs.declared.dump.TheConstants.{LARGE_DUMP_BYTES}
 
 -- the input is a dump, whose run ends so, and this holds of that end and of the text that is shown
 -- of the run
@@ -28,8 +29,8 @@ pub record ShowsRun (all : Bool) (input : List ℕ) (Holds : End → List ℕ �
 
 -- the fault of an input that isn't a dump: how many bytes it has, or that these are more than a dump's
 abbrev pub HasDumpFault : List ℕ → TextFault → Type 0
-HasDumpFault input (DumpSize bytes) = (length input ≡ bytes) × (bytes ≤ 6144) × ¬ HasDumpSize input
-HasDumpFault input LongDump = 6144 < length input
+HasDumpFault input (DumpSize bytes) = (length input ≡ bytes) × (bytes ≤ LARGE_DUMP_BYTES) × ¬ HasDumpSize input
+HasDumpFault input LongDump = LARGE_DUMP_BYTES < length input
 HasDumpFault input _ = ⊥
 
 -- what `picture` answers of an input, and what went out: the text, or at `Writer` a beginning of it

@@ -6,6 +6,7 @@ ghost use Rattle.dvg_io.specs.Faults.{ComesBeforeText};
 ghost use Rattle.dvg_io.specs.Serving.{AreFresh, Serves};
 ghost use Rattle.dvg_picture.specs.Pictures.{HasDumpFault, IsDumpFault, IsRunOf, Pictures};
 ghost use Rattle.dvg_picture.specs.Texts.{run_text};
+ghost use Rattle.dvg_dump.specs.declared.dump.TheConstants.{LARGE_DUMP_BYTES};
 
 use crate::writes::write_run;
 use dvg_dump::{Dump, DumpFault, LARGE_DUMP_BYTES, Outcome, Traced};
@@ -59,7 +60,7 @@ impl<A: Allocator + Copy> Engine<A> for PictureEngine {
 
     const MOST: u32 = LARGE_DUMP_BYTES as u32;
 
-    ghost MOST = { 6144 };
+    ghost MOST = { LARGE_DUMP_BYTES };
 
     ghost Finds = { λ engine input run.
         IsRunOf engine.all input run.ran.items (end_of run.ending) };
@@ -107,7 +108,7 @@ pub fn picture<A: Allocator + Copy, R: Read, W: Write>(
     all: bool,
 ) -> Result<Outcome, ToolFault>
     requires fresh { AreFresh reader.old writer.old }
-    ensures { Serves R.remaining W.contents 6145 ComesBeforeText (Pictures all)
+    ensures { Serves R.remaining W.contents LARGE_DUMP_BYTES ComesBeforeText (Pictures all)
         result reader.old reader.new writer.old writer.new }
 {
     let run = serve(&PictureEngine { all }, alloc, reader, writer)?;

@@ -5,6 +5,7 @@ ghost use Rattle.dvg_io.specs.Serving.{AreFresh, Serves};
 ghost use Rattle.dvg_io.specs.Watching.{Writes};
 ghost use Rattle.dvg_picture.specs.Pictures.{HasDumpFault, IsDumpFault};
 ghost use Rattle.dvg_picture.specs.Svgs.{DrawsSvg, IsDrawn, run_svg, strokes_of};
+ghost use Rattle.dvg_dump.specs.declared.dump.TheConstants.{LARGE_DUMP_BYTES};
 
 use crate::engine::run_dump;
 use crate::undrawn::{Undrawn, reason_line, undrawn_by};
@@ -85,7 +86,7 @@ impl<A: Allocator + Copy> Engine<A> for SvgEngine {
 
     const MOST: u32 = LARGE_DUMP_BYTES as u32;
 
-    ghost MOST = { 6144 };
+    ghost MOST = { LARGE_DUMP_BYTES };
 
     ghost Finds = { λ engine input drawn. IsDrawn input drawn.strokes.items drawn.undrawn };
 
@@ -130,7 +131,7 @@ pub fn picture_svg<A: Allocator + Copy, R: Read, W: Write>(
     percent: u16,
 ) -> Result<Option<Undrawn>, ToolFault>
     requires fresh { AreFresh reader.old writer.old }
-    ensures { Serves R.remaining W.contents 6145 ComesBeforeText (DrawsSvg percent)
+    ensures { Serves R.remaining W.contents LARGE_DUMP_BYTES ComesBeforeText (DrawsSvg percent)
         result reader.old reader.new writer.old writer.new }
 {
     let drawn = serve(&SvgEngine { percent }, alloc, reader, writer)?;

@@ -23,6 +23,8 @@ use Rattle.dvg_read.specs.TraceFollowing.{FollowsLine, HasFaultOf, StandsFor, St
 use Rattle.dvg_read.specs.TraceLaws.{HasMeaning, IsTraceRead}
 use Rattle.dvg_read.proofs.TraceMoves.{any_opened, end_fits, end_stops, end_taken, fine_events, no_op_more, none_opened, offer_fits, offer_taken, op_taken, rom_taken, some_opened}
 use Rattle.dvg_read.proofs.ReadTrace.{ReadTrace, begins, bounded, closed_all, ends_open, one_more, passes, stops}
+use Rattle.dvg_read.specs.declared.draft_text.TheConstants.{MOST_TEXT_BYTES}
+use Rattle.dvg_log.specs.declared.trace.TheConstants.{MOST_EVENTS}
 
 no_events_yet : (old : List Happening) → length old ≡ 0 → old ≡ []
 no_events_yet [] none = refl
@@ -64,13 +66,13 @@ events_more : (rom : RomText) (old more : List Happening) (opened left : Option 
 events_more rom old more opened left l held e f p holds = record { now = rom; takes = rw (e, f) (events p); holds = holds }
 
 events_held : (old more : List Happening) (opened left : Option (List OpKind)) {ps : List (List ℕ)}
-    → left ≡ None → EventParts more ps → length old + length more ≤ 65536 → FitsTrace old opened
+    → left ≡ None → EventParts more ps → length old + length more ≤ MOST_EVENTS → FitsTrace old opened
     → FitsTrace (old ++ more) left
 events_held old more opened left f p few fits = rw f (record { count = omega (arith, length-append old more); drafts = All-append FitsDraft old more fits.drafts (fine_events p); last = tt })
 
 pub events_followed : (before after : Following) (more : List Happening) (line : List ℕ)
     → before.is_open ≡ false → after.is_open ≡ false → EventParts more (parts line)
-    → after.rom ≡ before.rom → after.count ≡ before.count + length more → after.count ≤ 65536
+    → after.rom ≡ before.rom → after.count ≡ before.count + length more → after.count ≤ MOST_EVENTS
     → FollowsLine before line after
 events_followed before after more line closed stays p same count few rom old holds s =
     let outside = none_opened before.is_open before.draft closed in
@@ -87,7 +89,7 @@ events_followed before after more line closed stays p same count few rom old hol
 
 -- the end of an offer
 pub end_followed : (before after : Following) → before.is_open ≡ true → after.is_open ≡ false
-    → after.rom ≡ before.rom → after.count ≡ before.count + 1 → before.count < 65536
+    → after.rom ≡ before.rom → after.count ≡ before.count + 1 → before.count < MOST_EVENTS
     → FollowsLine before (codes "end") after
 end_followed before after opens closes same count room rom old holds s =
     let inside = some_opened before.is_open before.draft opens in
@@ -103,17 +105,17 @@ end_followed before after opens closes same count room rom old holds s =
       };
     }
 
-pub end_halts : (following : Following) → following.is_open ≡ true → following.count ≡ 65536
+pub end_halts : (following : Following) → following.is_open ≡ true → following.count ≡ MOST_EVENTS
     → StopsFollowing Many following (codes "end")
 end_halts following opens full old s = end_stops old (opened_in following) following.draft following.rom (some_opened following.is_open following.draft opens) (s.count ∙ full)
 
 -- events that are too many
-many_more : (old more : List Happening) (opened : Option (List OpKind)) (l : List ℕ) (held : RomReading) → opened ≡ None → EventParts more (parts l) → 65536 < length old + length more → StopsLine Many old opened held l
+many_more : (old more : List Happening) (opened : Option (List OpKind)) (l : List ℕ) (held : RomReading) → opened ≡ None → EventParts more (parts l) → MOST_EVENTS < length old + length more → StopsLine Many old opened held l
 many_more old more opened l held e p over = rw e (old ++ more, omega (arith, length-append old more), λ rom. events p)
 
 pub many_halts : (following : Following) (more : List Happening) (line : List ℕ)
     → following.is_open ≡ false → EventParts more (parts line)
-    → 65536 < following.count + length more → StopsFollowing Many following line
+    → MOST_EVENTS < following.count + length more → StopsFollowing Many following line
 many_halts following more line closed p over old s =
     let size = s.count in
     many_more old more (opened_in following) line following.rom (none_opened following.is_open following.draft closed) p (omega (arith, size, over))
@@ -206,7 +208,7 @@ ended_closed text left n following none f short closed =
     (f.events, following.rom.bytes.items, closed_all text left n f.events (opened_in following) following.rom none f.read short f.stands.fits following.is_open (any_opened following.is_open following.draft) closed following.rom.bytes.items refl)
 
 pub few_lines : (text : List ℕ) (left : List (List ℕ)) (n : ℕ) (following : Following)
-    → FollowedTo text left n following → IsShort text → n ≤ 1048576
+    → FollowedTo text left n following → IsShort text → n ≤ MOST_TEXT_BYTES
 few_lines text left n following f short = bounded text left n f.events (opened_in following) following.rom f.read short
 
 -- each text has a meaning or a fault

@@ -17,6 +17,7 @@ use Rattle.dvg_read.specs.TraceTexts.{EventParts, FitsTrace, FitsDraft, redraw, 
 use Rattle.dvg_read.specs.TraceReading.{Takes, does, ends, events, opens, tells}
 use Rattle.dvg_read.specs.TraceGives.{StopsEvents, StopsLine, StopsOperation, TakesLine, opened_by}
 use Rattle.dvg_read.proofs.EventRows.{some_events}
+use Rattle.dvg_log.specs.declared.trace.TheConstants.{MOST_EVENTS}
 
 all_one : {A : Type 0} (P : A → Type 0) (y : A) → P y → All P (y ∷ [])
 all_one P y h zero d l = h
@@ -49,17 +50,17 @@ pub end_taken : (old new : List Happening) (opened left : Option (List OpKind)) 
     → (rom : RomText) → HoldsRom rom held → TakesLine rom old opened (codes "end") new left held
 end_taken old new opened left F held e f g rom holds = record { now = rom; takes = rw (e, f, g) ends; holds = holds }
 
-pub end_fits : (old new : List Happening) (opened left : Option (List OpKind)) (F : List OpKind) → opened ≡ Some F → left ≡ None → new ≡ old ++ Offer F ∷ [] → length old < 65536 → FitsTrace old opened → FitsTrace new left
+pub end_fits : (old new : List Happening) (opened left : Option (List OpKind)) (F : List OpKind) → opened ≡ Some F → left ≡ None → new ≡ old ++ Offer F ∷ [] → length old < MOST_EVENTS → FitsTrace old opened → FitsTrace new left
 end_fits old new opened left F e f g room fits =
     let inside = rw e at fits in
     let last : length F ≤ 511 = inside.last in
     rw (f, g) (record { count = omega (arith, length-append old (Offer F ∷ [])); drafts = All-append FitsDraft old (Offer F ∷ []) fits.drafts (all_one FitsDraft (Offer F) last); last = tt })
 
-pub end_stops : (old : List Happening) (opened : Option (List OpKind)) (F : List OpKind) (held : RomReading) → opened ≡ Some F → length old ≡ 65536 → StopsLine Many old opened held (codes "end")
+pub end_stops : (old : List Happening) (opened : Option (List OpKind)) (F : List OpKind) (held : RomReading) → opened ≡ Some F → length old ≡ MOST_EVENTS → StopsLine Many old opened held (codes "end")
 end_stops old opened F held e full = rw e (old ++ Offer F ∷ [], omega (arith, length-append old (Offer F ∷ [])), λ rom. ends)
 
 -- memory is wanted for an offer that fits
-pub end_wants : (old : List Happening) (opened : Option (List OpKind)) (F : List OpKind) (held : RomReading) → opened ≡ Some F → length old < 65536 → StopsLine Memory old opened held (codes "end")
+pub end_wants : (old : List Happening) (opened : Option (List OpKind)) (F : List OpKind) (held : RomReading) → opened ≡ Some F → length old < MOST_EVENTS → StopsLine Memory old opened held (codes "end")
 end_wants old opened F held e room =
     let count = length-append old (Offer F ∷ []) in
     rw e (old ++ Offer F ∷ [], omega (arith, count), omega (arith, count, room), λ rom. ends)
@@ -91,7 +92,7 @@ fine_events resetgen = all_one FitsDraft ResetGen tt
 fine_events resetcpu = all_one FitsDraft ResetCpu tt
 fine_events (resetall {byte = byte} h) = all_one FitsDraft (ResetAll (replicate 2048 byte)) tt
 
-pub events_fit : {A E : Type 0} (answer : Result A E) (old more new : List Happening) (opened : Option (List OpKind)) (ps : List (List ℕ)) → EventParts more ps → OnOk answer (new ≡ old ++ more) → OnOk answer (length new ≤ 65536)
+pub events_fit : {A E : Type 0} (answer : Result A E) (old more new : List Happening) (opened : Option (List OpKind)) (ps : List (List ℕ)) → EventParts more ps → OnOk answer (new ≡ old ++ more) → OnOk answer (length new ≤ MOST_EVENTS)
     → FitsTrace old opened → OnOk answer (FitsTrace new opened)
 events_fit (Ok x) old more new opened ps p g room fits = record { count = room; drafts = subst (All FitsDraft) (sym g) (All-append FitsDraft old more fits.drafts (fine_events p)); last = fits.last }
 events_fit (Err x) old more new opened ps p g room fits = tt

@@ -18,6 +18,7 @@ use Rattle.dvg_read.specs.TraceEvents.{AddsEvents, BeginsWithEvent}
 use Rattle.dvg_read.specs.TextLines.{AddsOps}
 use Rattle.dvg_read.specs.Texts.{lines, unpassed}
 use Rattle.dvg_read.specs.TraceTexts.{DenotesTrace, FitsTrace, HasTraceFault, IsFineTrace, SpellsTrace}
+use Rattle.dvg_log.specs.declared.trace.TheConstants.{MOST_EVENTS}
 
 -- the text denotes these events and a ROM of these bytes
 pub record GivesTrace (text : List ℕ) (events : List Happening) (R : List ℕ) : Type 0 where
@@ -36,7 +37,7 @@ pub record BringsEvents (text : List ℕ) : Type 0 where
   pub events : List Happening
   pub right : SpellsTrace rom events None (unpassed before ++ line ∷ [])
   pub some : 1 ≤ length events
-  pub few : length events ≤ 65536
+  pub few : length events ≤ MOST_EVENTS
 
 -- why a trace isn't read: the fault of its text, or want of memory, where a line brings events
 abbrev pub StopsReading : Unread → List ℕ → Type 0
@@ -100,7 +101,7 @@ pub data ReadsAhead {A : Type 0} (old : Reading A) (left : List (List ℕ)) (cou
 -- memory was wanted for one of these lines, which begin with an event that a trace has room for
 pub record WantsMemory {A : Type 0} (reading : Reading A) (left : List (List ℕ)) : Type 0 where
   pub outside : opened_of reading ≡ None
-  pub room : length (events_read reading) < 65536
+  pub room : length (events_read reading) < MOST_EVENTS
   pub begins : BeginsWithEvent left
 
 -- all lines of a text were read, and this is held of them
@@ -116,10 +117,10 @@ StopsLine line_fault.Syntax old opened held line = (rom now : RomText) (new : Li
     (left : Option (List OpKind)) → HoldsRom rom held → ¬ Takes rom old opened line now new left
 StopsLine line_fault.Full old opened held line = (F : List OpKind) × (511 < length F)
     × ((rom : RomText) → Takes rom old opened line rom old (Some F))
-StopsLine line_fault.Many old opened held line = (new : List Happening) × (65536 < length new)
+StopsLine line_fault.Many old opened held line = (new : List Happening) × (MOST_EVENTS < length new)
     × ((rom : RomText) → Takes rom old opened line rom new None)
 StopsLine line_fault.Memory old opened held line =
-    (new : List Happening) × (1 ≤ length new) × (length new ≤ 65536)
+    (new : List Happening) × (1 ≤ length new) × (length new ≤ MOST_EVENTS)
     × ((rom : RomText) → Takes rom old opened line rom new None)
 StopsLine _ old opened held line = ⊥
 
@@ -131,6 +132,6 @@ StopsOperation _ F line = ⊥
 
 -- why these further events aren't held
 abbrev pub StopsEvents : LineFault → List Happening → List Happening → Type 0
-StopsEvents line_fault.Many old more = 65536 < length old + length more
-StopsEvents line_fault.Memory old more = length old + length more ≤ 65536
+StopsEvents line_fault.Many old more = MOST_EVENTS < length old + length more
+StopsEvents line_fault.Memory old more = length old + length more ≤ MOST_EVENTS
 StopsEvents _ old more = ⊥

@@ -66,21 +66,28 @@ pub enum Unread {
 }
 
 /// Why a line isn't taken. What takes one line at a time doesn't know its number.
-#[derive(Clone, Copy)]
+#[derive(Clone, Copy, Debug, PartialEq, Eq, Error)]
 pub enum LineFault {
     /// It spells nothing that may stand at its place.
+    #[error("the line spells nothing that may stand at its place")]
     Syntax,
     /// The draft has its 511 operations already.
+    #[error("the draft has its 511 operations already")]
     Full,
     /// There would be more events than a trace has.
+    #[error("there would be more than 65536 events")]
     Many,
     /// It gives a name that was given before.
+    #[error("the line gives a name that was given before")]
     NameGivenAgain,
     /// It begins a section at no word of the ROM, or lays an operation past the ROM's end.
+    #[error("the line lays nothing at a word of the ROM")]
     OutOfRom,
     /// It lays an operation on a word on which another section lies.
+    #[error("the line lays an operation on another section")]
     Overlap,
     /// An allocation failed.
+    #[error("out of memory")]
     Memory,
 }
 

@@ -2,6 +2,7 @@
 ghost use Rattle.std.specs.Prelude.{◌≡◌, ◌≤◌, IfErr, IfOk, IsFalse, IsTrue, OnOk, codes};
 ghost use Rattle.dvg_read.specs.TraceFollowing.{FollowsLine, HasFaultOf, StopsFollowing};
 ghost use Rattle.dvg_read.specs.TraceLaws.{HasMeaning};
+ghost use Rattle.dvg_log.specs.declared.trace.TheConstants.{MOST_EVENTS};
 
 use crate::draft_text::MOST_TEXT_BYTES;
 use crate::event_line::read_event_line;
@@ -58,9 +59,9 @@ struct Following {
 impl Following {
     // Follows one more line, `line`, which isn't passed over.
     fn take(&mut self, line: &[u8]) -> Result<(), LineFault>
-        requires few { self.old.count ≤ 65536 }
+        requires few { self.old.count ≤ MOST_EVENTS }
         ensures taken { OnOk result (FollowsLine self.old line.now self.new) }
-        ensures few { OnOk result (self.new.count ≤ 65536) }
+        ensures few { OnOk result (self.new.count ≤ MOST_EVENTS) }
         ensures fault { IfErr result (λ fault. StopsFollowing fault self.old line.now) }
     {
         if !self.is_open {
@@ -75,9 +76,9 @@ impl Following {
     // Follows one more line, `line`, where no offer is open.
     fn take_outside(&mut self, line: &[u8]) -> Result<(), LineFault>
         requires outside { IsFalse self.old.is_open }
-        requires few { self.old.count ≤ 65536 }
+        requires few { self.old.count ≤ MOST_EVENTS }
         ensures taken { OnOk result (FollowsLine self.old line.now self.new) }
-        ensures few { OnOk result (self.new.count ≤ 65536) }
+        ensures few { OnOk result (self.new.count ≤ MOST_EVENTS) }
         ensures fault { IfErr result (λ fault. StopsFollowing fault self.old line.now) }
     {
         if line == b"offer".as_slice() {
@@ -102,9 +103,9 @@ impl Following {
     // Ends the offer that is open.
     fn end_offer(&mut self) -> Result<(), LineFault>
         requires inside { IsTrue self.old.is_open }
-        requires few { self.old.count ≤ 65536 }
+        requires few { self.old.count ≤ MOST_EVENTS }
         ensures taken { OnOk result (FollowsLine self.old (codes "end") self.new) }
-        ensures few { OnOk result (self.new.count ≤ 65536) }
+        ensures few { OnOk result (self.new.count ≤ MOST_EVENTS) }
         ensures fault { IfErr result (λ fault. StopsFollowing fault self.old (codes "end")) }
     {
         if self.count == MOST_EVENTS {

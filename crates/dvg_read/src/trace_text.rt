@@ -11,6 +11,7 @@ ghost use Rattle.dvg_read.specs.TraceGives.{GivesTrace, IsHeld, ReadsAhead, Read
 ghost use Rattle.dvg_read.specs.TraceGives.{StopsEvents, WantsMemory};
 ghost use Rattle.dvg_read.specs.TraceGives.{StopsLine, StopsOperation, StopsReading, events_read};
 ghost use Rattle.dvg_read.specs.TraceGives.{opened_of};
+ghost use Rattle.dvg_log.specs.declared.trace.TheConstants.{MOST_EVENTS};
 
 use crate::draft_text::MOST_TEXT_BYTES;
 use crate::event_line::{EventLine, read_event_line};
@@ -233,7 +234,7 @@ fn add_events<A: Allocator>(
 ) -> Result<(), LineFault>
     requires { 1 ≤ length (happenings repeated) }
     ensures added { OnOk result (events.new ≡ events.old ++ happenings repeated) }
-    ensures room { OnOk result (length events.new ≤ 65536) }
+    ensures room { OnOk result (length events.new ≤ MOST_EVENTS) }
     ensures fault { IfErr result (λ fault. StopsEvents fault events.old (happenings repeated)) }
 {
     if events.len() + count(&repeated) > MOST_EVENTS {

@@ -19,6 +19,7 @@ use Rattle.dvg_svg.specs.Svg.{strokes_of, svgs_text}
 use Rattle.dvg_tool.specs.Plays.{zeros}
 use Rattle.dvg_tool.specs.PlaysSvg.{PlaysSvg, ShowsPictures}
 use Rattle.dvg_tool.proofs.DrawnPlayed.{events_shown}
+use Rattle.dvg_read.specs.declared.draft_text.TheConstants.{MOST_TEXT_BYTES}
 
 -- the strokes of pictures
 strokes_seen : {A : Type 0} (pictures : List (Picture A)) → map (λ picture. picture.strokes.items) pictures ≡ map (λ (picture : ℕ × List Stroke). picture.1) (map picture_seen pictures)
@@ -58,8 +59,8 @@ Finds input pictures = ShowsPictures input (strokes_of pictures.items)
 
 pub finds : {A : Type 0} (read R : List ℕ) (events : List Happening) (answer : Result (Vec (Vec Stroke A) A) Unread) → GivesTrace read events R
     → IfOk answer (λ pictures. (text : List ℕ) → GivesTrace text events R → ShowsPictures text (strokes_of pictures.items))
-    → IfErr answer (λ stop. stop ≡ unread.Memory) → OfInput 1048576 read (λ input. IsFinding (Finds input) (HasTraceFault input) answer)
+    → IfErr answer (λ stop. stop ≡ unread.Memory) → OfInput MOST_TEXT_BYTES read (λ input. IsFinding (Finds input) (HasTraceFault input) answer)
 finds read R events (Ok pictures) gives ok err input e =
-    ok input (subst (λ text. GivesTrace text events R) (whole 1048576 read input e gives.denotes.short) gives)
+    ok input (subst (λ text. GivesTrace text events R) (whole MOST_TEXT_BYTES read input e gives.denotes.short) gives)
 finds {A = A} read R events (Err stop) gives ok err input e =
     subst (λ stop. IsFinding {F = Vec (Vec Stroke A) A} (Finds input) (HasTraceFault input) (Err stop)) (sym err) tt

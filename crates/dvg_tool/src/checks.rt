@@ -5,6 +5,7 @@ ghost use Rattle.dvg_io.specs.Serving.{AreFresh, Serves};
 ghost use Rattle.dvg_print.specs.Verdicts.{bounded_line, verdict_line};
 ghost use Rattle.dvg_read.specs.DraftTexts.{HasDraftFault};
 ghost use Rattle.dvg_tool.specs.Checks.{Checks, ChecksBound, IsJudgingFault, Judges, JudgesBound};
+ghost use Rattle.dvg_read.specs.declared.draft_text.TheConstants.{MOST_TEXT_BYTES};
 
 use dvg_frame::check;
 use dvg_io::{Engine, StreamFailed, ToolFault, Watched, serve, write_whole};
@@ -45,7 +46,7 @@ impl<A: Allocator + Copy> Engine<A> for CheckEngine {
 
     const MOST: u32 = MOST_TEXT_BYTES as u32;
 
-    ghost MOST = { 1048576 };
+    ghost MOST = { MOST_TEXT_BYTES };
 
     ghost Finds = { λ engine. Judges };
 
@@ -78,7 +79,7 @@ impl<A: Allocator + Copy> Engine<A> for BoundEngine {
 
     const MOST: u32 = MOST_TEXT_BYTES as u32;
 
-    ghost MOST = { 1048576 };
+    ghost MOST = { MOST_TEXT_BYTES };
 
     ghost Finds = { λ engine. JudgesBound };
 
@@ -121,7 +122,7 @@ pub(crate) fn check_text<A: Allocator, R: Read, W: Write>(
     writer: &mut Watched<W>,
 ) -> Result<Verdict, ToolFault>
     requires fresh { AreFresh reader.old writer.old }
-    ensures { Serves R.remaining W.contents 1048577 ComesBeforeText Checks
+    ensures { Serves R.remaining W.contents MOST_TEXT_BYTES ComesBeforeText Checks
         result reader.old reader.new writer.old writer.new }
 {
     serve(&CheckEngine, &alloc, reader, writer)
@@ -137,7 +138,7 @@ pub(crate) fn check_bound<A: Allocator, R: Read, W: Write>(
     writer: &mut Watched<W>,
 ) -> Result<BoundedVerdict, ToolFault>
     requires fresh { AreFresh reader.old writer.old }
-    ensures { Serves R.remaining W.contents 1048577 ComesBeforeText ChecksBound
+    ensures { Serves R.remaining W.contents MOST_TEXT_BYTES ComesBeforeText ChecksBound
         result reader.old reader.new writer.old writer.new }
 {
     serve(&BoundEngine, &alloc, reader, writer)

@@ -7,6 +7,7 @@ ghost use Rattle.dvg_svg.specs.Svg.{strokes_of, svgs_text};
 ghost use Rattle.dvg_read.specs.TraceGives.{GivesTrace};
 ghost use Rattle.dvg_read.specs.TraceTexts.{HasTraceFault};
 ghost use Rattle.dvg_tool.specs.PlaysSvg.{PlaysSvg, ShowsPictures};
+ghost use Rattle.dvg_read.specs.declared.draft_text.TheConstants.{MOST_TEXT_BYTES};
 
 use crate::plays_pictures::draw_text;
 use dvg_gen::Stroke;
@@ -68,7 +69,7 @@ impl<S: Store> Engine<S::Alloc> for SvgEngine<S> {
 
     const MOST: u32 = MOST_TEXT_BYTES as u32;
 
-    ghost MOST = { 1048576 };
+    ghost MOST = { MOST_TEXT_BYTES };
 
     ghost Finds = { λ engine input pictures. ShowsPictures input (strokes_of pictures.items) };
 
@@ -110,7 +111,7 @@ pub(crate) fn play_svg_in<S: Store, R: Read, W: Write>(
     show: Show,
 ) -> Result<(), ToolFault>
     requires fresh { AreFresh reader.old writer.old }
-    ensures { Serves R.remaining W.contents 1048577 ComesBeforeText (PlaysSvg show)
+    ensures { Serves R.remaining W.contents MOST_TEXT_BYTES ComesBeforeText (PlaysSvg show)
         result reader.old reader.new writer.old writer.new }
 {
     let engine = SvgEngine::<S> {
@@ -130,7 +131,7 @@ pub(crate) fn play_svg<A: Allocator + Copy, R: Read, W: Write>(
     show: Show,
 ) -> Result<(), ToolFault>
     requires fresh { AreFresh reader.old writer.old }
-    ensures { Serves R.remaining W.contents 1048577 ComesBeforeText (PlaysSvg show)
+    ensures { Serves R.remaining W.contents MOST_TEXT_BYTES ComesBeforeText (PlaysSvg show)
         result reader.old reader.new writer.old writer.new }
 {
     play_svg_in::<Flat<A>, R, W>(alloc, reader, writer, show)

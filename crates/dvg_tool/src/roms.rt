@@ -7,6 +7,7 @@ ghost use Rattle.dvg_io.specs.Serving.{AreFresh, Serves};
 ghost use Rattle.dvg_io.specs.Watching.{Writes};
 ghost use Rattle.dvg_tool.specs.Roms.{HasRomFault, HasRomSize, IsRomFault, IsRomOf, WritesRom};
 ghost use Rattle.dvg_tool.specs.Roms.{words_text};
+ghost use Rattle.dvg_mem.specs.declared.TheConstants.{LARGE_ROM_BYTES};
 
 use dvg_io::{Engine, StreamFailed, ToolFault, Watched, collect_words, serve, write_whole};
 use dvg_mem::{FIRST_LARGE_ROM_WORD, FIRST_ROM_WORD, LARGE_ROM_BYTES, MEMORY_BYTES};
@@ -82,7 +83,7 @@ impl<A: Allocator + Copy> Engine<A> for RomEngine {
 
     const MOST: u32 = LARGE_ROM_BYTES as u32;
 
-    ghost MOST = { 4096 };
+    ghost MOST = { LARGE_ROM_BYTES };
 
     ghost Finds = { λ engine input words. IsRomOf input words.items };
 
@@ -122,7 +123,7 @@ pub(crate) fn rom_text<A: Allocator, R: Read, W: Write>(
     writer: &mut Watched<W>,
 ) -> Result<(), ToolFault>
     requires fresh { AreFresh reader.old writer.old }
-    ensures { Serves R.remaining W.contents 4097 ComesBeforeText WritesRom
+    ensures { Serves R.remaining W.contents LARGE_ROM_BYTES ComesBeforeText WritesRom
         result reader.old reader.new writer.old writer.new }
 {
     serve(&RomEngine, &alloc, reader, writer)?;

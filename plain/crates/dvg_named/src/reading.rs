@@ -13,8 +13,9 @@ use arrayvec::ArrayVec;
 use dvg_code::OutOfMemory;
 use dvg_frame::OpKind;
 use dvg_mem::LARGE_ROM_BYTES;
+use dvg_read::LineFault;
 use dvg_rows::{
-    Doing, GivenNames, Head, LineFault, Part, RomArea, Row, Source, read_head, read_row,
+    Doing, GivenNames, Head, Part, RomArea, Row, Source, read_head, read_row,
     words_of_row,
 };
 use std::alloc::Allocator;
