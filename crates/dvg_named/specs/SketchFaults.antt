@@ -6,8 +6,8 @@ use Rattle.dvg_read.specs.FirstFaults.{IsShort}
 use Rattle.dvg_read.specs.RomTexts.{first_stated}
 use Rattle.dvg_read.specs.Texts.{is_passed, unpassed}
 use Rattle.dvg_read.specs.declared.fault.TextFault.{TextFault}
-use Rattle.dvg_read.specs.declared.fault.TextFault.TheVariants.{TooLong, Syntax, NameGivenAgain, Full, OutOfRom, Overlap}
-use Rattle.dvg_read.specs.declared.fault.TextFault.TheVariants.{UnknownName}
+use Rattle.dvg_read.specs.declared.fault.TextFault.TheVariants.{TooLong, Syntax, NameGivenAgain}
+use Rattle.dvg_read.specs.declared.fault.TextFault.TheVariants.{Full, OutOfRom, Overlap, UnknownName}
 use Rattle.dvg_rows.specs.PlainLines.{plain_lines}
 use Rattle.dvg_rows.specs.RowPlaces.{AreDistinct, IsNumber, doings, names_of}
 use Rattle.dvg_rows.specs.Rows.{Doing, Head, IsRowLine, Row, plainly, calls, jumps, calls_rom, jumps_rom, rom}
@@ -135,9 +135,10 @@ HasSketchFault text TooLong = MOST_TEXT_BYTES < length text
 HasSketchFault text (Syntax n) = MeetsNothing text n
 HasSketchFault text (NameGivenAgain n) = Meets (λ sketch. ¬ GivesOnce sketch) text n
 HasSketchFault text (Full n) = Meets (λ sketch. GivesOnce sketch × (¬ DraftsFit sketch)) text n
-HasSketchFault text (OutOfRom n) = Meets (λ sketch. GivesOnce sketch × DraftsFit sketch × (¬ RomFits sketch)) text n
-HasSketchFault text (Overlap n) = Meets (λ sketch. GivesOnce sketch × DraftsFit sketch × RomFits sketch
-    × (¬ LieApart sketch)) text n
+HasSketchFault text (OutOfRom n) =
+    Meets (λ sketch. GivesOnce sketch × DraftsFit sketch × (¬ RomFits sketch)) text n
+HasSketchFault text (Overlap n) =
+    Meets (λ sketch. GivesOnce sketch × DraftsFit sketch × RomFits sketch × (¬ LieApart sketch)) text n
 HasSketchFault text (UnknownName n) =
     WantsUngiven text n × ((earlier : ℕ) → earlier < n → ¬ WantsUngiven text earlier)
 HasSketchFault text _ = ⊥

@@ -31,8 +31,8 @@ NoFaultBeside = (text : List ℕ) (rom : RomText) (result : List Frame) → Deno
 
 -- a text has one fault at most
 abbrev pub OneFault : Type 0
-OneFault = (text : List ℕ) (fault other : TextFault) → HasSketchFault text fault → HasSketchFault text other
-    → other ≡ fault
+OneFault = (text : List ℕ) (fault other : TextFault) → HasSketchFault text fault
+    → HasSketchFault text other → other ≡ fault
 
 -- no text lacks both a meaning and a fault
 abbrev pub NoneLacksBoth : Type 0

@@ -3,8 +3,8 @@ use Rattle.std.specs.Prelude.{◌≡◌, ℕ, List, [], ◌∷◌, ◌++◌, Opt
 use Rattle.dvg_read.specs.LineParts.{bytes_of}
 use Rattle.dvg_read.specs.RomTexts.{RomText}
 use Rattle.dvg_read.specs.declared.fault.LineFault.{LineFault}
-use Rattle.dvg_read.specs.declared.fault.LineFault.TheVariants.{Full, Memory, NameGivenAgain, OutOfRom, Overlap}
-use Rattle.dvg_read.specs.declared.fault.LineFault.TheVariants.{Syntax}
+use Rattle.dvg_read.specs.declared.fault.LineFault.TheVariants.{Full, Memory, NameGivenAgain}
+use Rattle.dvg_read.specs.declared.fault.LineFault.TheVariants.{OutOfRom, Overlap, Syntax}
 use Rattle.dvg_rows.specs.declared.rom_area.RomArea.{RomArea}
 use Rattle.dvg_rows.specs.declared.part.Part.{Part}
 use Rattle.dvg_named.specs.declared.reading.Reading.{Reading}

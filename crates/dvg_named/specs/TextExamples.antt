@@ -2,7 +2,8 @@
 use Rattle.std.specs.Prelude.{ℕ, List, [], ◌∷◌, ◌++◌, Some, None, codes}
 use Rattle.dvg_frame.specs.declared.op.OpKind.TheVariants.{CallRom, Halt, Jump}
 use Rattle.dvg_read.specs.RomReading.{unstated}
-use Rattle.dvg_read.specs.declared.fault.TextFault.TheVariants.{OutOfRom, Overlap, NameGivenAgain, UnknownName}
+use Rattle.dvg_read.specs.declared.fault.TextFault.TheVariants.{NameGivenAgain, OutOfRom, Overlap}
+use Rattle.dvg_read.specs.declared.fault.TextFault.TheVariants.{UnknownName}
 use Rattle.dvg_named.specs.SketchFaults.{DenotesFrames, HasSketchFault}
 
 -- the text of these lines; 10 is LF
@@ -32,8 +33,8 @@ OutOfRomAtOne = HasSketchFault (text_of (codes ".rom 400" ∷ [])) (OutOfRom 1)
 
 -- two sections lay an operation at 800
 abbrev pub OverlapAtFour : Type 0
-OverlapAtFour = HasSketchFault (text_of (codes ".rom 800" ∷ codes "halt" ∷ codes ".rom 800" ∷ codes "halt" ∷ []))
-    (Overlap 4)
+OverlapAtFour = HasSketchFault
+    (text_of (codes ".rom 800" ∷ codes "halt" ∷ codes ".rom 800" ∷ codes "halt" ∷ [])) (Overlap 4)
 
 -- no line gives the name
 abbrev pub UnknownAtOne : Type 0

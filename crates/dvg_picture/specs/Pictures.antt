@@ -29,7 +29,8 @@ pub record ShowsRun (all : Bool) (input : List ℕ) (Holds : End → List ℕ �
 
 -- the fault of an input that isn't a dump: how many bytes it has, or that these are more than a dump's
 abbrev pub HasDumpFault : List ℕ → TextFault → Type 0
-HasDumpFault input (DumpSize bytes) = (length input ≡ bytes) × (bytes ≤ LARGE_DUMP_BYTES) × ¬ HasDumpSize input
+HasDumpFault input (DumpSize bytes) =
+    (length input ≡ bytes) × (bytes ≤ LARGE_DUMP_BYTES) × ¬ HasDumpSize input
 HasDumpFault input LongDump = LARGE_DUMP_BYTES < length input
 HasDumpFault input _ = ⊥
 

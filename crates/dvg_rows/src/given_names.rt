@@ -35,8 +35,8 @@ impl<'a, A: Allocator + Copy> GivenNames<'a, A> {
         self.given.clear();
     }
 
-    /// Adds `name`, if there is one. Returns `NameGivenAgain` where it was given before, and `Memory` where
-    /// an allocation fails.
+    /// Adds `name`, if there is one. Returns `NameGivenAgain` where it was given before, and
+    /// `Memory` where an allocation fails.
     pub fn give(&mut self, name: Option<&'a [u8]>) -> Result<(), LineFault>
         ensures given { OnOk result (bytes_of self.new.given.keys
             ≡ bytes_of self.old.given.keys ++ option_to_list (name_of name.entry)) }

@@ -95,7 +95,8 @@ ListsAt at (Ok done) input old new =
     IsListable input × ((cutting : Cutting (words_of input))
     → (cutting.rest ≡ []) × Appends old new (text_by (address_from at) cutting.items))
 ListsAt at (Err (Text TooLong)) input old new = MOST_LIST_BYTES < length input
-ListsAt at (Err (Text Odd)) input old new = (length input ≤ MOST_LIST_BYTES) × (length input % 2 ≡ 1)
+ListsAt at (Err (Text Odd)) input old new =
+    (length input ≤ MOST_LIST_BYTES) × (length input % 2 ≡ 1)
 ListsAt at (Err (Text (Cut place))) input old new =
     IsListable input × ((cutting : Cutting (words_of input))
     → (cutting.rest ≢ []) × (place ≡ address_from at cutting.end)

@@ -34,7 +34,8 @@ fn picture_shown<A: Allocator + Copy, R: Read, W: Write>(
     percent: u16,
 ) -> Result<Done<A>, ToolFault>
     requires fresh { AreFresh reader.old writer.old }
-    ensures { Serves R.remaining W.contents LARGE_DUMP_BYTES ComesBeforeText (Performs (Job.PictureSvg percent))
+    ensures { Serves R.remaining W.contents LARGE_DUMP_BYTES ComesBeforeText
+        (Performs (Job.PictureSvg percent))
         result reader.old reader.new writer.old writer.new }
 {
     match picture_svg(alloc, reader, writer, percent) {
@@ -95,7 +96,8 @@ fn lay_answered<A: Allocator + Copy, R: Read, W: Write>(
     form: LayForm,
 ) -> Result<Done<A>, ToolFault>
     requires fresh { AreFresh reader.old writer.old }
-    ensures { Serves R.remaining W.contents MOST_TEXT_BYTES ComesBeforeText (Performs (Job.Lay form))
+    ensures { Serves R.remaining W.contents MOST_TEXT_BYTES ComesBeforeText
+        (Performs (Job.Lay form))
         result reader.old reader.new writer.old writer.new }
 {
     match lay_sketch(alloc, reader, writer, form_of(form)) {
@@ -139,7 +141,8 @@ fn check_answered<A: Allocator + Copy, R: Read, W: Write>(
     writer: &mut Watched<W>,
 ) -> Result<Done<A>, ToolFault>
     requires fresh { AreFresh reader.old writer.old }
-    ensures { Serves R.remaining W.contents MOST_TEXT_BYTES ComesBeforeText (Performs Job.RenderCheck)
+    ensures { Serves R.remaining W.contents MOST_TEXT_BYTES ComesBeforeText
+        (Performs Job.RenderCheck)
         result reader.old reader.new writer.old writer.new }
 {
     match check_sketch(alloc, reader, writer) {

@@ -6,9 +6,9 @@ use Rattle.dvg_named.proofs.flat_draft.push_draft.Goals as goal
 
 pub returns-clause-pushed : goal.returns-clause-pushed
 returns-clause-pushed g c = record {
-  draft = c.in-Ok-draft_of.draft;
-  drafts = subst (λ (rows : List held.Row). Drafts c.args.rom.now rows c.in-Ok-draft_of.draft) c.in-Ok.ensures
-      c.in-Ok-draft_of.ensures.draft;
+  draft = c.in-Some.draft;
+  drafts = subst (λ (rows : List held.Row). Drafts c.args.rom.now rows c.in-Some.draft) c.in-Ok.ensures
+      c.in-Some.ensures.draft;
   pushed = items_ok c.extend_from_slice.result c.extend_from_slice.new.self.items (c.args.ops.now.items ++ c.ops.result.now)
       c.args.ops.now.items (sym c.is_err.ensures.value ∙ c.if-is_err.false) c.extend_from_slice.ensures.items
       ∙ ap (λ l. c.args.ops.now.items ++ l) c.ops.ensures.value;
