@@ -80,22 +80,19 @@ fn sketch_of<'a, A: Allocator + Copy>(
     let Ok(laid) = LaidNames::new(alloc, sections, names.as_slice()) else {
         return Err(Unread::Memory);
     };
-    let Ok(rom) = reading.rom(&laid) else {
+    let Some(rom) = reading.rom(&laid) else {
         return Err(unknown(reading, &laid));
     };
     match reading.drafts(&laid) {
         Ok(frames) => Ok(Sketch { rom, names, frames }),
         Err(DraftFault::Memory) => Err(Unread::Memory),
-        Err(DraftFault::Ungiven(_)) => Err(unknown(reading, &laid)),
+        Err(DraftFault::UnknownName) => Err(unknown(reading, &laid)),
     }
 }
 
 // Returns the fault of the first line in `reading` that needs a name which isn't given, where there
 // is one. `laid` has the names of the ROM. Returns `Memory` where an allocation fails.
-fn unknown<A: Allocator + Copy>(
-    reading: &Reading<'_, A>,
-    laid: &LaidNames<'_, '_, '_, A>,
-) -> Unread {
+fn unknown<A: Allocator + Copy>(reading: &Reading<'_, A>, laid: &LaidNames<'_, '_, '_, A>) -> Unread {
     match reading.first_unknown(laid) {
         Ok(Some(number)) => Unread::Text(TextFault::UnknownName(number)),
         Ok(None) => unreachable!(),

@@ -23,8 +23,8 @@ impl<'a, A: Allocator + Copy> GivenNames<'a, A> {
         self.given.clear();
     }
 
-    /// Adds `name`, if there is one. Returns `NameGivenAgain` where it was given before, and `Memory` where
-    /// an allocation fails.
+    /// Adds `name`, if there is one. Returns `NameGivenAgain` where it was given before, and
+    /// `Memory` where an allocation fails.
     pub fn give(&mut self, name: Option<&'a [u8]>) -> Result<(), LineFault> {
         let Some(name) = name else {
             return Ok(());
