@@ -27,7 +27,3 @@ pub use dvg_rows::{Doing, Head, MAX_TOKENS, Row, Source, read_head, read_row, to
 pub use joining::{FrameSpan, JoinedFrames};
 pub use meaning::{NamedFrame, RomName};
 pub use sketch::{Sketch, read_sketch};
-
-#[path = "../rust.rs"]
-mod rust;
-pub use rust::*;
