@@ -63,6 +63,16 @@ module _ (rows : List held.Row) (i : ℕ) (row : held.Row) (low : i < length row
       slice_get_read (rows_of rows) (length rows) i (row_of row) (sym (length-map rows row_of)) low
       (sym (get_or-map row_of rows i row (row_of row) low ∙ ap row_of (sym is)))
 
+  -- a row that wants no name that isn't given
+  pub wants_none : (laid : List Laid) (section : Section) → section.rows ≡ rows_of rows
+      → ((doing : Doing) → (row_of row).doing ≡ Some doing → IsUngiven laid section doing → ⊥)
+      → ¬ WantsAt laid section i
+  wants_none laid section of_rows known h =
+      let here : Some h.row ≡ Some (row_of row) =
+      sym h.stands ∙ ap (λ rows. slice_get rows i) of_rows ∙ stands_at in
+      let same : h.row ≡ row_of row = cc in
+      known h.doing (ap doing_in (sym same) ∙ h.does) h.ungiven
+
   -- the row wants a name that isn't given
   pub wants_here : (laid : List Laid) (section : Section) → section.rows ≡ rows_of rows
       → (doing : held_doing.Doing) → row.doing ≡ Some doing → IsUngiven laid section (doing_of doing)

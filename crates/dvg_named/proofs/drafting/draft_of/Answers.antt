@@ -14,14 +14,14 @@ use Rattle.dvg_named.proofs.drafting.draft_of.Goals.{in-Some+in-Some-op_of, in_d
 pub returns-in_default-op_of-clause-unknown : goal.returns-in_default-op_of-clause-unknown
 returns-in_default-op_of-clause-unknown g c = λ none.
     none c.loop-row.row-index
-    (wants_here c.args.rows.now c.loop-row.row-index c.row-item.result (low_in c.loop-row.row-index c.rows-row.ensures c.loop-row-test.true)
-    (at_in c.loop-row.row-index c.row-item.result c.rows-row.ensures c.row-item.is) (laid_sections c.args.rom.now) (framed (rows_of c.args.rows.now)) refl c.in-Some.doing
+    (wants_here c.args.rows.now c.loop-row.row-index c.row-item.result (low_in c.loop-row.row-index c.rows-row-items.ensures c.loop-row-test.true)
+    (at_in c.loop-row.row-index c.row-item.result c.rows-row-items.ensures c.row-item.is) (laid_sections c.args.rom.now) (framed (rows_of c.args.rows.now)) refl c.in-Some.doing
     c.in-Some.is c.in_default-op_of.ensures.ungiven)
 
 pub unwrap-requires : goal.unwrap-requires
 unwrap-requires g c =
-    let more = ap length (one_doing c.args.rows.now c.loop-row.row-index c.row-item.result (low_in c.loop-row.row-index c.rows-row.ensures c.loop-row-test.true)
-    (at_in c.loop-row.row-index c.row-item.result c.rows-row.ensures c.row-item.is) c.in-Some.doing c.in-Some.is) in
+    let more = ap length (one_doing c.args.rows.now c.loop-row.row-index c.row-item.result (low_in c.loop-row.row-index c.rows-row-items.ensures c.loop-row-test.true)
+    (at_in c.loop-row.row-index c.row-item.result c.rows-row-items.ensures c.row-item.is) c.in-Some.doing c.in-Some.is) in
     let size = length-append (doings (rows_of (take c.loop-row.row-index c.args.rows.now))) (doing_of c.in-Some.doing ∷ []) in
     let front = front_doings c.args.rows.now (c.loop-row.row-index + 1) in
     c.push.ensures.room.1 (omega (arith, more, size, front, c.loop-row.invariant.count, c.requires.few))
@@ -31,8 +31,8 @@ loop-row-preserved g c =
     let rows = c.args.rows.now in
     let place = c.loop-row.row-index in
     let row = c.row-item.result in
-    let low = (low_in c.loop-row.row-index c.rows-row.ensures c.loop-row-test.true) in
-    let is = (at_in c.loop-row.row-index c.row-item.result c.rows-row.ensures c.row-item.is) in
+    let low = (low_in c.loop-row.row-index c.rows-row-items.ensures c.loop-row-test.true) in
+    let is = (at_in c.loop-row.row-index c.row-item.result c.rows-row-items.ensures c.row-item.is) in
     let laid = laid_sections c.args.rom.now in
     let before = c.loop-row.invariant in
     elim c.match-row.branch [
