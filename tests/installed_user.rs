@@ -79,10 +79,8 @@ fn name_errors() {
     is_error::<OutOfMemory>();
     is_error::<Stopped>();
     is_error::<dump::DumpFault>();
-    is_error::<named::NamedFault>();
-    is_error::<named::SketchFault>();
     is_error::<read::TextFault>();
-    is_error::<read::TraceFault>();
+    is_error::<read::Unread>();
     is_error::<sketch::SketchFault>();
 }
 

@@ -1,15 +1,15 @@
 -- Why an engine stops.
 use Rattle.std.specs.Prelude.{◌≢◌}
 use Rattle.dvg_read.specs.declared.fault.TextFault.TheVariants.{Cut}
-use Rattle.dvg_read.specs.declared.fault.TraceFault.{TraceFault}
-use Rattle.dvg_read.specs.declared.fault.TraceFault.TheVariants as of_trace
+use Rattle.dvg_read.specs.declared.fault.Unread.{Unread}
+use Rattle.dvg_read.specs.declared.fault.Unread.TheVariants as unread
 use Rattle.dvg_io.specs.declared.fault.ToolFault.{ToolFault}
 use Rattle.dvg_io.specs.declared.fault.ToolFault.TheVariants.{Text, Writer, Memory}
 
--- what the reader of traces answers, as an engine calls it
-abbrev pub called : TraceFault → ToolFault
-called (of_trace.Text fault) = Text fault
-called of_trace.Memory = Memory
+-- why a text isn't read, as an engine calls it
+abbrev pub called : Unread → ToolFault
+called (unread.Text fault) = Text fault
+called unread.Memory = Memory
 
 -- the faults that come before the first write
 abbrev pub StopsBeforeWriting : ToolFault → Type 0

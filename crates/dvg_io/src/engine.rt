@@ -1,5 +1,5 @@
 //! What the engines of the program `dvg` have in common.
-ghost use Rattle.std.specs.Prelude.{ℕ, List, ◌+◌};
+ghost use Rattle.std.specs.Prelude.{ℕ, List};
 ghost use Rattle.dvg_read.specs.declared.fault.TextFault.{TextFault};
 ghost use Rattle.dvg_io.specs.Faults.{ComesBeforeText};
 ghost use Rattle.dvg_io.specs.Serving.{Answers, AreFresh, IsFinding, OfInput, Serves};
@@ -8,6 +8,7 @@ ghost use Rattle.dvg_io.specs.Watching.{Writes};
 use crate::fault::ToolFault;
 use crate::transfer::read_up_to;
 use crate::watched::{StreamFailed, Watched};
+use dvg_read::Unread;
 use std::alloc::Allocator;
 use std::io::{Read, Write};
 
@@ -32,7 +33,7 @@ pub trait Engine<A: Allocator> {
     ghost text: { Self → Self.Found → List ℕ };
 
     /// Finds what there is in `read`, the bytes that were read. Its memory comes from `alloc`.
-    fn find(&self, alloc: A, read: &[u8]) -> Result<Self::Found, ToolFault>
+    fn find(&self, alloc: A, read: &[u8]) -> Result<Self::Found, Unread>
         ensures { OfInput MOST read.now (λ input.
             IsFinding (Finds self.now input) (HasFault self.now input) result) };
 
@@ -60,7 +61,7 @@ pub fn serve<E: Engine<A>, A: Allocator + Copy, R: Read, W: Write>(
     writer: &mut Watched<W>,
 ) -> Result<E::Found, ToolFault>
     requires fresh { AreFresh reader.old writer.old }
-    ensures { Serves R.remaining W.contents (E.MOST + 1) ComesBeforeText
+    ensures { Serves R.remaining W.contents E.MOST ComesBeforeText
         (Answers (E.Finds engine.now) (E.HasFault engine.now) (E.text engine.now))
         result reader.old reader.new writer.old writer.new }
 {

@@ -4,7 +4,7 @@ ghost use Rattle.dvg_io.specs.Faults.{called};
 ghost use Rattle.dvg_io.specs.declared.fault.ToolFault.TheVariants.{Memory};
 
 use dvg_code::OutOfMemory;
-use dvg_read::{TextFault, TraceFault};
+use dvg_read::{TextFault, Unread};
 use thiserror::Error;
 
 /// Why an engine stopped. Its text is what `dvg` prints of it (this project's own choice).
@@ -32,13 +32,13 @@ impl From<OutOfMemory> for ToolFault {
     }
 }
 
-impl From<TraceFault> for ToolFault {
-    ghost from_gives = { λ fault stop. stop ≡ called fault };
+impl From<Unread> for ToolFault {
+    ghost from_gives = { λ unread stop. stop ≡ called unread };
 
-    fn from(fault: TraceFault) -> ToolFault {
-        match fault {
-            TraceFault::Text(fault) => ToolFault::Text(fault),
-            TraceFault::Memory => ToolFault::Memory,
+    fn from(unread: Unread) -> ToolFault {
+        match unread {
+            Unread::Text(fault) => ToolFault::Text(fault),
+            Unread::Memory => ToolFault::Memory,
         }
     }
 }

@@ -18,13 +18,14 @@ use Rattle.dvg_dump.specs.Endings.{end_of}
 use Rattle.dvg_dump.specs.Ends.{Complete, Ends, drawn_by, halts}
 use Rattle.dvg_dump.specs.Memory.{DumpBytes, memory_of}
 use Rattle.dvg_dump.specs.Laws.{OneEnd}
+use Rattle.dvg_dump.specs.declared.runs.TheConstants.{MOST_WORDS}
 
 -- the run over a dump ends so
 abbrev pub EndsAs : {A : Type 0} → DumpBytes → Ending A → Type 0
 EndsAs dump ending = (visits : List Visit) × Ends (memory_of dump) visits (end_of ending)
 
 module _ (law : Undisturbed) (one_end : OneEnd) (F : List OpKind) (ram R : List ℕ) (n : ℕ) (draft : IsDraft F) (rom : IsRom R)
-    (closed : Closed F R) (holds : HoldsFrame ram H0 F) (bound : IsBound F R n) (few : n ≤ 65536) where
+    (closed : Closed F R) (holds : HoldsFrame ram H0 F) (bound : IsBound F R n) (few : n ≤ MOST_WORDS) where
   drawn : IsDrawn F R (fetched ram R)
   drawn = law H0 F ram R draft rom closed holds
 

@@ -37,6 +37,7 @@ use Rattle.dvg_dump.specs.Traces.{ran_of, trace}
 use Rattle.dvg_lay.specs.declared.time.Spent.{Spent}
 use Rattle.dvg_lay.specs.Times.{IsTimeOf, local_scale, nothing_spent, spent_by, told, with_one}
 use Rattle.dvg_lay.specs.Timing.{with_ran}
+use Rattle.dvg_dump.specs.declared.runs.TheConstants.{MOST_WORDS}
 
 -- a vector leaves the global scale as it was
 scale_stays : (spent : Spent) (before : Beam) (code : Instr)
@@ -147,7 +148,7 @@ module _ (law : AnyMemory) (F : List OpKind) (R : List ℕ) (n : ℕ) (draft : I
       → Runs memory words visits None → fate visits ≡ Finished → least_run.visits ≡ visits
   same_visits memory words visits has runs finished = (same_end (there memory has) least_run.finished runs finished).1
 
-  module _ (one_end : OneEnd) (few : n ≤ 65536) (ram : List ℕ) (holds : HoldsFrame ram H0 F) (dump : DumpBytes)
+  module _ (one_end : OneEnd) (few : n ≤ MOST_WORDS) (ram : List ℕ) (holds : HoldsFrame ram H0 F) (dump : DumpBytes)
       (ran : List Ran) (end : End) (is : dump ≡ record { ram = ram; rom = R })
       (told_run : TellsRun true (memory_of dump) ran end) where
     tells : TellsRun true (fetched ram R) ran end
@@ -160,7 +161,7 @@ module _ (law : AnyMemory) (F : List OpKind) (R : List ℕ) (n : ℕ) (draft : I
         ∙ ap (trace (fetched ram R)) (one_end.1 (fetched ram R) tells.0 least_run.visits end
         (Complete n (drawn_by least_run.visits)) tells.1 (halts (there (fetched ram R) has) few least_run.finished)).0
 
-    pub few_ran : length ran ≤ 65536
+    pub few_ran : length ran ≤ MOST_WORDS
     few_ran =
         let count = ap length recorded ∙ trace_length (fetched ram R) least_run.visits in
         let short = runs_length least_run.runs in

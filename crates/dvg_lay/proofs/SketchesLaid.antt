@@ -1,17 +1,17 @@
 -- From the sketch that was read to what is laid out of the input.
-use Rattle.std.proofs.Common.{◌≡◌, ◌<◌, ◌≤◌, ◌+◌, ◌∙◌, ⊎_elim, ℕ, List, [], ◌∷◌, All, ap, arith, length, map, refl, subst, sym, take}
+use Rattle.std.proofs.Common.{◌≡◌, ◌<◌, ◌≤◌, ◌+◌, ◌∙◌, ⊎_elim, ℕ, List, [], ◌∷◌, All, arith, length, map, refl, subst, sym, take}
 use Rattle.std.proofs.Common.{Result, Ok, Err, IfOk, IfErr}
 use Rattle.std.specs.List.{AllZip}
 use Rattle.std.proofs.lemmas.List.Elements.{All-cons, All-head, All-nil, All-tail}
 use Rattle.std.proofs.lemmas.Slice.Zip.{AllZip-long}
-use Rattle.dvg_named.specs.declared.fault.NamedFault.{NamedFault}
-use Rattle.dvg_named.specs.declared.fault.NamedFault.TheVariants.{TooLong, Syntax, Twice, Full, OutOfRom, Overlap, Unknown}
-use Rattle.dvg_named.specs.declared.fault.SketchFault.{SketchFault}
-use Rattle.dvg_named.specs.declared.fault.SketchFault.TheVariants as sketches
+use Rattle.dvg_read.specs.declared.fault.TextFault.{TextFault}
+use Rattle.dvg_read.specs.declared.fault.TextFault.TheVariants.{TooLong, Syntax, Full, NameGivenAgain, OutOfRom, Overlap, UnknownName}
+use Rattle.dvg_read.specs.declared.fault.Unread.{Unread}
+use Rattle.dvg_read.specs.declared.fault.Unread.TheVariants.{Text, Memory}
 use Rattle.dvg_named.specs.declared.meaning.NamedFrame.{NamedFrame}
 use Rattle.dvg_named.specs.declared.meaning.RomName.{RomName}
 use Rattle.dvg_named.specs.Meanings.{IsFrameOf}
-use Rattle.dvg_named.specs.NamedFaults.{HasNamedFault}
+use Rattle.dvg_named.specs.SketchFaults.{HasSketchFault}
 use Rattle.dvg_named.specs.OpSources.{IsDoneAt}
 use Rattle.dvg_named.specs.Places.{Laid}
 use Rattle.dvg_rows.specs.RowPlaces.{doings}
@@ -19,11 +19,9 @@ use Rattle.dvg_named.specs.ReadSketches.{IsSketchOf, StandsIn, as_frame, lent_of
 use Rattle.dvg_named.specs.Sections.{FrameRows}
 use Rattle.dvg_named.specs.TextReading.{StopsText}
 use Rattle.dvg_io.proofs.Inputs.{whole_or_long}
-use Rattle.dvg_io.specs.declared.fault.ToolFault.{ToolFault}
-use Rattle.dvg_io.specs.declared.fault.ToolFault.TheVariants.{Text, Reader, Writer, Memory}
 use Rattle.dvg_io.specs.Serving.{IsFinding}
 use Rattle.dvg_lay.specs.Refusals.{IsLent}
-use Rattle.dvg_lay.specs.Sketches.{HasSketchFault, text_fault, tool_fault}
+use Rattle.dvg_read.specs.declared.draft_text.TheConstants.{MOST_TEXT_BYTES}
 
 -- a frame of a sketch is as it is to be lent
 lent_frames : (small : List ℕ) (laid : List Laid) (rows : List FrameRows) (frames : List NamedFrame)
@@ -48,49 +46,38 @@ all_lent text R names frames is =
 
 -- ---- the fault of what was read is that of the input
 
-long_fault : (fault : NamedFault) (read input : List ℕ) → 1048576 < length read → 1048576 < length input → HasNamedFault read fault
-    → HasNamedFault input fault
+long_fault : (fault : TextFault) (read input : List ℕ) → MOST_TEXT_BYTES < length read → MOST_TEXT_BYTES < length input → HasSketchFault read fault
+    → HasSketchFault input fault
 long_fault TooLong read input long over has = over
 long_fault (Syntax n) read input long over has = let short = has.reaches.short in absurd (omega (arith, short, long))
-long_fault (Twice n) read input long over has = let short = has.reaches.short in absurd (omega (arith, short, long))
+long_fault (NameGivenAgain n) read input long over has = let short = has.reaches.short in absurd (omega (arith, short, long))
 long_fault (Full n) read input long over has = let short = has.reaches.short in absurd (omega (arith, short, long))
 long_fault (OutOfRom n) read input long over has = let short = has.reaches.short in absurd (omega (arith, short, long))
 long_fault (Overlap n) read input long over has = let short = has.reaches.short in absurd (omega (arith, short, long))
-long_fault (Unknown n) read input long over has = let short = has.0.short in absurd (omega (arith, short, long))
+long_fault (UnknownName n) read input long over has = let short = has.0.short in absurd (omega (arith, short, long))
+long_fault _ read input long over has = absurd has
 
-faulted : (fault : NamedFault) (read input : List ℕ) → read ≡ take (1048576 + 1) input → HasNamedFault read fault
-    → HasSketchFault input (text_fault fault)
-faulted fault read input e has = record {
-  named = fault;
-  described = refl;
-  has = ⊎_elim
-      (λ whole. subst (λ text. HasNamedFault text fault) whole has)
-      (λ long. long_fault fault read input long.0 long.1 has)
-      (whole_or_long 1048576 read input e);
-}
+faulted : (fault : TextFault) (read input : List ℕ) → read ≡ take (MOST_TEXT_BYTES + 1) input → HasSketchFault read fault
+    → HasSketchFault input fault
+faulted fault read input e has = ⊎_elim
+    (λ whole. subst (λ text. HasSketchFault text fault) whole has)
+    (λ long. long_fault fault read input long.0 long.1 has)
+    (whole_or_long MOST_TEXT_BYTES read input e)
 
 -- so is why no sketch was read
-unread_by : {F : Type 0} (Finds : F → Type 0) (fault : SketchFault) (read input : List ℕ) → read ≡ take (1048576 + 1) input
-    → StopsText fault read → IsFinding Finds (HasSketchFault input) (Err (tool_fault fault))
-unread_by Finds (sketches.Text fault) read input e stops = faulted fault read input e stops
-unread_by Finds sketches.Memory read input e stops = tt
-
-pub unread : {F : Type 0} (Out : List ℕ → F → Type 0) (answer : Result F ToolFault) (described : ToolFault) (fault : SketchFault) (read input : List ℕ)
-    → read ≡ take (1048576 + 1) input → described ≡ tool_fault fault → StopsText fault read → answer ≡ Err described
-    → IsFinding (Out input) (HasSketchFault input) answer
-unread Out answer described fault read input e is stops err =
-    subst (IsFinding (Out input) (HasSketchFault input)) (sym (err ∙ ap Err is)) (unread_by (Out input) fault read input e stops)
+pub unread : {F : Type 0} (Finds : F → Type 0) (stop : Unread) (read input : List ℕ) → read ≡ take (MOST_TEXT_BYTES + 1) input
+    → StopsText stop read → IsFinding Finds (HasSketchFault input) (Err stop)
+unread Finds (Text fault) read input e stops = faulted fault read input e stops
+unread Finds Memory read input e stops = tt
 
 -- so an answer of what was read is one of the input, where it comes of short texts alone
 pub found : {F : Type 0} (Sketch : List ℕ → Type 0) (Out : List ℕ → F → Type 0)
-    → ((text : List ℕ) (out : F) → Out text out → length text ≤ 1048576) → (answer : Result F ToolFault) (read input : List ℕ)
-    → read ≡ take (1048576 + 1) input → IfOk answer (λ out. (text : List ℕ) → Sketch text → Out text out)
-    → IfErr answer (λ fault. fault ≡ Memory) → Sketch read → IsFinding (Out input) (HasSketchFault input) answer
+    → ((text : List ℕ) (out : F) → Out text out → length text ≤ MOST_TEXT_BYTES) → (answer : Result F Unread) (read input : List ℕ)
+    → read ≡ take (MOST_TEXT_BYTES + 1) input → IfOk answer (λ out. (text : List ℕ) → Sketch text → Out text out)
+    → IfErr answer (λ stop. stop ≡ Memory) → Sketch read → IsFinding (Out input) (HasSketchFault input) answer
 found Sketch Out short (Ok out) read input e ok err is = ⊎_elim
     (λ whole. subst (λ text. Out text out) whole (ok read is))
     (λ long. let low = short read out (ok read is) in let over = long.0 in absurd (omega (arith, low, over)))
-    (whole_or_long 1048576 read input e)
+    (whole_or_long MOST_TEXT_BYTES read input e)
 found Sketch Out short (Err Memory) read input e ok err is = tt
 found Sketch Out short (Err (Text fault)) read input e ok err is = absurd cc
-found Sketch Out short (Err Reader) read input e ok err is = absurd cc
-found Sketch Out short (Err Writer) read input e ok err is = absurd cc

@@ -24,6 +24,7 @@ use Rattle.dvg_lay.specs.Drafts.{draft_line, draft_lines, given_lines, op_text, 
 use Rattle.dvg_lay.specs.Laws.{IsNumbered}
 use Rattle.dvg_lay.proofs.DraftsRead.{Begins, ReadsOps, draft_read}
 use Rattle.dvg_lay.proofs.RomRead.{Reads, rows_read}
+use Rattle.dvg_read.specs.declared.draft_text.TheConstants.{MOST_TEXT_BYTES}
 
 -- ---- how long the text is
 
@@ -122,7 +123,7 @@ module _ (R : List ℕ) (F : List OpKind) (rom : IsRom R) (draft : IsDraft F) (n
   ops_end : (ls : List (List ℕ)) → ls ++ lines [] ≡ ls
   ops_end ls = append-nil ls
 
-  short : (text front : List ℕ) → text ≡ front ++ (given_lines (first_word R) (words_of R) ++ draft_lines F) → length front ≤ 9 → length (words_of R) ≤ 2048 → length text ≤ 1048576
+  short : (text front : List ℕ) → text ≡ front ++ (given_lines (first_word R) (words_of R) ++ draft_lines F) → length front ≤ 9 → length (words_of R) ≤ 2048 → length text ≤ MOST_TEXT_BYTES
   short text front is few count =
       let rows = rows_length (first_word R) (words_of R) in
       let lines = draft_length F draft.ops numbered in

@@ -11,11 +11,12 @@ use Rattle.dvg_print.specs.Verdicts.{IsBoundedVerdict, bounded_line}
 use Rattle.dvg_named.specs.declared.meaning.NamedFrame.{NamedFrame}
 use Rattle.dvg_named.specs.declared.meaning.RomName.{RomName}
 use Rattle.dvg_named.specs.ReadSketches.{IsSketchOf, lent_of}
-use Rattle.dvg_lay.specs.Sketches.{HasSketchFault}
+use Rattle.dvg_named.specs.SketchFaults.{HasSketchFault}
 use Rattle.dvg_lay.specs.Times.{IsTimeOf, time_text}
 use Rattle.dvg_lay.specs.declared.time.PictureTime.{PictureTime}
 use Rattle.dvg_lay.specs.declared.verdicts.FrameVerdict.{FrameVerdict}
 use Rattle.dvg_lay.specs.declared.verdicts.Said.{Said}
+use Rattle.dvg_dump.specs.declared.runs.TheConstants.{MOST_WORDS}
 
 -- the verdict is that a frame is accepted
 abbrev pub SaysGood : BoundedVerdict → Type 0
@@ -51,8 +52,8 @@ said_lines _ _ = []
 
 -- the time of an accepted frame's picture is told where its run fetches at most 65,536 words, and no other one
 abbrev pub IsTimed : List OpKind → (R : List ℕ) → BoundedVerdict → Option PictureTime → Type 0
-IsTimed F R (Good words bound) (Some time) = (bound ≤ 65536) × IsTimeOf F R time
-IsTimed F R (Good words bound) None = 65536 < bound
+IsTimed F R (Good words bound) (Some time) = (bound ≤ MOST_WORDS) × IsTimeOf F R time
+IsTimed F R (Good words bound) None = MOST_WORDS < bound
 IsTimed F R (Refused fault) time = time ≡ None
 
 -- this is the verdict on the frame over a ROM, with its picture's time

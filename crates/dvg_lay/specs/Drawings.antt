@@ -8,13 +8,14 @@ use Rattle.dvg_named.specs.declared.meaning.RomName.{RomName}
 use Rattle.dvg_lay.specs.declared.refusal.Reason.TheVariants.{ManyWords}
 use Rattle.dvg_lay.specs.declared.refusal.Refusal.{Refusal}
 use Rattle.dvg_lay.specs.Refusals.{Blames, IsFirst, IsGood, TellsFault}
+use Rattle.dvg_dump.specs.declared.runs.TheConstants.{MOST_WORDS}
 
 -- the check accepts the frame over a ROM, and its picture has these strokes and at most 65,536 words
 pub record IsDrawnFrame (R : List ℕ) (frame : NamedFrame) (strokes : List Stroke) : Type 0 where
   pub good : IsGood R frame
   pub words : ℕ
   pub picture : IsPicture frame.ops.now R strokes words
-  pub few : words ≤ 65536
+  pub few : words ≤ MOST_WORDS
 
 -- the frame can be drawn
 abbrev pub CanBeDrawn : (R : List ℕ) → NamedFrame → Type 0
@@ -27,7 +28,7 @@ pub record TellsLong {A : Type 0} (R : List ℕ) (names : List RomName)
     pub good : IsGood R frame
     pub words : ℕ
     pub bound : IsBound frame.ops.now R words
-    pub many : 65536 < words
+    pub many : MOST_WORDS < words
     pub reason : described.reason ≡ ManyWords words
     pub blames : Blames names frame (InFrame 0) described.blamed
 

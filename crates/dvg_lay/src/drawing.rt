@@ -4,30 +4,30 @@ ghost use Rattle.dvg_io.specs.Faults.{ComesBeforeText};
 ghost use Rattle.dvg_io.specs.Serving.{AreFresh, Serves};
 ghost use Rattle.dvg_io.specs.Watching.{Writes};
 ghost use Rattle.dvg_named.specs.ReadSketches.{AreInside, IsReadOf};
-ghost use Rattle.dvg_lay.specs.Sketches.{HasSketchFault};
+ghost use Rattle.dvg_named.specs.SketchFaults.{HasSketchFault};
 ghost use Rattle.dvg_lay.specs.DrawnSketches.{Draws, DrawsOut, shown};
+ghost use Rattle.dvg_read.specs.declared.draft_text.TheConstants.{MOST_TEXT_BYTES};
 
 use crate::drawn::Drawn;
-use crate::engine::tool_fault;
 use crate::frames::draw_frames;
 use crate::refusal::Unlaid;
 use dvg_io::{Engine, StreamFailed, ToolFault, Watched, serve};
 use dvg_named::{Sketch, read_sketch};
-use dvg_read::MOST_TEXT_BYTES;
+use dvg_read::{MOST_TEXT_BYTES, Unread};
 use dvg_svg::{Show, write_svgs};
 use std::alloc::Allocator;
 use std::io::{Read, Write};
 
 // Draws `sketch`, which was read. Returns `Memory` where an allocation fails.
-fn draw_read<A: Allocator + Copy>(alloc: A, sketch: &Sketch<'_, A>) -> Result<Drawn<A>, ToolFault>
+fn draw_read<A: Allocator + Copy>(alloc: A, sketch: &Sketch<'_, A>) -> Result<Drawn<A>, Unread>
     requires inside { AreInside sketch.now }
     requires read { (text : List ℕ) × IsReadOf text sketch.now }
     ensures drawn { IfOk result (λ drawn. (text : List ℕ) → IsReadOf text sketch.now
         → DrawsOut text drawn) }
-    ensures fault { IfErr result (λ fault. fault ≡ ToolFault.Memory) }
+    ensures fault { IfErr result (λ fault. fault ≡ Unread.Memory) }
 {
     let Ok(frames) = sketch.frames(alloc) else {
-        return Err(ToolFault::Memory);
+        return Err(Unread::Memory);
     };
     match draw_frames(
         alloc,
@@ -37,7 +37,7 @@ fn draw_read<A: Allocator + Copy>(alloc: A, sketch: &Sketch<'_, A>) -> Result<Dr
     ) {
         Ok(pictures) => Ok(Drawn::Pictures(pictures)),
         Err(Unlaid::Refused(refusal)) => Ok(Drawn::Refused(refusal)),
-        Err(Unlaid::Memory) => Err(ToolFault::Memory),
+        Err(Unlaid::Memory) => Err(Unread::Memory),
     }
 }
 
@@ -52,7 +52,7 @@ impl<A: Allocator + Copy> Engine<A> for DrawEngine {
 
     const MOST: u32 = MOST_TEXT_BYTES as u32;
 
-    ghost MOST = { 1048576 };
+    ghost MOST = { MOST_TEXT_BYTES };
 
     ghost Finds = { λ engine. DrawsOut };
 
@@ -60,13 +60,13 @@ impl<A: Allocator + Copy> Engine<A> for DrawEngine {
 
     ghost text = { λ engine. shown engine.show };
 
-    fn find(&self, alloc: A, read: &[u8]) -> Result<Drawn<A>, ToolFault> {
+    fn find(&self, alloc: A, read: &[u8]) -> Result<Drawn<A>, Unread> {
         let Ok(small) = read.to_ascii_lowercase(alloc) else {
-            return Err(ToolFault::Memory);
+            return Err(Unread::Memory);
         };
         match read_sketch(alloc, small.as_slice()) {
             Ok(sketch) => draw_read(alloc, &sketch),
-            Err(fault) => Err(tool_fault(fault)),
+            Err(stop) => Err(stop),
         }
     }
 
@@ -102,7 +102,7 @@ pub fn draw_sketch<A: Allocator + Copy, R: Read, W: Write>(
     show: Show,
 ) -> Result<Drawn<A>, ToolFault>
     requires fresh { AreFresh reader.old writer.old }
-    ensures { Serves R.remaining W.contents 1048577 ComesBeforeText (Draws show)
+    ensures { Serves R.remaining W.contents MOST_TEXT_BYTES ComesBeforeText (Draws show)
         result reader.old reader.new writer.old writer.new }
 {
     serve(&DrawEngine { show }, alloc, reader, writer)

@@ -4,59 +4,35 @@ ghost use Rattle.dvg_io.specs.Faults.{ComesBeforeText};
 ghost use Rattle.dvg_io.specs.Serving.{AreFresh, IsFinding, OfInput, Serves};
 ghost use Rattle.dvg_named.specs.ReadSketches.{AreInside, IsReadOf};
 ghost use Rattle.dvg_lay.specs.Forms.{shown};
-ghost use Rattle.dvg_lay.specs.Sketches as spec;
-ghost use Rattle.dvg_lay.specs.Sketches.{HasSketchFault, Lays, LaysOut};
+ghost use Rattle.dvg_lay.specs.Sketches.{Lays, LaysOut};
+ghost use Rattle.dvg_named.specs.SketchFaults.{HasSketchFault};
+ghost use Rattle.dvg_read.specs.declared.draft_text.TheConstants.{MOST_TEXT_BYTES};
 
 use crate::form::{Form, Laid, lay};
 use dvg_io::{Engine, StreamFailed, ToolFault, Watched, serve, write_lines, write_whole};
 use dvg_mem::Rom;
-use dvg_named::{NamedFault, Sketch, SketchFault, read_sketch};
-use dvg_read::{MOST_TEXT_BYTES, TextFault};
+use dvg_named::{Sketch, read_sketch};
+use dvg_read::{MOST_TEXT_BYTES, Unread};
 use std::alloc::Allocator;
 use std::io::{Read, Write};
-
-// Returns `fault`, which is of a sketch, as a fault of a text.
-fn text_fault(fault: NamedFault) -> TextFault
-    ensures { result ≡ spec.text_fault fault }
-{
-    match fault {
-        NamedFault::TooLong => TextFault::TooLong,
-        NamedFault::Syntax(number) => TextFault::Syntax(number),
-        NamedFault::Twice(number) => TextFault::NameGivenAgain(number),
-        NamedFault::Full(number) => TextFault::Full(number),
-        NamedFault::OutOfRom(number) => TextFault::OutOfRom(number),
-        NamedFault::Overlap(number) => TextFault::Overlap(number),
-        NamedFault::Unknown(number) => TextFault::UnknownName(number),
-    }
-}
-
-/// Returns `fault`, by which a sketch isn't read, as a fault of the program.
-pub(crate) fn tool_fault(fault: SketchFault) -> ToolFault
-    ensures { result ≡ spec.tool_fault fault }
-{
-    match fault {
-        SketchFault::Text(fault) => ToolFault::Text(text_fault(fault)),
-        SketchFault::Memory => ToolFault::Memory,
-    }
-}
 
 // Lays out `sketch`, which was read, in this `form`. Returns `Memory` where an allocation fails.
 fn lay_read<A: Allocator + Copy>(
     alloc: A,
     sketch: &Sketch<'_, A>,
     form: Form,
-) -> Result<Laid<A>, ToolFault>
+) -> Result<Laid<A>, Unread>
     requires inside { AreInside sketch.now }
     requires read { (text : List ℕ) × IsReadOf text sketch.now }
     ensures laid { IfOk result (λ laid. (text : List ℕ) → IsReadOf text sketch.now
         → LaysOut form text laid) }
-    ensures fault { IfErr result (λ fault. fault ≡ ToolFault.Memory) }
+    ensures fault { IfErr result (λ fault. fault ≡ Unread.Memory) }
 {
     let Ok(rom) = Rom::new(alloc, sketch.rom.as_slice()) else {
-        return Err(ToolFault::Memory);
+        return Err(Unread::Memory);
     };
     let Ok(frames) = sketch.frames(alloc) else {
-        return Err(ToolFault::Memory);
+        return Err(Unread::Memory);
     };
     match lay(
         alloc,
@@ -66,7 +42,7 @@ fn lay_read<A: Allocator + Copy>(
         form,
     ) {
         Ok(laid) => Ok(laid),
-        Err(_) => Err(ToolFault::Memory),
+        Err(_) => Err(Unread::Memory),
     }
 }
 
@@ -81,7 +57,7 @@ impl<A: Allocator + Copy> Engine<A> for LayEngine {
 
     const MOST: u32 = MOST_TEXT_BYTES as u32;
 
-    ghost MOST = { 1048576 };
+    ghost MOST = { MOST_TEXT_BYTES };
 
     ghost Finds = { λ engine. LaysOut engine.form };
 
@@ -89,13 +65,13 @@ impl<A: Allocator + Copy> Engine<A> for LayEngine {
 
     ghost text = { λ engine. shown };
 
-    fn find(&self, alloc: A, read: &[u8]) -> Result<Laid<A>, ToolFault> {
+    fn find(&self, alloc: A, read: &[u8]) -> Result<Laid<A>, Unread> {
         let Ok(small) = read.to_ascii_lowercase(alloc) else {
-            return Err(ToolFault::Memory);
+            return Err(Unread::Memory);
         };
         match read_sketch(alloc, small.as_slice()) {
             Ok(sketch) => lay_read(alloc, &sketch, self.form),
-            Err(fault) => Err(tool_fault(fault)),
+            Err(stop) => Err(stop),
         }
     }
 
@@ -127,7 +103,7 @@ pub fn lay_sketch<A: Allocator + Copy, R: Read, W: Write>(
     form: Form,
 ) -> Result<Laid<A>, ToolFault>
     requires fresh { AreFresh reader.old writer.old }
-    ensures { Serves R.remaining W.contents 1048577 ComesBeforeText (Lays form)
+    ensures { Serves R.remaining W.contents MOST_TEXT_BYTES ComesBeforeText (Lays form)
         result reader.old reader.new writer.old writer.new }
 {
     serve(&LayEngine { form }, alloc, reader, writer)

@@ -3,6 +3,7 @@ ghost use Rattle.std.specs.Prelude.{◌≤◌, IfOk};
 ghost use Rattle.dvg_frame.specs.Faults.{Accepts};
 ghost use Rattle.dvg_frame.specs.Picture.{IsBound, IsPicture};
 ghost use Rattle.dvg_lay.specs.Times.{IsTimeOf};
+ghost use Rattle.dvg_dump.specs.declared.runs.TheConstants.{MOST_WORDS};
 
 use crate::memory::laid_ram;
 use crate::time::{PictureTime, time_by};
@@ -24,7 +25,7 @@ pub(crate) fn picture_of<A: Allocator + Copy>(
 ) -> Result<Vec<Stroke, A>, OutOfMemory>
     requires accepts { Accepts frame.now.operations rom }
     requires bound { IsBound frame.now.operations rom frame.now.bound }
-    requires few { frame.now.bound ≤ 65536 }
+    requires few { frame.now.bound ≤ MOST_WORDS }
     ensures { IfOk result (λ strokes.
         IsPicture frame.now.operations rom strokes.items frame.now.bound) }
 {
@@ -49,7 +50,7 @@ pub(crate) fn time_of<A: Allocator + Copy>(
 ) -> Result<PictureTime, OutOfMemory>
     requires accepts { Accepts frame.now.operations rom }
     requires bound { IsBound frame.now.operations rom frame.now.bound }
-    requires few { frame.now.bound ≤ 65536 }
+    requires few { frame.now.bound ≤ MOST_WORDS }
     ensures { IfOk result (IsTimeOf frame.now.operations rom) }
 {
     undisturbed();

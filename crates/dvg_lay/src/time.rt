@@ -2,6 +2,7 @@
 ghost use Rattle.std.specs.Prelude.{◌≡◌, ◌+◌, ◌*◌, ◌<◌, ◌≤◌, ◌++◌, IfSome, OnOk, fold, length};
 ghost use Rattle.dvg_lay.specs.Times.{local_scale, nothing_spent, time_text, told, vector_parts};
 ghost use Rattle.dvg_lay.specs.Timing.{with_ran};
+ghost use Rattle.dvg_dump.specs.declared.runs.TheConstants.{MOST_WORDS};
 
 use crate::text::{put, put_decimal};
 use dvg_code::{Code, Instr};
@@ -61,9 +62,9 @@ fn vector_parts(scales: u8) -> u64
 impl Spent {
     // Adds the instruction `ran`.
     fn add(&mut self, ran: &Ran)
-        requires vectors { self.old.vectors < 65536 }
-        requires others { self.old.others < 65536 }
-        requires parts { self.old.parts ≤ 128756 * 65536 }
+        requires vectors { self.old.vectors < MOST_WORDS }
+        requires others { self.old.others < MOST_WORDS }
+        requires parts { self.old.parts ≤ 128756 * MOST_WORDS }
         ensures added { self.new ≡ with_ran self.old ran.now }
         ensures vectors { self.new.vectors ≤ self.old.vectors + 1 }
         ensures others { self.new.others ≤ self.old.others + 1 }
@@ -83,7 +84,7 @@ impl Spent {
 
     // Returns what is told of it. The half of a microsecond is no whole number of parts.
     fn told(self) -> PictureTime
-        requires { self.parts ≤ 128756 * 65536 }
+        requires { self.parts ≤ 128756 * MOST_WORDS }
         ensures { result ≡ told self }
     {
         PictureTime {
@@ -96,7 +97,7 @@ impl Spent {
 
 /// Returns how long the instructions `ran`, at most 65,536, take together.
 pub(crate) fn time_by(ran: &[Ran]) -> PictureTime
-    requires { length ran.now ≤ 65536 }
+    requires { length ran.now ≤ MOST_WORDS }
     ensures { result ≡ told (fold with_ran nothing_spent ran.now) }
 {
     let mut spent = Spent {

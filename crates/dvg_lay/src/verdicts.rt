@@ -5,11 +5,11 @@ ghost use Rattle.dvg_io.specs.Faults.{ComesBeforeText};
 ghost use Rattle.dvg_io.specs.Serving.{AreFresh, Serves};
 ghost use Rattle.dvg_named.specs.ReadSketches.{AreInside, IsReadOf};
 ghost use Rattle.dvg_lay.specs.Refusals.{IsLent};
-ghost use Rattle.dvg_lay.specs.Sketches.{HasSketchFault};
+ghost use Rattle.dvg_named.specs.SketchFaults.{HasSketchFault};
 ghost use Rattle.dvg_lay.specs.Checks.{ChecksFrames, ChecksOut, ChecksSketch};
 ghost use Rattle.dvg_lay.specs.Checks.{IsGoodVerdict, IsVerdictOn, said_line};
+ghost use Rattle.dvg_read.specs.declared.draft_text.TheConstants.{MOST_TEXT_BYTES};
 
-use crate::engine::tool_fault;
 use crate::picture::time_of;
 use crate::text::put;
 use crate::time::{PictureTime, put_time};
@@ -20,7 +20,7 @@ use dvg_io::{Engine, StreamFailed, ToolFault, Watched, serve, write_lines};
 use dvg_mem::Rom;
 use dvg_named::{NamedFrame, Sketch, read_sketch};
 use dvg_print::{BoundedVerdict, Line};
-use dvg_read::MOST_TEXT_BYTES;
+use dvg_read::{MOST_TEXT_BYTES, Unread};
 use std::alloc::{AllocError, Allocator, Global};
 use std::io::{Read, Write};
 
@@ -136,19 +136,19 @@ fn check_frames<A: Allocator + Copy>(
 }
 
 // Checks the frames of `sketch`, which was read. Returns `Memory` where an allocation fails.
-fn check_read<A: Allocator + Copy>(alloc: A, sketch: &Sketch<'_, A>) -> Result<Said<A>, ToolFault>
+fn check_read<A: Allocator + Copy>(alloc: A, sketch: &Sketch<'_, A>) -> Result<Said<A>, Unread>
     requires inside { AreInside sketch.now }
     requires read { (text : List ℕ) × IsReadOf text sketch.now }
     ensures said { IfOk result (λ said. (text : List ℕ) → IsReadOf text sketch.now
         → ChecksOut text said) }
-    ensures fault { IfErr result (λ fault. fault ≡ ToolFault.Memory) }
+    ensures fault { IfErr result (λ fault. fault ≡ Unread.Memory) }
 {
     let Ok(frames) = sketch.frames(alloc) else {
-        return Err(ToolFault::Memory);
+        return Err(Unread::Memory);
     };
     match check_frames(alloc, sketch.rom.as_slice(), frames.as_slice()) {
         Ok(said) => Ok(said),
-        Err(_) => Err(ToolFault::Memory),
+        Err(_) => Err(Unread::Memory),
     }
 }
 
@@ -161,7 +161,7 @@ impl<A: Allocator + Copy> Engine<A> for CheckEngine {
 
     const MOST: u32 = MOST_TEXT_BYTES as u32;
 
-    ghost MOST = { 1048576 };
+    ghost MOST = { MOST_TEXT_BYTES };
 
     ghost Finds = { λ engine. ChecksOut };
 
@@ -169,13 +169,13 @@ impl<A: Allocator + Copy> Engine<A> for CheckEngine {
 
     ghost text = { λ engine said. said.text.items };
 
-    fn find(&self, alloc: A, read: &[u8]) -> Result<Said<A>, ToolFault> {
+    fn find(&self, alloc: A, read: &[u8]) -> Result<Said<A>, Unread> {
         let Ok(small) = read.to_ascii_lowercase(alloc) else {
-            return Err(ToolFault::Memory);
+            return Err(Unread::Memory);
         };
         match read_sketch(alloc, small.as_slice()) {
             Ok(sketch) => check_read(alloc, &sketch),
-            Err(fault) => Err(tool_fault(fault)),
+            Err(stop) => Err(stop),
         }
     }
 
@@ -205,7 +205,7 @@ pub fn check_sketch<A: Allocator + Copy, R: Read, W: Write>(
     writer: &mut Watched<W>,
 ) -> Result<Said<A>, ToolFault>
     requires fresh { AreFresh reader.old writer.old }
-    ensures { Serves R.remaining W.contents 1048577 ComesBeforeText ChecksSketch
+    ensures { Serves R.remaining W.contents MOST_TEXT_BYTES ComesBeforeText ChecksSketch
         result reader.old reader.new writer.old writer.new }
 {
     serve(&CheckEngine, alloc, reader, writer)

@@ -11,13 +11,13 @@ use Rattle.dvg_rows.specs.declared.row.Doing as held_doing
 use Rattle.dvg_rows.specs.declared.row.Row as held
 use Rattle.dvg_rows.specs.HeldRows.{rows_of}
 use Rattle.dvg_named.specs.Meanings.{IsDrafted}
-use Rattle.dvg_named.specs.NamedFaults.{IsUngiven}
+use Rattle.dvg_named.specs.SketchFaults.{IsUngiven}
 use Rattle.dvg_named.specs.Places.{Laid}
 use Rattle.dvg_rows.specs.RowPlaces.{IsNumber, doings}
 use Rattle.dvg_rows.specs.RowValues.{doing_of, doing_of_some, row_of}
 use Rattle.dvg_rows.specs.Rows.{Doing, Row, plainly, calls, jumps, calls_rom, jumps_rom}
 use Rattle.dvg_named.specs.Sections.{Section}
-use Rattle.dvg_named.specs.Ungiven.{IsFirstUngiven, WantsAt, framed}
+use Rattle.dvg_named.specs.Ungiven.{WantsAt, framed}
 
 -- what stands at a place of a list stands there in the same list by another name
 pub low_in : {X : Type 0} {xs ys : List X} (i : ℕ) → xs ≡ ys → i < length xs → i < length ys
@@ -73,33 +73,16 @@ module _ (rows : List held.Row) (i : ℕ) (row : held.Row) (low : i < length row
       let same : h.row ≡ row_of row = cc in
       known h.doing (ap doing_in (sym same) ∙ h.does) h.ungiven
 
-  pub does_nothing : (laid : List Laid) (section : Section) → section.rows ≡ rows_of rows → row.doing ≡ None
-      → ¬ WantsAt laid section i
-  does_nothing laid section of_rows none = wants_none laid section of_rows (λ doing does ungiven.
-      none_is doing (ap doing_of_some (sym none) ∙ does))
-    where
-      none_is : (doing : Doing) → None ≡ Some doing → ⊥
-      none_is doing e = cc
-
-  pub does_known : (laid : List Laid) (section : Section) → section.rows ≡ rows_of rows → (doing : held_doing.Doing)
-      → row.doing ≡ Some doing → (IsUngiven laid section (doing_of doing) → ⊥) → ¬ WantsAt laid section i
-  does_known laid section of_rows doing does known = wants_none laid section of_rows (λ other is_other ungiven.
-      let both : Some (doing_of doing) ≡ Some other = ap doing_of_some (sym does) ∙ is_other in
-      let same : other ≡ doing_of doing = cc in
-      known (subst (IsUngiven laid section) same ungiven))
-
-  pub first_ungiven : (laid : List Laid) (section : Section) → section.rows ≡ rows_of rows
+  -- the row wants a name that isn't given
+  pub wants_here : (laid : List Laid) (section : Section) → section.rows ≡ rows_of rows
       → (doing : held_doing.Doing) → row.doing ≡ Some doing → IsUngiven laid section (doing_of doing)
-      → ((earlier : ℕ) → earlier < i → ¬ WantsAt laid section earlier) → IsFirstUngiven laid section i
-  first_ungiven laid section of_rows doing does ungiven before = record {
-    wants = record {
-      row = row_of row;
-      stands = ap (λ rows. slice_get rows i) of_rows ∙ stands_at;
-      doing = doing_of doing;
-      does = ap doing_of_some does;
-      ungiven = ungiven;
-    };
-    first = before;
+      → WantsAt laid section i
+  wants_here laid section of_rows doing does ungiven = record {
+    row = row_of row;
+    stands = ap (λ rows. slice_get rows i) of_rows ∙ stands_at;
+    doing = doing_of doing;
+    does = ap doing_of_some does;
+    ungiven = ungiven;
   }
 
 -- a row that is drafted wants no name that isn't given

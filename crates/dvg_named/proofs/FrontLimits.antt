@@ -6,7 +6,7 @@ use Rattle.std.specs.List.{filter_map, flat_map}
 use Rattle.std.specs.Option.{option_to_list}
 use Rattle.dvg_read.specs.RomTexts.{RomText}
 use Rattle.dvg_read.proofs.Steps.{Leads, here, on}
-use Rattle.dvg_named.specs.NamedFaults.{KeepsLimits, LiesOn}
+use Rattle.dvg_named.specs.SketchFaults.{KeepsLimits, LiesOn}
 use Rattle.dvg_rows.specs.RowPlaces.{AreDistinct, names_of}
 use Rattle.dvg_named.specs.Places.{Laid}
 use Rattle.dvg_rows.specs.RowPlaces.{doings, size}

@@ -11,7 +11,7 @@ use Rattle.dvg_frame.specs.declared.op.OpKind.TheVariants as kinds
 use Rattle.dvg_read.specs.RomTexts.{RomLine, RomText}
 use Rattle.dvg_named.specs.FirstUnknown.{WantsNone}
 use Rattle.dvg_named.specs.Meanings.{Frame, IsDrafted, IsEncoded, IsFrameOf, IsGiven, IsMeant}
-use Rattle.dvg_named.specs.NamedFaults.{IsUngiven, laid_of}
+use Rattle.dvg_named.specs.SketchFaults.{IsUngiven, laid_of}
 use Rattle.dvg_named.specs.Places.{Laid}
 use Rattle.dvg_rows.specs.RowPlaces.{doings}
 use Rattle.dvg_named.specs.RomBytes.{MayBeEncoded, MayStandInRom}

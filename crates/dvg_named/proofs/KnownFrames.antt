@@ -7,17 +7,15 @@ use Rattle.std.specs.List.{AllZip, cons_option, filter_map}
 use Rattle.dvg_frame.specs.declared.op.OpKind.{OpKind}
 use Rattle.dvg_named.specs.declared.frame_rows.FrameRows as held
 use Rattle.dvg_named.specs.declared.flat_draft.DraftFault.{DraftFault}
-use Rattle.dvg_named.specs.declared.flat_draft.DraftFault.TheVariants.{Memory, Ungiven}
+use Rattle.dvg_named.specs.declared.flat_draft.DraftFault.TheVariants.{Memory, UnknownName}
 use Rattle.dvg_named.specs.declared.joining.FrameSpan.{FrameSpan}
-use Rattle.dvg_named.specs.declared.laid.LaidRows as held_laid
 use Rattle.dvg_named.specs.declared.reading.Reading.{Reading}
 use Rattle.dvg_named.specs.FlatDrafts.{StopsDraft}
-use Rattle.dvg_named.specs.LaidValues.{laid_sections}
 use Rattle.dvg_named.specs.FirstUnknown.{StopsDrafts, WantsNone, sections_in}
-use Rattle.dvg_named.specs.FlatFrames.{IsSpanOf, KnowsNames, StopsFrame, StopsFrames, frame_at}
+use Rattle.dvg_named.specs.FlatFrames.{IsSpanOf, KnowsNames, StopsFrames, frame_at}
 use Rattle.dvg_named.specs.FrameValues.{frame_held, frame_in, frames_of}
 use Rattle.dvg_named.specs.Meanings.{IsFrameOf}
-use Rattle.dvg_named.specs.NamedFaults.{IsUngiven}
+use Rattle.dvg_named.specs.SketchFaults.{IsUngiven}
 use Rattle.dvg_named.specs.Places.{Laid}
 use Rattle.dvg_rows.specs.Rows.{Doing, Head, Row, calls, calls_rom, frame, jumps, jumps_rom, plainly, rom, top}
 use Rattle.dvg_named.specs.Sections.{FrameRows, Section, Spelled, frames, sections, top_frame}
@@ -94,14 +92,9 @@ pub ok_then : {X E : Type 0} (r : Result X E) {P : Type 0} → is_err r ≡ fals
 ok_then (Ok x) ok h = h
 ok_then (Err e) ok h = absurd cc
 
-pub frame_stops : (sections : List held_laid.LaidRows) (found : held.FrameRows) (fault : DraftFault)
-    → StopsDraft sections found.rows.now fault → StopsFrame (laid_sections sections) found fault
-frame_stops sections found (Ungiven place) h = λ known. known place h.wants
-frame_stops sections found Memory h = tt
-
 pub frames_stop : (laid : List Laid) (all : List held.FrameRows) (i : ℕ) (found : held.FrameRows) → i < length all
-    → found ≡ get_or all i found → (fault : DraftFault) → StopsFrame laid found fault → StopsFrames laid all fault
-frames_stop laid all i found low is (Ungiven place) h =
+    → found ≡ get_or all i found → (fault : DraftFault) → StopsDraft laid found.rows.now fault → StopsFrames laid all fault
+frames_stop laid all i found low is UnknownName h =
     λ known. h (subst (KnowsNames laid) (sym is) (known i found low))
 frames_stop laid all i found low is Memory h = tt
 
@@ -109,5 +102,5 @@ frames_stop laid all i found low is Memory h = tt
 pub drafts_stop : {A : Type 0} (laid : List Laid) (reading : Reading A) (all : List held.FrameRows) (fault : DraftFault)
     → (All (WantsNone laid) (sections_in reading) → All (KnowsNames laid) all) → StopsFrames laid all fault
     → StopsDrafts laid reading fault
-drafts_stop laid reading all (Ungiven place) known h = λ none. h (known none)
+drafts_stop laid reading all UnknownName known h = λ none. h (known none)
 drafts_stop laid reading all Memory known h = tt

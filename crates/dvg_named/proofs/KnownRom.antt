@@ -1,18 +1,16 @@
 -- Where each name that a section wants is given, no row of the ROM wants one that isn't.
-use Rattle.std.proofs.Common.{◌≡◌, ◌+◌, ℕ, List, [], ◌∷◌, sym, subst, All, Some, Option, slice_get, max, unwrap_or}
+use Rattle.std.proofs.Common.{◌≡◌, ◌+◌, ℕ, List, [], ◌∷◌, sym, subst, All, Option, max, unwrap_or}
 use Rattle.std.proofs.lemmas.List.Elements.{All-cons, All-head, All-nil, All-tail}
-use Rattle.std.proofs.lemmas.Option.{get_or_from_slice_get, slice_get_within}
 use Rattle.std.specs.List.{cons_option, filter_map}
 use Rattle.dvg_named.specs.declared.laid.LaidRows as held_laid
 use Rattle.dvg_named.specs.declared.reading.Reading.{Reading}
-use Rattle.dvg_named.specs.declared.rom_words.RomRow.{RomRow}
 use Rattle.dvg_named.specs.FirstUnknown.{WantsNone, sections_in}
 use Rattle.dvg_named.specs.GivenRoms.{IsLaidText}
 use Rattle.dvg_named.specs.LaidValues.{laid_sections}
-use Rattle.dvg_named.specs.NamedFaults.{IsUngiven}
+use Rattle.dvg_named.specs.SketchFaults.{IsUngiven}
 use Rattle.dvg_named.specs.Places.{Laid, laid_from}
 use Rattle.dvg_rows.specs.RowPlaces.{size}
-use Rattle.dvg_named.specs.RomBytes.{IsFirstInRom}
+use Rattle.dvg_named.specs.RomBytes.{KnowsRom}
 use Rattle.dvg_named.specs.RomParts.{rom_in}
 use Rattle.dvg_rows.specs.Rows.{Doing, Head, Row, calls, calls_rom, frame, jumps, jumps_rom, plainly, rom, top}
 use Rattle.dvg_named.specs.Sections.{RomRows, Section, rom_sections}
@@ -63,19 +61,13 @@ module _ (laid : List Laid) where
       All-cons LaidKnows (record { start = start; rows = section.rows }) (laid_from next roms)
       (All-head Knows section roms all) (laid_known roms next (All-tail Knows section roms all))
 
--- an item that stands in a list
-at_place : {X : Type 0} (P : X → Type 0) (xs : List X) (i : ℕ) (x : X) → slice_get xs i ≡ Some x → All P xs → P x
-at_place P xs i x is all =
-    subst P (get_or_from_slice_get xs i x x is) (all i x (slice_get_within xs i x is))
-
-pub none_first : {A : Type 0} (reading : Reading A) (laid : List held_laid.LaidRows) (found : RomRow) → IsLaidText reading laid
-    → IsFirstInRom (laid_sections laid) found → ¬ All (WantsNone (laid_sections laid)) (sections_in reading)
-none_first reading laid found h first all =
+pub none_unknown : {A : Type 0} (reading : Reading A) (laid : List held_laid.LaidRows) → IsLaidText reading laid
+    → All (WantsNone (laid_sections laid)) (sections_in reading) → KnowsRom (laid_sections laid)
+none_unknown reading laid h all =
     let sketch = spelled_in h.reads.rom reading in
     let ls = laid_sections laid in
     let known = subst (All (WantsNone ls))
     (sym (sections_are h.reads.rom reading.closed.items reading.last h.reads.numbered.top)) all in
-    let in_laid = subst (All (LaidKnows ls)) (sym h.are)
+    subst (All (LaidKnows ls)) (sym h.are)
     (laid_known ls (rom_sections sketch) _
-    (rom_known ls sketch.others (All-tail (WantsNone ls) (framed sketch.first) sketch.others known))) in
-    at_place (LaidKnows ls) ls found.section first.section first.stands in_laid found.row first.row.wants
+    (rom_known ls sketch.others (All-tail (WantsNone ls) (framed sketch.first) sketch.others known)))

@@ -6,7 +6,7 @@ use Rattle.std.proofs.lemmas.List.{get_or_append_left, get_or_default}
 use Rattle.std.proofs.lemmas.List.Quantifiers.{Any-push, all_pairs_push}
 use Rattle.std.proofs.Math.Seq.{get_or-append_seam}
 use Rattle.std.specs.List.{AllPairs}
-use Rattle.dvg_named.specs.NamedFaults.{LiesOn}
+use Rattle.dvg_named.specs.SketchFaults.{LiesOn}
 use Rattle.dvg_named.specs.Places.{Laid, laid_end, laid_from}
 use Rattle.dvg_rows.specs.RowPlaces.{size}
 use Rattle.dvg_named.specs.ReadParts.{free_from}

@@ -2,7 +2,7 @@
 use Rattle.std.proofs.Common.{◌≡◌, ◌∙◌, ℕ, List, [], ◌∷◌, ◌++◌, length, ap, append_assoc, arith, false, not, refl, subst, sym}
 use Rattle.std.proofs.lemmas.List.Elements.{filter-append}
 use Rattle.dvg_read.specs.Texts.{is_passed, unpassed}
-use Rattle.dvg_named.specs.NamedFaults.{DraftsFit, GivesOnce, IsFineSketch, KeepsLimits, LieApart, Meets, MeetsNothing, ReachesLine, RomFits}
+use Rattle.dvg_named.specs.SketchFaults.{DraftsFit, GivesOnce, IsFineSketch, KeepsLimits, LieApart, Meets, MeetsNothing, ReachesLine, RomFits}
 use Rattle.dvg_rows.specs.PlainLines.{plain_lines}
 use Rattle.dvg_named.specs.Sections.{Spelled, SpellsSketch}
 use Rattle.dvg_named.proofs.FrontLimits.{limits_front}

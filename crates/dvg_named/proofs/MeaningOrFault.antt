@@ -8,11 +8,11 @@ use Rattle.dvg_read.specs.RomReading.{unstated}
 use Rattle.dvg_read.specs.RomTexts.{RomText}
 use Rattle.dvg_read.specs.Texts.{is_passed, unpassed}
 use Rattle.dvg_read.proofs.ReadTo.{unpassed_more, unpassed_one}
-use Rattle.dvg_named.specs.declared.fault.NamedFault.{NamedFault}
-use Rattle.dvg_named.specs.declared.fault.NamedFault.TheVariants.{Full, OutOfRom, Overlap, Syntax, TooLong, Twice, Unknown}
+use Rattle.dvg_read.specs.declared.fault.TextFault.{TextFault}
+use Rattle.dvg_read.specs.declared.fault.TextFault.TheVariants.{Full, OutOfRom, Overlap, Syntax, TooLong, NameGivenAgain, UnknownName}
 use Rattle.dvg_named.specs.FirstUnknown.{WantsNone}
 use Rattle.dvg_named.specs.Meanings.{Frame}
-use Rattle.dvg_named.specs.NamedFaults.{DenotesFrames, HasNamedFault, KeepsLimits, Meets, ReachesLine, WantsUngiven, laid_of}
+use Rattle.dvg_named.specs.SketchFaults.{DenotesFrames, HasSketchFault, KeepsLimits, Meets, ReachesLine, WantsUngiven, laid_of}
 use Rattle.dvg_rows.specs.PlainLines.{plain_lines}
 use Rattle.dvg_rows.specs.Rows.{Row}
 use Rattle.dvg_named.specs.Sections.{Section, Spelled, SpellsSketch, sections}
@@ -24,6 +24,7 @@ use Rattle.dvg_named.proofs.OneSketch.{goes_on, says_nothing}
 use Rattle.dvg_named.proofs.ReadLimits.{IsInRom, IsOnce, IsSmall, framed}
 use Rattle.dvg_named.proofs.RowsCome.{StandsInLine, comes, line_comes, line_stays, no_row, row_at}
 use Rattle.dvg_named.proofs.RowsStay.{HasAt, HasRow, at_top}
+use Rattle.dvg_read.specs.declared.draft_text.TheConstants.{MOST_TEXT_BYTES}
 
 -- lines without fault, and the line of each row
 record IsRead (ls : List (List ℕ)) : Type 0 where
@@ -59,13 +60,13 @@ no_line (suc place) row h = let none = h.stands in absurd cc
 nothing_read : IsRead []
 nothing_read = record { sketch = bare; spelled = says_nothing; limits = bare_kept; lines = no_line }
 
-module _ (text : List ℕ) (none : (fault : NamedFault) → ¬ HasNamedFault text fault) where
-  short_by : (1048576 < length text) ⊎ (length text ≤ 1048576) → IsShort text
+module _ (text : List ℕ) (none : (fault : TextFault) → ¬ HasSketchFault text fault) where
+  short_by : (MOST_TEXT_BYTES < length text) ⊎ (length text ≤ MOST_TEXT_BYTES) → IsShort text
   short_by (inl over) = absurd (none TooLong over)
   short_by (inr short) = short
 
   short : IsShort text
-  short = short_by (cases_lt 1048576 (length text))
+  short = short_by (cases_lt MOST_TEXT_BYTES (length text))
 
   -- ---- one line more
 
@@ -113,7 +114,7 @@ module _ (text : List ℕ) (none : (fault : NamedFault) → ¬ HasNamedFault tex
         -- a limit after the other
         kept : ¬ KeepsLimits next → ⊥
         kept broken =
-            none (Twice (length before + 1)) (meets twice (λ once.
+            none (NameGivenAgain (length before + 1)) (meets twice (λ once.
             none (Full (length before + 1)) (meets full (
               once,
               λ drafts.
@@ -157,7 +158,7 @@ module _ (text : List ℕ) (none : (fault : NamedFault) → ¬ HasNamedFault tex
   none_below : (m n : ℕ) → n < m → ¬ WantsUngiven text n
   none_below zero n low wants = omega (arith, low)
   none_below (suc m) n low wants =
-      none (Unknown n) (wants, λ earlier less. none_below m earlier (omega (arith, low, less)))
+      none (UnknownName n) (wants, λ earlier less. none_below m earlier (omega (arith, low, less)))
 
   module _ (read : IsRead (plain_lines text)) where
     known_at : (place : ℕ) (section : Section) → slice_get (sections read.sketch) place ≡ Some section
@@ -200,6 +201,6 @@ module _ (text : List ℕ) (none : (fault : NamedFault) → ¬ HasNamedFault tex
         }))
 
 pub none_lacks_both : (text : List ℕ) → ((rom : RomText) (result : List Frame) → ¬ DenotesFrames text rom result)
-    → ((fault : NamedFault) → ¬ HasNamedFault text fault) → ⊥
+    → ((fault : TextFault) → ¬ HasSketchFault text fault) → ⊥
 none_lacks_both text nothing none =
     all_read text none (plain_lines text) [] refl nothing_read (λ read. denotes text none read nothing)

@@ -12,7 +12,7 @@ use Rattle.dvg_read.specs.Texts.{is_passed, lines, unpassed}
 use Rattle.dvg_read.proofs.Steps.{Leads}
 use Rattle.dvg_named.specs.FrameValues.{frame_in}
 use Rattle.dvg_named.specs.Meanings.{Frame, IsDrafted, IsEncoded, IsFrameOf, IsGiven, IsMeant}
-use Rattle.dvg_named.specs.NamedFaults.{DenotesFrames, IsUngiven, WantsUngiven, laid_of}
+use Rattle.dvg_named.specs.SketchFaults.{DenotesFrames, IsUngiven, WantsUngiven, laid_of}
 use Rattle.dvg_named.specs.Places.{Laid, laid_from}
 use Rattle.dvg_rows.specs.RowPlaces.{doings, size}
 use Rattle.dvg_rows.specs.PlainLines.{plain, plain_lines, tokens}

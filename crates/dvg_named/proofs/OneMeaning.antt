@@ -11,7 +11,7 @@ use Rattle.dvg_read.specs.RomTexts.{RomLine, RomText, first_stated}
 use Rattle.dvg_read.specs.Texts.{unpassed}
 use Rattle.dvg_named.specs.LaidValues.{rows_laid}
 use Rattle.dvg_named.specs.Meanings.{Frame, IsDrafted, IsEncoded, IsFrameOf, IsGiven, IsMeant, IsRomText}
-use Rattle.dvg_named.specs.NamedFaults.{DenotesFrames, GivesOnce, laid_of}
+use Rattle.dvg_named.specs.SketchFaults.{DenotesFrames, GivesOnce, laid_of}
 use Rattle.dvg_rows.specs.RowPlaces.{AreDistinct, names_of}
 use Rattle.dvg_named.specs.Places.{IsAddress, Laid, free_after}
 use Rattle.dvg_rows.specs.RowPlaces.{doings}

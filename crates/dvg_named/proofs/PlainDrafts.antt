@@ -13,7 +13,7 @@ use Rattle.dvg_read.specs.OpLines.{IsOpLine}
 use Rattle.dvg_read.specs.RomTexts.{IsMapLine, IsRomLine, RomLine, RomText, SpellsRom, large, mapped, small, unmapped}
 use Rattle.dvg_read.specs.Texts.{IsHex, is_passed, lines, parts, unpassed}
 use Rattle.dvg_named.specs.Meanings.{IsDrafted, IsFrameOf}
-use Rattle.dvg_named.specs.NamedFaults.{DenotesFrames, KeepsLimits, laid_of}
+use Rattle.dvg_named.specs.SketchFaults.{DenotesFrames, KeepsLimits, laid_of}
 use Rattle.dvg_rows.specs.RowPlaces.{AreDistinct, names_of}
 use Rattle.dvg_named.specs.Places.{Laid}
 use Rattle.dvg_rows.specs.RowPlaces.{doings}

@@ -6,14 +6,14 @@ use Rattle.dvg_read.specs.LineParts.{bytes_of}
 use Rattle.dvg_read.specs.RomReading.{TellsRom, unstated}
 use Rattle.dvg_read.specs.RomTexts.{RomText, first_stated}
 use Rattle.dvg_rows.specs.declared.given_names.GivenNames.{GivenNames}
-use Rattle.dvg_rows.specs.declared.line_fault.LineFault.{LineFault}
-use Rattle.dvg_rows.specs.declared.line_fault.LineFault.TheVariants.{Full, Memory, OutOfRom, Overlap, Syntax, Twice}
+use Rattle.dvg_read.specs.declared.fault.LineFault.{LineFault}
+use Rattle.dvg_read.specs.declared.fault.LineFault.TheVariants.{OutOfRom}
 use Rattle.dvg_named.specs.declared.reading.Reading.{Reading}
 use Rattle.dvg_rows.specs.declared.rom_area.RomArea.{RomArea}
 use Rattle.dvg_named.specs.declared.stated_rom.StatedRom.{StatedRom}
 use Rattle.dvg_rows.specs.FreshNames.{IsFresh, StopsNames}
 use Rattle.dvg_rows.specs.HeldRows.{rows_of}
-use Rattle.dvg_named.specs.NamedFaults.{KeepsLimits}
+use Rattle.dvg_named.specs.SketchFaults.{KeepsLimits}
 use Rattle.dvg_rows.specs.RowPlaces.{AreDistinct}
 use Rattle.dvg_named.specs.ReadParts.{KeepsNext, free_stated, sketch_of}
 use Rattle.dvg_rows.specs.RomAreas.{BeginsAt, StopsBegin}
@@ -109,11 +109,7 @@ module _ {A : Type 0} (old : Reading A) (stated : RomText) (line : List ℕ) (re
       begun_out stated (closed_in old) (section_in old.last) (bytes_of old.frame_names.given.keys)
       (bytes_of old.rom_names.given.keys) (bytes_of old.names.given.keys) old.count old.area reads.keeps address line spelled
       first e out
-  begin_refused address first Overlap spelled e h = absurd h
-  begin_refused address first Twice spelled e h = absurd h
-  begin_refused address first Memory spelled e h = absurd h
-  begin_refused address first Syntax spelled e h = absurd h
-  begin_refused address first Full spelled e h = absurd h
+  begin_refused address first _ spelled e h = absurd h
 
 -- ---- before the first row
 

@@ -7,7 +7,7 @@ use Rattle.std.specs.List.{cons_option, filter_map, flat_map}
 use Rattle.std.specs.Option.{option_to_list}
 use Rattle.dvg_read.specs.RomTexts.{RomText, first_stated}
 use Rattle.dvg_rows.specs.FreshNames.{IsAgain, IsFresh}
-use Rattle.dvg_named.specs.NamedFaults.{DraftsFit, GivesOnce, KeepsLimits, LieApart, RomFits}
+use Rattle.dvg_named.specs.SketchFaults.{DraftsFit, GivesOnce, KeepsLimits, LieApart, RomFits}
 use Rattle.dvg_rows.specs.RowPlaces.{AreDistinct, names_of}
 use Rattle.dvg_named.specs.Places.{Laid, laid_end, laid_from}
 use Rattle.dvg_rows.specs.RowPlaces.{doings, size}

@@ -6,7 +6,7 @@ use Rattle.std.specs.Option.{option_to_list}
 use Rattle.dvg_read.specs.RomTexts.{RomText, first_stated}
 use Rattle.dvg_rows.specs.declared.rom_area.RomArea.{RomArea}
 use Rattle.dvg_rows.specs.FreshNames.{IsAgain, IsFresh}
-use Rattle.dvg_named.specs.NamedFaults.{DraftsFit, GivesOnce, LieApart, RomFits}
+use Rattle.dvg_named.specs.SketchFaults.{DraftsFit, GivesOnce, LieApart, RomFits}
 use Rattle.dvg_rows.specs.RowPlaces.{names_of}
 use Rattle.dvg_named.specs.Places.{Laid}
 use Rattle.dvg_rows.specs.RowPlaces.{doings, size}

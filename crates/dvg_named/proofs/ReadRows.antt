@@ -6,15 +6,15 @@ use Rattle.dvg_read.specs.LineParts.{bytes_of}
 use Rattle.dvg_read.specs.RomTexts.{RomText}
 use Rattle.dvg_read.specs.Texts.{parts}
 use Rattle.dvg_rows.specs.declared.given_names.GivenNames.{GivenNames}
-use Rattle.dvg_rows.specs.declared.line_fault.LineFault.{LineFault}
-use Rattle.dvg_rows.specs.declared.line_fault.LineFault.TheVariants.{Full, Memory, OutOfRom, Overlap, Syntax, Twice}
+use Rattle.dvg_read.specs.declared.fault.LineFault.{LineFault}
+use Rattle.dvg_read.specs.declared.fault.LineFault.TheVariants.{Memory, NameGivenAgain, OutOfRom, Overlap}
 use Rattle.dvg_rows.specs.declared.part.Part.{Part}
 use Rattle.dvg_named.specs.declared.reading.Reading.{Reading}
 use Rattle.dvg_rows.specs.declared.rom_area.RomArea.{RomArea}
 use Rattle.dvg_rows.specs.declared.row.Row as held_row
 use Rattle.dvg_rows.specs.FreshNames.{IsAgain, IsFresh, StopsNames}
 use Rattle.dvg_rows.specs.HeldRows.{rows_of}
-use Rattle.dvg_named.specs.NamedFaults.{DraftsFit, GivesOnce, LieApart, RomFits}
+use Rattle.dvg_named.specs.SketchFaults.{DraftsFit, GivesOnce, LieApart, RomFits}
 use Rattle.dvg_rows.specs.RowPlaces.{size}
 use Rattle.dvg_named.specs.ReadParts.{sketch_of}
 use Rattle.dvg_rows.specs.RomAreas.{StopsArea, Takes}
@@ -47,12 +47,9 @@ section_pushed old new row same pushed =
 pub names_stop : (fault : LineFault) (names : List (List ℕ)) (name : Option (List ℕ)) (sketch : Spelled) (line : List ℕ)
     → StopsNames names name fault → (IsAgain names name → Breaks (λ now. ¬ GivesOnce now) sketch line)
     → StopsSketch fault sketch line
-names_stop Twice names name sketch line h again = again h
+names_stop NameGivenAgain names name sketch line h again = again h
 names_stop Memory names name sketch line h again = tt
-names_stop Syntax names name sketch line h again = absurd h
-names_stop Full names name sketch line h again = absurd h
-names_stop OutOfRom names name sketch line h again = absurd h
-names_stop Overlap names name sketch line h again = absurd h
+names_stop _ names name sketch line h again = absurd h
 
 frame_may : (head : Head) (row : Row) → IsFrameHead head → MayStand head row
 frame_may top row h = tt
@@ -168,10 +165,7 @@ module _ {A : Type 0} (old : Reading A) (row : held_row.Row) (stated : RomText) 
         subst (λ s. Breaks (λ now. GivesOnce now × DraftsFit now × RomFits now × (¬ LieApart now)) s line) is_as
         (rom_overlaps stated (closed_in old) address rows (row_of row) (bytes_of old.frame_names.given.keys)
         (bytes_of old.rom_names.given.keys) (bytes_of old.names.given.keys) old.count old.area keeps may fresh h.0 line spelled h.1)
-    area_by Twice fresh h = absurd h
-    area_by Memory fresh h = absurd h
-    area_by Syntax fresh h = absurd h
-    area_by Full fresh h = absurd h
+    area_by _ fresh h = absurd h
 
   pub rom_given : (head : Head) → head ≡ head_in old.last.head → IsRomHead head → MayStand (rom None) (row_of row)
       → (fault : LineFault) → StopsNames (bytes_of old.rom_names.given.keys) (row_of row).name fault

@@ -18,7 +18,7 @@ use Rattle.dvg_rows.specs.declared.part.Part.{Part}
 use Rattle.dvg_named.specs.declared.reading.Reading.{Reading}
 use Rattle.dvg_rows.specs.HeldRows.{rows_of}
 use Rattle.dvg_named.specs.LaidValues.{AreLaid, laid_sections, rows_in, sections_of}
-use Rattle.dvg_named.specs.NamedFaults.{laid_of}
+use Rattle.dvg_named.specs.SketchFaults.{laid_of}
 use Rattle.dvg_named.specs.Places.{laid_from}
 use Rattle.dvg_rows.specs.RowPlaces.{doings, size, words_taken}
 use Rattle.dvg_rows.specs.PlainLines.{plain}

@@ -7,7 +7,7 @@ use Rattle.dvg_named.specs.declared.laid.LaidRows as held_laid
 use Rattle.dvg_named.specs.declared.reading.Reading.{Reading}
 use Rattle.dvg_named.specs.GivenRoms.{IsLaidText}
 use Rattle.dvg_named.specs.LaidValues.{laid_sections}
-use Rattle.dvg_named.specs.NamedFaults.{laid_of}
+use Rattle.dvg_named.specs.SketchFaults.{laid_of}
 use Rattle.dvg_named.specs.Places.{Laid, laid_from}
 use Rattle.dvg_rows.specs.RowPlaces.{size}
 use Rattle.dvg_named.specs.RomBytes.{LieInRom, MayStandInRom}

@@ -23,7 +23,7 @@ use Rattle.dvg_rows.specs.declared.row.Row as held
 use Rattle.dvg_rows.specs.HeldRows.{rows_of}
 use Rattle.dvg_named.specs.LaidValues.{laid_section, laid_sections}
 use Rattle.dvg_named.specs.Meanings.{IsEncoded, IsGiven}
-use Rattle.dvg_named.specs.NamedFaults.{IsUngiven}
+use Rattle.dvg_named.specs.SketchFaults.{IsUngiven}
 use Rattle.dvg_named.specs.Places.{Laid}
 use Rattle.dvg_rows.specs.RowPlaces.{doings, size, words_taken}
 use Rattle.dvg_named.specs.RomBytes.{ArePut, IsPut, MayStandInRom, TellsSections}
@@ -207,18 +207,6 @@ section_put laid section first place next old new low at h =
       fits = put.fits;
     }
 
--- no row of a section wants a name that isn't given, where none of its rows does
-stands_inside : (rows : List Row) (place : ℕ) (row : Row) → slice_get rows place ≡ Some row → place < length rows
-stands_inside [] place row is = absurd cc
-stands_inside (first ∷ rows) zero row is = omega arith
-stands_inside (first ∷ rows) (suc place) row is = let below = stands_inside rows place row is in omega arith
-
-pub none_wants : (laid : List Laid) (section : Section) (i : ℕ) → length section.rows ≤ i
-    → ((k : ℕ) → k < i → ¬ WantsAt laid section k) → (place : ℕ) → ¬ WantsAt laid section place
-none_wants laid section i all none place h =
-    let inside = stands_inside section.rows place h.row h.stands in
-    none place (omega (arith, inside, all)) h
-
 -- ---- a row that may stand in the ROM
 
 may_do : (row : Row) (doing : Doing) → row.doing ≡ Some doing → MayStand (rom None) row → (n : ℕ)
@@ -243,13 +231,6 @@ pub section_at : (P : Laid → Type 0) (sections : List held_laid.LaidRows) (i :
 section_at P sections i section all low is =
     subst P (get_or-map laid_section sections i section (laid_section section) low ∙ ap laid_section (sym is))
     (all i (laid_section section) (omega (arith, low, length-map sections laid_section)))
-
-pub section_stands : (sections : List held_laid.LaidRows) (i : ℕ) (section : held_laid.LaidRows) → i < length sections
-    → section ≡ get_or sections i section → slice_get (laid_sections sections) i ≡ Some (laid_section section)
-section_stands sections i section low is =
-    slice_get_read (laid_sections sections) (length sections) i (laid_section section)
-    (sym (length-map sections laid_section)) low
-    (sym (get_or-map laid_section sections i section (laid_section section) low ∙ ap laid_section (sym is)))
 
 -- the address of the first word
 pub first_is : (stated : RomText) (R : List ℕ) (first : ℕ) → IsRomOf stated R → (length R ≡ 2048) ⊎ (length R ≡ 4096)

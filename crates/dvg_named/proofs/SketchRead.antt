@@ -10,10 +10,10 @@ use Rattle.dvg_read.specs.RomTexts.{RomText}
 use Rattle.dvg_read.specs.RomReading.{unstated}
 use Rattle.dvg_read.specs.Texts.{lines, unpassed}
 use Rattle.dvg_read.proofs.ReadTo.{count_on, lines_length, unpassed_more, unpassed_one}
-use Rattle.dvg_rows.specs.declared.line_fault.LineFault.{LineFault}
-use Rattle.dvg_rows.specs.declared.line_fault.LineFault.TheVariants as line_fault
+use Rattle.dvg_read.specs.declared.fault.LineFault.{LineFault}
+use Rattle.dvg_read.specs.declared.fault.LineFault.TheVariants as line_fault
 use Rattle.dvg_named.specs.declared.reading.Reading.{Reading}
-use Rattle.dvg_named.specs.NamedFaults.{Meets, MeetsNothing, ReachesLine}
+use Rattle.dvg_named.specs.SketchFaults.{Meets, MeetsNothing, ReachesLine}
 use Rattle.dvg_rows.specs.PlainLines.{plain, tokens}
 use Rattle.dvg_named.specs.ReadParts.{sketch_of}
 use Rattle.dvg_named.specs.Sections.{Section, Spelled, SpellsSketch}
@@ -23,12 +23,14 @@ use Rattle.dvg_rows.specs.declared.source.Source.{Source}
 use Rattle.dvg_named.specs.SourcedRows.{AreSourced, IsLineAt}
 use Rattle.dvg_named.specs.LineNumbers.{AreNumbered, Numbers, adds, entries_in, head_at_top, keeps}
 use Rattle.std.specs.List.{join_with_byte}
-use Rattle.dvg_named.specs.TextReading.{StopsText, ReadsText, fault_at}
+use Rattle.dvg_read.specs.LineFaults.{fault_at}
+use Rattle.dvg_named.specs.TextReading.{StopsText, ReadsText}
 use Rattle.dvg_named.proofs.NumberSteps.{later_length, no_empty_head, no_empty_row, numbered_added, numbered_kept, numbered_none}
 use Rattle.dvg_named.proofs.FewTokens.{few_tokens}
 use Rattle.dvg_named.proofs.SourcedMore.{sourced_passed}
 use Rattle.dvg_named.proofs.OneSketch.{goes_on, says_more, says_nothing}
 use Rattle.dvg_named.proofs.PlainTokens.{parts_of_plain, passed_without_tokens, unpassed_with_tokens}
+use Rattle.dvg_read.specs.declared.draft_text.TheConstants.{MOST_TEXT_BYTES}
 
 -- n lines were read of a text in small letters, which spell what the reader holds; those are left
 pub record ReadTo {A : Type 0} (text : List ℕ) (left : List (List ℕ)) (n : ℕ) (reading : Reading A) : Type 0 where
@@ -161,22 +163,23 @@ module _ {A : Type 0} (text : List ℕ) (left rest : List (List ℕ)) (n : ℕ) 
       stops_by : (fault : LineFault) → StopsSketch fault (spelled_in r.rom reading) (plain line)
           → StopsText (fault_at fault (n + 1)) whole
       stops_by line_fault.Syntax h = nothing_at h
-      stops_by line_fault.Twice h = breaks_at _ h
+      stops_by line_fault.NameGivenAgain h = breaks_at _ h
       stops_by line_fault.Full h = breaks_at _ h
       stops_by line_fault.OutOfRom h = breaks_at _ h
       stops_by line_fault.Overlap h = breaks_at _ h
       stops_by line_fault.Memory h = tt
+      stops_by _ h = absurd h
 
     -- a line that is not taken
     pub stops : (fault : LineFault) → ((rom : RomText) → Reads rom reading → StopsSketch fault (spelled_in rom reading) (plain line))
-        → length text ≤ 1048576 → (whole : List ℕ) → map to_ascii_lowercase whole ≡ text
+        → length text ≤ MOST_TEXT_BYTES → (whole : List ℕ) → map to_ascii_lowercase whole ≡ text
         → StopsText (fault_at fault (n + 1)) whole
     stops fault h short whole is =
         let size = ap length is in
         stops_by whole is (omega (arith, short, size, length-map whole to_ascii_lowercase)) fault (h r.rom r.reads)
 
   -- a line of too many tokens
-  pub many : 10 < length (tokens line) → length text ≤ 1048576 → (whole : List ℕ) → map to_ascii_lowercase whole ≡ text
+  pub many : 10 < length (tokens line) → length text ≤ MOST_TEXT_BYTES → (whole : List ℕ) → map to_ascii_lowercase whole ≡ text
       → StopsText (fault_at line_fault.Syntax (n + 1)) whole
   many over short whole is =
       stops (omega arith) line_fault.Syntax
@@ -203,7 +206,7 @@ module _ {A : Type 0} (text : List ℕ) (left rest : List (List ℕ)) (n : ℕ) 
 
     pub stops_tokens : (fault : LineFault)
         → ((rom : RomText) → Reads rom reading → StopsSketch fault (spelled_in rom reading) (line_of cut))
-        → length text ≤ 1048576 → (whole : List ℕ) → map to_ascii_lowercase whole ≡ text
+        → length text ≤ MOST_TEXT_BYTES → (whole : List ℕ) → map to_ascii_lowercase whole ≡ text
         → StopsText (fault_at fault (n + 1)) whole
     stops_tokens fault h short whole is =
         stops some fault (λ rom reads. subst (λ ws. StopsSketch fault (spelled_in rom reading) (line_of ws)) e (h rom reads))
@@ -235,7 +238,7 @@ no_tokens held line r e all is = sym is ∙ none_held held (sym e ∙ all)
 
 -- at the text's end
 pub reads_all : {A : Type 0} (text : List ℕ) (left : List (List ℕ)) (n : ℕ) (reading : Reading A) → left ≡ []
-    → ReadTo text left n reading → length text ≤ 1048576 → AreSourced text (n + 1) reading → ReadsText text reading
+    → ReadTo text left n reading → length text ≤ MOST_TEXT_BYTES → AreSourced text (n + 1) reading → ReadsText text reading
 reads_all text left n reading none r short sourced = record {
   short = short;
   rom = r.rom;
@@ -250,7 +253,7 @@ reads_all text left n reading none r short sourced = record {
 
 -- no more lines were read than there are bytes
 pub bounded : {A : Type 0} (text : List ℕ) (left : List (List ℕ)) (n : ℕ) (reading : Reading A) → ReadTo text left n reading
-    → length text ≤ 1048576 → n ≤ 1048576
+    → length text ≤ MOST_TEXT_BYTES → n ≤ MOST_TEXT_BYTES
 bounded text left n reading r short =
     let few = lines_length text in
     let count = r.number in

@@ -14,7 +14,7 @@ use Rattle.dvg_named.specs.FlatFrames.{frame_at}
 use Rattle.dvg_named.specs.GivenRoms.{GivesRom}
 use Rattle.dvg_named.specs.LaidValues.{laid_sections, rows_laid}
 use Rattle.dvg_named.specs.Meanings.{IsFrameOf}
-use Rattle.dvg_named.specs.NamedFaults.{laid_of}
+use Rattle.dvg_named.specs.SketchFaults.{laid_of}
 use Rattle.dvg_rows.specs.RowPlaces.{names_of}
 use Rattle.dvg_named.specs.Places.{free_after, laid_end, laid_from}
 use Rattle.dvg_named.specs.ReadSketches.{IsSketchOf, SourcedFrame, StandsIn, as_frame, joined_at}

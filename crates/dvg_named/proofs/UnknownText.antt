@@ -6,12 +6,12 @@ use Rattle.std.specs.Char.{to_ascii_lowercase}
 use Rattle.std.specs.List.{AllPairs, AllZip}
 use Rattle.dvg_read.specs.RomTexts.{RomText}
 use Rattle.dvg_read.specs.Texts.{lines, unpassed}
-use Rattle.dvg_named.specs.declared.fault.NamedFault.TheVariants.{Unknown}
+use Rattle.dvg_read.specs.declared.fault.TextFault.TheVariants.{UnknownName}
 use Rattle.dvg_rows.specs.declared.part.Part.{Part}
 use Rattle.dvg_named.specs.declared.reading.Reading.{Reading}
 use Rattle.dvg_named.specs.FirstUnknown.{FirstOf, HasLines, IsFirstOf, WantsIn, all_sections}
 use Rattle.dvg_named.specs.LineNumbers.{Entry, IsEntryOf, entries_in, first_head}
-use Rattle.dvg_named.specs.NamedFaults.{HasNamedFault, IsUngiven, WantsUngiven, laid_of}
+use Rattle.dvg_named.specs.SketchFaults.{HasSketchFault, IsUngiven, WantsUngiven, laid_of}
 use Rattle.dvg_rows.specs.PlainLines.{plain, plain_lines}
 use Rattle.dvg_named.specs.ReadParts.{sketch_of}
 use Rattle.dvg_named.specs.Sections.{Section, Spelled, SpellsSketch, sections}
@@ -141,7 +141,7 @@ module _ {A : Type 0} (reading : Reading A) (small text : List ℕ) (read : Read
     none_earlier other w low (inr h) =
         here_or_after other low (Contains-append_cases (first.entry ∷ []) first.after other h)
 
-    pub first_is_fault : HasNamedFault text (Unknown n)
+    pub first_is_fault : HasSketchFault text (UnknownName n)
     first_is_fault = (
       subst (WantsUngiven text) (sym first.number)
           (wants_ungiven first.entry (read.numbered.holds first.entry held) first.is),

@@ -16,9 +16,9 @@ use Rattle.dvg_rows.specs.Rows.{callrom, named_frame, at}
 use Rattle.dvg_named.specs.Sections.{FrameRows, MayStand, Section, Spelled, SpellsSection, SpellsSketch}
 use Rattle.dvg_named.specs.Places.{IsAddress, Laid, laid_end}
 use Rattle.dvg_rows.specs.RowPlaces.{IsNamedAfter, IsNumber, doings}
-use Rattle.dvg_named.specs.NamedFaults.{GivesOnce, IsFineSketch, KeepsLimits, LiesOn, RomFits}
+use Rattle.dvg_named.specs.SketchFaults.{GivesOnce, IsFineSketch, KeepsLimits, LiesOn, RomFits}
 use Rattle.dvg_rows.specs.RowPlaces.{AreDistinct}
-use Rattle.dvg_named.specs.NamedFaults.{WantsUngiven}
+use Rattle.dvg_named.specs.SketchFaults.{WantsUngiven}
 use Rattle.dvg_rows.specs.RowPlaces.{names_of}
 use Rattle.dvg_named.specs.TextExamples.{CallsTheRom, JumpsBack, OutOfRomAtOne, OverlapAtFour, TwiceAtTwo, UnknownAtOne}
 use Rattle.dvg_named.proofs.ExampleNames.{a, address, rock, ship, title}

@@ -2,13 +2,13 @@
 use Rattle.std.specs.Prelude.{◌≡◌, ℕ, List, ◌∷◌, ◌++◌, [], All, None, Option, Some, length, map, slice_get}
 use Rattle.dvg_rows.specs.declared.part.Part.{Part}
 use Rattle.dvg_named.specs.declared.flat_draft.DraftFault.{DraftFault}
-use Rattle.dvg_named.specs.declared.flat_draft.DraftFault.TheVariants.{Memory, Ungiven}
+use Rattle.dvg_named.specs.declared.flat_draft.DraftFault.TheVariants.{Memory, UnknownName}
 use Rattle.dvg_named.specs.declared.reading.Reading.{Reading}
 use Rattle.dvg_rows.specs.declared.row.Head as held_head
 use Rattle.dvg_rows.specs.declared.row.Row as held_row
 use Rattle.dvg_rows.specs.HeldRows.{rows_of}
 use Rattle.dvg_named.specs.LineNumbers.{Entry, entries_from, entries_last}
-use Rattle.dvg_named.specs.NamedFaults.{IsUngiven}
+use Rattle.dvg_named.specs.SketchFaults.{IsUngiven}
 use Rattle.dvg_named.specs.Places.{Laid}
 use Rattle.dvg_rows.specs.Rows.{Doing, Row}
 use Rattle.dvg_named.specs.Sections.{Section}
@@ -47,7 +47,7 @@ WantsNone laid section = (place : ℕ) → ¬ WantsAt laid section place
 
 -- why the drafts of the frames aren't made: a name that is wanted isn't given, or want of memory
 abbrev pub StopsDrafts : {A : Type 0} → List Laid → Reading A → DraftFault → Type 0
-StopsDrafts laid reading (Ungiven place) = ¬ All (WantsNone laid) (sections_in reading)
+StopsDrafts laid reading UnknownName = ¬ All (WantsNone laid) (sections_in reading)
 StopsDrafts laid reading Memory = Unit {0}
 
 -- the row wants a name that isn't given, in its section of these

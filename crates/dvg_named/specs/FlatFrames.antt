@@ -2,7 +2,7 @@
 use Rattle.std.specs.Prelude.{◌≡◌, ◌≤◌, ◌-◌, ℕ, List, All, length, take, drop}
 use Rattle.dvg_frame.specs.declared.op.OpKind.{OpKind}
 use Rattle.dvg_named.specs.declared.flat_draft.DraftFault.{DraftFault}
-use Rattle.dvg_named.specs.declared.flat_draft.DraftFault.TheVariants.{Memory, Ungiven}
+use Rattle.dvg_named.specs.declared.flat_draft.DraftFault.TheVariants.{Memory, UnknownName}
 use Rattle.dvg_named.specs.declared.joining.FrameSpan.{FrameSpan}
 use Rattle.dvg_named.specs.declared.frame_rows.FrameRows as held
 use Rattle.dvg_named.specs.FrameValues.{frame_held}
@@ -11,7 +11,8 @@ use Rattle.dvg_named.specs.Meanings.{Frame, IsFrameOf}
 use Rattle.dvg_named.specs.Places.{Laid}
 use Rattle.dvg_rows.specs.RowPlaces.{doings}
 use Rattle.dvg_rows.specs.RowValues.{name_of}
-use Rattle.dvg_named.specs.Ungiven.{WantsAt, framed}
+use Rattle.dvg_named.specs.FirstUnknown.{WantsNone}
+use Rattle.dvg_named.specs.Ungiven.{framed}
 
 -- a draft can hold what the frame does
 abbrev pub HasFewOps : held.FrameRows → Type 0
@@ -19,7 +20,7 @@ HasFewOps frame = length (doings (rows_of frame.rows.now)) ≤ 511
 
 -- each name that the frame wants is given
 abbrev pub KnowsNames : List Laid → held.FrameRows → Type 0
-KnowsNames laid frame = (place : ℕ) → ¬ WantsAt laid (framed (rows_of frame.rows.now)) place
+KnowsNames laid frame = WantsNone laid (framed (rows_of frame.rows.now))
 
 -- the frame that stands there in a list of operations
 abbrev pub frame_at : List OpKind → FrameSpan → Frame
@@ -32,12 +33,7 @@ pub record IsSpanOf (laid : List Laid) (ops : List OpKind) (frame : held.FrameRo
   pub begin : span.begin ≡ frame.begin
   pub is : IsFrameOf laid (frame_held frame) (frame_at ops span)
 
--- why its draft isn't made: a name that it wants isn't given, or want of memory
-abbrev pub StopsFrame : List Laid → held.FrameRows → DraftFault → Type 0
-StopsFrame laid frame (Ungiven place) = ¬ KnowsNames laid frame
-StopsFrame laid frame Memory = Unit {0}
-
--- why those of frames aren't
+-- why their drafts aren't made: a name that one of them wants isn't given, or want of memory
 abbrev pub StopsFrames : List Laid → List held.FrameRows → DraftFault → Type 0
-StopsFrames laid frames (Ungiven place) = ¬ All (KnowsNames laid) frames
+StopsFrames laid frames UnknownName = ¬ All (KnowsNames laid) frames
 StopsFrames laid frames Memory = Unit {0}

@@ -5,7 +5,7 @@ use Rattle.dvg_named.specs.declared.laid.LaidRows as held_laid
 use Rattle.dvg_named.specs.declared.reading.Reading.{Reading}
 use Rattle.dvg_named.specs.LaidValues.{laid_sections}
 use Rattle.dvg_named.specs.Meanings.{IsRomText}
-use Rattle.dvg_named.specs.NamedFaults.{laid_of}
+use Rattle.dvg_named.specs.SketchFaults.{laid_of}
 use Rattle.dvg_named.specs.Sections.{Spelled}
 use Rattle.dvg_named.specs.SketchReading.{spelled_in}
 use Rattle.dvg_named.specs.TextReading.{ReadsText}

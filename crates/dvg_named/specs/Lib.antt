@@ -7,7 +7,7 @@ pub mod GivenRoms
 pub mod LaidValues
 pub mod LineNumbers
 pub mod Meanings
-pub mod NamedFaults
+pub mod SketchFaults
 pub mod OpSources
 pub mod Places
 pub mod ReadParts

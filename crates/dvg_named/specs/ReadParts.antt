@@ -4,7 +4,7 @@ use Rattle.std.specs.Prelude.{length, false, true, unwrap_or}
 use Rattle.std.specs.List.{filter_map, flat_map}
 use Rattle.dvg_read.specs.RomTexts.{RomText, first_stated}
 use Rattle.dvg_rows.specs.declared.rom_area.RomArea.{RomArea}
-use Rattle.dvg_named.specs.NamedFaults.{LiesOn}
+use Rattle.dvg_named.specs.SketchFaults.{LiesOn}
 use Rattle.dvg_rows.specs.RowPlaces.{names_of}
 use Rattle.dvg_named.specs.Places.{free_after, laid}
 use Rattle.dvg_rows.specs.RowPlaces.{doings, size}

@@ -10,7 +10,7 @@ use Rattle.dvg_named.specs.declared.meaning.RomName.{RomName}
 use Rattle.dvg_rows.specs.declared.source.Source.{Source}
 use Rattle.dvg_named.specs.declared.sketch.Sketch.{Sketch}
 use Rattle.dvg_named.specs.Meanings.{Frame}
-use Rattle.dvg_named.specs.NamedFaults.{DenotesFrames, laid_of}
+use Rattle.dvg_named.specs.SketchFaults.{DenotesFrames, laid_of}
 use Rattle.dvg_named.specs.OpSources.{IsDoneAt, lines_at}
 use Rattle.dvg_rows.specs.RowPlaces.{doings}
 use Rattle.dvg_named.specs.ReadParts.{rom_names}

@@ -1,19 +1,19 @@
 -- The words of laid sections, in the bytes of a ROM.
-use Rattle.std.specs.Prelude.{◌≡◌, ◌≢◌, ◌+◌, ◌<◌, ◌≤◌, ℕ, List, ◌++◌, All, None, Some, get_or, length}
-use Rattle.std.specs.Prelude.{slice_get, slice_index}
+use Rattle.std.specs.Prelude.{◌≡◌, ◌≢◌, ◌+◌, ◌<◌, ◌≤◌, ℕ, List, ◌++◌, All, None, get_or, length}
+use Rattle.std.specs.Prelude.{slice_index}
 use Rattle.std.specs.List.{AllZip}
 use Rattle.dvg_code.specs.Words.{word_in}
 use Rattle.dvg_read.specs.RomReading.{IsBehind}
 use Rattle.dvg_read.specs.RomTexts.{IsRomOf, RomLine, RomText}
 use Rattle.dvg_frame.specs.declared.op.OpKind.TheVariants.{Call, Jump}
 use Rattle.dvg_named.specs.declared.laid.LaidRows as held_laid
-use Rattle.dvg_named.specs.declared.rom_words.RomRow.{RomRow}
 use Rattle.dvg_named.specs.LaidValues.{laid_section, laid_sections}
 use Rattle.dvg_named.specs.Meanings.{IsGiven}
 use Rattle.dvg_named.specs.Places.{Laid, laid_end}
 use Rattle.dvg_rows.specs.Rows.{Doing, Row, plainly, rom}
 use Rattle.dvg_named.specs.Sections.{MayStand}
-use Rattle.dvg_named.specs.Ungiven.{IsFirstUngiven, WantsAt, in_rom}
+use Rattle.dvg_named.specs.FirstUnknown.{WantsNone}
+use Rattle.dvg_named.specs.Ungiven.{in_rom}
 
 -- these words were put from this place on, and each other word is as it was
 pub record ArePut (place : ℕ) (words old new : List ℕ) : Type 0 where
@@ -53,14 +53,6 @@ pub record TellsSections (laid sections : List Laid) (stated : RomText) (bytes :
   pub given : AllZip (IsGiven laid) sections lines
   pub is_rom : IsRomOf (record { map = stated.map; given = stated.given ++ lines }) bytes
 
--- no row of the section of this number wants a name that isn't given
-abbrev pub WantsNothing : List Laid → ℕ → Type 0
-WantsNothing laid number = (section : Laid) → slice_get laid number ≡ Some section
-    → (place : ℕ) → ¬ WantsAt laid (in_rom section.rows) place
-
--- this row of the ROM is the first that wants a name which isn't given
-pub record IsFirstInRom (laid : List Laid) (found : RomRow) : Type 0 where
-  pub section : Laid
-  pub stands : slice_get laid found.section ≡ Some section
-  pub row : IsFirstUngiven laid (in_rom section.rows) found.row
-  pub first : (earlier : ℕ) → earlier < found.section → WantsNothing laid earlier
+-- each name that a row of the ROM wants is given
+abbrev pub KnowsRom : List Laid → Type 0
+KnowsRom laid = All (λ section. WantsNone laid (in_rom section.rows)) laid

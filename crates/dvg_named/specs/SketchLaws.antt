@@ -4,9 +4,9 @@ use Rattle.dvg_frame.specs.declared.op.OpKind.{OpKind}
 use Rattle.dvg_read.specs.DraftTexts.{Denotes}
 use Rattle.dvg_read.specs.RomTexts.{RomText}
 use Rattle.dvg_read.specs.Texts.{parts}
-use Rattle.dvg_named.specs.declared.fault.NamedFault.{NamedFault}
+use Rattle.dvg_read.specs.declared.fault.TextFault.{TextFault}
 use Rattle.dvg_named.specs.Meanings.{Frame}
-use Rattle.dvg_named.specs.NamedFaults.{DenotesFrames, HasNamedFault}
+use Rattle.dvg_named.specs.SketchFaults.{DenotesFrames, HasSketchFault}
 use Rattle.dvg_rows.specs.PlainLines.{plain, tokens}
 use Rattle.dvg_named.specs.Sections.{Spelled, SpellsSketch}
 
@@ -27,17 +27,17 @@ OneMeaning = (text : List ℕ) (rom other : RomText) (result others : List Frame
 -- a text that denotes something has no fault
 abbrev pub NoFaultBeside : Type 0
 NoFaultBeside = (text : List ℕ) (rom : RomText) (result : List Frame) → DenotesFrames text rom result
-    → (fault : NamedFault) → ¬ HasNamedFault text fault
+    → (fault : TextFault) → ¬ HasSketchFault text fault
 
 -- a text has one fault at most
 abbrev pub OneFault : Type 0
-OneFault = (text : List ℕ) (fault other : NamedFault) → HasNamedFault text fault → HasNamedFault text other
-    → other ≡ fault
+OneFault = (text : List ℕ) (fault other : TextFault) → HasSketchFault text fault
+    → HasSketchFault text other → other ≡ fault
 
 -- no text lacks both a meaning and a fault
 abbrev pub NoneLacksBoth : Type 0
 NoneLacksBoth = (text : List ℕ) → ((rom : RomText) (result : List Frame) → ¬ DenotesFrames text rom result)
-    → ¬ ((fault : NamedFault) → ¬ HasNamedFault text fault)
+    → ¬ ((fault : TextFault) → ¬ HasSketchFault text fault)
 
 -- each plain draft is a sketch, of one frame without a name: the draft is the same, and the ROM
 abbrev pub PlainDrafts : Type 0

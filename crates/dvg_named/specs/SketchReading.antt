@@ -2,14 +2,15 @@
 use Rattle.std.specs.Prelude.{◌≡◌, ℕ, List, [], ◌∷◌, ◌++◌, Option, None, Some, map}
 use Rattle.dvg_read.specs.LineParts.{bytes_of}
 use Rattle.dvg_read.specs.RomTexts.{RomText}
-use Rattle.dvg_rows.specs.declared.line_fault.LineFault.{LineFault}
-use Rattle.dvg_rows.specs.declared.line_fault.LineFault.TheVariants.{Full, Memory, OutOfRom, Overlap, Syntax, Twice}
+use Rattle.dvg_read.specs.declared.fault.LineFault.{LineFault}
+use Rattle.dvg_read.specs.declared.fault.LineFault.TheVariants.{Full, Memory, NameGivenAgain}
+use Rattle.dvg_read.specs.declared.fault.LineFault.TheVariants.{OutOfRom, Overlap, Syntax}
 use Rattle.dvg_rows.specs.declared.rom_area.RomArea.{RomArea}
 use Rattle.dvg_rows.specs.declared.part.Part.{Part}
 use Rattle.dvg_named.specs.declared.reading.Reading.{Reading}
 use Rattle.dvg_rows.specs.declared.row.Head as held_head
 use Rattle.dvg_rows.specs.HeldRows.{rows_of}
-use Rattle.dvg_named.specs.NamedFaults.{DraftsFit, GivesOnce, KeepsLimits, LieApart, RomFits}
+use Rattle.dvg_named.specs.SketchFaults.{DraftsFit, GivesOnce, KeepsLimits, LieApart, RomFits}
 use Rattle.dvg_named.specs.ReadParts.{KeepsArea, KeepsFrame, KeepsNext, StartsAtTop, frame_names, rom_names, sketch_of}
 use Rattle.dvg_rows.specs.RowValues.{head_of}
 use Rattle.dvg_rows.specs.Rows.{Head, top}
@@ -66,12 +67,13 @@ pub record Breaks (limit : Spelled → Type 0) (sketch : Spelled) (line : List �
 -- why a line more isn't taken
 abbrev pub StopsSketch : LineFault → Spelled → List ℕ → Type 0
 StopsSketch Syntax sketch line = (now : Spelled) → ¬ Goes sketch line now
-StopsSketch Twice sketch line = Breaks (λ now. ¬ GivesOnce now) sketch line
+StopsSketch NameGivenAgain sketch line = Breaks (λ now. ¬ GivesOnce now) sketch line
 StopsSketch Full sketch line = Breaks (λ now. GivesOnce now × (¬ DraftsFit now)) sketch line
 StopsSketch OutOfRom sketch line = Breaks (λ now. GivesOnce now × DraftsFit now × (¬ RomFits now)) sketch line
 StopsSketch Overlap sketch line =
     Breaks (λ now. GivesOnce now × DraftsFit now × RomFits now × (¬ LieApart now)) sketch line
 StopsSketch Memory sketch line = Unit {0}
+StopsSketch _ sketch line = ⊥
 
 -- no row was read, and no section begun
 abbrev pub IsBare : {A : Type 0} → Reading A → Type 0

@@ -2,8 +2,9 @@
 use Rattle.std.specs.Prelude.{ℕ, List, [], ◌∷◌, ◌++◌, Some, None, codes}
 use Rattle.dvg_frame.specs.declared.op.OpKind.TheVariants.{CallRom, Halt, Jump}
 use Rattle.dvg_read.specs.RomReading.{unstated}
-use Rattle.dvg_named.specs.declared.fault.NamedFault.TheVariants.{OutOfRom, Overlap, Twice, Unknown}
-use Rattle.dvg_named.specs.NamedFaults.{DenotesFrames, HasNamedFault}
+use Rattle.dvg_read.specs.declared.fault.TextFault.TheVariants.{NameGivenAgain, OutOfRom, Overlap}
+use Rattle.dvg_read.specs.declared.fault.TextFault.TheVariants.{UnknownName}
+use Rattle.dvg_named.specs.SketchFaults.{DenotesFrames, HasSketchFault}
 
 -- the text of these lines; 10 is LF
 abbrev pub text_of : List (List ℕ) → List ℕ
@@ -24,17 +25,17 @@ CallsTheRom = DenotesFrames
 
 -- a name is given again
 abbrev pub TwiceAtTwo : Type 0
-TwiceAtTwo = HasNamedFault (text_of (codes "a: halt" ∷ codes "a: halt" ∷ [])) (Twice 2)
+TwiceAtTwo = HasSketchFault (text_of (codes "a: halt" ∷ codes "a: halt" ∷ [])) (NameGivenAgain 2)
 
 -- a section begins at 400 of the smaller ROM
 abbrev pub OutOfRomAtOne : Type 0
-OutOfRomAtOne = HasNamedFault (text_of (codes ".rom 400" ∷ [])) (OutOfRom 1)
+OutOfRomAtOne = HasSketchFault (text_of (codes ".rom 400" ∷ [])) (OutOfRom 1)
 
 -- two sections lay an operation at 800
 abbrev pub OverlapAtFour : Type 0
-OverlapAtFour = HasNamedFault (text_of (codes ".rom 800" ∷ codes "halt" ∷ codes ".rom 800" ∷ codes "halt" ∷ []))
-    (Overlap 4)
+OverlapAtFour = HasSketchFault
+    (text_of (codes ".rom 800" ∷ codes "halt" ∷ codes ".rom 800" ∷ codes "halt" ∷ [])) (Overlap 4)
 
 -- no line gives the name
 abbrev pub UnknownAtOne : Type 0
-UnknownAtOne = HasNamedFault (text_of (codes "jump a" ∷ [])) (Unknown 1)
+UnknownAtOne = HasSketchFault (text_of (codes "jump a" ∷ [])) (UnknownName 1)

@@ -8,7 +8,7 @@ use Rattle.dvg_rows.specs.declared.row.Row as held
 use Rattle.dvg_rows.specs.HeldRows.{rows_of}
 use Rattle.dvg_named.specs.LaidValues.{laid_sections}
 use Rattle.dvg_named.specs.Meanings.{IsDrafted}
-use Rattle.dvg_named.specs.NamedFaults.{IsUngiven}
+use Rattle.dvg_named.specs.SketchFaults.{IsUngiven}
 use Rattle.dvg_named.specs.Places.{Laid}
 use Rattle.dvg_rows.specs.RowPlaces.{doings}
 use Rattle.dvg_rows.specs.RowValues.{doing_of}
@@ -39,14 +39,6 @@ pub record IsFirstUngiven (sections : List Laid) (section : Section) (place : �
 -- a draft has what the rows of a frame do, in order
 abbrev pub Drafts : List held_laid.LaidRows → List held.Row → List OpKind → Type 0
 Drafts laid rows = AllZip (IsDrafted (laid_sections laid) (rows_of rows)) (doings (rows_of rows))
-
--- the row at this place of a frame is the first that wants a name which isn't given
-abbrev pub IsFirstInFrame : List held_laid.LaidRows → List held.Row → ℕ → Type 0
-IsFirstInFrame laid rows = IsFirstUngiven (laid_sections laid) (framed (rows_of rows))
-
--- that of a section of the ROM is
-abbrev pub IsFirstInSection : List held_laid.LaidRows → List held.Row → ℕ → Type 0
-IsFirstInSection laid rows = IsFirstUngiven (laid_sections laid) (in_rom (rows_of rows))
 
 -- in the ROM it wants a name that isn't given
 abbrev pub WantsInRom : List held_laid.LaidRows → held_doing.Doing → Type 0

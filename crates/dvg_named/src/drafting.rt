@@ -1,12 +1,13 @@
 //! The draft of a frame.
-ghost use Rattle.std.specs.Prelude.{◌≡◌, ◌≤◌, length, IfErr, IfNone, IfOk, IfSome};
+ghost use Rattle.std.specs.Prelude.{◌≡◌, ◌≤◌, length, IfNone, IfSome};
 ghost use Rattle.dvg_rows.specs.HeldRows.{rows_of};
 ghost use Rattle.dvg_named.specs.LaidValues.{AreLow, laid_sections};
 ghost use Rattle.dvg_named.specs.Meanings.{IsDrafted};
-ghost use Rattle.dvg_named.specs.NamedFaults.{IsUngiven};
+ghost use Rattle.dvg_named.specs.SketchFaults.{IsUngiven};
 ghost use Rattle.dvg_rows.specs.RowPlaces.{doings};
 ghost use Rattle.dvg_rows.specs.RowValues.{doing_of};
-ghost use Rattle.dvg_named.specs.Ungiven.{Drafts, IsFirstInFrame, framed};
+ghost use Rattle.dvg_named.specs.FirstUnknown.{WantsNone};
+ghost use Rattle.dvg_named.specs.Ungiven.{Drafts, framed};
 
 use crate::laid::{LaidNames, address_of};
 use dvg_frame::{Draft, Op, OpKind};
@@ -14,28 +15,29 @@ use dvg_rows::{Doing, NamedRows, number_of};
 use std::alloc::Allocator;
 
 /// Returns the draft of a frame: what its `rows` do, in order. A name is that of an operation of
-/// the frame, and after `callrom` and `jumprom` that of a word of `rom`. Or else returns the place,
-/// counted from 0, of the first row that needs a name which isn't given. No memory is taken. The
-/// time grows with the number of rows of the frame.
+/// the frame, and after `callrom` and `jumprom` that of a word of `rom`. Returns `None` where a row
+/// needs a name that isn't given. No memory is taken. The time grows with the number of rows of the
+/// frame.
 pub(crate) fn draft_of<A: Allocator + Copy>(
     rows: &NamedRows<'_, '_, A>,
     rom: &LaidNames<'_, '_, '_, A>,
-) -> Result<Draft, usize>
+) -> Option<Draft>
     requires few { length (doings (rows_of rows.now)) ≤ 511 }
     requires low { AreLow (laid_sections rom.now) }
-    ensures draft { IfOk result (Drafts rom.now rows.now) }
-    ensures ungiven { IfErr result (IsFirstInFrame rom.now rows.now) }
+    ensures draft { IfSome result (Drafts rom.now rows.now) }
+    ensures unknown { IfNone result
+        (¬ WantsNone (laid_sections rom.now) (framed (rows_of rows.now))) }
 {
     let mut draft = Draft::new();
-    for (place, row) in rows.rows().iter().enumerate() {
+    for row in rows.rows() {
         if let Some(doing) = &row.doing {
             let Some(op) = op_of(rows, rom, doing) else {
-                return Err(place);
+                return None;
             };
             draft.push(op).unwrap();
         }
     }
-    Ok(draft)
+    Some(draft)
 }
 
 // Returns the operation of `doing`, which a row of the frame of `rows` does. Returns `None` where

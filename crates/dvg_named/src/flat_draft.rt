@@ -14,8 +14,8 @@ use std::alloc::Allocator;
 /// Why the operations of a frame aren't added.
 #[derive(Clone, Copy)]
 pub(crate) enum DraftFault {
-    /// The row at this place, counted from 0, is the first that needs a name which isn't given.
-    Ungiven(usize),
+    /// A row needs a name that isn't given.
+    UnknownName,
     /// An allocation failed.
     Memory,
 }
@@ -32,14 +32,13 @@ pub(crate) fn push_draft<A: Allocator + Copy>(
     requires low { AreLow (laid_sections rom.now) }
     ensures pushed { OnOk result (PushesDraft rom.now rows.now ops.old.items ops.new.items) }
     ensures kept { OnErr result (ops.new.items ≡ ops.old.items) }
-    ensures fault { IfErr result (StopsDraft rom.now rows.now) }
+    ensures fault { IfErr result (StopsDraft (laid_sections rom.now) rows.now) }
 {
     let Ok(named) = NamedRows::new(alloc, rows) else {
         return Err(DraftFault::Memory);
     };
-    let draft = match draft_of(&named, rom) {
-        Ok(draft) => draft,
-        Err(place) => return Err(DraftFault::Ungiven(place)),
+    let Some(draft) = draft_of(&named, rom) else {
+        return Err(DraftFault::UnknownName);
     };
     if ops.extend_from_slice(draft.ops()).is_err() {
         return Err(DraftFault::Memory);

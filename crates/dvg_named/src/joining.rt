@@ -2,7 +2,8 @@
 ghost use Rattle.std.specs.Prelude.{◌≡◌, ◌≤◌, ◌++◌, ◌-◌, ◌^◌, All, IfErr, IfOk, List, OnOk, length, min};
 ghost use Rattle.std.specs.List.{AllZip, sum_by};
 ghost use Rattle.dvg_frame.specs.declared.op.OpKind.{OpKind as Kind};
-ghost use Rattle.dvg_named.specs.FlatFrames.{HasFewOps, IsSpanOf, StopsFrame, StopsFrames};
+ghost use Rattle.dvg_named.specs.FlatDrafts.{StopsDraft};
+ghost use Rattle.dvg_named.specs.FlatFrames.{HasFewOps, IsSpanOf, StopsFrames};
 ghost use Rattle.dvg_named.specs.LaidValues.{AreLow, laid_sections};
 ghost use Rattle.dvg_named.specs.OpSources.{AreLinesOf, HasRowLines, line_kept};
 ghost use Rattle.dvg_named.specs.OpSources.{op_sources};
@@ -39,8 +40,8 @@ pub struct JoinedFrames<'a, A: Allocator> {
     pub spans: Vec<FrameSpan<'a>, A>,
 }
 
-/// Returns the drafts of `frames`, with the names of the ROM from `rom`. Returns `Ungiven` where
-/// one needs a name that isn't given, and `Memory` where an allocation fails.
+/// Returns the drafts of `frames`, with the names of the ROM from `rom`. Returns `UnknownName`
+/// where one needs a name that isn't given, and `Memory` where an allocation fails.
 pub(crate) fn join_frames<'a, A: Allocator + Copy>(
     alloc: A,
     frames: &[FrameRows<'_, 'a>],
@@ -137,7 +138,7 @@ fn push_frame<'a, A: Allocator + Copy>(
     ensures place { IfOk result (λ span.
         (span.start ≡ length ops.old.items) × (span.end ≡ length ops.new.items)) }
     ensures grown { OnOk result ((more : List Kind) × (ops.new.items ≡ ops.old.items ++ more)) }
-    ensures fault { IfErr result (StopsFrame (laid_sections rom.now) frame.now) }
+    ensures fault { IfErr result (StopsDraft (laid_sections rom.now) frame.now.rows.now) }
 {
     let start = ops.len();
     match push_draft(alloc, ops, frame.rows, rom) {

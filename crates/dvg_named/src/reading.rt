@@ -11,16 +11,16 @@ use crate::frame_rows::{FrameRows, frame_rows};
 use crate::joining::{JoinedFrames, join_frames};
 use crate::laid::{LaidNames, LaidRows, lay};
 use crate::rom_sections::rom_rows;
-use crate::rom_words::{RomRow, put_sections};
+use crate::rom_words::put_sections;
 use crate::stated_rom::StatedRom;
 use crate::unknown::first_unknown;
 use arrayvec::ArrayVec;
 use dvg_code::OutOfMemory;
 use dvg_frame::OpKind;
 use dvg_mem::LARGE_ROM_BYTES;
+use dvg_read::LineFault;
 use dvg_rows::{
-    Doing, GivenNames, Head, LineFault, Part, RomArea, Row, Source, read_head, read_row,
-    words_of_row,
+    Doing, GivenNames, Head, Part, RomArea, Row, Source, read_head, read_row, words_of_row,
 };
 use std::alloc::Allocator;
 use std::mem;
@@ -62,9 +62,8 @@ impl<'a, A: Allocator + Copy> Reading<'a, A> {
     ghost use Rattle.dvg_named.specs.SketchReading.{IsBare, Opens, Reads, ReadsMore, StopsSketch};
     ghost use Rattle.dvg_named.specs.SketchReading.{head_in, spelled_in};
     ghost use Rattle.dvg_named.specs.GivenRoms.{GivesRom, IsLaidText};
-    ghost use Rattle.dvg_named.specs.RomBytes.{IsFirstInRom};
     ghost use Rattle.dvg_named.specs.LaidValues.{laid_sections};
-    ghost use Rattle.dvg_named.specs.NamedFaults.{laid_of};
+    ghost use Rattle.dvg_named.specs.SketchFaults.{laid_of};
     ghost use Rattle.dvg_rows.specs.PlainLines.{plain};
     ghost use Rattle.dvg_named.specs.TextReading.{ReadsText};
     ghost use Rattle.dvg_named.specs.SketchSteps.{AreParts, line_of};
@@ -74,12 +73,12 @@ impl<'a, A: Allocator + Copy> Reading<'a, A> {
     ghost use Rattle.dvg_named.specs.LineNumbers.{head_at_top};
     ghost use Rattle.std.specs.Prelude.{None, IfNone, IfSome, map};
     ghost use Rattle.std.specs.Char.{to_ascii_lowercase};
-    ghost use Rattle.dvg_named.specs.declared.fault.NamedFault.TheVariants.{Unknown};
+    ghost use Rattle.dvg_read.specs.declared.fault.TextFault.TheVariants.{UnknownName};
     ghost use Rattle.dvg_named.specs.FirstUnknown.{StopsDrafts, WantsNone, sections_in};
     ghost use Rattle.dvg_named.specs.FlatFrames.{frame_at};
     ghost use Rattle.dvg_named.specs.Meanings.{IsFrameOf};
     ghost use Rattle.std.specs.List.{AllZip};
-    ghost use Rattle.dvg_named.specs.NamedFaults.{HasNamedFault};
+    ghost use Rattle.dvg_named.specs.SketchFaults.{HasSketchFault};
     ghost use Rattle.dvg_named.specs.ReadSketches.{IsInside, StandsIn, joined_at};
 
     /// Returns the reading before the line `first`, which is the text's first. Its memory comes
@@ -341,24 +340,20 @@ impl<'a, A: Allocator + Copy> Reading<'a, A> {
     }
 
     /// Returns the bytes of the ROM, with the words of its sections as they are `laid`, after all
-    /// lines of a text. Or else returns the first row of the ROM that needs a name which isn't
-    /// given. No memory is taken.
-    pub fn rom(
-        &self,
-        laid: &LaidNames<'_, '_, '_, A>,
-    ) -> Result<ArrayVec<u8, LARGE_ROM_BYTES>, RomRow>
+    /// lines of a text. Returns `None` where a row of the ROM needs a name that isn't given. No
+    /// memory is taken.
+    pub fn rom(&self, laid: &LaidNames<'_, '_, '_, A>) -> Option<ArrayVec<u8, LARGE_ROM_BYTES>>
         requires { IsLaidText self.now laid.now }
-        ensures rom { IfOk result (λ bytes. (stated : RomText) → Reads stated self.now
+        ensures rom { IfSome result (λ bytes. (stated : RomText) → Reads stated self.now
             → laid_sections laid.now ≡ laid_of (spelled_in stated self.now)
             → GivesRom (spelled_in stated self.now) bytes.items) }
-        ensures ungiven { IfErr result (IsFirstInRom (laid_sections laid.now)) }
-        ensures known { IfErr result (λ row.
-            ¬ All (WantsNone (laid_sections laid.now)) (sections_in self.now)) }
+        ensures unknown { IfNone result
+            (¬ All (WantsNone (laid_sections laid.now)) (sections_in self.now)) }
     {
         let mut bytes = self.rom.bytes();
         match put_sections(bytes.as_mut_slice(), laid) {
-            Ok(()) => Ok(bytes),
-            Err(row) => Err(row),
+            Some(()) => Some(bytes),
+            None => None,
         }
     }
 
@@ -373,7 +368,7 @@ impl<'a, A: Allocator + Copy> Reading<'a, A> {
         ensures unknown { IfOk result (λ found. IfSome found (λ number. (small text : List ℕ)
             → (read : ReadsText small self.now)
             → laid_sections laid.now ≡ laid_of (spelled_in read.rom self.now)
-            → map to_ascii_lowercase text ≡ small → HasNamedFault text (Unknown number))) }
+            → map to_ascii_lowercase text ≡ small → HasSketchFault text (UnknownName number))) }
         ensures known { IfOk result (λ found. IfNone found
             (All (WantsNone (laid_sections laid.now)) (sections_in self.now))) }
     {
@@ -398,7 +393,7 @@ impl<'a, A: Allocator + Copy> Reading<'a, A> {
     }
 
     /// Returns the drafts of the frames, in order, after all lines of a text. The names of the ROM
-    /// are those of `laid`. Returns `Ungiven` where a frame needs a name that isn't given, and
+    /// are those of `laid`. Returns `UnknownName` where a frame needs a name that isn't given, and
     /// `Memory` where an allocation fails.
     pub fn drafts(&self, laid: &LaidNames<'_, '_, '_, A>) -> Result<JoinedFrames<'a, A>, DraftFault>
         requires text { IsLaidText self.now laid.now }

@@ -1,6 +1,6 @@
 //! The words of the ROM's sections, in the bytes of a ROM.
 ghost use Rattle.std.specs.Prelude.{◌≡◌, ◌≢◌, ◌⊎◌, ◌+◌, ◌-◌, ◌*◌, ◌/◌, ◌<◌, ◌≤◌, ℕ, List, [], All};
-ghost use Rattle.std.specs.Prelude.{get_or, length, IfErr, IfNone, IfSome, OnOk};
+ghost use Rattle.std.specs.Prelude.{get_or, length, IfNone, IfSome, OnSome};
 ghost use Rattle.dvg_code.specs.declared.instr.Instr.TheVariants.{Jmpl, Jsrl};
 ghost use Rattle.dvg_code.specs.Spelling.{canon};
 ghost use Rattle.dvg_code.specs.Words.{word_in};
@@ -11,13 +11,14 @@ ghost use Rattle.dvg_rows.specs.HeldRows.{rows_of};
 ghost use Rattle.dvg_named.specs.LaidValues.{AreLow, IsAddressIn, NoneNames, laid_section};
 ghost use Rattle.dvg_named.specs.LaidValues.{laid_sections};
 ghost use Rattle.dvg_named.specs.Meanings.{IsEncoded};
-ghost use Rattle.dvg_named.specs.NamedFaults.{IsUngiven};
+ghost use Rattle.dvg_named.specs.SketchFaults.{IsUngiven};
 ghost use Rattle.dvg_named.specs.Places.{IsAddress, Laid, laid_end};
-ghost use Rattle.dvg_named.specs.RomBytes.{ArePut, IsFirstInRom, LieInRom, MayBeEncoded};
+ghost use Rattle.dvg_named.specs.FirstUnknown.{WantsNone};
+ghost use Rattle.dvg_named.specs.RomBytes.{ArePut, KnowsRom, LieInRom, MayBeEncoded};
 ghost use Rattle.dvg_named.specs.RomBytes.{MayStandInRom, PutsSection, TellsSections};
 ghost use Rattle.dvg_rows.specs.RowValues.{doing_of};
 ghost use Rattle.dvg_rows.specs.Rows.{plainly};
-ghost use Rattle.dvg_named.specs.Ungiven.{IsFirstInSection, WantsAt, WantsInRom, in_rom};
+ghost use Rattle.dvg_named.specs.Ungiven.{WantsInRom, in_rom};
 
 use crate::laid::{LaidNames, LaidRows, address_of};
 use dvg_code::{Code, Instr, encode};
@@ -25,72 +26,58 @@ use dvg_frame::OpKind;
 use dvg_rows::{Doing, ROM_END};
 use std::alloc::Allocator;
 
-/// A row of a section of the ROM, by the numbers of both, counted from 0.
-#[derive(Clone, Copy, Debug, PartialEq, Eq)]
-pub(crate) struct RomRow {
-    /// The number of the section.
-    pub section: usize,
-    /// The number of the row in it.
-    pub row: usize,
-}
-
 /// Puts the canonical words of the laid `sections` into `rom`, the 2,048 or 4,096 bytes of a ROM.
 /// Each section goes to its address, the low byte of a word first. So bytes of which lines `rom`
 /// gave the words become those that the same words would have made of them, given by further lines.
-/// Or else returns the first row that needs a name which isn't given; what was put before it stays.
-/// No memory is taken. The time grows with the number of rows.
+/// Returns `None` where a row needs a name that isn't given; what was put before it stays. No
+/// memory is taken. The time grows with the number of rows.
 pub(crate) fn put_sections<A: Allocator + Copy>(
     rom: &mut [u8],
     sections: &LaidNames<'_, '_, '_, A>,
-) -> Result<(), RomRow>
+) -> Option<()>
     requires size { (length rom.old ≡ 2048) ⊎ (length rom.old ≡ 4096) }
     requires lie { LieInRom (0xC00 - length rom.old / 2) (laid_sections sections.now) }
     requires may { All (λ section. MayStandInRom section.rows) (laid_sections sections.now) }
-    ensures stated { OnOk result ((stated : RomText) → IsRomOf stated rom.old
+    ensures stated { OnSome result ((stated : RomText) → IsRomOf stated rom.old
         → TellsSections (laid_sections sections.now) (laid_sections sections.now) stated rom.new) }
-    ensures ungiven { IfErr result (IsFirstInRom (laid_sections sections.now)) }
+    ensures unknown { IfNone result (¬ KnowsRom (laid_sections sections.now)) }
 {
     let first = ROM_END - rom.len() / 2;
-    for (number, section) in sections.sections().iter().enumerate() {
-        if let Err(row) = put_section(rom, first, sections, section) {
-            return Err(RomRow {
-                section: number,
-                row,
-            });
-        }
+    for section in sections.sections() {
+        let Some(()) = put_section(rom, first, sections, section) else {
+            return None;
+        };
     }
-    Ok(())
+    Some(())
 }
 
 // Puts the words of `section`, one of `sections`, into `rom`, the bytes of a ROM. `first` is the
-// word address of the ROM's first word. Or else returns the place of the first row that needs a
-// name which isn't given.
+// word address of the ROM's first word. Returns `None` where a row needs a name that isn't given.
 fn put_section<A: Allocator + Copy>(
     rom: &mut [u8],
     first: usize,
     sections: &LaidNames<'_, '_, '_, A>,
     section: &LaidRows,
-) -> Result<(), usize>
+) -> Option<()>
     requires low { AreLow (laid_sections sections.now) }
     requires start { first ≤ section.now.start }
     requires end { laid_end (laid_section section.now) ≤ 0xC00 }
     requires whole { 0x1800 ≤ length rom.old + 2 * first }
     requires may { MayStandInRom (rows_of section.now.rows.now) }
-    ensures put { OnOk result (PutsSection sections.now section.now first rom.old rom.new) }
-    ensures known { OnOk result ((place : ℕ)
-        → ¬ WantsAt (laid_sections sections.now) (in_rom (rows_of section.now.rows.now)) place) }
-    ensures ungiven { IfErr result (IsFirstInSection sections.now section.now.rows.now) }
+    ensures put { OnSome result (PutsSection sections.now section.now first rom.old rom.new) }
+    ensures unknown { IfNone result
+        (¬ WantsNone (laid_sections sections.now) (in_rom (rows_of section.now.rows.now))) }
 {
     let mut next = section.start - first;
-    for (place, row) in section.rows.iter().enumerate() {
+    for row in section.rows {
         if let Some(doing) = &row.doing {
             let Some(code) = code_of(sections, doing) else {
-                return Err(place);
+                return None;
             };
             next = put_code(rom, next, code);
         }
     }
-    Ok(())
+    Some(())
 }
 
 // Puts the words of `code` into `rom` from `place` on. Returns the place after them. Places are

@@ -4,14 +4,13 @@ ghost use Rattle.std.specs.Char.{to_ascii_lowercase};
 ghost use Rattle.dvg_named.specs.FirstUnknown.{WantsNone, sections_in};
 ghost use Rattle.dvg_named.specs.GivenRoms.{IsLaidText};
 ghost use Rattle.dvg_named.specs.LaidValues.{laid_sections};
-ghost use Rattle.dvg_named.specs.NamedFaults.{laid_of};
+ghost use Rattle.dvg_named.specs.SketchFaults.{laid_of};
 ghost use Rattle.dvg_named.specs.SketchReading.{Reads, spelled_in};
 ghost use Rattle.dvg_read.specs.RomTexts.{RomText};
 ghost use Rattle.dvg_named.specs.ReadSketches.{AreInside, IsReadOf};
 ghost use Rattle.dvg_named.specs.TextReading.{ReadsText, StopsText};
 
 use crate::addresses::rom_names;
-use crate::fault::{NamedFault, SketchFault};
 use crate::flat_draft::DraftFault;
 use crate::joining::{FrameSpan, JoinedFrames};
 use crate::laid::LaidNames;
@@ -21,6 +20,7 @@ use crate::text_reading::read_lines;
 use arrayvec::ArrayVec;
 use dvg_code::OutOfMemory;
 use dvg_mem::LARGE_ROM_BYTES;
+use dvg_read::{TextFault, Unread};
 use std::alloc::Allocator;
 
 /// A sketch that was read.
@@ -71,14 +71,14 @@ impl<'a, A: Allocator + Copy> Sketch<'a, A> {
 /// the same in either case.
 ///
 /// - `Text`: the fault of the text, that of the first line at fault. `TooLong`, the text has more
-///   than 1,048,576 bytes, comes before all others, and `Unknown` after them.
+///   than 1,048,576 bytes, comes before all others, and `UnknownName` after them.
 /// - `Memory`: an allocation failed.
 ///
 /// The time grows with the length of the text.
 pub fn read_sketch<'a, A: Allocator + Copy>(
     alloc: A,
     small: &'a [u8],
-) -> Result<Sketch<'a, A>, SketchFault>
+) -> Result<Sketch<'a, A>, Unread>
     ensures read { IfOk result (λ sketch. (text : List ℕ)
         → map to_ascii_lowercase text ≡ small.now → IsReadOf text sketch) }
     ensures inside { IfOk result AreInside }
@@ -96,7 +96,7 @@ pub fn read_sketch<'a, A: Allocator + Copy>(
 fn sketch_of<'a, A: Allocator + Copy>(
     alloc: A,
     reading: &Reading<'a, A>,
-) -> Result<Sketch<'a, A>, SketchFault>
+) -> Result<Sketch<'a, A>, Unread>
     requires { (small : List ℕ) × ReadsText small reading.now }
     ensures read { IfOk result (λ sketch. (text : List ℕ)
         → ReadsText (map to_ascii_lowercase text) reading.now → IsReadOf text sketch) }
@@ -105,31 +105,28 @@ fn sketch_of<'a, A: Allocator + Copy>(
         → ReadsText (map to_ascii_lowercase text) reading.now → StopsText fault text) }
 {
     let Ok(rows) = reading.lay() else {
-        return Err(SketchFault::Memory);
+        return Err(Unread::Memory);
     };
     let sections = rows.as_slice();
     let Ok(names) = rom_names(alloc, sections) else {
-        return Err(SketchFault::Memory);
+        return Err(Unread::Memory);
     };
     let Ok(laid) = LaidNames::new(alloc, sections, names.as_slice()) else {
-        return Err(SketchFault::Memory);
+        return Err(Unread::Memory);
     };
-    let Ok(rom) = reading.rom(&laid) else {
+    let Some(rom) = reading.rom(&laid) else {
         return Err(unknown(reading, &laid));
     };
     match reading.drafts(&laid) {
         Ok(frames) => Ok(Sketch { rom, names, frames }),
-        Err(DraftFault::Memory) => Err(SketchFault::Memory),
-        Err(DraftFault::Ungiven(_)) => Err(unknown(reading, &laid)),
+        Err(DraftFault::Memory) => Err(Unread::Memory),
+        Err(DraftFault::UnknownName) => Err(unknown(reading, &laid)),
     }
 }
 
 // Returns the fault of the first line in `reading` that needs a name which isn't given, where there
 // is one. `laid` has the names of the ROM. Returns `Memory` where an allocation fails.
-fn unknown<A: Allocator + Copy>(
-    reading: &Reading<'_, A>,
-    laid: &LaidNames<'_, '_, '_, A>,
-) -> SketchFault
+fn unknown<A: Allocator + Copy>(reading: &Reading<'_, A>, laid: &LaidNames<'_, '_, '_, A>) -> Unread
     requires text { IsLaidText reading.now laid.now }
     requires laid { (stated : RomText) → Reads stated reading.now
         → laid_sections laid.now ≡ laid_of (spelled_in stated reading.now) }
@@ -138,8 +135,8 @@ fn unknown<A: Allocator + Copy>(
         → StopsText result text }
 {
     match reading.first_unknown(laid) {
-        Ok(Some(number)) => SketchFault::Text(NamedFault::Unknown(number)),
+        Ok(Some(number)) => Unread::Text(TextFault::UnknownName(number)),
         Ok(None) => unreachable!(),
-        Err(_) => SketchFault::Memory,
+        Err(_) => Unread::Memory,
     }
 }

@@ -3,13 +3,12 @@ ghost use Rattle.std.specs.Prelude.{◌≡◌, ℕ, List, IfErr, IfOk, map};
 ghost use Rattle.std.specs.Char.{to_ascii_lowercase};
 ghost use Rattle.dvg_read.specs.Texts.{lines};
 ghost use Rattle.dvg_named.specs.SourcedRows.{first_of};
-ghost use Rattle.dvg_named.specs.TextReading.{ReadsText, StopsText, fault_at};
+ghost use Rattle.dvg_named.specs.TextReading.{ReadsText, StopsText};
 
-use crate::fault::{NamedFault, SketchFault};
 use crate::reading::Reading;
 use arrayvec::ArrayVec;
-use dvg_read::{MOST_TEXT_BYTES, TextLines};
-use dvg_rows::{LineFault, Source, find_tokens};
+use dvg_read::{MOST_TEXT_BYTES, TextFault, TextLines, Unread};
+use dvg_rows::{Source, find_tokens};
 use std::alloc::Allocator;
 
 /// Reads all lines of `small`, a text in small letters, in one pass. Returns `Text` where `small`
@@ -18,13 +17,13 @@ use std::alloc::Allocator;
 pub(crate) fn read_lines<'a, A: Allocator + Copy>(
     alloc: A,
     small: &'a [u8],
-) -> Result<Reading<'a, A>, SketchFault>
+) -> Result<Reading<'a, A>, Unread>
     ensures read { IfOk result (ReadsText small.now) }
     ensures fault { IfErr result (λ fault. (text : List ℕ)
         → map to_ascii_lowercase text ≡ small.now → StopsText fault text) }
 {
     if small.len() > MOST_TEXT_BYTES {
-        return Err(SketchFault::Text(NamedFault::TooLong));
+        return Err(Unread::Text(TextFault::TooLong));
     }
     let mut reading = Reading::new(alloc, first_line(small));
     let mut tokens = ArrayVec::new();
@@ -32,13 +31,13 @@ pub(crate) fn read_lines<'a, A: Allocator + Copy>(
     for line in TextLines::new(small) {
         number += 1;
         if let Err(many) = find_tokens(line, &mut tokens) {
-            return Err(at_line(many, number));
+            return Err(many.at_line(number));
         }
         if tokens.is_empty() {
             continue;
         }
         if let Err(fault) = reading.add(Source { number, line }, tokens.as_slice()) {
-            return Err(at_line(fault, number));
+            return Err(fault.at_line(number));
         }
     }
     Ok(reading)
@@ -56,19 +55,5 @@ fn first_line(text: &[u8]) -> Source<'_>
             number: 1,
             line: &[],
         },
-    }
-}
-
-// Returns `fault` as that of the line of this `number`.
-fn at_line(fault: LineFault, number: usize) -> SketchFault
-    ensures { result ≡ fault_at fault number }
-{
-    match fault {
-        LineFault::Syntax => SketchFault::Text(NamedFault::Syntax(number)),
-        LineFault::Twice => SketchFault::Text(NamedFault::Twice(number)),
-        LineFault::Full => SketchFault::Text(NamedFault::Full(number)),
-        LineFault::OutOfRom => SketchFault::Text(NamedFault::OutOfRom(number)),
-        LineFault::Overlap => SketchFault::Text(NamedFault::Overlap(number)),
-        LineFault::Memory => SketchFault::Memory,
     }
 }

@@ -6,7 +6,7 @@ ghost use Rattle.dvg_named.specs.FirstUnknown.{all_sections, entries_held, secti
 ghost use Rattle.dvg_rows.specs.HeldRows.{rows_of};
 ghost use Rattle.dvg_named.specs.LaidValues.{AreLow, NoneNames, laid_sections};
 ghost use Rattle.dvg_named.specs.LineNumbers.{entries_last};
-ghost use Rattle.dvg_named.specs.NamedFaults.{IsLost, IsUngiven};
+ghost use Rattle.dvg_named.specs.SketchFaults.{IsLost, IsUngiven};
 ghost use Rattle.dvg_rows.specs.RowPlaces.{IsNumber};
 ghost use Rattle.dvg_rows.specs.RowValues.{doing_of, head_of, row_of};
 ghost use Rattle.dvg_named.specs.Sections.{Section};

@@ -4,6 +4,8 @@ use Rattle.std.proofs.lemmas.List.{drop_more, length-take}
 use Rattle.std.specs.Io.KnownBytes.{Appends}
 use Rattle.dvg_read.specs.declared.fault.TextFault.{TextFault}
 use Rattle.dvg_read.specs.declared.fault.TextFault.TheVariants.{DumpSize, LongDump}
+use Rattle.dvg_read.specs.declared.fault.Unread.{Unread}
+use Rattle.dvg_read.specs.declared.fault.Unread.TheVariants as unread
 use Rattle.dvg_io.specs.declared.fault.ToolFault.{ToolFault}
 use Rattle.dvg_io.specs.declared.fault.ToolFault.TheVariants.{Text, Reader, Writer, Memory}
 use Rattle.dvg_io.specs.Watching.{BeginsToWrite}
@@ -17,6 +19,7 @@ use Rattle.dvg_dump.specs.Ends.{End}
 use Rattle.dvg_dump.specs.Memory.{HasDumpSize}
 use Rattle.dvg_picture.specs.Pictures.{HasDumpFault, IsDumpFault, IsRunOf, Pictures, ShowsRun}
 use Rattle.dvg_picture.specs.Texts.{ran_text, run_text}
+use Rattle.dvg_dump.specs.declared.dump.TheConstants.{LARGE_DUMP_BYTES}
 
 -- the next instruction is that at this index
 pub next_ran : (trace : List Ran) (i : ℕ) (ran : Ran) → i < length trace → ran ≡ get_or trace i ran
@@ -24,30 +27,28 @@ pub next_ran : (trace : List Ran) (i : ℕ) (ran : Ran) → i < length trace →
 next_ran trace i ran low is = ap (flat_map ran_text) (drop_more trace i ran low) ∙ ap (λ r. ran_text r ++ flat_map ran_text (drop (i + 1) trace)) (sym is)
 
 -- what was read is the input, if it has the size of a dump
-pub short : (size : List ℕ) → HasDumpSize size → length size ≤ 6144
+pub short : (size : List ℕ) → HasDumpSize size → length size ≤ LARGE_DUMP_BYTES
 short dump (inl small) = omega arith
 short dump (inr large) = omega arith
 
 -- the fault of what was read is that of the input
-pub faulted : (fault : TextFault) (input read : List ℕ) → read ≡ take 6145 input → HasDumpFault read fault → HasDumpFault input fault
+pub faulted : (fault : TextFault) (input read : List ℕ) → read ≡ take (LARGE_DUMP_BYTES + 1) input → HasDumpFault read fault → HasDumpFault input fault
 faulted (DumpSize bytes) input read e h =
-    subst (λ dump. HasDumpFault dump (DumpSize bytes)) (whole 6144 read input e (omega (arith, h.0, h.1))) h
-faulted LongDump input read e h = omega (arith, h, ap length e, length-take 6145 input)
+    subst (λ dump. HasDumpFault dump (DumpSize bytes)) (whole LARGE_DUMP_BYTES read input e (omega (arith, h.0, h.1))) h
+faulted LongDump input read e h = omega (arith, h, ap length e, length-take (LARGE_DUMP_BYTES + 1) input)
 faulted _ input read e h = absurd h
 
 -- the run over what was read is that over the input
-pub run_of : (all : Bool) (input read : List ℕ) (ran : List Ran) (end : End) → read ≡ take 6145 input → IsRunOf all read ran end → IsRunOf all input ran end
-run_of all input read ran end e run = subst (λ dump. IsRunOf all dump ran end) (whole 6144 read input e (short read run.0)) run
+pub run_of : (all : Bool) (input read : List ℕ) (ran : List Ran) (end : End) → read ≡ take (LARGE_DUMP_BYTES + 1) input → IsRunOf all read ran end → IsRunOf all input ran end
+run_of all input read ran end e run = subst (λ dump. IsRunOf all dump ran end) (whole LARGE_DUMP_BYTES read input e (short read run.0)) run
 
 -- what is found of what was read is found of the input
-pub finds : {A : Type 0} (all : Bool) (read : List ℕ) (answer : Result (Traced A) ToolFault)
+pub finds : {A : Type 0} (all : Bool) (read : List ℕ) (answer : Result (Traced A) Unread)
     → IfOk answer (λ run. IsRunOf all read run.ran.items (end_of run.ending)) → IfErr answer (IsDumpFault read)
-    → OfInput 6144 read (λ input. IsFinding (λ run. IsRunOf all input run.ran.items (end_of run.ending)) (HasDumpFault input) answer)
+    → OfInput LARGE_DUMP_BYTES read (λ input. IsFinding (λ run. IsRunOf all input run.ran.items (end_of run.ending)) (HasDumpFault input) answer)
 finds all read (Ok run) ok err input e = run_of all input read run.ran.items (end_of run.ending) e ok
-finds all read (Err (Text fault)) ok err input e = faulted fault input read e err
-finds all read (Err Memory) ok err input e = tt
-finds all read (Err Reader) ok err input e = absurd err
-finds all read (Err Writer) ok err input e = absurd err
+finds all read (Err (unread.Text fault)) ok err input e = faulted fault input read e err
+finds all read (Err unread.Memory) ok err input e = tt
 
 -- a run is shown
 shows : (all : Bool) (input : List ℕ) (ran : List Ran) (end : End) (Holds : End → List ℕ → Type 0) → IsRunOf all input ran end

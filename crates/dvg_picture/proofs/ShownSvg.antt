@@ -1,6 +1,8 @@
 -- From the run that is recorded to what it draws.
 use Rattle.std.proofs.Common.{◌≡◌, ℕ, List, true, Option, Result, Ok, Err, IfOk, IfErr, ap, sym, ◌∙◌, subst}
 use Rattle.dvg_gen.specs.declared.stroke.Stroke.{Stroke}
+use Rattle.dvg_read.specs.declared.fault.Unread.{Unread}
+use Rattle.dvg_read.specs.declared.fault.Unread.TheVariants as unread
 use Rattle.dvg_io.specs.declared.fault.ToolFault.{ToolFault}
 use Rattle.dvg_io.specs.declared.fault.ToolFault.TheVariants.{Text, Reader, Writer, Memory}
 use Rattle.dvg_io.specs.Serving.{Answers, IsFinding, OfInput}
@@ -15,6 +17,7 @@ use Rattle.dvg_picture.specs.Pictures.{HasDumpFault, IsDumpFault, IsRunOf}
 use Rattle.dvg_picture.specs.Svgs.{DrawsSvg, IsDrawn, run_svg, strokes_of}
 use Rattle.dvg_picture.specs.Undrawn.{undrawn_by}
 use Rattle.dvg_picture.proofs.Shown.{faulted, short}
+use Rattle.dvg_dump.specs.declared.dump.TheConstants.{LARGE_DUMP_BYTES}
 
 -- what a run that is recorded draws
 pub draws : (dump : List ℕ) (ran : List Ran) (end : End) (drew : List Stroke) (undrawn : Option Undrawn) → IsRunOf true dump ran end → drew ≡ strokes_of ran
@@ -29,15 +32,13 @@ draws dump ran end drew undrawn run recorded called = record {
 }
 
 -- what is found of what was read is found of the input
-pub finds : {A : Type 0} (read : List ℕ) (answer : Result (Drawn A) ToolFault)
+pub finds : {A : Type 0} (read : List ℕ) (answer : Result (Drawn A) Unread)
     → IfOk answer (λ drawn. IsDrawn read drawn.strokes.items drawn.undrawn) → IfErr answer (IsDumpFault read)
-    → OfInput 6144 read (λ input. IsFinding (λ drawn. IsDrawn input drawn.strokes.items drawn.undrawn) (HasDumpFault input) answer)
+    → OfInput LARGE_DUMP_BYTES read (λ input. IsFinding (λ drawn. IsDrawn input drawn.strokes.items drawn.undrawn) (HasDumpFault input) answer)
 finds read (Ok drawn) ok err input e =
-    subst (λ dump. IsDrawn dump drawn.strokes.items drawn.undrawn) (whole 6144 read input e (short read ok.size)) ok
-finds read (Err (Text fault)) ok err input e = faulted fault input read e err
-finds read (Err Memory) ok err input e = tt
-finds read (Err Reader) ok err input e = absurd err
-finds read (Err Writer) ok err input e = absurd err
+    subst (λ dump. IsDrawn dump drawn.strokes.items drawn.undrawn) (whole LARGE_DUMP_BYTES read input e (short read ok.size)) ok
+finds read (Err (unread.Text fault)) ok err input e = faulted fault input read e err
+finds read (Err unread.Memory) ok err input e = tt
 
 -- where it stops
 pub stops : (A : Type 0) (percent : ℕ) (fault : ToolFault) (old new : Option (List ℕ)) (input : List ℕ)

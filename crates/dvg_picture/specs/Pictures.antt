@@ -4,8 +4,10 @@ use Rattle.std.specs.Io.KnownBytes.{Appends}
 use Rattle.dvg_gen.specs.Run.{Visit}
 use Rattle.dvg_read.specs.declared.fault.TextFault.{TextFault}
 use Rattle.dvg_read.specs.declared.fault.TextFault.TheVariants.{DumpSize, LongDump}
+use Rattle.dvg_read.specs.declared.fault.Unread.{Unread}
+use Rattle.dvg_read.specs.declared.fault.Unread.TheVariants as unread
 use Rattle.dvg_io.specs.declared.fault.ToolFault.{ToolFault}
-use Rattle.dvg_io.specs.declared.fault.ToolFault.TheVariants.{Text, Writer, Memory}
+use Rattle.dvg_io.specs.declared.fault.ToolFault.TheVariants.{Text, Writer}
 use Rattle.dvg_io.specs.Watching.{BeginsToWrite}
 use Rattle.dvg_dump.specs.declared.ending.Outcome.{Outcome}
 use Rattle.dvg_dump.specs.declared.ran.Ran.{Ran}
@@ -14,6 +16,7 @@ use Rattle.dvg_dump.specs.Ends.{End, Ends}
 use Rattle.dvg_dump.specs.Following.{TellsRun}
 use Rattle.dvg_dump.specs.Memory.{HasDumpSize, memory_of, parts_of}
 use Rattle.dvg_picture.specs.Texts.{picture_text}
+use Rattle.dvg_dump.specs.declared.dump.TheConstants.{LARGE_DUMP_BYTES}
 
 -- the input is a dump, whose run ends so, and this holds of that end and of the text that is shown
 -- of the run
@@ -26,8 +29,9 @@ pub record ShowsRun (all : Bool) (input : List ℕ) (Holds : End → List ℕ �
 
 -- the fault of an input that isn't a dump: how many bytes it has, or that these are more than a dump's
 abbrev pub HasDumpFault : List ℕ → TextFault → Type 0
-HasDumpFault input (DumpSize bytes) = (length input ≡ bytes) × (bytes ≤ 6144) × ¬ HasDumpSize input
-HasDumpFault input LongDump = 6144 < length input
+HasDumpFault input (DumpSize bytes) =
+    (length input ≡ bytes) × (bytes ≤ LARGE_DUMP_BYTES) × ¬ HasDumpSize input
+HasDumpFault input LongDump = LARGE_DUMP_BYTES < length input
 HasDumpFault input _ = ⊥
 
 -- what `picture` answers of an input, and what went out: the text, or at `Writer` a beginning of it
@@ -45,7 +49,6 @@ IsRunOf traces dump ran end = HasDumpSize dump × TellsRun traces (memory_of (pa
 
 -- a fault at which no run is recorded: that of the size, or want of memory for a dump of a right
 -- size (for a private contract)
-abbrev pub IsDumpFault : List ℕ → ToolFault → Type 0
-IsDumpFault dump (Text fault) = HasDumpFault dump fault
-IsDumpFault dump Memory = HasDumpSize dump
-IsDumpFault dump _ = ⊥
+abbrev pub IsDumpFault : List ℕ → Unread → Type 0
+IsDumpFault dump (unread.Text fault) = HasDumpFault dump fault
+IsDumpFault dump unread.Memory = HasDumpSize dump

@@ -6,11 +6,12 @@ ghost use Rattle.dvg_io.specs.Faults.{ComesBeforeText};
 ghost use Rattle.dvg_io.specs.Serving.{AreFresh, Serves};
 ghost use Rattle.dvg_picture.specs.Pictures.{HasDumpFault, IsDumpFault, IsRunOf, Pictures};
 ghost use Rattle.dvg_picture.specs.Texts.{run_text};
+ghost use Rattle.dvg_dump.specs.declared.dump.TheConstants.{LARGE_DUMP_BYTES};
 
 use crate::writes::write_run;
 use dvg_dump::{Dump, DumpFault, LARGE_DUMP_BYTES, Outcome, Traced};
 use dvg_io::{Engine, StreamFailed, ToolFault, Watched, serve};
-use dvg_read::TextFault;
+use dvg_read::{TextFault, Unread};
 use std::alloc::Allocator;
 use std::io::{Read, Write};
 
@@ -32,17 +33,17 @@ pub(crate) fn run_dump<A: Allocator + Copy>(
     alloc: A,
     bytes: &[u8],
     traces: bool,
-) -> Result<Traced<A>, ToolFault>
+) -> Result<Traced<A>, Unread>
     ensures run { IfOk result (λ run. IsRunOf traces bytes.now run.ran.items (end_of run.ending)) }
     ensures fault { IfErr result (IsDumpFault bytes.now) }
 {
     let dump = match Dump::new(alloc, bytes) {
         Ok(dump) => dump,
-        Err(DumpFault::Size) => return Err(ToolFault::Text(size_fault(bytes))),
-        Err(DumpFault::OutOfMemory) => return Err(ToolFault::Memory),
+        Err(DumpFault::Size) => return Err(Unread::Text(size_fault(bytes))),
+        Err(DumpFault::OutOfMemory) => return Err(Unread::Memory),
     };
     let Ok(run) = dump.run_telling(traces) else {
-        return Err(ToolFault::Memory);
+        return Err(Unread::Memory);
     };
     Ok(run)
 }
@@ -59,7 +60,7 @@ impl<A: Allocator + Copy> Engine<A> for PictureEngine {
 
     const MOST: u32 = LARGE_DUMP_BYTES as u32;
 
-    ghost MOST = { 6144 };
+    ghost MOST = { LARGE_DUMP_BYTES };
 
     ghost Finds = { λ engine input run.
         IsRunOf engine.all input run.ran.items (end_of run.ending) };
@@ -68,7 +69,7 @@ impl<A: Allocator + Copy> Engine<A> for PictureEngine {
 
     ghost text = { λ engine run. run_text run.ran.items (end_of run.ending) };
 
-    fn find(&self, alloc: A, read: &[u8]) -> Result<Traced<A>, ToolFault> {
+    fn find(&self, alloc: A, read: &[u8]) -> Result<Traced<A>, Unread> {
         run_dump(alloc, read, self.all)
     }
 
@@ -107,7 +108,7 @@ pub fn picture<A: Allocator + Copy, R: Read, W: Write>(
     all: bool,
 ) -> Result<Outcome, ToolFault>
     requires fresh { AreFresh reader.old writer.old }
-    ensures { Serves R.remaining W.contents 6145 ComesBeforeText (Pictures all)
+    ensures { Serves R.remaining W.contents LARGE_DUMP_BYTES ComesBeforeText (Pictures all)
         result reader.old reader.new writer.old writer.new }
 {
     let run = serve(&PictureEngine { all }, alloc, reader, writer)?;

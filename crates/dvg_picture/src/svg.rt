@@ -5,6 +5,7 @@ ghost use Rattle.dvg_io.specs.Serving.{AreFresh, Serves};
 ghost use Rattle.dvg_io.specs.Watching.{Writes};
 ghost use Rattle.dvg_picture.specs.Pictures.{HasDumpFault, IsDumpFault};
 ghost use Rattle.dvg_picture.specs.Svgs.{DrawsSvg, IsDrawn, run_svg, strokes_of};
+ghost use Rattle.dvg_dump.specs.declared.dump.TheConstants.{LARGE_DUMP_BYTES};
 
 use crate::engine::run_dump;
 use crate::undrawn::{Undrawn, reason_line, undrawn_by};
@@ -12,6 +13,7 @@ use dvg_code::OutOfMemory;
 use dvg_dump::{LARGE_DUMP_BYTES, Ran};
 use dvg_gen::Stroke;
 use dvg_io::{Engine, StreamFailed, ToolFault, Watched, serve};
+use dvg_read::Unread;
 use dvg_svg::write_svg;
 use std::alloc::Allocator;
 use std::io::{Read, Write};
@@ -38,13 +40,13 @@ fn collect_strokes<A: Allocator>(alloc: A, trace: &[Ran]) -> Result<Vec<Stroke, 
 }
 
 // Returns what the run over the dump `bytes` draws.
-fn draw_dump<A: Allocator + Copy>(alloc: A, bytes: &[u8]) -> Result<Drawn<A>, ToolFault>
+fn draw_dump<A: Allocator + Copy>(alloc: A, bytes: &[u8]) -> Result<Drawn<A>, Unread>
     ensures drawn { IfOk result (λ drawn. IsDrawn bytes.now drawn.strokes.items drawn.undrawn) }
     ensures fault { IfErr result (IsDumpFault bytes.now) }
 {
     let run = run_dump(alloc, bytes, true)?;
     let Ok(strokes) = collect_strokes(alloc, run.ran.as_slice()) else {
-        return Err(ToolFault::Memory);
+        return Err(Unread::Memory);
     };
     Ok(Drawn {
         strokes,
@@ -84,7 +86,7 @@ impl<A: Allocator + Copy> Engine<A> for SvgEngine {
 
     const MOST: u32 = LARGE_DUMP_BYTES as u32;
 
-    ghost MOST = { 6144 };
+    ghost MOST = { LARGE_DUMP_BYTES };
 
     ghost Finds = { λ engine input drawn. IsDrawn input drawn.strokes.items drawn.undrawn };
 
@@ -92,7 +94,7 @@ impl<A: Allocator + Copy> Engine<A> for SvgEngine {
 
     ghost text = { λ engine drawn. run_svg engine.percent drawn.undrawn drawn.strokes.items };
 
-    fn find(&self, alloc: A, read: &[u8]) -> Result<Drawn<A>, ToolFault> {
+    fn find(&self, alloc: A, read: &[u8]) -> Result<Drawn<A>, Unread> {
         draw_dump(alloc, read)
     }
 
@@ -129,7 +131,7 @@ pub fn picture_svg<A: Allocator + Copy, R: Read, W: Write>(
     percent: u16,
 ) -> Result<Option<Undrawn>, ToolFault>
     requires fresh { AreFresh reader.old writer.old }
-    ensures { Serves R.remaining W.contents 6145 ComesBeforeText (DrawsSvg percent)
+    ensures { Serves R.remaining W.contents LARGE_DUMP_BYTES ComesBeforeText (DrawsSvg percent)
         result reader.old reader.new writer.old writer.new }
 {
     let drawn = serve(&SvgEngine { percent }, alloc, reader, writer)?;

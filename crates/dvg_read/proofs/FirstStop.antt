@@ -3,6 +3,7 @@ use Rattle.std.proofs.Common.{◌≡◌, ◌<◌, ℕ, List, [], ◌∷◌, ◌+
 use Rattle.std.proofs.lemmas.List.Elements.{filter-append}
 use Rattle.dvg_read.specs.Texts.{is_passed, lines, unpassed}
 use Rattle.dvg_read.specs.FirstFaults.{Reaches}
+use Rattle.dvg_read.specs.declared.draft_text.TheConstants.{MOST_TEXT_BYTES}
 
 -- two items of one list stand at one place, or one stands before the other
 data Places {A : Type 0} (before other : List A) (x y : A) : Type 0 where
@@ -36,7 +37,7 @@ pub record StopsAt (Fine : List (List ℕ) → Type 0) (text : List ℕ) (n : �
   pub wrong : ¬ Fine (unpassed before ++ line ∷ [])
 
 -- a text that is stopped by a line is short
-pub too_short : {Fine : List (List ℕ) → Type 0} {text : List ℕ} {n : ℕ} → StopsAt Fine text n → 1048576 < length text → ⊥
+pub too_short : {Fine : List (List ℕ) → Type 0} {text : List ℕ} {n : ℕ} → StopsAt Fine text n → MOST_TEXT_BYTES < length text → ⊥
 too_short s long = let short = s.reaches.short in omega arith
 
 -- where each front of lines without fault is without fault

@@ -9,6 +9,7 @@ use Rattle.dvg_read.specs.RomTexts.{RomText}
 use Rattle.dvg_read.specs.TraceTexts.{DenotesTrace, EndsInside, HasTraceFault, IsFineTrace, TraceMeetsFull, MeetsMany, TraceMeetsSyntax, SpellsTrace}
 use Rattle.dvg_read.proofs.FirstStop.{StopsAt, never_stops, one_stop, too_short}
 use Rattle.dvg_read.proofs.TraceSteps.{fine_front, one_spelled_trace}
+use Rattle.dvg_log.specs.declared.trace.TheConstants.{MOST_EVENTS}
 
 -- a text denotes one list of events, and tells one thing of the ROM, at most
 pub one_trace_meaning : (text : List ℕ) (rom also : RomText) (one other : List Happening) → DenotesTrace text rom one → DenotesTrace text also other → (also ≡ rom) × (other ≡ one)
@@ -26,7 +27,7 @@ draft_too_long {F = F} right over fine =
 abbrev full_stops : {text : List ℕ} {n : ℕ} → TraceMeetsFull text n → StopsAt IsFineTrace text n
 full_stops m = record { before = m.before; line = m.line; reaches = m.reaches; wrong = draft_too_long m.right m.over }
 
-too_many : {rom : RomText} {events : List Happening} {ls : List (List ℕ)} → SpellsTrace rom events None ls → 65536 < length events → ¬ IsFineTrace ls
+too_many : {rom : RomText} {events : List Happening} {ls : List (List ℕ)} → SpellsTrace rom events None ls → MOST_EVENTS < length events → ¬ IsFineTrace ls
 too_many right over fine = let same = (one_spelled_trace right fine.spelled).1 in let count = ap length same in let few = fine.fits.count in omega arith
 
 abbrev many_stops : {text : List ℕ} {n : ℕ} → MeetsMany text n → StopsAt IsFineTrace text n

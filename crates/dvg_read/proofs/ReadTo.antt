@@ -14,6 +14,7 @@ use Rattle.dvg_read.specs.declared.rom_text.RomReading.{RomReading}
 use Rattle.dvg_read.specs.FirstFaults.{IsShort, Reaches}
 use Rattle.dvg_read.specs.DraftTexts.{IsFineDraft, DraftMeetsFull, DraftMeetsSyntax, SpellsDraft}
 use Rattle.dvg_read.proofs.DraftSteps.{Goes, does, goes_on, says_more, so_far, tells}
+use Rattle.dvg_read.specs.declared.draft_text.TheConstants.{MOST_TEXT_BYTES}
 
 -- ---- the lines of a text, up to some line
 
@@ -152,5 +153,5 @@ pub lines_length : (text : List ℕ) → length (lines text) ≤ length text
 lines_length [] = omega arith
 lines_length (byte ∷ text) = lines_by (eqb byte 10) byte (lines text) (length text) (lines_length text)
 
-pub bounded : (text : List ℕ) (left : List (List ℕ)) (n : ℕ) (ops : List OpKind) (held : RomReading) → ReadTo text left n ops held → IsShort text → n ≤ 1048576
+pub bounded : (text : List ℕ) (left : List (List ℕ)) (n : ℕ) (ops : List OpKind) (held : RomReading) → ReadTo text left n ops held → IsShort text → n ≤ MOST_TEXT_BYTES
 bounded text left n ops held r short = omega (arith, r.number, ap length r.cut, length-append r.before left, lines_length text)

@@ -6,17 +6,18 @@ use Rattle.std.specs.List.{AllZip}
 use Rattle.std.specs.Option.{is_some}
 use Rattle.dvg_frame.specs.declared.op.OpKind.{OpKind}
 use Rattle.dvg_log.specs.Events.{Happening}
-use Rattle.dvg_read.specs.declared.trace_text.LineFault.{LineFault}
-use Rattle.dvg_read.specs.declared.trace_text.LineFault.TheVariants.{Syntax, Full, Many, Memory}
+use Rattle.dvg_read.specs.declared.fault.LineFault.{LineFault}
+use Rattle.dvg_read.specs.declared.fault.LineFault.TheVariants.{Syntax, Full, Many, Memory}
 use Rattle.dvg_read.specs.Texts.{is_passed, lines, unpassed}
 use Rattle.dvg_read.specs.RomTexts.{RomText}
 use Rattle.dvg_read.specs.declared.rom_text.RomReading.{RomReading}
 use Rattle.dvg_read.specs.RomReading.{HoldsRom, unstated}
 use Rattle.dvg_read.specs.FirstFaults.{IsShort, Reaches}
+use Rattle.dvg_read.specs.LineFaults.{fault_at}
 use Rattle.dvg_read.specs.TraceTexts.{EndsInside, FitsTrace, IsFineTrace, SpellsTrace}
 use Rattle.dvg_read.specs.TraceEvents.{AddsEvents, BeginsWithEvent, SpellsEvent}
 use Rattle.dvg_read.specs.TraceGives.{BringsEvents, GivesTrace, ReadsAhead, StopsLine, StopsReading, TakesLine}
-use Rattle.dvg_read.specs.TraceGives.{events_read, fault_at, opened_of, reads_events, reads_ops}
+use Rattle.dvg_read.specs.TraceGives.{events_read, opened_of, reads_events, reads_ops}
 use Rattle.dvg_read.specs.TextLines.{AddsOps}
 use Rattle.dvg_read.specs.OpLines.{IsOpLine}
 use Rattle.dvg_read.specs.TraceReading.{does}
@@ -26,6 +27,8 @@ use Rattle.dvg_read.proofs.EventRows.{events_unpassed}
 use Rattle.dvg_read.proofs.ReadTo.{count_on, cut_on, lines_length, unpassed_more, unpassed_one}
 use Rattle.dvg_read.proofs.TraceMoves.{event_taken, many_events}
 use Rattle.dvg_read.proofs.TraceSteps.{goes_on, says_more, says_nothing, so_far}
+use Rattle.dvg_read.specs.declared.draft_text.TheConstants.{MOST_TEXT_BYTES}
+use Rattle.dvg_log.specs.declared.trace.TheConstants.{MOST_EVENTS}
 
 -- n lines were read, which spell these events and a ROM that the reader holds; those are left
 pub record ReadTrace (text : List ℕ) (left : List (List ℕ)) (n : ℕ) (events : List Happening) (opened : Option (List OpKind)) (held : RomReading) : Type 0 where
@@ -113,6 +116,7 @@ module _ (text : List ℕ) (left rest : List (List ℕ)) (n : ℕ) (old : List H
     some = h.1;
     few = h.2;
   }
+  stops _ short fits is h = absurd h
 
 -- lines that spell an event each
 all_events : (text : List ℕ) (rest : List (List ℕ)) (held : RomReading) (more : List Happening) (left ahead : List (List ℕ)) (n : ℕ) (old : List Happening) → AllZip SpellsEvent more ahead → left ≡ ahead ++ rest → ReadTrace text left n old None held
@@ -187,13 +191,13 @@ ahead_events (Ok count) old new left rest outside still same a =
 ahead_events (Err e) old new left rest outside still same a = tt
 
 -- memory is wanted for an event that there is room for
-first_brings : (text : List ℕ) (left rest ahead : List (List ℕ)) (n : ℕ) (old : List Happening) (held : RomReading) (event : Happening) → ReadTrace text left n old None held → IsShort text → FitsTrace old None → length old < 65536 → AllZip SpellsEvent (event ∷ []) ahead → left ≡ ahead ++ rest
+first_brings : (text : List ℕ) (left rest ahead : List (List ℕ)) (n : ℕ) (old : List Happening) (held : RomReading) (event : Happening) → ReadTrace text left n old None held → IsShort text → FitsTrace old None → length old < MOST_EVENTS → AllZip SpellsEvent (event ∷ []) ahead → left ≡ ahead ++ rest
     → BringsEvents text
 first_brings text left rest [] n old held event r short fits room h cut = absurd h
 first_brings text left rest (line ∷ ahead) n old held event r short fits room h cut =
     stops text left (ahead ++ rest) n old None held line cut r Memory short fits (events_unpassed line h.0) (many_events Memory old (event ∷ []) line held h.0 (omega (arith, room)))
 
-pub wants_memory : (text : List ℕ) (left : List (List ℕ)) (n : ℕ) (old : List Happening) (opened : Option (List OpKind)) (held : RomReading) → ReadTrace text left n old opened held → IsShort text → FitsTrace old opened → opened ≡ None → length old < 65536 → BeginsWithEvent left
+pub wants_memory : (text : List ℕ) (left : List (List ℕ)) (n : ℕ) (old : List Happening) (opened : Option (List OpKind)) (held : RomReading) → ReadTrace text left n old opened held → IsShort text → FitsTrace old opened → opened ≡ None → length old < MOST_EVENTS → BeginsWithEvent left
     → BringsEvents text
 wants_memory text left n old opened held r short fits closed room b =
     first_brings text left b.rest b.ahead.ahead n old held b.event (subst (λ opened. ReadTrace text left n old opened held) closed r) short (subst (FitsTrace old) closed fits) room b.ahead.spelled b.ahead.cut
@@ -236,5 +240,5 @@ closed_all text left n events None held none r short fits b e test bytes is = gi
 closed_all text left n events (Some F) held none r short fits b e test bytes is = absurd (cc)
 
 -- no text has more lines than bytes
-pub bounded : (text : List ℕ) (left : List (List ℕ)) (n : ℕ) (events : List Happening) (opened : Option (List OpKind)) (held : RomReading) → ReadTrace text left n events opened held → IsShort text → n ≤ 1048576
+pub bounded : (text : List ℕ) (left : List (List ℕ)) (n : ℕ) (events : List Happening) (opened : Option (List OpKind)) (held : RomReading) → ReadTrace text left n events opened held → IsShort text → n ≤ MOST_TEXT_BYTES
 bounded text left n events opened held r short = omega (arith, r.number, ap length r.cut, length-append r.before left, lines_length text)

@@ -4,11 +4,11 @@ use Rattle.std.proofs.lemmas.List.Elements.{All-append, All-nil}
 use Rattle.dvg_frame.specs.declared.op.OpKind.{OpKind}
 use Rattle.dvg_log.specs.Events.{Happening}
 use Rattle.dvg_log.specs.declared.event.Event.TheVariants.{Offer}
-use Rattle.dvg_read.specs.declared.fault.TraceFault.{TraceFault}
-use Rattle.dvg_read.specs.declared.fault.TraceFault.TheVariants as of_trace
+use Rattle.dvg_read.specs.declared.fault.Unread.{Unread}
+use Rattle.dvg_read.specs.declared.fault.Unread.TheVariants as unread
 use Rattle.dvg_read.specs.declared.trace_following.Following.{Following}
-use Rattle.dvg_read.specs.declared.trace_text.LineFault.{LineFault}
-use Rattle.dvg_read.specs.declared.trace_text.LineFault.TheVariants.{Syntax, Full, Many, Memory}
+use Rattle.dvg_read.specs.declared.fault.LineFault.{LineFault}
+use Rattle.dvg_read.specs.declared.fault.LineFault.TheVariants.{Syntax, Full, Many, Memory}
 use Rattle.dvg_read.specs.FirstFaults.{IsShort}
 use Rattle.dvg_read.specs.Texts.{is_passed, lines, parts}
 use Rattle.dvg_read.specs.OpLines.{IsOpLine}
@@ -17,11 +17,14 @@ use Rattle.dvg_read.specs.declared.rom_text.RomReading.{RomReading}
 use Rattle.dvg_read.specs.RomReading.{HoldsRom, TellsMore, unstated}
 use Rattle.dvg_read.specs.TraceTexts.{EndsInside, EventParts, FitsDraft, FitsTrace}
 use Rattle.dvg_read.specs.TraceReading.{events}
-use Rattle.dvg_read.specs.TraceGives.{StopsLine, StopsOperation, TakesLine, fault_at}
+use Rattle.dvg_read.specs.TraceGives.{StopsLine, StopsOperation, TakesLine}
+use Rattle.dvg_read.specs.LineFaults.{fault_at}
 use Rattle.dvg_read.specs.TraceFollowing.{FollowsLine, HasFaultOf, StandsFor, StopsFollowing, opened_in}
 use Rattle.dvg_read.specs.TraceLaws.{HasMeaning, IsTraceRead}
 use Rattle.dvg_read.proofs.TraceMoves.{any_opened, end_fits, end_stops, end_taken, fine_events, no_op_more, none_opened, offer_fits, offer_taken, op_taken, rom_taken, some_opened}
 use Rattle.dvg_read.proofs.ReadTrace.{ReadTrace, begins, bounded, closed_all, ends_open, one_more, passes, stops}
+use Rattle.dvg_read.specs.declared.draft_text.TheConstants.{MOST_TEXT_BYTES}
+use Rattle.dvg_log.specs.declared.trace.TheConstants.{MOST_EVENTS}
 
 no_events_yet : (old : List Happening) → length old ≡ 0 → old ≡ []
 no_events_yet [] none = refl
@@ -63,13 +66,13 @@ events_more : (rom : RomText) (old more : List Happening) (opened left : Option 
 events_more rom old more opened left l held e f p holds = record { now = rom; takes = rw (e, f) (events p); holds = holds }
 
 events_held : (old more : List Happening) (opened left : Option (List OpKind)) {ps : List (List ℕ)}
-    → left ≡ None → EventParts more ps → length old + length more ≤ 65536 → FitsTrace old opened
+    → left ≡ None → EventParts more ps → length old + length more ≤ MOST_EVENTS → FitsTrace old opened
     → FitsTrace (old ++ more) left
 events_held old more opened left f p few fits = rw f (record { count = omega (arith, length-append old more); drafts = All-append FitsDraft old more fits.drafts (fine_events p); last = tt })
 
 pub events_followed : (before after : Following) (more : List Happening) (line : List ℕ)
     → before.is_open ≡ false → after.is_open ≡ false → EventParts more (parts line)
-    → after.rom ≡ before.rom → after.count ≡ before.count + length more → after.count ≤ 65536
+    → after.rom ≡ before.rom → after.count ≡ before.count + length more → after.count ≤ MOST_EVENTS
     → FollowsLine before line after
 events_followed before after more line closed stays p same count few rom old holds s =
     let outside = none_opened before.is_open before.draft closed in
@@ -86,7 +89,7 @@ events_followed before after more line closed stays p same count few rom old hol
 
 -- the end of an offer
 pub end_followed : (before after : Following) → before.is_open ≡ true → after.is_open ≡ false
-    → after.rom ≡ before.rom → after.count ≡ before.count + 1 → before.count < 65536
+    → after.rom ≡ before.rom → after.count ≡ before.count + 1 → before.count < MOST_EVENTS
     → FollowsLine before (codes "end") after
 end_followed before after opens closes same count room rom old holds s =
     let inside = some_opened before.is_open before.draft opens in
@@ -102,17 +105,17 @@ end_followed before after opens closes same count room rom old holds s =
       };
     }
 
-pub end_halts : (following : Following) → following.is_open ≡ true → following.count ≡ 65536
+pub end_halts : (following : Following) → following.is_open ≡ true → following.count ≡ MOST_EVENTS
     → StopsFollowing Many following (codes "end")
 end_halts following opens full old s = end_stops old (opened_in following) following.draft following.rom (some_opened following.is_open following.draft opens) (s.count ∙ full)
 
 -- events that are too many
-many_more : (old more : List Happening) (opened : Option (List OpKind)) (l : List ℕ) (held : RomReading) → opened ≡ None → EventParts more (parts l) → 65536 < length old + length more → StopsLine Many old opened held l
+many_more : (old more : List Happening) (opened : Option (List OpKind)) (l : List ℕ) (held : RomReading) → opened ≡ None → EventParts more (parts l) → MOST_EVENTS < length old + length more → StopsLine Many old opened held l
 many_more old more opened l held e p over = rw e (old ++ more, omega (arith, length-append old more), λ rom. events p)
 
 pub many_halts : (following : Following) (more : List Happening) (line : List ℕ)
     → following.is_open ≡ false → EventParts more (parts line)
-    → 65536 < following.count + length more → StopsFollowing Many following line
+    → MOST_EVENTS < following.count + length more → StopsFollowing Many following line
 many_halts following more line closed p over old s =
     let size = s.count in
     many_more old more (opened_in following) line following.rom (none_opened following.is_open following.draft closed) p (omega (arith, size, over))
@@ -143,8 +146,7 @@ op_halts_by Syntax following line opens no_end h = λ old s.
     subst (λ opened. StopsLine Syntax old opened following.rom line) (sym (some_opened following.is_open following.draft opens)) (no_op_more Syntax old following.draft line following.rom no_end h)
 op_halts_by Full following line opens no_end h = λ old s.
     subst (λ opened. StopsLine Full old opened following.rom line) (sym (some_opened following.is_open following.draft opens)) (no_op_more Full old following.draft line following.rom no_end h)
-op_halts_by Many following line opens no_end h = absurd h
-op_halts_by Memory following line opens no_end h = absurd h
+op_halts_by _ following line opens no_end h = absurd h
 
 pub op_halts : {A : Type 0} (answer : Result A LineFault) (following : Following) (line : List ℕ)
     → following.is_open ≡ true → (line ≡ codes "end" → ⊥)
@@ -190,6 +192,7 @@ module _ (text : List ℕ) (left rest : List (List ℕ)) (n : ℕ) (following : 
   halted Full short is h = stops text left rest n f.events (opened_in following) following.rom line next f.read Full short f.stands.fits is (h f.events f.stands)
   halted Many short is h = stops text left rest n f.events (opened_in following) following.rom line next f.read Many short f.stands.fits is (h f.events f.stands)
   halted Memory short is h = absurd h
+  halted _ short is h = absurd (h f.events f.stands)
 
 -- at the text's end
 
@@ -205,13 +208,13 @@ ended_closed text left n following none f short closed =
     (f.events, following.rom.bytes.items, closed_all text left n f.events (opened_in following) following.rom none f.read short f.stands.fits following.is_open (any_opened following.is_open following.draft) closed following.rom.bytes.items refl)
 
 pub few_lines : (text : List ℕ) (left : List (List ℕ)) (n : ℕ) (following : Following)
-    → FollowedTo text left n following → IsShort text → n ≤ 1048576
+    → FollowedTo text left n following → IsShort text → n ≤ MOST_TEXT_BYTES
 few_lines text left n following f short = bounded text left n f.events (opened_in following) following.rom f.read short
 
 -- each text has a meaning or a fault
-pub meaning_or_fault : {A : Type 0} (text : List ℕ) (answer : Result A TraceFault)
+pub meaning_or_fault : {A : Type 0} (text : List ℕ) (answer : Result A Unread)
     → IfOk answer (λ _. HasMeaning text) → IfErr answer (λ fault. HasFaultOf fault text)
     → IsTraceRead text
 meaning_or_fault text (Ok x) meaning fault = inl meaning
-meaning_or_fault text (Err (of_trace.Text found)) meaning fault = inr (found, fault)
-meaning_or_fault text (Err of_trace.Memory) meaning fault = absurd fault
+meaning_or_fault text (Err (unread.Text found)) meaning fault = inr (found, fault)
+meaning_or_fault text (Err unread.Memory) meaning fault = absurd fault

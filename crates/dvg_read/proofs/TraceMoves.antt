@@ -6,8 +6,8 @@ use Rattle.std.proofs.lemmas.List.Elements.{All-append, All-replicate}
 use Rattle.dvg_frame.specs.declared.op.OpKind.{OpKind}
 use Rattle.dvg_log.specs.Events.{Happening}
 use Rattle.dvg_log.specs.declared.event.Event.TheVariants.{Offer, Redraw, Tick, Strobe, Fetch, ResetGen, ResetCpu, ResetAll}
-use Rattle.dvg_read.specs.declared.trace_text.LineFault.{LineFault}
-use Rattle.dvg_read.specs.declared.trace_text.LineFault.TheVariants.{Syntax, Full, Many, Memory}
+use Rattle.dvg_read.specs.declared.fault.LineFault.{LineFault}
+use Rattle.dvg_read.specs.declared.fault.LineFault.TheVariants.{Syntax, Full, Many, Memory}
 use Rattle.dvg_read.specs.Texts.{parts}
 use Rattle.dvg_read.specs.OpLines.{IsOpLine}
 use Rattle.dvg_read.specs.RomTexts.{RomText}
@@ -17,6 +17,7 @@ use Rattle.dvg_read.specs.TraceTexts.{EventParts, FitsTrace, FitsDraft, redraw, 
 use Rattle.dvg_read.specs.TraceReading.{Takes, does, ends, events, opens, tells}
 use Rattle.dvg_read.specs.TraceGives.{StopsEvents, StopsLine, StopsOperation, TakesLine, opened_by}
 use Rattle.dvg_read.proofs.EventRows.{some_events}
+use Rattle.dvg_log.specs.declared.trace.TheConstants.{MOST_EVENTS}
 
 all_one : {A : Type 0} (P : A → Type 0) (y : A) → P y → All P (y ∷ [])
 all_one P y h zero d l = h
@@ -49,17 +50,17 @@ pub end_taken : (old new : List Happening) (opened left : Option (List OpKind)) 
     → (rom : RomText) → HoldsRom rom held → TakesLine rom old opened (codes "end") new left held
 end_taken old new opened left F held e f g rom holds = record { now = rom; takes = rw (e, f, g) ends; holds = holds }
 
-pub end_fits : (old new : List Happening) (opened left : Option (List OpKind)) (F : List OpKind) → opened ≡ Some F → left ≡ None → new ≡ old ++ Offer F ∷ [] → length old < 65536 → FitsTrace old opened → FitsTrace new left
+pub end_fits : (old new : List Happening) (opened left : Option (List OpKind)) (F : List OpKind) → opened ≡ Some F → left ≡ None → new ≡ old ++ Offer F ∷ [] → length old < MOST_EVENTS → FitsTrace old opened → FitsTrace new left
 end_fits old new opened left F e f g room fits =
     let inside = rw e at fits in
     let last : length F ≤ 511 = inside.last in
     rw (f, g) (record { count = omega (arith, length-append old (Offer F ∷ [])); drafts = All-append FitsDraft old (Offer F ∷ []) fits.drafts (all_one FitsDraft (Offer F) last); last = tt })
 
-pub end_stops : (old : List Happening) (opened : Option (List OpKind)) (F : List OpKind) (held : RomReading) → opened ≡ Some F → length old ≡ 65536 → StopsLine Many old opened held (codes "end")
+pub end_stops : (old : List Happening) (opened : Option (List OpKind)) (F : List OpKind) (held : RomReading) → opened ≡ Some F → length old ≡ MOST_EVENTS → StopsLine Many old opened held (codes "end")
 end_stops old opened F held e full = rw e (old ++ Offer F ∷ [], omega (arith, length-append old (Offer F ∷ [])), λ rom. ends)
 
 -- memory is wanted for an offer that fits
-pub end_wants : (old : List Happening) (opened : Option (List OpKind)) (F : List OpKind) (held : RomReading) → opened ≡ Some F → length old < 65536 → StopsLine Memory old opened held (codes "end")
+pub end_wants : (old : List Happening) (opened : Option (List OpKind)) (F : List OpKind) (held : RomReading) → opened ≡ Some F → length old < MOST_EVENTS → StopsLine Memory old opened held (codes "end")
 end_wants old opened F held e room =
     let count = length-append old (Offer F ∷ []) in
     rw e (old ++ Offer F ∷ [], omega (arith, count), omega (arith, count, room), λ rom. ends)
@@ -91,7 +92,7 @@ fine_events resetgen = all_one FitsDraft ResetGen tt
 fine_events resetcpu = all_one FitsDraft ResetCpu tt
 fine_events (resetall {byte = byte} h) = all_one FitsDraft (ResetAll (replicate 2048 byte)) tt
 
-pub events_fit : {A E : Type 0} (answer : Result A E) (old more new : List Happening) (opened : Option (List OpKind)) (ps : List (List ℕ)) → EventParts more ps → OnOk answer (new ≡ old ++ more) → OnOk answer (length new ≤ 65536)
+pub events_fit : {A E : Type 0} (answer : Result A E) (old more new : List Happening) (opened : Option (List OpKind)) (ps : List (List ℕ)) → EventParts more ps → OnOk answer (new ≡ old ++ more) → OnOk answer (length new ≤ MOST_EVENTS)
     → FitsTrace old opened → OnOk answer (FitsTrace new opened)
 events_fit (Ok x) old more new opened ps p g room fits = record { count = room; drafts = subst (All FitsDraft) (sym g) (All-append FitsDraft old more fits.drafts (fine_events p)); last = fits.last }
 events_fit (Err x) old more new opened ps p g room fits = tt
@@ -102,8 +103,7 @@ many_events Memory old more l held p h =
     let count = length-append old more in
     let some = some_events p in
     (old ++ more, omega (arith, count, some), omega (arith, count, h), λ rom. events p)
-many_events Syntax old more l held p h = absurd h
-many_events Full old more l held p h = absurd h
+many_events _ old more l held p h = absurd h
 
 pub events_stop : {A : Type 0} (answer : Result A LineFault) (old more : List Happening) (opened : Option (List OpKind)) (l : List ℕ) (held : RomReading) → opened ≡ None → EventParts more (parts l) → IfErr answer (λ fault. StopsEvents fault old more)
     → IfErr answer (λ fault. StopsLine fault old opened held l)
@@ -144,8 +144,7 @@ nothing_inside F e no_end no_op ends = no_end refl
 pub no_op_more : (fault : LineFault) (old : List Happening) (F : List OpKind) (l : List ℕ) (held : RomReading) → (l ≡ codes "end" → ⊥) → StopsOperation fault F l → StopsLine fault old (Some F) held l
 no_op_more Syntax old F l held no_end h = λ rom now new left holds t. nothing_inside F refl no_end h t
 no_op_more Full old F l held no_end h = let full = h.1 in (F ++ h.0 ∷ [], omega (arith, length-append F (h.0 ∷ [])), λ rom. does h.0 h.2)
-no_op_more Many old F l held no_end h = absurd h
-no_op_more Memory old F l held no_end h = absurd h
+no_op_more _ old F l held no_end h = absurd h
 
 pub op_stops : {A : Type 0} (answer : Result A LineFault) (old : List Happening) (F : List OpKind) (opened : Option (List OpKind)) (l : List ℕ) (held : RomReading) → opened ≡ Some F → (l ≡ codes "end" → ⊥) → IfErr answer (λ fault. StopsOperation fault F l)
     → IfErr answer (λ fault. StopsLine fault old opened held l)

@@ -8,6 +8,7 @@ use Rattle.dvg_read.specs.Texts.{lines, unpassed}
 use Rattle.dvg_read.specs.FirstFaults.{IsShort, Reaches}
 use Rattle.dvg_read.specs.OpLines.{IsOpLine}
 use Rattle.dvg_read.specs.RomTexts.{RomText, SpellsRom}
+use Rattle.dvg_read.specs.declared.draft_text.TheConstants.{MOST_TEXT_BYTES}
 
 -- lines that describe the ROM, and then lines of operations
 pub record SpellsDraft (rom : RomText) (ops : List OpKind) (ls : List (List ℕ)) : Type 0 where
@@ -49,7 +50,7 @@ pub record DraftMeetsFull (text : List ℕ) (n : ℕ) : Type 0 where
 
 -- the fault of a draft's text
 abbrev pub HasDraftFault : List ℕ → TextFault → Type 0
-HasDraftFault text TooLong = 1048576 < length text
+HasDraftFault text TooLong = MOST_TEXT_BYTES < length text
 HasDraftFault text (Syntax n) = DraftMeetsSyntax text n
 HasDraftFault text (Full n) = DraftMeetsFull text n
 HasDraftFault text _ = ⊥

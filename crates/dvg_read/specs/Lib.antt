@@ -2,6 +2,7 @@ pub mod Texts
 pub mod OpLines
 pub mod RomTexts
 pub mod FirstFaults
+pub mod LineFaults
 pub mod DraftTexts
 pub mod LineParts
 pub mod TextLines

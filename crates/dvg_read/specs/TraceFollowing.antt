@@ -2,11 +2,11 @@
 use Rattle.std.specs.Prelude.{◌≡◌, ℕ, List, length, Option}
 use Rattle.dvg_frame.specs.declared.op.OpKind.{OpKind}
 use Rattle.dvg_log.specs.Events.{Happening}
-use Rattle.dvg_read.specs.declared.fault.TraceFault.{TraceFault}
-use Rattle.dvg_read.specs.declared.fault.TraceFault.TheVariants.{Text, Memory}
+use Rattle.dvg_read.specs.declared.fault.Unread.{Unread}
+use Rattle.dvg_read.specs.declared.fault.Unread.TheVariants.{Text, Memory}
 use Rattle.dvg_read.specs.declared.trace_following.Following.{Following}
-use Rattle.dvg_read.specs.declared.trace_text.LineFault.{LineFault}
-use Rattle.dvg_read.specs.declared.trace_text.LineFault.TheVariants as line_fault
+use Rattle.dvg_read.specs.declared.fault.LineFault.{LineFault}
+use Rattle.dvg_read.specs.declared.fault.LineFault.TheVariants as line_fault
 use Rattle.dvg_read.specs.RomTexts.{RomText}
 use Rattle.dvg_read.specs.RomReading.{HoldsRom}
 use Rattle.dvg_read.specs.TraceTexts.{FitsTrace, HasTraceFault}
@@ -42,6 +42,6 @@ StopsFollowing fault following line =
     → StopsLine fault old (opened_in following) following.rom line
 
 -- why a text isn't followed to its end
-abbrev pub HasFaultOf : TraceFault → List ℕ → Type 0
+abbrev pub HasFaultOf : Unread → List ℕ → Type 0
 HasFaultOf (Text fault) text = HasTraceFault text fault
 HasFaultOf Memory text = ⊥

@@ -3,11 +3,10 @@ use Rattle.std.specs.Prelude.{◌≡◌, ℕ, ◌+◌, ◌<◌, ◌≤◌, List,
 use Rattle.std.specs.Prelude.{true, false, Option, Some, None}
 use Rattle.dvg_frame.specs.declared.op.OpKind.{OpKind}
 use Rattle.dvg_log.specs.Events.{Happening}
-use Rattle.dvg_read.specs.declared.fault.TextFault.TheVariants.{Syntax, Full, Many}
-use Rattle.dvg_read.specs.declared.fault.TraceFault.{TraceFault}
-use Rattle.dvg_read.specs.declared.fault.TraceFault.TheVariants.{Text, Memory}
-use Rattle.dvg_read.specs.declared.trace_text.LineFault.{LineFault}
-use Rattle.dvg_read.specs.declared.trace_text.LineFault.TheVariants as line_fault
+use Rattle.dvg_read.specs.declared.fault.Unread.{Unread}
+use Rattle.dvg_read.specs.declared.fault.Unread.TheVariants.{Text, Memory}
+use Rattle.dvg_read.specs.declared.fault.LineFault.{LineFault}
+use Rattle.dvg_read.specs.declared.fault.LineFault.TheVariants as line_fault
 use Rattle.dvg_read.specs.declared.trace_text.Reading.{Reading}
 use Rattle.dvg_read.specs.OpLines.{IsOpLine}
 use Rattle.dvg_read.specs.RomTexts.{IsRomOf, RomText}
@@ -19,6 +18,7 @@ use Rattle.dvg_read.specs.TraceEvents.{AddsEvents, BeginsWithEvent}
 use Rattle.dvg_read.specs.TextLines.{AddsOps}
 use Rattle.dvg_read.specs.Texts.{lines, unpassed}
 use Rattle.dvg_read.specs.TraceTexts.{DenotesTrace, FitsTrace, HasTraceFault, IsFineTrace, SpellsTrace}
+use Rattle.dvg_log.specs.declared.trace.TheConstants.{MOST_EVENTS}
 
 -- the text denotes these events and a ROM of these bytes
 pub record GivesTrace (text : List ℕ) (events : List Happening) (R : List ℕ) : Type 0 where
@@ -37,21 +37,14 @@ pub record BringsEvents (text : List ℕ) : Type 0 where
   pub events : List Happening
   pub right : SpellsTrace rom events None (unpassed before ++ line ∷ [])
   pub some : 1 ≤ length events
-  pub few : length events ≤ 65536
+  pub few : length events ≤ MOST_EVENTS
 
 -- why a trace isn't read: the fault of its text, or want of memory, where a line brings events
-abbrev pub StopsReading : TraceFault → List ℕ → Type 0
+abbrev pub StopsReading : Unread → List ℕ → Type 0
 StopsReading (Text fault) text = HasTraceFault text fault
 StopsReading Memory text = BringsEvents text
 
--- what a fault of a line is called at the line of this number (this and what follows is for private contracts)
-abbrev pub fault_at : LineFault → ℕ → TraceFault
-fault_at line_fault.Syntax n = Text (Syntax n)
-fault_at line_fault.Full n = Text (Full n)
-fault_at line_fault.Many n = Text (Many n)
-fault_at line_fault.Memory n = Memory
-
--- the events that were read
+-- the events that were read (this and what follows is for private contracts)
 abbrev pub events_read : {A : Type 0} → Reading A → List Happening
 events_read reading = reading.events
 
@@ -108,7 +101,7 @@ pub data ReadsAhead {A : Type 0} (old : Reading A) (left : List (List ℕ)) (cou
 -- memory was wanted for one of these lines, which begin with an event that a trace has room for
 pub record WantsMemory {A : Type 0} (reading : Reading A) (left : List (List ℕ)) : Type 0 where
   pub outside : opened_of reading ≡ None
-  pub room : length (events_read reading) < 65536
+  pub room : length (events_read reading) < MOST_EVENTS
   pub begins : BeginsWithEvent left
 
 -- all lines of a text were read, and this is held of them
@@ -124,11 +117,12 @@ StopsLine line_fault.Syntax old opened held line = (rom now : RomText) (new : Li
     (left : Option (List OpKind)) → HoldsRom rom held → ¬ Takes rom old opened line now new left
 StopsLine line_fault.Full old opened held line = (F : List OpKind) × (511 < length F)
     × ((rom : RomText) → Takes rom old opened line rom old (Some F))
-StopsLine line_fault.Many old opened held line = (new : List Happening) × (65536 < length new)
+StopsLine line_fault.Many old opened held line = (new : List Happening) × (MOST_EVENTS < length new)
     × ((rom : RomText) → Takes rom old opened line rom new None)
 StopsLine line_fault.Memory old opened held line =
-    (new : List Happening) × (1 ≤ length new) × (length new ≤ 65536)
+    (new : List Happening) × (1 ≤ length new) × (length new ≤ MOST_EVENTS)
     × ((rom : RomText) → Takes rom old opened line rom new None)
+StopsLine _ old opened held line = ⊥
 
 -- why one more operation isn't read
 abbrev pub StopsOperation : LineFault → List OpKind → List ℕ → Type 0
@@ -138,6 +132,6 @@ StopsOperation _ F line = ⊥
 
 -- why these further events aren't held
 abbrev pub StopsEvents : LineFault → List Happening → List Happening → Type 0
-StopsEvents line_fault.Many old more = 65536 < length old + length more
-StopsEvents line_fault.Memory old more = length old + length more ≤ 65536
+StopsEvents line_fault.Many old more = MOST_EVENTS < length old + length more
+StopsEvents line_fault.Memory old more = length old + length more ≤ MOST_EVENTS
 StopsEvents _ old more = ⊥

@@ -12,6 +12,8 @@ use Rattle.dvg_read.specs.Texts.{IsHex, lines, parts, unpassed}
 use Rattle.dvg_read.specs.OpLines.{IsOpLine}
 use Rattle.dvg_read.specs.RomTexts.{RomText, SpellsRom}
 use Rattle.dvg_read.specs.FirstFaults.{IsShort, Reaches}
+use Rattle.dvg_read.specs.declared.draft_text.TheConstants.{MOST_TEXT_BYTES}
+use Rattle.dvg_log.specs.declared.trace.TheConstants.{MOST_EVENTS}
 
 -- a name alone, or a name and a count
 pub data Counts (name : List ℕ) : ℕ → List (List ℕ) → Type 0 where
@@ -61,7 +63,7 @@ FitsDraft event = Unit {0}
 
 -- at most 65,536 events, with drafts of at most 511 operations
 pub record FitsTrace (events : List Happening) (opened : Option (List OpKind)) : Type 0 where
-  pub count : length events ≤ 65536
+  pub count : length events ≤ MOST_EVENTS
   pub drafts : All FitsDraft events
   pub last : IfSome opened (λ F. length F ≤ 511)
 
@@ -106,7 +108,7 @@ pub record MeetsMany (text : List ℕ) (n : ℕ) : Type 0 where
   pub rom : RomText
   pub events : List Happening
   pub right : SpellsTrace rom events None (unpassed before ++ line ∷ [])
-  pub over : 65536 < length events
+  pub over : MOST_EVENTS < length events
 
 -- no line is at fault, and the text ends inside an offer
 pub record EndsInside (text : List ℕ) : Type 0 where
@@ -119,7 +121,7 @@ pub record EndsInside (text : List ℕ) : Type 0 where
 
 -- the fault of a trace's text
 abbrev pub HasTraceFault : List ℕ → TextFault → Type 0
-HasTraceFault text TooLong = 1048576 < length text
+HasTraceFault text TooLong = MOST_TEXT_BYTES < length text
 HasTraceFault text (Syntax n) = TraceMeetsSyntax text n
 HasTraceFault text (Full n) = TraceMeetsFull text n
 HasTraceFault text (Many n) = MeetsMany text n

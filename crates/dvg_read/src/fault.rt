@@ -1,4 +1,7 @@
 //! What can be wrong with a text.
+ghost use Rattle.std.specs.Prelude.{◌≡◌};
+ghost use Rattle.dvg_read.specs.LineFaults.{fault_at};
+
 use thiserror::Error;
 
 /// A fault of an input. Its text is what `dvg` prints of it (this project's own choice).
@@ -51,13 +54,56 @@ pub enum TextFault {
     UnknownName(usize),
 }
 
-/// Why the text of a trace isn't read.
+/// Why a text isn't read, by a reader that takes memory.
 #[derive(Clone, Copy, Debug, PartialEq, Eq, Error)]
-pub enum TraceFault {
+pub enum Unread {
     /// The text is at fault.
     #[error(transparent)]
     Text(TextFault),
     /// An allocation failed.
     #[error("out of memory")]
     Memory,
+}
+
+/// Why a line isn't taken. What takes one line at a time doesn't know its number.
+#[derive(Clone, Copy, Debug, PartialEq, Eq, Error)]
+pub enum LineFault {
+    /// It spells nothing that may stand at its place.
+    #[error("the line spells nothing that may stand at its place")]
+    Syntax,
+    /// The draft has its 511 operations already.
+    #[error("the draft has its 511 operations already")]
+    Full,
+    /// There would be more events than a trace has.
+    #[error("there would be more than 65536 events")]
+    Many,
+    /// It gives a name that was given before.
+    #[error("the line gives a name that was given before")]
+    NameGivenAgain,
+    /// It begins a section at no word of the ROM, or lays an operation past the ROM's end.
+    #[error("the line lays nothing at a word of the ROM")]
+    OutOfRom,
+    /// It lays an operation on a word on which another section lies.
+    #[error("the line lays an operation on another section")]
+    Overlap,
+    /// An allocation failed.
+    #[error("out of memory")]
+    Memory,
+}
+
+impl LineFault {
+    /// Returns this fault as that of the line of this `number`, counted from 1.
+    pub fn at_line(self, number: usize) -> Unread
+        ensures { result ≡ fault_at self number }
+    {
+        match self {
+            LineFault::Syntax => Unread::Text(TextFault::Syntax(number)),
+            LineFault::Full => Unread::Text(TextFault::Full(number)),
+            LineFault::Many => Unread::Text(TextFault::Many(number)),
+            LineFault::NameGivenAgain => Unread::Text(TextFault::NameGivenAgain(number)),
+            LineFault::OutOfRom => Unread::Text(TextFault::OutOfRom(number)),
+            LineFault::Overlap => Unread::Text(TextFault::Overlap(number)),
+            LineFault::Memory => Unread::Memory,
+        }
+    }
 }

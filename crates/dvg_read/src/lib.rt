@@ -20,9 +20,10 @@ mod trace_text;
 
 pub use draft_text::{DraftText, MOST_TEXT_BYTES, read_draft};
 pub use dvg_log::MOST_EVENTS;
-pub use fault::{TextFault, TraceFault};
+pub use fault::{LineFault, TextFault, Unread};
 pub use number::{digit_of, hex};
 pub use op_line::read_op_parts;
 pub use rom_line::{RomWords, read_rom_parts};
+pub use rom_text::ungiven_rom;
 pub use text_lines::{TextLines, is_passed};
 pub use trace_text::{TraceText, read_trace};

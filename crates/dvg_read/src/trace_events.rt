@@ -3,6 +3,7 @@ ghost use Rattle.std.specs.Prelude.{◌≡◌, ◌+◌, ◌<◌, ◌≤◌, ◌+
 ghost use Rattle.dvg_read.specs.EventLines.{spelled_as};
 ghost use Rattle.dvg_read.specs.TextLines.{lines_left};
 ghost use Rattle.dvg_read.specs.TraceEvents.{AddsEvents, BeginsWithEvent, IsNameLine};
+ghost use Rattle.dvg_log.specs.declared.trace.TheConstants.{MOST_EVENTS};
 
 use crate::event_head::{
     FETCH, FETCH_LETTERS, Name, REDRAW, REDRAW_LETTERS, RESET_LETTERS, RESETCPU, RESETGEN, STROBE,
@@ -23,12 +24,12 @@ pub(crate) fn take_events<A: Allocator + Copy>(
     lines: &mut TextLines,
     events: &mut Trace<A>,
 ) -> Result<u16, OutOfMemory>
-    requires { length events.old ≤ 65536 }
+    requires { length events.old ≤ MOST_EVENTS }
     ensures taken { IfOk result (λ count. AddsEvents (lines_left lines.old) events.old count
         (lines_left lines.new) events.new) }
-    ensures room { OnOk result (length events.new ≤ 65536) }
+    ensures room { OnOk result (length events.new ≤ MOST_EVENTS) }
     ensures fault { OnErr result (BeginsWithEvent (lines_left lines.old)) }
-    ensures wanted { OnErr result (length events.old < 65536) }
+    ensures wanted { OnErr result (length events.old < MOST_EVENTS) }
 {
     let most = u16::try_from(MOST_EVENTS - events.len()).unwrap_or(u16::MAX);
     let mut room = most;
@@ -52,7 +53,7 @@ fn take_run<A: Allocator + Copy>(
     events: &mut Trace<A>,
 ) -> Result<u16, OutOfMemory>
     requires some { 1 ≤ most }
-    requires room { length events.old + most ≤ 65536 }
+    requires room { length events.old + most ≤ MOST_EVENTS }
     ensures taken { IfOk result (λ count. AddsEvents (lines_left lines.old) events.old count
         (lines_left lines.new) events.new) }
     ensures most { IfOk result (λ count. count ≤ most) }
@@ -80,7 +81,7 @@ fn take_resets<A: Allocator + Copy>(
     events: &mut Trace<A>,
 ) -> Result<u16, OutOfMemory>
     requires some { 1 ≤ most }
-    requires room { length events.old + most ≤ 65536 }
+    requires room { length events.old + most ≤ MOST_EVENTS }
     ensures taken { IfOk result (λ count. AddsEvents (lines_left lines.old) events.old count
         (lines_left lines.new) events.new) }
     ensures most { IfOk result (λ count. count ≤ most) }
@@ -108,7 +109,7 @@ fn take_names<A: Allocator>(
     events: &mut Trace<A>,
 ) -> Result<u16, OutOfMemory>
     requires named { IsNameLine (spelled_as event) (name.0.now ++ name.1.now) }
-    requires room { length events.old + most ≤ 65536 }
+    requires room { length events.old + most ≤ MOST_EVENTS }
     ensures taken { IfOk result (λ count. AddsEvents (lines_left lines.old) events.old count
         (lines_left lines.new) events.new) }
     ensures most { IfOk result (λ count. count ≤ most) }
@@ -131,7 +132,7 @@ pub(crate) fn add_times<A: Allocator>(
     events: &mut Trace<A>,
 ) -> Result<(), OutOfMemory>
     requires some { 1 ≤ count }
-    requires room { length events.old + count ≤ 65536 }
+    requires room { length events.old + count ≤ MOST_EVENTS }
     ensures { OnOk result (events.new ≡ events.old ++ replicate count (spelled_as event)) }
 {
     match event {

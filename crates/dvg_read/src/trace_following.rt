@@ -2,23 +2,24 @@
 ghost use Rattle.std.specs.Prelude.{◌≡◌, ◌≤◌, IfErr, IfOk, IsFalse, IsTrue, OnOk, codes};
 ghost use Rattle.dvg_read.specs.TraceFollowing.{FollowsLine, HasFaultOf, StopsFollowing};
 ghost use Rattle.dvg_read.specs.TraceLaws.{HasMeaning};
+ghost use Rattle.dvg_log.specs.declared.trace.TheConstants.{MOST_EVENTS};
 
 use crate::draft_text::MOST_TEXT_BYTES;
 use crate::event_line::read_event_line;
-use crate::fault::{TextFault, TraceFault};
+use crate::fault::{LineFault, TextFault, Unread};
 use crate::rom_text::RomReading;
 use crate::text_lines::{TextLines, is_passed};
-use crate::trace_text::{LineFault, add_op, at_line, count};
+use crate::trace_text::{add_op, count};
 use dvg_frame::Draft;
 use dvg_log::MOST_EVENTS;
 
 /// Follows `text`, the text of a trace, to its end or to its fault, without taking memory.
-pub(crate) fn follow(text: &[u8]) -> Result<(), TraceFault>
+pub(crate) fn follow(text: &[u8]) -> Result<(), Unread>
     ensures read { IfOk result (λ _. HasMeaning text.now) }
     ensures fault { IfErr result (λ fault. HasFaultOf fault text.now) }
 {
     if text.len() > MOST_TEXT_BYTES {
-        return Err(TraceFault::Text(TextFault::TooLong));
+        return Err(Unread::Text(TextFault::TooLong));
     }
     let mut following = Following {
         rom: RomReading::new(),
@@ -34,11 +35,11 @@ pub(crate) fn follow(text: &[u8]) -> Result<(), TraceFault>
         }
         match following.take(line) {
             Ok(()) => {}
-            Err(fault) => return Err(at_line(fault, number)),
+            Err(fault) => return Err(fault.at_line(number)),
         }
     }
     if following.is_open {
-        return Err(TraceFault::Text(TextFault::Unended));
+        return Err(Unread::Text(TextFault::Unended));
     }
     Ok(())
 }
@@ -58,9 +59,9 @@ struct Following {
 impl Following {
     // Follows one more line, `line`, which isn't passed over.
     fn take(&mut self, line: &[u8]) -> Result<(), LineFault>
-        requires few { self.old.count ≤ 65536 }
+        requires few { self.old.count ≤ MOST_EVENTS }
         ensures taken { OnOk result (FollowsLine self.old line.now self.new) }
-        ensures few { OnOk result (self.new.count ≤ 65536) }
+        ensures few { OnOk result (self.new.count ≤ MOST_EVENTS) }
         ensures fault { IfErr result (λ fault. StopsFollowing fault self.old line.now) }
     {
         if !self.is_open {
@@ -75,9 +76,9 @@ impl Following {
     // Follows one more line, `line`, where no offer is open.
     fn take_outside(&mut self, line: &[u8]) -> Result<(), LineFault>
         requires outside { IsFalse self.old.is_open }
-        requires few { self.old.count ≤ 65536 }
+        requires few { self.old.count ≤ MOST_EVENTS }
         ensures taken { OnOk result (FollowsLine self.old line.now self.new) }
-        ensures few { OnOk result (self.new.count ≤ 65536) }
+        ensures few { OnOk result (self.new.count ≤ MOST_EVENTS) }
         ensures fault { IfErr result (λ fault. StopsFollowing fault self.old line.now) }
     {
         if line == b"offer".as_slice() {
@@ -102,9 +103,9 @@ impl Following {
     // Ends the offer that is open.
     fn end_offer(&mut self) -> Result<(), LineFault>
         requires inside { IsTrue self.old.is_open }
-        requires few { self.old.count ≤ 65536 }
+        requires few { self.old.count ≤ MOST_EVENTS }
         ensures taken { OnOk result (FollowsLine self.old (codes "end") self.new) }
-        ensures few { OnOk result (self.new.count ≤ 65536) }
+        ensures few { OnOk result (self.new.count ≤ MOST_EVENTS) }
         ensures fault { IfErr result (λ fault. StopsFollowing fault self.old (codes "end")) }
     {
         if self.count == MOST_EVENTS {

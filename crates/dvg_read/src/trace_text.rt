@@ -10,11 +10,12 @@ ghost use Rattle.dvg_read.specs.TextLines.{lines_left};
 ghost use Rattle.dvg_read.specs.TraceGives.{GivesTrace, IsHeld, ReadsAhead, ReadsLine, ReadsText};
 ghost use Rattle.dvg_read.specs.TraceGives.{StopsEvents, WantsMemory};
 ghost use Rattle.dvg_read.specs.TraceGives.{StopsLine, StopsOperation, StopsReading, events_read};
-ghost use Rattle.dvg_read.specs.TraceGives.{fault_at, opened_of};
+ghost use Rattle.dvg_read.specs.TraceGives.{opened_of};
+ghost use Rattle.dvg_log.specs.declared.trace.TheConstants.{MOST_EVENTS};
 
 use crate::draft_text::MOST_TEXT_BYTES;
 use crate::event_line::{EventLine, read_event_line};
-use crate::fault::{TextFault, TraceFault};
+use crate::fault::{LineFault, TextFault, Unread};
 use crate::op_line::read_op;
 use crate::rom_text::RomReading;
 use crate::text_lines::{TextLines, is_passed};
@@ -47,16 +48,16 @@ pub struct TraceText<A: Allocator = Global> {
 ///   without fault. An offer is an event with its `end`.
 /// - `Unended`: no line is at fault, and the text ends inside an offer.
 /// - `Memory`: an allocation failed, at a line that brings events or ends an offer.
-pub fn read_trace<A: Allocator + Copy>(alloc: A, text: &[u8]) -> Result<TraceText<A>, TraceFault>
+pub fn read_trace<A: Allocator + Copy>(alloc: A, text: &[u8]) -> Result<TraceText<A>, Unread>
     ensures gives { IfOk result (λ trace. GivesTrace text.now trace.events trace.rom.items) }
     ensures fault { IfErr result (λ fault. StopsReading fault text.now) }
 {
     if text.len() > MOST_TEXT_BYTES {
-        return Err(TraceFault::Text(TextFault::TooLong));
+        return Err(Unread::Text(TextFault::TooLong));
     }
     let reading = read_lines(alloc, text)?;
     if reading.is_open {
-        return Err(TraceFault::Text(TextFault::Unended));
+        return Err(Unread::Text(TextFault::Unended));
     }
     Ok(TraceText {
         events: reading.events,
@@ -66,7 +67,7 @@ pub fn read_trace<A: Allocator + Copy>(alloc: A, text: &[u8]) -> Result<TraceTex
 
 // Reads all lines of `text`. The last of them may leave an offer open.
 #[inline(always)]
-fn read_lines<A: Allocator + Copy>(alloc: A, text: &[u8]) -> Result<Reading<A>, TraceFault>
+fn read_lines<A: Allocator + Copy>(alloc: A, text: &[u8]) -> Result<Reading<A>, Unread>
     requires { IsShort text.now }
     ensures read { IfOk result (λ reading. ReadsText text.now reading) }
     ensures fault { IfErr result (λ fault. StopsReading fault text.now) }
@@ -82,7 +83,7 @@ fn read_lines<A: Allocator + Copy>(alloc: A, text: &[u8]) -> Result<Reading<A>, 
     let mut number = 0;
     loop {
         let Ok(count) = reading.take_ahead(&mut lines) else {
-            return Err(TraceFault::Memory);
+            return Err(Unread::Memory);
         };
         number += usize::from(count) + 1;
         let Some(line) = lines.next() else {
@@ -93,33 +94,8 @@ fn read_lines<A: Allocator + Copy>(alloc: A, text: &[u8]) -> Result<Reading<A>, 
         }
         match reading.take(line) {
             Ok(()) => {}
-            Err(fault) => return Err(at_line(fault, number)),
+            Err(fault) => return Err(fault.at_line(number)),
         }
-    }
-}
-
-// Why a line isn't taken.
-#[derive(Clone, Copy)]
-pub(crate) enum LineFault {
-    // It spells nothing that may stand at its place.
-    Syntax,
-    // The draft of the offer has its 511 operations already.
-    Full,
-    // There would be more events than a trace has.
-    Many,
-    // An allocation failed.
-    Memory,
-}
-
-// Returns `fault` as that of the line of this `number`.
-pub(crate) fn at_line(fault: LineFault, number: usize) -> TraceFault
-    ensures { result ≡ fault_at fault number }
-{
-    match fault {
-        LineFault::Syntax => TraceFault::Text(TextFault::Syntax(number)),
-        LineFault::Full => TraceFault::Text(TextFault::Full(number)),
-        LineFault::Many => TraceFault::Text(TextFault::Many(number)),
-        LineFault::Memory => TraceFault::Memory,
     }
 }
 
@@ -258,7 +234,7 @@ fn add_events<A: Allocator>(
 ) -> Result<(), LineFault>
     requires { 1 ≤ length (happenings repeated) }
     ensures added { OnOk result (events.new ≡ events.old ++ happenings repeated) }
-    ensures room { OnOk result (length events.new ≤ 65536) }
+    ensures room { OnOk result (length events.new ≤ MOST_EVENTS) }
     ensures fault { IfErr result (λ fault. StopsEvents fault events.old (happenings repeated)) }
 {
     if events.len() + count(&repeated) > MOST_EVENTS {

@@ -1,7 +1,7 @@
 -- Names that were given before.
 use Rattle.std.specs.Prelude.{ℕ, List, Option, Some, None, Contains}
-use Rattle.dvg_rows.specs.declared.line_fault.LineFault.{LineFault}
-use Rattle.dvg_rows.specs.declared.line_fault.LineFault.TheVariants.{Full, Memory, OutOfRom, Overlap, Syntax, Twice}
+use Rattle.dvg_read.specs.declared.fault.LineFault.{LineFault}
+use Rattle.dvg_read.specs.declared.fault.LineFault.TheVariants.{Memory, NameGivenAgain}
 
 -- the name, if there is one, isn't among these
 abbrev pub IsFresh : List (List ℕ) → Option (List ℕ) → Type 0
@@ -15,9 +15,6 @@ IsAgain names (Some name) = Contains names name
 
 -- why a name isn't taken after these
 abbrev pub StopsNames : List (List ℕ) → Option (List ℕ) → LineFault → Type 0
-StopsNames names name Twice = IsAgain names name
+StopsNames names name NameGivenAgain = IsAgain names name
 StopsNames names name Memory = Unit {0}
-StopsNames names name Syntax = ⊥
-StopsNames names name Full = ⊥
-StopsNames names name OutOfRom = ⊥
-StopsNames names name Overlap = ⊥
+StopsNames names name _ = ⊥

@@ -1,7 +1,7 @@
 -- Which words of the ROM are taken.
 use Rattle.std.specs.Prelude.{◌≡◌, ◌+◌, ◌<◌, ◌≤◌, ◌⊎◌, ℕ, List, Bool, Option, max, unwrap_or, get_or, true, false}
-use Rattle.dvg_rows.specs.declared.line_fault.LineFault.{LineFault}
-use Rattle.dvg_rows.specs.declared.line_fault.LineFault.TheVariants.{Full, Memory, OutOfRom, Overlap, Syntax, Twice}
+use Rattle.dvg_read.specs.declared.fault.LineFault.{LineFault}
+use Rattle.dvg_read.specs.declared.fault.LineFault.TheVariants.{OutOfRom, Overlap}
 use Rattle.dvg_rows.specs.declared.rom_area.RomArea.{RomArea}
 
 -- none of these words is taken
@@ -29,17 +29,10 @@ pub record Takes (words : ℕ) (old new : RomArea) : Type 0 where
 abbrev pub StopsArea : (words : ℕ) → RomArea → LineFault → Type 0
 StopsArea words area OutOfRom = 0xC00 < area.next + words
 StopsArea words area Overlap = (area.next + words ≤ 0xC00) × (¬ IsFree area.is_taken area.next (area.next + words))
-StopsArea words area Twice = ⊥
-StopsArea words area Memory = ⊥
-StopsArea words area Syntax = ⊥
-StopsArea words area Full = ⊥
+StopsArea words area _ = ⊥
 
 -- why a section doesn't begin there
 abbrev pub StopsBegin : (first : ℕ) → Option ℕ → RomArea → LineFault → Type 0
 StopsBegin first address area OutOfRom =
     (unwrap_or address area.free < first) ⊎ (0xC00 < unwrap_or address area.free)
-StopsBegin first address area Overlap = ⊥
-StopsBegin first address area Twice = ⊥
-StopsBegin first address area Memory = ⊥
-StopsBegin first address area Syntax = ⊥
-StopsBegin first address area Full = ⊥
+StopsBegin first address area _ = ⊥

@@ -1,6 +1,6 @@
 //! Names that were given.
 
-use crate::line_fault::LineFault;
+use dvg_read::LineFault;
 use indexmap::IndexSet;
 use std::alloc::Allocator;
 use std::hash::{BuildHasherDefault, FoldHasher};
@@ -35,8 +35,8 @@ impl<'a, A: Allocator + Copy> GivenNames<'a, A> {
         self.given.clear();
     }
 
-    /// Adds `name`, if there is one. Returns `Twice` where it was given before, and `Memory` where
-    /// an allocation fails.
+    /// Adds `name`, if there is one. Returns `NameGivenAgain` where it was given before, and
+    /// `Memory` where an allocation fails.
     pub fn give(&mut self, name: Option<&'a [u8]>) -> Result<(), LineFault>
         ensures given { OnOk result (bytes_of self.new.given.keys
             ≡ bytes_of self.old.given.keys ++ option_to_list (name_of name.entry)) }
@@ -49,7 +49,7 @@ impl<'a, A: Allocator + Copy> GivenNames<'a, A> {
         };
         match self.given.insert(name) {
             Ok(true) => Ok(()),
-            Ok(false) => Err(LineFault::Twice),
+            Ok(false) => Err(LineFault::NameGivenAgain),
             Err(_) => Err(LineFault::Memory),
         }
     }

@@ -5,7 +5,6 @@
 #![tactic(auto)]
 
 mod given_names;
-mod line_fault;
 mod line_tokens;
 mod name_table;
 mod number;
@@ -16,7 +15,6 @@ mod sizes;
 mod source;
 
 pub use given_names::GivenNames;
-pub use line_fault::LineFault;
 pub use line_tokens::{MAX_TOKENS, find_tokens, tokens_of};
 pub use name_table::NameTable;
 pub use number::{NamedRows, number_of};

@@ -7,8 +7,8 @@ ghost use Rattle.dvg_read.specs.LineParts.{bytes_of};
 ghost use Rattle.dvg_rows.specs.PlainLines.{ends_token, is_blank, is_some_byte, tokens};
 ghost use Rattle.dvg_rows.specs.PlainLines.{uncommented};
 
-use crate::line_fault::LineFault;
 use arrayvec::ArrayVec;
+use dvg_read::LineFault;
 
 /// The most tokens that a line of a sketch has: a line `rom` that gives eight words has so many.
 pub const MAX_TOKENS: usize = 10;

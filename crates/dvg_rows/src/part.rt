@@ -1,8 +1,8 @@
 //! A section of a sketch that was read.
 
-use crate::line_fault::LineFault;
 use crate::row::{Head, Row};
 use crate::source::Source;
+use dvg_read::LineFault;
 use std::alloc::Allocator;
 use std::slice;
 

@@ -3,11 +3,11 @@ ghost use Rattle.std.specs.Prelude.{◌≡◌, ◌+◌, ◌≤◌, ◌<◌, ◌�
 ghost use Rattle.std.specs.Prelude.{get_or, true, false, IfErr, IsTrue, OnOk};
 ghost use Rattle.dvg_rows.specs.RomAreas.{BeginsAt, IsFree, StopsArea, StopsBegin, Takes};
 
-use crate::line_fault::LineFault;
-use dvg_mem::FIRST_ROM_WORD;
+use dvg_mem::{FIRST_ROM_WORD, LAST_ROM_WORD};
+use dvg_read::LineFault;
 
 /// The word address after the ROM's last word.
-pub const ROM_END: usize = 0xC00;
+pub const ROM_END: usize = LAST_ROM_WORD as usize + 1;
 
 /// The words that laid sections take, and where the next word is laid.
 #[derive(Drop)]

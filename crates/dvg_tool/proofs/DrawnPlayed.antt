@@ -17,6 +17,7 @@ use Rattle.dvg_io.specs.Serving.{OfInput}
 use Rattle.dvg_io.proofs.Inputs.{whole}
 use Rattle.dvg_read.specs.TraceGives.{GivesTrace}
 use Rattle.dvg_tool.specs.Plays.{IsDrawn, IsLogged, IsShown, drawn_shown, entry_of, event_of, log_text, logged_shown, picture_text, zeros}
+use Rattle.dvg_read.specs.declared.draft_text.TheConstants.{MOST_TEXT_BYTES}
 
 -- the events of a log, oldest first
 pub events_shown : (log : Log) → reverse (events_of log) ≡ map event_of (reverse log)
@@ -65,7 +66,7 @@ text_of_pictures [] = refl
 text_of_pictures ((event ⟼ entry) ∷ log) = log_more false (event ⟼ entry) log ∙ shown_by event entry log (text_of_pictures log)
 
 -- what happened by a trace that was read, happened by the input
-pub played_so : {read R : List ℕ} {events : List Happening} {is_whole : Bool} {IsKept : Log → Type 0} (all : Bool) (text : List ℕ) (input : List ℕ) → GivesTrace read events R → read ≡ take 1048577 input
+pub played_so : {read R : List ℕ} {events : List Happening} {is_whole : Bool} {IsKept : Log → Type 0} (all : Bool) (text : List ℕ) (input : List ℕ) → GivesTrace read events R → read ≡ take (MOST_TEXT_BYTES + 1) input
     → Happened R zeros events is_whole IsKept → ((log : Log) → IsKept log → text ≡ log_text all log) → IsShown all is_whole input text
 played_so {read} {R} {events} {is_whole} {IsKept} all text input gives e happened shows = record {
   log = happened.log;
@@ -73,7 +74,7 @@ played_so {read} {R} {events} {is_whole} {IsKept} all text input gives e happene
   played = record {
     events = events;
     R = R;
-    gives = subst (λ text. GivesTrace text events R) (whole 1048576 read input e gives.denotes.short) gives;
+    gives = subst (λ text. GivesTrace text events R) (whole MOST_TEXT_BYTES read input e gives.denotes.short) gives;
     legal = happened.legal;
     headline = happened.headline;
     in_order = happened.in_order ∙ ap (λ l. l ++ happened.later) (events_shown happened.log);
@@ -84,7 +85,7 @@ played_so {read} {R} {events} {is_whole} {IsKept} all text input gives e happene
 
 -- what is drawn of a trace that was read is drawn of the input
 pub finds_drawn : {A : Type 0} (read R : List ℕ) (events : List Happening) (drawn : Drawn A) → GivesTrace read events R → Draws R zeros events drawn
-    → OfInput 1048576 read (λ input. IsDrawn input drawn)
+    → OfInput MOST_TEXT_BYTES read (λ input. IsDrawn input drawn)
 finds_drawn read R events drawn gives draws input e =
     played_so false (drawn_shown drawn) input gives e draws (λ log kept. ap (flat_map picture_text) kept ∙ sym (text_of_pictures log))
 
@@ -98,7 +99,7 @@ entries_shown ((event ⟼ entry) ∷ log) =
 
 -- so are its entries
 pub finds_logged : {A : Type 0} (read R : List ℕ) (events : List Happening) (logged : Logged A) → GivesTrace read events R → Logs R zeros events logged
-    → OfInput 1048576 read (λ input. IsLogged input logged)
+    → OfInput MOST_TEXT_BYTES read (λ input. IsLogged input logged)
 finds_logged read R events logged gives logs input e =
     played_so true (logged_shown logged) input gives e logs (λ log kept. ap (shown true 0) (kept ∙ entries_shown log))
 

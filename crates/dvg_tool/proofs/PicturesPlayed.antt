@@ -8,6 +8,8 @@ use Rattle.dvg_world.specs.Keeping.{IsEndOf}
 use Rattle.dvg_world.specs.Kept.{Draws, picture_seen}
 use Rattle.dvg_read.specs.TraceGives.{GivesTrace}
 use Rattle.dvg_read.specs.TraceTexts.{HasTraceFault}
+use Rattle.dvg_read.specs.declared.fault.Unread.{Unread}
+use Rattle.dvg_read.specs.declared.fault.Unread.TheVariants as unread
 use Rattle.dvg_io.specs.declared.fault.ToolFault.{ToolFault}
 use Rattle.dvg_io.specs.declared.fault.ToolFault.TheVariants.{Text, Reader, Writer, Memory}
 use Rattle.dvg_io.specs.Serving.{Answers, IsFinding, OfInput}
@@ -17,6 +19,7 @@ use Rattle.dvg_svg.specs.Svg.{strokes_of, svgs_text}
 use Rattle.dvg_tool.specs.Plays.{zeros}
 use Rattle.dvg_tool.specs.PlaysSvg.{PlaysSvg, ShowsPictures}
 use Rattle.dvg_tool.proofs.DrawnPlayed.{events_shown}
+use Rattle.dvg_read.specs.declared.draft_text.TheConstants.{MOST_TEXT_BYTES}
 
 -- the strokes of pictures
 strokes_seen : {A : Type 0} (pictures : List (Picture A)) → map (λ picture. picture.strokes.items) pictures ≡ map (λ (picture : ℕ × List Stroke). picture.1) (map picture_seen pictures)
@@ -33,7 +36,7 @@ stops A T show Memory old new input h = tt
 stops A T show Writer old new input (pictures, found, begun) = (strokes_of pictures.items, found, begun)
 
 -- the pictures of a trace of which all events happened are those of a log that was played whole
-pub drawn_whole : {A : Type 0} (R : List ℕ) (events : List Happening) (drawn : Drawn A) (answer : Result (Vec (Vec Stroke A) A) ToolFault) → Draws R zeros events drawn → drawn.is_whole ≡ true
+pub drawn_whole : {A : Type 0} (R : List ℕ) (events : List Happening) (drawn : Drawn A) (answer : Result (Vec (Vec Stroke A) A) Unread) → Draws R zeros events drawn → drawn.is_whole ≡ true
     → IfOk answer (λ pictures. strokes_of pictures.items ≡ map (λ picture. picture.strokes.items) drawn.pictures.items)
     → IfOk answer (λ pictures. (text : List ℕ) → GivesTrace text events R → ShowsPictures text (strokes_of pictures.items))
 drawn_whole R events drawn (Ok pictures) draws all is = λ text gives. (
@@ -54,10 +57,10 @@ drawn_whole R events drawn (Err fault) draws all is = tt
 abbrev pub Finds : {A : Type 0} → (input : List ℕ) → Vec (Vec Stroke A) A → Type 0
 Finds input pictures = ShowsPictures input (strokes_of pictures.items)
 
-pub finds : {A : Type 0} (read R : List ℕ) (events : List Happening) (answer : Result (Vec (Vec Stroke A) A) ToolFault) → GivesTrace read events R
+pub finds : {A : Type 0} (read R : List ℕ) (events : List Happening) (answer : Result (Vec (Vec Stroke A) A) Unread) → GivesTrace read events R
     → IfOk answer (λ pictures. (text : List ℕ) → GivesTrace text events R → ShowsPictures text (strokes_of pictures.items))
-    → IfErr answer (λ fault. fault ≡ Memory) → OfInput 1048576 read (λ input. IsFinding (Finds input) (HasTraceFault input) answer)
+    → IfErr answer (λ stop. stop ≡ unread.Memory) → OfInput MOST_TEXT_BYTES read (λ input. IsFinding (Finds input) (HasTraceFault input) answer)
 finds read R events (Ok pictures) gives ok err input e =
-    ok input (subst (λ text. GivesTrace text events R) (whole 1048576 read input e gives.denotes.short) gives)
-finds {A = A} read R events (Err fault) gives ok err input e =
-    subst (λ fault. IsFinding {F = Vec (Vec Stroke A) A} (Finds input) (HasTraceFault input) (Err fault)) (sym err) tt
+    ok input (subst (λ text. GivesTrace text events R) (whole MOST_TEXT_BYTES read input e gives.denotes.short) gives)
+finds {A = A} read R events (Err stop) gives ok err input e =
+    subst (λ stop. IsFinding {F = Vec (Vec Stroke A) A} (Finds input) (HasTraceFault input) (Err stop)) (sym err) tt

@@ -1,41 +1,42 @@
 -- From what was read of a trace to what the reader had.
-use Rattle.std.proofs.Common.{◌≡◌, ℕ, List, [], inl, inr, ⊎_elim, Bool, true, false, Option, Result, Ok, Err, length, take, length-take, ap, subst, sym, arith}
+use Rattle.std.proofs.Common.{◌≡◌, ◌+◌, ℕ, List, [], inl, inr, ⊎_elim, Bool, true, false, Option, Result, Ok, Err, length, take, length-take, ap, subst, sym, arith}
 use Rattle.std.specs.Io.KnownBytes.{Appends}
 use Rattle.dvg_read.specs.declared.fault.TextFault.{TextFault}
 use Rattle.dvg_read.specs.declared.fault.TextFault.TheVariants.{TooLong, Syntax, Full, Many, Unended}
-use Rattle.dvg_read.specs.declared.fault.TraceFault.{TraceFault}
-use Rattle.dvg_read.specs.declared.fault.TraceFault.TheVariants as of_trace
+use Rattle.dvg_read.specs.declared.fault.Unread.{Unread}
+use Rattle.dvg_read.specs.declared.fault.Unread.TheVariants as unread
 use Rattle.dvg_read.specs.TraceGives.{StopsReading}
 use Rattle.dvg_read.specs.TraceTexts.{HasTraceFault, TraceMeetsSyntax, TraceMeetsFull, MeetsMany, EndsInside}
 use Rattle.dvg_io.specs.declared.fault.ToolFault.{ToolFault}
 use Rattle.dvg_io.specs.declared.fault.ToolFault.TheVariants.{Text, Reader, Writer, Memory}
 use Rattle.dvg_io.specs.declared.watched.Watched.{Watched}
-use Rattle.dvg_io.specs.Faults.{ComesBeforeText, called}
+use Rattle.dvg_io.specs.Faults.{ComesBeforeText}
 use Rattle.dvg_io.specs.Serving.{Answers, IsFinding, OfInput}
 use Rattle.dvg_io.specs.Watching.{BeginsToWrite, stream_of}
 use Rattle.dvg_io.proofs.Inputs.{whole}
 use Rattle.dvg_io.proofs.Known.{Appends-nil}
 use Rattle.dvg_tool.specs.Plays.{IsPlayed, IsShown, Plays, StopsBeforeShowing, log_text}
+use Rattle.dvg_read.specs.declared.draft_text.TheConstants.{MOST_TEXT_BYTES}
 
 -- the fault of what was read is that of the input
-faulted : (fault : TextFault) (input read : List ℕ) → read ≡ take 1048577 input → HasTraceFault read fault → HasTraceFault input fault
-faulted TooLong input read e h = omega (arith, ap length e, length-take 1048577 input)
-faulted (Syntax n) input read e h = subst (λ text. TraceMeetsSyntax text n) (whole 1048576 read input e h.reaches.short) h
-faulted (Full n) input read e h = subst (λ text. TraceMeetsFull text n) (whole 1048576 read input e h.reaches.short) h
-faulted (Many n) input read e h = subst (λ text. MeetsMany text n) (whole 1048576 read input e h.reaches.short) h
-faulted Unended input read e h = subst EndsInside (whole 1048576 read input e h.short) h
+faulted : (fault : TextFault) (input read : List ℕ) → read ≡ take (MOST_TEXT_BYTES + 1) input → HasTraceFault read fault → HasTraceFault input fault
+faulted TooLong input read e h = omega (arith, ap length e, length-take (MOST_TEXT_BYTES + 1) input)
+faulted (Syntax n) input read e h = subst (λ text. TraceMeetsSyntax text n) (whole MOST_TEXT_BYTES read input e h.reaches.short) h
+faulted (Full n) input read e h = subst (λ text. TraceMeetsFull text n) (whole MOST_TEXT_BYTES read input e h.reaches.short) h
+faulted (Many n) input read e h = subst (λ text. MeetsMany text n) (whole MOST_TEXT_BYTES read input e h.reaches.short) h
+faulted Unended input read e h = subst EndsInside (whole MOST_TEXT_BYTES read input e h.short) h
 faulted _ input read e h = absurd h
 
 -- the trace is at fault, or memory was refused
-misread_by : {F : Type 0} (Finds : List ℕ → F → Type 0) (fault : TraceFault) (read : List ℕ) → StopsReading fault read
-    → OfInput 1048576 read (λ input. IsFinding {F = F} (Finds input) (HasTraceFault input) (Err (called fault)))
-misread_by Finds (of_trace.Text fault) read h input e = faulted fault input read e h
-misread_by Finds of_trace.Memory read h input e = tt
+misread_by : {F : Type 0} (Finds : List ℕ → F → Type 0) (stop : Unread) (read : List ℕ) → StopsReading stop read
+    → OfInput MOST_TEXT_BYTES read (λ input. IsFinding {F = F} (Finds input) (HasTraceFault input) (Err stop))
+misread_by Finds (unread.Text fault) read h input e = faulted fault input read e h
+misread_by Finds unread.Memory read h input e = tt
 
-pub misread : {F : Type 0} (Finds : List ℕ → F → Type 0) (answer : Result F ToolFault) (fault : TraceFault) (read : List ℕ) → answer ≡ Err (called fault)
-    → StopsReading fault read → OfInput 1048576 read (λ input. IsFinding (Finds input) (HasTraceFault input) answer)
-misread Finds answer fault read is h =
-    subst (λ answer. OfInput 1048576 read (λ input. IsFinding (Finds input) (HasTraceFault input) answer)) (sym is) (misread_by Finds fault read h)
+pub misread : {F : Type 0} (Finds : List ℕ → F → Type 0) (answer : Result F Unread) (stop : Unread) (read : List ℕ) → answer ≡ Err stop
+    → StopsReading stop read → OfInput MOST_TEXT_BYTES read (λ input. IsFinding (Finds input) (HasTraceFault input) answer)
+misread Finds answer stop read is h =
+    subst (λ answer. OfInput MOST_TEXT_BYTES read (λ input. IsFinding (Finds input) (HasTraceFault input) answer)) (sym is) (misread_by Finds stop read h)
 
 -- a log is played whole, and what is shown of it went out
 pub plays_whole : {T : Type 0} (all : Bool) (shown : List ℕ) (done : T) (old new : Option (List ℕ)) (input : List ℕ)

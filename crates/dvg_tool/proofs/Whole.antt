@@ -1,5 +1,5 @@
 -- From what was read to what an engine says of the input.
-use Rattle.std.proofs.Common.{◌≡◌, ℕ, refl, sym, ◌%◌, ◌≤◌, List, Option, None, Some, Result, Ok, Err, IfErr, IfOk, IfSome, Vec, length, take, take_all, ap, subst, ◌∙◌, arith, ◌⊎◌, inl, inr, ⊎_elim}
+use Rattle.std.proofs.Common.{◌≡◌, ◌+◌, ℕ, refl, sym, ◌%◌, ◌≤◌, List, Option, None, Some, Result, Ok, Err, IfErr, IfOk, IfSome, Vec, length, take, take_all, ap, subst, ◌∙◌, arith, ◌⊎◌, inl, inr, ⊎_elim}
 use Rattle.std.specs.Io.KnownBytes.{Appends}
 use Rattle.dvg_code.specs.Words.{words_of}
 use Rattle.dvg_read.specs.declared.fault.TextFault.{TextFault}
@@ -17,13 +17,18 @@ use Rattle.dvg_tool.specs.Roms.{HasRomFault, HasRomSize, IsRomFault, IsRomOf, Wr
 use Rattle.dvg_tool.proofs.RomLines.{text_of_words}
 use Rattle.dvg_tool.specs.Lists.{IsListable, Lists, ListsAt, ListsWords, ListsWordsAt}
 use Rattle.dvg_read.specs.declared.fault.TextFault.TheVariants.{TooLong, Cut, RomSize, Syntax, Full}
+use Rattle.dvg_read.specs.declared.fault.Unread.{Unread}
+use Rattle.dvg_read.specs.declared.fault.Unread.TheVariants as unread
 use Rattle.dvg_io.specs.declared.fault.ToolFault.{ToolFault}
 use Rattle.dvg_io.specs.declared.fault.ToolFault.TheVariants.{Text, Reader, Writer, Memory}
+use Rattle.dvg_read.specs.declared.draft_text.TheConstants.{MOST_TEXT_BYTES}
+use Rattle.dvg_tool.specs.declared.lists.TheConstants.{MOST_LIST_BYTES}
+use Rattle.dvg_mem.specs.declared.TheConstants.{LARGE_ROM_BYTES}
 
-pub odd : (known : Option (List ℕ)) (read : List ℕ) → Read 8192 known read → length read ≤ 8192 → length read % 2 ≡ 1
-    → IfSome known (λ input. (length input ≤ 8192) × (length input % 2 ≡ 1))
+pub odd : (known : Option (List ℕ)) (read : List ℕ) → Read MOST_LIST_BYTES known read → length read ≤ MOST_LIST_BYTES → length read % 2 ≡ 1
+    → IfSome known (λ input. (length input ≤ MOST_LIST_BYTES) × (length input % 2 ≡ 1))
 odd None read e h o = tt
-odd (Some input) read e h o = let same = ap length (whole 8192 read input e h) in (omega arith, omega arith)
+odd (Some input) read e h o = let same = ap length (whole MOST_LIST_BYTES read input e h) in (omega arith, omega arith)
 
 listed : {T : Type 0} (answer : Result T ToolFault) (input : List ℕ) (old new : Option (List ℕ)) → IsListable input → ListsWords answer (words_of input) old new → Lists answer input old new
 listed (Ok done) input old new w h = (w, h)
@@ -33,11 +38,11 @@ listed (Err Reader) input old new w h = absurd h
 listed (Err Writer) input old new w h = (w, h)
 listed (Err Memory) input old new w h = absurd h
 
-pub lists : {T : Type 0} (answer : Result T ToolFault) (known old new : Option (List ℕ)) (read : List ℕ) → Read 8192 known read → length read ≤ 8192 → length read % 2 ≡ 0
+pub lists : {T : Type 0} (answer : Result T ToolFault) (known old new : Option (List ℕ)) (read : List ℕ) → Read MOST_LIST_BYTES known read → length read ≤ MOST_LIST_BYTES → length read % 2 ≡ 0
     → ListsWords answer (words_of read) old new → IfSome known (λ input. Lists answer input old new)
 lists answer None old new read e h o w = tt
 lists answer (Some input) old new read e h o w =
-    let same = whole 8192 read input e h in
+    let same = whole MOST_LIST_BYTES read input e h in
     let n = ap length same in
     listed answer input old new (omega arith, omega arith) (subst (λ l. ListsWords answer (words_of l) old new) same w)
 
@@ -49,40 +54,38 @@ listed_at at (Err Reader) input old new w h = absurd h
 listed_at at (Err Writer) input old new w h = (w, h)
 listed_at at (Err Memory) input old new w h = absurd h
 
-pub lists_at : {T : Type 0} (at : ℕ) (answer : Result T ToolFault) (known old new : Option (List ℕ)) (read : List ℕ) → Read 8192 known read → length read ≤ 8192 → length read % 2 ≡ 0
+pub lists_at : {T : Type 0} (at : ℕ) (answer : Result T ToolFault) (known old new : Option (List ℕ)) (read : List ℕ) → Read MOST_LIST_BYTES known read → length read ≤ MOST_LIST_BYTES → length read % 2 ≡ 0
     → ListsWordsAt at answer (words_of read) old new → IfSome known (λ input. ListsAt at answer input old new)
 lists_at at answer None old new read e h o w = tt
 lists_at at answer (Some input) old new read e h o w =
-    let same = whole 8192 read input e h in
+    let same = whole MOST_LIST_BYTES read input e h in
     let n = ap length same in
     listed_at at answer input old new (omega arith, omega arith) (subst (λ l. ListsWordsAt at answer (words_of l) old new) same w)
 
 -- of another size than a ROM has, so is what was read
-wrong_size : (input read : List ℕ) → read ≡ take 4097 input → ¬ HasRomSize read → ¬ HasRomSize input
+wrong_size : (input read : List ℕ) → read ≡ take (LARGE_ROM_BYTES + 1) input → ¬ HasRomSize read → ¬ HasRomSize input
 wrong_size input read e h size = h (⊎_elim
-    (λ small. inl (ap length e ∙ ap length (take_all 4097 input (omega arith)) ∙ small))
-    (λ large. inr (ap length e ∙ ap length (take_all 4097 input (omega arith)) ∙ large))
+    (λ small. inl (ap length e ∙ ap length (take_all (LARGE_ROM_BYTES + 1) input (omega arith)) ∙ small))
+    (λ large. inr (ap length e ∙ ap length (take_all (LARGE_ROM_BYTES + 1) input (omega arith)) ∙ large))
     size)
 
-rom_faulted : (fault : TextFault) (input read : List ℕ) → read ≡ take 4097 input → HasRomFault read fault → HasRomFault input fault
+rom_faulted : (fault : TextFault) (input read : List ℕ) → read ≡ take (LARGE_ROM_BYTES + 1) input → HasRomFault read fault → HasRomFault input fault
 rom_faulted RomSize input read e h = wrong_size input read e h
 rom_faulted _ input read e h = absurd h
 
-short_rom : (read : List ℕ) → HasRomSize read → length read ≤ 4096
+short_rom : (read : List ℕ) → HasRomSize read → length read ≤ LARGE_ROM_BYTES
 short_rom read (inl small) = omega arith
 short_rom read (inr large) = omega arith
 
 -- the words of what was read are those of the input
-pub finds_rom : {A : Type 0} (read : List ℕ) (answer : Result (Vec ℕ A) ToolFault) → IfOk answer (λ _. HasRomSize read)
+pub finds_rom : {A : Type 0} (read : List ℕ) (answer : Result (Vec ℕ A) Unread) → IfOk answer (λ _. HasRomSize read)
     → IfOk answer (λ words. words.items ≡ words_of read) → IfErr answer (IsRomFault read)
-    → OfInput 4096 read (λ input. IsFinding (λ words. IsRomOf input words.items) (HasRomFault input) answer)
+    → OfInput LARGE_ROM_BYTES read (λ input. IsFinding (λ words. IsRomOf input words.items) (HasRomFault input) answer)
 finds_rom read (Ok words) size is fault input e =
-    let same = whole 4096 read input e (short_rom read size) in
+    let same = whole LARGE_ROM_BYTES read input e (short_rom read size) in
     (subst HasRomSize same size, is ∙ ap words_of same)
-finds_rom read (Err (Text fault)) size is h input e = rom_faulted fault input read e h
-finds_rom read (Err Memory) size is h input e = tt
-finds_rom read (Err Reader) size is h input e = absurd h
-finds_rom read (Err Writer) size is h input e = absurd h
+finds_rom read (Err (unread.Text fault)) size is h input e = rom_faulted fault input read e h
+finds_rom read (Err unread.Memory) size is h input e = tt
 
 -- what is written of a ROM's words is the text of the ROM
 rom_said : (input words : List ℕ) → IsRomOf input words → words_text words ≡ rom_text input
@@ -101,11 +104,11 @@ rom_stops A T Memory old new input h = tt
 rom_stops A T Writer old new input (words, rom, begun) = (rom.0, subst (λ text. BeginsToWrite text old new) (rom_said input words.items rom) begun)
 
 -- what is said of what was read is said of the input
-pub judged : {V : Type 0} (IsSaid : List OpKind → List ℕ → V → Type 0) (verdict : V) (input read : List ℕ) → read ≡ take 1048577 input
+pub judged : {V : Type 0} (IsSaid : List OpKind → List ℕ → V → Type 0) (verdict : V) (input read : List ℕ) → read ≡ take (MOST_TEXT_BYTES + 1) input
     → JudgesBy IsSaid read verdict → JudgesBy IsSaid input verdict
 judged IsSaid verdict input read e j =
     let short = j.gives.denotes.short in
-    subst (λ text. JudgesBy IsSaid text verdict) (whole 1048576 read input e short) j
+    subst (λ text. JudgesBy IsSaid text verdict) (whole MOST_TEXT_BYTES read input e short) j
 
 -- and so it is without its bound
 pub unbounded : (text : List ℕ) (verdict : BoundedVerdict) → JudgesBound text verdict → Judges text (without_bound verdict)
@@ -113,33 +116,31 @@ unbounded text (bounded.Good words bound) j = record { F = j.F; R = j.R; gives =
 unbounded text (bounded.Refused fault) j = record { F = j.F; R = j.R; gives = j.gives; said = j.said }
 
 -- a text that is at fault but not too long is short
-short_or_long : (fault : TextFault) (read : List ℕ) → HasDraftFault read fault → (fault ≡ TooLong) ⊎ (length read ≤ 1048576)
+short_or_long : (fault : TextFault) (read : List ℕ) → HasDraftFault read fault → (fault ≡ TooLong) ⊎ (length read ≤ MOST_TEXT_BYTES)
 short_or_long TooLong read h = inl refl
 short_or_long (Syntax n) read h = inr h.reaches.short
 short_or_long (Full n) read h = inr h.reaches.short
 short_or_long _ read h = absurd h
 
 -- the fault of what was read is that of the input
-faulted : (fault : TextFault) (input read : List ℕ) → read ≡ take 1048577 input → HasDraftFault read fault → HasDraftFault input fault
+faulted : (fault : TextFault) (input read : List ℕ) → read ≡ take (MOST_TEXT_BYTES + 1) input → HasDraftFault read fault → HasDraftFault input fault
 faulted fault input read e h = ⊎_elim
     (λ same. subst (λ text. HasDraftFault text fault) same h)
     (λ long. ⊎_elim (λ is. subst (HasDraftFault input) (sym is) long.1) (λ short. absurd (omega arith)) (short_or_long fault read h))
-    (whole_or_long 1048576 read input e)
+    (whole_or_long MOST_TEXT_BYTES read input e)
 
 -- so is where nothing is said
-stopped_by : {V : Type 0} (Says : List ℕ → V → Type 0) (fault : ToolFault) (read : List ℕ) → IsJudgingFault read fault
-    → OfInput 1048576 read (λ input. IsFinding {F = V} (Says input) (HasDraftFault input) (Err fault))
-stopped_by Says (Text fault) read h input e = faulted fault input read e h
-stopped_by Says Memory read h input e = tt
-stopped_by Says Reader read h input e = absurd h
-stopped_by Says Writer read h input e = absurd h
+stopped_by : {V : Type 0} (Says : List ℕ → V → Type 0) (stop : Unread) (read : List ℕ) → IsJudgingFault read stop
+    → OfInput MOST_TEXT_BYTES read (λ input. IsFinding {F = V} (Says input) (HasDraftFault input) (Err stop))
+stopped_by Says (unread.Text fault) read h input e = faulted fault input read e h
+stopped_by Says unread.Memory read h input e = tt
 
-pub unjudged : {V : Type 0} (Says : List ℕ → V → Type 0) (answer : Result V ToolFault) (fault : ToolFault) (read : List ℕ) → answer ≡ Err fault
-    → IsJudgingFault read fault → OfInput 1048576 read (λ input. IsFinding (Says input) (HasDraftFault input) answer)
-unjudged Says answer fault read is h =
-    subst (λ answer. OfInput 1048576 read (λ input. IsFinding (Says input) (HasDraftFault input) answer)) (sym is) (stopped_by Says fault read h)
+pub unjudged : {V : Type 0} (Says : List ℕ → V → Type 0) (answer : Result V Unread) (stop : Unread) (read : List ℕ) → answer ≡ Err stop
+    → IsJudgingFault read stop → OfInput MOST_TEXT_BYTES read (λ input. IsFinding (Says input) (HasDraftFault input) answer)
+unjudged Says answer stop read is h =
+    subst (λ answer. OfInput MOST_TEXT_BYTES read (λ input. IsFinding (Says input) (HasDraftFault input) answer)) (sym is) (stopped_by Says stop read h)
 
-pub finds_bound : (read : List ℕ) (answer : Result BoundedVerdict ToolFault) → IfOk answer (JudgesBound read) → IfErr answer (IsJudgingFault read)
-    → OfInput 1048576 read (λ input. IsFinding (JudgesBound input) (HasDraftFault input) answer)
+pub finds_bound : (read : List ℕ) (answer : Result BoundedVerdict Unread) → IfOk answer (JudgesBound read) → IfErr answer (IsJudgingFault read)
+    → OfInput MOST_TEXT_BYTES read (λ input. IsFinding (JudgesBound input) (HasDraftFault input) answer)
 finds_bound read (Ok verdict) said fault input e = judged IsBoundedVerdict verdict input read e said
-finds_bound read (Err fault) said h input e = stopped_by JudgesBound fault read h input e
+finds_bound read (Err stop) said h input e = stopped_by JudgesBound stop read h input e

@@ -1,8 +1,8 @@
 -- What `check_text` and `check_bound` answer and write.
 use Rattle.std.specs.Prelude.{ℕ, List}
 use Rattle.dvg_frame.specs.declared.op.OpKind.{OpKind}
-use Rattle.dvg_io.specs.declared.fault.ToolFault.{ToolFault}
-use Rattle.dvg_io.specs.declared.fault.ToolFault.TheVariants.{Text, Memory}
+use Rattle.dvg_read.specs.declared.fault.Unread.{Unread}
+use Rattle.dvg_read.specs.declared.fault.Unread.TheVariants.{Text, Memory}
 use Rattle.dvg_print.specs.declared.verdict.BoundedVerdict.{BoundedVerdict}
 use Rattle.dvg_print.specs.declared.verdict.Verdict.{Verdict}
 use Rattle.dvg_read.specs.DraftReading.{Gives}
@@ -28,10 +28,9 @@ JudgesBound = JudgesBy IsBoundedVerdict
 
 -- a fault at which nothing is said of a text: its own, or want of memory, where it denotes a draft
 -- (for a private contract)
-abbrev pub IsJudgingFault : List ℕ → ToolFault → Type 0
+abbrev pub IsJudgingFault : List ℕ → Unread → Type 0
 IsJudgingFault text (Text fault) = HasDraftFault text fault
 IsJudgingFault text Memory = (F : List OpKind) × (R : List ℕ) × Gives text F R
-IsJudgingFault text _ = ⊥
 
 -- what `check_text` answers to an input, and what went out: the verdict's line
 abbrev pub Checks : Meaning Verdict

@@ -1,5 +1,6 @@
 -- What is done for a job.
-use Rattle.std.specs.Prelude.{◌≡◌, ◌↔◌, All, IsTrue, ℕ, List, Option, Result, Ok, Err, IfSome, false, true}
+use Rattle.std.specs.Prelude.{◌≡◌, ◌↔◌, ◌+◌, All, IsTrue, ℕ, List, Option, Result, Ok, Err, IfSome}
+use Rattle.std.specs.Prelude.{false, true}
 use Rattle.dvg_io.specs.Faults.{ComesBeforeText, StopsBeforeWriting}
 use Rattle.dvg_io.specs.Watching.{TakesAtMost}
 use Rattle.dvg_io.specs.declared.fault.ToolFault.{ToolFault}
@@ -33,6 +34,10 @@ use Rattle.dvg_args.specs.declared.task.Job.TheVariants.{List as list_job, ListA
 use Rattle.dvg_args.specs.declared.task.Job.TheVariants.{Play, PlaySvg, Torn, Render, RenderCheck, Lay}
 use Rattle.dvg_args.specs.declared.task.LayForm.{LayForm}
 use Rattle.dvg_args.specs.declared.task.LayForm.TheVariants as asked
+use Rattle.dvg_read.specs.declared.draft_text.TheConstants.{MOST_TEXT_BYTES}
+use Rattle.dvg_tool.specs.declared.lists.TheConstants.{MOST_LIST_BYTES}
+use Rattle.dvg_dump.specs.declared.dump.TheConstants.{LARGE_DUMP_BYTES}
+use Rattle.dvg_mem.specs.declared.TheConstants.{LARGE_ROM_BYTES}
 
 -- how pictures of this size and rate are shown
 abbrev pub show_of : (percent rate : ℕ) → Show
@@ -109,17 +114,17 @@ StaysUnwritten _ fault = ComesBeforeText fault
 -- what is taken of the input: at most this many bytes, and of a log no more than a piece after the
 -- line that decides
 abbrev pub TakesBy : {A : Type 0} → Job → Result (Done A) ToolFault → Option (List ℕ) → Option (List ℕ) → Type 0
-TakesBy list_job answer old new = TakesAtMost 8193 old new
-TakesBy (ListAt address) answer old new = TakesAtMost 8193 old new
-TakesBy Rom answer old new = TakesAtMost 4097 old new
-TakesBy (Picture all) answer old new = TakesAtMost 6145 old new
-TakesBy (PictureSvg percent) answer old new = TakesAtMost 6145 old new
-TakesBy (Check bound) answer old new = TakesAtMost 1048577 old new
-TakesBy (Play all banked) answer old new = TakesAtMost 1048577 old new
-TakesBy (PlaySvg banked percent rate) answer old new = TakesAtMost 1048577 old new
-TakesBy (Render percent rate) answer old new = TakesAtMost 1048577 old new
-TakesBy RenderCheck answer old new = TakesAtMost 1048577 old new
-TakesBy (Lay form) answer old new = TakesAtMost 1048577 old new
+TakesBy list_job answer old new = TakesAtMost (MOST_LIST_BYTES + 1) old new
+TakesBy (ListAt address) answer old new = TakesAtMost (MOST_LIST_BYTES + 1) old new
+TakesBy Rom answer old new = TakesAtMost (LARGE_ROM_BYTES + 1) old new
+TakesBy (Picture all) answer old new = TakesAtMost (LARGE_DUMP_BYTES + 1) old new
+TakesBy (PictureSvg percent) answer old new = TakesAtMost (LARGE_DUMP_BYTES + 1) old new
+TakesBy (Check bound) answer old new = TakesAtMost (MOST_TEXT_BYTES + 1) old new
+TakesBy (Play all banked) answer old new = TakesAtMost (MOST_TEXT_BYTES + 1) old new
+TakesBy (PlaySvg banked percent rate) answer old new = TakesAtMost (MOST_TEXT_BYTES + 1) old new
+TakesBy (Render percent rate) answer old new = TakesAtMost (MOST_TEXT_BYTES + 1) old new
+TakesBy RenderCheck answer old new = TakesAtMost (MOST_TEXT_BYTES + 1) old new
+TakesBy (Lay form) answer old new = TakesAtMost (MOST_TEXT_BYTES + 1) old new
 TakesBy (Torn false) (Ok (Searched verdict)) old new = IfSome old (λ input. Takes (Ok verdict) input old new)
 TakesBy (Torn false) (Err fault) old new = IfSome old (λ input. Takes (Err fault) input old new)
 TakesBy (Torn true) (Ok (SearchedMoments verdict)) old new =

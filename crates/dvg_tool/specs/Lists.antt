@@ -14,6 +14,7 @@ use Rattle.dvg_io.specs.Watching.{BeginsToWrite}
 use Rattle.dvg_read.specs.declared.fault.TextFault.TheVariants.{TooLong, Odd, Cut}
 use Rattle.dvg_io.specs.declared.fault.ToolFault.{ToolFault}
 use Rattle.dvg_io.specs.declared.fault.ToolFault.TheVariants.{Text, Writer}
+use Rattle.dvg_tool.specs.declared.lists.TheConstants.{MOST_LIST_BYTES}
 
 -- the line of the instruction that stands at a place of the words, listed at this address (for a
 -- private contract)
@@ -50,7 +51,7 @@ ListsWords answer words old new = MatchResult answer
 
 -- at most 8,192 bytes, in whole words
 abbrev pub IsListable : List ℕ → Type 0
-IsListable input = (length input ≤ 8192) × (length input % 2 ≡ 0)
+IsListable input = (length input ≤ MOST_LIST_BYTES) × (length input % 2 ≡ 0)
 
 -- what `list` answers to an input, and what went out: the text of the instructions, at `Cut` of
 -- those before the rest, at `Writer` a beginning of it (that nothing went out at the others is a
@@ -59,8 +60,8 @@ abbrev pub Lists : {T : Type 0} → Result T ToolFault → (input : List ℕ) �
 Lists (Ok done) input old new =
     IsListable input × ((cutting : Cutting (words_of input))
     → (cutting.rest ≡ []) × Appends old new (list_text cutting.items))
-Lists (Err (Text TooLong)) input old new = 8192 < length input
-Lists (Err (Text Odd)) input old new = (length input ≤ 8192) × (length input % 2 ≡ 1)
+Lists (Err (Text TooLong)) input old new = MOST_LIST_BYTES < length input
+Lists (Err (Text Odd)) input old new = (length input ≤ MOST_LIST_BYTES) × (length input % 2 ≡ 1)
 Lists (Err (Text (Cut place))) input old new =
     IsListable input × ((cutting : Cutting (words_of input))
     → (cutting.rest ≢ []) × (place ≡ cutting.end) × Appends old new (list_text cutting.items))
@@ -93,8 +94,9 @@ abbrev pub ListsAt : {T : Type 0} → (at : ℕ) → Result T ToolFault → (inp
 ListsAt at (Ok done) input old new =
     IsListable input × ((cutting : Cutting (words_of input))
     → (cutting.rest ≡ []) × Appends old new (text_by (address_from at) cutting.items))
-ListsAt at (Err (Text TooLong)) input old new = 8192 < length input
-ListsAt at (Err (Text Odd)) input old new = (length input ≤ 8192) × (length input % 2 ≡ 1)
+ListsAt at (Err (Text TooLong)) input old new = MOST_LIST_BYTES < length input
+ListsAt at (Err (Text Odd)) input old new =
+    (length input ≤ MOST_LIST_BYTES) × (length input % 2 ≡ 1)
 ListsAt at (Err (Text (Cut place))) input old new =
     IsListable input × ((cutting : Cutting (words_of input))
     → (cutting.rest ≢ []) × (place ≡ address_from at cutting.end)

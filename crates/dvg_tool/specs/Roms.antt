@@ -7,8 +7,10 @@ use Rattle.dvg_print.specs.Lines.{rom_lines, rom_text}
 use Rattle.dvg_io.specs.Watching.{BeginsToWrite}
 use Rattle.dvg_read.specs.declared.fault.TextFault.{TextFault}
 use Rattle.dvg_read.specs.declared.fault.TextFault.TheVariants.{RomSize}
+use Rattle.dvg_read.specs.declared.fault.Unread.{Unread}
+use Rattle.dvg_read.specs.declared.fault.Unread.TheVariants as unread
 use Rattle.dvg_io.specs.declared.fault.ToolFault.{ToolFault}
-use Rattle.dvg_io.specs.declared.fault.ToolFault.TheVariants.{Text, Writer, Memory}
+use Rattle.dvg_io.specs.declared.fault.ToolFault.TheVariants.{Text, Writer}
 
 -- an input of as many bytes as a ROM has
 abbrev pub HasRomSize : List ℕ → Type 0
@@ -31,10 +33,9 @@ words_text words =
 
 -- a fault at which no words are made of these bytes: that of the size, or want of memory, where
 -- they are a ROM (for a private contract)
-abbrev pub IsRomFault : List ℕ → ToolFault → Type 0
-IsRomFault bytes (Text fault) = HasRomFault bytes fault
-IsRomFault bytes Memory = HasRomSize bytes
-IsRomFault bytes _ = ⊥
+abbrev pub IsRomFault : List ℕ → Unread → Type 0
+IsRomFault bytes (unread.Text fault) = HasRomFault bytes fault
+IsRomFault bytes unread.Memory = HasRomSize bytes
 
 -- what `rom_text` answers to an input, and what went out: the text, or at `Writer` a beginning of
 -- it (that nothing went out at the other faults is a part of `Serves`)

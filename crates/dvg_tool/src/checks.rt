@@ -5,27 +5,28 @@ ghost use Rattle.dvg_io.specs.Serving.{AreFresh, Serves};
 ghost use Rattle.dvg_print.specs.Verdicts.{bounded_line, verdict_line};
 ghost use Rattle.dvg_read.specs.DraftTexts.{HasDraftFault};
 ghost use Rattle.dvg_tool.specs.Checks.{Checks, ChecksBound, IsJudgingFault, Judges, JudgesBound};
+ghost use Rattle.dvg_read.specs.declared.draft_text.TheConstants.{MOST_TEXT_BYTES};
 
 use dvg_frame::check;
 use dvg_io::{Engine, StreamFailed, ToolFault, Watched, serve, write_whole};
 use dvg_mem::Rom;
 use dvg_print::{BoundedVerdict, Line, Verdict};
-use dvg_read::{MOST_TEXT_BYTES, read_draft};
+use dvg_read::{MOST_TEXT_BYTES, Unread, read_draft};
 use std::alloc::Allocator;
 use std::io::{Read, Write};
 
 // Returns what the check says of the draft that `text` denotes, over the ROM that it denotes.
 #[inline(never)]
-fn judge<A: Allocator>(alloc: A, text: &[u8]) -> Result<BoundedVerdict, ToolFault>
+fn judge<A: Allocator>(alloc: A, text: &[u8]) -> Result<BoundedVerdict, Unread>
     ensures said { IfOk result (JudgesBound text.now) }
     ensures fault { IfErr result (IsJudgingFault text.now) }
 {
     let drafted = match read_draft(text) {
         Ok(drafted) => drafted,
-        Err(fault) => return Err(ToolFault::Text(fault)),
+        Err(fault) => return Err(Unread::Text(fault)),
     };
     let Ok(rom) = Rom::new(alloc, drafted.rom.as_slice()) else {
-        return Err(ToolFault::Memory);
+        return Err(Unread::Memory);
     };
     match check(&drafted.draft, &rom) {
         Ok(frame) => Ok(BoundedVerdict::Good {
@@ -45,7 +46,7 @@ impl<A: Allocator + Copy> Engine<A> for CheckEngine {
 
     const MOST: u32 = MOST_TEXT_BYTES as u32;
 
-    ghost MOST = { 1048576 };
+    ghost MOST = { MOST_TEXT_BYTES };
 
     ghost Finds = { λ engine. Judges };
 
@@ -53,7 +54,7 @@ impl<A: Allocator + Copy> Engine<A> for CheckEngine {
 
     ghost text = { λ engine. verdict_line };
 
-    fn find(&self, alloc: A, read: &[u8]) -> Result<Verdict, ToolFault> {
+    fn find(&self, alloc: A, read: &[u8]) -> Result<Verdict, Unread> {
         let bounded = judge(alloc, read)?;
         Ok(bounded.verdict())
     }
@@ -78,7 +79,7 @@ impl<A: Allocator + Copy> Engine<A> for BoundEngine {
 
     const MOST: u32 = MOST_TEXT_BYTES as u32;
 
-    ghost MOST = { 1048576 };
+    ghost MOST = { MOST_TEXT_BYTES };
 
     ghost Finds = { λ engine. JudgesBound };
 
@@ -86,7 +87,7 @@ impl<A: Allocator + Copy> Engine<A> for BoundEngine {
 
     ghost text = { λ engine. bounded_line };
 
-    fn find(&self, alloc: A, read: &[u8]) -> Result<BoundedVerdict, ToolFault> {
+    fn find(&self, alloc: A, read: &[u8]) -> Result<BoundedVerdict, Unread> {
         judge(alloc, read)
     }
 
@@ -121,7 +122,7 @@ pub(crate) fn check_text<A: Allocator, R: Read, W: Write>(
     writer: &mut Watched<W>,
 ) -> Result<Verdict, ToolFault>
     requires fresh { AreFresh reader.old writer.old }
-    ensures { Serves R.remaining W.contents 1048577 ComesBeforeText Checks
+    ensures { Serves R.remaining W.contents MOST_TEXT_BYTES ComesBeforeText Checks
         result reader.old reader.new writer.old writer.new }
 {
     serve(&CheckEngine, &alloc, reader, writer)
@@ -137,7 +138,7 @@ pub(crate) fn check_bound<A: Allocator, R: Read, W: Write>(
     writer: &mut Watched<W>,
 ) -> Result<BoundedVerdict, ToolFault>
     requires fresh { AreFresh reader.old writer.old }
-    ensures { Serves R.remaining W.contents 1048577 ComesBeforeText ChecksBound
+    ensures { Serves R.remaining W.contents MOST_TEXT_BYTES ComesBeforeText ChecksBound
         result reader.old reader.new writer.old writer.new }
 {
     serve(&BoundEngine, &alloc, reader, writer)

@@ -6,6 +6,8 @@ ghost use Rattle.dvg_tool.specs.Jobs.{Performs, StaysUnwritten, TakesBy, answere
 ghost use Rattle.dvg_tool.specs.Jobs.{form_of};
 ghost use Rattle.dvg_tool.specs.PlaysSvg.{PlaysSvg};
 ghost use Rattle.dvg_io.specs.Watching.{failures_of, stream_of};
+ghost use Rattle.dvg_read.specs.declared.draft_text.TheConstants.{MOST_TEXT_BYTES};
+ghost use Rattle.dvg_dump.specs.declared.dump.TheConstants.{LARGE_DUMP_BYTES};
 
 use crate::checks::{check_bound, check_text};
 use crate::lists::list;
@@ -32,7 +34,8 @@ fn picture_shown<A: Allocator + Copy, R: Read, W: Write>(
     percent: u16,
 ) -> Result<Done<A>, ToolFault>
     requires fresh { AreFresh reader.old writer.old }
-    ensures { Serves R.remaining W.contents 6145 ComesBeforeText (Performs (Job.PictureSvg percent))
+    ensures { Serves R.remaining W.contents LARGE_DUMP_BYTES ComesBeforeText
+        (Performs (Job.PictureSvg percent))
         result reader.old reader.new writer.old writer.new }
 {
     match picture_svg(alloc, reader, writer, percent) {
@@ -51,7 +54,7 @@ fn play_shown<A: Allocator + Copy, R: Read, W: Write>(
     show: Show,
 ) -> Result<(), ToolFault>
     requires fresh { AreFresh reader.old writer.old }
-    ensures { Serves R.remaining W.contents 1048577 ComesBeforeText (PlaysSvg show)
+    ensures { Serves R.remaining W.contents MOST_TEXT_BYTES ComesBeforeText (PlaysSvg show)
         result reader.old reader.new writer.old writer.new }
 {
     if banked {
@@ -93,7 +96,8 @@ fn lay_answered<A: Allocator + Copy, R: Read, W: Write>(
     form: LayForm,
 ) -> Result<Done<A>, ToolFault>
     requires fresh { AreFresh reader.old writer.old }
-    ensures { Serves R.remaining W.contents 1048577 ComesBeforeText (Performs (Job.Lay form))
+    ensures { Serves R.remaining W.contents MOST_TEXT_BYTES ComesBeforeText
+        (Performs (Job.Lay form))
         result reader.old reader.new writer.old writer.new }
 {
     match lay_sketch(alloc, reader, writer, form_of(form)) {
@@ -120,7 +124,7 @@ fn draw_answered<A: Allocator + Copy, R: Read, W: Write>(
     show: Show,
 ) -> Result<Done<A>, ToolFault>
     requires fresh { AreFresh reader.old writer.old }
-    ensures { Serves R.remaining W.contents 1048577 ComesBeforeText
+    ensures { Serves R.remaining W.contents MOST_TEXT_BYTES ComesBeforeText
         (Performs (Job.Render show.percent show.rate))
         result reader.old reader.new writer.old writer.new }
 {
@@ -137,7 +141,8 @@ fn check_answered<A: Allocator + Copy, R: Read, W: Write>(
     writer: &mut Watched<W>,
 ) -> Result<Done<A>, ToolFault>
     requires fresh { AreFresh reader.old writer.old }
-    ensures { Serves R.remaining W.contents 1048577 ComesBeforeText (Performs Job.RenderCheck)
+    ensures { Serves R.remaining W.contents MOST_TEXT_BYTES ComesBeforeText
+        (Performs Job.RenderCheck)
         result reader.old reader.new writer.old writer.new }
 {
     match check_sketch(alloc, reader, writer) {

@@ -5,6 +5,7 @@ ghost use Rattle.dvg_tool.specs.Lists.{Lists, ListsWords, line_at};
 ghost use Rattle.dvg_io.specs.Faults.{StopsBeforeWriting};
 ghost use Rattle.dvg_io.specs.Serving.{AreFresh, Serves};
 ghost use Rattle.dvg_io.specs.Watching.{Writes, failures_of, stream_of};
+ghost use Rattle.dvg_tool.specs.declared.lists.TheConstants.{MOST_LIST_BYTES};
 
 use dvg_code::{Code, Listed, Listing, encode};
 use dvg_io::{StreamFailed, ToolFault, Watched, collect_words, read_up_to, write_whole};
@@ -77,7 +78,7 @@ pub fn list<A: Allocator, R: Read, W: Write>(
     writer: &mut Watched<W>,
 ) -> Result<(), ToolFault>
     requires fresh { AreFresh reader.old writer.old }
-    ensures { Serves R.remaining W.contents 8193 StopsBeforeWriting Lists
+    ensures { Serves R.remaining W.contents MOST_LIST_BYTES StopsBeforeWriting Lists
         result reader.old reader.new writer.old writer.new }
 {
     let bytes = read_up_to(&alloc, reader, MOST_LIST_BYTES)?;

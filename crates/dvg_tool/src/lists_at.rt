@@ -5,6 +5,7 @@ ghost use Rattle.dvg_tool.specs.Lists.{ListsAt, ListsWordsAt};
 ghost use Rattle.dvg_io.specs.Faults.{StopsBeforeWriting};
 ghost use Rattle.dvg_io.specs.Serving.{AreFresh, Serves};
 ghost use Rattle.dvg_io.specs.Watching.{failures_of, stream_of};
+ghost use Rattle.dvg_tool.specs.declared.lists.TheConstants.{MOST_LIST_BYTES};
 
 use crate::lists::{MOST_LIST_BYTES, write_item};
 use dvg_code::{Listed, Listing};
@@ -60,7 +61,7 @@ pub(crate) fn list_at<A: Allocator, R: Read, W: Write>(
     at: u16,
 ) -> Result<(), ToolFault>
     requires fresh { AreFresh reader.old writer.old }
-    ensures { Serves R.remaining W.contents 8193 StopsBeforeWriting (ListsAt at)
+    ensures { Serves R.remaining W.contents MOST_LIST_BYTES StopsBeforeWriting (ListsAt at)
         result reader.old reader.new writer.old writer.new }
 {
     let bytes = read_up_to(&alloc, reader, MOST_LIST_BYTES)?;

@@ -5,12 +5,13 @@ ghost use Rattle.dvg_world.specs.Kept.{Logs};
 ghost use Rattle.dvg_io.specs.Serving.{AreFresh, Serves};
 ghost use Rattle.dvg_read.specs.TraceTexts.{HasTraceFault};
 ghost use Rattle.dvg_tool.specs.Plays.{IsLogged, Plays, StopsBeforeShowing, logged_shown, zeros};
+ghost use Rattle.dvg_read.specs.declared.draft_text.TheConstants.{MOST_TEXT_BYTES};
 
 use crate::plays_pictures::play_pictures;
 use crate::shows::write_entries;
 use dvg_io::{Engine, StreamFailed, ToolFault, Watched, serve};
 use dvg_mem::{Flat, Image, MEMORY_BYTES, Rom, Store};
-use dvg_read::{MOST_TEXT_BYTES, TraceText, read_trace};
+use dvg_read::{MOST_TEXT_BYTES, TraceText, Unread, read_trace};
 use dvg_world::{Logged, log_trace};
 use std::alloc::Allocator;
 use std::io::{Read, Write};
@@ -57,7 +58,7 @@ impl<S: Store> Engine<S::Alloc> for EntriesEngine<S> {
 
     const MOST: u32 = MOST_TEXT_BYTES as u32;
 
-    ghost MOST = { 1048576 };
+    ghost MOST = { MOST_TEXT_BYTES };
 
     ghost Finds = { λ engine. IsLogged };
 
@@ -65,7 +66,7 @@ impl<S: Store> Engine<S::Alloc> for EntriesEngine<S> {
 
     ghost text = { λ engine. logged_shown };
 
-    fn find(&self, alloc: S::Alloc, read: &[u8]) -> Result<Self::Found, ToolFault> {
+    fn find(&self, alloc: S::Alloc, read: &[u8]) -> Result<Self::Found, Unread> {
         let trace = read_trace(alloc, read)?;
         Ok(log_text::<S>(alloc, &trace))
     }
@@ -86,7 +87,7 @@ fn play_entries<S: Store, R: Read, W: Write>(
     writer: &mut Watched<W>,
 ) -> Result<(), ToolFault>
     requires fresh { AreFresh reader.old writer.old }
-    ensures { Serves R.remaining W.contents 1048577 StopsBeforeShowing (Plays true)
+    ensures { Serves R.remaining W.contents MOST_TEXT_BYTES StopsBeforeShowing (Plays true)
         result reader.old reader.new writer.old writer.new }
 {
     let engine = EntriesEngine::<S> { store: PhantomData };
@@ -129,7 +130,7 @@ pub fn play_in<S: Store, R: Read, W: Write>(
     all: bool,
 ) -> Result<(), ToolFault>
     requires fresh { AreFresh reader.old writer.old }
-    ensures { Serves R.remaining W.contents 1048577 StopsBeforeShowing (Plays all)
+    ensures { Serves R.remaining W.contents MOST_TEXT_BYTES StopsBeforeShowing (Plays all)
         result reader.old reader.new writer.old writer.new }
 {
     if all {
@@ -148,7 +149,7 @@ pub fn play<A: Allocator + Copy, R: Read, W: Write>(
     all: bool,
 ) -> Result<(), ToolFault>
     requires fresh { AreFresh reader.old writer.old }
-    ensures { Serves R.remaining W.contents 1048577 StopsBeforeShowing (Plays all)
+    ensures { Serves R.remaining W.contents MOST_TEXT_BYTES StopsBeforeShowing (Plays all)
         result reader.old reader.new writer.old writer.new }
 {
     play_in::<Flat<A>, R, W>(alloc, reader, writer, all)

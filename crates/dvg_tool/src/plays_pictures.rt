@@ -7,12 +7,13 @@ ghost use Rattle.dvg_io.specs.Watching.{Writes};
 ghost use Rattle.dvg_read.specs.TraceTexts.{HasTraceFault};
 ghost use Rattle.dvg_tool.specs.Plays.{IsDrawn, Plays, StopsBeforeShowing, drawn_shown};
 ghost use Rattle.dvg_tool.specs.Plays.{picture_text, zeros};
+ghost use Rattle.dvg_read.specs.declared.draft_text.TheConstants.{MOST_TEXT_BYTES};
 
 use crate::plays::memory_of;
 use dvg_io::{Engine, StreamFailed, ToolFault, Watched, serve, write_strokes, write_whole};
 use dvg_mem::Store;
 use dvg_print::Line;
-use dvg_read::{MOST_TEXT_BYTES, TraceText, read_trace};
+use dvg_read::{MOST_TEXT_BYTES, TraceText, Unread, read_trace};
 use dvg_world::{Drawn, Picture, draw_trace};
 use std::alloc::Allocator;
 use std::io::{Read, Write};
@@ -70,7 +71,7 @@ impl<S: Store> Engine<S::Alloc> for PicturesEngine<S> {
 
     const MOST: u32 = MOST_TEXT_BYTES as u32;
 
-    ghost MOST = { 1048576 };
+    ghost MOST = { MOST_TEXT_BYTES };
 
     ghost Finds = { λ engine. IsDrawn };
 
@@ -78,7 +79,7 @@ impl<S: Store> Engine<S::Alloc> for PicturesEngine<S> {
 
     ghost text = { λ engine. drawn_shown };
 
-    fn find(&self, alloc: S::Alloc, read: &[u8]) -> Result<Self::Found, ToolFault> {
+    fn find(&self, alloc: S::Alloc, read: &[u8]) -> Result<Self::Found, Unread> {
         let trace = read_trace(alloc, read)?;
         Ok(draw_text::<S>(alloc, &trace))
     }
@@ -99,7 +100,7 @@ pub(crate) fn play_pictures<S: Store, R: Read, W: Write>(
     writer: &mut Watched<W>,
 ) -> Result<(), ToolFault>
     requires fresh { AreFresh reader.old writer.old }
-    ensures { Serves R.remaining W.contents 1048577 StopsBeforeShowing (Plays false)
+    ensures { Serves R.remaining W.contents MOST_TEXT_BYTES StopsBeforeShowing (Plays false)
         result reader.old reader.new writer.old writer.new }
 {
     let engine = PicturesEngine::<S> { store: PhantomData };

@@ -7,12 +7,13 @@ ghost use Rattle.dvg_svg.specs.Svg.{strokes_of, svgs_text};
 ghost use Rattle.dvg_read.specs.TraceGives.{GivesTrace};
 ghost use Rattle.dvg_read.specs.TraceTexts.{HasTraceFault};
 ghost use Rattle.dvg_tool.specs.PlaysSvg.{PlaysSvg, ShowsPictures};
+ghost use Rattle.dvg_read.specs.declared.draft_text.TheConstants.{MOST_TEXT_BYTES};
 
 use crate::plays_pictures::draw_text;
 use dvg_gen::Stroke;
 use dvg_io::{Engine, StreamFailed, ToolFault, Watched, serve};
 use dvg_mem::{Flat, Store};
-use dvg_read::{MOST_TEXT_BYTES, TraceText, read_trace};
+use dvg_read::{MOST_TEXT_BYTES, TraceText, Unread, read_trace};
 use dvg_svg::{Show, write_svgs};
 use dvg_world::Picture;
 use std::alloc::Allocator;
@@ -23,15 +24,15 @@ use std::marker::PhantomData;
 fn collect_strokes<A: Allocator + Copy>(
     alloc: A,
     pictures: Vec<Picture<A>, A>,
-) -> Result<Vec<Vec<Stroke, A>, A>, ToolFault>
+) -> Result<Vec<Vec<Stroke, A>, A>, Unread>
     ensures strokes { IfOk result (λ strokes.
         strokes_of strokes.items ≡ map (λ picture. picture.strokes.items) pictures.items) }
-    ensures fault { IfErr result (λ fault. fault ≡ ToolFault.Memory) }
+    ensures fault { IfErr result (λ fault. fault ≡ Unread.Memory) }
 {
     let mut strokes = Vec::new(alloc);
     for picture in pictures {
         if strokes.push(picture.strokes).is_err() {
-            return Err(ToolFault::Memory);
+            return Err(Unread::Memory);
         }
     }
     Ok(strokes)
@@ -42,16 +43,16 @@ fn collect_strokes<A: Allocator + Copy>(
 fn draw_whole<S: Store>(
     alloc: S::Alloc,
     trace: &TraceText<S::Alloc>,
-) -> Result<Vec<Vec<Stroke, S::Alloc>, S::Alloc>, ToolFault>
+) -> Result<Vec<Vec<Stroke, S::Alloc>, S::Alloc>, Unread>
     requires { IsRom trace.now.rom.items }
     ensures pictures { IfOk result (λ pictures. (text : List ℕ)
         → GivesTrace text trace.now.events trace.now.rom.items
         → ShowsPictures text (strokes_of pictures.items)) }
-    ensures fault { IfErr result (λ fault. fault ≡ ToolFault.Memory) }
+    ensures fault { IfErr result (λ fault. fault ≡ Unread.Memory) }
 {
     let drawn = draw_text::<S>(alloc, trace);
     if !drawn.is_whole {
-        return Err(ToolFault::Memory);
+        return Err(Unread::Memory);
     }
     collect_strokes(alloc, drawn.pictures)
 }
@@ -68,7 +69,7 @@ impl<S: Store> Engine<S::Alloc> for SvgEngine<S> {
 
     const MOST: u32 = MOST_TEXT_BYTES as u32;
 
-    ghost MOST = { 1048576 };
+    ghost MOST = { MOST_TEXT_BYTES };
 
     ghost Finds = { λ engine input pictures. ShowsPictures input (strokes_of pictures.items) };
 
@@ -76,7 +77,7 @@ impl<S: Store> Engine<S::Alloc> for SvgEngine<S> {
 
     ghost text = { λ engine pictures. svgs_text engine.show (strokes_of pictures.items) };
 
-    fn find(&self, alloc: S::Alloc, read: &[u8]) -> Result<Self::Found, ToolFault> {
+    fn find(&self, alloc: S::Alloc, read: &[u8]) -> Result<Self::Found, Unread> {
         let trace = read_trace(alloc, read)?;
         draw_whole::<S>(alloc, &trace)
     }
@@ -110,7 +111,7 @@ pub(crate) fn play_svg_in<S: Store, R: Read, W: Write>(
     show: Show,
 ) -> Result<(), ToolFault>
     requires fresh { AreFresh reader.old writer.old }
-    ensures { Serves R.remaining W.contents 1048577 ComesBeforeText (PlaysSvg show)
+    ensures { Serves R.remaining W.contents MOST_TEXT_BYTES ComesBeforeText (PlaysSvg show)
         result reader.old reader.new writer.old writer.new }
 {
     let engine = SvgEngine::<S> {
@@ -130,7 +131,7 @@ pub(crate) fn play_svg<A: Allocator + Copy, R: Read, W: Write>(
     show: Show,
 ) -> Result<(), ToolFault>
     requires fresh { AreFresh reader.old writer.old }
-    ensures { Serves R.remaining W.contents 1048577 ComesBeforeText (PlaysSvg show)
+    ensures { Serves R.remaining W.contents MOST_TEXT_BYTES ComesBeforeText (PlaysSvg show)
         result reader.old reader.new writer.old writer.new }
 {
     play_svg_in::<Flat<A>, R, W>(alloc, reader, writer, show)

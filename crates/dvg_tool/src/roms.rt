@@ -7,11 +7,12 @@ ghost use Rattle.dvg_io.specs.Serving.{AreFresh, Serves};
 ghost use Rattle.dvg_io.specs.Watching.{Writes};
 ghost use Rattle.dvg_tool.specs.Roms.{HasRomFault, HasRomSize, IsRomFault, IsRomOf, WritesRom};
 ghost use Rattle.dvg_tool.specs.Roms.{words_text};
+ghost use Rattle.dvg_mem.specs.declared.TheConstants.{LARGE_ROM_BYTES};
 
 use dvg_io::{Engine, StreamFailed, ToolFault, Watched, collect_words, serve, write_whole};
 use dvg_mem::{FIRST_LARGE_ROM_WORD, FIRST_ROM_WORD, LARGE_ROM_BYTES, MEMORY_BYTES};
 use dvg_print::Line;
-use dvg_read::TextFault;
+use dvg_read::{TextFault, Unread};
 use std::alloc::Allocator;
 use std::io::{Read, Write};
 
@@ -59,17 +60,17 @@ fn write_rom<W: Write>(
 
 // Returns the words of `bytes`, the bytes of a ROM. Returns `RomSize` where they are neither 2,048
 // nor 4,096, and `Memory` where an allocation fails.
-fn words_of_rom<A: Allocator>(alloc: A, bytes: &[u8]) -> Result<Vec<u16, A>, ToolFault>
+fn words_of_rom<A: Allocator>(alloc: A, bytes: &[u8]) -> Result<Vec<u16, A>, Unread>
     ensures size { IfOk result (λ _. HasRomSize bytes.now) }
     ensures words { IfOk result (λ words. words.items ≡ words_of bytes.now) }
     ensures fault { IfErr result (IsRomFault bytes.now) }
 {
     if bytes.len() != MEMORY_BYTES && bytes.len() != LARGE_ROM_BYTES {
-        return Err(ToolFault::Text(TextFault::RomSize));
+        return Err(Unread::Text(TextFault::RomSize));
     }
     match collect_words(alloc, bytes) {
         Ok(words) => Ok(words),
-        Err(_) => Err(ToolFault::Memory),
+        Err(_) => Err(Unread::Memory),
     }
 }
 
@@ -82,7 +83,7 @@ impl<A: Allocator + Copy> Engine<A> for RomEngine {
 
     const MOST: u32 = LARGE_ROM_BYTES as u32;
 
-    ghost MOST = { 4096 };
+    ghost MOST = { LARGE_ROM_BYTES };
 
     ghost Finds = { λ engine input words. IsRomOf input words.items };
 
@@ -90,7 +91,7 @@ impl<A: Allocator + Copy> Engine<A> for RomEngine {
 
     ghost text = { λ engine words. words_text words.items };
 
-    fn find(&self, alloc: A, read: &[u8]) -> Result<Vec<u16, A>, ToolFault> {
+    fn find(&self, alloc: A, read: &[u8]) -> Result<Vec<u16, A>, Unread> {
         words_of_rom(alloc, read)
     }
 
@@ -122,7 +123,7 @@ pub(crate) fn rom_text<A: Allocator, R: Read, W: Write>(
     writer: &mut Watched<W>,
 ) -> Result<(), ToolFault>
     requires fresh { AreFresh reader.old writer.old }
-    ensures { Serves R.remaining W.contents 4097 ComesBeforeText WritesRom
+    ensures { Serves R.remaining W.contents LARGE_ROM_BYTES ComesBeforeText WritesRom
         result reader.old reader.new writer.old writer.new }
 {
     serve(&RomEngine, &alloc, reader, writer)?;

@@ -15,8 +15,8 @@ use Rattle.dvg_gen.specs.declared.taken.Taken.TheVariants.{Low, Word, Done, Brok
 use Rattle.dvg_gen.specs.declared.taken.GenFault.TheVariants.{StackUnder}
 use Rattle.dvg_gen.specs.Told.{Fails}
 use Rattle.dvg_gen.specs.Machine.{answer_of}
-use Rattle.dvg_read.specs.declared.fault.TraceFault.{TraceFault}
-use Rattle.dvg_read.specs.declared.fault.TraceFault.TheVariants as of_trace
+use Rattle.dvg_read.specs.declared.fault.Unread.{Unread}
+use Rattle.dvg_read.specs.declared.fault.Unread.TheVariants as unread
 use Rattle.dvg_read.specs.Texts.{lines, unpassed}
 use Rattle.dvg_read.specs.RomTexts.{RomText, unmapped}
 use Rattle.dvg_read.specs.TraceTexts.{DenotesTrace, FitsDraft, tick, once, nothing, alone, whole}
@@ -133,9 +133,9 @@ denotes = record {
 pub events_are : (events : List Happening) (S : List ℕ) → GivesTrace tick_text events S → events ≡ Tick ∷ []
 events_are events S gives = (one_trace_meaning tick_text unstated gives.rom (Tick ∷ []) events denotes gives.denotes).1
 
-pub no_fault : (fault : TraceFault) → StopsReading fault tick_text → fault ≡ of_trace.Memory
-no_fault (of_trace.Text fault) stops = absurd (no_fault_beside_trace tick_text unstated (Tick ∷ []) denotes fault stops)
-no_fault of_trace.Memory stops = refl
+pub no_fault : (fault : Unread) → StopsReading fault tick_text → fault ≡ unread.Memory
+no_fault (unread.Text fault) stops = absurd (no_fault_beside_trace tick_text unstated (Tick ∷ []) denotes fault stops)
+no_fault unread.Memory stops = refl
 
 first_log : (log : Log) → map event_of (reverse log) ++ [] ≡ Tick ∷ [] → events_of log ≡ Tick ∷ []
 first_log [] e = absurd (cc)
@@ -195,7 +195,7 @@ pub job_is : {E : Type 0} (result : Result Job E) (met : Option (WordText × Lis
 job_is (Ok job) met x y = play_only job met x y
 job_is (Err error) met x y = tt
 
-pub no_fault_in : {T : Type 0} (r : Result T TraceFault) → IfErr r (λ fault. StopsReading fault tick_text) → IfErr r (λ fault. fault ≡ of_trace.Memory)
+pub no_fault_in : {T : Type 0} (r : Result T Unread) → IfErr r (λ fault. StopsReading fault tick_text) → IfErr r (λ fault. fault ≡ unread.Memory)
 no_fault_in (Ok x) stops = tt
 no_fault_in (Err fault) stops = no_fault fault stops
 

@@ -3,7 +3,7 @@ ghost use Rattle.std.specs.Prelude.{◌≡◌, IfErr, IfSome};
 ghost use Rattle.test_facts.specs.Facts.{one_tick, tick_text};
 
 use dvg_log::Trace;
-use dvg_read::{TraceFault, TraceText, read_trace};
+use dvg_read::{TraceText, Unread, read_trace};
 use std::alloc::Global;
 
 /// A `text` that is `tick` denotes one tick. Returns `None` where an allocation fails.
@@ -18,9 +18,9 @@ pub fn reads_a_tick(alloc: Global, text: &[u8]) -> Option<Trace<Global>>
 }
 
 /// The same `text` has no fault.
-pub fn tick_has_no_fault(alloc: Global, text: &[u8]) -> Result<TraceText<Global>, TraceFault>
+pub fn tick_has_no_fault(alloc: Global, text: &[u8]) -> Result<TraceText<Global>, Unread>
     requires { text.now ≡ tick_text }
-    ensures { IfErr result (λ fault. fault ≡ TraceFault.Memory) }
+    ensures { IfErr result (λ fault. fault ≡ Unread.Memory) }
 {
     read_trace(alloc, text)
 }

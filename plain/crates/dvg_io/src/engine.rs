@@ -4,6 +4,7 @@ use std::prelude::*;
 use crate::fault::ToolFault;
 use crate::transfer::read_up_to;
 use crate::watched::{StreamFailed, Watched};
+use dvg_read::Unread;
 use std::alloc::Allocator;
 use std::io::{Read, Write};
 
@@ -17,7 +18,7 @@ pub trait Engine<A: Allocator> {
     const MOST: u32;
 
     /// Finds what there is in `read`, the bytes that were read. Its memory comes from `alloc`.
-    fn find(&self, alloc: A, read: &[u8]) -> Result<Self::Found, ToolFault>;
+    fn find(&self, alloc: A, read: &[u8]) -> Result<Self::Found, Unread>;
 
     /// Writes the text of `found` to `writer`.
     fn write<W: Write>(

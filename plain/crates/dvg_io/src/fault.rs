@@ -1,6 +1,6 @@
 //! Why an engine stops.
 use dvg_code::OutOfMemory;
-use dvg_read::{TextFault, TraceFault};
+use dvg_read::{TextFault, Unread};
 use thiserror::Error;
 
 /// Why an engine stopped. Its text is what `dvg` prints of it (this project's own choice).
@@ -26,11 +26,11 @@ impl From<OutOfMemory> for ToolFault {
     }
 }
 
-impl From<TraceFault> for ToolFault {
-    fn from(fault: TraceFault) -> ToolFault {
-        match fault {
-            TraceFault::Text(fault) => ToolFault::Text(fault),
-            TraceFault::Memory => ToolFault::Memory,
+impl From<Unread> for ToolFault {
+    fn from(unread: Unread) -> ToolFault {
+        match unread {
+            Unread::Text(fault) => ToolFault::Text(fault),
+            Unread::Memory => ToolFault::Memory,
         }
     }
 }

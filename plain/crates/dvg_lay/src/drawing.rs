@@ -2,20 +2,19 @@
 use std::prelude::*;
 
 use crate::drawn::Drawn;
-use crate::engine::tool_fault;
 use crate::frames::draw_frames;
 use crate::refusal::Unlaid;
 use dvg_io::{Engine, StreamFailed, ToolFault, Watched, serve};
 use dvg_named::{Sketch, read_sketch};
-use dvg_read::MOST_TEXT_BYTES;
+use dvg_read::{MOST_TEXT_BYTES, Unread};
 use dvg_svg::{Show, write_svgs};
 use std::alloc::Allocator;
 use std::io::{Read, Write};
 
 // Draws `sketch`, which was read. Returns `Memory` where an allocation fails.
-fn draw_read<A: Allocator + Copy>(alloc: A, sketch: &Sketch<'_, A>) -> Result<Drawn<A>, ToolFault> {
+fn draw_read<A: Allocator + Copy>(alloc: A, sketch: &Sketch<'_, A>) -> Result<Drawn<A>, Unread> {
     let Ok(frames) = sketch.frames(alloc) else {
-        return Err(ToolFault::Memory);
+        return Err(Unread::Memory);
     };
     match draw_frames(
         alloc,
@@ -25,7 +24,7 @@ fn draw_read<A: Allocator + Copy>(alloc: A, sketch: &Sketch<'_, A>) -> Result<Dr
     ) {
         Ok(pictures) => Ok(Drawn::Pictures(pictures)),
         Err(Unlaid::Refused(refusal)) => Ok(Drawn::Refused(refusal)),
-        Err(Unlaid::Memory) => Err(ToolFault::Memory),
+        Err(Unlaid::Memory) => Err(Unread::Memory),
     }
 }
 
@@ -39,13 +38,13 @@ impl<A: Allocator + Copy> Engine<A> for DrawEngine {
 
     const MOST: u32 = MOST_TEXT_BYTES as u32;
 
-    fn find(&self, alloc: A, read: &[u8]) -> Result<Drawn<A>, ToolFault> {
+    fn find(&self, alloc: A, read: &[u8]) -> Result<Drawn<A>, Unread> {
         let Ok(small) = read.to_ascii_lowercase_in(alloc) else {
-            return Err(ToolFault::Memory);
+            return Err(Unread::Memory);
         };
         match read_sketch(alloc, small.as_slice()) {
             Ok(sketch) => draw_read(alloc, &sketch),
-            Err(fault) => Err(tool_fault(fault)),
+            Err(stop) => Err(stop),
         }
     }
 

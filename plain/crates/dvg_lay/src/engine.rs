@@ -4,43 +4,22 @@ use std::prelude::*;
 use crate::form::{Form, Laid, lay};
 use dvg_io::{Engine, StreamFailed, ToolFault, Watched, serve, write_lines, write_whole};
 use dvg_mem::Rom;
-use dvg_named::{NamedFault, Sketch, SketchFault, read_sketch};
-use dvg_read::{MOST_TEXT_BYTES, TextFault};
+use dvg_named::{Sketch, read_sketch};
+use dvg_read::{MOST_TEXT_BYTES, Unread};
 use std::alloc::Allocator;
 use std::io::{Read, Write};
-
-// Returns `fault`, which is of a sketch, as a fault of a text.
-fn text_fault(fault: NamedFault) -> TextFault {
-    match fault {
-        NamedFault::TooLong => TextFault::TooLong,
-        NamedFault::Syntax(number) => TextFault::Syntax(number),
-        NamedFault::Twice(number) => TextFault::NameGivenAgain(number),
-        NamedFault::Full(number) => TextFault::Full(number),
-        NamedFault::OutOfRom(number) => TextFault::OutOfRom(number),
-        NamedFault::Overlap(number) => TextFault::Overlap(number),
-        NamedFault::Unknown(number) => TextFault::UnknownName(number),
-    }
-}
-
-/// Returns `fault`, by which a sketch isn't read, as a fault of the program.
-pub(crate) fn tool_fault(fault: SketchFault) -> ToolFault {
-    match fault {
-        SketchFault::Text(fault) => ToolFault::Text(text_fault(fault)),
-        SketchFault::Memory => ToolFault::Memory,
-    }
-}
 
 // Lays out `sketch`, which was read, in this `form`. Returns `Memory` where an allocation fails.
 fn lay_read<A: Allocator + Copy>(
     alloc: A,
     sketch: &Sketch<'_, A>,
     form: Form,
-) -> Result<Laid<A>, ToolFault> {
+) -> Result<Laid<A>, Unread> {
     let Ok(rom) = Rom::new(alloc, sketch.rom.as_slice()) else {
-        return Err(ToolFault::Memory);
+        return Err(Unread::Memory);
     };
     let Ok(frames) = sketch.frames(alloc) else {
-        return Err(ToolFault::Memory);
+        return Err(Unread::Memory);
     };
     match lay(
         alloc,
@@ -50,7 +29,7 @@ fn lay_read<A: Allocator + Copy>(
         form,
     ) {
         Ok(laid) => Ok(laid),
-        Err(_) => Err(ToolFault::Memory),
+        Err(_) => Err(Unread::Memory),
     }
 }
 
@@ -64,13 +43,13 @@ impl<A: Allocator + Copy> Engine<A> for LayEngine {
 
     const MOST: u32 = MOST_TEXT_BYTES as u32;
 
-    fn find(&self, alloc: A, read: &[u8]) -> Result<Laid<A>, ToolFault> {
+    fn find(&self, alloc: A, read: &[u8]) -> Result<Laid<A>, Unread> {
         let Ok(small) = read.to_ascii_lowercase_in(alloc) else {
-            return Err(ToolFault::Memory);
+            return Err(Unread::Memory);
         };
         match read_sketch(alloc, small.as_slice()) {
             Ok(sketch) => lay_read(alloc, &sketch, self.form),
-            Err(fault) => Err(tool_fault(fault)),
+            Err(stop) => Err(stop),
         }
     }
 

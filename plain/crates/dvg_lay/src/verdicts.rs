@@ -1,7 +1,6 @@
 //! What the check says of the frames of a sketch: the engine `check_sketch`.
 use std::prelude::*;
 
-use crate::engine::tool_fault;
 use crate::picture::time_of;
 use crate::text::put;
 use crate::time::{PictureTime, put_time};
@@ -12,7 +11,7 @@ use dvg_io::{Engine, StreamFailed, ToolFault, Watched, serve, write_lines};
 use dvg_mem::Rom;
 use dvg_named::{NamedFrame, Sketch, read_sketch};
 use dvg_print::{BoundedVerdict, Line};
-use dvg_read::MOST_TEXT_BYTES;
+use dvg_read::{MOST_TEXT_BYTES, Unread};
 use std::alloc::{AllocError, Allocator, Global};
 use std::io::{Read, Write};
 
@@ -116,13 +115,13 @@ fn check_frames<A: Allocator + Copy>(
 }
 
 // Checks the frames of `sketch`, which was read. Returns `Memory` where an allocation fails.
-fn check_read<A: Allocator + Copy>(alloc: A, sketch: &Sketch<'_, A>) -> Result<Said<A>, ToolFault> {
+fn check_read<A: Allocator + Copy>(alloc: A, sketch: &Sketch<'_, A>) -> Result<Said<A>, Unread> {
     let Ok(frames) = sketch.frames(alloc) else {
-        return Err(ToolFault::Memory);
+        return Err(Unread::Memory);
     };
     match check_frames(alloc, sketch.rom.as_slice(), frames.as_slice()) {
         Ok(said) => Ok(said),
-        Err(_) => Err(ToolFault::Memory),
+        Err(_) => Err(Unread::Memory),
     }
 }
 
@@ -134,13 +133,13 @@ impl<A: Allocator + Copy> Engine<A> for CheckEngine {
 
     const MOST: u32 = MOST_TEXT_BYTES as u32;
 
-    fn find(&self, alloc: A, read: &[u8]) -> Result<Said<A>, ToolFault> {
+    fn find(&self, alloc: A, read: &[u8]) -> Result<Said<A>, Unread> {
         let Ok(small) = read.to_ascii_lowercase_in(alloc) else {
-            return Err(ToolFault::Memory);
+            return Err(Unread::Memory);
         };
         match read_sketch(alloc, small.as_slice()) {
             Ok(sketch) => check_read(alloc, &sketch),
-            Err(fault) => Err(tool_fault(fault)),
+            Err(stop) => Err(stop),
         }
     }
 

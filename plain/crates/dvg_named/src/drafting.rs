@@ -5,23 +5,23 @@ use dvg_rows::{Doing, NamedRows, number_of};
 use std::alloc::Allocator;
 
 /// Returns the draft of a frame: what its `rows` do, in order. A name is that of an operation of
-/// the frame, and after `callrom` and `jumprom` that of a word of `rom`. Or else returns the place,
-/// counted from 0, of the first row that needs a name which isn't given. No memory is taken. The
-/// time grows with the number of rows of the frame.
+/// the frame, and after `callrom` and `jumprom` that of a word of `rom`. Returns `None` where a row
+/// needs a name that isn't given. No memory is taken. The time grows with the number of rows of the
+/// frame.
 pub(crate) fn draft_of<A: Allocator + Copy>(
     rows: &NamedRows<'_, '_, A>,
     rom: &LaidNames<'_, '_, '_, A>,
-) -> Result<Draft, usize> {
+) -> Option<Draft> {
     let mut draft = Draft::new();
-    for (place, row) in rows.rows().iter().enumerate() {
+    for row in rows.rows() {
         if let Some(doing) = &row.doing {
             let Some(op) = op_of(rows, rom, doing) else {
-                return Err(place);
+                return None;
             };
             draft.push(op).unwrap();
         }
     }
-    Ok(draft)
+    Some(draft)
 }
 
 // Returns the operation of `doing`, which a row of the frame of `rows` does. Returns `None` where

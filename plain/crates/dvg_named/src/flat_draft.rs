@@ -10,8 +10,8 @@ use std::alloc::Allocator;
 /// Why the operations of a frame aren't added.
 #[derive(Clone, Copy)]
 pub(crate) enum DraftFault {
-    /// The row at this place, counted from 0, is the first that needs a name which isn't given.
-    Ungiven(usize),
+    /// A row needs a name that isn't given.
+    UnknownName,
     /// An allocation failed.
     Memory,
 }
@@ -27,9 +27,8 @@ pub(crate) fn push_draft<A: Allocator + Copy>(
     let Ok(named) = NamedRows::new(alloc, rows) else {
         return Err(DraftFault::Memory);
     };
-    let draft = match draft_of(&named, rom) {
-        Ok(draft) => draft,
-        Err(place) => return Err(DraftFault::Ungiven(place)),
+    let Some(draft) = draft_of(&named, rom) else {
+        return Err(DraftFault::UnknownName);
     };
     if ops.extend_from_slice(draft.ops()).is_err() {
         return Err(DraftFault::Memory);

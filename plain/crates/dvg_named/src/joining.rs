@@ -32,8 +32,8 @@ pub struct JoinedFrames<'a, A: Allocator> {
     pub spans: Vec<FrameSpan<'a>, A>,
 }
 
-/// Returns the drafts of `frames`, with the names of the ROM from `rom`. Returns `Ungiven` where
-/// one needs a name that isn't given, and `Memory` where an allocation fails.
+/// Returns the drafts of `frames`, with the names of the ROM from `rom`. Returns `UnknownName`
+/// where one needs a name that isn't given, and `Memory` where an allocation fails.
 pub(crate) fn join_frames<'a, A: Allocator + Copy>(
     alloc: A,
     frames: &[FrameRows<'_, 'a>],

@@ -10,7 +10,6 @@ extern crate plain_std as std;
 mod addresses;
 mod drafting;
 pub mod examples;
-mod fault;
 mod flat_draft;
 mod frame_rows;
 mod joining;
@@ -25,11 +24,6 @@ mod text_reading;
 mod unknown;
 
 pub use dvg_rows::{Doing, Head, MAX_TOKENS, Row, Source, read_head, read_row, tokens_of};
-pub use fault::{NamedFault, SketchFault};
 pub use joining::{FrameSpan, JoinedFrames};
 pub use meaning::{NamedFrame, RomName};
 pub use sketch::{Sketch, read_sketch};
-
-#[path = "../rust.rs"]
-mod rust;
-pub use rust::*;

@@ -6,16 +6,16 @@ use crate::frame_rows::{FrameRows, frame_rows};
 use crate::joining::{JoinedFrames, join_frames};
 use crate::laid::{LaidNames, LaidRows, lay};
 use crate::rom_sections::rom_rows;
-use crate::rom_words::{RomRow, put_sections};
+use crate::rom_words::put_sections;
 use crate::stated_rom::StatedRom;
 use crate::unknown::first_unknown;
 use arrayvec::ArrayVec;
 use dvg_code::OutOfMemory;
 use dvg_frame::OpKind;
 use dvg_mem::LARGE_ROM_BYTES;
+use dvg_read::LineFault;
 use dvg_rows::{
-    Doing, GivenNames, Head, LineFault, Part, RomArea, Row, Source, read_head, read_row,
-    words_of_row,
+    Doing, GivenNames, Head, Part, RomArea, Row, Source, read_head, read_row, words_of_row,
 };
 use std::alloc::Allocator;
 use std::mem;
@@ -171,16 +171,13 @@ impl<'a, A: Allocator + Copy> Reading<'a, A> {
     }
 
     /// Returns the bytes of the ROM, with the words of its sections as they are `laid`, after all
-    /// lines of a text. Or else returns the first row of the ROM that needs a name which isn't
-    /// given. No memory is taken.
-    pub fn rom(
-        &self,
-        laid: &LaidNames<'_, '_, '_, A>,
-    ) -> Result<ArrayVec<u8, LARGE_ROM_BYTES>, RomRow> {
+    /// lines of a text. Returns `None` where a row of the ROM needs a name that isn't given. No
+    /// memory is taken.
+    pub fn rom(&self, laid: &LaidNames<'_, '_, '_, A>) -> Option<ArrayVec<u8, LARGE_ROM_BYTES>> {
         let mut bytes = self.rom.bytes();
         match put_sections(bytes.as_mut_slice(), laid) {
-            Ok(()) => Ok(bytes),
-            Err(row) => Err(row),
+            Some(()) => Some(bytes),
+            None => None,
         }
     }
 
@@ -201,7 +198,7 @@ impl<'a, A: Allocator + Copy> Reading<'a, A> {
     }
 
     /// Returns the drafts of the frames, in order, after all lines of a text. The names of the ROM
-    /// are those of `laid`. Returns `Ungiven` where a frame needs a name that isn't given, and
+    /// are those of `laid`. Returns `UnknownName` where a frame needs a name that isn't given, and
     /// `Memory` where an allocation fails.
     pub fn drafts(&self, laid: &LaidNames<'_, '_, '_, A>) -> Result<JoinedFrames<'a, A>, DraftFault> {
         let Ok(found) = self.frames() else {

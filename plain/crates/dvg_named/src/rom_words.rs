@@ -5,55 +5,42 @@ use dvg_frame::OpKind;
 use dvg_rows::{Doing, ROM_END};
 use std::alloc::Allocator;
 
-/// A row of a section of the ROM, by the numbers of both, counted from 0.
-#[derive(Clone, Copy, Debug, PartialEq, Eq, Hash)]
-pub(crate) struct RomRow {
-    /// The number of the section.
-    pub section: usize,
-    /// The number of the row in it.
-    pub row: usize,
-}
-
 /// Puts the canonical words of the laid `sections` into `rom`, the 2,048 or 4,096 bytes of a ROM.
 /// Each section goes to its address, the low byte of a word first. So bytes of which lines `rom`
 /// gave the words become those that the same words would have made of them, given by further lines.
-/// Or else returns the first row that needs a name which isn't given; what was put before it stays.
-/// No memory is taken. The time grows with the number of rows.
+/// Returns `None` where a row needs a name that isn't given; what was put before it stays. No
+/// memory is taken. The time grows with the number of rows.
 pub(crate) fn put_sections<A: Allocator + Copy>(
     rom: &mut [u8],
     sections: &LaidNames<'_, '_, '_, A>,
-) -> Result<(), RomRow> {
+) -> Option<()> {
     let first = ROM_END - rom.len() / 2;
-    for (number, section) in sections.sections().iter().enumerate() {
-        if let Err(row) = put_section(rom, first, sections, section) {
-            return Err(RomRow {
-                section: number,
-                row,
-            });
-        }
+    for section in sections.sections() {
+        let Some(()) = put_section(rom, first, sections, section) else {
+            return None;
+        };
     }
-    Ok(())
+    Some(())
 }
 
 // Puts the words of `section`, one of `sections`, into `rom`, the bytes of a ROM. `first` is the
-// word address of the ROM's first word. Or else returns the place of the first row that needs a
-// name which isn't given.
+// word address of the ROM's first word. Returns `None` where a row needs a name that isn't given.
 fn put_section<A: Allocator + Copy>(
     rom: &mut [u8],
     first: usize,
     sections: &LaidNames<'_, '_, '_, A>,
     section: &LaidRows,
-) -> Result<(), usize> {
+) -> Option<()> {
     let mut next = section.start - first;
-    for (place, row) in section.rows.iter().enumerate() {
+    for row in section.rows {
         if let Some(doing) = &row.doing {
             let Some(code) = code_of(sections, doing) else {
-                return Err(place);
+                return None;
             };
             next = put_code(rom, next, code);
         }
     }
-    Ok(())
+    Some(())
 }
 
 // Puts the words of `code` into `rom` from `place` on. Returns the place after them. Places are

@@ -2,7 +2,6 @@
 use std::prelude::*;
 
 use crate::addresses::rom_names;
-use crate::fault::{NamedFault, SketchFault};
 use crate::flat_draft::DraftFault;
 use crate::joining::{FrameSpan, JoinedFrames};
 use crate::laid::LaidNames;
@@ -12,6 +11,7 @@ use crate::text_reading::read_lines;
 use arrayvec::ArrayVec;
 use dvg_code::OutOfMemory;
 use dvg_mem::LARGE_ROM_BYTES;
+use dvg_read::{TextFault, Unread};
 use std::alloc::Allocator;
 
 /// A sketch that was read.
@@ -50,14 +50,14 @@ impl<'a, A: Allocator + Copy> Sketch<'a, A> {
 /// the same in either case.
 ///
 /// - `Text`: the fault of the text, that of the first line at fault. `TooLong`, the text has more
-///   than 1,048,576 bytes, comes before all others, and `Unknown` after them.
+///   than 1,048,576 bytes, comes before all others, and `UnknownName` after them.
 /// - `Memory`: an allocation failed.
 ///
 /// The time grows with the length of the text.
 pub fn read_sketch<'a, A: Allocator + Copy>(
     alloc: A,
     small: &'a [u8],
-) -> Result<Sketch<'a, A>, SketchFault> {
+) -> Result<Sketch<'a, A>, Unread> {
     let reading = match read_lines(alloc, small) {
         Ok(reading) => reading,
         Err(fault) => return Err(fault),
@@ -69,36 +69,33 @@ pub fn read_sketch<'a, A: Allocator + Copy>(
 fn sketch_of<'a, A: Allocator + Copy>(
     alloc: A,
     reading: &Reading<'a, A>,
-) -> Result<Sketch<'a, A>, SketchFault> {
+) -> Result<Sketch<'a, A>, Unread> {
     let Ok(rows) = reading.lay() else {
-        return Err(SketchFault::Memory);
+        return Err(Unread::Memory);
     };
     let sections = rows.as_slice();
     let Ok(names) = rom_names(alloc, sections) else {
-        return Err(SketchFault::Memory);
+        return Err(Unread::Memory);
     };
     let Ok(laid) = LaidNames::new(alloc, sections, names.as_slice()) else {
-        return Err(SketchFault::Memory);
+        return Err(Unread::Memory);
     };
-    let Ok(rom) = reading.rom(&laid) else {
+    let Some(rom) = reading.rom(&laid) else {
         return Err(unknown(reading, &laid));
     };
     match reading.drafts(&laid) {
         Ok(frames) => Ok(Sketch { rom, names, frames }),
-        Err(DraftFault::Memory) => Err(SketchFault::Memory),
-        Err(DraftFault::Ungiven(_)) => Err(unknown(reading, &laid)),
+        Err(DraftFault::Memory) => Err(Unread::Memory),
+        Err(DraftFault::UnknownName) => Err(unknown(reading, &laid)),
     }
 }
 
 // Returns the fault of the first line in `reading` that needs a name which isn't given, where there
 // is one. `laid` has the names of the ROM. Returns `Memory` where an allocation fails.
-fn unknown<A: Allocator + Copy>(
-    reading: &Reading<'_, A>,
-    laid: &LaidNames<'_, '_, '_, A>,
-) -> SketchFault {
+fn unknown<A: Allocator + Copy>(reading: &Reading<'_, A>, laid: &LaidNames<'_, '_, '_, A>) -> Unread {
     match reading.first_unknown(laid) {
-        Ok(Some(number)) => SketchFault::Text(NamedFault::Unknown(number)),
+        Ok(Some(number)) => Unread::Text(TextFault::UnknownName(number)),
         Ok(None) => unreachable!(),
-        Err(_) => SketchFault::Memory,
+        Err(_) => Unread::Memory,
     }
 }

@@ -2,10 +2,7 @@
 use crate::laid::free_with;
 use arrayvec::ArrayVec;
 use dvg_mem::{FIRST_LARGE_ROM_WORD, FIRST_ROM_WORD, LARGE_ROM_BYTES, LAST_ROM_WORD};
-use dvg_read::read_rom_parts;
-
-/// A word that no line gives, an RTSL, its low byte first (this project's own choice).
-const UNGIVEN: [u8; 2] = [0x00, 0xD0];
+use dvg_read::{read_rom_parts, ungiven_rom};
 
 /// The ROM that the lines describe which were read so far.
 pub(crate) struct StatedRom {
@@ -21,7 +18,7 @@ impl StatedRom {
     pub fn new() -> StatedRom {
         StatedRom {
             is_stated: false,
-            bytes: ungiven(FIRST_ROM_WORD),
+            bytes: ungiven_rom(FIRST_ROM_WORD),
             free: FIRST_ROM_WORD,
         }
     }
@@ -34,7 +31,7 @@ impl StatedRom {
                 return false;
             }
             self.is_stated = true;
-            self.bytes = ungiven(first);
+            self.bytes = ungiven_rom(first);
             self.free = first;
             return true;
         }
@@ -85,14 +82,4 @@ fn map_named(name: &[u8], size: &[u8]) -> Option<u16> {
         b"4096" => Some(FIRST_LARGE_ROM_WORD),
         _ => None,
     }
-}
-
-// Returns the bytes of a ROM of which no line gives a word. `first` is the word address of its
-// first word, 400 or 800.
-fn ungiven(first: u16) -> ArrayVec<u8, LARGE_ROM_BYTES> {
-    let mut bytes = ArrayVec::new();
-    for _word in 0..LAST_ROM_WORD + 1 - first {
-        bytes.try_extend_from_slice(&UNGIVEN).unwrap();
-    }
-    bytes
 }

@@ -1,9 +1,8 @@
 //! What all lines of a sketch spell.
-use crate::fault::{NamedFault, SketchFault};
 use crate::reading::Reading;
 use arrayvec::ArrayVec;
-use dvg_read::{MOST_TEXT_BYTES, TextLines};
-use dvg_rows::{LineFault, Source, find_tokens};
+use dvg_read::{MOST_TEXT_BYTES, TextFault, TextLines, Unread};
+use dvg_rows::{Source, find_tokens};
 use std::alloc::Allocator;
 
 /// Reads all lines of `small`, a text in small letters, in one pass. Returns `Text` where `small`
@@ -12,9 +11,9 @@ use std::alloc::Allocator;
 pub(crate) fn read_lines<'a, A: Allocator + Copy>(
     alloc: A,
     small: &'a [u8],
-) -> Result<Reading<'a, A>, SketchFault> {
+) -> Result<Reading<'a, A>, Unread> {
     if small.len() > MOST_TEXT_BYTES {
-        return Err(SketchFault::Text(NamedFault::TooLong));
+        return Err(Unread::Text(TextFault::TooLong));
     }
     let mut reading = Reading::new(alloc, first_line(small));
     let mut tokens = ArrayVec::new();
@@ -22,13 +21,13 @@ pub(crate) fn read_lines<'a, A: Allocator + Copy>(
     for line in TextLines::new(small) {
         number += 1;
         if let Err(many) = find_tokens(line, &mut tokens) {
-            return Err(at_line(many, number));
+            return Err(many.at_line(number));
         }
         if tokens.is_empty() {
             continue;
         }
         if let Err(fault) = reading.add(Source { number, line }, tokens.as_slice()) {
-            return Err(at_line(fault, number));
+            return Err(fault.at_line(number));
         }
     }
     Ok(reading)
@@ -43,17 +42,5 @@ fn first_line(text: &[u8]) -> Source<'_> {
             number: 1,
             line: &[],
         },
-    }
-}
-
-// Returns `fault` as that of the line of this `number`.
-fn at_line(fault: LineFault, number: usize) -> SketchFault {
-    match fault {
-        LineFault::Syntax => SketchFault::Text(NamedFault::Syntax(number)),
-        LineFault::Twice => SketchFault::Text(NamedFault::Twice(number)),
-        LineFault::Full => SketchFault::Text(NamedFault::Full(number)),
-        LineFault::OutOfRom => SketchFault::Text(NamedFault::OutOfRom(number)),
-        LineFault::Overlap => SketchFault::Text(NamedFault::Overlap(number)),
-        LineFault::Memory => SketchFault::Memory,
     }
 }

@@ -2,7 +2,7 @@
 use crate::writes::write_run;
 use dvg_dump::{Dump, DumpFault, LARGE_DUMP_BYTES, Outcome, Traced};
 use dvg_io::{Engine, StreamFailed, ToolFault, Watched, serve};
-use dvg_read::TextFault;
+use dvg_read::{TextFault, Unread};
 use std::alloc::Allocator;
 use std::io::{Read, Write};
 
@@ -21,14 +21,14 @@ pub(crate) fn run_dump<A: Allocator + Copy>(
     alloc: A,
     bytes: &[u8],
     traces: bool,
-) -> Result<Traced<A>, ToolFault> {
+) -> Result<Traced<A>, Unread> {
     let dump = match Dump::new(alloc, bytes) {
         Ok(dump) => dump,
-        Err(DumpFault::Size) => return Err(ToolFault::Text(size_fault(bytes))),
-        Err(DumpFault::OutOfMemory) => return Err(ToolFault::Memory),
+        Err(DumpFault::Size) => return Err(Unread::Text(size_fault(bytes))),
+        Err(DumpFault::OutOfMemory) => return Err(Unread::Memory),
     };
     let Ok(run) = dump.run_telling(traces) else {
-        return Err(ToolFault::Memory);
+        return Err(Unread::Memory);
     };
     Ok(run)
 }
@@ -44,7 +44,7 @@ impl<A: Allocator + Copy> Engine<A> for PictureEngine {
 
     const MOST: u32 = LARGE_DUMP_BYTES as u32;
 
-    fn find(&self, alloc: A, read: &[u8]) -> Result<Traced<A>, ToolFault> {
+    fn find(&self, alloc: A, read: &[u8]) -> Result<Traced<A>, Unread> {
         run_dump(alloc, read, self.all)
     }
 

@@ -7,6 +7,7 @@ use dvg_code::OutOfMemory;
 use dvg_dump::{LARGE_DUMP_BYTES, Ran};
 use dvg_gen::Stroke;
 use dvg_io::{Engine, StreamFailed, ToolFault, Watched, serve};
+use dvg_read::Unread;
 use dvg_svg::write_svg;
 use std::alloc::Allocator;
 use std::io::{Read, Write};
@@ -31,10 +32,10 @@ fn collect_strokes<A: Allocator>(alloc: A, trace: &[Ran]) -> Result<Vec<Stroke, 
 }
 
 // Returns what the run over the dump `bytes` draws.
-fn draw_dump<A: Allocator + Copy>(alloc: A, bytes: &[u8]) -> Result<Drawn<A>, ToolFault> {
+fn draw_dump<A: Allocator + Copy>(alloc: A, bytes: &[u8]) -> Result<Drawn<A>, Unread> {
     let run = run_dump(alloc, bytes, true)?;
     let Ok(strokes) = collect_strokes(alloc, run.ran.as_slice()) else {
-        return Err(ToolFault::Memory);
+        return Err(Unread::Memory);
     };
     Ok(Drawn {
         strokes,
@@ -70,7 +71,7 @@ impl<A: Allocator + Copy> Engine<A> for SvgEngine {
 
     const MOST: u32 = LARGE_DUMP_BYTES as u32;
 
-    fn find(&self, alloc: A, read: &[u8]) -> Result<Drawn<A>, ToolFault> {
+    fn find(&self, alloc: A, read: &[u8]) -> Result<Drawn<A>, Unread> {
         draw_dump(alloc, read)
     }
 

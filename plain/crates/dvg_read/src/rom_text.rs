@@ -18,7 +18,7 @@ impl RomReading {
     pub fn new() -> RomReading {
         RomReading {
             is_stated: false,
-            bytes: ungiven(FIRST_ROM_WORD),
+            bytes: ungiven_rom(FIRST_ROM_WORD),
         }
     }
 
@@ -30,7 +30,7 @@ impl RomReading {
                 return false;
             }
             self.is_stated = true;
-            self.bytes = ungiven(first);
+            self.bytes = ungiven_rom(first);
             return true;
         }
         let first = self.first();
@@ -65,11 +65,11 @@ fn read_map_line(line: &[u8]) -> Option<u16> {
     }
 }
 
-// Returns the bytes of a ROM of which no line gives a word. `first` is the word address of its
-// first word, 400 or 800. It isn't inlined: else a ROM's room is cleared for each line that is
-// read.
+/// Returns the bytes of a ROM of which no line gives a word. `first` is the word address of its
+/// first word, 400 or 800. It isn't inlined: else a ROM's room is cleared for each line that is
+/// read.
 #[inline(never)]
-fn ungiven(first: u16) -> ArrayVec<u8, LARGE_ROM_BYTES> {
+pub fn ungiven_rom(first: u16) -> ArrayVec<u8, LARGE_ROM_BYTES> {
     let mut bytes = ArrayVec::new();
     for _word in 0..LAST_ROM_WORD + 1 - first {
         bytes.try_extend_from_slice(&UNGIVEN).unwrap();

@@ -1,17 +1,17 @@
 //! The lines of a trace's text, followed without keeping its events: that takes no memory.
 use crate::draft_text::MOST_TEXT_BYTES;
 use crate::event_line::read_event_line;
-use crate::fault::{TextFault, TraceFault};
+use crate::fault::{LineFault, TextFault, Unread};
 use crate::rom_text::RomReading;
 use crate::text_lines::{TextLines, is_passed};
-use crate::trace_text::{LineFault, add_op, at_line, count};
+use crate::trace_text::{add_op, count};
 use dvg_frame::Draft;
 use dvg_log::MOST_EVENTS;
 
 /// Follows `text`, the text of a trace, to its end or to its fault, without taking memory.
-pub(crate) fn follow(text: &[u8]) -> Result<(), TraceFault> {
+pub(crate) fn follow(text: &[u8]) -> Result<(), Unread> {
     if text.len() > MOST_TEXT_BYTES {
-        return Err(TraceFault::Text(TextFault::TooLong));
+        return Err(Unread::Text(TextFault::TooLong));
     }
     let mut following = Following {
         rom: RomReading::new(),
@@ -27,11 +27,11 @@ pub(crate) fn follow(text: &[u8]) -> Result<(), TraceFault> {
         }
         match following.take(line) {
             Ok(()) => {}
-            Err(fault) => return Err(at_line(fault, number)),
+            Err(fault) => return Err(fault.at_line(number)),
         }
     }
     if following.is_open {
-        return Err(TraceFault::Text(TextFault::Unended));
+        return Err(Unread::Text(TextFault::Unended));
     }
     Ok(())
 }

@@ -1,7 +1,7 @@
 //! Texts of traces.
 use crate::draft_text::MOST_TEXT_BYTES;
 use crate::event_line::{EventLine, read_event_line};
-use crate::fault::{TextFault, TraceFault};
+use crate::fault::{LineFault, TextFault, Unread};
 use crate::op_line::read_op;
 use crate::rom_text::RomReading;
 use crate::text_lines::{TextLines, is_passed};
@@ -33,13 +33,13 @@ pub struct TraceText<A: Allocator = Global> {
 ///   without fault. An offer is an event with its `end`.
 /// - `Unended`: no line is at fault, and the text ends inside an offer.
 /// - `Memory`: an allocation failed, at a line that brings events or ends an offer.
-pub fn read_trace<A: Allocator + Copy>(alloc: A, text: &[u8]) -> Result<TraceText<A>, TraceFault> {
+pub fn read_trace<A: Allocator + Copy>(alloc: A, text: &[u8]) -> Result<TraceText<A>, Unread> {
     if text.len() > MOST_TEXT_BYTES {
-        return Err(TraceFault::Text(TextFault::TooLong));
+        return Err(Unread::Text(TextFault::TooLong));
     }
     let reading = read_lines(alloc, text)?;
     if reading.is_open {
-        return Err(TraceFault::Text(TextFault::Unended));
+        return Err(Unread::Text(TextFault::Unended));
     }
     Ok(TraceText {
         events: reading.events,
@@ -49,7 +49,7 @@ pub fn read_trace<A: Allocator + Copy>(alloc: A, text: &[u8]) -> Result<TraceTex
 
 // Reads all lines of `text`. The last of them may leave an offer open.
 #[inline(always)]
-fn read_lines<A: Allocator + Copy>(alloc: A, text: &[u8]) -> Result<Reading<A>, TraceFault> {
+fn read_lines<A: Allocator + Copy>(alloc: A, text: &[u8]) -> Result<Reading<A>, Unread> {
     let mut reading = Reading {
         alloc,
         rom: RomReading::new(),
@@ -61,7 +61,7 @@ fn read_lines<A: Allocator + Copy>(alloc: A, text: &[u8]) -> Result<Reading<A>, 
     let mut number = 0;
     loop {
         let Ok(count) = reading.take_ahead(&mut lines) else {
-            return Err(TraceFault::Memory);
+            return Err(Unread::Memory);
         };
         number += usize::from(count) + 1;
         let Some(line) = lines.next() else {
@@ -72,31 +72,8 @@ fn read_lines<A: Allocator + Copy>(alloc: A, text: &[u8]) -> Result<Reading<A>, 
         }
         match reading.take(line) {
             Ok(()) => {}
-            Err(fault) => return Err(at_line(fault, number)),
+            Err(fault) => return Err(fault.at_line(number)),
         }
-    }
-}
-
-// Why a line isn't taken.
-#[derive(Clone, Copy)]
-pub(crate) enum LineFault {
-    // It spells nothing that may stand at its place.
-    Syntax,
-    // The draft of the offer has its 511 operations already.
-    Full,
-    // There would be more events than a trace has.
-    Many,
-    // An allocation failed.
-    Memory,
-}
-
-// Returns `fault` as that of the line of this `number`.
-pub(crate) fn at_line(fault: LineFault, number: usize) -> TraceFault {
-    match fault {
-        LineFault::Syntax => TraceFault::Text(TextFault::Syntax(number)),
-        LineFault::Full => TraceFault::Text(TextFault::Full(number)),
-        LineFault::Many => TraceFault::Text(TextFault::Many(number)),
-        LineFault::Memory => TraceFault::Memory,
     }
 }
 

@@ -7,7 +7,6 @@
 extern crate plain_std as std;
 
 mod given_names;
-mod line_fault;
 mod line_tokens;
 mod name_table;
 mod number;
@@ -18,7 +17,6 @@ mod sizes;
 mod source;
 
 pub use given_names::GivenNames;
-pub use line_fault::LineFault;
 pub use line_tokens::{MAX_TOKENS, find_tokens, tokens_of};
 pub use name_table::NameTable;
 pub use number::{NamedRows, number_of};
@@ -27,7 +25,3 @@ pub use rom_area::{ROM_END, RomArea};
 pub use row::{Doing, Head, Row, read_head, read_row};
 pub use sizes::{size, words_of_row};
 pub use source::Source;
-
-#[path = "../rust.rs"]
-mod rust;
-pub use rust::*;

@@ -1,6 +1,6 @@
 //! The tokens of a line.
-use crate::line_fault::LineFault;
 use arrayvec::ArrayVec;
+use dvg_read::LineFault;
 
 /// The most tokens that a line of a sketch has: a line `rom` that gives eight words has so many.
 pub const MAX_TOKENS: usize = 10;

@@ -1,9 +1,9 @@
 //! A section of a sketch that was read.
 use std::prelude::*;
 
-use crate::line_fault::LineFault;
 use crate::row::{Head, Row};
 use crate::source::Source;
+use dvg_read::LineFault;
 use std::alloc::Allocator;
 use std::slice;
 

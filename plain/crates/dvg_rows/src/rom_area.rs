@@ -1,9 +1,9 @@
 //! Which words of the ROM the sections take that were laid.
-use crate::line_fault::LineFault;
-use dvg_mem::FIRST_ROM_WORD;
+use dvg_mem::{FIRST_ROM_WORD, LAST_ROM_WORD};
+use dvg_read::LineFault;
 
 /// The word address after the ROM's last word.
-pub const ROM_END: usize = 0xC00;
+pub const ROM_END: usize = LAST_ROM_WORD as usize + 1;
 
 /// The words that laid sections take, and where the next word is laid.
 pub struct RomArea {

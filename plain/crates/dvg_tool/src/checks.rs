@@ -3,19 +3,19 @@ use dvg_frame::check;
 use dvg_io::{Engine, StreamFailed, ToolFault, Watched, serve, write_whole};
 use dvg_mem::Rom;
 use dvg_print::{BoundedVerdict, Line, Verdict};
-use dvg_read::{MOST_TEXT_BYTES, read_draft};
+use dvg_read::{MOST_TEXT_BYTES, Unread, read_draft};
 use std::alloc::Allocator;
 use std::io::{Read, Write};
 
 // Returns what the check says of the draft that `text` denotes, over the ROM that it denotes.
 #[inline(never)]
-fn judge<A: Allocator>(alloc: A, text: &[u8]) -> Result<BoundedVerdict, ToolFault> {
+fn judge<A: Allocator>(alloc: A, text: &[u8]) -> Result<BoundedVerdict, Unread> {
     let drafted = match read_draft(text) {
         Ok(drafted) => drafted,
-        Err(fault) => return Err(ToolFault::Text(fault)),
+        Err(fault) => return Err(Unread::Text(fault)),
     };
     let Ok(rom) = Rom::new(alloc, drafted.rom.as_slice()) else {
-        return Err(ToolFault::Memory);
+        return Err(Unread::Memory);
     };
     match check(&drafted.draft, &rom) {
         Ok(frame) => Ok(BoundedVerdict::Good {
@@ -34,7 +34,7 @@ impl<A: Allocator + Copy> Engine<A> for CheckEngine {
 
     const MOST: u32 = MOST_TEXT_BYTES as u32;
 
-    fn find(&self, alloc: A, read: &[u8]) -> Result<Verdict, ToolFault> {
+    fn find(&self, alloc: A, read: &[u8]) -> Result<Verdict, Unread> {
         let bounded = judge(alloc, read)?;
         Ok(bounded.verdict())
     }
@@ -58,7 +58,7 @@ impl<A: Allocator + Copy> Engine<A> for BoundEngine {
 
     const MOST: u32 = MOST_TEXT_BYTES as u32;
 
-    fn find(&self, alloc: A, read: &[u8]) -> Result<BoundedVerdict, ToolFault> {
+    fn find(&self, alloc: A, read: &[u8]) -> Result<BoundedVerdict, Unread> {
         judge(alloc, read)
     }
 

@@ -3,7 +3,7 @@ use crate::plays_pictures::play_pictures;
 use crate::shows::write_entries;
 use dvg_io::{Engine, StreamFailed, ToolFault, Watched, serve};
 use dvg_mem::{Flat, Image, MEMORY_BYTES, Rom, Store};
-use dvg_read::{MOST_TEXT_BYTES, TraceText, read_trace};
+use dvg_read::{MOST_TEXT_BYTES, TraceText, Unread, read_trace};
 use dvg_world::{Logged, log_trace};
 use std::alloc::Allocator;
 use std::io::{Read, Write};
@@ -42,7 +42,7 @@ impl<S: Store> Engine<S::Alloc> for EntriesEngine<S> {
 
     const MOST: u32 = MOST_TEXT_BYTES as u32;
 
-    fn find(&self, alloc: S::Alloc, read: &[u8]) -> Result<Self::Found, ToolFault> {
+    fn find(&self, alloc: S::Alloc, read: &[u8]) -> Result<Self::Found, Unread> {
         let trace = read_trace(alloc, read)?;
         Ok(log_text::<S>(alloc, &trace))
     }

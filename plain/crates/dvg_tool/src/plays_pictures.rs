@@ -3,7 +3,7 @@ use crate::plays::memory_of;
 use dvg_io::{Engine, StreamFailed, ToolFault, Watched, serve, write_strokes, write_whole};
 use dvg_mem::Store;
 use dvg_print::Line;
-use dvg_read::{MOST_TEXT_BYTES, TraceText, read_trace};
+use dvg_read::{MOST_TEXT_BYTES, TraceText, Unread, read_trace};
 use dvg_world::{Drawn, Picture, draw_trace};
 use std::alloc::Allocator;
 use std::io::{Read, Write};
@@ -51,7 +51,7 @@ impl<S: Store> Engine<S::Alloc> for PicturesEngine<S> {
 
     const MOST: u32 = MOST_TEXT_BYTES as u32;
 
-    fn find(&self, alloc: S::Alloc, read: &[u8]) -> Result<Self::Found, ToolFault> {
+    fn find(&self, alloc: S::Alloc, read: &[u8]) -> Result<Self::Found, Unread> {
         let trace = read_trace(alloc, read)?;
         Ok(draw_text::<S>(alloc, &trace))
     }

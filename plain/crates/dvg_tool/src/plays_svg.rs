@@ -5,7 +5,7 @@ use crate::plays_pictures::draw_text;
 use dvg_gen::Stroke;
 use dvg_io::{Engine, StreamFailed, ToolFault, Watched, serve};
 use dvg_mem::{Flat, Store};
-use dvg_read::{MOST_TEXT_BYTES, TraceText, read_trace};
+use dvg_read::{MOST_TEXT_BYTES, TraceText, Unread, read_trace};
 use dvg_svg::{Show, write_svgs};
 use dvg_world::Picture;
 use std::alloc::Allocator;
@@ -16,11 +16,11 @@ use std::marker::PhantomData;
 fn collect_strokes<A: Allocator + Copy>(
     alloc: A,
     pictures: Vec<Picture<A>, A>,
-) -> Result<Vec<Vec<Stroke, A>, A>, ToolFault> {
+) -> Result<Vec<Vec<Stroke, A>, A>, Unread> {
     let mut strokes = Vec::new(alloc);
     for picture in pictures {
         if strokes.push(picture.strokes).is_err() {
-            return Err(ToolFault::Memory);
+            return Err(Unread::Memory);
         }
     }
     Ok(strokes)
@@ -31,10 +31,10 @@ fn collect_strokes<A: Allocator + Copy>(
 fn draw_whole<S: Store>(
     alloc: S::Alloc,
     trace: &TraceText<S::Alloc>,
-) -> Result<Vec<Vec<Stroke, S::Alloc>, S::Alloc>, ToolFault> {
+) -> Result<Vec<Vec<Stroke, S::Alloc>, S::Alloc>, Unread> {
     let drawn = draw_text::<S>(alloc, trace);
     if !drawn.is_whole {
-        return Err(ToolFault::Memory);
+        return Err(Unread::Memory);
     }
     collect_strokes(alloc, drawn.pictures)
 }
@@ -50,7 +50,7 @@ impl<S: Store> Engine<S::Alloc> for SvgEngine<S> {
 
     const MOST: u32 = MOST_TEXT_BYTES as u32;
 
-    fn find(&self, alloc: S::Alloc, read: &[u8]) -> Result<Self::Found, ToolFault> {
+    fn find(&self, alloc: S::Alloc, read: &[u8]) -> Result<Self::Found, Unread> {
         let trace = read_trace(alloc, read)?;
         draw_whole::<S>(alloc, &trace)
     }

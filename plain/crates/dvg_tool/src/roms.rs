@@ -4,7 +4,7 @@ use std::prelude::*;
 use dvg_io::{Engine, StreamFailed, ToolFault, Watched, collect_words, serve, write_whole};
 use dvg_mem::{FIRST_LARGE_ROM_WORD, FIRST_ROM_WORD, LARGE_ROM_BYTES, MEMORY_BYTES};
 use dvg_print::Line;
-use dvg_read::TextFault;
+use dvg_read::{TextFault, Unread};
 use std::alloc::Allocator;
 use std::io::{Read, Write};
 
@@ -47,13 +47,13 @@ fn write_rom<W: Write>(
 
 // Returns the words of `bytes`, the bytes of a ROM. Returns `RomSize` where they are neither 2,048
 // nor 4,096, and `Memory` where an allocation fails.
-fn words_of_rom<A: Allocator>(alloc: A, bytes: &[u8]) -> Result<Vec<u16, A>, ToolFault> {
+fn words_of_rom<A: Allocator>(alloc: A, bytes: &[u8]) -> Result<Vec<u16, A>, Unread> {
     if bytes.len() != MEMORY_BYTES && bytes.len() != LARGE_ROM_BYTES {
-        return Err(ToolFault::Text(TextFault::RomSize));
+        return Err(Unread::Text(TextFault::RomSize));
     }
     match collect_words(alloc, bytes) {
         Ok(words) => Ok(words),
-        Err(_) => Err(ToolFault::Memory),
+        Err(_) => Err(Unread::Memory),
     }
 }
 
@@ -65,7 +65,7 @@ impl<A: Allocator + Copy> Engine<A> for RomEngine {
 
     const MOST: u32 = LARGE_ROM_BYTES as u32;
 
-    fn find(&self, alloc: A, read: &[u8]) -> Result<Vec<u16, A>, ToolFault> {
+    fn find(&self, alloc: A, read: &[u8]) -> Result<Vec<u16, A>, Unread> {
         words_of_rom(alloc, read)
     }
 

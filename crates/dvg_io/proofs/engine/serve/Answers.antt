@@ -10,6 +10,6 @@ returns-in_err-found g c =
     let engine = c.args.engine.now in
     unfound g.E.Engine.MOST (g.E.Engine.Finds engine) (g.E.Engine.HasFault engine) (g.E.Engine.text engine)
     g.R.Read.remaining g.W.Write.contents _ fault c.in_ok-read.read.items c.args.reader.now c.read_up_to.new.reader c.args.writer.now
-    (is.1 ∙ ap Err is.2) (rw c.MOST.ensures at c.in_ok-read.ensures.bytes) (let short = rw c.MOST.ensures at c.in_ok-read.ensures.short in search rules)
+    (is.1 ∙ ap Err is.2) (rw c.MOST.ensures at c.in_ok-read.ensures.bytes)
     (rw c.MOST.ensures at c.in_ok-read.ensures.took)
     (search rules) (search rules) (subst (λ read. IsUnfound g.E.Engine.MOST (g.E.Engine.Finds engine) (g.E.Engine.HasFault engine) (g.E.Engine.text engine) read fault) c.as_slice.ensures.value c.in_err-found.ensures)

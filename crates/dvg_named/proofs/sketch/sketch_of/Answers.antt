@@ -21,8 +21,8 @@ unknown-requires-clause-text g c = record {
       ∙ c.in-Ok.ensures c.requires.1.rom c.requires.1.reads;
 }
 
-pub unknown-requires-in-Err-Ungiven-clause-text : goal.unknown-requires-in-Err-Ungiven-clause-text
-unknown-requires-in-Err-Ungiven-clause-text g c = record {
+pub unknown-requires-in-Err-UnknownName-clause-text : goal.unknown-requires-in-Err-UnknownName-clause-text
+unknown-requires-in-Err-UnknownName-clause-text g c = record {
   small = c.requires.0;
   reads = c.requires.1;
   are = ap laid_sections (c.in-Ok-new.ensures ∙ c.as_slice-sections.ensures.value)
@@ -45,8 +45,8 @@ returns-in-Ok-drafts-clause-read g c text read =
     let names = c.in-Ok-rom_names.names.items in
     let are = ap laid_sections (same ∙ c.as_slice-sections.ensures.value) ∙ c.in-Ok.ensures read.rom read.reads in
     let joined = c.in-Ok-drafts.frames in
-    is_read c.args.reading.now text read c.in-Ok-new.laid c.in-Ok-rom.rom.items names joined.ops.items
-    joined.sources.items joined.spans.items are (c.in-Ok-rom.ensures.rom read.rom read.reads are)
+    is_read c.args.reading.now text read c.in-Ok-new.laid c.in-Some.rom.items names joined.ops.items
+    joined.sources.items joined.spans.items are (c.in-Some.ensures.rom read.rom read.reads are)
     (c.in-Ok-rom_names.ensures.names ∙ ap (λ l. names_of (rows_laid (laid_sections l))) (sym same))
     (subst (λ l. All (IsNamedIn (laid_sections l)) names) (sym same) c.in-Ok-rom_names.ensures.addresses)
     (c.in-Ok-drafts.ensures.drafts read.rom)

@@ -2,7 +2,8 @@ use Rattle.std.proofs.Common.{◌≡◌, ◌+◌, ◌∙◌, ap, sym, subst, ari
 use Rattle.dvg_read.specs.LineParts.{bytes_of}
 use Rattle.dvg_read.specs.Texts.{lines}
 use Rattle.dvg_read.specs.TextLines.{lines_left}
-use Rattle.dvg_named.specs.TextReading.{StopsText, fault_at}
+use Rattle.dvg_read.specs.LineFaults.{fault_at}
+use Rattle.dvg_named.specs.TextReading.{StopsText}
 use Rattle.dvg_named.proofs.SketchRead.{are_parts, begins, bounded, goes_by, line_at, many, no_tokens, passes, passes_sourced, plain_is, reads_all, some_tokens, stops_tokens}
 use Rattle.dvg_named.proofs.text_reading.read_lines.Goals as goal
 

@@ -2,7 +2,7 @@ use Rattle.std.proofs.Common.{sym, subst, IsTrue}
 use Rattle.dvg_rows.specs.declared.row.Head as held_head
 use Rattle.dvg_rows.specs.HeldRows.{rows_of}
 use Rattle.dvg_named.specs.LaidValues.{laid_sections}
-use Rattle.dvg_named.specs.NamedFaults.{IsLost}
+use Rattle.dvg_named.specs.SketchFaults.{IsLost}
 use Rattle.dvg_rows.specs.RowValues.{head_of}
 use Rattle.dvg_named.proofs.unknown.is_lost_after.Goals as goal
 

@@ -2,7 +2,7 @@ use Rattle.std.proofs.Common.{sym, subst, IsTrue}
 use Rattle.dvg_rows.specs.declared.row.Doing as held_doing
 use Rattle.dvg_named.specs.FirstUnknown.{section_held}
 use Rattle.dvg_named.specs.LaidValues.{laid_sections}
-use Rattle.dvg_named.specs.NamedFaults.{IsUngiven}
+use Rattle.dvg_named.specs.SketchFaults.{IsUngiven}
 use Rattle.dvg_rows.specs.RowValues.{doing_of}
 use Rattle.dvg_named.proofs.unknown.is_ungiven.Goals as goal
 

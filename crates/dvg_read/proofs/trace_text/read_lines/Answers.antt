@@ -3,7 +3,8 @@ use Rattle.std.proofs.lemmas.List.Elements.{All-nil}
 use Rattle.dvg_read.specs.Texts.{lines}
 use Rattle.dvg_read.specs.TextLines.{lines_left}
 use Rattle.dvg_read.specs.TraceTexts.{FitsDraft}
-use Rattle.dvg_read.specs.TraceGives.{StopsReading, events_read, fault_at, opened_of}
+use Rattle.dvg_read.specs.LineFaults.{fault_at}
+use Rattle.dvg_read.specs.TraceGives.{StopsReading, events_read, opened_of}
 use Rattle.dvg_read.proofs.ReadTrace.{ReadTrace, all_spelled, begins, bounded, passes, reads_ahead, stops, takes}
 use Rattle.dvg_read.proofs.ReadTrace.{wants_memory}
 use Rattle.dvg_read.proofs.trace_text.read_lines.Goals as goal

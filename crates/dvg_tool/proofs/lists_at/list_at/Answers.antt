@@ -1,11 +1,12 @@
 use Rattle.std.proofs.Common.{rules}
 use Rattle.dvg_io.proofs.Inputs.{too_long}
 use Rattle.dvg_tool.proofs.Whole.{odd, lists_at}
+use Rattle.dvg_tool.specs.declared.lists.TheConstants.{MOST_LIST_BYTES}
 use Rattle.dvg_tool.proofs.lists_at.list_at.Goals as goal
 
 pub returns-then-len-gt-MOST_LIST_BYTES : goal.returns-then-len-gt-MOST_LIST_BYTES
 returns-then-len-gt-MOST_LIST_BYTES g c = record {
-  means = too_long 8192 _ c.in_ok-bytes.bytes.items c.in_ok-bytes.ensures.bytes (search rules);
+  means = too_long MOST_LIST_BYTES _ c.in_ok-bytes.bytes.items c.in_ok-bytes.ensures.bytes (search rules);
   took = search rules;
   unwritten = search rules;
   reader = search rules;

@@ -1,4 +1,4 @@
-use Rattle.std.proofs.Common.{◌∙◌, Err, refl, sym}
+use Rattle.std.proofs.Common.{◌∙◌, sym}
 use Rattle.dvg_named.specs.ReadSketches.{IsReadOf}
 use Rattle.dvg_lay.proofs.SketchesLaid.{found, unread}
 use Rattle.dvg_lay.specs.DrawnSketches.{DrawsOut}
@@ -16,5 +16,5 @@ returns-in-Ok-read_sketch g c input e =
 
 pub returns : goal.returns
 returns g c input e =
-    unread (DrawsOut {A = g.row.A.Denot}) (Err c.tool_fault.result) c.tool_fault.result c.in-Err.fault c.args.read.now input e c.tool_fault.ensures
-    (c.in-Err.ensures.fault c.args.read.now (sym (c.as_slice.ensures.value ∙ c.in-Ok.ensures.ok))) refl
+    unread (DrawsOut {A = g.row.A.Denot} input) c.in-Err.stop c.args.read.now input e
+    (c.in-Err.ensures.fault c.args.read.now (sym (c.as_slice.ensures.value ∙ c.in-Ok.ensures.ok)))

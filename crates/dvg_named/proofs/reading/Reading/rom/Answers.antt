@@ -1,4 +1,4 @@
-use Rattle.dvg_named.proofs.KnownRom.{none_first}
+use Rattle.dvg_named.proofs.KnownRom.{none_unknown}
 use Rattle.std.proofs.Common.{◌∙◌}
 use Rattle.dvg_named.proofs.RomGiven.{lie_in_rom, may_stand, rom_size}
 use Rattle.dvg_named.proofs.reading.Reading.rom.Goals as goal
@@ -16,6 +16,6 @@ put_sections-requires-clause-lie g c =
 pub put_sections-requires-clause-may : goal.put_sections-requires-clause-may
 put_sections-requires-clause-may g c = may_stand c.args.self.now c.args.laid.now c.requires
 
-pub returns-in-Err-clause-known : goal.returns-in-Err-clause-known
-returns-in-Err-clause-known g c =
-    none_first c.args.self.now c.args.laid.now c.in-Err.row c.requires c.in-Err.ensures.ungiven
+pub returns-in-None-clause-unknown : goal.returns-in-None-clause-unknown
+returns-in-None-clause-unknown g c = λ none.
+    c.in-None.ensures.unknown (none_unknown c.args.self.now c.args.laid.now c.requires none)

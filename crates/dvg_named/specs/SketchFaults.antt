@@ -5,9 +5,9 @@ use Rattle.std.specs.List.{filter_map, flat_map}
 use Rattle.dvg_read.specs.FirstFaults.{IsShort}
 use Rattle.dvg_read.specs.RomTexts.{first_stated}
 use Rattle.dvg_read.specs.Texts.{is_passed, unpassed}
-use Rattle.dvg_named.specs.declared.fault.NamedFault.{NamedFault}
-use Rattle.dvg_named.specs.declared.fault.NamedFault.TheVariants.{TooLong, Syntax, Twice, Full, OutOfRom, Overlap}
-use Rattle.dvg_named.specs.declared.fault.NamedFault.TheVariants.{Unknown}
+use Rattle.dvg_read.specs.declared.fault.TextFault.{TextFault}
+use Rattle.dvg_read.specs.declared.fault.TextFault.TheVariants.{TooLong, Syntax, NameGivenAgain}
+use Rattle.dvg_read.specs.declared.fault.TextFault.TheVariants.{Full, OutOfRom, Overlap, UnknownName}
 use Rattle.dvg_rows.specs.PlainLines.{plain_lines}
 use Rattle.dvg_rows.specs.RowPlaces.{AreDistinct, IsNumber, doings, names_of}
 use Rattle.dvg_rows.specs.Rows.{Doing, Head, IsRowLine, Row, plainly, calls, jumps, calls_rom, jumps_rom, rom}
@@ -15,6 +15,7 @@ use Rattle.dvg_named.specs.Sections.{Section, Spelled, SpellsSketch, frames, rom
 use Rattle.dvg_named.specs.Places.{IsAddress, Laid, laid, laid_end}
 use Rattle.dvg_named.specs.Meanings.{Frame, IsMeant}
 use Rattle.dvg_read.specs.RomTexts.{RomText}
+use Rattle.dvg_read.specs.declared.draft_text.TheConstants.{MOST_TEXT_BYTES}
 
 -- each name is given once: in a frame, in the ROM, and among the names of frames
 pub record GivesOnce (sketch : Spelled) : Type 0 where
@@ -129,12 +130,15 @@ pub record WantsUngiven (text : List ℕ) (n : ℕ) : Type 0 where
   pub ungiven : IsUngiven (laid_of fine.sketch) section doing
 
 -- the fault of a sketch's text: that of the first line at fault, or else the first name not given
-abbrev pub HasNamedFault : List ℕ → NamedFault → Type 0
-HasNamedFault text TooLong = 1048576 < length text
-HasNamedFault text (Syntax n) = MeetsNothing text n
-HasNamedFault text (Twice n) = Meets (λ sketch. ¬ GivesOnce sketch) text n
-HasNamedFault text (Full n) = Meets (λ sketch. GivesOnce sketch × (¬ DraftsFit sketch)) text n
-HasNamedFault text (OutOfRom n) = Meets (λ sketch. GivesOnce sketch × DraftsFit sketch × (¬ RomFits sketch)) text n
-HasNamedFault text (Overlap n) = Meets (λ sketch. GivesOnce sketch × DraftsFit sketch × RomFits sketch
-    × (¬ LieApart sketch)) text n
-HasNamedFault text (Unknown n) = WantsUngiven text n × ((earlier : ℕ) → earlier < n → ¬ WantsUngiven text earlier)
+abbrev pub HasSketchFault : List ℕ → TextFault → Type 0
+HasSketchFault text TooLong = MOST_TEXT_BYTES < length text
+HasSketchFault text (Syntax n) = MeetsNothing text n
+HasSketchFault text (NameGivenAgain n) = Meets (λ sketch. ¬ GivesOnce sketch) text n
+HasSketchFault text (Full n) = Meets (λ sketch. GivesOnce sketch × (¬ DraftsFit sketch)) text n
+HasSketchFault text (OutOfRom n) =
+    Meets (λ sketch. GivesOnce sketch × DraftsFit sketch × (¬ RomFits sketch)) text n
+HasSketchFault text (Overlap n) =
+    Meets (λ sketch. GivesOnce sketch × DraftsFit sketch × RomFits sketch × (¬ LieApart sketch)) text n
+HasSketchFault text (UnknownName n) =
+    WantsUngiven text n × ((earlier : ℕ) → earlier < n → ¬ WantsUngiven text earlier)
+HasSketchFault text _ = ⊥

@@ -1,5 +1,0 @@
-use Rattle.dvg_mem.specs.Grown.{AreReturns}
-use Rattle.dvg_named.proofs.stated_rom.ungiven.Given as goal
-
-abbrev pub invariant-loop-word : goal.invariant-loop-word
-invariant-loop-word l = record { returns : AreReturns l.bytes.items l._word }
