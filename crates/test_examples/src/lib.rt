@@ -29,3 +29,5 @@ mod numbered;
 mod sketches;
 #[cfg(test)]
 mod traces;
+#[cfg(test)]
+mod wrapping;

@@ -170,3 +170,20 @@ fn a_refused_fetch_can_be_given_again(rt: HostRuntime) -> Result<(), Fail> {
     assert!(rt; matches!(world.fetch()?, Entry::Fetched(0x204, 0x7464)));
     Ok(())
 }
+
+/// The picture comes with the HALT of its run, and stays until it is taken.
+#[test]
+fn a_picture_stays_until_it_is_taken(rt: HostRuntime) -> Result<(), Fail> {
+    let heap = LocalHeap::new(rt.alloc(), AMPLE)?;
+    let mut world = before_the_vector(rt.alloc(), &heap)?;
+    assert!(rt; matches!(world.fetch()?, Entry::Low(0x204, 0x64)));
+    assert!(rt; matches!(world.fetch()?, Entry::Fetched(0x204, 0x7464)));
+    assert!(rt; matches!(world.fetch()?, Entry::Low(0x205, 0x00)));
+    assert!(rt; world.picture().is_empty());
+    assert!(rt; matches!(world.fetch()?, Entry::Done(0x205, 0xB000, ())));
+    assert_eq!(rt; world.picture().len(), 1);
+    assert!(rt; matches!(world.fetch()?, Entry::Still));
+    assert_eq!(rt; world.take_picture().len(), 1);
+    assert!(rt; world.picture().is_empty());
+    Ok(())
+}

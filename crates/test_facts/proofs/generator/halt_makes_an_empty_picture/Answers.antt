@@ -1,4 +1,4 @@
-use Rattle.std.proofs.Common.{[], ◌∷◌, Some, None, ap, ◌∙◌}
+use Rattle.std.proofs.Common.{◌∷◌, Some, None, ap, ◌∙◌}
 use Rattle.dvg_gen.specs.Told.{Start, reply}
 use Rattle.dvg_gen.proofs.Same.{leaves_same}
 use Rattle.test_facts.proofs.Handed.{halt_after, is_empty}

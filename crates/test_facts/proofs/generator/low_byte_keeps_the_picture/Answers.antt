@@ -1,4 +1,4 @@
-use Rattle.std.proofs.Common.{◌∷◌, None, ap, ◌∙◌}
+use Rattle.std.proofs.Common.{◌∷◌, ap, ◌∙◌}
 use Rattle.dvg_gen.specs.Told.{Start}
 use Rattle.test_facts.proofs.Handed.{low_kept, low_result}
 use Rattle.test_facts.proofs.generator.low_byte_keeps_the_picture.Goals as goal
