@@ -8,7 +8,7 @@ ghost use Rattle.dvg_io.specs.Watching.{Writes, failures_of, stream_of};
 
 use dvg_code::{Code, Listed, Listing, encode};
 use dvg_io::{StreamFailed, ToolFault, Watched, collect_words, read_up_to, write_whole};
-use dvg_print::Line;
+use dvg_print::InstrLine;
 use dvg_read::TextFault;
 use std::alloc::Allocator;
 use std::io::{Read, Write};
@@ -17,10 +17,25 @@ use std::io::{Read, Write};
 /// (this project's own choice).
 pub(crate) const MOST_LIST_BYTES: usize = 8192;
 
+// Whether `words` go on from `place` with `spelled`.
+#[inline(always)]
+fn begin_with(words: &[u16], place: usize, spelled: &[u16]) -> bool
+    requires { place ≤ length words.now }
+    ensures { result ≡ starts_with nat_eq (drop place words.now) spelled.now }
+{
+    let rest = &words[place..];
+    match spelled.len() {
+        1 => !rest.is_empty() && rest[0] == spelled[0],
+        2 => rest.len() >= 2 && rest[0] == spelled[0] && rest[1] == spelled[1],
+        _ => rest.starts_with(spelled),
+    }
+}
+
 /// Writes the line of `code`, the instruction that stands at `place` in `words`, to `writer`,
 /// listed at `address`. The line is made in `line`.
+#[inline(always)]
 pub(crate) fn write_item<W: Write>(
-    line: &mut Line,
+    line: &mut InstrLine,
     words: &[u16],
     place: usize,
     address: usize,
@@ -31,7 +46,7 @@ pub(crate) fn write_item<W: Write>(
     ensures { Writes W.contents (line_at words.now place address code.now)
         result writer.old writer.new }
 {
-    let canonical = words[place..].starts_with(encode(code).as_slice());
+    let canonical = begin_with(words, place, encode(code).as_slice());
     line.become_listed(address, code, canonical);
     write_whole(writer, line.as_bytes())
 }
@@ -44,7 +59,7 @@ fn list_words<W: Write>(words: &[u16], writer: &mut Watched<W>) -> Result<(), To
     ensures writer { IsErrOf result ToolFault.Writer ↔ (failures_of writer.new ≡ 1) }
     ensures stops { failures_of writer.new ≤ 1 }
 {
-    let mut line = Line::new();
+    let mut line = InstrLine::new();
     for item in Listing::new(words) {
         match item {
             Listed::At(place, code) => {
