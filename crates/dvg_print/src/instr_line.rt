@@ -70,7 +70,7 @@ fn put_unsigned(bytes: &mut [u8; BLOCK_BYTES], end: usize, n: u16) -> usize
     ensures few { end ≤ result + 5 }
     ensures text { drop result bytes.new ≡ spaced (decimal n ∷ []) ++ drop end bytes.old }
 {
-    let at = put_small(bytes, end, n);
+    let at = put_small(bytes, end, u32::from(n));
     put_byte(bytes, at, b' ')
 }
 
@@ -84,7 +84,7 @@ fn put_short(bytes: &mut [u8; BLOCK_BYTES], end: usize, n: u8) -> usize
     ensures few { end ≤ result + 3 }
     ensures text { drop result bytes.new ≡ spaced (decimal n ∷ []) ++ drop end bytes.old }
 {
-    let at = put_tiny(bytes, end, n);
+    let at = put_tiny(bytes, end, u32::from(n));
     put_byte(bytes, at, b' ')
 }
 
@@ -99,7 +99,7 @@ fn put_integer(bytes: &mut [u8; BLOCK_BYTES], end: usize, n: i16) -> usize
     ensures few { end ≤ result + 5 }
     ensures text { drop result bytes.new ≡ signed_decimal n ++ drop end bytes.old }
 {
-    let digits = put_small(bytes, end, n.unsigned_abs());
+    let digits = put_small(bytes, end, u32::from(n.unsigned_abs()));
     let sign = put_byte(bytes, digits, b'-');
     if n < 0 { sign } else { digits }
 }
@@ -147,8 +147,10 @@ fn put_vector(
     dy: i16,
     z: u8,
 ) -> usize
+    requires scale { scale < 100 }
     requires dx { unsigned_abs dx < 10000 }
     requires dy { unsigned_abs dy < 10000 }
+    requires z { z < 100 }
     requires room { 27 ≤ end }
     requires inside { end ≤ 1024 }
     ensures before { result ≤ end }
@@ -168,6 +170,7 @@ fn put_vector(
 fn put_labs(bytes: &mut [u8; BLOCK_BYTES], end: usize, x: u16, y: u16, scale: u8) -> usize
     requires x { x < 10000 }
     requires y { y < 10000 }
+    requires scale { scale < 100 }
     requires room { 27 ≤ end }
     requires inside { end ≤ 1024 }
     ensures before { result ≤ end }

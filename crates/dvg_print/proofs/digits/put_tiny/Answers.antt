@@ -9,7 +9,7 @@ returns-then-number-lt10-clause-start c = omega (arith, length_one c.args.number
 pub returns-then-number-lt10-clause-text : goal.returns-then-number-lt10-clause-text
 returns-then-number-lt10-clause-text c =
     sym (ap (λ count. drop (c.args.end - count) c.put_pair.new.bytes) (length_one c.args.number c.if-number-lt10.true))
-    ∙ tiny_put c.args.number c.args.end c.put_pair.new.bytes _ c.requires.number c.requires.room c.put_pair.ensures
+    ∙ tiny_put c.args.number c.args.end c.put_pair.new.bytes (drop c.args.end c.args.bytes.now) c.requires.number c.requires.room c.put_pair.ensures
 
 pub returns-else-number-lt10-clause-start : goal.returns-else-number-lt10-clause-start
 returns-else-number-lt10-clause-start c =
@@ -19,4 +19,4 @@ pub returns-else-number-lt10-clause-text : goal.returns-else-number-lt10-clause-
 returns-else-number-lt10-clause-text c =
     sym (ap (λ count. drop (c.args.end - count) c.put_pair.new.bytes)
     (length_two c.args.number c.if-number-lt10.false c.requires.number))
-    ∙ tiny_put c.args.number c.args.end c.put_pair.new.bytes _ c.requires.number c.requires.room c.put_pair.ensures
+    ∙ tiny_put c.args.number c.args.end c.put_pair.new.bytes (drop c.args.end c.args.bytes.now) c.requires.number c.requires.room c.put_pair.ensures
