@@ -35,12 +35,12 @@ fn write_trace<W: Write>(trace: &[Ran], writer: &mut Watched<W>) -> Result<(), S
     Ok(())
 }
 
-// Writes how a run ends, `ending`, to `writer`.
+// Writes how a run ends, `ending`, to `writer`. The lines are made in `line`.
 fn write_end<A: Allocator, W: Write>(
+    line: &mut Line,
     ending: &Ending<A>,
     writer: &mut Watched<W>,
 ) -> Result<(), StreamFailed> {
-    let mut line = Line::new();
     match ending {
         Ending::Finished { words, strokes } => {
             line.become_picture(*words as usize, strokes.len());
@@ -63,5 +63,6 @@ pub(crate) fn write_run<A: Allocator, W: Write>(
     writer: &mut Watched<W>,
 ) -> Result<(), StreamFailed> {
     write_trace(run.ran.as_slice(), writer)?;
-    write_end(&run.ending, writer)
+    let mut line = Line::new();
+    write_end(&mut line, &run.ending, writer)
 }

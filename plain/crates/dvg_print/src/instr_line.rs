@@ -32,14 +32,14 @@ fn put_name(bytes: &mut [u8; BLOCK_BYTES], end: usize, name: &[u8; 4]) -> usize 
 // Puts a space and `n`, which is below 10,000, before `end`. Returns where the space is.
 #[inline(always)]
 fn put_unsigned(bytes: &mut [u8; BLOCK_BYTES], end: usize, n: u16) -> usize {
-    let at = put_small(bytes, end, n);
+    let at = put_small(bytes, end, u32::from(n));
     put_byte(bytes, at, b' ')
 }
 
 // Puts a space and `n`, which is below 100, before `end`. Returns where the space is.
 #[inline(always)]
 fn put_short(bytes: &mut [u8; BLOCK_BYTES], end: usize, n: u8) -> usize {
-    let at = put_tiny(bytes, end, n);
+    let at = put_tiny(bytes, end, u32::from(n));
     put_byte(bytes, at, b' ')
 }
 
@@ -47,7 +47,7 @@ fn put_short(bytes: &mut [u8; BLOCK_BYTES], end: usize, n: u8) -> usize {
 // begins. The sign is put in any case, as that takes less time than to look whether it must be.
 #[inline(always)]
 fn put_integer(bytes: &mut [u8; BLOCK_BYTES], end: usize, n: i16) -> usize {
-    let digits = put_small(bytes, end, n.unsigned_abs());
+    let digits = put_small(bytes, end, u32::from(n.unsigned_abs()));
     let sign = put_byte(bytes, digits, b'-');
     if n < 0 { sign } else { digits }
 }

@@ -11,14 +11,17 @@ use std::io::{Read, Write};
 /// (this project's own choice).
 pub(crate) const MOST_LIST_BYTES: usize = 8192;
 
-// Whether `words` go on from `place` with `spelled`.
+// Whether `words` begin with `spelled`. An instruction has one word or two: these are compared as
+// words, which takes less time than a comparison of their bytes.
 #[inline(always)]
-fn begin_with(words: &[u16], place: usize, spelled: &[u16]) -> bool {
-    let rest = &words[place..];
+fn begin_with(words: &[u16], spelled: &[u16]) -> bool {
+    if words.len() < spelled.len() {
+        return false;
+    }
     match spelled.len() {
-        1 => !rest.is_empty() && rest[0] == spelled[0],
-        2 => rest.len() >= 2 && rest[0] == spelled[0] && rest[1] == spelled[1],
-        _ => rest.starts_with(spelled),
+        1 => spelled[0] == words[0],
+        2 => spelled[0] == words[0] && spelled[1] == words[1],
+        _ => words.starts_with(spelled),
     }
 }
 
@@ -33,7 +36,7 @@ pub(crate) fn write_item<W: Write>(
     code: &Code,
     writer: &mut Watched<W>,
 ) -> Result<(), StreamFailed> {
-    let canonical = begin_with(words, place, encode(code).as_slice());
+    let canonical = begin_with(&words[place..], encode(code).as_slice());
     line.become_listed(address, code, canonical);
     write_whole(writer, line.as_bytes())
 }
