@@ -182,8 +182,23 @@ pub fn pictures() -> Vec<u8> {
 /// The text of a frame of one vector, which is drawn so many times, 5,900 at most: eleven events
 /// each.
 pub fn small_pictures(count: usize) -> Vec<u8> {
-    let mut text = String::from("tick 2\noffer\nlabs 512 400 0\nsvec 5 3 -2 12\nhalt\nend\ntick 12\n");
+    let mut text =
+        String::from("tick 2\noffer\nlabs 512 400 0\nsvec 5 3 -2 12\nhalt\nend\ntick 12\n");
     text += &"strobe\nfetch 10\n".repeat(count);
+    text.into_bytes()
+}
+
+/// The text of a sketch of so many frames, each of which draws 50,625 strokes: it calls a part of
+/// the ROM fifteen times, that calls another one as often, and so on, up to one of fifteen vectors.
+pub fn dense_frames(frames: usize) -> Vec<u8> {
+    let vectors = "svec 2 3 -1 12\n".repeat(15);
+    let calls = |name: &str| format!("callrom {name}\n").repeat(15);
+    let (of_dash, of_row) = (calls("dash"), calls("row"));
+    let mut text = format!(".rom\ndash:\n{vectors}return\nrow:\n{of_dash}return\n");
+    text += &format!("field:\n{of_row}return\n");
+    for _ in 0..frames {
+        text += &format!(".frame\nlabs 512 400 0\n{}halt\n", calls("field"));
+    }
     text.into_bytes()
 }
 
@@ -208,8 +223,12 @@ pub fn drawing(vectors: usize) -> Vec<u16> {
     words
 }
 
-/// An image whose run has so many words, at most 1,024: vectors that are seen.
+/// An image of vectors that are seen, whose run has so many words, an even number. Where these are
+/// more than 1,024, it has no end: 65,536 are fetched.
 pub fn dump_of_words(count: usize) -> Vec<u8> {
+    if count > 1024 {
+        return image_without_end();
+    }
     let mut words = drawing(count / 2 - 2);
     words.push(0xB000);
     image(&words)

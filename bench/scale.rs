@@ -1,166 +1,157 @@
 //! How the time and the memory of the program grow with its input: a table by sizes.
 //!
-//! `scale PROGRAM FOLDER` runs the program once on each input under valgrind's tool callgrind, which
-//! counts its instructions, and once to measure its memory. It keeps its files in FOLDER. Lines
-//! begin with what is run, and its size.
+//! `scale PROGRAM FOLDER` runs the program twice on each input: by valgrind's tool callgrind, which
+//! counts its instructions, and for the most memory that it holds. It keeps its files in FOLDER.
+//!
+//! `scale ROW SIZE` writes the input of a row, by its place in the table. Each input is made by a
+//! process of its own, so that this one stays small: Linux counts what it holds as the program's.
 
-#[allow(dead_code, reason = "what is shared with compare.rs")]
+#![allow(dead_code, reason = "modules of compare.rs")]
+
 mod inputs;
-#[allow(dead_code, reason = "what is shared with compare.rs")]
+mod instructions;
 mod rows;
-#[allow(dead_code, reason = "what is shared with compare.rs")]
 mod runs;
 
-#[allow(dead_code, reason = "what is shared with compare.rs")]
-mod instructions;
-
-use inputs::{
-    dump_of_words, frames_of_vectors, game_log, image_without_end, names_of_rom, small_pictures,
-};
+use inputs::small_pictures;
+use inputs::{dense_frames, dump_of_words, frames_of_vectors, game_log, names_of_rom};
+use instructions::counted;
 use runs::Contender;
-use std::io;
+use std::env;
+use std::fs::File;
+use std::io::{self, Write};
 use std::path::Path;
-use std::process::ExitCode;
+use std::process::{Command, ExitCode};
 
-/// What is run, by sizes.
+/// What is run, by the numbers of something that is in its input.
 struct Growth {
     name: &'static str,
     arguments: &'static [&'static str],
     unit: &'static str,
-    /// Each size, and what makes its input.
-    sizes: &'static [(usize, fn(usize) -> Vec<u8>)],
+    sizes: [usize; 3],
+    input: fn(usize) -> Vec<u8>,
 }
 
+const fn row(
+    name: &'static str,
+    arguments: &'static [&'static str],
+    unit: &'static str,
+    sizes: [usize; 3],
+    input: fn(usize) -> Vec<u8>,
+) -> Growth {
+    Growth {
+        name,
+        arguments,
+        unit,
+        sizes,
+        input,
+    }
+}
+
+const RENDERED: [usize; 3] = [10, 100, 1000];
+const DENSE: [usize; 3] = [1, 5, 20];
+const DRAWN: [usize; 3] = [50, 500, 5000];
+const FETCHED: [usize; 3] = [100, 1000, 65_536];
+const JUDGED: [usize; 3] = [1_000_000, 10_000_000, 100_000_000];
+
+/// All rows. A picture of `play` is eleven events, of which a text has 65,536.
 const ROWS: &[Growth] = &[
-    Growth {
-        name: "render",
-        arguments: &["render"],
-        unit: "frames",
-        sizes: &[
-            (10, frames_of_vectors),
-            (100, frames_of_vectors),
-            (1000, frames_of_vectors),
-        ],
-    },
-    Growth {
-        name: "render --check",
-        arguments: &["render", "--check"],
-        unit: "frames",
-        sizes: &[
-            (10, frames_of_vectors),
-            (100, frames_of_vectors),
-            (1000, frames_of_vectors),
-        ],
-    },
-    Growth {
-        name: "lay",
-        arguments: &["lay"],
-        unit: "frames",
-        sizes: &[
-            (10, frames_of_vectors),
-            (100, frames_of_vectors),
-            (1000, frames_of_vectors),
-        ],
-    },
-    Growth {
-        name: "lay --rom",
-        arguments: &["lay", "--rom"],
-        unit: "names",
-        sizes: &[
-            (10, names_of_rom),
-            (100, names_of_rom),
-            (1000, names_of_rom),
-        ],
-    },
-    Growth {
-        name: "play --svg",
-        arguments: &["play", "--svg"],
-        unit: "pictures",
-        sizes: &[
-            (50, small_pictures),
-            (500, small_pictures),
-            (5000, small_pictures),
-        ],
-    },
-    Growth {
-        name: "torn",
-        arguments: &["torn"],
-        unit: "bytes",
-        sizes: &[
-            (1_000_000, game_log),
-            (10_000_000, game_log),
-            (100_000_000, game_log),
-        ],
-    },
-    Growth {
-        name: "torn --moments",
-        arguments: &["torn", "--moments"],
-        unit: "bytes",
-        sizes: &[
-            (1_000_000, game_log),
-            (10_000_000, game_log),
-            (100_000_000, game_log),
-        ],
-    },
-    Growth {
-        name: "picture",
-        arguments: &["picture"],
-        unit: "words",
-        sizes: &[
-            (100, dump_of_words),
-            (1000, dump_of_words),
-            (65_536, |_| image_without_end()),
-        ],
-    },
-    Growth {
-        name: "picture --all",
-        arguments: &["picture", "--all"],
-        unit: "words",
-        sizes: &[
-            (100, dump_of_words),
-            (1000, dump_of_words),
-            (65_536, |_| image_without_end()),
-        ],
-    },
+    row("render", &["render"], "frames", RENDERED, frames_of_vectors),
+    row("render, dense", &["render"], "frames", DENSE, dense_frames),
+    row(
+        "render --check",
+        &["render", "--check"],
+        "frames",
+        RENDERED,
+        frames_of_vectors,
+    ),
+    row("lay", &["lay"], "frames", RENDERED, frames_of_vectors),
+    row(
+        "lay --rom",
+        &["lay", "--rom"],
+        "names",
+        RENDERED,
+        names_of_rom,
+    ),
+    row("play", &["play"], "pictures", DRAWN, small_pictures),
+    row(
+        "play --svg",
+        &["play", "--svg"],
+        "pictures",
+        DRAWN,
+        small_pictures,
+    ),
+    row("picture", &["picture"], "words", FETCHED, dump_of_words),
+    row(
+        "picture --all",
+        &["picture", "--all"],
+        "words",
+        FETCHED,
+        dump_of_words,
+    ),
+    row("torn", &["torn"], "bytes", JUDGED, game_log),
 ];
 
-/// Prints a line: instructions in all and a unit, both without a start's, the time that so many
-/// take, and the most memory.
-fn print_line(row: &Growth, size: usize, counted: f64, start: f64, memory_kib: f64) {
-    let own = counted - start;
-    println!(
-        "    {:<16} {size:>11} {:<8} {:>14.0} {:>10.1} {memory_kib:>9.0}",
-        row.name,
-        row.unit,
-        own,
-        own / size as f64,
-    );
+/// Has a process of its own write the input of a row.
+fn write_input(row: usize, size: usize, folder: &Path) -> io::Result<()> {
+    let made = Command::new(env::current_exe()?)
+        .args([row.to_string(), size.to_string()])
+        .stdout(File::create(folder.join("input"))?)
+        .status()?;
+    if made.success() {
+        Ok(())
+    } else {
+        Err(io::Error::other("an input can't be made"))
+    }
 }
 
-/// Prints the lines of a row.
-fn print_row(row: &Growth, program: &Path, folder: &Path, start: f64) -> io::Result<()> {
+/// Prints the lines of a row: its instructions in all and for each unit, both without those of a
+/// start, and the most memory.
+fn print_row(number: usize, program: &Path, folder: &Path, start: f64) -> io::Result<()> {
+    let row = &ROWS[number];
     let contender = Contender::new(program, row.arguments, "scale", folder);
-    for (size, input) in row.sizes {
-        contender.write_input(&input(*size))?;
-        let counted = instructions::counted(&contender, folder)?;
+    for size in row.sizes {
+        write_input(number, size, folder)?;
+        let own = counted(&contender, folder)? - start;
         let (_, cost) = contender.memory_run()?;
-        print_line(row, *size, counted, start, cost.memory_kib);
+        println!(
+            "{:<16} {size:>11} {:<8} {own:>12.0} {:>10.1} {:>9.0}",
+            row.name,
+            row.unit,
+            own / size as f64,
+            cost.memory_kib
+        );
     }
     Ok(())
 }
 
+/// Prints the table.
+fn print_table(program: &Path, folder: &Path) -> io::Result<()> {
+    let starter = Contender::new(program, &["list"], "scale", folder).of_nothing();
+    let start = counted(&starter, folder)?;
+    println!("A start is taken off: {start:.0} instructions.\n");
+    println!(
+        "{:<16} {:>11} {:<8} {:>12} {:>10} {:>9}",
+        "row", "size", "", "instructions", "for each", "KiB"
+    );
+    (0..ROWS.len()).try_for_each(|row| print_row(row, program, folder, start))
+}
+
+/// Writes the input of a row on standard output.
+fn print_input(row: usize, size: usize) -> io::Result<()> {
+    io::stdout().write_all(&(ROWS[row].input)(size))
+}
+
 fn main() -> ExitCode {
-    let arguments: Vec<String> = std::env::args().skip(1).collect();
-    let [program, folder] = arguments.as_slice() else {
+    let arguments: Vec<String> = env::args().skip(1).collect();
+    let [first, second] = arguments.as_slice() else {
         eprintln!("usage: scale PROGRAM FOLDER");
         return ExitCode::from(64);
     };
-    let (program, folder) = (Path::new(program), Path::new(folder));
-    let starter = Contender::new(program, &["list"], "scale", folder).of_nothing();
-    let done = instructions::counted(&starter, folder).and_then(|start| {
-        ROWS.iter()
-            .try_for_each(|row| print_row(row, program, folder, start))
-    });
+    let done = match (first.parse(), second.parse()) {
+        (Ok(row), Ok(size)) => print_input(row, size),
+        _ => print_table(Path::new(first), Path::new(second)),
+    };
     match done {
         Ok(()) => ExitCode::SUCCESS,
         Err(fault) => {
