@@ -179,6 +179,29 @@ pub fn pictures() -> Vec<u8> {
     text.into_bytes()
 }
 
+/// The text of a frame of one vector, which is drawn so many times, 5,900 at most: eleven events
+/// each.
+pub fn small_pictures(count: usize) -> Vec<u8> {
+    let mut text =
+        String::from("tick 2\noffer\nlabs 512 400 0\nsvec 5 3 -2 12\nhalt\nend\ntick 12\n");
+    text += &"strobe\nfetch 10\n".repeat(count);
+    text.into_bytes()
+}
+
+/// The text of a sketch of so many frames, each of which draws 50,625 strokes: it calls a part of
+/// the ROM fifteen times, that calls another one as often, and so on, up to one of fifteen vectors.
+pub fn dense_frames(frames: usize) -> Vec<u8> {
+    let vectors = "svec 2 3 -1 12\n".repeat(15);
+    let calls = |name: &str| format!("callrom {name}\n").repeat(15);
+    let (of_dash, of_row) = (calls("dash"), calls("row"));
+    let mut text = format!(".rom\ndash:\n{vectors}return\nrow:\n{of_dash}return\n");
+    text += &format!("field:\n{of_row}return\n");
+    for _ in 0..frames {
+        text += &format!(".frame\nlabs 512 400 0\n{}halt\n", calls("field"));
+    }
+    text.into_bytes()
+}
+
 /// An image of vector memory whose RAM begins with these words and has zeros after them, with a ROM
 /// of returns.
 pub fn image(words: &[u16]) -> Vec<u8> {
@@ -198,6 +221,17 @@ pub fn drawing(vectors: usize) -> Vec<u16> {
         words.push((1 + random.below(15) as u16) << 12 | random.below(1024) as u16);
     }
     words
+}
+
+/// An image of vectors that are seen, whose run has so many words, an even number. Where these are
+/// more than 1,024, it has no end: 65,536 are fetched.
+pub fn dump_of_words(count: usize) -> Vec<u8> {
+    if count > 1024 {
+        return image_without_end();
+    }
+    let mut words = drawing(count / 2 - 2);
+    words.push(0xB000);
+    image(&words)
 }
 
 /// An image of a frame of 254 vectors that are seen.
@@ -356,16 +390,36 @@ pub fn sketch_of_frames() -> Vec<u8> {
 /// The text of a sketch of many names in the larger ROM, of two words each. Two frames call all of
 /// them, each once.
 pub fn sketch_of_names() -> Vec<u8> {
+    names_of_rom(ROM_NAMES)
+}
+
+/// The text of a sketch of so many such names, an even number.
+pub fn names_of_rom(names: usize) -> Vec<u8> {
     let mut random = Random(1979);
     let mut text = String::from("map 4096\n.rom\n");
-    for number in 0..ROM_NAMES {
+    for number in 0..names {
         let vector = short_vector(&mut random);
         text += &format!("dash_{number}: {vector}\n        return\n");
     }
-    for first in [0, ROM_NAMES / 2] {
+    for first in [0, names / 2] {
         text += &format!(".frame dashes_{first}\nlabs 512 400 0\n");
-        for number in first..first + ROM_NAMES / 2 {
+        for number in first..first + names / 2 {
             text += &format!("callrom dash_{number}\n");
+        }
+        text += "halt\n";
+    }
+    text.into_bytes()
+}
+
+/// The text of a sketch of so many frames, of 30 short vectors each.
+pub fn frames_of_vectors(frames: usize) -> Vec<u8> {
+    let mut random = Random(1979);
+    let mut text = String::new();
+    for number in 0..frames {
+        text += &format!(".frame scene_{number}\nlabs 512 400 0\n");
+        for _ in 0..30 {
+            text += &short_vector(&mut random);
+            text.push('\n');
         }
         text += "halt\n";
     }

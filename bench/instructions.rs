@@ -8,7 +8,7 @@ use std::io;
 use std::path::Path;
 
 /// How many instructions a run takes.
-fn counted(contender: &Contender, folder: &Path) -> io::Result<f64> {
+pub fn counted(contender: &Contender, folder: &Path) -> io::Result<f64> {
     let output = folder.join("callgrind.out");
     let out = format!("--callgrind-out-file={}", output.display());
     contender

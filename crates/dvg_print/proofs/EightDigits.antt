@@ -145,7 +145,7 @@ text_of n quarters tens small is tens-are =
     ∙ (λ i. text (d0 i) (d1 i) (d2 i) (d3 i) (d4 i) (d5 i) (d6 i) (d7 i))
 
 -- how many there are
-length_padded : (k n : ℕ) → length (padded k n) ≡ k
+pub length_padded : (k n : ℕ) → length (padded k n) ≡ k
 length_padded zero n = refl
 length_padded (suc k) n =
     length-append (padded k (n / 10)) ((48 + n % 10) ∷ [])

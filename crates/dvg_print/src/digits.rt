@@ -68,6 +68,55 @@ fn put_number(bytes: &mut [u8; BLOCK_BYTES], end: usize, number: u32) -> usize
     put_first(bytes, at, left)
 }
 
+// Returns how many digits `number` has, which is below 10,000.
+#[inline(always)]
+fn small_count(number: u32) -> usize
+    requires { number < 10000 }
+    ensures value { result ≡ length (decimal number) }
+    ensures few { result ≤ 4 }
+{
+    if number < 10 {
+        1
+    } else if number < 100 {
+        2
+    } else if number < 1000 {
+        3
+    } else {
+        4
+    }
+}
+
+// Puts `number`, which is below 10,000, in decimal before `end`. Returns where it begins. All four
+// digits are put, so that none waits for how many there are.
+#[inline(always)]
+pub(crate) fn put_small(bytes: &mut [u8; BLOCK_BYTES], end: usize, number: u32) -> usize
+    requires number { number < 10000 }
+    requires room { 4 ≤ end }
+    requires inside { end ≤ 1024 }
+    ensures start { result + length (decimal number) ≡ end }
+    ensures few { end ≤ result + 4 }
+    ensures text { drop result bytes.new ≡ decimal number ++ drop end bytes.old }
+{
+    put_pair(bytes, end, number % 100);
+    put_pair(bytes, end - 2, number / 100);
+    end - small_count(number)
+}
+
+// Puts `number`, which is below 100, in decimal before `end`. Returns where it begins. Both digits
+// are put.
+#[inline(always)]
+pub(crate) fn put_tiny(bytes: &mut [u8; BLOCK_BYTES], end: usize, number: u32) -> usize
+    requires number { number < 100 }
+    requires room { 2 ≤ end }
+    requires inside { end ≤ 1024 }
+    ensures start { result + length (decimal number) ≡ end }
+    ensures few { end ≤ result + 2 }
+    ensures text { drop result bytes.new ≡ decimal number ++ drop end bytes.old }
+{
+    put_pair(bytes, end, number);
+    if number < 10 { end - 1 } else { end - 2 }
+}
+
 // Puts `byte` before `end`. Returns where it is.
 #[inline(always)]
 pub(crate) fn put_byte(bytes: &mut [u8; BLOCK_BYTES], end: usize, byte: u8) -> usize

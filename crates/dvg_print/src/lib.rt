@@ -6,6 +6,7 @@
 mod digits;
 mod eight_digits;
 mod entry_lines;
+mod instr_line;
 mod line;
 mod log_line;
 mod log_verdict;
@@ -16,6 +17,7 @@ mod svg_line;
 mod verdict;
 
 pub use entry_lines::EntryLines;
+pub use instr_line::InstrLine;
 pub use line::Line;
 pub use log_verdict::{LogCounts, LogFinding, LogVerdict};
 pub use moment_verdict::{MomentVerdict, Reading};

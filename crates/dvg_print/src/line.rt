@@ -2,13 +2,11 @@
 ghost use Rattle.std.specs.Prelude.{◌≡◌, ◌≤◌, ◌<◌, ◌+◌, ◌++◌, ◌∷◌, [], length, codes};
 ghost use Rattle.std.specs.Prelude.{decimal, take, true};
 ghost use Rattle.std.specs.Fmt.{digit_glyph};
-ghost use Rattle.dvg_print.specs.Lines.{hex_2, hex_3, hex_4, instr_parts, line_text, listed_parts};
-ghost use Rattle.dvg_print.specs.Lines.{rom_line, spaced, vector_parts};
+ghost use Rattle.dvg_print.specs.Lines.{hex_2, hex_3, hex_4, rom_line, spaced};
 ghost use Rattle.dvg_print.specs.Verdicts.{bounded_line, fault_parts, place_parts, verdict_line};
 
 use crate::digits::NUMBER_BYTES;
 use crate::verdict::{BoundedVerdict, Verdict};
-use dvg_code::{Code, Instr};
 use dvg_frame::{FrameFault, Place};
 use itoa::{Buffer, Integer};
 use std::marker::Model;
@@ -28,7 +26,7 @@ static PAIRS: [u8; 512] =
 
 // Returns `digit`, 0 to 15, as a hexadecimal digit in upper case.
 #[inline(always)]
-fn glyph(digit: usize) -> u8
+pub(crate) fn glyph(digit: usize) -> u8
     requires { digit < 16 }
     ensures { result ≡ digit_glyph true digit }
 {
@@ -37,7 +35,7 @@ fn glyph(digit: usize) -> u8
 
 // Returns the two hexadecimal digits of `byte`.
 #[inline(always)]
-fn pair(byte: u8) -> (u8, u8)
+pub(crate) fn pair(byte: u8) -> (u8, u8)
     ensures { result.0 ∷ result.1 ∷ [] ≡ hex_2 byte }
 {
     let from = 2 * byte as usize;
@@ -178,32 +176,6 @@ impl Line {
         self.text(&[b' ', first, second, third, last]);
     }
 
-    // Appends `name`, the name of a vector, and its numbers `scale`, `dx`, `dy` and `z`.
-    fn vector(&mut self, name: &[u8], scale: u8, dx: i16, dy: i16, z: u8)
-        requires { length self.old + length name.now + 23 ≤ 4096 }
-        ensures text { self.new ≡ self.old ++ spaced (vector_parts name.now scale dx dy z) }
-        ensures grew { length self.new ≤ length self.old + length name.now + 23 }
-    {
-        self.part(name);
-        self.number(scale);
-        self.number(dx);
-        self.number(dy);
-        self.number(z);
-    }
-
-    // Appends `LABS` and its numbers `x`, `y` and `scale`.
-    fn labs(&mut self, x: u16, y: u16, scale: u8)
-        requires { length self.old + 21 ≤ 4096 }
-        ensures text { self.new ≡ self.old
-            ++ spaced (codes "LABS" ∷ decimal x ∷ decimal y ∷ decimal scale ∷ []) }
-        ensures grew { length self.new ≤ length self.old + 21 }
-    {
-        self.part(b"LABS");
-        self.number(x);
-        self.number(y);
-        self.number(scale);
-    }
-
     // Appends `name`, the name of an instruction, and the word address `address`.
     #[inline(always)]
     pub(crate) fn with_address(&mut self, name: &[u8], address: u16)
@@ -213,25 +185,6 @@ impl Line {
     {
         self.part(name);
         self.address(address);
-    }
-
-    // Appends the name of `instr` and its operands.
-    fn instr(&mut self, instr: Instr)
-        requires { length self.old + 27 ≤ 4096 }
-        ensures text { self.new ≡ self.old ++ spaced (instr_parts instr) }
-        ensures grew { length self.new ≤ length self.old + 27 }
-    {
-        match instr {
-            Instr::Vctr { scale, dx, dy, z } => self.vector(b"VCTR", scale, dx, dy, z),
-            Instr::Labs { x, y, scale } => self.labs(x, y, scale),
-            Instr::Halt => self.part(b"HALT"),
-            Instr::Jsrl(address) => self.with_address(b"JSRL", address),
-            Instr::Rtsl => self.part(b"RTSL"),
-            Instr::Jmpl(address) => self.with_address(b"JMPL", address),
-            Instr::Svec { scale, dx, dy, z } => {
-                self.vector(b"SVEC", scale, i16::from(dx), i16::from(dy), z)
-            }
-        }
     }
 
     // Appends `place`: an operation's number, or a ROM word's address.
@@ -286,29 +239,6 @@ impl Line {
             FrameFault::NoCaller(place) => self.fault_at(b"8 no caller", place),
             FrameFault::Loops => self.part(b"9 loops"),
         }
-    }
-
-    // Becomes `place` in three hexadecimal digits, the name and operands of `code`, and a star
-    // unless its words are `canonical`.
-    pub(crate) fn become_placed(&mut self, place: usize, code: &Code, canonical: bool)
-        ensures text { self.new ≡ hex_3 place ++ spaced (listed_parts code.now canonical) }
-        ensures short { length self.new ≤ 32 }
-    {
-        self.clear();
-        self.hex_3(place);
-        self.instr(code.instr());
-        if !canonical {
-            self.part(b"*");
-        }
-    }
-
-    /// Becomes the line that `list` writes of the instruction `code` at `place`. It ends with a
-    /// star unless the words are `canonical`.
-    pub fn become_listed(&mut self, place: usize, code: &Code, canonical: bool)
-        ensures { self.new ≡ line_text place code.now canonical }
-    {
-        self.become_placed(place, code, canonical);
-        self.text(b"\n");
     }
 
     /// Becomes the ROM line of `words`, which are eight, from the word address `address` on.

@@ -1,6 +1,7 @@
 //! The engine `list`. Its fault `Cut` comes in the middle of its writing, so it isn't an `Engine`
 //! that is served.
-ghost use Rattle.std.specs.Prelude.{◌≡◌, ◌↔◌, ◌≤◌, length, IsErrOf};
+ghost use Rattle.std.specs.Prelude.{◌≡◌, ◌↔◌, ◌≤◌, length, nat_eq, IsErrOf};
+ghost use Rattle.std.specs.List.{starts_with};
 ghost use Rattle.dvg_tool.specs.Lists.{Lists, ListsWords, line_at};
 ghost use Rattle.dvg_io.specs.Faults.{StopsBeforeWriting};
 ghost use Rattle.dvg_io.specs.Serving.{AreFresh, Serves};
@@ -9,7 +10,7 @@ ghost use Rattle.dvg_tool.specs.declared.lists.TheConstants.{MOST_LIST_BYTES};
 
 use dvg_code::{Code, Listed, Listing, encode};
 use dvg_io::{StreamFailed, ToolFault, Watched, collect_words, read_up_to, write_whole};
-use dvg_print::Line;
+use dvg_print::InstrLine;
 use dvg_read::TextFault;
 use std::alloc::Allocator;
 use std::io::{Read, Write};
@@ -18,10 +19,27 @@ use std::io::{Read, Write};
 /// (this project's own choice).
 pub(crate) const MOST_LIST_BYTES: usize = 8192;
 
+// Whether `words` begin with `spelled`. An instruction has one word or two: these are compared as
+// words, which takes less time than a comparison of their bytes.
+#[inline(always)]
+fn begin_with(words: &[u16], spelled: &[u16]) -> bool
+    ensures { result ≡ starts_with nat_eq words.now spelled.now }
+{
+    if words.len() < spelled.len() {
+        return false;
+    }
+    match spelled.len() {
+        1 => spelled[0] == words[0],
+        2 => spelled[0] == words[0] && spelled[1] == words[1],
+        _ => words.starts_with(spelled),
+    }
+}
+
 /// Writes the line of `code`, the instruction that stands at `place` in `words`, to `writer`,
 /// listed at `address`. The line is made in `line`.
+#[inline(always)]
 pub(crate) fn write_item<W: Write>(
-    line: &mut Line,
+    line: &mut InstrLine,
     words: &[u16],
     place: usize,
     address: usize,
@@ -32,7 +50,7 @@ pub(crate) fn write_item<W: Write>(
     ensures { Writes W.contents (line_at words.now place address code.now)
         result writer.old writer.new }
 {
-    let canonical = words[place..].starts_with(encode(code).as_slice());
+    let canonical = begin_with(&words[place..], encode(code).as_slice());
     line.become_listed(address, code, canonical);
     write_whole(writer, line.as_bytes())
 }
@@ -45,7 +63,7 @@ fn list_words<W: Write>(words: &[u16], writer: &mut Watched<W>) -> Result<(), To
     ensures writer { IsErrOf result ToolFault.Writer ↔ (failures_of writer.new ≡ 1) }
     ensures stops { failures_of writer.new ≤ 1 }
 {
-    let mut line = Line::new();
+    let mut line = InstrLine::new();
     for item in Listing::new(words) {
         match item {
             Listed::At(place, code) => {

@@ -10,7 +10,7 @@ ghost use Rattle.dvg_tool.specs.declared.lists.TheConstants.{MOST_LIST_BYTES};
 use crate::lists::{MOST_LIST_BYTES, write_item};
 use dvg_code::{Listed, Listing};
 use dvg_io::{ToolFault, Watched, collect_words, read_up_to};
-use dvg_print::Line;
+use dvg_print::InstrLine;
 use dvg_read::TextFault;
 use std::alloc::Allocator;
 use std::io::{Read, Write};
@@ -34,7 +34,7 @@ fn list_words_at<W: Write>(at: u16, words: &[u16], writer: &mut Watched<W>) -> R
     ensures writer { IsErrOf result ToolFault.Writer ↔ (failures_of writer.new ≡ 1) }
     ensures stops { failures_of writer.new ≤ 1 }
 {
-    let mut line = Line::new();
+    let mut line = InstrLine::new();
     for item in Listing::new(words) {
         match item {
             Listed::At(place, code) => {

@@ -2,39 +2,35 @@
 use dvg_dump::{Ending, Ran, Traced};
 use dvg_gen::Stroke;
 use dvg_io::{StreamFailed, Watched, write_strokes, write_whole};
-use dvg_print::Line;
+use dvg_print::{InstrLine, Line};
 use std::alloc::Allocator;
 use std::io::Write;
 
 // Writes `line` to `writer`, and after it a line for each of `strokes`.
 fn write_with_strokes<W: Write>(
-    line: &Line,
+    line: &[u8],
     strokes: &[Stroke],
     writer: &mut Watched<W>,
 ) -> Result<(), StreamFailed> {
-    write_whole(writer, line.as_bytes())?;
+    write_whole(writer, line)?;
     write_strokes(strokes, writer)
 }
 
 // Writes the lines of `ran`, an instruction that was run, to `writer`. They are made in `line`.
 fn write_ran<W: Write>(
-    line: &mut Line,
+    line: &mut InstrLine,
     ran: &Ran,
     writer: &mut Watched<W>,
 ) -> Result<(), StreamFailed> {
     line.become_instruction(ran.address, &ran.code, ran.canonical, &ran.beam);
-    write_with_strokes(line, ran.stroke.as_slice(), writer)
+    write_with_strokes(line.as_bytes(), ran.stroke.as_slice(), writer)
 }
 
-// Writes the lines of `trace`, the instructions that were run, to `writer`. They are made in
-// `line`.
-fn write_trace<W: Write>(
-    line: &mut Line,
-    trace: &[Ran],
-    writer: &mut Watched<W>,
-) -> Result<(), StreamFailed> {
+// Writes the lines of `trace`, the instructions that were run, to `writer`.
+fn write_trace<W: Write>(trace: &[Ran], writer: &mut Watched<W>) -> Result<(), StreamFailed> {
+    let mut line = InstrLine::new();
     for ran in trace {
-        write_ran(line, ran, writer)?;
+        write_ran(&mut line, ran, writer)?;
     }
     Ok(())
 }
@@ -48,7 +44,7 @@ fn write_end<A: Allocator, W: Write>(
     match ending {
         Ending::Finished { words, strokes } => {
             line.become_picture(*words as usize, strokes.len());
-            write_with_strokes(line, strokes.as_slice(), writer)
+            write_with_strokes(line.as_bytes(), strokes.as_slice(), writer)
         }
         Ending::Broke { address, fault } => {
             line.become_broke(*address, *fault);
@@ -66,7 +62,7 @@ pub(crate) fn write_run<A: Allocator, W: Write>(
     run: &Traced<A>,
     writer: &mut Watched<W>,
 ) -> Result<(), StreamFailed> {
+    write_trace(run.ran.as_slice(), writer)?;
     let mut line = Line::new();
-    write_trace(&mut line, run.ran.as_slice(), writer)?;
     write_end(&mut line, &run.ending, writer)
 }

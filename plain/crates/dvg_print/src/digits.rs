@@ -44,6 +44,37 @@ fn put_number(bytes: &mut [u8; BLOCK_BYTES], end: usize, number: u32) -> usize {
     put_first(bytes, at, left)
 }
 
+// Returns how many digits `number` has, which is below 10,000.
+#[inline(always)]
+fn small_count(number: u32) -> usize {
+    if number < 10 {
+        1
+    } else if number < 100 {
+        2
+    } else if number < 1000 {
+        3
+    } else {
+        4
+    }
+}
+
+// Puts `number`, which is below 10,000, in decimal before `end`. Returns where it begins. All four
+// digits are put, so that none waits for how many there are.
+#[inline(always)]
+pub(crate) fn put_small(bytes: &mut [u8; BLOCK_BYTES], end: usize, number: u32) -> usize {
+    put_pair(bytes, end, number % 100);
+    put_pair(bytes, end - 2, number / 100);
+    end - small_count(number)
+}
+
+// Puts `number`, which is below 100, in decimal before `end`. Returns where it begins. Both digits
+// are put.
+#[inline(always)]
+pub(crate) fn put_tiny(bytes: &mut [u8; BLOCK_BYTES], end: usize, number: u32) -> usize {
+    put_pair(bytes, end, number);
+    if number < 10 { end - 1 } else { end - 2 }
+}
+
 // Puts `byte` before `end`. Returns where it is.
 #[inline(always)]
 pub(crate) fn put_byte(bytes: &mut [u8; BLOCK_BYTES], end: usize, byte: u8) -> usize {

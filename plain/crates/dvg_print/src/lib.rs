@@ -8,6 +8,7 @@ extern crate plain_std as std;
 mod digits;
 mod eight_digits;
 mod entry_lines;
+mod instr_line;
 mod line;
 mod log_line;
 mod log_verdict;
@@ -18,6 +19,7 @@ mod svg_line;
 mod verdict;
 
 pub use entry_lines::EntryLines;
+pub use instr_line::InstrLine;
 pub use line::Line;
 pub use log_verdict::{LogCounts, LogFinding, LogVerdict};
 pub use moment_verdict::{MomentVerdict, Reading};

@@ -1,7 +1,6 @@
 //! Lines of output, made without taking memory.
 use crate::digits::NUMBER_BYTES;
 use crate::verdict::{BoundedVerdict, Verdict};
-use dvg_code::{Code, Instr};
 use dvg_frame::{FrameFault, Place};
 use itoa::{Buffer, Integer};
 
@@ -20,13 +19,13 @@ static PAIRS: [u8; 512] =
 
 // Returns `digit`, 0 to 15, as a hexadecimal digit in upper case.
 #[inline(always)]
-fn glyph(digit: usize) -> u8 {
+pub(crate) fn glyph(digit: usize) -> u8 {
     b"0123456789ABCDEF"[digit]
 }
 
 // Returns the two hexadecimal digits of `byte`.
 #[inline(always)]
-fn pair(byte: u8) -> (u8, u8) {
+pub(crate) fn pair(byte: u8) -> (u8, u8) {
     let from = 2 * byte as usize;
     (PAIRS[from], PAIRS[from + 1])
 }
@@ -114,43 +113,11 @@ impl Line {
         self.text(&[b' ', first, second, third, last]);
     }
 
-    // Appends `name`, the name of a vector, and its numbers `scale`, `dx`, `dy` and `z`.
-    fn vector(&mut self, name: &[u8], scale: u8, dx: i16, dy: i16, z: u8) {
-        self.part(name);
-        self.number(scale);
-        self.number(dx);
-        self.number(dy);
-        self.number(z);
-    }
-
-    // Appends `LABS` and its numbers `x`, `y` and `scale`.
-    fn labs(&mut self, x: u16, y: u16, scale: u8) {
-        self.part(b"LABS");
-        self.number(x);
-        self.number(y);
-        self.number(scale);
-    }
-
     // Appends `name`, the name of an instruction, and the word address `address`.
     #[inline(always)]
     pub(crate) fn with_address(&mut self, name: &[u8], address: u16) {
         self.part(name);
         self.address(address);
-    }
-
-    // Appends the name of `instr` and its operands.
-    fn instr(&mut self, instr: Instr) {
-        match instr {
-            Instr::Vctr { scale, dx, dy, z } => self.vector(b"VCTR", scale, dx, dy, z),
-            Instr::Labs { x, y, scale } => self.labs(x, y, scale),
-            Instr::Halt => self.part(b"HALT"),
-            Instr::Jsrl(address) => self.with_address(b"JSRL", address),
-            Instr::Rtsl => self.part(b"RTSL"),
-            Instr::Jmpl(address) => self.with_address(b"JMPL", address),
-            Instr::Svec { scale, dx, dy, z } => {
-                self.vector(b"SVEC", scale, i16::from(dx), i16::from(dy), z)
-            }
-        }
     }
 
     // Appends `place`: an operation's number, or a ROM word's address.
@@ -189,24 +156,6 @@ impl Line {
             FrameFault::NoCaller(place) => self.fault_at(b"8 no caller", place),
             FrameFault::Loops => self.part(b"9 loops"),
         }
-    }
-
-    // Becomes `place` in three hexadecimal digits, the name and operands of `code`, and a star
-    // unless its words are `canonical`.
-    pub(crate) fn become_placed(&mut self, place: usize, code: &Code, canonical: bool) {
-        self.clear();
-        self.hex_3(place);
-        self.instr(code.instr());
-        if !canonical {
-            self.part(b"*");
-        }
-    }
-
-    /// Becomes the line that `list` writes of the instruction `code` at `place`. It ends with a
-    /// star unless the words are `canonical`.
-    pub fn become_listed(&mut self, place: usize, code: &Code, canonical: bool) {
-        self.become_placed(place, code, canonical);
-        self.text(b"\n");
     }
 
     /// Becomes the ROM line of `words`, which are eight, from the word address `address` on.

@@ -2,7 +2,7 @@
 //! that is served.
 use dvg_code::{Code, Listed, Listing, encode};
 use dvg_io::{StreamFailed, ToolFault, Watched, collect_words, read_up_to, write_whole};
-use dvg_print::Line;
+use dvg_print::InstrLine;
 use dvg_read::TextFault;
 use std::alloc::Allocator;
 use std::io::{Read, Write};
@@ -11,24 +11,39 @@ use std::io::{Read, Write};
 /// (this project's own choice).
 pub(crate) const MOST_LIST_BYTES: usize = 8192;
 
+// Whether `words` begin with `spelled`. An instruction has one word or two: these are compared as
+// words, which takes less time than a comparison of their bytes.
+#[inline(always)]
+fn begin_with(words: &[u16], spelled: &[u16]) -> bool {
+    if words.len() < spelled.len() {
+        return false;
+    }
+    match spelled.len() {
+        1 => spelled[0] == words[0],
+        2 => spelled[0] == words[0] && spelled[1] == words[1],
+        _ => words.starts_with(spelled),
+    }
+}
+
 /// Writes the line of `code`, the instruction that stands at `place` in `words`, to `writer`,
 /// listed at `address`. The line is made in `line`.
+#[inline(always)]
 pub(crate) fn write_item<W: Write>(
-    line: &mut Line,
+    line: &mut InstrLine,
     words: &[u16],
     place: usize,
     address: usize,
     code: &Code,
     writer: &mut Watched<W>,
 ) -> Result<(), StreamFailed> {
-    let canonical = words[place..].starts_with(encode(code).as_slice());
+    let canonical = begin_with(&words[place..], encode(code).as_slice());
     line.become_listed(address, code, canonical);
     write_whole(writer, line.as_bytes())
 }
 
 // Writes a line to `writer` for each instruction of `words`.
 fn list_words<W: Write>(words: &[u16], writer: &mut Watched<W>) -> Result<(), ToolFault> {
-    let mut line = Line::new();
+    let mut line = InstrLine::new();
     for item in Listing::new(words) {
         match item {
             Listed::At(place, code) => {

@@ -2,7 +2,7 @@
 use crate::lists::{MOST_LIST_BYTES, write_item};
 use dvg_code::{Listed, Listing};
 use dvg_io::{ToolFault, Watched, collect_words, read_up_to};
-use dvg_print::Line;
+use dvg_print::InstrLine;
 use dvg_read::TextFault;
 use std::alloc::Allocator;
 use std::io::{Read, Write};
@@ -18,7 +18,7 @@ fn address_from(at: u16, place: usize) -> usize {
 // Writes a line to `writer` for each instruction of `words`, of which the first has the address
 // `at`.
 fn list_words_at<W: Write>(at: u16, words: &[u16], writer: &mut Watched<W>) -> Result<(), ToolFault> {
-    let mut line = Line::new();
+    let mut line = InstrLine::new();
     for item in Listing::new(words) {
         match item {
             Listed::At(place, code) => {
