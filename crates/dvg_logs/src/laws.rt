@@ -24,15 +24,18 @@ pub fn no_verdict_beside_fault()
 
 /// A verdict is given of each `text`, or it has a fault. That one of them holds is shown by what a
 /// reading of it comes to.
-pub fn each_is_judged(text: &[u8])
-    ensures { IsJudged text.now }
+pub fn each_is_judged(text: &[u8], base: Option<u16>)
+    ensures { IsJudged base text.now }
 {
-    let mut reading = LogReading::new(HalfLines::new());
+    let mut reading = LogReading::new(HalfLines::new(), base);
     match reading.take_piece(text) {
-        Ok(()) => {
-            let _end = reading.finish();
-        }
-        Err(_stop) => {}
+        Ok(()) => match reading.finish() {
+            Ok(()) => {
+                let _end = reading.at_end();
+            }
+            Err(_stop) => {}
+        },
+        Err(_stopped) => {}
     }
 }
 
@@ -42,14 +45,17 @@ pub fn one_moment_verdict()
 {}
 
 /// Like `each_is_judged`, by moments.
-pub fn each_is_judged_by_moments(text: &[u8])
-    ensures { IsJudgedByMoments text.now }
+pub fn each_is_judged_by_moments(text: &[u8], base: Option<u16>)
+    ensures { IsJudgedByMoments base text.now }
 {
-    let mut reading = LogReading::new(MomentLines::new());
+    let mut reading = LogReading::new(MomentLines::new(), base);
     match reading.take_piece(text) {
-        Ok(()) => {
-            let _end = reading.finish();
-        }
-        Err(_stop) => {}
+        Ok(()) => match reading.finish() {
+            Ok(()) => {
+                let _end = reading.at_end();
+            }
+            Err(_stop) => {}
+        },
+        Err(_stopped) => {}
     }
 }

@@ -1,0 +1,1 @@
+use Rattle.dvg_logs.proofs.tears_all.torn_all.Goals as goal
