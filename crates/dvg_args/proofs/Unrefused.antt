@@ -1,5 +1,5 @@
 -- Options that are refused by no subcommand.
-use Rattle.std.proofs.Common.{◌≡◌, ◌&&◌, ◌||◌, Bool, true, false, not, [], ◌∷◌, ℕ, List, Option, Some, None, ap, cond, codes, refl}
+use Rattle.std.proofs.Common.{◌≡◌, ◌&&◌, ◌||◌, Bool, true, false, not, [], ◌∷◌, ℕ, List, Option, Some, None, ap, cond, codes, refl, sym}
 use Rattle.std.specs.Prelude.{All, IfSome, is_some, nat_lt}
 use Rattle.std.specs.Str.{bytes_eq}
 use Rattle.std.specs.Cmp.Lexicographic.{same_text}
@@ -63,7 +63,7 @@ none_refused name rows none =
     (either (bytes_eq name (codes "play")) _ _ shown
     (either (bytes_eq name (codes "render")) _ _ rendered
     (either (bytes_eq name (codes "lay")) _ _ laid
-    (by_name (bytes_eq name (codes "torn")) _ (λ is. good_base _ _ _ (none.0 (same_text _ _ is)) given.4))))))
+    (by_name (bytes_eq name (codes "torn")) _ (λ is. good_base _ _ _ (none.0 (same_text _ _ (sym is))) given.4))))))
 
 met_refused : (met : Option (Text × List Row)) → IfSome met (λ m. GivesNoneRefused m.0 m.1) → options_fault met ≡ []
 met_refused None none = refl

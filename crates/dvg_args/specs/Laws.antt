@@ -116,12 +116,13 @@ RefusedOptions = FailAs (codes "list" ∷ codes "--at" ∷ codes "12" ∷ []) (I
 -- the matching gives none of the options that this subcommand may refuse
 abbrev pub GivesNoneRefused : Text → List Row → Type 0
 GivesNoneRefused name rows = (name ≡ codes "torn" → sets (codes "all") rows ≡ false)
-    × All (λ id. sets id rows ≡ false) (codes "svg" ∷ codes "table" ∷ codes "rom" ∷ codes "equates" ∷ codes "draft" ∷ [])
+    × All (λ id. sets id rows ≡ false) (codes "svg" ∷ codes "table" ∷ codes "rom" ∷ codes "equates"
+    ∷ codes "draft" ∷ [])
     × All (λ id. gives id rows ≡ false) (codes "at" ∷ codes "scale" ∷ codes "rate" ∷ codes "half"
     ∷ codes "base" ∷ [])
 
 -- without these options nothing is refused after the matching, so arguments that the command takes fail only for want
 -- of memory
 abbrev pub UnrefusedOptions : Type 0
-UnrefusedOptions = (arguments : List Text) → IfSome (subcommand_of dvg_app arguments) (λ met. GivesNoneRefused met.0 met.1)
-    → options_fault (subcommand_of dvg_app arguments) ≡ []
+UnrefusedOptions = (arguments : List Text)
+    → IfSome (subcommand_of dvg_app arguments) (λ met. GivesNoneRefused met.0 met.1) → options_fault (subcommand_of dvg_app arguments) ≡ []

@@ -9,3 +9,4 @@ pub mod MomentLines
 pub mod OneMoment
 pub mod ReadsOn
 pub mod Tellings
+pub mod OneAll

@@ -127,10 +127,10 @@ sound_more (one ∷ said) event entry log sound are = inl (sound, are)
 
 -- a line that reads nothing, and ends no run, decides nothing
 pub quiet_more : (logged : LogLine) (said : List MomentVerdict) (log : Log) → ((address byte : ℕ) → logged ≡ code.Low address byte → ⊥) → ((address word : ℕ) → logged ≡ code.Fetched address word → ⊥) → (logged ≡ code.Halted → ⊥) → AreDecided said log → AreDecided said (line_of logged ∷ log)
-quiet_more code.Passed said log low fetched halted are = sound_more said Tick (Acted Idle) log (λ contradicts. let (a, byte, other, ram, read, told) = contradicts in absurd cc) are
-quiet_more code.Started said log low fetched halted are = sound_more said Strobe Started log (λ contradicts. let (a, byte, other, ram, read, told) = contradicts in absurd cc) are
-quiet_more (code.Wrote address byte) said log low fetched halted are = sound_more said Tick (Acted (Wrote address byte)) log (λ contradicts. let (a, byte, other, ram, read, told) = contradicts in absurd cc) are
-quiet_more code.Reset said log low fetched halted are = sound_more said ResetGen Cleared log (λ contradicts. let (a, byte, other, ram, read, told) = contradicts in absurd cc) are
+quiet_more code.Passed said log low fetched halted are = sound_more said Tick (Acted Idle) log (λ contradicts. let (a, byte, other, ram, read, told, differs) = contradicts in absurd cc) are
+quiet_more code.Started said log low fetched halted are = sound_more said Strobe Started log (λ contradicts. let (a, byte, other, ram, read, told, differs) = contradicts in absurd cc) are
+quiet_more (code.Wrote address byte) said log low fetched halted are = sound_more said Tick (Acted (Wrote address byte)) log (λ contradicts. let (a, byte, other, ram, read, told, differs) = contradicts in absurd cc) are
+quiet_more code.Reset said log low fetched halted are = sound_more said ResetGen Cleared log (λ contradicts. let (a, byte, other, ram, read, told, differs) = contradicts in absurd cc) are
 quiet_more (code.Low address byte) said log low fetched halted are = absurd (low address byte refl)
 quiet_more (code.Fetched address word) said log low fetched halted are = absurd (fetched address word refl)
 quiet_more code.Halted said log low fetched halted are = absurd (halted refl)

@@ -49,7 +49,7 @@ halt_of n read (event ⟼ Still) log since = absurd since
 halt_of n read (event ⟼ Cleared) log since = absurd since
 
 -- a line that decides isn't sound
-unsound : (verdict : MomentVerdict) (line : Line) (log : Log) → Decides verdict line log → ¬ Of IsSound log line
+pub unsound : (verdict : MomentVerdict) (line : Line) (log : Log) → Decides verdict line log → ¬ Of IsSound log line
 unsound (say.Whole runs halted) line log decides sound = absurd decides
 unsound (say.NoRun runs halted) line log decides sound = absurd decides
 unsound (say.SomeTorn runs halted torn) line log decides sound = absurd decides
@@ -93,7 +93,7 @@ no_halt : (n m : ℕ) (read other : Reading) (line : Line) (log : Log) → Decid
 no_halt n m read other line log decides is =
     true≢false (sym (halt_of n read line log decides).halts ∙ (ap halts is ∙ reading_halts other))
 
-decides_once : (one other : MomentVerdict) (line : Line) (log : Log) → Decides one line log → Decides other line log → other ≡ one
+pub decides_once : (one other : MomentVerdict) (line : Line) (log : Log) → Decides one line log → Decides other line log → other ≡ one
 decides_once (say.Whole runs halted) other line log a b = absurd a
 decides_once (say.NoRun runs halted) other line log a b = absurd a
 decides_once (say.SomeTorn runs halted torn) other line log a b = absurd a
@@ -125,7 +125,7 @@ found_once {base = base} texts n m one other a b =
 
 -- ---- what is said at the end
 
-ends_once : (one other : MomentVerdict) (log : Log) → Ends one log → Ends other log → other ≡ one
+pub ends_once : (one other : MomentVerdict) (log : Log) → Ends one log → Ends other log → other ≡ one
 ends_once (say.Whole r h) (say.Whole s k) log (a, b, c) (x, y, z) = let p : s ≡ r = x ∙ sym a in let q : k ≡ h = y ∙ sym b in rw (p, q) refl
 ends_once (say.NoRun r h) (say.NoRun s k) log (a, b, c) (x, y, z) = let p : s ≡ r = x ∙ sym a in let q : k ≡ h = y ∙ sym b in rw (p, q) refl
 ends_once (say.Whole r h) (say.NoRun s k) log (a, b, c) (x, y, z) = absurd (true≢false (sym c ∙ z))

@@ -1,5 +1,5 @@
 -- How the torn runs of a log are told, and what is answered at last.
-use Rattle.std.proofs.Common.{◌≡◌, ◌<◌, ◌≤◌, ◌+◌, ◌-◌, ◌%◌, ◌^◌, ℕ, suc, List, [], ◌∷◌, ◌++◌, flat_map, length, reverse, take, Option, Some, None, IfSome, Result, Ok, Err, refl, sym, ap, ◌∙◌, subst, arith, append_assoc, append-nil, length-append, inl, inr, ◌⊎◌, Bool, true, false, cond, eqb}
+use Rattle.std.proofs.Common.{◌≡◌, ◌<◌, ◌≤◌, ◌+◌, ◌-◌, ◌%◌, ◌^◌, ℕ, suc, List, [], ◌∷◌, ◌++◌, flat_map, length, reverse, take, Option, Some, None, IfSome, IsNone, Result, Ok, Err, refl, sym, ap, ◌∙◌, subst, arith, append_assoc, append-nil, length-append, inl, inr, ◌⊎◌, Bool, true, false, cond, eqb}
 use Rattle.std.proofs.lemmas.List.{reverse-append}
 use Rattle.std.proofs.lemmas.Grind.{flat_map-append}
 use Rattle.std.specs.Io.KnownBytes.{Appends, Consumes, IsAtEnd}
@@ -20,7 +20,7 @@ use Rattle.dvg_logs.specs.LogTexts.{IsFoundAt, IsWhole}
 use Rattle.dvg_logs.specs.MomentLines.{StandsSo}
 use Rattle.dvg_logs.specs.MomentLogs.{AreDecided, Decides, Ends}
 use Rattle.dvg_logs.specs.Tears.{TakesUpTo, ended}
-use Rattle.dvg_logs.specs.Telling.{EndsSo, EndsWhole, HasTold, HasToldAll, IsTold, IsToldAnswer, TellsAs, TellsLast, TellsTear}
+use Rattle.dvg_logs.specs.Telling.{EndsSo, EndsWhole, HasTold, HasToldAll, IsTold, IsToldAnswer, TellsAs, TellsLast, TellsTear, failed_by}
 use Rattle.dvg_logs.specs.declared.log_reading.JudgedLines.{JudgedLines}
 use Rattle.dvg_logs.specs.declared.log_reading.LogReading.{LogReading}
 use Rattle.dvg_logs.specs.declared.moment_lines.MomentLines.{MomentLines}
@@ -223,3 +223,8 @@ tears_known base answer (Some input) new first last tells = tears_of base answer
 pub takes_known : (base : Option ℕ) (answer : Result MomentVerdict ToolFault) (known new first last : Option (List ℕ)) → IfSome known (λ input. TellsAs base answer input known new first last) → IfSome known (λ input. AllTakes base answer input known new)
 takes_known base answer None new first last tells = tt
 takes_known base answer (Some input) new first last tells = takes_of base answer input (Some input) new first last tells
+
+-- where the reading goes on, no failure was counted
+pub none_failed : (answer : Option (Result MomentVerdict ToolFault)) (old : ℕ) → IsNone answer → failed_by answer old ≡ old
+none_failed None old none = refl
+none_failed (Some answer) old none = absurd cc

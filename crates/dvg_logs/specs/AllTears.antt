@@ -40,7 +40,8 @@ texts_of said = flat_map moment_verdict_text (reverse said)
 
 -- of the text of a log its torn runs are said, of which the newest comes first, and then this: by the line that
 -- contradicts, line n, or at its end
-abbrev pub JudgesAll : (base : Option ℕ) → (text : List ℕ) → (tears : List MomentVerdict) → MomentVerdict → Option ℕ → Type 0
+abbrev pub JudgesAll : (base : Option ℕ) → (text : List ℕ) → (tears : List MomentVerdict) → MomentVerdict → Option ℕ
+    → Type 0
 JudgesAll base text tears verdict decided = AreTears tears × (¬ IsTear verdict)
     × Says base (AreDecided tears) Decides (EndsAll (length tears)) verdict (lines text) decided
 
@@ -58,7 +59,8 @@ pub record AreSaid (base : Option ℕ) (said : List MomentVerdict) (texts : List
   pub fine : IsLogSo base (AreDecided said) log before
 
 -- this is the next that is said of a text, after these runs: of a torn run or a contradiction at line n, or at its end
-abbrev pub IsNext : (base : Option ℕ) → (text : List ℕ) → MomentVerdict → (tears : List MomentVerdict) → Option ℕ → Type 0
+abbrev pub IsNext : (base : Option ℕ) → (text : List ℕ) → MomentVerdict → (tears : List MomentVerdict) → Option ℕ
+    → Type 0
 IsNext base text one tears (Some n) = AreTears tears × AreSaid base (one ∷ tears) (lines text) n
 IsNext base text one tears None = JudgesAll base text tears one None
 

@@ -36,7 +36,8 @@ pub record AreWritten (base : Option ℕ) (a byte : ℕ) (bytes : List ℕ) : Ty
   pub address : IsWrittenAt base a front
   pub byte_is : IsHex 2 byte back
 
--- such numbers, of an address of three digits, and a line's end stand at the head of a text, and then comes the rest; 10 is LF
+-- such numbers, of an address of three digits, and a line's end stand at the head of a text, and then comes the rest;
+-- 10 is LF
 pub record BeginsWithNumbers (count a n : ℕ) (text rest : List ℕ) : Type 0 where
   pub bytes : List ℕ
   pub split : text ≡ bytes ++ 10 ∷ rest

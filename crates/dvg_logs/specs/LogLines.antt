@@ -9,8 +9,8 @@ use Rattle.dvg_log.specs.declared.event.Event.TheVariants.{Tick, Strobe, Fetch, 
 use Rattle.dvg_log.specs.Log.{◌⟼◌, Line, Log}
 use Rattle.dvg_read.specs.Texts.{IsHex, is_passed, parts}
 
--- the digits of a byte address of the RAM: three; with a base, which is where the processor has the RAM, the four of the
--- processor's address
+-- the digits of a byte address of the RAM: three; or with a base, from which on the processor has the RAM, the four of
+-- its address there
 abbrev pub IsWrittenAt : (base : Option ℕ) → ℕ → List ℕ → Type 0
 IsWrittenAt None a digits = IsHex 3 a digits
 IsWrittenAt (Some base) a digits = IsHex 4 (base + a) digits

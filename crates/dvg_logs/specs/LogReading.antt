@@ -11,7 +11,8 @@ use Rattle.dvg_logs.specs.LogTexts.{IsFoundAt, IsLogSo, MeetsSyntax, MeetsTooMan
 use Rattle.dvg_logs.specs.Tears.{ended}
 
 -- why the reading of lines stops
-abbrev pub StopsAt : {V : Type 0} → (base : Option ℕ) → (Log → Type 0) → (V → Line → Log → Type 0) → LogStop V → List (List ℕ) → Type 0
+abbrev pub StopsAt : {V : Type 0} → (base : Option ℕ) → (Log → Type 0) → (V → Line → Log → Type 0) → LogStop V
+    → List (List ℕ) → Type 0
 StopsAt base Passes Finds (Found n verdict) texts = IsFoundAt base Passes Finds texts n verdict
 StopsAt base Passes Finds (Syntax n) texts = MeetsSyntax base Passes texts n
 StopsAt base Passes Finds TooLong texts = MeetsTooMany base Passes texts
@@ -23,8 +24,8 @@ number_of (Syntax n) = n
 number_of TooLong = 2 ^ 64
 
 -- a judge was told these lines
-pub record HasJudged {J : Type 0} (base : Option ℕ) (Stands : J → Log → Type 0) (Passes : Log → Type 0) (judged : JudgedLines J)
-    (texts : List (List ℕ)) : Type 0 where
+pub record HasJudged {J : Type 0} (base : Option ℕ) (Stands : J → Log → Type 0) (Passes : Log → Type 0)
+    (judged : JudgedLines J) (texts : List (List ℕ)) : Type 0 where
   pub log : Log
   pub fine : IsLogSo base Passes log texts
   pub stands : Stands judged.judge log
@@ -37,8 +38,8 @@ abbrev pub IsOpen : List ℕ → Type 0
 IsOpen = All (λ byte. (byte == 10) ≡ false)
 
 -- this text was read: lines that were judged, and then the bytes of one that has not ended
-pub record IsRead {J : Type 0} (base : Option ℕ) (Stands : J → Log → Type 0) (Passes : Log → Type 0) (judged : JudgedLines J)
-    (unfinished text : List ℕ) : Type 0 where
+pub record IsRead {J : Type 0} (base : Option ℕ) (Stands : J → Log → Type 0) (Passes : Log → Type 0)
+    (judged : JudgedLines J) (unfinished text : List ℕ) : Type 0 where
   pub texts : List (List ℕ)
   pub fine : HasJudged base Stands Passes judged texts
   pub unended : IsOpen unfinished
@@ -47,7 +48,8 @@ pub record IsRead {J : Type 0} (base : Option ℕ) (Stands : J → Log → Type 
   pub size : length text ≡ length (ended texts) + length unfinished
 
 -- the same, of a reader
-abbrev pub HasRead : {J : Type 0} → (base : Option ℕ) → (J → Log → Type 0) → (Log → Type 0) → LogReading J → List ℕ → Type 0
+abbrev pub HasRead : {J : Type 0} → (base : Option ℕ) → (J → Log → Type 0) → (Log → Type 0) → LogReading J → List ℕ
+    → Type 0
 HasRead base Stands Passes reading text = IsRead base Stands Passes reading.judged reading.unfinished.items text
 
 -- how far it has read: it gets farther with each line, and with each byte of a line that has not ended
@@ -68,8 +70,8 @@ pub record TakesLine {J V : Type 0} (Stands : J → Log → Type 0) (Passes : Li
   pub line : List ℕ
   pub split : text ≡ line ++ 10 ∷ rest
   pub unended : IsOpen line
-  pub judged : (base : Option ℕ) (said : List V) (before : List (List ℕ)) → HasJudged base Stands (Passes said) old before
-      → HasJudged base Stands (Passes said) new (before ++ line ∷ [])
+  pub judged : (base : Option ℕ) (said : List V) (before : List (List ℕ))
+      → HasJudged base Stands (Passes said) old before → HasJudged base Stands (Passes said) new (before ++ line ∷ [])
 
 -- lines at the head of a text were judged, none of which decides, and this is the rest
 pub record TakesLines {J V : Type 0} (Stands : J → Log → Type 0) (Passes : List V → Log → Type 0)
@@ -90,8 +92,8 @@ GoesOn TooLong Holds = Unit {0}
 -- a line decided, of which this was said, and was judged, too
 pub record JudgesOn {J V : Type 0} (Stands : J → Log → Type 0) (Passes : List V → Log → Type 0)
     (old new : JudgedLines J) (line : List ℕ) (one : V) : Type 0 where
-  pub judged : (base : Option ℕ) (said : List V) (before : List (List ℕ)) → HasJudged base Stands (Passes said) old before
-      → HasJudged base Stands (Passes (one ∷ said)) new (before ++ line ∷ [])
+  pub judged : (base : Option ℕ) (said : List V) (before : List (List ℕ))
+      → HasJudged base Stands (Passes said) old before → HasJudged base Stands (Passes (one ∷ said)) new (before ++ line ∷ [])
   pub count : new.count ≡ old.count + 1
 
 -- a front of a piece was read, of which no line decides, and this is the rest

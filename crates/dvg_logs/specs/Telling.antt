@@ -33,7 +33,8 @@ HasTold base old now telling text =
 -- the same, and the text has ended
 abbrev pub HasToldAll : (base : Option ℕ) → (old now : Option (List ℕ)) → Telling → (text : List ℕ) → Type 0
 HasToldAll base old now telling text =
-    IsTold old now (λ tears. HasJudged base StandsSo (AreDecided tears) telling.reading.judged (lines text)) telling.torn
+    IsTold old now (λ tears. HasJudged base StandsSo (AreDecided tears) telling.reading.judged (lines text))
+    telling.torn
 
 -- a front of a piece was read, its torn runs were told, and this is the rest
 pub record TellsFront (before now : Option (List ℕ)) (old new : Telling) (piece rest : List ℕ) : Type 0 where
@@ -57,8 +58,8 @@ TellsLast TooLong (Err (Text fault)) old new = (fault ≡ of_text.TooLong) × (n
 TellsLast _ _ old new = ⊥
 
 -- the reading of lines stopped, and this was answered
-pub record EndsSo (base : Option ℕ) (old new : Option (List ℕ)) (answer : Result MomentVerdict ToolFault) (texts : List (List ℕ))
-    (count : ℕ) : Type 0 where
+pub record EndsSo (base : Option ℕ) (old new : Option (List ℕ)) (answer : Result MomentVerdict ToolFault)
+    (texts : List (List ℕ)) (count : ℕ) : Type 0 where
   pub tears : List MomentVerdict
   pub are : AreTears tears
   pub stop : LogStop MomentVerdict
@@ -69,7 +70,8 @@ pub record EndsSo (base : Option ℕ) (old new : Option (List ℕ)) (answer : Re
   pub last : TellsLast stop answer now new
 
 -- a text ended, and this was answered
-abbrev pub EndsWhole : (base : Option ℕ) → (old new : Option (List ℕ)) → Result MomentVerdict ToolFault → (text : List ℕ) → Type 0
+abbrev pub EndsWhole : (base : Option ℕ) → (old new : Option (List ℕ)) → Result MomentVerdict ToolFault
+    → (text : List ℕ) → Type 0
 EndsWhole base old new (Ok verdict) text = (tears : List MomentVerdict) × JudgesAll base text tears verdict None
     × Appends old new (texts_of (verdict ∷ tears))
 EndsWhole base old new (Err Writer) text = (tears : List MomentVerdict) × (verdict : MomentVerdict)
@@ -94,8 +96,8 @@ abbrev pub TellsAs : (base : Option ℕ) → Result MomentVerdict ToolFault → 
 TellsAs base (Ok verdict) input old new before after = (tears : List MomentVerdict) × (decided : Option ℕ)
     × JudgesAll base input tears verdict decided × TakesTo decided input old new
     × Appends before after (texts_of (verdict ∷ tears))
-TellsAs base (Err (Text fault)) input old new before after = (tears : List MomentVerdict) × HasAllFault base input tears fault
-    × TakesAtFault fault input old new × Appends before after (texts_of tears)
+TellsAs base (Err (Text fault)) input old new before after = (tears : List MomentVerdict)
+    × HasAllFault base input tears fault × TakesAtFault fault input old new × Appends before after (texts_of tears)
 TellsAs base (Err Reader) input old new before after = (tears : List MomentVerdict) × AreTears tears
     × ((n : ℕ) × AreSaid base tears (lines input) n) × Appends before after (texts_of tears)
 TellsAs base (Err Writer) input old new before after = (tears : List MomentVerdict) × (one : MomentVerdict)

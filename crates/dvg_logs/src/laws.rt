@@ -1,7 +1,8 @@
 //! Laws of the texts of logs. Each is the contract of a function that does nothing, but two, which
 //! read the text.
 ghost use Rattle.dvg_logs.specs.LogLaws.{IsJudged, IsJudgedByMoments, NoVerdictBesideFault};
-ghost use Rattle.dvg_logs.specs.LogLaws.{OneLogFault, OneLogVerdict, OneMomentVerdict};
+ghost use Rattle.dvg_logs.specs.LogLaws.{OneAllVerdict, OneLogFault, OneLogVerdict};
+ghost use Rattle.dvg_logs.specs.LogLaws.{OneMomentVerdict};
 
 use crate::half_lines::HalfLines;
 use crate::log_reading::LogReading;
@@ -42,6 +43,11 @@ pub fn each_is_judged(text: &[u8], base: Option<u16>)
 /// At most one verdict is given of the text of a log by moments.
 pub fn one_moment_verdict()
     ensures { OneMomentVerdict }
+{}
+
+/// Of the text of a log one list of torn runs is told at most, and one verdict after them.
+pub fn one_all_verdict()
+    ensures { OneAllVerdict }
 {}
 
 /// Like `each_is_judged`, by moments.

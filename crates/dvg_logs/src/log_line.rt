@@ -1,5 +1,6 @@
 //! Lines of logs.
-ghost use Rattle.std.specs.Prelude.{◌≡◌, ◌+◌, ◌<◌, ◌≤◌, [], ◌∷◌, ℕ, Option, length, IfSome, IsSomeAnd, Some};
+ghost use Rattle.std.specs.Prelude.{◌≡◌, ◌+◌, ◌<◌, ◌≤◌, [], ◌∷◌, ℕ, Option, length, IfSome};
+ghost use Rattle.std.specs.Prelude.{IsSomeAnd, Some};
 ghost use Rattle.std.specs.Str.Lines.{strip_carriage_return};
 ghost use Rattle.dvg_read.specs.Texts.{parts};
 ghost use Rattle.dvg_log.specs.Log.{Line};
@@ -135,7 +136,7 @@ fn lowered(address: u16, base: u16) -> Option<u16>
     Some(address - base)
 }
 
-// Returns the byte address and the byte that `bytes` spell, at an address of the processor, which has
+// Returns the byte address and the byte that `bytes` spell, at an address of the processor. That has
 // the RAM from `base` on.
 fn based(bytes: &[u8], base: u16) -> Option<(u16, u16)>
     ensures found { IfSome result (λ w. AreNumbers 4 2 (base + w.0) w.1 bytes.now) }

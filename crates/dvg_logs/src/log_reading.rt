@@ -1,6 +1,6 @@
 //! The text of a log, as it is read in pieces.
-ghost use Rattle.std.specs.Prelude.{◌≡◌, ◌+◌, ◌-◌, ◌^◌, ◌<◌, ◌≤◌, [], ◌∷◌, ◌++◌, ℕ, List, Option, length};
-ghost use Rattle.std.specs.Prelude.{IfErr, IsTrue, OnOk};
+ghost use Rattle.std.specs.Prelude.{◌≡◌, ◌+◌, ◌-◌, ◌^◌, ◌<◌, ◌≤◌, [], ◌∷◌, ◌++◌, ℕ, List, Option};
+ghost use Rattle.std.specs.Prelude.{IfErr, IsTrue, OnOk, length};
 ghost use Rattle.dvg_log.specs.Log.{Line, Log};
 ghost use Rattle.dvg_read.specs.Texts.{lines};
 ghost use Rattle.dvg_logs.specs.LogLines.{Tells};
@@ -46,8 +46,9 @@ pub struct JudgedLines<J> {
 impl<J: LineJudge> JudgedLines<J> {
     // Returns why the next line stops the reading, where it says nothing that a line may say.
     fn wrong(&self) -> LogStop<J::Verdict>
-        ensures stop { (base : Option ℕ) (said : List J.Verdict) (before : List (List ℕ)) (line : List ℕ)
-            (after : List (List ℕ)) → HasJudged base J.Stands (J.Passes said) self.now before
+        ensures stop { (base : Option ℕ) (said : List J.Verdict) (before : List (List ℕ))
+            (line : List ℕ) (after : List (List ℕ))
+            → HasJudged base J.Stands (J.Passes said) self.now before
             → ((logged : Line) → ¬ Tells base logged line)
             → StopsAt base (J.Passes said) J.Finds result (before ++ line ∷ after) }
         ensures on { GoesOn result (λ one. ⊥) }
@@ -64,8 +65,10 @@ impl<J: LineJudge> JudgedLines<J> {
     fn take(&mut self, line: &[u8]) -> Result<(), LogStop<J::Verdict>>
         ensures taken { (base : Option ℕ) (said : List J.Verdict) (before : List (List ℕ))
             → HasJudged base J.Stands (J.Passes said) self.old before
-            → OnOk result (HasJudged base J.Stands (J.Passes said) self.new (before ++ line.now ∷ [])) }
-        ensures stop { IfErr result (λ stop. (base : Option ℕ) (said : List J.Verdict) (before after : List (List ℕ))
+            → OnOk result
+            (HasJudged base J.Stands (J.Passes said) self.new (before ++ line.now ∷ [])) }
+        ensures stop { IfErr result (λ stop. (base : Option ℕ) (said : List J.Verdict)
+            (before after : List (List ℕ))
             → HasJudged base J.Stands (J.Passes said) self.old before
             → StopsAt base (J.Passes said) J.Finds stop (before ++ line.now ∷ after)) }
         ensures on { IfErr result (λ stop.
@@ -94,8 +97,9 @@ impl<J: LineJudge> JudgedLines<J> {
     #[inline(always)]
     pub fn take_logged(&mut self, logged: LogLine) -> bool
         requires room { self.old.count < 2 ^ 64 - 1 }
-        ensures taken { IsTrue result → (base : Option ℕ) (said : List J.Verdict) (before : List (List ℕ))
-            (line : List ℕ) → HasJudged base J.Stands (J.Passes said) self.old before
+        ensures taken { IsTrue result → (base : Option ℕ) (said : List J.Verdict)
+            (before : List (List ℕ)) (line : List ℕ)
+            → HasJudged base J.Stands (J.Passes said) self.old before
             → Tells base (line_of logged) line
             → HasJudged base J.Stands (J.Passes said) self.new (before ++ line ∷ []) }
         ensures count { IsTrue result → self.new.count ≡ self.old.count + 1 }
@@ -142,7 +146,8 @@ impl<J: LineJudge> LogReading<J> {
         ensures read { (base : Option ℕ) (said : List J.Verdict) (text : List ℕ)
             → HasRead base J.Stands (J.Passes said) self.old text
             → OnOk result (HasRead base J.Stands (J.Passes said) self.new (text ++ bytes.now)) }
-        ensures stop { IfErr result (λ stop. (base : Option ℕ) (said : List J.Verdict) (text more : List ℕ)
+        ensures stop { IfErr result (λ stop. (base : Option ℕ) (said : List J.Verdict)
+            (text more : List ℕ)
             → HasRead base J.Stands (J.Passes said) self.old text
             → StopsAt base (J.Passes said) J.Finds stop (lines (text ++ (bytes.now ++ more)))) }
         ensures on { IfErr result (λ stop. GoesOn stop (λ one. ⊥)) }
@@ -164,9 +169,11 @@ impl<J: LineJudge> LogReading<J> {
         ensures read { (base : Option ℕ) (said : List J.Verdict) (text : List ℕ)
             → HasRead base J.Stands (J.Passes said) self.old text → OnOk result
             (HasRead base J.Stands (J.Passes said) self.new (text ++ (bytes.now ++ 10 ∷ []))) }
-        ensures stop { IfErr result (λ stop. (base : Option ℕ) (said : List J.Verdict) (text more : List ℕ)
+        ensures stop { IfErr result (λ stop. (base : Option ℕ) (said : List J.Verdict)
+            (text more : List ℕ)
             → HasRead base J.Stands (J.Passes said) self.old text
-            → StopsAt base (J.Passes said) J.Finds stop (lines (text ++ (bytes.now ++ 10 ∷ more)))) }
+            → StopsAt base (J.Passes said) J.Finds stop
+            (lines (text ++ (bytes.now ++ 10 ∷ more)))) }
         ensures on { IfErr result (λ stop. GoesOn stop
             (ReadsOn J.Stands J.Passes self.old self.new (bytes.now ++ 10 ∷ []) [])) }
         ensures next { IfErr result (λ stop. number_of stop ≡ self.old.judged.count + 1) }
@@ -193,9 +200,11 @@ impl<J: LineJudge> LogReading<J> {
         ensures read { (base : Option ℕ) (said : List J.Verdict) (text : List ℕ)
             → HasRead base J.Stands (J.Passes said) self.old text
             → OnOk result (HasRead base J.Stands (J.Passes said) self.new (text ++ piece.now)) }
-        ensures stop { IfErr result (λ stopped. (base : Option ℕ) (said : List J.Verdict) (text more : List ℕ)
+        ensures stop { IfErr result (λ stopped. (base : Option ℕ) (said : List J.Verdict)
+            (text more : List ℕ)
             → HasRead base J.Stands (J.Passes said) self.old text
-            → StopsAt base (J.Passes said) J.Finds stopped.stop (lines (text ++ (piece.now ++ more)))) }
+            → StopsAt base (J.Passes said) J.Finds stopped.stop
+            (lines (text ++ (piece.now ++ more)))) }
         ensures on { IfErr result (λ stopped. GoesOn stopped.stop
             (ReadsOn J.Stands J.Passes self.old self.new piece.now stopped.rest.now)) }
         ensures later { IfErr result (λ stopped.
@@ -224,8 +233,8 @@ impl<J: LineJudge> LogReading<J> {
         ensures read { (base : Option ℕ) (said : List J.Verdict) (text : List ℕ)
             → HasRead base J.Stands (J.Passes said) self.old text
             → OnOk result (HasJudged base J.Stands (J.Passes said) self.new.judged (lines text)) }
-        ensures stop { IfErr result (λ stop. (base : Option ℕ) (said : List J.Verdict) (text : List ℕ)
-            → HasRead base J.Stands (J.Passes said) self.old text
+        ensures stop { IfErr result (λ stop. (base : Option ℕ) (said : List J.Verdict)
+            (text : List ℕ) → HasRead base J.Stands (J.Passes said) self.old text
             → StopsAt base (J.Passes said) J.Finds stop (lines text)) }
         ensures on { IfErr result (λ stop. GoesOn stop (λ one.
             (base : Option ℕ) (said : List J.Verdict) (text : List ℕ)

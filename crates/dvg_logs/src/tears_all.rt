@@ -43,8 +43,8 @@ pub struct Telling {
 }
 
 impl Telling {
-    ghost use Rattle.std.specs.Prelude.{◌≡◌, ◌⊎◌, ◌+◌, ◌%◌, ◌^◌, ◌<◌, ◌++◌, List, ℕ, IfSome, IsNone};
-    ghost use Rattle.std.specs.Prelude.{Option, Some, length};
+    ghost use Rattle.std.specs.Prelude.{◌≡◌, ◌⊎◌, ◌+◌, ◌%◌, ◌^◌, ◌<◌, ◌++◌, List, ℕ, IfSome};
+    ghost use Rattle.std.specs.Prelude.{IsNone, Option, Some, length};
     ghost use Rattle.dvg_read.specs.Texts.{lines};
     ghost use Rattle.dvg_io.specs.Watching.{failures_of, stream_of};
     ghost use Rattle.dvg_logs.specs.LogReading.{place_of};
@@ -203,7 +203,7 @@ impl Telling {
 /// - or, in place of that, `line N reads what was not written: ..`.
 ///
 /// It takes no memory. At a fault of the text, or of the reader, the lines of the torn runs before
-/// it were written. Its faults are those of `torn`, as is the meaning of a `base`.
+/// it were written. Its faults are those of `torn`, and a `base` means the same.
 #[inline(never)]
 pub fn torn_all<R: Read, W: Write>(
     reader: &mut Watched<R>,

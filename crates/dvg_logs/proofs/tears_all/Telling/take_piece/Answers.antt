@@ -1,7 +1,9 @@
 use Rattle.std.proofs.Common.{◌≡◌, ◌<◌, ◌++◌, ◌∷◌, [], ◌∙◌, ap, arith, append_assoc, append-nil, length, length-append, refl, rules, subst, sym, IsNone}
 use Rattle.dvg_read.specs.Texts.{lines}
 use Rattle.dvg_io.specs.Watching.{stream_of}
-use Rattle.dvg_logs.specs.LogReading.{HasRead, StopsAt}
+use Rattle.dvg_logs.specs.LogReading.{HasRead, StopsAt, place_of}
+use Rattle.dvg_logs.specs.declared.log_reading.LogReading.{LogReading}
+use Rattle.dvg_logs.specs.declared.moment_lines.MomentLines.{MomentLines}
 use Rattle.dvg_logs.specs.MomentLines.{StandsSo}
 use Rattle.dvg_logs.specs.MomentLogs.{AreDecided, Decides}
 use Rattle.dvg_logs.specs.Telling.{HasTold}
@@ -50,6 +52,8 @@ loop-rest-preserved g c =
     let tear = tear_of c.in-Err.stopped.stop _ _ (c.tell.ensures.tear none) c.in-Err.ensures.on in
     let on = tear.holds in
     let same = c.tell.ensures.reading in
+    let count = ap (λ (reading : LogReading MomentLines). reading.judged.count) same in
+    let place = ap (λ (reading : LogReading MomentLines). place_of reading) same in
     record {
       done = record {
         front = done.front ++ on.front;
@@ -60,8 +64,8 @@ loop-rest-preserved g c =
             (subst (HasRead base StandsSo (AreDecided (tear.one ∷ now.tears)) c.take_piece.new.self) (append_assoc text done.front on.front) (on.read base now.tears (text ++ done.front) now.holds)) in
             told_more _ _ tear.one first _ _ now tear.tear tear.wrote read (count_fits base (tear.one ∷ now.tears) _ read.texts read.fine) (c.tell.ensures.torn none);
       };
-      count = omega (arith, c.loop-rest.invariant.count, on.later, same);
-      farther = (omega (arith, c.loop-rest.invariant.farther.0, on.farther, same), λ fewer. omega (arith, c.loop-rest.invariant.farther.0, on.farther, same));
+      count = omega (arith, c.loop-rest.invariant.count, on.later, count);
+      farther = (omega (arith, c.loop-rest.invariant.farther.0, on.farther, place), λ fewer. omega (arith, c.loop-rest.invariant.farther.0, on.farther, place));
       counted = search rules;
     }
 
