@@ -277,13 +277,13 @@ Example:
   $ printf 'started\\nfetched 000 E201\\nwrote 402 90\\n' | dvg torn
   torn at line 3: wrote 402 90
   so far: 1 runs, 1 drew a half, 0 halted, 1 writes
+  $ printf 'started\\nfetched 000 E201\\nwrote 4402 90\\n' | dvg torn --base 4000
+  torn at line 3: wrote 402 90
+  so far: 1 runs, 1 drew a half, 0 halted, 1 writes
   $ printf 'started\\nfetched 000 E201\\nhalted\\nwrote 402 90\\n' | dvg torn
   not torn: 1 runs, 1 drew a half, 1 halted, 1 writes
   $ printf 'started\\nlow 1FF 05\\nhalted\\n' | dvg torn --moments
-  whole: 1 runs, 1 halted
-  $ printf 'started\\nfetched 000 E201\\nwrote 4402 90\\n' | dvg torn --base 4000
-  torn at line 3: wrote 402 90
-  so far: 1 runs, 1 drew a half, 0 halted, 1 writes";
+  whole: 1 runs, 1 halted";
 
 /// How `render` is called.
 pub(crate) const RENDER_USAGE: &str = "dvg render [--check] [--scale N] [--rate N] < SKETCH";

@@ -23,7 +23,8 @@ fn usage_of(name: &str) -> &'static str {
     }
 }
 
-// Returns the text for the `kind` of error by which the options of the subcommand `name` are refused.
+// Returns the text for the `kind` of error by which the options of the subcommand `name` are
+// refused.
 fn described(name: &str, kind: ErrorKind) -> &'static str {
     match kind {
         ErrorKind::ArgumentConflict => "two of the options exclude each other",

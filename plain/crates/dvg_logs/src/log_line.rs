@@ -105,7 +105,7 @@ fn lowered(address: u16, base: u16) -> Option<u16> {
     Some(address - base)
 }
 
-// Returns the byte address and the byte that `bytes` spell, at an address of the processor, which has
+// Returns the byte address and the byte that `bytes` spell, at an address of the processor. That has
 // the RAM from `base` on.
 fn based(bytes: &[u8], base: u16) -> Option<(u16, u16)> {
     let (address, byte) = numbers(bytes, 4, 2)?;

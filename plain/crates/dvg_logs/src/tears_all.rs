@@ -126,7 +126,7 @@ impl Telling {
 /// - or, in place of that, `line N reads what was not written: ..`.
 ///
 /// It takes no memory. At a fault of the text, or of the reader, the lines of the torn runs before
-/// it were written. Its faults are those of `torn`, as is the meaning of a `base`.
+/// it were written. Its faults are those of `torn`, and a `base` means the same.
 #[inline(never)]
 pub fn torn_all<R: Read, W: Write>(
     reader: &mut Watched<R>,

@@ -15,15 +15,27 @@ pub enum Reading {
 pub enum MomentVerdict {
     /// No run that came to its HALT is of no moment, and no line contradicts. So many runs began,
     /// and so many of them came to their HALT.
-    Whole { runs: usize, halted: usize },
+    Whole {
+        runs: usize,
+        halted: usize,
+    },
     /// The same, but no run came to its HALT that had fetched something.
-    NoRun { runs: usize, halted: usize },
+    NoRun {
+        runs: usize,
+        halted: usize,
+    },
     /// A run came to its HALT of which no moment was left after this line: its number, counted from
     /// 1, and what it read.
-    Torn { line: usize, reading: Reading },
+    Torn {
+        line: usize,
+        reading: Reading,
+    },
     /// This line read another byte than the log told last: its number, counted from 1, and what it
     /// read.
-    Contradicts { line: usize, reading: Reading },
+    Contradicts {
+        line: usize,
+        reading: Reading,
+    },
     /// So many runs that came to their HALT are of no moment, each of which was told, and no line
     /// contradicts. So many runs began, and so many of them came to their HALT.
     SomeTorn {
@@ -75,8 +87,8 @@ impl Line {
         self.text(b" halted\n");
     }
 
-    // Appends that so many runs began, so many came to their HALT and so many of these are torn, and
-    // the line's end.
+    // Appends that so many runs began, so many came to their HALT and so many of these are torn,
+    // and the line's end.
     fn runs_torn(&mut self, runs: usize, halted: usize, torn: usize) {
         self.number(runs);
         self.text(b" runs,");
