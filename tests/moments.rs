@@ -2,16 +2,17 @@
 //! naively. Every line's readings and what was told are looked up in the whole log, and every
 //! moment of a run is tried in turn. See tests/moments.
 //!
-//! Some worked logs come first, with the verdict that each must have. The program of
-//! examples/moments reads each random log as a text, and must find what the definition does. So must
-//! the engine of `dvg torn --moments`, up to what is found first.
+//! Some worked logs come first, with the verdict that each must have. Each random log is spelled as
+//! a text, and the engines of `dvg torn --moments`, with `--all` and without, and their twins must
+//! write of it what the definition says. `dvg torn` alone must write the same of it with a base as
+//! without.
 //!
 //! `moments COUNT SEED`: the last line is 'N passed, M failed'.
 use dvg_io::Watched;
-use dvg_logs::{MomentVerdict, torn_moments};
+use dvg_logs::{torn, torn_all, torn_moments};
 use dvg_moment::MomentJudge;
-use moments::{Counts, Finding, Log};
 use std::process::ExitCode;
+use twin::torn::judge_moments;
 
 /// The bytes of the RAM.
 const RAM_BYTES: usize = 0x800;
@@ -507,15 +508,15 @@ struct Spelling {
 
 fn spelling(chance: &mut Chance) -> Spelling {
     Spelling {
-        base: [None, Some(0x4000), Some(0xF9)][chance.below(3) as usize],
+        base: [None, Some(0x4000), Some(0xF9), Some(0xF800)][chance.below(4) as usize],
         capitals: chance.below(2) == 0,
         end: ["", "\r"][chance.below(2) as usize],
     }
 }
 
 impl Spelling {
-    /// The texts of a line: a HALT with its word has two. What is written outside the RAM needs a
-    /// base, and is a comment without one.
+    /// The texts of a line: a HALT with its word has two. What is written outside the RAM is a
+    /// comment.
     fn texts(&self, line: Line) -> Vec<String> {
         let texts = match line {
             Started => vec!["started".to_string()],
@@ -535,11 +536,19 @@ impl Spelling {
     }
 
     fn wrote(&self, address: u16, byte: u8) -> String {
+        if usize::from(address) >= RAM_BYTES {
+            return "# outside".to_string();
+        }
         match self.base {
             Some(base) => format!("wrote {:04x} {byte:02x}", base + address),
-            None if usize::from(address) < RAM_BYTES => format!("wrote {address:03x} {byte:02x}"),
-            None => "# outside".to_string(),
+            None => format!("wrote {address:03x} {byte:02x}"),
         }
+    }
+
+    /// The text of a log, of which the last line may have no end.
+    fn text(&self, log: &[Line], ends: bool) -> String {
+        let lines: Vec<String> = log.iter().flat_map(|line| self.texts(*line)).collect();
+        lines.join("\n") + if ends { "\n" } else { "" }
     }
 
     fn spelled(&self, text: String) -> String {
@@ -552,8 +561,19 @@ impl Spelling {
     }
 }
 
-/// What a program must find in a log: each line of the text, whether a run is torn there or else it
-/// contradicts, and what is counted.
+/// What is counted in a log.
+#[derive(Default)]
+struct Counts {
+    /// The runs that began.
+    runs: usize,
+    /// The runs that came to their HALT.
+    halted: usize,
+    /// Those of them that had fetched something.
+    judged: usize,
+}
+
+/// What is found in a log: each line of the text, whether a run is torn there or else it contradicts,
+/// and what is counted.
 fn to_find(log: &[Line]) -> (Vec<(usize, bool)>, Counts) {
     let naive = Naive::new(log);
     let (mut found, mut counts) = (Vec::new(), Counts::default());
@@ -564,7 +584,6 @@ fn to_find(log: &[Line]) -> (Vec<(usize, bool)>, Counts) {
         number += if matches!(line, Done(..)) { 2 } else { 1 };
         counts.runs += usize::from(*line == Started);
         if naive.contradicts(at) {
-            counts.contradictions += 1;
             found.push((numbers[at], false));
         }
         let lines = match line {
@@ -582,67 +601,118 @@ fn to_find(log: &[Line]) -> (Vec<(usize, bool)>, Counts) {
                 .any(|read| !read.is_empty()),
         );
         if let Some(tear) = (start + 1..=lines).find(|lines| naive.is_torn(start, *lines)) {
-            counts.torn += 1;
             found.push((numbers[tear - 1], true));
         }
     }
     (found, counts)
 }
 
-/// Whether the program finds in a log, as it is spelled, what it must.
-fn program_agrees(log: &[Line], spelling: &Spelling) -> Result<(), String> {
-    let mut program = Log::new(spelling.base);
-    let mut found = Vec::new();
-    for text in log.iter().flat_map(|line| spelling.texts(*line)) {
-        match program.take(text.as_bytes()) {
-            Err(_) => return Err(format!("the program can't read '{text}'")),
-            Ok(None) => {}
-            Ok(Some(Finding::Torn(place, _))) => found.push((place.line, true)),
-            Ok(Some(Finding::Contradicts(place))) => found.push((place.line, false)),
-        }
-    }
-    let found = (found, program.counts());
-    let wanted = to_find(log);
-    if found != wanted {
-        return Err(format!(
-            "the program finds {found:?}, and must find {wanted:?}"
-        ));
-    }
-    Ok(())
+/// What a line reads, as it is written.
+fn shown(line: &str) -> String {
+    let (name, numbers) = line.split_once(' ').unwrap_or((line, ""));
+    format!("{name} {}", numbers.to_uppercase())
 }
 
-/// What the engine of `dvg torn --moments` must say of a log: the line that is named, and whether a
-/// run is torn there or else it contradicts, or else whether a run could be judged.
-fn to_say(log: &[Line]) -> Result<(usize, bool), (bool, usize, usize)> {
+/// What must be written of a log: of its first torn run, or of all.
+fn to_write(log: &[Line], all: bool) -> String {
     let (found, counts) = to_find(log);
-    match found.first() {
-        Some(first) => Ok(*first),
-        None => Err((counts.judged > 0, counts.runs, counts.halted)),
-    }
-}
-
-/// Whether the engine of `dvg torn --moments` says of a log's text what it must.
-fn engine_agrees(log: &[Line]) -> Result<(), String> {
     let plain = Spelling {
         base: None,
         capitals: false,
-        end: "\n",
+        end: "",
     };
-    let text: String = log.iter().flat_map(|line| plain.texts(*line)).collect();
+    let lines: Vec<String> = log.iter().flat_map(|line| plain.texts(*line)).collect();
+    let mut written = String::new();
+    let mut torn = 0;
+    for (number, is_torn) in found {
+        let reads = shown(&lines[number - 1]);
+        if !is_torn {
+            return format!("{written}line {number} reads what was not written: {reads}\n");
+        }
+        written += &format!("torn at line {number}: {reads}\n");
+        torn += 1;
+        if !all {
+            return written;
+        }
+    }
+    let Counts {
+        runs,
+        halted,
+        judged,
+    } = counts;
+    written
+        + &match (torn, judged) {
+            (0, 0) => format!("no run to judge: {runs} runs, {halted} halted\n"),
+            (0, _) => format!("whole: {runs} runs, {halted} halted\n"),
+            _ => format!("in all: {runs} runs, {halted} halted, {torn} torn\n"),
+        }
+}
+
+/// What an engine writes of a text.
+fn engine_writes(text: &str, base: Option<u16>, all: bool) -> Result<Vec<u8>, String> {
     let mut reader = Watched::new(text.as_bytes());
     let mut writer = Watched::new(Vec::new());
-    let said = match torn_moments(&mut reader, &mut writer) {
-        Ok(MomentVerdict::Torn { line, .. }) => Ok((line, true)),
-        Ok(MomentVerdict::Contradicts { line, .. }) => Ok((line, false)),
-        Ok(MomentVerdict::Whole { runs, halted }) => Err((true, runs, halted)),
-        Ok(MomentVerdict::NoRun { runs, halted }) => Err((false, runs, halted)),
-        Err(fault) => return Err(format!("the engine answers {fault:?}")),
+    let answer = if all {
+        torn_all(&mut reader, &mut writer, base)
+    } else {
+        torn_moments(&mut reader, &mut writer, base)
     };
-    let wanted = to_say(log);
-    if said != wanted {
-        return Err(format!("the engine says {said:?}, and must say {wanted:?}"));
+    match answer {
+        Ok(_) => Ok(writer.into_inner()),
+        Err(fault) => Err(format!("the engine answers {fault:?}")),
+    }
+}
+
+/// What its twin does.
+fn twin_writes(text: &str, base: Option<u16>, all: bool) -> Result<Vec<u8>, String> {
+    let mut written = Vec::new();
+    match judge_moments(&mut text.as_bytes(), &mut written, base, all) {
+        Ok(_) => Ok(written),
+        Err(_) => Err("the twin answers a fault".to_string()),
+    }
+}
+
+/// Whether the engines and their twins write of a log, as it is spelled, what they must.
+fn moments_agree(log: &[Line], text: &str, base: Option<u16>) -> Result<(), String> {
+    for all in [false, true] {
+        let wanted = to_write(log, all);
+        for (who, written) in [
+            ("engine", engine_writes(text, base, all)?),
+            ("twin", twin_writes(text, base, all)?),
+        ] {
+            if written != wanted.as_bytes() {
+                let written = String::from_utf8_lossy(&written);
+                return Err(format!(
+                    "the {who} writes {written:?}, and must write {wanted:?}"
+                ));
+            }
+        }
     }
     Ok(())
+}
+
+/// What the engine of `dvg torn` writes of a text.
+fn halves(text: &str, base: Option<u16>) -> Result<Vec<u8>, String> {
+    let mut reader = Watched::new(text.as_bytes());
+    let mut writer = Watched::new(Vec::new());
+    match torn(&mut reader, &mut writer, base) {
+        Ok(_) => Ok(writer.into_inner()),
+        Err(fault) => Err(format!("the engine of halves answers {fault:?}")),
+    }
+}
+
+/// Whether a log says the same by all rules, as it is spelled.
+fn texts_agree(log: &[Line], spelling: &Spelling, ends: bool) -> Result<(), String> {
+    let plain = Spelling {
+        base: None,
+        capitals: false,
+        end: "",
+    };
+    let text = spelling.text(log, ends);
+    if halves(&text, spelling.base)? != halves(&plain.text(log, true), None)? {
+        return Err("with a base another verdict by halves".to_string());
+    }
+    moments_agree(log, &text, spelling.base)
 }
 
 fn main() -> ExitCode {
@@ -669,9 +739,9 @@ fn main() -> ExitCode {
         }
         let log = log(&mut chance);
         let spelling = spelling(&mut chance);
-        let agreed = agree(&log, &mut seen)
-            .and_then(|()| program_agrees(&log, &spelling))
-            .and_then(|()| engine_agrees(&log));
+        let ends = chance.below(2) == 0;
+        let agreed =
+            agree(&log, &mut seen).and_then(|()| texts_agree(&log, &spelling, ends));
         if let Err(why) = agreed {
             failed += 1;
             if failed <= PRINTED {

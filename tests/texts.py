@@ -1,6 +1,5 @@
 """Runs the commands that a text shows, and compares what comes of them. tests/README.md says how
-such a text is written; tests/program, tests/tools, tests/moments and tests/documents run theirs by
-this."""
+such a text is written; tests/program, tests/tools and tests/documents run theirs by this."""
 
 import difflib
 import functools

@@ -13,7 +13,7 @@
 # Such a table doesn't show what the generator fetches. So a run is taken to fetch word zero at the
 # strobe, which is enough for the halves of `dvg torn`. If the bytes that it fetches are rows G,
 # with byte addresses from 4000 on, `-v fetches=1` logs them in place of that, the low byte of a
-# word and then its high byte. Then examples/moments can judge the log, too.
+# word and then its high byte. Then `dvg torn --moments` can judge the log, too.
 
 function digits(text, number, k, digit) {
     text = toupper(text)

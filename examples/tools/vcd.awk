@@ -1,4 +1,4 @@
-# Turns the waves of a simulated board, a VCD, into a log for `dvg torn` and for examples/moments.
+# Turns the waves of a simulated board, a VCD, into a log for `dvg torn`, by halves or moments.
 # This is unproved.
 #
 #     awk -f vcd.awk <WAVES >LOG

@@ -2,7 +2,7 @@
 
 use crate::moments::{Line, Moments, Standing};
 use crate::run::Run;
-use std::io::{self, Read};
+use std::io::{self, Read, Write};
 
 /// The most bytes of a line, without its end.
 const MOST_LINE_BYTES: usize = 64;
@@ -40,6 +40,7 @@ pub struct Verdict {
 pub enum LogFault {
     Syntax(usize),
     Reader,
+    Writer,
 }
 
 impl From<io::Error> for LogFault {
@@ -68,35 +69,45 @@ fn hex(digits: &[u8]) -> Option<u16> {
     })
 }
 
-/// An address of three digits and a number of this many, with one space between them.
-fn numbers(bytes: &[u8], digits: usize) -> Option<(u16, u16)> {
-    if bytes.len() != 4 + digits || bytes[3] != b' ' {
-        return None;
-    }
-    Some((hex(&bytes[..3])?, hex(&bytes[4..])?))
+/// An address of so many digits and a number of this many, with one space between them.
+fn numbers(bytes: &[u8], width: usize, digits: usize) -> Option<(u16, u16)> {
+    let (address, rest) = bytes.split_at_checked(width)?;
+    let number = rest.strip_prefix(b" ")?;
+    (number.len() == digits).then_some(())?;
+    Some((hex(address)?, hex(number)?))
+}
+
+/// The byte address of the RAM and the byte of a write. With a base the address is one of the
+/// processor, which has the RAM from there on.
+fn written(bytes: &[u8], base: Option<u16>) -> Option<(u16, u8)> {
+    let width = if base.is_some() { 4 } else { 3 };
+    let (address, byte) = numbers(bytes, width, 2)?;
+    let within = i32::from(address) - i32::from(base.unwrap_or(0));
+    let within = u16::try_from(within).ok()?;
+    (within < RAM_END).then_some((within, byte as u8))
 }
 
 /// What a line says, in small letters or capitals, and with a CR at its end or without.
-fn read_line(line: &[u8]) -> Option<LogLine> {
+fn read_line(line: &[u8], base: Option<u16>) -> Option<LogLine> {
     if line.len() > MOST_LINE_BYTES {
         return None;
     }
     let line = line.strip_suffix(b"\r").unwrap_or(line);
-    read_small(line).or_else(|| read_small(&line.to_ascii_lowercase()))
+    read_small(line, base).or_else(|| read_small(&line.to_ascii_lowercase(), base))
 }
 
 /// What a line in small letters says.
-fn read_small(line: &[u8]) -> Option<LogLine> {
+fn read_small(line: &[u8], base: Option<u16>) -> Option<LogLine> {
     if let Some(rest) = line.strip_prefix(b"wrote ") {
-        let (address, byte) = numbers(rest, 2)?;
-        return (address < RAM_END).then_some(LogLine::Wrote(address, byte as u8));
+        let (address, byte) = written(rest, base)?;
+        return Some(LogLine::Wrote(address, byte));
     }
     if let Some(rest) = line.strip_prefix(b"fetched ") {
-        let (address, word) = numbers(rest, 4)?;
+        let (address, word) = numbers(rest, 3, 4)?;
         return Some(LogLine::Fetched(address, word));
     }
     if let Some(rest) = line.strip_prefix(b"low ") {
-        let (address, byte) = numbers(rest, 2)?;
+        let (address, byte) = numbers(rest, 3, 2)?;
         return Some(LogLine::Low(address, byte as u8));
     }
     match line {
@@ -108,20 +119,22 @@ fn read_small(line: &[u8]) -> Option<LogLine> {
     }
 }
 
-/// Takes a line, by its number. Some where it decides.
+/// Takes a line, by its number. Some where it ends the reading.
 fn take<T>(
     number: usize,
     line: &[u8],
-    judge: &mut impl FnMut(usize, LogLine) -> Option<T>,
+    base: Option<u16>,
+    judge: &mut impl FnMut(usize, LogLine) -> Result<Option<T>, LogFault>,
 ) -> Result<Option<T>, LogFault> {
-    let logged = read_line(line).ok_or(LogFault::Syntax(number))?;
-    Ok(judge(number, logged))
+    let logged = read_line(line, base).ok_or(LogFault::Syntax(number))?;
+    judge(number, logged)
 }
 
-/// Reads a log to its end, or to the line that decides.
+/// Reads a log to its end, or to the line that ends the reading.
 fn read<T>(
     reader: &mut impl Read,
-    mut judge: impl FnMut(usize, LogLine) -> Option<T>,
+    base: Option<u16>,
+    mut judge: impl FnMut(usize, LogLine) -> Result<Option<T>, LogFault>,
 ) -> Result<Option<T>, LogFault> {
     // An unfinished line stands at the front, and what is read after it.
     let mut buffer = [0; MOST_LINE_BYTES + PIECE];
@@ -135,7 +148,7 @@ fn read<T>(
         let mut rest = &buffer[..held + count];
         while let Some(end) = rest.iter().position(|byte| *byte == b'\n') {
             number += 1;
-            if let Some(found) = take(number, &rest[..end], &mut judge)? {
+            if let Some(found) = take(number, &rest[..end], base, &mut judge)? {
                 return Ok(Some(found));
             }
             rest = &rest[end + 1..];
@@ -150,7 +163,7 @@ fn read<T>(
     if held == 0 {
         return Ok(None);
     }
-    take(number + 1, &buffer[..held], &mut judge)
+    take(number + 1, &buffer[..held], base, &mut judge)
 }
 
 /// A judge of halves.
@@ -194,16 +207,22 @@ impl Judge {
 }
 
 /// What is said of the log that a reader gives.
-pub fn judge_text(reader: &mut impl Read) -> Result<Verdict, LogFault> {
+pub fn judge_text(reader: &mut impl Read, base: Option<u16>) -> Result<Verdict, LogFault> {
     let mut judge = Judge {
         run: Run::Closed,
         seen: Seen::default(),
     };
-    let torn = read(reader, |number, logged| judge.take(number, logged))?;
+    let torn = read(reader, base, |number, logged| Ok(judge.take(number, logged)))?;
     Ok(Verdict {
         torn,
         seen: judge.seen,
     })
+}
+
+/// What is found at a line by moments, as it is written.
+enum Found {
+    Torn(String),
+    Contradicts(String),
 }
 
 /// A judge of moments.
@@ -227,13 +246,12 @@ impl MomentJudge {
     }
 
     /// Takes what a line reads, and its text. Some where it contradicts.
-    fn read(&mut self, number: usize, line: Line, text: String) -> Option<String> {
+    fn read(&mut self, number: usize, line: Line, text: String) -> Option<Found> {
         self.has_read = true;
         let (standing, contradicts) = self.moments.tell(line);
         if contradicts {
-            return Some(format!(
-                "line {number} reads what was not written: {text}\n"
-            ));
+            let said = format!("line {number} reads what was not written: {text}\n");
+            return Some(Found::Contradicts(said));
         }
         if standing == Standing::NoMoment && self.tear.is_none() {
             self.tear = Some(format!("torn at line {number}: {text}\n"));
@@ -242,17 +260,17 @@ impl MomentJudge {
     }
 
     /// Takes the end of a run by a HALT. Some where that is torn.
-    fn halt(&mut self) -> Option<String> {
+    fn halt(&mut self) -> Option<Found> {
         if self.moments.is_open() {
             self.halted += 1;
             self.judged += u64::from(self.has_read);
         }
         self.moments.tell(Line::Ended);
-        self.tear.take()
+        self.tear.take().map(Found::Torn)
     }
 
     /// Takes the next line. Some where it decides.
-    fn take(&mut self, number: usize, logged: LogLine) -> Option<String> {
+    fn take(&mut self, number: usize, logged: LogLine) -> Option<Found> {
         match logged {
             LogLine::Nothing => {
                 self.moments.tell(Line::Passed);
@@ -279,14 +297,44 @@ impl MomentJudge {
     }
 }
 
-/// What is said by moments of the log that a reader gives, and whether it is whole.
-pub fn judge_moments(reader: &mut impl Read) -> Result<(String, bool), LogFault> {
+/// Writes by moments what is said of the log that a reader gives, the first torn run or all. Whether
+/// it is whole.
+pub fn judge_moments(
+    reader: &mut impl Read,
+    writer: &mut impl Write,
+    base: Option<u16>,
+    all: bool,
+) -> Result<bool, LogFault> {
     let mut judge = MomentJudge::default();
-    if let Some(found) = read(reader, |number, logged| judge.take(number, logged))? {
-        return Ok((found, false));
+    let mut torn = 0u64;
+    let last = read(reader, base, |number, logged| {
+        let (said, goes_on) = match judge.take(number, logged) {
+            None => return Ok(None),
+            Some(Found::Torn(said)) => (said, all),
+            Some(Found::Contradicts(said)) => (said, false),
+        };
+        if !goes_on {
+            return Ok(Some(said));
+        }
+        torn += 1;
+        write(writer, &said).map(|()| None)
+    })?;
+    if let Some(said) = last {
+        return write(writer, &said).map(|()| false);
     }
-    let is_whole = judge.judged > 0;
-    let said = if is_whole { "whole" } else { "no run to judge" };
+    let is_whole = torn == 0 && judge.judged > 0;
     let (runs, halted) = (judge.runs, judge.halted);
-    Ok((format!("{said}: {runs} runs, {halted} halted\n"), is_whole))
+    let counts = format!("{runs} runs, {halted} halted");
+    let said = match (torn, is_whole) {
+        (0, true) => format!("whole: {counts}\n"),
+        (0, false) => format!("no run to judge: {counts}\n"),
+        _ => format!("in all: {counts}, {torn} torn\n"),
+    };
+    write(writer, &said).map(|()| is_whole)
+}
+
+fn write(writer: &mut impl Write, text: &str) -> Result<(), LogFault> {
+    writer
+        .write_all(text.as_bytes())
+        .map_err(|_| LogFault::Writer)
 }

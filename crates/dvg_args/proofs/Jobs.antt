@@ -156,15 +156,15 @@ unfolding dvg_app clap_on_literals
 has_names name differs = (
   inl (inl refl),
   (
-    inl (inr (inr (inr (inr (inr (inl refl)))))),
+    inl (inr (inr (inr (inr (inr (inr (inl refl))))))),
     (
       inl (inr (inl refl)),
       (
-        inl (inr (inr (inr (inr (inr (inr (inl refl))))))),
+        inl (inr (inr (inr (inr (inr (inr (inr refl))))))),
         (
           inl (inr (inr (inl refl))),
           (
-            inl (inr (inr (inr (inr (inr (inr (inr (refl)))))))),
+            inl (inr (inr (inr (inr (inr (inl refl)))))),
             (
               inl (inr (inr (inr (inl refl)))),
               (

@@ -1,5 +1,5 @@
 -- Which numbers texts write.
-use Rattle.std.proofs.Common.{◌≡◌, ◌∙◌, ◌<◌, ◌≤◌, ◌&&◌, ◌==◌, ℕ, Bool, true, false, [], ◌∷◌, Some, None, ap, arith, cond, length, refl, sym}
+use Rattle.std.proofs.Common.{◌≡◌, ◌∙◌, ◌<◌, ◌≤◌, ◌^◌, ◌&&◌, ◌==◌, ℕ, Bool, true, false, [], ◌∷◌, Some, None, ap, arith, cond, length, refl, sym}
 use Rattle.std.specs.Prelude.{nat_le, nat_lt}
 use Rattle.std.specs.Char.{digit_value}
 use Rattle.std.specs.Cmp.Derive.{both_true}
@@ -8,7 +8,7 @@ use Rattle.std.specs.List.{list_all}
 use Rattle.std.specs.Str.Parse.{AllDigits, IsNumeral, digits_value}
 use Rattle.std.proofs.lemmas.Bool.{eq-eqb, false_from_ne_true, le-leb, leb-true, lt-ltb, ltb-true}
 use Rattle.clap.specs.Words.{Text}
-use Rattle.dvg_args.specs.Options.{address_in, decimal_in, is_numeral}
+use Rattle.dvg_args.specs.Options.{decimal_in, hex_in, is_numeral}
 
 first_true : (s t : Bool) → (s && t) ≡ true → s ≡ true
 first_true true t e = refl
@@ -58,23 +58,24 @@ decimal_none least most ds h = passed_over (is_numeral 10 ds && fits least most 
     (leb-true least (digits_value 10 ds) (first_true (nat_le least (digits_value 10 ds)) (nat_le (digits_value 10 ds) most) in_range))
     (leb-true (digits_value 10 ds) most (second_true (nat_le least (digits_value 10 ds)) (nat_le (digits_value 10 ds) most) in_range)))
 
--- ---- addresses
+-- ---- hexadecimal numbers of so many digits
 
-abbrev has_three : Text → Bool
-has_three text = length text == 3
+abbrev has_digits : ℕ → Text → Bool
+has_digits digits text = length text == digits
 
-pub address_read : (n : ℕ) (text : Text) → length text ≡ 3 → IsNumeral 16 text → n ≡ digits_value 16 text → Some n ≡ address_in text
-address_read n text three numeral is =
-    ap (λ k. Some k) is ∙ chosen (has_three text && is_numeral 16 text) (Some (digits_value 16 text)) None (both_true (eq-eqb _ _ three) (numeral_passes 16 text numeral))
+pub hex_read : (n digits : ℕ) (text : Text) → length text ≡ digits → IsNumeral 16 text → n ≡ digits_value 16 text → Some n ≡ hex_in digits text
+hex_read n digits text size numeral is =
+    ap (λ k. Some k) is ∙ chosen (has_digits digits text && is_numeral 16 text) (Some (digits_value 16 text)) None (both_true (eq-eqb _ _ size) (numeral_passes 16 text numeral))
 
-pub address_none : (text : Text) → (IsNumeral 16 text → ⊥) → None ≡ address_in text
-address_none text h =
-    passed_over (has_three text && is_numeral 16 text) (Some (digits_value 16 text)) None (λ e. h (is_one 16 text (second_true (has_three text) (is_numeral 16 text) e)))
+pub hex_none : (digits : ℕ) (text : Text) → (IsNumeral 16 text → ⊥) → None ≡ hex_in digits text
+hex_none digits text h =
+    passed_over (has_digits digits text && is_numeral 16 text) (Some (digits_value 16 text)) None (λ e. h (is_one 16 text (second_true (has_digits digits text) (is_numeral 16 text) e)))
 
--- three digits write no more than FFF
-pub three_digits : (text : Text) → length text ≡ 3 → AllDigits 16 text → digits_value 16 text < 4096
-three_digits [] e h = absurd (omega arith)
-three_digits (a ∷ []) e h = absurd (omega arith)
-three_digits (a ∷ b ∷ []) e h = absurd (omega arith)
-three_digits (a ∷ b ∷ d ∷ []) e h = omega (arith, h.0, h.1.0, h.1.1.0)
-three_digits (a ∷ b ∷ d ∷ f ∷ ds) e h = absurd (omega arith)
+-- four digits write no more than FFFF
+pub four_digits : (text : Text) → length text ≤ 4 → AllDigits 16 text → digits_value 16 text < 2 ^ 16
+four_digits [] e h = omega arith
+four_digits (a ∷ []) e h = omega (arith, h.0)
+four_digits (a ∷ b ∷ []) e h = omega (arith, h.0, h.1.0)
+four_digits (a ∷ b ∷ d ∷ []) e h = omega (arith, h.0, h.1.0, h.1.1.0)
+four_digits (a ∷ b ∷ d ∷ f ∷ []) e h = omega (arith, h.0, h.1.0, h.1.1.0, h.1.1.1.0)
+four_digits (a ∷ b ∷ d ∷ f ∷ g ∷ ds) e h = absurd (omega arith)

@@ -1,10 +1,11 @@
 -- Options that are refused by no subcommand.
-use Rattle.std.proofs.Common.{◌≡◌, ◌&&◌, ◌||◌, Bool, true, false, not, [], ◌∷◌, ℕ, List, Option, Some, None, ap, cond, codes, refl}
+use Rattle.std.proofs.Common.{◌≡◌, ◌&&◌, ◌||◌, Bool, true, false, not, [], ◌∷◌, ℕ, List, Option, Some, None, ap, cond, codes, refl, sym}
 use Rattle.std.specs.Prelude.{All, IfSome, is_some, nat_lt}
 use Rattle.std.specs.Str.{bytes_eq}
+use Rattle.std.specs.Cmp.Lexicographic.{same_text}
 use Rattle.std.proofs.lemmas.List.Elements.{All-head, All-tail}
 use Rattle.clap.specs.Words.{Kinds, Row, Text, first_of, subcommand_of}
-use Rattle.dvg_args.specs.Options.{address_of, fault_in, form_by, gives, given_count, list_fault, number_of, refused_by, render_fault, sets}
+use Rattle.dvg_args.specs.Options.{address_of, base_in, fault_in, form_by, gives, given_count, list_fault, number_of, refused_by, render_fault, sets}
 use Rattle.dvg_args.specs.Arguments.{dvg_app, options_fault}
 use Rattle.dvg_args.specs.Laws.{GivesNoneRefused, UnrefusedOptions}
 
@@ -29,6 +30,13 @@ good_form : (half : Option Text) (table rom equates draft : Bool) → is_some ha
     → refused_by (nat_lt 1 (given_count (is_some half) table rom equates draft)) false (is_some (form_by table rom equates draft half)) ≡ []
 good_form half table rom equates draft a b c d e = rw (none_given half a, b, c, d, e) refl
 
+by_name : (b : Bool) (x : Kinds) → (b ≡ true → x ≡ []) → cond b x [] ≡ []
+by_name true x e = e refl
+by_name false x e = refl
+
+good_base : (moments all : Bool) (base : Option Text) → all ≡ false → is_some base ≡ false → refused_by false (all && not moments) (is_some (base_in base)) ≡ []
+good_base moments all base none ungiven = rw (none, none_given base ungiven) refl
+
 four : (P : Text → Type 0) (a b c d : Text) → All P (a ∷ b ∷ c ∷ d ∷ []) → P a × P b × P c × P d
 four P a b c d h =
     let g = All-tail P a (b ∷ c ∷ d ∷ []) h in
@@ -40,10 +48,10 @@ five P a b c d e h =
     let more = four P b c d e (All-tail P a (b ∷ c ∷ d ∷ e ∷ []) h) in
     (All-head P a (b ∷ c ∷ d ∷ e ∷ []) h, more.0, more.1, more.2, more.3)
 
-none_refused : (name : Text) (rows : List Row) → GivesNoneRefused rows → fault_in name rows ≡ []
+none_refused : (name : Text) (rows : List Row) → GivesNoneRefused name rows → fault_in name rows ≡ []
 none_refused name rows none =
-    let set = five (λ id. sets id rows ≡ false) (codes "svg") (codes "table") (codes "rom") (codes "equates") (codes "draft") none.0 in
-    let given = four (λ id. gives id rows ≡ false) (codes "at") (codes "scale") (codes "rate") (codes "half") none.1 in
+    let set = five (λ id. sets id rows ≡ false) (codes "svg") (codes "table") (codes "rom") (codes "equates") (codes "draft") none.1 in
+    let given = five (λ id. gives id rows ≡ false) (codes "at") (codes "scale") (codes "rate") (codes "half") (codes "base") none.2 in
     let percents = good_number (codes "scale") 10 400 100 rows given.1 in
     let rates = good_number (codes "rate") 1 60 30 rows given.2 in
     let shown = good_show _ (sets (codes "all") rows) _ _ _ _ set.0 given.1 given.2 percents rates in
@@ -53,9 +61,11 @@ none_refused name rows none =
     either (bytes_eq name (codes "list")) _ _ listed
     (either (bytes_eq name (codes "picture")) _ _ shown
     (either (bytes_eq name (codes "play")) _ _ shown
-    (either (bytes_eq name (codes "render")) _ _ rendered (either (bytes_eq name (codes "lay")) _ _ laid refl))))
+    (either (bytes_eq name (codes "render")) _ _ rendered
+    (either (bytes_eq name (codes "lay")) _ _ laid
+    (by_name (bytes_eq name (codes "torn")) _ (λ is. good_base _ _ _ (none.0 (same_text _ _ (sym is))) given.4))))))
 
-met_refused : (met : Option (Text × List Row)) → IfSome met (λ m. GivesNoneRefused m.1) → options_fault met ≡ []
+met_refused : (met : Option (Text × List Row)) → IfSome met (λ m. GivesNoneRefused m.0 m.1) → options_fault met ≡ []
 met_refused None none = refl
 met_refused (Some m) none = none_refused m.0 m.1 none
 

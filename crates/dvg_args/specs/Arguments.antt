@@ -7,10 +7,11 @@ use Rattle.clap.specs.Words.{with_rule}
 use Rattle.clap.specs.declared.builder.ArgAction.TheVariants.{Set, SetTrue}
 use Rattle.clap.specs.declared.error.kind.ErrorKind.{ErrorKind}
 use Rattle.clap.specs.declared.error.kind.ErrorKind.TheVariants.{DisplayHelp, DisplayVersion, OutOfMemory}
-use Rattle.dvg_args.specs.Options.{address_of, fault_in, form_of, gives, percent_of, rate_of, sets}
+use Rattle.dvg_args.specs.Options.{address_of, base_of, fault_in, form_of, gives, percent_of, rate_of, rule_of, sets}
 use Rattle.dvg_args.specs.declared.task.Job.{Job}
 use Rattle.dvg_args.specs.declared.task.Job.TheVariants.{List as list_job, ListAt, Rom, Picture, PictureSvg, Check}
 use Rattle.dvg_args.specs.declared.task.Job.TheVariants.{Play, PlaySvg, Torn, Render, RenderCheck, Lay}
+use Rattle.dvg_args.specs.declared.task.LogRule.{LogRule}
 use Rattle.dvg_args.specs.declared.task.LayForm.{LayForm}
 
 -- a subcommand with no option of its own
@@ -54,9 +55,9 @@ abbrev pub play_app : App
 play_app =
     showing (with_flag (with_flag (with_flag (new_app (codes "play")) (codes "all")) (codes "banked")) (codes "svg"))
 
--- the subcommand `torn`: by moments
+-- the subcommand `torn`: by moments, of each run, with addresses of the processor
 abbrev pub torn_app : App
-torn_app = with_flag (new_app (codes "torn")) (codes "moments")
+torn_app = with_value (with_flag (with_flag (new_app (codes "torn")) (codes "moments")) (codes "all")) (codes "base")
 
 -- the subcommand `render`: of a size and a rate, or a check alone
 abbrev pub render_app : App
@@ -116,8 +117,9 @@ IsJob (Play all banked) met = option_map {U = Text × Bool × Bool × Bool}
 IsJob (PlaySvg banked percent rate) met = option_map {U = Text × Bool × Bool × Option ℕ × Option ℕ}
     (λ p. (p.0, sets (codes "svg") p.1, sets (codes "banked") p.1, percent_of p.1, rate_of p.1)) met
     ≡ Some (codes "play", true, banked, Some percent, Some rate)
-IsJob (Torn moments) met =
-    option_map {U = Text × Bool} (λ p. (p.0, sets (codes "moments") p.1)) met ≡ Some (codes "torn", moments)
+IsJob (Torn rule base) met = option_map {U = Text × LogRule × Option (Option ℕ)}
+    (λ p. (p.0, rule_of (sets (codes "moments") p.1) (sets (codes "all") p.1), base_of p.1)) met
+    ≡ Some (codes "torn", rule, Some base)
 IsJob (Render percent rate) met = option_map {U = Text × Bool × Option ℕ × Option ℕ}
     (λ p. (p.0, sets (codes "check") p.1, percent_of p.1, rate_of p.1)) met
     ≡ Some (codes "render", false, Some percent, Some rate)
@@ -128,12 +130,12 @@ IsJob (Lay form) met =
 
 -- the name of a subcommand whose options can't be refused (for a private contract)
 abbrev pub IsPlainName : Text → Type 0
-IsPlainName name = (name ≡ codes "rom") ⊎ ((name ≡ codes "check") ⊎ (name ≡ codes "torn"))
+IsPlainName name = (name ≡ codes "rom") ⊎ (name ≡ codes "check")
 
 -- the name of a subcommand that is a job (for a private contract)
 abbrev pub IsJobName : Text → Type 0
 IsJobName name = (name ≡ codes "list") ⊎ ((name ≡ codes "picture") ⊎ ((name ≡ codes "play")
-    ⊎ ((name ≡ codes "render") ⊎ ((name ≡ codes "lay") ⊎ IsPlainName name))))
+    ⊎ ((name ≡ codes "render") ⊎ ((name ≡ codes "lay") ⊎ ((name ≡ codes "torn") ⊎ IsPlainName name)))))
 
 -- the exit status of arguments that give no job, by the kind of the error
 abbrev pub error_status : ErrorKind → ℕ

@@ -1,5 +1,5 @@
 -- What some arguments come to.
-use Rattle.std.specs.Prelude.{◌≡◌, true, false, All, IfSome, List, [], ◌∷◌, codes}
+use Rattle.std.specs.Prelude.{◌≡◌, true, false, All, IfSome, List, [], ◌∷◌, None, Some, codes}
 use Rattle.clap.specs.Words.{Kinds, Row, Text, subcommand_of}
 use Rattle.clap.specs.declared.error.kind.ErrorKind.TheVariants.{ArgumentConflict, DisplayHelp, DisplayVersion}
 use Rattle.clap.specs.declared.error.kind.ErrorKind.TheVariants.{InvalidSubcommand, InvalidValue}
@@ -10,6 +10,7 @@ use Rattle.dvg_args.specs.Arguments.{IsJob, TakesArguments, arguments_fault, dvg
 use Rattle.dvg_args.specs.declared.task.Job.{Job}
 use Rattle.dvg_args.specs.declared.task.Job.TheVariants.{List as list_job, ListAt, Rom, Picture, PictureSvg, Check}
 use Rattle.dvg_args.specs.declared.task.Job.TheVariants.{Play, PlaySvg, Torn, Render, RenderCheck, Lay}
+use Rattle.dvg_args.specs.declared.task.LogRule.TheVariants.{Halves, Moments, AllMoments}
 use Rattle.dvg_args.specs.declared.task.LayForm.TheVariants.{Half0, Half1, Table, Rom as RomBytes, Equates, Draft}
 
 -- after any name of the program, the arguments are taken and ask for the job
@@ -40,8 +41,12 @@ TextJobArguments = AskFor (codes "list" ∷ []) list_job
     × AskFor (codes "play" ∷ codes "--svg" ∷ []) (PlaySvg false 100 30)
     × AskFor (codes "play" ∷ codes "--rate" ∷ codes "60" ∷ codes "--svg" ∷ codes "--banked" ∷ codes "--scale=400" ∷ [])
     (PlaySvg true 400 60)
-    × AskFor (codes "torn" ∷ []) (Torn false)
-    × AskFor (codes "torn" ∷ codes "--moments" ∷ []) (Torn true)
+    × AskFor (codes "torn" ∷ []) (Torn Halves None)
+    × AskFor (codes "torn" ∷ codes "--base" ∷ codes "4000" ∷ []) (Torn Halves (Some 0x4000))
+    × AskFor (codes "torn" ∷ codes "--moments" ∷ []) (Torn Moments None)
+    × AskFor (codes "torn" ∷ codes "--all" ∷ codes "--moments" ∷ []) (Torn AllMoments None)
+    × AskFor (codes "torn" ∷ codes "--moments" ∷ codes "--base=fFfF" ∷ codes "--all" ∷ [])
+    (Torn AllMoments (Some 0xFFFF))
 
 -- the arguments of each job that reads a sketch
 abbrev pub SketchJobArguments : Type 0
@@ -77,12 +82,12 @@ OtherArguments = FailAs [] (MissingSubcommand ∷ [])
     × FailAs (codes "draw" ∷ []) (UnknownArgument ∷ InvalidSubcommand ∷ [])
     × FailAs (codes "list" ∷ codes "--all" ∷ []) (UnknownArgument ∷ [])
     × FailAs (codes "check" ∷ codes "--all" ∷ []) (UnknownArgument ∷ [])
-    × FailAs (codes "torn" ∷ codes "--all" ∷ []) (UnknownArgument ∷ [])
+    × FailAs (codes "torn" ∷ codes "--svg" ∷ []) (UnknownArgument ∷ [])
     × FailAs (codes "play" ∷ codes "--all" ∷ codes "--all" ∷ []) (ArgumentConflict ∷ [])
     × FailAs (codes "list" ∷ codes "list" ∷ []) (UnknownArgument ∷ [])
 
 -- options that are refused: a value that is none or that is missing, options that exclude each
--- other, and a size or a rate without `--svg`
+-- other, a size or a rate without `--svg`, and all torn runs without `--moments`
 abbrev pub RefusedOptions : Type 0
 RefusedOptions = FailAs (codes "list" ∷ codes "--at" ∷ codes "12" ∷ []) (InvalidValue ∷ [])
     × FailAs (codes "list" ∷ codes "--at" ∷ codes "12G" ∷ []) (InvalidValue ∷ [])
@@ -97,6 +102,10 @@ RefusedOptions = FailAs (codes "list" ∷ codes "--at" ∷ codes "12" ∷ []) (I
     × FailAs (codes "render" ∷ codes "--scale" ∷ codes "401" ∷ []) (InvalidValue ∷ [])
     × FailAs (codes "render" ∷ codes "--check" ∷ codes "--rate" ∷ codes "0" ∷ []) (InvalidValue ∷ [])
     × FailAs (codes "render" ∷ codes "--rate" ∷ []) (InvalidValue ∷ [])
+    × FailAs (codes "torn" ∷ codes "--all" ∷ []) (MissingRequiredArgument ∷ [])
+    × FailAs (codes "torn" ∷ codes "--base" ∷ codes "400" ∷ []) (InvalidValue ∷ [])
+    × FailAs (codes "torn" ∷ codes "--moments" ∷ codes "--base" ∷ codes "+400" ∷ []) (InvalidValue ∷ [])
+    × FailAs (codes "torn" ∷ codes "--base" ∷ codes "14000" ∷ []) (InvalidValue ∷ [])
     × FailAs (codes "lay" ∷ codes "--half" ∷ codes "2" ∷ []) (InvalidValue ∷ [])
     × FailAs (codes "lay" ∷ codes "--half" ∷ []) (InvalidValue ∷ [])
     × FailAs (codes "lay" ∷ codes "--half" ∷ codes "0" ∷ codes "--rom" ∷ []) (ArgumentConflict ∷ [])
@@ -104,14 +113,16 @@ RefusedOptions = FailAs (codes "list" ∷ codes "--at" ∷ codes "12" ∷ []) (I
     × FailAs (codes "lay" ∷ codes "--draft" ∷ codes "--rom" ∷ []) (ArgumentConflict ∷ [])
     × FailAs (codes "lay" ∷ codes "--half" ∷ codes "0" ∷ codes "--half" ∷ codes "1" ∷ []) (ArgumentConflict ∷ [])
 
--- the matching gives none of the options that a subcommand may refuse
-abbrev pub GivesNoneRefused : List Row → Type 0
-GivesNoneRefused rows =
-    All (λ id. sets id rows ≡ false) (codes "svg" ∷ codes "table" ∷ codes "rom" ∷ codes "equates" ∷ codes "draft" ∷ [])
-    × All (λ id. gives id rows ≡ false) (codes "at" ∷ codes "scale" ∷ codes "rate" ∷ codes "half" ∷ [])
+-- the matching gives none of the options that this subcommand may refuse
+abbrev pub GivesNoneRefused : Text → List Row → Type 0
+GivesNoneRefused name rows = (name ≡ codes "torn" → sets (codes "all") rows ≡ false)
+    × All (λ id. sets id rows ≡ false) (codes "svg" ∷ codes "table" ∷ codes "rom" ∷ codes "equates"
+    ∷ codes "draft" ∷ [])
+    × All (λ id. gives id rows ≡ false) (codes "at" ∷ codes "scale" ∷ codes "rate" ∷ codes "half"
+    ∷ codes "base" ∷ [])
 
 -- without these options nothing is refused after the matching, so arguments that the command takes fail only for want
 -- of memory
 abbrev pub UnrefusedOptions : Type 0
-UnrefusedOptions = (arguments : List Text) → IfSome (subcommand_of dvg_app arguments) (λ met. GivesNoneRefused met.1)
-    → options_fault (subcommand_of dvg_app arguments) ≡ []
+UnrefusedOptions = (arguments : List Text)
+    → IfSome (subcommand_of dvg_app arguments) (λ met. GivesNoneRefused met.0 met.1) → options_fault (subcommand_of dvg_app arguments) ≡ []

@@ -1,7 +1,7 @@
 -- What the options of a subcommand say, and how they are refused.
 use Rattle.std.specs.Prelude.{◌≡◌, ◌==◌, ◌&&◌, ◌||◌, ℕ, Bool, true, false, not, List, [], ◌∷◌, Option, Some, None}
 use Rattle.std.specs.Prelude.{Result, MatchResult, codes, count_by, if◌then◌else◌, is_some, length, nat_lt}
-use Rattle.std.specs.Prelude.{option_and_then}
+use Rattle.std.specs.Prelude.{option_and_then, option_map}
 use Rattle.std.specs.Char.{digit_value}
 use Rattle.std.specs.Int.{is_in_range}
 use Rattle.std.specs.List.{list_all}
@@ -13,6 +13,8 @@ use Rattle.clap.specs.declared.error.kind.ErrorKind.{ErrorKind}
 use Rattle.clap.specs.declared.error.kind.ErrorKind.TheVariants.{ArgumentConflict, InvalidValue}
 use Rattle.clap.specs.declared.error.kind.ErrorKind.TheVariants.{MissingRequiredArgument}
 use Rattle.dvg_args.specs.declared.options.Shown.{Shown}
+use Rattle.dvg_args.specs.declared.task.LogRule.{LogRule}
+use Rattle.dvg_args.specs.declared.task.LogRule.TheVariants.{Halves, Moments, AllMoments}
 use Rattle.dvg_args.specs.declared.task.LayForm.{LayForm}
 use Rattle.dvg_args.specs.declared.task.LayForm.TheVariants.{Half0, Half1, Table, Rom as RomBytes, Equates, Draft}
 
@@ -52,13 +54,30 @@ percent_of = number_of (codes "scale") 10 400 100
 abbrev pub rate_of : List Row → Option ℕ
 rate_of = number_of (codes "rate") 1 60 30
 
--- the address that three hexadecimal digits write
-abbrev pub address_in : Text → Option ℕ
-address_in text = if length text == 3 && is_numeral 16 text then Some (digits_value 16 text) else None
+-- the number that so many hexadecimal digits write
+abbrev pub hex_in : ℕ → Text → Option ℕ
+hex_in digits text = if length text == digits && is_numeral 16 text then Some (digits_value 16 text) else None
 
 -- the address that `list` is given
 abbrev pub address_of : List Row → Option ℕ
-address_of rows = option_and_then address_in (first_of (codes "at") rows)
+address_of rows = option_and_then (hex_in 3) (first_of (codes "at") rows)
+
+-- ---- logs
+
+-- the rule by which a log is judged
+abbrev pub rule_of : (moments all : Bool) → LogRule
+rule_of false all = Halves
+rule_of true false = Moments
+rule_of true true = AllMoments
+
+-- a base, where one is given: none is an answer, too
+abbrev pub base_in : Option Text → Option (Option ℕ)
+base_in None = Some None
+base_in (Some text) = option_map Some (hex_in 4 text)
+
+-- the base that `torn` is given
+abbrev pub base_of : List Row → Option (Option ℕ)
+base_of rows = base_in (first_of (codes "base") rows)
 
 -- ---- the forms of `lay`
 
@@ -119,13 +138,19 @@ render_fault rows = refused_by false false (shows_well rows)
 abbrev pub lay_fault : List Row → Kinds
 lay_fault rows = refused_by (nat_lt 1 (forms_given rows)) false (is_some (form_of rows))
 
+-- how the options of `torn` are refused: all runs are told by moments alone
+abbrev pub torn_fault : List Row → Kinds
+torn_fault rows =
+    refused_by false (sets (codes "all") rows && not (sets (codes "moments") rows)) (is_some (base_of rows))
+
 -- how the options of a subcommand are refused; one that isn't named here has none that can be
 abbrev pub fault_in : Text → List Row → Kinds
 fault_in name rows = if bytes_eq name (codes "list") then list_fault rows
     else (if bytes_eq name (codes "picture") then svg_fault rows
     else (if bytes_eq name (codes "play") then svg_fault rows
     else (if bytes_eq name (codes "render") then render_fault rows
-    else (if bytes_eq name (codes "lay") then lay_fault rows else []))))
+    else (if bytes_eq name (codes "lay") then lay_fault rows
+    else (if bytes_eq name (codes "torn") then torn_fault rows else [])))))
 
 -- an answer comes only where nothing is refused, and a kind where it is the one (for a private contract)
 abbrev pub Refuses : {T : Type 0} → Result T ErrorKind → Kinds → Type 0

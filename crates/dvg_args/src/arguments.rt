@@ -8,6 +8,7 @@ ghost use Rattle.clap.specs.Words.{FailsBy, fault_of, found_of, has_subcommand, 
 use crate::command::command;
 use crate::drawing::{list_job, picture_job, play_job, render_job};
 use crate::laying::lay_job;
+use crate::logging::torn_job;
 use crate::misuse::misuse;
 use crate::options::is_set;
 use crate::task::Job;
@@ -26,10 +27,6 @@ fn plain_job(name: &str, found: &ArgMatches) -> Option<Job>
     } else if name == "check" {
         Some(Job::Check {
             bound: is_set(found, "bound"),
-        })
-    } else if name == "torn" {
-        Some(Job::Torn {
-            moments: is_set(found, "moments"),
         })
     } else {
         None
@@ -57,6 +54,9 @@ fn asked(name: &str, found: &ArgMatches) -> Result<Job, ErrorKind>
     }
     if name == "lay" {
         return lay_job(found);
+    }
+    if name == "torn" {
+        return torn_job(found);
     }
     match plain_job(name, found) {
         Some(job) => Ok(job),

@@ -5,7 +5,7 @@ ghost use Rattle.clap.specs.Words.{found_of, rows_of};
 ghost use Rattle.dvg_args.specs.Options.{Refuses, Shows, list_fault, render_fault, svg_fault};
 ghost use Rattle.dvg_args.specs.Arguments.{IsJob};
 
-use crate::options::{Shown, address_in, is_given, is_set, read_shown};
+use crate::options::{Shown, hex_in, is_given, is_set, read_shown};
 use crate::task::Job;
 use clap::ArgMatches;
 use clap::error::ErrorKind;
@@ -19,7 +19,7 @@ pub(crate) fn list_job(found: &ArgMatches) -> Result<Job, ErrorKind>
     let Some(text) = found.get_str("at") else {
         return Ok(Job::List);
     };
-    match address_in(text) {
+    match hex_in(3, text) {
         Some(address) => Ok(Job::ListAt { address }),
         None => Err(ErrorKind::InvalidValue),
     }

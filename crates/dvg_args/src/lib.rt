@@ -14,6 +14,7 @@ mod drawing;
 mod help;
 pub mod laws;
 mod laying;
+mod logging;
 mod misuse;
 mod options;
 mod refusal;
@@ -21,4 +22,4 @@ mod task;
 
 pub use arguments::job;
 pub use refusal::arguments_status;
-pub use task::{Job, LayForm};
+pub use task::{Job, LayForm, LogRule};

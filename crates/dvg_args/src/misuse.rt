@@ -19,15 +19,19 @@ fn usage_of(name: &str) -> &'static str {
         help::RENDER_USAGE
     } else if name == "lay" {
         help::LAY_USAGE
+    } else if name == "torn" {
+        help::TORN_USAGE
     } else {
         help::USAGE
     }
 }
 
-// Returns the text for the `kind` of error by which options are refused.
-fn described(kind: ErrorKind) -> &'static str {
+// Returns the text for the `kind` of error by which the options of the subcommand `name` are
+// refused.
+fn described(name: &str, kind: ErrorKind) -> &'static str {
     match kind {
         ErrorKind::ArgumentConflict => "two of the options exclude each other",
+        ErrorKind::MissingRequiredArgument if name == "torn" => "'--all' wants '--moments'",
         ErrorKind::MissingRequiredArgument => "'--scale' and '--rate' want '--svg'",
         _ => "an option has a value that it doesn't take",
     }
@@ -38,12 +42,12 @@ fn described(kind: ErrorKind) -> &'static str {
 pub(crate) fn misuse(alloc: Global, matches: &ArgMatches, kind: ErrorKind) -> Error
     ensures { (kind_of result ≡ kind) ⊎ (kind_of result ≡ ErrorKind.OutOfMemory) }
 {
-    let usage = match matches.subcommand() {
-        Some(entered) => usage_of(entered.0),
-        None => help::USAGE,
+    let name = match matches.subcommand() {
+        Some(entered) => entered.0,
+        None => "",
     };
-    let mut command = Command::new(alloc, "dvg").override_usage(usage);
-    match command.error(kind, described(kind)) {
+    let mut command = Command::new(alloc, "dvg").override_usage(usage_of(name));
+    match command.error(kind, described(name, kind)) {
         Ok(error) => error,
         Err(want) => Error::from(want),
     }

@@ -1,5 +1,5 @@
 //! What the options of a subcommand say.
-ghost use Rattle.std.specs.Prelude.{◌≡◌, IfNone, IfSome, false};
+ghost use Rattle.std.specs.Prelude.{◌≡◌, ◌<◌, ◌≤◌, IfNone, IfSome, false};
 ghost use Rattle.clap.specs.Words.{found_of, rows_of};
 ghost use Rattle.dvg_args.specs.Options as spec;
 ghost use Rattle.dvg_args.specs.Options.{Shows, gives, sets, shows_well};
@@ -69,12 +69,14 @@ pub(crate) fn read_shown(found: &ArgMatches) -> Option<Shown>
     Some(Shown { percent, rate })
 }
 
-/// Returns the address that `text` writes, if it is three hexadecimal digits of either case.
-pub(crate) fn address_in(text: &str) -> Option<u16>
-    ensures { result ≡ spec.address_in text.now }
+/// Returns the number that `text` writes, if it is so many hexadecimal `digits` of either case, 1
+/// to 4.
+pub(crate) fn hex_in(digits: usize, text: &str) -> Option<u16>
+    requires { (0 < digits) × (digits ≤ 4) }
+    ensures { result ≡ spec.hex_in digits text.now }
 {
     let bytes = text.as_bytes();
-    if bytes.len() != 3 || bytes[0] == b'+' {
+    if bytes.len() != digits || bytes[0] == b'+' {
         return None;
     }
     match u16::from_str_radix(text, 16) {

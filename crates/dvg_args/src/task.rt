@@ -17,6 +17,17 @@ pub enum LayForm {
     Draft,
 }
 
+/// How a log is judged.
+#[derive(Clone, Copy, Debug, PartialEq, Eq)]
+pub enum LogRule {
+    /// By the halves of the RAM, up to the first write that tears a picture.
+    Halves,
+    /// By whether each run is of one moment, up to the first that isn't.
+    Moments,
+    /// The same, and each run that isn't is told.
+    AllMoments,
+}
+
 /// What the program has to do. `percent` is a size of pictures, 10 to 400, and `rate` is how many
 /// are shown a second, 1 to 60.
 #[derive(Clone, Copy, Debug, PartialEq, Eq)]
@@ -54,10 +65,11 @@ pub enum Job {
         percent: u16,
         rate: u16,
     },
-    /// Say whether a log tears a picture: by the halves of the RAM, or with `moments` by whether each
-    /// run is of one moment.
+    /// Say whether a log tears a picture, by `rule`. With a `base`, 0000 to FFFF, bytes are written
+    /// at addresses of the processor, of which this is the RAM's first.
     Torn {
-        moments: bool,
+        rule: LogRule,
+        base: Option<u16>,
     },
     /// Draw the frames of a sketch as SVG, in the size `percent` and at the rate `rate`.
     Render {

@@ -32,28 +32,34 @@ ended_front before more k fits =
     let both = ap length (flat_map-append (λ line. line ++ 10 ∷ []) before (take rest more)) in
     omega (arith, same, both, length-append (ended before) (ended (take rest more)))
 
-module _ {J V : Type 0} (Stands : J → Log → Type 0) (Passes : Log → Type 0) (Finds : V → Line → Log → Type 0) (Ends : V → Log → Type 0) where
-  abbrev pub Reads : Result V ToolFault → (input : List ℕ) → Option (List ℕ) → Option (List ℕ) → Type 0
-  Reads = ReadsAs Passes Finds Ends
+-- so many bytes were taken of an input, of which a piece was read last
+pub taken_up_to : {J : Type 0} {base : Option ℕ} {Stands : J → Log → Type 0} {Passes : Log → Type 0} (reading : LogReading J) (n : ℕ) (text piece rest : List ℕ) (read : HasRead base Stands Passes reading text) → length piece ≤ 32768 → length read.texts < n
+    → TakesUpTo n (text ++ (piece ++ rest)) (Some (text ++ (piece ++ rest))) (Some rest)
+taken_up_to reading n text piece rest read short later =
+    let input : List ℕ = text ++ (piece ++ rest) in
+    let cut = read.cut (piece ++ rest) in
+    let front = ended_front read.texts (lines (reading.unfinished.items ++ (piece ++ rest))) (n - 1) (omega arith) in
+    let same = ap (λ ls. length (ended (take (n - 1) ls))) cut in
+    let most : length (text ++ piece) ≤ length (ended (take (n - 1) (lines input))) + 32832 = omega (arith, same, front, read.size, read.short, length-append text piece) in
+    (text ++ piece, most, sym (append_assoc text piece rest))
 
-  read_as : (stop : LogStop V) (input : List ℕ) (old new : Option (List ℕ)) → StopsAt Passes Finds stop (lines input) → TakesUpTo (number_of stop) input old new → Reads (answer_of stop) input old new
+module _ {J V : Type 0} (base : Option ℕ) (Stands : J → Log → Type 0) (Passes : Log → Type 0) (Finds : V → Line → Log → Type 0) (Ends : V → Log → Type 0) where
+  abbrev pub Reads : Result V ToolFault → (input : List ℕ) → Option (List ℕ) → Option (List ℕ) → Type 0
+  Reads = ReadsAs base Passes Finds Ends
+
+  read_as : (stop : LogStop V) (input : List ℕ) (old new : Option (List ℕ)) → StopsAt base Passes Finds stop (lines input) → TakesUpTo (number_of stop) input old new → Reads (answer_of stop) input old new
   read_as (Found n verdict) input old new found takes = (Some n, found, takes)
   read_as (Syntax n) input old new stops takes = (stops, takes)
   read_as TooLong input old new stops takes = (stops, takes)
 
   -- reading stops at a piece, of an input that is known to have been read so
-  stops_known : (reading : LogReading J) (stop : LogStop V) (text piece rest : List ℕ) (read : HasRead Stands Passes reading text) → length piece ≤ 32768 → length read.texts < number_of stop
-      → StopsAt Passes Finds stop (lines (text ++ (piece ++ rest))) → Reads (answer_of stop) (text ++ (piece ++ rest)) (Some (text ++ (piece ++ rest))) (Some rest)
+  stops_known : (reading : LogReading J) (stop : LogStop V) (text piece rest : List ℕ) (read : HasRead base Stands Passes reading text) → length piece ≤ 32768 → length read.texts < number_of stop
+      → StopsAt base Passes Finds stop (lines (text ++ (piece ++ rest))) → Reads (answer_of stop) (text ++ (piece ++ rest)) (Some (text ++ (piece ++ rest))) (Some rest)
   stops_known reading stop text piece rest read short later stops =
-      let input : List ℕ = text ++ (piece ++ rest) in
-      let cut = read.cut (piece ++ rest) in
-      let front = ended_front read.texts (lines (reading.unfinished.items ++ (piece ++ rest))) (number_of stop - 1) (omega arith) in
-      let same = ap (λ ls. length (ended (take (number_of stop - 1) ls))) cut in
-      let most : length (text ++ piece) ≤ length (ended (take (number_of stop - 1) (lines input))) + 32832 = omega (arith, same, front, read.size, read.short, length-append text piece) in
-      read_as stop input (Some input) (Some rest) stops (text ++ piece, most, sym (append_assoc text piece rest))
+      read_as stop (text ++ (piece ++ rest)) (Some (text ++ (piece ++ rest))) (Some rest) stops (taken_up_to reading (number_of stop) text piece rest read short later)
 
-  pub stops_input : (reading : LogReading J) (stop : LogStop V) (known now new : Option (List ℕ)) (text piece : List ℕ) (read : HasRead Stands Passes reading text) → length piece ≤ 32768 → length read.texts < number_of stop
-      → ((more : List ℕ) → StopsAt Passes Finds stop (lines (text ++ (piece ++ more)))) → Consumes known now text → Consumes now new piece → IfSome known (λ input. Reads (answer_of stop) input known new)
+  pub stops_input : (reading : LogReading J) (stop : LogStop V) (known now new : Option (List ℕ)) (text piece : List ℕ) (read : HasRead base Stands Passes reading text) → length piece ≤ 32768 → length read.texts < number_of stop
+      → ((more : List ℕ) → StopsAt base Passes Finds stop (lines (text ++ (piece ++ more)))) → Consumes known now text → Consumes now new piece → IfSome known (λ input. Reads (answer_of stop) input known new)
   stops_input reading stop None now new text piece read short later stops before takes = tt
   stops_input reading stop (Some input) None new text piece read short later stops before takes = absurd before
   stops_input reading stop (Some input) (Some left) None text piece read short later stops before takes = absurd takes
@@ -62,7 +68,7 @@ module _ {J V : Type 0} (Stands : J → Log → Type 0) (Passes : Log → Type 0
       subst (λ input. Reads (answer_of stop) input (Some input) (Some rest)) (sym is) (stops_known reading stop text piece rest read short later (stops rest))
 
   -- reading comes to the end, of which no byte is left
-  pub ends_input : (verdict : V) (known now new : Option (List ℕ)) (text : List ℕ) → ((log : Log) × IsWhole Passes (lines text) log × Ends verdict log) → Consumes known now text → Consumes now new [] → IsAtEnd new
+  pub ends_input : (verdict : V) (known now new : Option (List ℕ)) (text : List ℕ) → ((log : Log) × IsWhole base Passes (lines text) log × Ends verdict log) → Consumes known now text → Consumes now new [] → IsAtEnd new
       → IfSome known (λ input. Reads (Ok verdict) input known new)
   ends_input verdict None now new text said before takes at_end = tt
   ends_input verdict (Some input) None new text said before takes at_end = absurd before
@@ -73,37 +79,37 @@ module _ {J V : Type 0} (Stands : J → Log → Type 0) (Passes : Log → Type 0
       let read : Reads (Ok verdict) text (Some text) (Some rest) = (None, said, (all, at_end)) in
       subst (λ input. Reads (Ok verdict) input (Some input) (Some rest)) is read
 
-  pub stops_at_end : (reading : LogReading J) (stop : LogStop V) (known now new : Option (List ℕ)) (text : List ℕ) (read : HasRead Stands Passes reading text) → length read.texts < number_of stop
-      → StopsAt Passes Finds stop (lines text) → Consumes known now text → Consumes now new [] → IsAtEnd new → IfSome known (λ input. Reads (answer_of stop) input known new)
+  pub stops_at_end : (reading : LogReading J) (stop : LogStop V) (known now new : Option (List ℕ)) (text : List ℕ) (read : HasRead base Stands Passes reading text) → length read.texts < number_of stop
+      → StopsAt base Passes Finds stop (lines text) → Consumes known now text → Consumes now new [] → IsAtEnd new → IfSome known (λ input. Reads (answer_of stop) input known new)
   stops_at_end reading stop None now new text read later stops before takes at_end = tt
   stops_at_end reading stop (Some input) None new text read later stops before takes at_end = absurd before
   stops_at_end reading stop (Some input) (Some left) None text read later stops before takes at_end = absurd takes
   stops_at_end reading stop (Some input) (Some left) (Some rest) text read later stops before takes at_end =
       let is : input ≡ text ++ [] = before ∙ ap (λ l. text ++ l) (takes ∙ at_end) in
-      let said = stops_known reading stop text [] [] read (omega arith) later (subst (λ l. StopsAt Passes Finds stop (lines l)) (sym (append-nil text)) stops) in
+      let said = stops_known reading stop text [] [] read (omega arith) later (subst (λ l. StopsAt base Passes Finds stop (lines l)) (sym (append-nil text)) stops) in
       subst (λ input. Reads (answer_of stop) input (Some input) (Some rest)) (sym is) (subst (λ rest. Reads (answer_of stop) (text ++ []) (Some (text ++ [])) (Some rest)) (sym at_end) said)
 
 -- ---- by the rule of halves
 
 -- all was taken where nothing is torn, and else the lines up to the torn one
-takes_halves : (text : List ℕ) (verdict : LogVerdict) (decided : Option ℕ) (old new : Option (List ℕ)) → Says (Throughout IsUntorn) FindsTorn EndsUntorn verdict (lines text) decided → TakesTo decided text old new
+takes_halves : (base : Option ℕ) (text : List ℕ) (verdict : LogVerdict) (decided : Option ℕ) (old new : Option (List ℕ)) → Says base (Throughout IsUntorn) FindsTorn EndsUntorn verdict (lines text) decided → TakesTo decided text old new
     → TakesFor verdict.finding text old new
-takes_halves text verdict (Some n) old new found takes =
-    let at : length found.log + 1 ≡ n = omega (arith, log_length found.log found.before found.fine.tells, found.number) in
+takes_halves base text verdict (Some n) old new found takes =
+    let at : length found.log + 1 ≡ n = omega (arith, log_length _ found.log found.before found.fine.tells, found.number) in
     subst (λ finding. TakesFor finding text old new) (sym (found.finds.finding ∙ ap (λ n. Torn n found.finds.address found.finds.byte) at)) takes
-takes_halves text verdict None old new (log, whole, is) takes = subst (λ verdict. TakesFor verdict.finding text old new) (sym is) (by_case (no_run_drew (counts_of log)))
+takes_halves base text verdict None old new (log, whole, is) takes = subst (λ verdict. TakesFor verdict.finding text old new) (sym is) (by_case (no_run_drew (counts_of log)))
   where
     by_case : (none : Bool) → TakesFor (cond none NoRunDrew NotTorn) text old new
     by_case true = takes
     by_case false = takes
 
-pub halves_of : (answer : Result LogVerdict ToolFault) (input : List ℕ) (old new : Option (List ℕ)) → ReadsAs (Throughout IsUntorn) FindsTorn EndsUntorn answer input old new → JudgesInput answer input old new
-halves_of (Ok verdict) input old new (decided, says, takes) = (halves_judged input verdict decided says, takes_halves input verdict decided old new says takes)
-halves_of (Err (Text fault)) input old new (stops, takes) = (stops, takes)
-halves_of (Err Reader) input old new reads = (tt, tt)
-halves_of (Err Writer) input old new reads = absurd reads
-halves_of (Err Memory) input old new reads = absurd reads
+pub halves_of : (base : Option ℕ) (answer : Result LogVerdict ToolFault) (input : List ℕ) (old new : Option (List ℕ)) → ReadsAs base (Throughout IsUntorn) FindsTorn EndsUntorn answer input old new → JudgesInput base answer input old new
+halves_of base (Ok verdict) input old new (decided, says, takes) = (halves_judged input verdict decided says, takes_halves base input verdict decided old new says takes)
+halves_of base (Err (Text fault)) input old new (stops, takes) = (stops, takes)
+halves_of base (Err Reader) input old new reads = (tt, tt)
+halves_of base (Err Writer) input old new reads = absurd reads
+halves_of base (Err Memory) input old new reads = absurd reads
 
-pub halves_known : (answer : Result LogVerdict ToolFault) (old new : Option (List ℕ)) → IfSome old (λ input. ReadsAs (Throughout IsUntorn) FindsTorn EndsUntorn answer input old new) → IfSome old (λ input. JudgesInput answer input old new)
-halves_known answer None new reads = tt
-halves_known answer (Some input) new reads = halves_of answer input (Some input) new reads
+pub halves_known : (base : Option ℕ) (answer : Result LogVerdict ToolFault) (old new : Option (List ℕ)) → IfSome old (λ input. ReadsAs base (Throughout IsUntorn) FindsTorn EndsUntorn answer input old new) → IfSome old (λ input. JudgesInput base answer input old new)
+halves_known base answer None new reads = tt
+halves_known base answer (Some input) new reads = halves_of base answer input (Some input) new reads

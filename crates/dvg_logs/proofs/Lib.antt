@@ -7,3 +7,6 @@ pub mod Inputs
 pub mod NumberLines
 pub mod MomentLines
 pub mod OneMoment
+pub mod ReadsOn
+pub mod Tellings
+pub mod OneAll

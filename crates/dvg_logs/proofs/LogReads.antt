@@ -23,21 +23,21 @@ use Rattle.dvg_logs.specs.Tears.{ended}
 
 -- ---- one more line
 
-tells_more : (log : Log) (before : List (List ℕ)) (line : Line) (text : List ℕ) → IsLogOf log before → Tells line text → IsLogOf (line ∷ log) (before ++ text ∷ [])
-tells_more log before line text log_of tells =
-    subst (λ l. AllZip Tells l (before ++ text ∷ [])) (sym (reverse-append (line ∷ []) log)) (zip_push Tells (reverse log) before line text log_of tells)
+tells_more : {base : Option ℕ} (log : Log) (before : List (List ℕ)) (line : Line) (text : List ℕ) → IsLogOf base log before → Tells base line text → IsLogOf base (line ∷ log) (before ++ text ∷ [])
+tells_more {base = base} log before line text log_of tells =
+    subst (λ l. AllZip (Tells base) l (before ++ text ∷ [])) (sym (reverse-append (line ∷ []) log)) (zip_push (Tells base) (reverse log) before line text log_of tells)
 
 -- the log is as long as its text has lines
-pub log_length : (log : Log) (texts : List (List ℕ)) → IsLogOf log texts → length log ≡ length texts
-log_length log texts log_of = sym (length-reverse log) ∙ zip_length Tells (reverse log) texts log_of
+pub log_length : (base : Option ℕ) (log : Log) (texts : List (List ℕ)) → IsLogOf base log texts → length log ≡ length texts
+log_length base log texts log_of = sym (length-reverse log) ∙ zip_length (Tells base) (reverse log) texts log_of
 
-pub fine_more : {Passes : Log → Type 0} (log : Log) (before : List (List ℕ)) (line : Line) (text : List ℕ) → IsLogSo Passes log before → Tells line text → Passes (line ∷ log)
-    → IsLogSo Passes (line ∷ log) (before ++ text ∷ [])
+pub fine_more : {base : Option ℕ} {Before After : Log → Type 0} (log : Log) (before : List (List ℕ)) (line : Line) (text : List ℕ) → IsLogSo base Before log before → Tells base line text → After (line ∷ log)
+    → IsLogSo base After (line ∷ log) (before ++ text ∷ [])
 fine_more log before line text fine tells passes = record { tells = tells_more log before line text fine.tells tells; holds = passes }
 
 -- a line decides
-pub found_at : {V : Type 0} {Passes : Log → Type 0} {Finds : V → Line → Log → Type 0} (log : Log) (before : List (List ℕ)) (line : Line) (text : List ℕ) (after : List (List ℕ)) (verdict : V)
-    → IsLogSo Passes log before → Tells line text → Finds verdict line log → (n : ℕ) → n ≡ length before + 1 → IsFoundAt Passes Finds (before ++ text ∷ after) n verdict
+pub found_at : {V : Type 0} {base : Option ℕ} {Passes : Log → Type 0} {Finds : V → Line → Log → Type 0} (log : Log) (before : List (List ℕ)) (line : Line) (text : List ℕ) (after : List (List ℕ)) (verdict : V)
+    → IsLogSo base Passes log before → Tells base line text → Finds verdict line log → (n : ℕ) → n ≡ length before + 1 → IsFoundAt base Passes Finds (before ++ text ∷ after) n verdict
 found_at log before line text after verdict fine tells finds n number = record {
   before = before;
   text = text;
@@ -51,10 +51,10 @@ found_at log before line text after verdict fine tells finds n number = record {
   finds = finds;
 }
 
-pub torn_at : (log : Log) (before : List (List ℕ)) (line : Line) (a byte : ℕ) (text : List ℕ) (after : List (List ℕ)) → line ≡ Tick ⟼ Acted (Wrote a byte) → IsUntornLog log before → Tells line text → IsTornLine log line
-    → (n : ℕ) → n ≡ length before + 1 → IsTornAt (before ++ text ∷ after) (line ∷ log) n a byte
-torn_at log before line a byte text after is fine tells torn n number = subst (λ last. IsTornAt (before ++ text ∷ after) (last ∷ log) n a byte) (sym is) (
-    let wrote = subst (λ line. Tells line text) is tells in
+pub torn_at : {base : Option ℕ} (log : Log) (before : List (List ℕ)) (line : Line) (a byte : ℕ) (text : List ℕ) (after : List (List ℕ)) → line ≡ Tick ⟼ Acted (Wrote a byte) → IsUntornLog base log before → Tells base line text → IsTornLine log line
+    → (n : ℕ) → n ≡ length before + 1 → IsTornAt base (before ++ text ∷ after) (line ∷ log) n a byte
+torn_at {base = base} log before line a byte text after is fine tells torn n number = subst (λ last. IsTornAt base (before ++ text ∷ after) (last ∷ log) n a byte) (sym is) (
+    let wrote = subst (λ line. Tells base line text) is tells in
     record {
       before = before;
       line = text;
@@ -62,7 +62,7 @@ torn_at log before line a byte text after is fine tells torn n number = subst (�
       cut = refl;
       number = number;
       tells = tells_more log before (Tick ⟼ Acted (Wrote a byte)) text fine.tells wrote;
-      torn = record { later = []; event = Tick; entry = Acted (Wrote a byte); before = log; split = refl; at = log_length log before fine.tells; torn = subst (IsTornLine log) is torn; untorn = fine.holds };
+      torn = record { later = []; event = Tick; entry = Acted (Wrote a byte); before = log; split = refl; at = log_length _ log before fine.tells; torn = subst (IsTornLine log) is torn; untorn = fine.holds };
       wrote = wrote;
     })
 
@@ -98,7 +98,7 @@ begins_of [] more unended some = absurd (omega arith)
 begins_of (byte ∷ bytes) more unended some = begins byte bytes more unended
 
 -- a line that is too long tells nothing
-pub too_long : (text : List ℕ) → 64 < length text → (line : Line) → ¬ Tells line text
+pub too_long : {base : Option ℕ} (text : List ℕ) → 64 < length text → (line : Line) → ¬ Tells base line text
 too_long text over line (passed short is) = absurd (omega arith)
 too_long text over line (logged short is row) = absurd (omega arith)
 
@@ -109,16 +109,16 @@ length_ended-append texts text = ap length (flat_map-append (λ line. line ++ 10
     ∙ (length-append (ended texts) ((text ++ 10 ∷ []) ++ []) ∙ ap (λ n. length (ended texts) + n) (ap length (append-nil (text ++ 10 ∷ [])) ∙ length-append text (10 ∷ [])))
 
 -- before the first piece
-pub nothing_read : {J : Type 0} {Stands : J → Log → Type 0} {Passes : Log → Type 0} (judged : JudgedLines J) → HasJudged Stands Passes judged [] → IsRead Stands Passes judged [] []
+pub nothing_read : {J : Type 0} {base : Option ℕ} {Stands : J → Log → Type 0} {Passes : Log → Type 0} (judged : JudgedLines J) → HasJudged base Stands Passes judged [] → IsRead base Stands Passes judged [] []
 nothing_read judged fine = record { texts = []; fine = fine; unended = λ k d inside. absurd (omega arith); short = omega arith; cut = λ more. refl; size = refl }
 
 -- what bytes of a line make of what was read
-module _ {J : Type 0} {Stands : J → Log → Type 0} {Passes : Log → Type 0} {judged : JudgedLines J} {unfinished text : List ℕ} (bytes : List ℕ) (read : IsRead Stands Passes judged unfinished text) (unended : IsOpen bytes) where
+module _ {J : Type 0} {base : Option ℕ} {Stands : J → Log → Type 0} {Passes : Log → Type 0} {judged : JudgedLines J} {unfinished text : List ℕ} (bytes : List ℕ) (read : IsRead base Stands Passes judged unfinished text) (unended : IsOpen bytes) where
   both_open : IsOpen (unfinished ++ bytes)
   both_open = All-append (λ b. eqb b 10 ≡ false) unfinished bytes read.unended unended
 
   -- it has not ended
-  pub bytes_read : length (unfinished ++ bytes) ≤ 64 → IsRead Stands Passes judged (unfinished ++ bytes) (text ++ bytes)
+  pub bytes_read : length (unfinished ++ bytes) ≤ 64 → IsRead base Stands Passes judged (unfinished ++ bytes) (text ++ bytes)
   bytes_read short = record {
     texts = read.texts;
     fine = read.fine;
@@ -137,7 +137,7 @@ module _ {J : Type 0} {Stands : J → Log → Type 0} {Passes : Log → Type 0} 
   pub line_stops : (P : List (List ℕ) → Type 0) → ((after : List (List ℕ)) → P (read.texts ++ (unfinished ++ bytes) ∷ after)) → (more : List ℕ) → P (lines (text ++ (bytes ++ 10 ∷ more)))
   line_stops P stops more = subst P (sym (ended_line more)) (stops (lines more))
 
-  pub line_read : (new : JudgedLines J) → HasJudged Stands Passes new (read.texts ++ (unfinished ++ bytes) ∷ []) → IsRead Stands Passes new [] (text ++ (bytes ++ 10 ∷ []))
+  pub line_read : {After : Log → Type 0} (new : JudgedLines J) → HasJudged base Stands After new (read.texts ++ (unfinished ++ bytes) ∷ []) → IsRead base Stands After new [] (text ++ (bytes ++ 10 ∷ []))
   line_read new fine = record {
     texts = read.texts ++ (unfinished ++ bytes) ∷ [];
     fine = fine;
@@ -149,7 +149,7 @@ module _ {J : Type 0} {Stands : J → Log → Type 0} {Passes : Log → Type 0} 
   }
 
   -- it is too long
-  pub overlong_stops : (P : List (List ℕ) → Type 0) → 64 < length (unfinished ++ bytes) → ((line : List ℕ) (after : List (List ℕ)) → ((logged : Line) → ¬ Tells logged line) → P (read.texts ++ line ∷ after))
+  pub overlong_stops : (P : List (List ℕ) → Type 0) → 64 < length (unfinished ++ bytes) → ((line : List ℕ) (after : List (List ℕ)) → ((logged : Line) → ¬ Tells base logged line) → P (read.texts ++ line ∷ after))
       → (more : List ℕ) → P (lines (text ++ (bytes ++ more)))
   overlong_stops P over stops more =
       let starts = begins_of (unfinished ++ bytes) more both_open (omega arith) in
@@ -157,7 +157,7 @@ module _ {J : Type 0} {Stands : J → Log → Type 0} {Passes : Log → Type 0} 
       subst P (sym is) (stops ((unfinished ++ bytes) ++ starts.tail) starts.after (λ line tells. too_long ((unfinished ++ bytes) ++ starts.tail) (omega (arith, length-append (unfinished ++ bytes) starts.tail)) line tells))
 
 -- the end of a text, where no line has begun
-pub all_ended : {J : Type 0} {Stands : J → Log → Type 0} {Passes : Log → Type 0} {judged : JudgedLines J} {unfinished text : List ℕ} (read : IsRead Stands Passes judged unfinished text) → unfinished ≡ [] → lines text ≡ read.texts
+pub all_ended : {J : Type 0} {base : Option ℕ} {Stands : J → Log → Type 0} {Passes : Log → Type 0} {judged : JudgedLines J} {unfinished text : List ℕ} (read : IsRead base Stands Passes judged unfinished text) → unfinished ≡ [] → lines text ≡ read.texts
 all_ended {unfinished = unfinished} {text = text} read none =
     ap lines (sym (append-nil text)) ∙ (read.cut [] ∙ (ap (λ l. read.texts ++ lines (l ++ [])) none ∙ append-nil read.texts))
 
@@ -166,40 +166,35 @@ last_alone : (bytes : List ℕ) → IsOpen bytes → 0 < length bytes → lines 
 last_alone [] unended some = absurd (omega arith)
 last_alone (byte ∷ bytes) unended some = line_last byte bytes unended
 
-pub last_ended : {J : Type 0} {Stands : J → Log → Type 0} {Passes : Log → Type 0} {judged : JudgedLines J} {unfinished text : List ℕ} (read : IsRead Stands Passes judged unfinished text) → 0 < length unfinished → lines text ≡ read.texts ++ unfinished ∷ []
+pub last_ended : {J : Type 0} {base : Option ℕ} {Stands : J → Log → Type 0} {Passes : Log → Type 0} {judged : JudgedLines J} {unfinished text : List ℕ} (read : IsRead base Stands Passes judged unfinished text) → 0 < length unfinished → lines text ≡ read.texts ++ unfinished ∷ []
 last_ended {unfinished = unfinished} {text = text} read some =
     ap lines (sym (append-nil text)) ∙ (read.cut [] ∙ ap (λ ls. read.texts ++ ls) (ap lines (append-nil unfinished) ∙ last_alone unfinished read.unended some))
 
 -- where nothing of the line has come before
-module _ {J : Type 0} {Stands : J → Log → Type 0} {Passes : Log → Type 0} {judged : JudgedLines J} {unfinished text : List ℕ} (bytes : List ℕ) (read : IsRead Stands Passes judged unfinished text) (unended : IsOpen bytes) (none : unfinished ≡ []) where
+module _ {J : Type 0} {base : Option ℕ} {Stands : J → Log → Type 0} {Passes : Log → Type 0} {judged : JudgedLines J} {unfinished text : List ℕ} (bytes : List ℕ) (read : IsRead base Stands Passes judged unfinished text) (unended : IsOpen bytes) (none : unfinished ≡ []) where
   alone : unfinished ++ bytes ≡ bytes
   alone = ap (λ l. l ++ bytes) none
 
   pub first_stops : (P : List (List ℕ) → Type 0) → ((after : List (List ℕ)) → P (read.texts ++ bytes ∷ after)) → (more : List ℕ) → P (lines (text ++ (bytes ++ 10 ∷ more)))
   first_stops P stops more = line_stops bytes read unended P (λ after. subst (λ line. P (read.texts ++ line ∷ after)) (sym alone) (stops after)) more
 
-  pub first_read : (new : JudgedLines J) → HasJudged Stands Passes new (read.texts ++ bytes ∷ []) → IsRead Stands Passes new unfinished (text ++ (bytes ++ 10 ∷ []))
-  first_read new fine = subst (λ l. IsRead Stands Passes new l (text ++ (bytes ++ 10 ∷ []))) (sym none)
-      (line_read bytes read unended new (subst (λ line. HasJudged Stands Passes new (read.texts ++ line ∷ [])) (sym alone) fine))
+  pub first_read : (new : JudgedLines J) → HasJudged base Stands Passes new (read.texts ++ bytes ∷ []) → IsRead base Stands Passes new unfinished (text ++ (bytes ++ 10 ∷ []))
+  first_read new fine = subst (λ l. IsRead base Stands Passes new l (text ++ (bytes ++ 10 ∷ []))) (sym none)
+      (line_read bytes read unended new (subst (λ line. HasJudged base Stands Passes new (read.texts ++ line ∷ [])) (sym alone) fine))
 
--- all lines of a text
-pub all_judged : {J : Type 0} {Stands : J → Log → Type 0} {Passes : Log → Type 0} (judged : JudgedLines J) (text : List ℕ) (texts : List (List ℕ)) → lines text ≡ texts → HasJudged Stands Passes judged texts → (log : Log) × IsWhole Passes (lines text) log × Stands judged.judge log
-all_judged {Passes = Passes} judged text texts is fine =
-    (fine.log, record { fine = subst (IsLogSo Passes fine.log) (sym is) fine.fine; fits = omega (arith, ap length is, fine.count, fine.fits) }, fine.stands)
-
--- and what is said of them
-pub all_said : {J V : Type 0} {Stands : J → Log → Type 0} {Passes : Log → Type 0} (Ends : V → Log → Type 0) (judged : JudgedLines J) (said : V) (text : List ℕ) (texts : List (List ℕ)) → lines text ≡ texts → HasJudged Stands Passes judged texts
-    → ((log : Log) → Stands judged.judge log → Ends said log) → (log : Log) × IsWhole Passes (lines text) log × Ends said log
-all_said Ends judged said text texts is fine ends =
-    let (log, whole, stands) = all_judged judged text texts is fine in (log, whole, ends log stands)
+-- what is said of all lines of a text
+pub whole_said : {J V : Type 0} {base : Option ℕ} {Stands : J → Log → Type 0} {Passes : Log → Type 0} (Ends : V → Log → Type 0) (judged : JudgedLines J) (said : V) (texts : List (List ℕ)) → HasJudged base Stands Passes judged texts
+    → ((log : Log) → Stands judged.judge log → Ends said log) → (log : Log) × IsWhole base Passes texts log × Ends said log
+whole_said Ends judged said texts fine ends =
+    (fine.log, record { fine = fine.fine; fits = omega (arith, fine.count, fine.fits) }, ends fine.log fine.stands)
 
 -- what is said of an error
 pub if_err_weaker : {T E : Type 0} {P Q : E → Type 0} (answer : Result T E) → ((e : E) → P e → Q e) → IfErr answer P → IfErr answer Q
 if_err_weaker (Ok done) f p = tt
 if_err_weaker (Err e) f p = f e p
 
-pub begun : {J : Type 0} {Stands : J → Log → Type 0} {Passes : Log → Type 0} (judged : JudgedLines J) → Stands judged.judge [] → Passes [] → judged.count ≡ 0 → HasJudged Stands Passes judged []
-begun judged stands passes none = record { log = []; fine = record { tells = tt; holds = passes }; stands = stands; count = none; fits = omega arith }
+pub begun : {J : Type 0} {base : Option ℕ} {Stands : J → Log → Type 0} {Passes : Log → Type 0} (judged : JudgedLines J) → Stands judged.judge [] → Passes [] → judged.base ≡ base → judged.count ≡ 0 → HasJudged base Stands Passes judged []
+begun judged stands passes based none = record { log = []; fine = record { tells = tt; holds = passes }; stands = stands; based = based; count = none; fits = omega arith }
 
 -- what is said of each, where it is done
 pub on_ok_all : {T E X : Type 0} (H Q : X → Type 0) (answer : Result T E) → ((x : X) → H x → OnOk answer (Q x)) → OnOk answer ((x : X) → H x → Q x)

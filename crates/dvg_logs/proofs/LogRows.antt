@@ -18,8 +18,8 @@ use Rattle.std.specs.Str.Lines.{strip_carriage_return}
 use Rattle.dvg_read.proofs.FirstBytes.{HasNone}
 use Rattle.dvg_read.proofs.Spaces.{no_space}
 use Rattle.dvg_logs.specs.declared.log_line.LogLine.{LogLine}
-use Rattle.dvg_logs.specs.LogLines.{LogRow, Tells, small, started, fetched, low, wrote, halted, reset, passed, logged}
-use Rattle.dvg_logs.specs.LogLineTells.{AreNumbers, line_of}
+use Rattle.dvg_logs.specs.LogLines.{IsWrittenAt, LogRow, Tells, small, started, fetched, low, wrote, halted, reset, passed, logged}
+use Rattle.dvg_logs.specs.LogLineTells.{AreNumbers, AreWritten, line_of}
 
 -- a line is its parts, with a space between each two
 whole : (line : List ℕ) (ps : List (List ℕ)) → parts line ≡ ps → line ≡ join_with_byte 32 ps
@@ -29,7 +29,7 @@ hex_part : {count n : ℕ} {digits : List ℕ} → IsHex count n digits → HasN
 hex_part {digits = digits} h = no_space 16 digits (omega arith) h.digits
 
 -- numbers are two parts
-number_parts : {count a n : ℕ} {bytes : List ℕ} (numbers : AreNumbers count a n bytes) → parts bytes ≡ numbers.front ∷ numbers.back ∷ []
+number_parts : {width count a n : ℕ} {bytes : List ℕ} (numbers : AreNumbers width count a n bytes) → parts bytes ≡ numbers.front ∷ numbers.back ∷ []
 number_parts numbers =
     ap parts numbers.split ∙ (slice_split_at (λ byte. eqb byte 32) numbers.front 32 numbers.back (hex_part numbers.address) refl
     ∙ ap (λ ps. numbers.front ∷ ps) (slice_split_none (λ byte. eqb byte 32) numbers.back (hex_part numbers.number)))
@@ -45,7 +45,7 @@ pub record NumberRow (count : ℕ) (made : ℕ → ℕ → Line) (line : Line) (
   pub address : IsHex 3 a front
   pub number : IsHex count n back
 
-numbers_of : {count : ℕ} {made : ℕ → ℕ → Line} {line : Line} (bytes : List ℕ) (row : NumberRow count made line (parts bytes)) → AreNumbers count row.a row.n bytes
+numbers_of : {count : ℕ} {made : ℕ → ℕ → Line} {line : Line} (bytes : List ℕ) (row : NumberRow count made line (parts bytes)) → AreNumbers 3 count row.a row.n bytes
 numbers_of bytes row = record { front = row.front; back = row.back; split = whole bytes (row.front ∷ row.back ∷ []) row.split; address = row.address; number = row.number }
 
 abbrev pub wrote_line : ℕ → ℕ → Line
@@ -57,31 +57,48 @@ fetched_line a word = Fetch ⟼ Fetched a word
 abbrev pub low_line : ℕ → ℕ → Line
 low_line a byte = Fetch ⟼ Low a byte
 
-pub wrote_row : {line : Line} {ps : List (List ℕ)} → LogRow line (codes "wrote" ∷ ps) → NumberRow 2 wrote_line line ps
-wrote_row (wrote {a = a} {byte = n} {address = front} {digits = back} ram h k) = record { a = a; n = n; front = front; back = back; is = refl; split = refl; address = h; number = k }
+-- the same of a write in the RAM
+pub record WrittenRow (base : Option ℕ) (line : Line) (ps : List (List ℕ)) : Type 0 where
+  pub a : ℕ
+  pub n : ℕ
+  pub front : List ℕ
+  pub back : List ℕ
+  pub is : line ≡ wrote_line a n
+  pub split : ps ≡ front ∷ back ∷ []
+  pub ram : a < 0x800
+  pub address : IsWrittenAt base a front
+  pub byte_is : IsHex 2 n back
 
--- the byte is one of the RAM
-pub wrote_in_ram : {a byte : ℕ} {ps : List (List ℕ)} → LogRow (wrote_line a byte) ps → a < 0x800
-wrote_in_ram (wrote ram h k) = ram
+pub wrote_row : {base : Option ℕ} {line : Line} {ps : List (List ℕ)} → LogRow base line (codes "wrote" ∷ ps) → WrittenRow base line ps
+wrote_row (wrote {a = a} {byte = n} {address = front} {digits = back} ram h k) = record { a = a; n = n; front = front; back = back; is = refl; split = refl; ram = ram; address = h; byte_is = k }
 
-pub fetched_row : {line : Line} {ps : List (List ℕ)} → LogRow line (codes "fetched" ∷ ps) → NumberRow 4 fetched_line line ps
+written_part : (base : Option ℕ) (a : ℕ) (digits : List ℕ) → IsWrittenAt base a digits → HasNone 32 digits
+written_part None a digits h = hex_part h
+written_part (Some base) a digits h = hex_part h
+
+written_parts : {base : Option ℕ} {a byte : ℕ} {bytes : List ℕ} (w : AreWritten base a byte bytes) → parts bytes ≡ w.front ∷ w.back ∷ []
+written_parts {base = base} {a = a} w =
+    ap parts w.split ∙ (slice_split_at (λ byte. eqb byte 32) w.front 32 w.back (written_part base a w.front w.address) refl
+    ∙ ap (λ ps. w.front ∷ ps) (slice_split_none (λ byte. eqb byte 32) w.back (hex_part w.byte_is)))
+
+pub fetched_row : {base : Option ℕ} {line : Line} {ps : List (List ℕ)} → LogRow base line (codes "fetched" ∷ ps) → NumberRow 4 fetched_line line ps
 fetched_row (fetched {a = a} {word = n} {address = front} {digits = back} h k) = record { a = a; n = n; front = front; back = back; is = refl; split = refl; address = h; number = k }
 
-pub low_row : {line : Line} {ps : List (List ℕ)} → LogRow line (codes "low" ∷ ps) → NumberRow 2 low_line line ps
+pub low_row : {base : Option ℕ} {line : Line} {ps : List (List ℕ)} → LogRow base line (codes "low" ∷ ps) → NumberRow 2 low_line line ps
 low_row (low {a = a} {byte = n} {address = front} {digits = back} h k) = record { a = a; n = n; front = front; back = back; is = refl; split = refl; address = h; number = k }
 
 -- a name alone is one part
-alone : {line : Line} {name : List ℕ} → LogRow line (name ∷ []) → parts name ≡ name ∷ []
+alone : {base : Option ℕ} {line : Line} {name : List ℕ} → LogRow base line (name ∷ []) → parts name ≡ name ∷ []
 alone started = refl
 alone halted = refl
 alone reset = refl
 
 -- a line with no numbers is a name alone
-named_row : {line : Line} (name text : List ℕ) → text ≡ name → LogRow line (name ∷ []) → LogRow line (text ∷ [])
-named_row {line} name text is row = subst (λ text. LogRow line (text ∷ [])) (sym is) row
+named_row : {base : Option ℕ} {line : Line} (name text : List ℕ) → text ≡ name → LogRow base line (name ∷ []) → LogRow base line (text ∷ [])
+named_row {base} {line} name text is row = subst (λ text. LogRow base line (text ∷ [])) (sym is) row
 
-bare_of : {line : Line} {ps : List (List ℕ)} → LogRow line ps → (text : List ℕ) → parts text ≡ ps
-    → ((rest : List ℕ) → text ≢ codes "wrote " ++ rest) → ((rest : List ℕ) → text ≢ codes "fetched " ++ rest) → ((rest : List ℕ) → text ≢ codes "low " ++ rest) → LogRow line (text ∷ [])
+bare_of : {base : Option ℕ} {line : Line} {ps : List (List ℕ)} → LogRow base line ps → (text : List ℕ) → parts text ≡ ps
+    → ((rest : List ℕ) → text ≢ codes "wrote " ++ rest) → ((rest : List ℕ) → text ≢ codes "fetched " ++ rest) → ((rest : List ℕ) → text ≢ codes "low " ++ rest) → LogRow base line (text ∷ [])
 bare_of started text e w f l = named_row (codes "started") text (whole text (codes "started" ∷ []) e) started
 bare_of halted text e w f l = named_row (codes "halted") text (whole text (codes "halted" ∷ []) e) halted
 bare_of reset text e w f l = named_row (codes "reset") text (whole text (codes "reset" ∷ []) e) reset
@@ -89,73 +106,95 @@ bare_of (wrote {address = address} {digits = digits} ram h k) text e w f l = abs
 bare_of (fetched {address = address} {digits = digits} h k) text e w f l = absurd (f (address ++ 32 ∷ digits) (whole text (codes "fetched" ∷ address ∷ digits ∷ []) e))
 bare_of (low {address = address} {digits = digits} h k) text e w f l = absurd (l (address ++ 32 ∷ digits) (whole text (codes "low" ∷ address ∷ digits ∷ []) e))
 
-pub bare_row : {line : Line} (text : List ℕ) → LogRow line (parts text)
-    → ((rest : List ℕ) → text ≢ codes "wrote " ++ rest) → ((rest : List ℕ) → text ≢ codes "fetched " ++ rest) → ((rest : List ℕ) → text ≢ codes "low " ++ rest) → LogRow line (text ∷ [])
+pub bare_row : {base : Option ℕ} {line : Line} (text : List ℕ) → LogRow base line (parts text)
+    → ((rest : List ℕ) → text ≢ codes "wrote " ++ rest) → ((rest : List ℕ) → text ≢ codes "fetched " ++ rest) → ((rest : List ℕ) → text ≢ codes "low " ++ rest) → LogRow base line (text ∷ [])
 bare_row text row w f l = bare_of row text refl w f l
 
 -- ---- what is read of a line with numbers
 
-pub wrote_made : (text rest : List ℕ) {a byte : ℕ} → text ≡ codes "wrote " ++ rest → a < 0x800 → AreNumbers 2 a byte rest → LogRow (wrote_line a byte) (parts text)
-wrote_made text rest is ram numbers = subst (LogRow (wrote_line _ _)) (sym (ap parts is ∙ ap (λ ps. codes "wrote" ∷ ps) (number_parts numbers))) (wrote ram numbers.address numbers.number)
+pub wrote_made : {base : Option ℕ} (text rest : List ℕ) {a byte : ℕ} → text ≡ codes "wrote " ++ rest → AreWritten base a byte rest → LogRow base (wrote_line a byte) (parts text)
+wrote_made {base = base} text rest is w = subst (LogRow base (wrote_line _ _)) (sym (ap parts is ∙ ap (λ ps. codes "wrote" ∷ ps) (written_parts w))) (wrote w.ram w.address w.byte_is)
 
-pub fetched_made : (text rest : List ℕ) {a word : ℕ} → text ≡ codes "fetched " ++ rest → AreNumbers 4 a word rest → LogRow (fetched_line a word) (parts text)
-fetched_made text rest is numbers = subst (LogRow (fetched_line _ _)) (sym (ap parts is ∙ ap (λ ps. codes "fetched" ∷ ps) (number_parts numbers))) (fetched numbers.address numbers.number)
+pub fetched_made : {base : Option ℕ} (text rest : List ℕ) {a word : ℕ} → text ≡ codes "fetched " ++ rest → AreNumbers 3 4 a word rest → LogRow base (fetched_line a word) (parts text)
+fetched_made {base = base} text rest is numbers = subst (LogRow base (fetched_line _ _)) (sym (ap parts is ∙ ap (λ ps. codes "fetched" ∷ ps) (number_parts numbers))) (fetched numbers.address numbers.number)
 
-pub low_made : (text rest : List ℕ) {a byte : ℕ} → text ≡ codes "low " ++ rest → AreNumbers 2 a byte rest → LogRow (low_line a byte) (parts text)
-low_made text rest is numbers = subst (LogRow (low_line _ _)) (sym (ap parts is ∙ ap (λ ps. codes "low" ∷ ps) (number_parts numbers))) (low numbers.address numbers.number)
+pub low_made : {base : Option ℕ} (text rest : List ℕ) {a byte : ℕ} → text ≡ codes "low " ++ rest → AreNumbers 3 2 a byte rest → LogRow base (low_line a byte) (parts text)
+low_made {base = base} text rest is numbers = subst (LogRow base (low_line _ _)) (sym (ap parts is ∙ ap (λ ps. codes "low" ∷ ps) (number_parts numbers))) (low numbers.address numbers.number)
 
 -- the numbers that a row has, as they stand after the name
 pub record Numbers (count : ℕ) (made : ℕ → ℕ → Line) (line : Line) (bytes : List ℕ) : Type 0 where
   pub a : ℕ
   pub n : ℕ
   pub is : line ≡ made a n
-  pub numbers : AreNumbers count a n bytes
+  pub numbers : AreNumbers 3 count a n bytes
 
 numbers_in : {count : ℕ} {made : ℕ → ℕ → Line} {line : Line} (bytes : List ℕ) → NumberRow count made line (parts bytes) → Numbers count made line bytes
 numbers_in bytes row = record { a = row.a; n = row.n; is = row.is; numbers = numbers_of bytes row }
 
-pub wrote_numbers : {line : Line} (text rest : List ℕ) → text ≡ codes "wrote " ++ rest → LogRow line (parts text) → Numbers 2 wrote_line line rest
-wrote_numbers text rest is row = numbers_in rest (wrote_row (subst (LogRow _) (ap parts is) row))
+-- the same of a write in the RAM
+pub record Written (base : Option ℕ) (line : Line) (bytes : List ℕ) : Type 0 where
+  pub a : ℕ
+  pub n : ℕ
+  pub is : line ≡ wrote_line a n
+  pub written : AreWritten base a n bytes
 
-pub fetched_numbers : {line : Line} (text rest : List ℕ) → text ≡ codes "fetched " ++ rest → LogRow line (parts text) → Numbers 4 fetched_line line rest
-fetched_numbers text rest is row = numbers_in rest (fetched_row (subst (LogRow _) (ap parts is) row))
+written_in : {base : Option ℕ} {line : Line} (bytes : List ℕ) → WrittenRow base line (parts bytes) → Written base line bytes
+written_in bytes row = record {
+  a = row.a;
+  n = row.n;
+  is = row.is;
+  written = record { front = row.front; back = row.back; split = whole bytes (row.front ∷ row.back ∷ []) row.split; ram = row.ram; address = row.address; byte_is = row.byte_is };
+}
 
-pub low_numbers : {line : Line} (text rest : List ℕ) → text ≡ codes "low " ++ rest → LogRow line (parts text) → Numbers 2 low_line line rest
-low_numbers text rest is row = numbers_in rest (low_row (subst (LogRow _) (ap parts is) row))
+pub wrote_numbers : {base : Option ℕ} {line : Line} (text rest : List ℕ) → text ≡ codes "wrote " ++ rest → LogRow base line (parts text) → Written base line rest
+wrote_numbers {base = base} text rest is row = written_in rest (wrote_row (subst (LogRow base _) (ap parts is) row))
+
+pub fetched_numbers : {base : Option ℕ} {line : Line} (text rest : List ℕ) → text ≡ codes "fetched " ++ rest → LogRow base line (parts text) → Numbers 4 fetched_line line rest
+fetched_numbers {base = base} text rest is row = numbers_in rest (fetched_row (subst (LogRow base _) (ap parts is) row))
+
+pub low_numbers : {base : Option ℕ} {line : Line} (text rest : List ℕ) → text ≡ codes "low " ++ rest → LogRow base line (parts text) → Numbers 2 low_line line rest
+low_numbers {base = base} text rest is row = numbers_in rest (low_row (subst (LogRow base _) (ap parts is) row))
 
 -- ---- what is read of a whole line
 
-pub logged_by : (text : List ℕ) (answer : Option LogLine) → length text ≤ 64 → is_passed (strip_carriage_return text) ≡ false → IfSome answer (λ found. LogRow (line_of found) (parts (small (strip_carriage_return text)))) → IfSome answer (λ found. Tells (line_of found) text)
-logged_by text None short not row = tt
-logged_by text (Some found) short not row = logged short not row
+pub logged_by : (base : Option ℕ) (text : List ℕ) (answer : Option LogLine) → length text ≤ 64 → is_passed (strip_carriage_return text) ≡ false → IfSome answer (λ found. LogRow base (line_of found) (parts (small (strip_carriage_return text)))) → IfSome answer (λ found. Tells base (line_of found) text)
+logged_by base text None short not row = tt
+logged_by base text (Some found) short not row = logged short not row
 
-pub row_of : {line : Line} (text : List ℕ) → is_passed (strip_carriage_return text) ≡ false → Tells line text → LogRow line (parts (small (strip_carriage_return text)))
+pub row_of : {base : Option ℕ} {line : Line} (text : List ℕ) → is_passed (strip_carriage_return text) ≡ false → Tells base line text → LogRow base line (parts (small (strip_carriage_return text)))
 row_of text not (passed short is) = absurd (true≢false (sym is ∙ not))
 row_of text not (logged short is row) = row
 
-pub passed_alone : {line : Line} (text : List ℕ) → is_passed (strip_carriage_return text) ≡ true → Tells line text → Tick ⟼ Acted Idle ≡ line
+pub passed_alone : {base : Option ℕ} {line : Line} (text : List ℕ) → is_passed (strip_carriage_return text) ≡ true → Tells base line text → Tick ⟼ Acted Idle ≡ line
 passed_alone text is (passed short also) = refl
 passed_alone text is (logged short not row) = absurd (true≢false (sym is ∙ not))
 
-pub bare_parts : (text : List ℕ) (answer : Option LogLine) → IfSome answer (λ found. LogRow (line_of found) (text ∷ [])) → IfSome answer (λ found. LogRow (line_of found) (parts text))
-bare_parts text None row = tt
-bare_parts text (Some found) row = subst (LogRow (line_of found)) (sym (alone row)) row
+pub bare_parts : (base : Option ℕ) (text : List ℕ) (answer : Option LogLine) → IfSome answer (λ found. LogRow base (line_of found) (text ∷ [])) → IfSome answer (λ found. LogRow base (line_of found) (parts text))
+bare_parts base text None row = tt
+bare_parts base text (Some found) row = subst (LogRow base (line_of found)) (sym (alone row)) row
 
 -- ---- numbers that are read
 
-module _ {count a n : ℕ} {bytes : List ℕ} (numbers : AreNumbers count a n bytes) where
-  pub front_hex : IsHex 3 a (take 3 bytes)
+module _ {width count a n : ℕ} {bytes : List ℕ} (numbers : AreNumbers width count a n bytes) where
+  pub front_hex : IsHex width a (take width bytes)
   front_hex =
       let size = numbers.address.size in
-      let is : take 3 bytes ≡ numbers.front = ap (take 3) numbers.split ∙ (ap (λ k. take k (numbers.front ++ 32 ∷ numbers.back)) (sym size) ∙ take-append_seam numbers.front (32 ∷ numbers.back)) in
-      subst (IsHex 3 a) (sym is) numbers.address
+      let is : take width bytes ≡ numbers.front = ap (take width) numbers.split ∙ (ap (λ k. take k (numbers.front ++ 32 ∷ numbers.back)) (sym size) ∙ take-append_seam numbers.front (32 ∷ numbers.back)) in
+      subst (IsHex width a) (sym is) numbers.address
 
-  pub back_hex : IsHex count n (take (length bytes - 4) (drop 4 bytes))
+  pub back_hex : IsHex count n (take (length bytes - (width + 1)) (drop (width + 1) bytes))
   back_hex =
       let size = numbers.address.size in
-      let four : 4 ≡ length numbers.front + 1 = omega arith in
-      let is : drop 4 bytes ≡ numbers.back = ap (drop 4) numbers.split ∙ (ap (λ k. drop k (numbers.front ++ 32 ∷ numbers.back)) four ∙ drop-append-add numbers.front (32 ∷ numbers.back) 1) in
-      subst (IsHex count n) (sym (take_rest bytes 4 ∙ is)) numbers.number
+      let past : width + 1 ≡ length numbers.front + 1 = omega arith in
+      let is : drop (width + 1) bytes ≡ numbers.back = ap (drop (width + 1)) numbers.split ∙ (ap (λ k. drop k (numbers.front ++ 32 ∷ numbers.back)) past ∙ drop-append-add numbers.front (32 ∷ numbers.back) 1) in
+      subst (IsHex count n) (sym (take_rest bytes (width + 1) ∙ is)) numbers.number
+
+-- the numbers of a write, with a base and without
+pub based : {base : Option ℕ} {b a byte : ℕ} {bytes : List ℕ} → base ≡ Some b → AreWritten base a byte bytes → AreNumbers 4 2 (b + a) byte bytes
+based {a = a} is w = record { front = w.front; back = w.back; split = w.split; address = subst (λ base. IsWrittenAt base a w.front) is w.address; number = w.byte_is }
+
+pub unbased : {base : Option ℕ} {a byte : ℕ} {bytes : List ℕ} → base ≡ None → AreWritten base a byte bytes → AreNumbers 3 2 a byte bytes
+unbased {a = a} is w = record { front = w.front; back = w.back; split = w.split; address = subst (λ base. IsWrittenAt base a w.front) is w.address; number = w.byte_is }
 
 -- one line is made of the same numbers
 pub same_line : (made : ℕ → ℕ → Line) (a b x y : ℕ) (line : Line) → ◌≡◌ {A = Option (ℕ × ℕ)} (Some (a, b)) (Some (x, y)) → line ≡ made x y → made a b ≡ line

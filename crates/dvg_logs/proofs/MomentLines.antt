@@ -5,8 +5,13 @@ use Rattle.std.specs.List.{count_by}
 use Rattle.std.proofs.lemmas.Option.{none-some}
 use Rattle.dvg_log.specs.Entries.{Shown}
 use Rattle.dvg_log.specs.Events.{Happening}
-use Rattle.dvg_log.specs.declared.entry.Entry.TheVariants.{Started, Fetched}
-use Rattle.dvg_log.specs.declared.event.Event.TheVariants.{Fetch, Strobe}
+use Rattle.dvg_driver.specs.declared.action.Action.TheVariants.{Idle, Wrote}
+use Rattle.dvg_log.specs.declared.entry.Entry.TheVariants.{Acted, Cleared, Started, Fetched}
+use Rattle.dvg_log.specs.declared.event.Event.TheVariants.{Fetch, ResetGen, Strobe, Tick}
+use Rattle.dvg_print.specs.declared.moment_verdict.MomentVerdict.{MomentVerdict}
+use Rattle.dvg_logs.specs.LogLineTells.{line_of}
+use Rattle.dvg_logs.specs.declared.log_line.LogLine.{LogLine}
+use Rattle.dvg_logs.specs.declared.log_line.LogLine.TheVariants as code
 use Rattle.dvg_log.specs.Log.{◌⟼◌, Line, Log, open_run}
 use Rattle.dvg_moment.specs.Judging.{IsTorn}
 use Rattle.dvg_moment.specs.Moment.{Contradicts, OfOneMoment, reads, told}
@@ -14,7 +19,7 @@ use Rattle.dvg_moment.proofs.Latest.{past_on, still_of_one, torn_on}
 use Rattle.dvg_print.specs.declared.moment_verdict.Reading.{Reading}
 use Rattle.dvg_print.specs.declared.moment_verdict.Reading.TheVariants as of
 use Rattle.dvg_logs.specs.LogCounts.{begins}
-use Rattle.dvg_logs.specs.MomentLogs.{TornSince, judged_log, halted_of, halts_run, has_judged, has_read, reading_entry}
+use Rattle.dvg_logs.specs.MomentLogs.{AreDecided, IsSound, TornSince, judged_log, halted_of, halts_run, has_judged, has_read, reading_entry}
 use Rattle.dvg_logs.specs.MomentLines.{TearsSo}
 use Rattle.dvg_logs.specs.declared.moment_lines.Tear.{Tear}
 
@@ -113,3 +118,19 @@ judged_on line log halts read before is has so = rw (is, has, so) refl
 -- what reads nothing contradicts nothing
 pub silent_sound : (log : Log) (entry : Shown) → ((a : ℕ) → reads log entry a ≡ None) → ¬ Contradicts log entry
 silent_sound log entry none is = none-some is.1 (sym (none is.0) ∙ is.4)
+
+-- ---- what is said of lines that decide
+
+pub sound_more : (said : List MomentVerdict) (event : Happening) (entry : Shown) (log : Log) → IsSound log event entry → AreDecided said log → AreDecided said ((event ⟼ entry) ∷ log)
+sound_more [] event entry log sound are = (sound, are)
+sound_more (one ∷ said) event entry log sound are = inl (sound, are)
+
+-- a line that reads nothing, and ends no run, decides nothing
+pub quiet_more : (logged : LogLine) (said : List MomentVerdict) (log : Log) → ((address byte : ℕ) → logged ≡ code.Low address byte → ⊥) → ((address word : ℕ) → logged ≡ code.Fetched address word → ⊥) → (logged ≡ code.Halted → ⊥) → AreDecided said log → AreDecided said (line_of logged ∷ log)
+quiet_more code.Passed said log low fetched halted are = sound_more said Tick (Acted Idle) log (λ contradicts. let (a, byte, other, ram, read, told, differs) = contradicts in absurd cc) are
+quiet_more code.Started said log low fetched halted are = sound_more said Strobe Started log (λ contradicts. let (a, byte, other, ram, read, told, differs) = contradicts in absurd cc) are
+quiet_more (code.Wrote address byte) said log low fetched halted are = sound_more said Tick (Acted (Wrote address byte)) log (λ contradicts. let (a, byte, other, ram, read, told, differs) = contradicts in absurd cc) are
+quiet_more code.Reset said log low fetched halted are = sound_more said ResetGen Cleared log (λ contradicts. let (a, byte, other, ram, read, told, differs) = contradicts in absurd cc) are
+quiet_more (code.Low address byte) said log low fetched halted are = absurd (low address byte refl)
+quiet_more (code.Fetched address word) said log low fetched halted are = absurd (fetched address word refl)
+quiet_more code.Halted said log low fetched halted are = absurd (halted refl)

@@ -1,5 +1,5 @@
 -- Lines that tell numbers, at the head of a text.
-use Rattle.std.proofs.Common.{◌≡◌, ◌<◌, ◌≤◌, ◌+◌, ◌*◌, ◌-◌, ℕ, List, [], ◌∷◌, ◌++◌, length, get_or, take, drop, min, refl, sym, ap, ◌∙◌, subst, arith, eqb, false, append_assoc, append-nil, length-append, bit_or, codes, zero, suc}
+use Rattle.std.proofs.Common.{◌≡◌, ◌<◌, ◌≤◌, ◌+◌, ◌*◌, ◌-◌, ℕ, List, [], ◌∷◌, ◌++◌, length, get_or, take, drop, min, refl, sym, ap, ◌∙◌, subst, arith, eqb, false, append_assoc, append-nil, length-append, bit_or, codes, zero, suc, Option, None}
 use Rattle.std.specs.Prelude.{⊤}
 use Rattle.std.specs.Char.{digit_value, to_ascii_lowercase}
 use Rattle.std.specs.Str.Lines.{strip_carriage_return}
@@ -12,7 +12,7 @@ use Rattle.std.proofs.lemmas.List.Elements.{All-cons}
 use Rattle.dvg_log.specs.Log.{Line, Log}
 use Rattle.dvg_read.specs.Texts.{IsHex, is_passed, parts}
 use Rattle.dvg_logs.specs.LogLines.{LogRow, Tells, logged, small}
-use Rattle.dvg_logs.specs.LogLineTells.{AreNumbers, BeginsWithNumbers}
+use Rattle.dvg_logs.specs.LogLineTells.{AreNumbers, AreWritten, BeginsWithNumbers}
 use Rattle.dvg_logs.specs.declared.log_reading.JudgedLines.{JudgedLines}
 use Rattle.dvg_logs.specs.LogReading.{HasJudged, HeadLine, IsOpen, IsRead, TakesLine, TakesLines}
 use Rattle.dvg_logs.proofs.LogReads.{first_read, line_off}
@@ -110,26 +110,26 @@ module _ (c : ℕ) (no_digit : 16 ≤ digit_value c) where
   both_lack [] other none h = h
   both_lack (byte ∷ bytes) other (none, more) h = (none, both_lack bytes other more h)
 
-  pub numbers_lack : (space : eqb 32 c ≡ false) {count a n : ℕ} {bytes : List ℕ} → AreNumbers count a n bytes → Lacks bytes
+  pub numbers_lack : (space : eqb 32 c ≡ false) {count a n : ℕ} {bytes : List ℕ} → AreNumbers 3 count a n bytes → Lacks bytes
   numbers_lack space numbers =
       let back = lacking numbers.back numbers.number.digits in
       subst Lacks (sym numbers.split)
       (both_lack numbers.front (32 ∷ numbers.back) (lacking numbers.front numbers.address.digits) (space, back))
 
-  pub line_lacks : (space : eqb 32 c ≡ false) {count a n : ℕ} {bytes : List ℕ} (name : List ℕ) → Lacks name → AreNumbers count a n bytes → All (λ byte. eqb byte c ≡ false) (name ++ bytes)
+  pub line_lacks : (space : eqb 32 c ≡ false) {count a n : ℕ} {bytes : List ℕ} (name : List ℕ) → Lacks name → AreNumbers 3 count a n bytes → All (λ byte. eqb byte c ≡ false) (name ++ bytes)
   line_lacks space {bytes = bytes} name none numbers = none_of (name ++ bytes) (both_lack name bytes none (numbers_lack space numbers))
 
 pub numbers : {count a n : ℕ} {front back : List ℕ} → IsHex 3 a front → IsHex count n back
-    → AreNumbers count a n (front ++ 32 ∷ back)
+    → AreNumbers 3 count a n (front ++ 32 ∷ back)
 numbers {front = front} {back = back} address number =
     record { front = front; back = back; split = refl; address = address; number = number }
 
 -- so a name with its space, numbers and an end are a line at a text's head
-number_head : {count a n : ℕ} {text rest : List ℕ} (line : Line) (name : List ℕ)
+number_head : {count a n : ℕ} {text rest : List ℕ} (Holds : Option ℕ → Type 0) (line : Line) (name : List ℕ)
     (begins : BeginsWithNumbers count a n text rest) → Lacks 10 (omega arith) name → Lacks 13 (omega arith) name → small name ≡ name
     → length name + count ≤ 60 → is_passed (name ++ begins.bytes) ≡ false
-    → LogRow line (parts (name ++ small begins.bytes)) → HeadLine line (name ++ text) rest
-number_head {rest = rest} line name begins none no_cr in_small few not row =
+    → ((base : Option ℕ) → Holds base → LogRow base line (parts (name ++ small begins.bytes))) → HeadLine Holds line (name ++ text) rest
+number_head {rest = rest} Holds line name begins none no_cr in_small few not row =
     let bytes = begins.bytes in
     let numbers = begins.numbers in
     let size = length-append numbers.front (32 ∷ numbers.back) in
@@ -139,7 +139,7 @@ number_head {rest = rest} line name begins none no_cr in_small few not row =
       line = name ++ bytes;
       split = ap (λ l. name ++ l) begins.split ∙ sym (append_assoc name bytes (10 ∷ rest));
       unended = line_lacks 10 (omega arith) refl name none numbers;
-      tells = logged (omega (
+      tells = λ base holds. logged (omega (
         arith,
         length-append name bytes,
         ap length numbers.split,
@@ -147,62 +147,73 @@ number_head {rest = rest} line name begins none no_cr in_small few not row =
         numbers.address.size,
         numbers.number.size,
         few,
-      )) (ap is_passed whole ∙ not) (subst (λ text. LogRow line (parts text)) (sym lowered) row);
+      )) (ap is_passed whole ∙ not) (subst (λ text. LogRow base line (parts text)) (sym lowered) (row base holds));
     }
 
+-- without a base
+written : {a byte : ℕ} {bytes : List ℕ} → a < 0x800 → AreNumbers 3 2 a byte bytes → AreWritten None a byte bytes
+written ram numbers = record { front = numbers.front; back = numbers.back; split = numbers.split; ram = ram; address = numbers.address; byte_is = numbers.number }
+
 pub wrote_head : {a n : ℕ} {text rest : List ℕ} → BeginsWithNumbers 2 a n text rest → a < 0x800
-    → HeadLine (wrote_line a n) (codes "wrote " ++ text) rest
+    → HeadLine (λ base. base ≡ None) (wrote_line a n) (codes "wrote " ++ text) rest
 wrote_head {a} {n} begins ram =
-    number_head (wrote_line a n) (codes "wrote ") begins (refl, (refl, (refl, (refl, (refl, (refl, tt)))))) (refl, (refl, (refl, (refl, (refl, (refl, tt)))))) refl (omega arith) refl
-    (wrote_made (codes "wrote " ++ small begins.bytes) (small begins.bytes) refl ram (small_numbers begins.numbers))
+    number_head (λ base. base ≡ None) (wrote_line a n) (codes "wrote ") begins (refl, (refl, (refl, (refl, (refl, (refl, tt)))))) (refl, (refl, (refl, (refl, (refl, (refl, tt)))))) refl (omega arith) refl
+    (λ base none. subst (λ base. LogRow base (wrote_line a n) (parts (codes "wrote " ++ small begins.bytes))) (sym none)
+    (wrote_made (codes "wrote " ++ small begins.bytes) (small begins.bytes) refl (written ram (small_numbers begins.numbers))))
 
 pub low_head : {a n : ℕ} {text rest : List ℕ} → BeginsWithNumbers 2 a n text rest
-    → HeadLine (low_line a n) (codes "low " ++ text) rest
+    → HeadLine (λ base. Unit {0}) (low_line a n) (codes "low " ++ text) rest
 low_head {a} {n} begins =
-    number_head (low_line a n) (codes "low ") begins (refl, (refl, (refl, (refl, tt)))) (refl, (refl, (refl, (refl, tt)))) refl (omega arith) refl
-    (low_made (codes "low " ++ small begins.bytes) (small begins.bytes) refl (small_numbers begins.numbers))
+    number_head (λ base. Unit {0}) (low_line a n) (codes "low ") begins (refl, (refl, (refl, (refl, tt)))) (refl, (refl, (refl, (refl, tt)))) refl (omega arith) refl
+    (λ base holds. low_made (codes "low " ++ small begins.bytes) (small begins.bytes) refl (small_numbers begins.numbers))
 
 pub fetched_head : {a n : ℕ} {text rest : List ℕ} → BeginsWithNumbers 4 a n text rest
-    → HeadLine (fetched_line a n) (codes "fetched " ++ text) rest
+    → HeadLine (λ base. Unit {0}) (fetched_line a n) (codes "fetched " ++ text) rest
 fetched_head {a} {n} begins =
-    number_head (fetched_line a n) (codes "fetched ") begins (refl, (refl, (refl, (refl, (refl, (refl, (refl, (refl, tt)))))))) (refl, (refl, (refl, (refl, (refl, (refl, (refl, (refl, tt)))))))) refl (omega arith) refl
-    (fetched_made (codes "fetched " ++ small begins.bytes) (small begins.bytes) refl (small_numbers begins.numbers))
+    number_head (λ base. Unit {0}) (fetched_line a n) (codes "fetched ") begins (refl, (refl, (refl, (refl, (refl, (refl, (refl, (refl, tt)))))))) (refl, (refl, (refl, (refl, (refl, (refl, (refl, (refl, tt)))))))) refl (omega arith) refl
+    (λ base holds. fetched_made (codes "fetched " ++ small begins.bytes) (small begins.bytes) refl (small_numbers begins.numbers))
 
 -- ---- lines that are taken
 
-pub line_taken : {J : Type 0} {Stands : J → Log → Type 0} {Passes : Log → Type 0} {old new : JudgedLines J} {logged : Line} {text rest : List ℕ} → HeadLine logged text rest
-    → ((before : List (List ℕ)) (line : List ℕ) → HasJudged Stands Passes old before → Tells logged line → HasJudged Stands Passes new (before ++ line ∷ [])) → TakesLine Stands Passes old new text rest
-line_taken head takes = record { line = head.line; split = head.split; unended = head.unended; judged = λ before judged. takes before head.line judged head.tells }
+module _ {J V : Type 0} {Stands : J → Log → Type 0} {Passes : List V → Log → Type 0} where
+  pub line_taken : {Holds : Option ℕ → Type 0} {old new : JudgedLines J} {logged : Line} {text rest : List ℕ} → HeadLine Holds logged text rest → ((base : Option ℕ) → old.base ≡ base → Holds base)
+      → ((base : Option ℕ) (said : List V) (before : List (List ℕ)) (line : List ℕ) → HasJudged base Stands (Passes said) old before → Tells base logged line → HasJudged base Stands (Passes said) new (before ++ line ∷ [])) → TakesLine Stands Passes old new text rest
+  line_taken head holds takes = record {
+    line = head.line;
+    split = head.split;
+    unended = head.unended;
+    judged = λ base said before judged. takes base said before head.line judged (head.tells base (holds base judged.based));
+  }
 
-pub none_taken : {J : Type 0} {Stands : J → Log → Type 0} {Passes : Log → Type 0} (judged : JudgedLines J) (text : List ℕ) → TakesLines Stands Passes judged judged text text
-none_taken {Stands = Stands} {Passes = Passes} judged text = record {
-  front = [];
-  split = refl;
-  read = λ before read. subst (IsRead Stands Passes judged []) (sym (append-nil before)) read;
-  farther = omega arith;
-  some = λ some. absurd (omega (arith, some));
-}
+  pub none_taken : (judged : JudgedLines J) (text : List ℕ) → TakesLines Stands Passes judged judged text text
+  none_taken judged text = record {
+    front = [];
+    split = refl;
+    read = λ base said before read. subst (IsRead base Stands (Passes said) judged []) (sym (append-nil before)) read;
+    farther = omega arith;
+    some = λ some. absurd (omega (arith, some));
+  }
 
-pub one_taken : {J : Type 0} {Stands : J → Log → Type 0} {Passes : Log → Type 0} {old between new : JudgedLines J} {text rest after : List ℕ} → TakesLines Stands Passes old between text rest → TakesLine Stands Passes between new rest after → new.count ≡ between.count + 1 → TakesLines Stands Passes old new text after
-one_taken {Stands = Stands} {Passes = Passes} {new = new} {text = text} {rest = rest} {after = after} lines line count = record {
-  front = lines.front ++ (line.line ++ 10 ∷ []);
-  split = line_off lines.front line.line after rest text lines.split line.split;
-  read = λ before read. let so_far = lines.read before read in
-      subst (IsRead Stands Passes new []) (append_assoc before lines.front (line.line ++ 10 ∷ []))
-      (first_read line.line so_far line.unended refl new (line.judged so_far.texts so_far.fine));
-  farther = omega (arith, count, lines.farther);
-  some = λ some. omega (arith, count, lines.farther);
-}
+  pub one_taken : {old between new : JudgedLines J} {text rest after : List ℕ} → TakesLines Stands Passes old between text rest → TakesLine Stands Passes between new rest after → new.count ≡ between.count + 1 → TakesLines Stands Passes old new text after
+  one_taken {new = new} {text = text} {rest = rest} {after = after} lines line count = record {
+    front = lines.front ++ (line.line ++ 10 ∷ []);
+    split = line_off lines.front line.line after rest text lines.split line.split;
+    read = λ base said before read. let so_far = lines.read base said before read in
+        subst (IsRead base Stands (Passes said) new []) (append_assoc before lines.front (line.line ++ 10 ∷ []))
+        (first_read line.line so_far line.unended refl new (line.judged base said so_far.texts so_far.fine));
+    farther = omega (arith, count, lines.farther);
+    some = λ some. omega (arith, count, lines.farther);
+  }
 
--- what is left gets shorter
-pub shorter : {J : Type 0} {Stands : J → Log → Type 0} {Passes : Log → Type 0} {old new : JudgedLines J} {text rest : List ℕ} → TakesLine Stands Passes old new text rest → length rest < length text
-shorter {rest = rest} line = omega (arith, ap length line.split, length-append line.line (10 ∷ rest))
+  -- what is left gets shorter
+  pub shorter : {old new : JudgedLines J} {text rest : List ℕ} → TakesLine Stands Passes old new text rest → length rest < length text
+  shorter {rest = rest} line = omega (arith, ap length line.split, length-append line.line (10 ∷ rest))
 
--- after a text that ends with a line
-pub lines_read : {J : Type 0} {Stands : J → Log → Type 0} {Passes : Log → Type 0} {old new : JudgedLines J} {unfinished text after rest : List ℕ} (lines : TakesLines Stands Passes old new after rest) → unfinished ≡ [] → IsRead Stands Passes old unfinished text → IsRead Stands Passes new unfinished (text ++ lines.front)
-lines_read {Stands = Stands} {Passes = Passes} {old = old} {new = new} {text = text} lines none read =
-    subst (λ l. IsRead Stands Passes new l (text ++ lines.front)) (sym none) (lines.read text (subst (λ l. IsRead Stands Passes old l text) none read))
+  -- after a text that ends with a line
+  pub lines_read : {old new : JudgedLines J} {unfinished text after rest : List ℕ} (lines : TakesLines Stands Passes old new after rest) (base : Option ℕ) (said : List V) → unfinished ≡ [] → IsRead base Stands (Passes said) old unfinished text → IsRead base Stands (Passes said) new unfinished (text ++ lines.front)
+  lines_read {old = old} {new = new} {text = text} lines base said none read =
+      subst (λ l. IsRead base Stands (Passes said) new l (text ++ lines.front)) (sym none) (lines.read base said text (subst (λ l. IsRead base Stands (Passes said) old l text) none read))
 
--- and of a piece, of which this front was read before
-pub lines_off : {J : Type 0} {Stands : J → Log → Type 0} {Passes : Log → Type 0} {old new : JudgedLines J} {after rest : List ℕ} (front piece : List ℕ) (lines : TakesLines Stands Passes old new after rest) → piece ≡ front ++ after → piece ≡ (front ++ lines.front) ++ rest
-lines_off {rest = rest} front piece lines is = is ∙ (ap (λ l. front ++ l) lines.split ∙ sym (append_assoc front lines.front rest))
+  -- and of a piece, of which this front was read before
+  pub lines_off : {old new : JudgedLines J} {after rest : List ℕ} (front piece : List ℕ) (lines : TakesLines Stands Passes old new after rest) → piece ≡ front ++ after → piece ≡ (front ++ lines.front) ++ rest
+  lines_off {rest = rest} front piece lines is = is ∙ (ap (λ l. front ++ l) lines.split ∙ sym (append_assoc front lines.front rest))

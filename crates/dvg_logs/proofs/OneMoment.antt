@@ -49,16 +49,17 @@ halt_of n read (event ⟼ Still) log since = absurd since
 halt_of n read (event ⟼ Cleared) log since = absurd since
 
 -- a line that decides isn't sound
-unsound : (verdict : MomentVerdict) (line : Line) (log : Log) → Decides verdict line log → ¬ Of IsSound log line
+pub unsound : (verdict : MomentVerdict) (line : Line) (log : Log) → Decides verdict line log → ¬ Of IsSound log line
 unsound (say.Whole runs halted) line log decides sound = absurd decides
 unsound (say.NoRun runs halted) line log decides sound = absurd decides
+unsound (say.SomeTorn runs halted torn) line log decides sound = absurd decides
 unsound (say.Torn n read) line log decides sound =
     let halt = halt_of n read line log decides in
     halt.sound sound (torn_of (judged_log log) n (Fetch ⟼ reading_entry read) halt.since)
 unsound (say.Contradicts n (of.Low address byte)) line log (is, at, contradicts) sound = subst (Of IsSound log) is sound contradicts
 unsound (say.Contradicts n (of.Fetched address word)) line log (is, at, contradicts) sound = subst (Of IsSound log) is sound contradicts
 
-found_stops : {texts : List (List ℕ)} {n : ℕ} {verdict : MomentVerdict} (found : IsFoundAt (Throughout IsSound) Decides texts n verdict) → StopsAt IsSound texts (length found.before)
+found_stops : {base : Option ℕ} {texts : List (List ℕ)} {n : ℕ} {verdict : MomentVerdict} (found : IsFoundAt base (Throughout IsSound) Decides texts n verdict) → StopsAt base IsSound texts (length found.before)
 found_stops {verdict = verdict} found = record {
   before = found.before;
   line = found.text;
@@ -92,9 +93,12 @@ no_halt : (n m : ℕ) (read other : Reading) (line : Line) (log : Log) → Decid
 no_halt n m read other line log decides is =
     true≢false (sym (halt_of n read line log decides).halts ∙ (ap halts is ∙ reading_halts other))
 
-decides_once : (one other : MomentVerdict) (line : Line) (log : Log) → Decides one line log → Decides other line log → other ≡ one
+pub decides_once : (one other : MomentVerdict) (line : Line) (log : Log) → Decides one line log → Decides other line log → other ≡ one
 decides_once (say.Whole runs halted) other line log a b = absurd a
 decides_once (say.NoRun runs halted) other line log a b = absurd a
+decides_once (say.SomeTorn runs halted torn) other line log a b = absurd a
+decides_once (say.Torn n read) (say.SomeTorn runs halted torn) line log a b = absurd b
+decides_once (say.Contradicts n read) (say.SomeTorn runs halted torn) line log a b = absurd b
 decides_once (say.Torn n read) (say.Whole runs halted) line log a b = absurd b
 decides_once (say.Torn n read) (say.NoRun runs halted) line log a b = absurd b
 decides_once (say.Torn n read) (say.Torn m other) line log a b =
@@ -110,18 +114,18 @@ decides_once (say.Contradicts n read) (say.Contradicts m other) line log a b =
     let same = read_once other read (sym b.0 ∙ a.0) in
     let number : m ≡ n = b.1 ∙ sym a.1 in rw (number, same) refl
 
-found_once : (texts : List (List ℕ)) (n m : ℕ) (one other : MomentVerdict) → IsFoundAt (Throughout IsSound) Decides texts n one → IsFoundAt (Throughout IsSound) Decides texts m other → other ≡ one
-found_once texts n m one other a b =
+found_once : {base : Option ℕ} (texts : List (List ℕ)) (n m : ℕ) (one other : MomentVerdict) → IsFoundAt base (Throughout IsSound) Decides texts n one → IsFoundAt base (Throughout IsSound) Decides texts m other → other ≡ one
+found_once {base = base} texts n m one other a b =
     let at = one_stop IsSound (found_stops b) (found_stops a) in
     let line = same_lines b.before a.before b.text a.text b.after a.after b.cut a.cut at in
     let before = same_fronts b.before a.before b.text a.text b.after a.after b.cut a.cut at in
-    let log = log_once b.log a.log a.before (subst (IsLogOf b.log) before b.fine.tells) a.fine.tells in
-    let said = tells_once b.line a.line a.text (subst (Tells b.line) line b.tells) a.tells in
+    let log = log_once _ b.log a.log a.before (subst (IsLogOf base b.log) before b.fine.tells) a.fine.tells in
+    let said = tells_once b.line a.line a.text (subst (Tells base b.line) line b.tells) a.tells in
     decides_once one other a.line a.log a.finds (subst (λ line. Decides other line a.log) said (subst (Decides other b.line) log b.finds))
 
 -- ---- what is said at the end
 
-ends_once : (one other : MomentVerdict) (log : Log) → Ends one log → Ends other log → other ≡ one
+pub ends_once : (one other : MomentVerdict) (log : Log) → Ends one log → Ends other log → other ≡ one
 ends_once (say.Whole r h) (say.Whole s k) log (a, b, c) (x, y, z) = let p : s ≡ r = x ∙ sym a in let q : k ≡ h = y ∙ sym b in rw (p, q) refl
 ends_once (say.NoRun r h) (say.NoRun s k) log (a, b, c) (x, y, z) = let p : s ≡ r = x ∙ sym a in let q : k ≡ h = y ∙ sym b in rw (p, q) refl
 ends_once (say.Whole r h) (say.NoRun s k) log (a, b, c) (x, y, z) = absurd (true≢false (sym c ∙ z))
@@ -130,25 +134,23 @@ ends_once (say.Whole r h) (say.Torn n read) log a b = absurd b
 ends_once (say.Whole r h) (say.Contradicts n read) log a b = absurd b
 ends_once (say.NoRun r h) (say.Torn n read) log a b = absurd b
 ends_once (say.NoRun r h) (say.Contradicts n read) log a b = absurd b
+ends_once (say.Whole r h) (say.SomeTorn s k t) log a b = absurd b
+ends_once (say.NoRun r h) (say.SomeTorn s k t) log a b = absurd b
+ends_once (say.SomeTorn s k t) other log a b = absurd a
 ends_once (say.Torn n read) other log a b = absurd a
 ends_once (say.Contradicts n read) other log a b = absurd a
 
 -- ---- the laws
 
-pub one_moment_verdict : (text : List ℕ) (one other : MomentVerdict) (at end : Option ℕ) → JudgesMoments text one at → JudgesMoments text other end → other ≡ one
-one_moment_verdict text one other None None (log, whole, says) (same, also, ends) =
-    let is = log_once same log (lines text) also.fine.tells whole.fine.tells in
+pub one_moment_verdict : (base : Option ℕ) (text : List ℕ) (one other : MomentVerdict) (at end : Option ℕ) → JudgesMoments base text one at → JudgesMoments base text other end → other ≡ one
+one_moment_verdict base text one other None None (log, whole, says) (same, also, ends) =
+    let is = log_once _ same log (lines text) also.fine.tells whole.fine.tells in
     ends_once one other log says (subst (Ends other) is ends)
-one_moment_verdict text one other None (Some m) (log, whole, says) found = absurd (never_stops IsSound log whole.fine (found_stops found))
-one_moment_verdict text one other (Some n) None found (log, whole, says) = absurd (never_stops IsSound log whole.fine (found_stops found))
-one_moment_verdict text one other (Some n) (Some m) a b = found_once (lines text) n m one other a b
+one_moment_verdict base text one other None (Some m) (log, whole, says) found = absurd (never_stops IsSound log whole.fine (found_stops found))
+one_moment_verdict base text one other (Some n) None found (log, whole, says) = absurd (never_stops IsSound log whole.fine (found_stops found))
+one_moment_verdict base text one other (Some n) (Some m) a b = found_once (lines text) n m one other a b
 
-pub moments_judged_at : (text : List ℕ) (why : LogStop MomentVerdict) → reading.StopsAt (Throughout IsSound) Decides why (lines text) → IsJudgedByMoments text
+pub moments_judged_at : {base : Option ℕ} (text : List ℕ) (why : LogStop MomentVerdict) → reading.StopsAt base (Throughout IsSound) Decides why (lines text) → IsJudgedByMoments base text
 moments_judged_at text (stop.Found n verdict) stops = inl (verdict, Some n, stops)
 moments_judged_at text (stop.Syntax n) stops = inr (Syntax n, stops)
 moments_judged_at text stop.TooLong stops = inr (TooLong, stops)
-
-pub moments_judged_by : (HasRead : List ℕ → Type 0) (text : List ℕ) (answer : Result MomentVerdict (LogStop MomentVerdict)) → HasRead text → IfErr answer (λ stop. (text : List ℕ) → HasRead text → reading.StopsAt (Throughout IsSound) Decides stop (lines text))
-    → IfOk answer (λ verdict. (text : List ℕ) → HasRead text → (log : Log) × IsWhole (Throughout IsSound) (lines text) log × Ends verdict log) → IsJudgedByMoments text
-moments_judged_by HasRead text (Ok verdict) read stops judged = inl (verdict, None, judged text read)
-moments_judged_by HasRead text (Err why) read stops judged = moments_judged_at text why (stops text read)

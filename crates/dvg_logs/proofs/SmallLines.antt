@@ -46,7 +46,7 @@ small_hex {digits = digits} h = record {
 }
 
 -- numbers are the same in small letters
-pub small_numbers : {count a n : ℕ} {bytes : List ℕ} → AreNumbers count a n bytes → AreNumbers count a n (small bytes)
+pub small_numbers : {width count a n : ℕ} {bytes : List ℕ} → AreNumbers width count a n bytes → AreNumbers width count a n (small bytes)
 small_numbers numbers = record {
   front = small numbers.front;
   back = small numbers.back;

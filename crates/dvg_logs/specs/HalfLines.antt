@@ -1,10 +1,10 @@
 -- What is known of the lines of a log by the rule of halves (for private contracts).
-use Rattle.std.specs.Prelude.{◌≡◌, ◌+◌, ℕ, ◌∷◌, length}
+use Rattle.std.specs.Prelude.{◌≡◌, ◌+◌, ℕ, List, [], ◌∷◌, length}
 use Rattle.dvg_driver.specs.declared.action.Action.TheVariants.{Wrote}
 use Rattle.dvg_log.specs.declared.entry.Entry.TheVariants.{Acted}
 use Rattle.dvg_log.specs.declared.event.Event.TheVariants.{Tick}
-use Rattle.dvg_log.specs.Log.{◌⟼◌, Line, Log}
-use Rattle.dvg_log.specs.Torn.{IsTorn}
+use Rattle.dvg_log.specs.Log.{◌⟼◌, Line, Log, Throughout}
+use Rattle.dvg_log.specs.Torn.{IsTorn, IsUntorn}
 use Rattle.dvg_print.specs.declared.log_verdict.LogFinding.TheVariants.{Torn}
 use Rattle.dvg_print.specs.declared.log_verdict.LogVerdict.{LogVerdict}
 use Rattle.dvg_world.specs.Judging.{StandsAfter}
@@ -30,6 +30,11 @@ pub record FindsTorn (verdict : LogVerdict) (line : Line) (log : Log) : Type 0 w
   pub finding : verdict.finding ≡ Torn (length log + 1) address byte
   pub counts : verdict.counts ≡ counts_of (line ∷ log)
 
--- no line is
+-- no line is; after one that is, nothing more is said
+abbrev pub PassesUntorn : List LogVerdict → Log → Type 0
+PassesUntorn [] log = Throughout IsUntorn log
+PassesUntorn (one ∷ said) log = Unit {0}
+
+-- what is said where no line is
 abbrev pub EndsUntorn : LogVerdict → Log → Type 0
 EndsUntorn verdict log = verdict ≡ said_of (counts_of log)

@@ -22,14 +22,14 @@ answer_of (Syntax n) = Err (Text (of_text.Syntax n))
 answer_of TooLong = Err (Text of_text.TooLong)
 
 -- the answer to an input, and what was taken of it
-abbrev pub ReadsAs : {V : Type 0} → (Log → Type 0) → (V → Line → Log → Type 0) → (V → Log → Type 0)
-    → Result V ToolFault → (input : List ℕ) → Option (List ℕ) → Option (List ℕ) → Type 0
-ReadsAs Passes Finds Ends (Ok verdict) input old new =
-    (decided : Option ℕ) × Says Passes Finds Ends verdict (lines input) decided × TakesTo decided input old new
-ReadsAs Passes Finds Ends (Err (Text fault)) input old new =
-    HasFaultIn Passes input fault × TakesAtFault fault input old new
-ReadsAs Passes Finds Ends (Err Reader) input old new = Unit {0}
-ReadsAs Passes Finds Ends (Err _) input old new = ⊥
+abbrev pub ReadsAs : {V : Type 0} → (base : Option ℕ) → (Log → Type 0) → (V → Line → Log → Type 0)
+    → (V → Log → Type 0) → Result V ToolFault → (input : List ℕ) → Option (List ℕ) → Option (List ℕ) → Type 0
+ReadsAs base Passes Finds Ends (Ok verdict) input old new =
+    (decided : Option ℕ) × Says base Passes Finds Ends verdict (lines input) decided × TakesTo decided input old new
+ReadsAs base Passes Finds Ends (Err (Text fault)) input old new =
+    HasFaultIn base Passes input fault × TakesAtFault fault input old new
+ReadsAs base Passes Finds Ends (Err Reader) input old new = Unit {0}
+ReadsAs base Passes Finds Ends (Err _) input old new = ⊥
 
 -- what is found where no line is torn
 abbrev pub found_in : LogCounts → LogFinding
@@ -46,11 +46,12 @@ IsReadingFault Reader = Unit {0}
 IsReadingFault _ = ⊥
 
 -- the answer to an input
-abbrev pub Answers : Result LogVerdict ToolFault → (input : List ℕ) → Type 0
-Answers (Ok verdict) input = JudgesLog input verdict
-Answers (Err (Text fault)) input = HasLogFault input fault
-Answers (Err _) input = Unit {0}
+abbrev pub Answers : (base : Option ℕ) → Result LogVerdict ToolFault → (input : List ℕ) → Type 0
+Answers base (Ok verdict) input = JudgesLog base input verdict
+Answers base (Err (Text fault)) input = HasLogFault base input fault
+Answers base (Err _) input = Unit {0}
 
 -- the same, by the rule of halves
-abbrev pub JudgesInput : Result LogVerdict ToolFault → (input : List ℕ) → Option (List ℕ) → Option (List ℕ) → Type 0
-JudgesInput answer input old new = Answers answer input × Takes answer input old new
+abbrev pub JudgesInput : (base : Option ℕ) → Result LogVerdict ToolFault → (input : List ℕ) → Option (List ℕ)
+    → Option (List ℕ) → Type 0
+JudgesInput base answer input old new = Answers base answer input × Takes base answer input old new

@@ -10,3 +10,5 @@ pub mod HalfLines
 pub mod MomentLogs
 pub mod MomentLines
 pub mod MomentTears
+pub mod AllTears
+pub mod Telling

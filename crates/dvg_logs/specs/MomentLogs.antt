@@ -51,6 +51,13 @@ Decides (say.Contradicts n reading) line log = (line ≡ Fetch ⟼ reading_entry
     × Contradicts (judged_log log) (reading_entry reading)
 Decides verdict line log = ⊥
 
+-- this was said of the lines of a log that decide, the newest first, and of no other line
+abbrev pub AreDecided : List MomentVerdict → Log → Type 0
+AreDecided [] log = Throughout IsSound log
+AreDecided (one ∷ said) [] = ⊥
+AreDecided (one ∷ said) ((event ⟼ entry) ∷ log) = (IsSound log event entry × AreDecided (one ∷ said) log)
+    ⊎ (Decides one (event ⟼ entry) log × AreDecided said log)
+
 -- the newest run has fetched something
 abbrev pub has_read : Log → Bool
 has_read [] = false

@@ -14,30 +14,32 @@ use Rattle.dvg_logs.specs.MomentLogs.{Decides, Ends, IsSound}
 use Rattle.dvg_logs.specs.Tears.{TakesAtFault, TakesTo}
 
 -- this is said of the text of a log: at line n, or at its end
-abbrev pub JudgesMoments : (text : List ℕ) → MomentVerdict → Option ℕ → Type 0
-JudgesMoments text verdict decided = Says (Throughout IsSound) Decides Ends verdict (lines text) decided
+abbrev pub JudgesMoments : (base : Option ℕ) → (text : List ℕ) → MomentVerdict → Option ℕ → Type 0
+JudgesMoments base text verdict decided = Says base (Throughout IsSound) Decides Ends verdict (lines text) decided
 
 -- the fault of a log's text, before which no line decides
-abbrev pub HasMomentFault : List ℕ → TextFault → Type 0
-HasMomentFault = HasFaultIn (Throughout IsSound)
+abbrev pub HasMomentFault : (base : Option ℕ) → List ℕ → TextFault → Type 0
+HasMomentFault base = HasFaultIn base (Throughout IsSound)
 
 -- what `torn --moments` answers to an input, and what went out: the verdict's text, or at `Writer` a beginning of it
 -- (that nothing went out at the others is a clause of its own)
-abbrev pub MomentTears : Result MomentVerdict ToolFault → (input : List ℕ) → Option (List ℕ) → Option (List ℕ) → Type 0
-MomentTears (Ok verdict) input old new = ((decided : Option ℕ) × JudgesMoments input verdict decided)
+abbrev pub MomentTears : (base : Option ℕ) → Result MomentVerdict ToolFault → (input : List ℕ) → Option (List ℕ)
+    → Option (List ℕ) → Type 0
+MomentTears base (Ok verdict) input old new = ((decided : Option ℕ) × JudgesMoments base input verdict decided)
     × Appends old new (moment_verdict_text verdict)
-MomentTears (Err (Text fault)) input old new = HasMomentFault input fault
-MomentTears (Err Writer) input old new = (verdict : MomentVerdict)
-    × ((decided : Option ℕ) × JudgesMoments input verdict decided)
+MomentTears base (Err (Text fault)) input old new = HasMomentFault base input fault
+MomentTears base (Err Writer) input old new = (verdict : MomentVerdict)
+    × ((decided : Option ℕ) × JudgesMoments base input verdict decided)
     × BeginsToWrite (moment_verdict_text verdict) old new
-MomentTears (Err Reader) input old new = Unit {0}
-MomentTears (Err Memory) input old new = ⊥
+MomentTears base (Err Reader) input old new = Unit {0}
+MomentTears base (Err Memory) input old new = ⊥
 
 -- what it took of an input, by its answer: all of it, or up to the line that decides
-abbrev pub MomentTakes : Result MomentVerdict ToolFault → (input : List ℕ) → Option (List ℕ) → Option (List ℕ) → Type 0
-MomentTakes (Ok verdict) input old new =
-    (decided : Option ℕ) × JudgesMoments input verdict decided × TakesTo decided input old new
-MomentTakes (Err (Text fault)) input old new = TakesAtFault fault input old new
-MomentTakes (Err Writer) input old new = (verdict : MomentVerdict) × (decided : Option ℕ)
-    × JudgesMoments input verdict decided × TakesTo decided input old new
-MomentTakes (Err _) input old new = Unit {0}
+abbrev pub MomentTakes : (base : Option ℕ) → Result MomentVerdict ToolFault → (input : List ℕ) → Option (List ℕ)
+    → Option (List ℕ) → Type 0
+MomentTakes base (Ok verdict) input old new =
+    (decided : Option ℕ) × JudgesMoments base input verdict decided × TakesTo decided input old new
+MomentTakes base (Err (Text fault)) input old new = TakesAtFault fault input old new
+MomentTakes base (Err Writer) input old new = (verdict : MomentVerdict) × (decided : Option ℕ)
+    × JudgesMoments base input verdict decided × TakesTo decided input old new
+MomentTakes base (Err _) input old new = Unit {0}

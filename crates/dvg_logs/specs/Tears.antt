@@ -15,13 +15,14 @@ use Rattle.dvg_logs.specs.LogTexts.{HasLogFault, JudgesLog}
 
 -- what `torn` answers to an input, and what went out: the verdict's text, or at `Writer` a beginning of it (that
 -- nothing went out at the others is a clause of its own)
-abbrev pub Tears : Result LogVerdict ToolFault → (input : List ℕ) → Option (List ℕ) → Option (List ℕ) → Type 0
-Tears (Ok verdict) input old new = JudgesLog input verdict × Appends old new (log_verdict_text verdict)
-Tears (Err (Text fault)) input old new = HasLogFault input fault
-Tears (Err Writer) input old new = (verdict : LogVerdict) × JudgesLog input verdict
+abbrev pub Tears : (base : Option ℕ) → Result LogVerdict ToolFault → (input : List ℕ) → Option (List ℕ)
+    → Option (List ℕ) → Type 0
+Tears base (Ok verdict) input old new = JudgesLog base input verdict × Appends old new (log_verdict_text verdict)
+Tears base (Err (Text fault)) input old new = HasLogFault base input fault
+Tears base (Err Writer) input old new = (verdict : LogVerdict) × JudgesLog base input verdict
     × BeginsToWrite (log_verdict_text verdict) old new
-Tears (Err Reader) input old new = Unit {0}
-Tears (Err Memory) input old new = ⊥
+Tears base (Err Reader) input old new = Unit {0}
+Tears base (Err Memory) input old new = ⊥
 
 -- the bytes of lines with their ends; 10 is LF
 abbrev pub ended : List (List ℕ) → List ℕ
@@ -49,9 +50,10 @@ TakesFor NoRunDrew input old new = Consumes old new input × IsAtEnd new
 TakesFor (Torn n address byte) input old new = TakesUpTo n input old new
 
 -- what `torn` took of an input, by its answer
-abbrev pub Takes : Result LogVerdict ToolFault → (input : List ℕ) → Option (List ℕ) → Option (List ℕ) → Type 0
-Takes (Ok verdict) input old new = TakesFor verdict.finding input old new
-Takes (Err (Text fault)) input old new = TakesAtFault fault input old new
-Takes (Err Writer) input old new = (verdict : LogVerdict) × JudgesLog input verdict
+abbrev pub Takes : (base : Option ℕ) → Result LogVerdict ToolFault → (input : List ℕ) → Option (List ℕ)
+    → Option (List ℕ) → Type 0
+Takes base (Ok verdict) input old new = TakesFor verdict.finding input old new
+Takes base (Err (Text fault)) input old new = TakesAtFault fault input old new
+Takes base (Err Writer) input old new = (verdict : LogVerdict) × JudgesLog base input verdict
     × TakesFor verdict.finding input old new
-Takes (Err _) input old new = Unit {0}
+Takes base (Err _) input old new = Unit {0}

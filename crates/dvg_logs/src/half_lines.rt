@@ -133,15 +133,13 @@ impl HalfLines {
 }
 
 impl LineJudge for HalfLines {
-    ghost use Rattle.dvg_log.specs.Log.{Throughout};
-    ghost use Rattle.dvg_log.specs.Torn.{IsUntorn};
-    ghost use Rattle.dvg_logs.specs.HalfLines.{EndsUntorn, FindsTorn, StandsSo};
+    ghost use Rattle.dvg_logs.specs.HalfLines.{EndsUntorn, FindsTorn, PassesUntorn, StandsSo};
 
     type Verdict = LogVerdict;
 
     ghost Stands = { StandsSo };
 
-    ghost Passes = { Throughout IsUntorn };
+    ghost Passes = { PassesUntorn };
 
     ghost Finds = { FindsTorn };
 

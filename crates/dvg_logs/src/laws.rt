@@ -1,7 +1,8 @@
 //! Laws of the texts of logs. Each is the contract of a function that does nothing, but two, which
 //! read the text.
 ghost use Rattle.dvg_logs.specs.LogLaws.{IsJudged, IsJudgedByMoments, NoVerdictBesideFault};
-ghost use Rattle.dvg_logs.specs.LogLaws.{OneLogFault, OneLogVerdict, OneMomentVerdict};
+ghost use Rattle.dvg_logs.specs.LogLaws.{OneAllVerdict, OneLogFault, OneLogVerdict};
+ghost use Rattle.dvg_logs.specs.LogLaws.{OneMomentVerdict};
 
 use crate::half_lines::HalfLines;
 use crate::log_reading::LogReading;
@@ -24,15 +25,18 @@ pub fn no_verdict_beside_fault()
 
 /// A verdict is given of each `text`, or it has a fault. That one of them holds is shown by what a
 /// reading of it comes to.
-pub fn each_is_judged(text: &[u8])
-    ensures { IsJudged text.now }
+pub fn each_is_judged(text: &[u8], base: Option<u16>)
+    ensures { IsJudged base text.now }
 {
-    let mut reading = LogReading::new(HalfLines::new());
+    let mut reading = LogReading::new(HalfLines::new(), base);
     match reading.take_piece(text) {
-        Ok(()) => {
-            let _end = reading.finish();
-        }
-        Err(_stop) => {}
+        Ok(()) => match reading.finish() {
+            Ok(()) => {
+                let _end = reading.at_end();
+            }
+            Err(_stop) => {}
+        },
+        Err(_stopped) => {}
     }
 }
 
@@ -41,15 +45,23 @@ pub fn one_moment_verdict()
     ensures { OneMomentVerdict }
 {}
 
+/// Of the text of a log one list of torn runs is told at most, and one verdict after them.
+pub fn one_all_verdict()
+    ensures { OneAllVerdict }
+{}
+
 /// Like `each_is_judged`, by moments.
-pub fn each_is_judged_by_moments(text: &[u8])
-    ensures { IsJudgedByMoments text.now }
+pub fn each_is_judged_by_moments(text: &[u8], base: Option<u16>)
+    ensures { IsJudgedByMoments base text.now }
 {
-    let mut reading = LogReading::new(MomentLines::new());
+    let mut reading = LogReading::new(MomentLines::new(), base);
     match reading.take_piece(text) {
-        Ok(()) => {
-            let _end = reading.finish();
-        }
-        Err(_stop) => {}
+        Ok(()) => match reading.finish() {
+            Ok(()) => {
+                let _end = reading.at_end();
+            }
+            Err(_stop) => {}
+        },
+        Err(_stopped) => {}
     }
 }

@@ -1,10 +1,11 @@
 //! Lines of logs.
-ghost use Rattle.std.specs.Prelude.{◌≡◌, ◌≤◌, [], ◌∷◌, ℕ, length, IfSome, IsSomeAnd, Some};
+ghost use Rattle.std.specs.Prelude.{◌≡◌, ◌+◌, ◌<◌, ◌≤◌, [], ◌∷◌, ℕ, Option, length, IfSome};
+ghost use Rattle.std.specs.Prelude.{IsSomeAnd, Some};
 ghost use Rattle.std.specs.Str.Lines.{strip_carriage_return};
 ghost use Rattle.dvg_read.specs.Texts.{parts};
 ghost use Rattle.dvg_log.specs.Log.{Line};
 ghost use Rattle.dvg_logs.specs.LogLines.{LogRow, Tells, small};
-ghost use Rattle.dvg_logs.specs.LogLineTells.{AreNumbers, line_of};
+ghost use Rattle.dvg_logs.specs.LogLineTells.{AreNumbers, AreWritten, line_of};
 
 use arrayvec::ArrayVec;
 use dvg_read::{hex, is_passed};
@@ -43,9 +44,12 @@ pub enum LogLine {
 /// `reset`. One space stands between the parts. Or it is passed over, as it is empty or begins with
 /// `#`. An address has three hexadecimal digits, a word four and a byte two. Letters are of either
 /// case, and a CR may stand at the end. A line has at most 64 bytes.
-pub fn read_log_line(line: &[u8]) -> Option<LogLine>
-    ensures found { IfSome result (λ logged. Tells (line_of logged) line.now) }
-    ensures only { (logged : Line) → Tells logged line.now
+///
+/// With a `base` the address after `wrote` is one of the processor, in four digits. The RAM lies
+/// there from the base on.
+pub fn read_log_line(line: &[u8], base: Option<u16>) -> Option<LogLine>
+    ensures found { IfSome result (λ logged. Tells base (line_of logged) line.now) }
+    ensures only { (logged : Line) → Tells base logged line.now
         → IsSomeAnd result (λ found. line_of found ≡ logged) }
 {
     if line.len() > MOST_LINE_BYTES {
@@ -56,7 +60,7 @@ pub fn read_log_line(line: &[u8]) -> Option<LogLine>
         return Some(LogLine::Passed);
     }
     let small = in_small_letters(line);
-    row(small.as_slice())
+    row(small.as_slice(), base)
 }
 
 // Returns `line` without a CR at its end.
@@ -84,48 +88,101 @@ fn in_small_letters(line: &[u8]) -> ArrayVec<u8, MOST_LINE_BYTES>
 }
 
 // Returns what `line` says, which is in small letters and isn't passed over.
-fn row(line: &[u8]) -> Option<LogLine>
-    ensures found { IfSome result (λ logged. LogRow (line_of logged) (parts line.now)) }
-    ensures only { (logged : Line) → LogRow logged (parts line.now)
+fn row(line: &[u8], base: Option<u16>) -> Option<LogLine>
+    ensures found { IfSome result (λ logged. LogRow base (line_of logged) (parts line.now)) }
+    ensures only { (logged : Line) → LogRow base logged (parts line.now)
         → IsSomeAnd result (λ found. line_of found ≡ logged) }
 {
     if let Some(rest) = line.strip_prefix(b"wrote ") {
-        let (address, byte) = numbers(rest, 2)?;
-        if address >= RAM_END {
-            return None;
-        }
-        Some(LogLine::Wrote(address, byte as u8))
+        let (address, byte) = written(rest, base)?;
+        Some(LogLine::Wrote(address, byte))
     } else if let Some(rest) = line.strip_prefix(b"fetched ") {
-        let (address, word) = numbers(rest, 4)?;
+        let (address, word) = numbers(rest, 3, 4)?;
         Some(LogLine::Fetched(address, word))
     } else if let Some(rest) = line.strip_prefix(b"low ") {
-        let (address, byte) = numbers(rest, 2)?;
+        let (address, byte) = numbers(rest, 3, 2)?;
         Some(LogLine::Low(address, byte as u8))
     } else {
         bare(line)
     }
 }
 
-// Returns the address and the number that `bytes` spell: three hexadecimal digits, one space, and
+// Returns the address and the number that `bytes` spell: `width` hexadecimal digits, one space, and
 // as many digits as `digits` says.
-fn numbers(bytes: &[u8], digits: usize) -> Option<(u16, u16)>
-    requires { digits ≤ 4 }
-    ensures found { IfSome result (λ numbers. AreNumbers digits numbers.0 numbers.1 bytes.now) }
-    ensures only { (address number : ℕ) → AreNumbers digits address number bytes.now
+fn numbers(bytes: &[u8], width: usize, digits: usize) -> Option<(u16, u16)>
+    requires { (width ≤ 4) × (digits ≤ 4) }
+    ensures found { IfSome result (λ numbers.
+        AreNumbers width digits numbers.0 numbers.1 bytes.now) }
+    ensures only { (address number : ℕ) → AreNumbers width digits address number bytes.now
         → result ≡ Some (address, number) }
 {
-    if bytes.len() != 4 + digits || bytes[3] != b' ' {
+    if bytes.len() != width + 1 + digits || bytes[width] != b' ' {
         return None;
     }
-    let address = hex(&bytes[..3], 3)?;
-    let number = hex(&bytes[4..], digits)?;
+    let address = hex(&bytes[..width], width)?;
+    let number = hex(&bytes[width + 1..], digits)?;
     Some((address, number))
+}
+
+// Returns the byte address of the RAM that the processor has at `address`, where the RAM begins at
+// `base`. The processor's address may be below it.
+fn lowered(address: u16, base: u16) -> Option<u16>
+    ensures some { IfSome result (λ a. address ≡ base + a) }
+    ensures only { (a : ℕ) → address ≡ base + a → result ≡ Some a }
+{
+    if address < base {
+        return None;
+    }
+    Some(address - base)
+}
+
+// Returns the byte address and the byte that `bytes` spell, at an address of the processor. That has
+// the RAM from `base` on.
+fn based(bytes: &[u8], base: u16) -> Option<(u16, u16)>
+    ensures found { IfSome result (λ w. AreNumbers 4 2 (base + w.0) w.1 bytes.now) }
+    ensures only { (address byte : ℕ) → AreNumbers 4 2 (base + address) byte bytes.now
+        → result ≡ Some (address, byte) }
+{
+    let (address, byte) = numbers(bytes, 4, 2)?;
+    let within = lowered(address, base)?;
+    Some((within, byte))
+}
+
+// Returns the byte address `address` and the byte `byte`, if the address is one of the RAM.
+fn in_ram(address: u16, byte: u16) -> Option<(u16, u8)>
+    requires { byte < 256 }
+    ensures some { IfSome result (λ w. (w.0 ≡ address) × (w.1 ≡ byte) × (address < 0x800)) }
+    ensures only { address < 0x800 → result ≡ Some (address, byte) }
+{
+    if address >= RAM_END {
+        return None;
+    }
+    Some((address, byte as u8))
+}
+
+// Returns the byte address and the byte that `bytes` spell, of a write in the RAM.
+fn written(bytes: &[u8], base: Option<u16>) -> Option<(u16, u8)>
+    ensures found { IfSome result (λ w. AreWritten base w.0 w.1 bytes.now) }
+    ensures only { (address byte : ℕ) → AreWritten base address byte bytes.now
+        → result ≡ Some (address, byte) }
+{
+    match base {
+        Some(base) => {
+            let (address, byte) = based(bytes, base)?;
+            in_ram(address, byte)
+        }
+        None => {
+            let (address, byte) = numbers(bytes, 3, 2)?;
+            in_ram(address, byte)
+        }
+    }
 }
 
 // Returns what `name` alone says.
 fn bare(name: &[u8]) -> Option<LogLine>
-    ensures found { IfSome result (λ logged. LogRow (line_of logged) (name.now ∷ [])) }
-    ensures only { (logged : Line) → LogRow logged (name.now ∷ [])
+    ensures found { (base : Option ℕ) → IfSome result (λ logged.
+        LogRow base (line_of logged) (name.now ∷ [])) }
+    ensures only { (base : Option ℕ) (logged : Line) → LogRow base logged (name.now ∷ [])
         → IsSomeAnd result (λ found. line_of found ≡ logged) }
 {
     match name {

@@ -1,13 +1,13 @@
 //! The text of a log, as it is read in pieces.
-ghost use Rattle.std.specs.Prelude.{◌≡◌, ◌+◌, ◌-◌, ◌^◌, ◌<◌, [], ◌∷◌, ◌++◌, ℕ, List, length, IfErr};
-ghost use Rattle.std.specs.Prelude.{IfOk, IsTrue, OnOk};
+ghost use Rattle.std.specs.Prelude.{◌≡◌, ◌+◌, ◌-◌, ◌^◌, ◌<◌, ◌≤◌, [], ◌∷◌, ◌++◌, ℕ, List, Option};
+ghost use Rattle.std.specs.Prelude.{IfErr, IsTrue, OnOk, length};
 ghost use Rattle.dvg_log.specs.Log.{Line, Log};
 ghost use Rattle.dvg_read.specs.Texts.{lines};
 ghost use Rattle.dvg_logs.specs.LogLines.{Tells};
 ghost use Rattle.dvg_logs.specs.LogTexts.{IsWhole};
 ghost use Rattle.dvg_logs.specs.LogLineTells.{line_of};
-ghost use Rattle.dvg_logs.specs.LogReading.{HasJudged, HasRead, IsOpen, StopsAt};
-ghost use Rattle.dvg_logs.specs.LogReading.{number_of, place_of};
+ghost use Rattle.dvg_logs.specs.LogReading.{GoesOn, HasJudged, HasRead, IsOpen, JudgesOn};
+ghost use Rattle.dvg_logs.specs.LogReading.{ReadsOn, StopsAt, number_of, place_of};
 
 use crate::line_judge::LineJudge;
 use crate::log_line::{LogLine, MOST_LINE_BYTES, read_log_line};
@@ -25,10 +25,20 @@ pub enum LogStop<V> {
     TooLong,
 }
 
-/// The lines that have ended. None of them decides, and none is at fault.
+/// Why the reading stops in a piece of a text, and what of the piece comes after the line by which
+/// it does.
+#[derive(Clone, Copy)]
+pub struct Stopped<'a, V> {
+    pub stop: LogStop<V>,
+    pub rest: &'a [u8],
+}
+
+/// The lines that have ended. None of them is at fault.
 #[derive(Clone, Copy)]
 pub struct JudgedLines<J> {
     judge: J,
+    /// Where the processor has the RAM, if lines `wrote` have its addresses.
+    pub base: Option<u16>,
     /// How many there are.
     pub count: usize,
 }
@@ -36,9 +46,12 @@ pub struct JudgedLines<J> {
 impl<J: LineJudge> JudgedLines<J> {
     // Returns why the next line stops the reading, where it says nothing that a line may say.
     fn wrong(&self) -> LogStop<J::Verdict>
-        ensures stop { (before : List (List ℕ)) (line : List ℕ) (after : List (List ℕ))
-            → HasJudged J.Stands J.Passes self.now before → ((logged : Line) → ¬ Tells logged line)
-            → StopsAt J.Passes J.Finds result (before ++ line ∷ after) }
+        ensures stop { (base : Option ℕ) (said : List J.Verdict) (before : List (List ℕ))
+            (line : List ℕ) (after : List (List ℕ))
+            → HasJudged base J.Stands (J.Passes said) self.now before
+            → ((logged : Line) → ¬ Tells base logged line)
+            → StopsAt base (J.Passes said) J.Finds result (before ++ line ∷ after) }
+        ensures on { GoesOn result (λ one. ⊥) }
         ensures next { number_of result ≡ self.now.count + 1 }
     {
         if self.count == usize::MAX {
@@ -47,13 +60,19 @@ impl<J: LineJudge> JudgedLines<J> {
         LogStop::Syntax(self.count + 1)
     }
 
-    // Takes the next line, `line`. Returns why the reading stops there, if it does.
+    // Takes the next line, `line`. Returns why the reading stops there, if it does. A line that
+    // decides is taken, too, so the reading may go on after it.
     fn take(&mut self, line: &[u8]) -> Result<(), LogStop<J::Verdict>>
-        ensures taken { (before : List (List ℕ)) → HasJudged J.Stands J.Passes self.old before
-            → OnOk result (HasJudged J.Stands J.Passes self.new (before ++ line.now ∷ [])) }
-        ensures stop { IfErr result (λ stop. (before after : List (List ℕ))
-            → HasJudged J.Stands J.Passes self.old before
-            → StopsAt J.Passes J.Finds stop (before ++ line.now ∷ after)) }
+        ensures taken { (base : Option ℕ) (said : List J.Verdict) (before : List (List ℕ))
+            → HasJudged base J.Stands (J.Passes said) self.old before
+            → OnOk result
+            (HasJudged base J.Stands (J.Passes said) self.new (before ++ line.now ∷ [])) }
+        ensures stop { IfErr result (λ stop. (base : Option ℕ) (said : List J.Verdict)
+            (before after : List (List ℕ))
+            → HasJudged base J.Stands (J.Passes said) self.old before
+            → StopsAt base (J.Passes said) J.Finds stop (before ++ line.now ∷ after)) }
+        ensures on { IfErr result (λ stop.
+            GoesOn stop (JudgesOn J.Stands J.Passes self.old self.new line.now)) }
         ensures next { IfErr result (λ stop. number_of stop ≡ self.old.count + 1) }
         ensures count { OnOk result (self.new.count ≡ self.old.count + 1) }
     {
@@ -61,16 +80,15 @@ impl<J: LineJudge> JudgedLines<J> {
             return Err(LogStop::TooLong);
         }
         let number = self.count + 1;
-        let Some(logged) = read_log_line(line) else {
+        let Some(logged) = read_log_line(line, self.base) else {
             return Err(LogStop::Syntax(number));
         };
-        match self.judge.find(number, logged) {
+        let found = self.judge.find(number, logged);
+        self.judge.take(number, logged);
+        self.count = number;
+        match found {
             Some(verdict) => Err(LogStop::Found(number, verdict)),
-            None => {
-                self.judge.take(number, logged);
-                self.count = number;
-                Ok(())
-            }
+            None => Ok(()),
         }
     }
 
@@ -79,9 +97,11 @@ impl<J: LineJudge> JudgedLines<J> {
     #[inline(always)]
     pub fn take_logged(&mut self, logged: LogLine) -> bool
         requires room { self.old.count < 2 ^ 64 - 1 }
-        ensures taken { IsTrue result → (before : List (List ℕ)) (line : List ℕ)
-            → HasJudged J.Stands J.Passes self.old before → Tells (line_of logged) line
-            → HasJudged J.Stands J.Passes self.new (before ++ line ∷ []) }
+        ensures taken { IsTrue result → (base : Option ℕ) (said : List J.Verdict)
+            (before : List (List ℕ)) (line : List ℕ)
+            → HasJudged base J.Stands (J.Passes said) self.old before
+            → Tells base (line_of logged) line
+            → HasJudged base J.Stands (J.Passes said) self.new (before ++ line ∷ []) }
         ensures count { IsTrue result → self.new.count ≡ self.old.count + 1 }
         ensures found { ¬ IsTrue result → self.new ≡ self.old }
     {
@@ -105,11 +125,17 @@ pub struct LogReading<J> {
 
 impl<J: LineJudge> LogReading<J> {
     /// Returns the reading before the first piece, whose lines `judge` is told. It was told none.
-    pub fn new(judge: J) -> LogReading<J>
-        ensures { J.Stands judge [] → J.Passes [] → HasRead J.Stands J.Passes result [] }
+    /// With a `base`, lines `wrote` have addresses of the processor.
+    pub fn new(judge: J, base: Option<u16>) -> LogReading<J>
+        ensures { J.Stands judge [] → J.Passes [] []
+            → HasRead base J.Stands (J.Passes []) result [] }
     {
         LogReading {
-            judged: JudgedLines { judge, count: 0 },
+            judged: JudgedLines {
+                judge,
+                base,
+                count: 0,
+            },
             unfinished: ArrayVec::new(),
         }
     }
@@ -117,15 +143,19 @@ impl<J: LineJudge> LogReading<J> {
     // Takes `bytes` of a line, without its end.
     fn begin_line(&mut self, bytes: &[u8]) -> Result<(), LogStop<J::Verdict>>
         requires { IsOpen bytes.now }
-        ensures read { (text : List ℕ) → HasRead J.Stands J.Passes self.old text
-            → OnOk result (HasRead J.Stands J.Passes self.new (text ++ bytes.now)) }
-        ensures stop { IfErr result (λ stop. (text more : List ℕ)
-            → HasRead J.Stands J.Passes self.old text
-            → StopsAt J.Passes J.Finds stop (lines (text ++ (bytes.now ++ more)))) }
+        ensures read { (base : Option ℕ) (said : List J.Verdict) (text : List ℕ)
+            → HasRead base J.Stands (J.Passes said) self.old text
+            → OnOk result (HasRead base J.Stands (J.Passes said) self.new (text ++ bytes.now)) }
+        ensures stop { IfErr result (λ stop. (base : Option ℕ) (said : List J.Verdict)
+            (text more : List ℕ)
+            → HasRead base J.Stands (J.Passes said) self.old text
+            → StopsAt base (J.Passes said) J.Finds stop (lines (text ++ (bytes.now ++ more)))) }
+        ensures on { IfErr result (λ stop. GoesOn stop (λ one. ⊥)) }
         ensures next { IfErr result (λ stop. number_of stop ≡ self.old.judged.count + 1) }
         ensures bytes { OnOk result (self.new.unfinished.items
             ≡ self.old.unfinished.items ++ bytes.now) }
         ensures judged { OnOk result (self.new.judged ≡ self.old.judged) }
+        ensures fits { OnOk result (length self.new.unfinished.items ≤ 64) }
     {
         match self.unfinished.try_extend_from_slice(bytes) {
             Ok(()) => Ok(()),
@@ -136,11 +166,16 @@ impl<J: LineJudge> LogReading<J> {
     // Takes `bytes`, the last ones of a line, and its end.
     fn end_line(&mut self, bytes: &[u8]) -> Result<(), LogStop<J::Verdict>>
         requires { IsOpen bytes.now }
-        ensures read { (text : List ℕ) → HasRead J.Stands J.Passes self.old text
-            → OnOk result (HasRead J.Stands J.Passes self.new (text ++ (bytes.now ++ 10 ∷ []))) }
-        ensures stop { IfErr result (λ stop. (text more : List ℕ)
-            → HasRead J.Stands J.Passes self.old text
-            → StopsAt J.Passes J.Finds stop (lines (text ++ (bytes.now ++ 10 ∷ more)))) }
+        ensures read { (base : Option ℕ) (said : List J.Verdict) (text : List ℕ)
+            → HasRead base J.Stands (J.Passes said) self.old text → OnOk result
+            (HasRead base J.Stands (J.Passes said) self.new (text ++ (bytes.now ++ 10 ∷ []))) }
+        ensures stop { IfErr result (λ stop. (base : Option ℕ) (said : List J.Verdict)
+            (text more : List ℕ)
+            → HasRead base J.Stands (J.Passes said) self.old text
+            → StopsAt base (J.Passes said) J.Finds stop
+            (lines (text ++ (bytes.now ++ 10 ∷ more)))) }
+        ensures on { IfErr result (λ stop. GoesOn stop
+            (ReadsOn J.Stands J.Passes self.old self.new (bytes.now ++ 10 ∷ []) [])) }
         ensures next { IfErr result (λ stop. number_of stop ≡ self.old.judged.count + 1) }
         ensures count { OnOk result (self.new.judged.count ≡ self.old.judged.count + 1) }
         ensures farther { OnOk result (place_of self.old < place_of self.new) }
@@ -158,45 +193,67 @@ impl<J: LineJudge> LogReading<J> {
         taken
     }
 
-    /// Takes `piece`, the next piece of the text. Returns why the reading stops, if it does: at the
-    /// first line that decides or that is at fault.
-    pub fn take_piece(&mut self, piece: &[u8]) -> Result<(), LogStop<J::Verdict>>
-        ensures read { (text : List ℕ) → HasRead J.Stands J.Passes self.old text
-            → OnOk result (HasRead J.Stands J.Passes self.new (text ++ piece.now)) }
-        ensures stop { IfErr result (λ stop. (text more : List ℕ)
-            → HasRead J.Stands J.Passes self.old text
-            → StopsAt J.Passes J.Finds stop (lines (text ++ (piece.now ++ more)))) }
-        ensures later { IfErr result (λ stop. self.old.judged.count < number_of stop) }
+    /// Takes `piece`, the next piece of the text. Returns where the reading stops, if it does: at
+    /// the first line that decides or that is at fault. After one that decides it may go on, with
+    /// the rest of the piece.
+    pub fn take_piece<'a>(&mut self, piece: &'a [u8]) -> Result<(), Stopped<'a, J::Verdict>>
+        ensures read { (base : Option ℕ) (said : List J.Verdict) (text : List ℕ)
+            → HasRead base J.Stands (J.Passes said) self.old text
+            → OnOk result (HasRead base J.Stands (J.Passes said) self.new (text ++ piece.now)) }
+        ensures stop { IfErr result (λ stopped. (base : Option ℕ) (said : List J.Verdict)
+            (text more : List ℕ)
+            → HasRead base J.Stands (J.Passes said) self.old text
+            → StopsAt base (J.Passes said) J.Finds stopped.stop
+            (lines (text ++ (piece.now ++ more)))) }
+        ensures on { IfErr result (λ stopped. GoesOn stopped.stop
+            (ReadsOn J.Stands J.Passes self.old self.new piece.now stopped.rest.now)) }
+        ensures later { IfErr result (λ stopped.
+            self.old.judged.count < number_of stopped.stop) }
         ensures farther { 0 < length piece.now
             → OnOk result (place_of self.old < place_of self.new) }
     {
         let mut rest = piece;
         while let Some(end) = memchr(b'\n', rest) {
+            let after = &rest[end + 1..];
             match self.end_line(&rest[..end]) {
                 Ok(()) => {}
-                Err(stop) => return Err(stop),
+                Err(stop) => return Err(Stopped { stop, rest: after }),
             }
-            rest = self.judged.take_number_lines(&rest[end + 1..]);
+            rest = self.judged.take_number_lines(after);
         }
-        self.begin_line(rest)
+        match self.begin_line(rest) {
+            Ok(()) => Ok(()),
+            Err(stop) => Err(Stopped { stop, rest }),
+        }
     }
 
-    /// Takes the end of the text, which ends a line that has begun. Returns what is said of the log
-    /// of all lines, or why the reading stops at the last one.
-    pub fn finish(self) -> Result<J::Verdict, LogStop<J::Verdict>>
-        ensures read { IfOk result (λ said. (text : List ℕ) → HasRead J.Stands J.Passes self text
-            → (log : Log) × IsWhole J.Passes (lines text) log × J.Ends said log) }
-        ensures stop { IfErr result (λ stop. (text : List ℕ) → HasRead J.Stands J.Passes self text
-            → StopsAt J.Passes J.Finds stop (lines text)) }
-        ensures next { IfErr result (λ stop. number_of stop ≡ self.judged.count + 1) }
+    /// Takes the end of the text, which ends a line that has begun. Returns why the reading stops
+    /// at this last line, if it does.
+    pub fn finish(&mut self) -> Result<(), LogStop<J::Verdict>>
+        ensures read { (base : Option ℕ) (said : List J.Verdict) (text : List ℕ)
+            → HasRead base J.Stands (J.Passes said) self.old text
+            → OnOk result (HasJudged base J.Stands (J.Passes said) self.new.judged (lines text)) }
+        ensures stop { IfErr result (λ stop. (base : Option ℕ) (said : List J.Verdict)
+            (text : List ℕ) → HasRead base J.Stands (J.Passes said) self.old text
+            → StopsAt base (J.Passes said) J.Finds stop (lines text)) }
+        ensures on { IfErr result (λ stop. GoesOn stop (λ one.
+            (base : Option ℕ) (said : List J.Verdict) (text : List ℕ)
+            → HasRead base J.Stands (J.Passes said) self.old text
+            → HasJudged base J.Stands (J.Passes (one ∷ said)) self.new.judged (lines text))) }
+        ensures next { IfErr result (λ stop. number_of stop ≡ self.old.judged.count + 1) }
     {
-        let mut judged = self.judged;
         if self.unfinished.is_empty() {
-            return Ok(judged.judge.at_end());
+            return Ok(());
         }
-        match judged.take(self.unfinished.as_slice()) {
-            Ok(()) => Ok(judged.judge.at_end()),
-            Err(stop) => Err(stop),
-        }
+        self.judged.take(self.unfinished.as_slice())
+    }
+
+    /// Returns what is said of the log of all lines, once the text has ended.
+    pub fn at_end(&self) -> J::Verdict
+        ensures { (base : Option ℕ) (said : List J.Verdict) (texts : List (List ℕ))
+            → HasJudged base J.Stands (J.Passes said) self.now.judged texts
+            → (log : Log) × IsWhole base (J.Passes said) texts log × J.Ends result log }
+    {
+        self.judged.judge.at_end()
     }
 }

@@ -166,15 +166,14 @@ fn contradicted(contradicts: bool, line: usize, reading: Reading) -> Option<Mome
 }
 
 impl LineJudge for MomentLines {
-    ghost use Rattle.dvg_log.specs.Log.{Throughout};
     ghost use Rattle.dvg_logs.specs.MomentLines.{StandsSo};
-    ghost use Rattle.dvg_logs.specs.MomentLogs.{Decides, Ends, IsSound};
+    ghost use Rattle.dvg_logs.specs.MomentLogs.{AreDecided, Decides, Ends};
 
     type Verdict = MomentVerdict;
 
     ghost Stands = { StandsSo };
 
-    ghost Passes = { Throughout IsSound };
+    ghost Passes = { AreDecided };
 
     ghost Finds = { Decides };
 

@@ -74,7 +74,8 @@ impl<J: LineJudge> JudgedLines<J> {
     ghost use Rattle.dvg_logs.specs.LogReading.{TakesLine, TakesLines};
 
     // Takes the rest of a line `wrote` from `text`, after `wrot`: four letters are compared as one
-    // number, and six are not. Returns what comes after the line.
+    // number, and six are not. Returns what comes after the line. One with an address of the
+    // processor isn't taken here.
     #[inline(always)]
     fn take_wrote<'a>(&mut self, text: &'a [u8]) -> Option<&'a [u8]>
         requires room { self.old.count < 2 ^ 64 - 1 }
@@ -83,6 +84,9 @@ impl<J: LineJudge> JudgedLines<J> {
         ensures count { IsSome result → self.new.count ≡ self.old.count + 1 }
         ensures none { IsNone result → self.new ≡ self.old }
     {
+        if self.base.is_some() {
+            return None;
+        }
         let (address, byte, rest) = address_and_byte(text.strip_prefix(b"e ")?)?;
         if address < RAM_END && self.take_logged(LogLine::Wrote(address, byte)) {
             Some(rest)

@@ -14,16 +14,19 @@ use dvg_print::{Line, LogVerdict};
 use std::io::{Read, Write};
 
 // Returns what is said of the text of a log, which comes from `reader`.
-fn judge_halves<R: Read>(reader: &mut Watched<R>) -> Result<LogVerdict, ToolFault>
+fn judge_halves<R: Read>(
+    base: Option<u16>,
+    reader: &mut Watched<R>,
+) -> Result<LogVerdict, ToolFault>
     requires fresh { failures_of reader.old ≡ 0 }
     ensures judges { IfSome (R.remaining (stream_of reader.old))
-        (λ input. JudgesInput result input (R.remaining (stream_of reader.old))
+        (λ input. JudgesInput base result input (R.remaining (stream_of reader.old))
         (R.remaining (stream_of reader.new))) }
     ensures fault { IfErr result IsReadingFault }
     ensures reader { IsErrOf result ToolFault.Reader ↔ (failures_of reader.new ≡ 1) }
     ensures stops { failures_of reader.new ≤ 1 }
 {
-    judge_text(HalfLines::new(), reader)
+    judge_text(HalfLines::new(), base, reader)
 }
 
 // Writes `verdict`, what is said of a log, to `writer`.
@@ -49,7 +52,8 @@ fn write_verdict<W: Write>(writer: &mut Watched<W>, verdict: LogVerdict) -> Resu
 /// - `torn at line N: wrote A B` of the first write in such a half, by its line, its byte address
 ///   and its byte, and on one more line `so far:` and the same numbers up to that line.
 ///
-/// It takes no memory.
+/// It takes no memory. With a `base`, lines `wrote` have addresses of the processor, and the RAM
+/// lies there from the base on.
 ///
 /// - `Syntax`: this line is the first that says nothing that a line may say (see `read_log_line`),
 ///   and none before it is torn.
@@ -63,6 +67,7 @@ fn write_verdict<W: Write>(writer: &mut Watched<W>, verdict: LogVerdict) -> Resu
 pub fn torn<R: Read, W: Write>(
     reader: &mut Watched<R>,
     writer: &mut Watched<W>,
+    base: Option<u16>,
 ) -> Result<LogVerdict, ToolFault>
     requires fresh_reader { failures_of reader.old ≡ 0 }
     requires fresh_writer { failures_of writer.old ≡ 0 }
@@ -70,10 +75,10 @@ pub fn torn<R: Read, W: Write>(
     // Where the reader's bytes are known: what is said, what went out, when each fault of the text
     // comes, what was taken.
     ensures tears { IfSome (R.remaining (stream_of reader.old)) (λ input.
-        Tears result input (W.contents (stream_of writer.old))
+        Tears base result input (W.contents (stream_of writer.old))
         (W.contents (stream_of writer.new))) }
     ensures took { IfSome (R.remaining (stream_of reader.old)) (λ input.
-        Takes result input (R.remaining (stream_of reader.old))
+        Takes base result input (R.remaining (stream_of reader.old))
         (R.remaining (stream_of reader.new))) }
 
     // Whatever the reader and the writer are.
@@ -83,7 +88,7 @@ pub fn torn<R: Read, W: Write>(
     ensures writer { IsErrOf result ToolFault.Writer ↔ (failures_of writer.new ≡ 1) }
     ensures stops { (failures_of reader.new ≤ 1) × (failures_of writer.new ≤ 1) }
 {
-    let verdict = match judge_halves(reader) {
+    let verdict = match judge_halves(base, reader) {
         Ok(verdict) => verdict,
         Err(fault) => return Err(fault),
     };

@@ -12,8 +12,8 @@ use dvg_io::{StreamFailed, ToolFault, Watched, write_lines};
 use dvg_print::{Line, MomentVerdict};
 use std::io::{Read, Write};
 
-// Writes `verdict`, what is said of a log, to `writer`.
-fn write_verdict<W: Write>(
+/// Writes `verdict`, what is said of a log, or of a torn run in it, to `writer`.
+pub(crate) fn write_verdict<W: Write>(
     writer: &mut Watched<W>,
     verdict: MomentVerdict,
 ) -> Result<(), StreamFailed>
@@ -32,8 +32,8 @@ fn write_verdict<W: Write>(
 /// that decides or is at fault, and writes what is said of it to `writer` (the text is this
 /// project's own choice):
 ///
-/// - `torn at line N: ..`, where a run of no moment comes to its HALT: after line N, which is shown,
-///   no moment of it was left. No byte that a run reads may change between its moment and its
+/// - `torn at line N: ..`, where a run of no moment comes to its HALT: after line N, which is
+///   shown, no moment of it was left. No byte that a run reads may change between its moment and its
 ///   reading;
 /// - `line N reads what was not written: ..`, where a line reads another byte than the log told of
 ///   last;
@@ -42,11 +42,13 @@ fn write_verdict<W: Write>(
 /// - `no run to judge:` and the same, where none of these had fetched something.
 ///
 /// `halted` tells no word, so the log before it is judged. `reset` may be one of the whole system:
-/// after it nothing is known of memory. It takes no memory, and its faults are those of `torn`.
+/// after it nothing is known of memory. It takes no memory. Its faults are those of `torn`, and a
+/// `base` means the same.
 #[inline(never)]
 pub fn torn_moments<R: Read, W: Write>(
     reader: &mut Watched<R>,
     writer: &mut Watched<W>,
+    base: Option<u16>,
 ) -> Result<MomentVerdict, ToolFault>
     requires fresh_reader { failures_of reader.old ≡ 0 }
     requires fresh_writer { failures_of writer.old ≡ 0 }
@@ -54,10 +56,10 @@ pub fn torn_moments<R: Read, W: Write>(
     // Where the reader's bytes are known: what is said, what went out, when each fault of the text
     // comes, what was taken.
     ensures tears { IfSome (R.remaining (stream_of reader.old)) (λ input.
-        MomentTears result input (W.contents (stream_of writer.old))
+        MomentTears base result input (W.contents (stream_of writer.old))
         (W.contents (stream_of writer.new))) }
     ensures took { IfSome (R.remaining (stream_of reader.old)) (λ input.
-        MomentTakes result input (R.remaining (stream_of reader.old))
+        MomentTakes base result input (R.remaining (stream_of reader.old))
         (R.remaining (stream_of reader.new))) }
 
     // Whatever the reader and the writer are.
@@ -67,7 +69,7 @@ pub fn torn_moments<R: Read, W: Write>(
     ensures writer { IsErrOf result ToolFault.Writer ↔ (failures_of writer.new ≡ 1) }
     ensures stops { (failures_of reader.new ≤ 1) × (failures_of writer.new ≤ 1) }
 {
-    let verdict = match judge_text(MomentLines::new(), reader) {
+    let verdict = match judge_text(MomentLines::new(), base, reader) {
         Ok(verdict) => verdict,
         Err(fault) => return Err(fault),
     };

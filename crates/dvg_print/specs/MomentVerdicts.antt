@@ -4,7 +4,7 @@ use Rattle.dvg_print.specs.Lines.{spaced, hex_2, hex_3, hex_4}
 use Rattle.dvg_print.specs.declared.moment_verdict.Reading.{Reading}
 use Rattle.dvg_print.specs.declared.moment_verdict.Reading.TheVariants.{Low, Fetched}
 use Rattle.dvg_print.specs.declared.moment_verdict.MomentVerdict.{MomentVerdict}
-use Rattle.dvg_print.specs.declared.moment_verdict.MomentVerdict.TheVariants.{Whole, NoRun, Torn, Contradicts}
+use Rattle.dvg_print.specs.declared.moment_verdict.MomentVerdict.TheVariants.{Whole, NoRun, Torn, Contradicts, SomeTorn}
 
 -- what a fetch brought, as a log says it
 abbrev pub reading_parts : Reading → List (List ℕ)
@@ -16,7 +16,12 @@ abbrev pub runs_halted_text : ℕ → ℕ → List ℕ
 runs_halted_text runs halted = spaced (decimal runs ∷ []) ++ codes " runs," ++ spaced (decimal halted ∷ [])
     ++ codes " halted" ++ 10 ∷ []
 
--- the line of what is said of a log
+-- the same, and how many of these are torn
+abbrev pub runs_torn_text : ℕ → ℕ → ℕ → List ℕ
+runs_torn_text runs halted torn = spaced (decimal runs ∷ []) ++ codes " runs," ++ spaced (decimal halted ∷ [])
+    ++ codes " halted," ++ spaced (decimal torn ∷ []) ++ codes " torn" ++ 10 ∷ []
+
+-- the line of what is said of a log, or of a torn run in it
 abbrev pub moment_verdict_text : MomentVerdict → List ℕ
 moment_verdict_text (Whole runs halted) = codes "whole:" ++ runs_halted_text runs halted
 moment_verdict_text (NoRun runs halted) = codes "no run to judge:" ++ runs_halted_text runs halted
@@ -24,3 +29,4 @@ moment_verdict_text (Torn line reading) = codes "torn at line" ++ spaced (decima
     ++ spaced (reading_parts reading) ++ 10 ∷ []
 moment_verdict_text (Contradicts line reading) = codes "line" ++ spaced (decimal line ∷ [])
     ++ codes " reads what was not written:" ++ spaced (reading_parts reading) ++ 10 ∷ []
+moment_verdict_text (SomeTorn runs halted torn) = codes "in all:" ++ runs_torn_text runs halted torn

@@ -1,6 +1,7 @@
 //! What `torn --moments` says of a log.
 ghost use Rattle.std.specs.Prelude.{◌≡◌, ◌≤◌, ◌+◌, ◌++◌, length};
-ghost use Rattle.dvg_print.specs.MomentVerdicts.{moment_verdict_text, reading_parts, runs_halted_text};
+ghost use Rattle.dvg_print.specs.MomentVerdicts.{moment_verdict_text, reading_parts};
+ghost use Rattle.dvg_print.specs.MomentVerdicts.{runs_halted_text, runs_torn_text};
 ghost use Rattle.dvg_print.specs.Lines.{spaced};
 
 use crate::line::Line;
@@ -14,20 +15,39 @@ pub enum Reading {
     Fetched(u16, u16),
 }
 
-/// What the judge of moments says of a log.
+/// What the judge of moments says of a log, or of a torn run in it.
 #[derive(Clone, Copy, Debug, PartialEq, Eq)]
 pub enum MomentVerdict {
     /// No run that came to its HALT is of no moment, and no line contradicts. So many runs began,
     /// and so many of them came to their HALT.
-    Whole { runs: usize, halted: usize },
+    Whole {
+        runs: usize,
+        halted: usize,
+    },
     /// The same, but no run came to its HALT that had fetched something.
-    NoRun { runs: usize, halted: usize },
+    NoRun {
+        runs: usize,
+        halted: usize,
+    },
     /// A run came to its HALT of which no moment was left after this line: its number, counted from
     /// 1, and what it read.
-    Torn { line: usize, reading: Reading },
+    Torn {
+        line: usize,
+        reading: Reading,
+    },
     /// This line read another byte than the log told last: its number, counted from 1, and what it
     /// read.
-    Contradicts { line: usize, reading: Reading },
+    Contradicts {
+        line: usize,
+        reading: Reading,
+    },
+    /// So many runs that came to their HALT are of no moment, each of which was told, and no line
+    /// contradicts. So many runs began, and so many of them came to their HALT.
+    SomeTorn {
+        runs: usize,
+        halted: usize,
+        torn: usize,
+    },
 }
 
 impl Line {
@@ -59,6 +79,10 @@ impl Line {
                 self.reading(reading);
                 self.text(b"\n");
             }
+            MomentVerdict::SomeTorn { runs, halted, torn } => {
+                self.text(b"in all:");
+                self.runs_torn(runs, halted, torn);
+            }
         }
     }
 
@@ -71,6 +95,20 @@ impl Line {
         self.text(b" runs,");
         self.number(halted);
         self.text(b" halted\n");
+    }
+
+    // Appends that so many runs began, so many came to their HALT and so many of these are torn,
+    // and the line's end.
+    fn runs_torn(&mut self, runs: usize, halted: usize, torn: usize)
+        requires { length self.old + 128 ≤ 4096 }
+        ensures { self.new ≡ self.old ++ runs_torn_text runs halted torn }
+    {
+        self.number(runs);
+        self.text(b" runs,");
+        self.number(halted);
+        self.text(b" halted,");
+        self.number(torn);
+        self.text(b" torn\n");
     }
 
     // Appends what a fetch brought, `reading`, as a log says it.

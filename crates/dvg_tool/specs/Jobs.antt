@@ -15,6 +15,7 @@ use Rattle.dvg_lay.specs.declared.form.Form.TheVariants.{Bytes, Tables, RomBytes
 use Rattle.dvg_lay.specs.declared.form.Laid.{Laid}
 use Rattle.dvg_lay.specs.declared.form.Laid.TheVariants as laids
 use Rattle.dvg_mem.specs.declared.half.Half.TheVariants.{H0, H1}
+use Rattle.dvg_logs.specs.AllTears.{AllTakes, AllTears}
 use Rattle.dvg_logs.specs.MomentTears.{MomentTakes, MomentTears}
 use Rattle.dvg_logs.specs.Tears.{Takes, Tears}
 use Rattle.dvg_picture.specs.Pictures.{Pictures}
@@ -32,6 +33,7 @@ use Rattle.dvg_tool.specs.declared.outcome.Done.TheVariants.{Refused, CheckedFra
 use Rattle.dvg_args.specs.declared.task.Job.{Job}
 use Rattle.dvg_args.specs.declared.task.Job.TheVariants.{List as list_job, ListAt, Rom, Picture, PictureSvg, Check}
 use Rattle.dvg_args.specs.declared.task.Job.TheVariants.{Play, PlaySvg, Torn, Render, RenderCheck, Lay}
+use Rattle.dvg_args.specs.declared.task.LogRule.TheVariants.{Halves, Moments, AllMoments}
 use Rattle.dvg_args.specs.declared.task.LayForm.{LayForm}
 use Rattle.dvg_args.specs.declared.task.LayForm.TheVariants as asked
 use Rattle.dvg_read.specs.declared.draft_text.TheConstants.{MOST_TEXT_BYTES}
@@ -87,10 +89,12 @@ Performs {A} (PlaySvg banked percent rate) (Ok Written) input old new =
     PlaysSvg {T = Done A} (show_of percent rate) (Ok Written) input old new
 Performs {A} (PlaySvg banked percent rate) (Err fault) input old new =
     PlaysSvg {T = Done A} (show_of percent rate) (Err fault) input old new
-Performs (Torn false) (Ok (Searched verdict)) input old new = Tears (Ok verdict) input old new
-Performs (Torn false) (Err fault) input old new = Tears (Err fault) input old new
-Performs (Torn true) (Ok (SearchedMoments verdict)) input old new = MomentTears (Ok verdict) input old new
-Performs (Torn true) (Err fault) input old new = MomentTears (Err fault) input old new
+Performs (Torn Halves base) (Ok (Searched verdict)) input old new = Tears base (Ok verdict) input old new
+Performs (Torn Halves base) (Err fault) input old new = Tears base (Err fault) input old new
+Performs (Torn Moments base) (Ok (SearchedMoments verdict)) input old new = MomentTears base (Ok verdict) input old new
+Performs (Torn Moments base) (Err fault) input old new = MomentTears base (Err fault) input old new
+Performs (Torn AllMoments base) (Ok (SearchedMoments verdict)) input old new = AllTears base (Ok verdict) input old new
+Performs (Torn AllMoments base) (Err fault) input old new = AllTears base (Err fault) input old new
 Performs {A} (Lay form) (Ok done) input old new =
     (laid : Laid A) × (done ≡ answered laid) × Lays (form_of form) (Ok laid) input old new
 Performs {A} (Lay form) (Err fault) input old new = Lays {A = A} (form_of form) (Err fault) input old new
@@ -108,7 +112,9 @@ abbrev pub StaysUnwritten : Job → ToolFault → Type 0
 StaysUnwritten list_job fault = StopsBeforeWriting fault
 StaysUnwritten (ListAt address) fault = StopsBeforeWriting fault
 StaysUnwritten (Play all banked) fault = StopsBeforeShowing fault
-StaysUnwritten (Torn moments) fault = StopsBeforeWriting fault
+StaysUnwritten (Torn Halves base) fault = StopsBeforeWriting fault
+StaysUnwritten (Torn Moments base) fault = StopsBeforeWriting fault
+StaysUnwritten (Torn AllMoments base) fault = ⊥
 StaysUnwritten _ fault = ComesBeforeText fault
 
 -- what is taken of the input: at most this many bytes, and of a log no more than a piece after the
@@ -125,9 +131,13 @@ TakesBy (PlaySvg banked percent rate) answer old new = TakesAtMost (MOST_TEXT_BY
 TakesBy (Render percent rate) answer old new = TakesAtMost (MOST_TEXT_BYTES + 1) old new
 TakesBy RenderCheck answer old new = TakesAtMost (MOST_TEXT_BYTES + 1) old new
 TakesBy (Lay form) answer old new = TakesAtMost (MOST_TEXT_BYTES + 1) old new
-TakesBy (Torn false) (Ok (Searched verdict)) old new = IfSome old (λ input. Takes (Ok verdict) input old new)
-TakesBy (Torn false) (Err fault) old new = IfSome old (λ input. Takes (Err fault) input old new)
-TakesBy (Torn true) (Ok (SearchedMoments verdict)) old new =
-    IfSome old (λ input. MomentTakes (Ok verdict) input old new)
-TakesBy (Torn true) (Err fault) old new = IfSome old (λ input. MomentTakes (Err fault) input old new)
-TakesBy (Torn moments) (Ok _) old new = ⊥
+TakesBy (Torn Halves base) (Ok (Searched verdict)) old new =
+    IfSome old (λ input. Takes base (Ok verdict) input old new)
+TakesBy (Torn Halves base) (Err fault) old new = IfSome old (λ input. Takes base (Err fault) input old new)
+TakesBy (Torn Moments base) (Ok (SearchedMoments verdict)) old new =
+    IfSome old (λ input. MomentTakes base (Ok verdict) input old new)
+TakesBy (Torn Moments base) (Err fault) old new = IfSome old (λ input. MomentTakes base (Err fault) input old new)
+TakesBy (Torn AllMoments base) (Ok (SearchedMoments verdict)) old new =
+    IfSome old (λ input. AllTakes base (Ok verdict) input old new)
+TakesBy (Torn AllMoments base) (Err fault) old new = IfSome old (λ input. AllTakes base (Err fault) input old new)
+TakesBy (Torn rule base) (Ok _) old new = ⊥

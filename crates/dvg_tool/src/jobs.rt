@@ -16,10 +16,10 @@ use crate::outcome::Done;
 use crate::plays::{play, play_in};
 use crate::plays_svg::{play_svg, play_svg_in};
 use crate::roms::rom_text;
-use dvg_args::{Job, LayForm};
+use dvg_args::{Job, LayForm, LogRule};
 use dvg_io::{ToolFault, Watched};
 use dvg_lay::{Drawn, Form, Laid, check_sketch, draw_sketch, lay_sketch};
-use dvg_logs::{torn, torn_moments};
+use dvg_logs::{torn, torn_all, torn_moments};
 use dvg_mem::{Banked, Half};
 use dvg_picture::{picture, picture_svg};
 use dvg_svg::Show;
@@ -206,10 +206,18 @@ pub fn perform<A: Allocator + Copy, R: Read, W: Write>(
             let show = Show { percent, rate };
             play_shown(alloc, reader, writer, banked, show).map(|()| Done::Written)
         }
-        Job::Torn { moments: false } => torn(reader, writer).map(|verdict| Done::Searched(verdict)),
-        Job::Torn { moments: true } => torn_moments(reader, writer).map(
-            |verdict| Done::SearchedMoments(verdict),
-        ),
+        Job::Torn {
+            rule: LogRule::Halves,
+            base,
+        } => torn(reader, writer, base).map(|verdict| Done::Searched(verdict)),
+        Job::Torn {
+            rule: LogRule::Moments,
+            base,
+        } => torn_moments(reader, writer, base).map(|verdict| Done::SearchedMoments(verdict)),
+        Job::Torn {
+            rule: LogRule::AllMoments,
+            base,
+        } => torn_all(reader, writer, base).map(|verdict| Done::SearchedMoments(verdict)),
         Job::Render { percent, rate } => {
             draw_answered(alloc, reader, writer, Show { percent, rate })
         }

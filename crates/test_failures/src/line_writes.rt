@@ -4,7 +4,7 @@ use crate::streams::{Failing, Mishap};
 use crate::tasks::{ENTRIES, PICTURES};
 use crate::traces::FIRST_PICTURE;
 use dvg_mem::MEMORY_BYTES;
-use dvg_tool::{Job, LayForm, Watched, perform};
+use dvg_tool::{Job, LayForm, LogRule, Watched, perform};
 use std::alloc::Global;
 use std::test::Fail;
 
@@ -15,6 +15,25 @@ const SHAPES: &str = ".rom\nrock: return\nship: return\nshot: return\n";
 
 /// A log that is torn, of which two lines are written.
 const TORN: &str = "started\nfetched 000 E201\nwrote 402 90\n";
+
+/// A log of two runs that are of no moment.
+const TWICE_TORN: &str = "\
+started
+fetched 001 0101
+wrote 002 05
+fetched 001 0105
+halted
+started
+fetched 001 0105
+wrote 002 06
+fetched 001 0106
+halted
+";
+
+/// Returns the job that judges a log by `rule`.
+fn torn(rule: LogRule) -> Job {
+    Job::Torn { rule, base: None }
+}
 
 /// Returns what a writer got of `job` with `input`. The writer takes the whole of what it is
 /// handed, and fails after `calls_before` calls.
@@ -88,9 +107,11 @@ fn a_failing_writer_got_the_lines_of_other_texts_before(rt: HostRuntime) -> Resu
         form: LayForm::Draft,
     };
     assert_eq!(rt; lines_written(alloc, drafts, SKETCH.as_bytes())?, 8);
-    let halves = Job::Torn { moments: false };
+    let halves = torn(LogRule::Halves);
     assert_eq!(rt; lines_written(alloc, halves, TORN.as_bytes())?, 2);
-    let moments = Job::Torn { moments: true };
+    let moments = torn(LogRule::Moments);
     assert_eq!(rt; lines_written(alloc, moments, TORN.as_bytes())?, 1);
+    let all = torn(LogRule::AllMoments);
+    assert_eq!(rt; lines_written(alloc, all, TWICE_TORN.as_bytes())?, 3);
     Ok(())
 }

@@ -3,8 +3,8 @@ use crate::answers::{Answer, Report, answered};
 use crate::traces::FIRST_PICTURE;
 use dvg_frame::{FrameFault, Place};
 use dvg_tool::{
-    BoundedVerdict, Job, LayForm, LogCounts, LogFinding, LogVerdict, MomentVerdict, Outcome,
-    TextFault, ToolFault, Verdict, Watched, perform,
+    BoundedVerdict, Job, LayForm, LogCounts, LogFinding, LogRule, LogVerdict, MomentVerdict,
+    Outcome, TextFault, ToolFault, Verdict, Watched, perform,
 };
 use std::alloc::Global;
 use std::test::Fail;
@@ -72,13 +72,23 @@ pub const NOT_TORN: LogVerdict = LogVerdict {
 /// The verdict on it by moments.
 pub const OF_ONE_MOMENT: MomentVerdict = MomentVerdict::Whole { runs: 1, halted: 1 };
 
+/// A log with addresses of a processor. Its run is of no moment, which is known at its last line.
+const TORN_LOG: &str = "started\nfetched 001 0101\nwrote 4002 05\nfetched 001 0105\nhalted";
+
+/// The verdict on all its runs.
+pub const ONE_TORN: MomentVerdict = MomentVerdict::SomeTorn {
+    runs: 1,
+    halted: 1,
+    torn: 1,
+};
+
 /// A sketch, and one with a frame that is refused.
 const SKETCH: &str = "labs 0 0 0\nhalt\n.frame b\nlabs 0 0 0\nhalt\n";
 
 const REFUSED_SKETCH: &str = "labs 0 0 0\na: call a\nhalt\n";
 
 /// Returns the tasks. One reads `rom`, and two read `dump`, whose first word is a return.
-pub fn tasks<'a>(rom: &'a [u8], dump: &'a [u8]) -> [Task<'a>; 17] {
+pub fn tasks<'a>(rom: &'a [u8], dump: &'a [u8]) -> [Task<'a>; 18] {
     let task = |job, input, step, answer| Task {
         job,
         input,
@@ -123,16 +133,31 @@ pub fn tasks<'a>(rom: &'a [u8], dump: &'a [u8]) -> [Task<'a>; 17] {
         task(BANKED_PICTURES, picture, 1, Ok(Report::Written)),
         task(BANKED_ENTRIES, picture, 64, Ok(Report::Written)),
         task(
-            Job::Torn { moments: false },
+            Job::Torn {
+                rule: LogRule::Halves,
+                base: None,
+            },
             LOG.as_bytes(),
             1,
             Ok(Report::Searched(NOT_TORN)),
         ),
         task(
-            Job::Torn { moments: true },
+            Job::Torn {
+                rule: LogRule::Moments,
+                base: None,
+            },
             LOG.as_bytes(),
             1,
             Ok(Report::SearchedMoments(OF_ONE_MOMENT)),
+        ),
+        task(
+            Job::Torn {
+                rule: LogRule::AllMoments,
+                base: Some(0x4000),
+            },
+            TORN_LOG.as_bytes(),
+            1,
+            Ok(Report::SearchedMoments(ONE_TORN)),
         ),
         task(
             Job::ListAt { address: 0xFFF },

@@ -94,6 +94,7 @@ impl From<LogFault> for Fault {
         match fault {
             LogFault::Syntax(line) => Fault::Syntax(line),
             LogFault::Reader => Fault::Reader,
+            LogFault::Writer => Fault::Writer,
         }
     }
 }
@@ -347,8 +348,8 @@ fn make(made: &Made) -> Result<ExitCode, Fault> {
 
 /// Judges the log that standard input holds as text, and writes what is said of it on standard
 /// output.
-fn torn() -> Result<ExitCode, Fault> {
-    let verdict = judge_text(&mut input()?)?;
+fn torn(base: Option<u16>) -> Result<ExitCode, Fault> {
+    let verdict = judge_text(&mut input()?, base)?;
     let undrawn = verdict.seen.drew == 0;
     let found = match &verdict.torn {
         Some(Torn {
@@ -369,10 +370,12 @@ fn torn() -> Result<ExitCode, Fault> {
     write_said(&text, verdict.torn.is_none() && !undrawn)
 }
 
-/// Does the same by moments.
-fn torn_moments() -> Result<ExitCode, Fault> {
-    let (text, is_whole) = judge_moments(&mut input()?)?;
-    write_said(&text, is_whole)
+/// Does the same by moments, and tells the first torn run or all.
+fn torn_moments(base: Option<u16>, all: bool) -> Result<ExitCode, Fault> {
+    let mut writer = output()?;
+    let answer = judge_moments(&mut input()?, &mut writer, base, all);
+    writer.flush().map_err(|_| Fault::Writer)?;
+    Ok(status_of(answer?))
 }
 
 /// Writes what is said of a log.
@@ -471,6 +474,21 @@ fn lay_by(arguments: &[String]) -> Option<Result<ExitCode, Fault>> {
     Some(make(&made))
 }
 
+/// What `torn` is asked for.
+fn torn_by(arguments: &[String]) -> Option<Result<ExitCode, Fault>> {
+    let options = Options::read(arguments, &["--moments", "--all"], &["--base"])?;
+    let base = match options.value("--base") {
+        None => None,
+        Some(digits) => Some(hex(digits.as_bytes(), 4)?),
+    };
+    let (moments, all) = (options.has("--moments"), options.has("--all"));
+    match (moments, all) {
+        (false, true) => None,
+        (false, false) => Some(torn(base)),
+        (true, all) => Some(torn_moments(base, all)),
+    }
+}
+
 /// Does what the arguments ask for. None where they ask for nothing the program can do.
 fn do_job(arguments: &[String]) -> Option<Result<ExitCode, Fault>> {
     let (command, options) = arguments.split_first()?;
@@ -480,8 +498,7 @@ fn do_job(arguments: &[String]) -> Option<Result<ExitCode, Fault>> {
         "check" if options.is_empty() => Some(check_text(false)),
         "check" if options == ["--bound"] => Some(check_text(true)),
         "picture" => picture_by(options),
-        "torn" if options.is_empty() => Some(torn()),
-        "torn" if options == ["--moments"] => Some(torn_moments()),
+        "torn" => torn_by(options),
         "play" => play_by(options),
         "render" => render_by(options),
         "lay" => lay_by(options),
@@ -501,7 +518,7 @@ fn main() -> ExitCode {
     let Some(done) = do_job(&arguments) else {
         complain(format_args!(
             "usage: dvg list [--at HHH]|rom|check [--bound]|play [--all] [--banked]|\
-             torn [--moments]|\
+             torn [--moments [--all]] [--base HHHH]|\
              picture [--all]|render [--check]|lay [--half 0|1]"
         ));
         return ExitCode::from(MISUSE);

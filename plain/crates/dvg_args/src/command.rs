@@ -109,10 +109,13 @@ fn play_command<'a>(alloc: Global) -> Result<Command<'a>, AllocError> {
 // Returns the subcommand `torn`.
 fn torn_command<'a>(alloc: Global) -> Result<Command<'a>, AllocError> {
     let about = "Say whether a log tears a picture, and where";
-    let usage = "dvg torn [--moments] < LOG";
-    let torn = helped(alloc, "torn", about, usage, help::TORN);
+    let torn = helped(alloc, "torn", about, help::TORN_USAGE, help::TORN);
     let moments = "Say whether each run is of one moment, of any system";
-    with_flag(alloc, torn, "moments", moments)
+    let with_moments = with_flag(alloc, torn, "moments", moments)?;
+    let all = "With --moments, tell each torn run, not the first alone";
+    let with_all = with_flag(alloc, with_moments, "all", all)?;
+    let base = "Bytes are written at the processor's addresses, of a RAM from here on";
+    with_value(alloc, with_all, "base", "HHHH", base)
 }
 
 // Returns the subcommand `render`.

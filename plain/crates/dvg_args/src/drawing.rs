@@ -1,6 +1,6 @@
 //! What the options of `list`, `picture`, `play` and `render` ask for. That some exclude each
 //! other, and which values they take, is this project's own choice.
-use crate::options::{Shown, address_in, is_given, is_set, read_shown};
+use crate::options::{Shown, hex_in, is_given, is_set, read_shown};
 use crate::task::Job;
 use clap::ArgMatches;
 use clap::error::ErrorKind;
@@ -11,7 +11,7 @@ pub(crate) fn list_job(found: &ArgMatches) -> Result<Job, ErrorKind> {
     let Some(text) = found.get_str("at") else {
         return Ok(Job::List);
     };
-    match address_in(text) {
+    match hex_in(3, text) {
         Some(address) => Ok(Job::ListAt { address }),
         None => Err(ErrorKind::InvalidValue),
     }

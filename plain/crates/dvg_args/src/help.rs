@@ -214,6 +214,9 @@ Example:
   picture 29 1
   262144 204800 210944 256000 7";
 
+/// How `torn` is called.
+pub(crate) const TORN_USAGE: &str = "dvg torn [--moments [--all]] [--base HHHH] < LOG";
+
 /// The input and output of `torn`.
 pub(crate) const TORN: &str =
     "Standard input: a log of what a system of any kind did, as text of any length, one
@@ -230,6 +233,10 @@ line per event:
 A line has at most 64 bytes. Numbers are hexadecimal, with as many digits as
 here. Capitals, and a CR at the end, are read, too. An empty line and a line that
 begins with `#` are passed over.
+
+With `--base HHHH` it is `wrote HHHH HH`, at an address of the processor: the RAM
+lies there from the base on, and a line that writes elsewhere is at fault. Words
+have the addresses of the generator all the same.
 
 Take `torn` alone for a system that draws one half of the RAM while it writes the
 other: it names the first byte that breaks this. Take `torn --moments` for any
@@ -257,11 +264,19 @@ before it is judged. After `reset`, which may be one of the whole system, nothin
 is known of memory. A byte that is written before the log tells what stood there
 counts as changed.
 
+With `--moments --all` there is a line `torn at line N: ..` for each such run, and
+at the end `in all: R runs, H halted, T torn`, or what is said where none is torn.
+A line that reads what was not written ends it: then somebody writes who isn't in
+the log. At a fault the lines before it are written.
+
 Fault: `syntax at line N`. The status is 0 for `not torn` and `whole`, and 1 for
 all else that is said of a log.
 
 Example:
   $ printf 'started\\nfetched 000 E201\\nwrote 402 90\\n' | dvg torn
+  torn at line 3: wrote 402 90
+  so far: 1 runs, 1 drew a half, 0 halted, 1 writes
+  $ printf 'started\\nfetched 000 E201\\nwrote 4402 90\\n' | dvg torn --base 4000
   torn at line 3: wrote 402 90
   so far: 1 runs, 1 drew a half, 0 halted, 1 writes
   $ printf 'started\\nfetched 000 E201\\nhalted\\nwrote 402 90\\n' | dvg torn

@@ -15,6 +15,7 @@ mod command;
 mod drawing;
 mod help;
 mod laying;
+mod logging;
 mod misuse;
 mod options;
 mod refusal;
@@ -22,4 +23,4 @@ mod task;
 
 pub use arguments::job;
 pub use refusal::arguments_status;
-pub use task::{Job, LayForm};
+pub use task::{Job, LayForm, LogRule};

@@ -53,10 +53,11 @@ pub(crate) fn read_shown(found: &ArgMatches) -> Option<Shown> {
     Some(Shown { percent, rate })
 }
 
-/// Returns the address that `text` writes, if it is three hexadecimal digits of either case.
-pub(crate) fn address_in(text: &str) -> Option<u16> {
+/// Returns the number that `text` writes, if it is so many hexadecimal `digits` of either case, 1
+/// to 4.
+pub(crate) fn hex_in(digits: usize, text: &str) -> Option<u16> {
     let bytes = text.as_bytes();
-    if bytes.len() != 3 || bytes[0] == b'+' {
+    if bytes.len() != digits || bytes[0] == b'+' {
         return None;
     }
     match u16::from_str_radix(text, 16) {

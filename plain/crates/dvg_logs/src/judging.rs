@@ -6,7 +6,7 @@ use dvg_read::TextFault;
 use std::io::Read;
 
 /// The most bytes that one read takes.
-const PIECE: usize = 32_768;
+pub(crate) const PIECE: usize = 32_768;
 
 // Returns the verdict or the fault of a log whose reading stops by `stop`.
 fn answer<V>(stop: LogStop<V>) -> Result<V, ToolFault> {
@@ -18,12 +18,13 @@ fn answer<V>(stop: LogStop<V>) -> Result<V, ToolFault> {
 }
 
 /// Returns what `judge`, which was told no line, says of the text of a log, which comes from
-/// `reader`.
+/// `reader`. With a `base`, lines `wrote` have addresses of the processor.
 pub(crate) fn judge_text<J: LineJudge, R: Read>(
     judge: J,
+    base: Option<u16>,
     reader: &mut Watched<R>,
 ) -> Result<J::Verdict, ToolFault> {
-    let mut reading = LogReading::new(judge);
+    let mut reading = LogReading::new(judge, base);
     let mut piece = [0u8; PIECE];
     loop {
         let Ok(count) = reader.read(&mut piece) else {
@@ -34,11 +35,11 @@ pub(crate) fn judge_text<J: LineJudge, R: Read>(
         }
         match reading.take_piece(&piece[..count]) {
             Ok(()) => {}
-            Err(stop) => return answer(stop),
+            Err(stopped) => return answer(stopped.stop),
         }
     }
     match reading.finish() {
-        Ok(verdict) => Ok(verdict),
+        Ok(()) => Ok(reading.at_end()),
         Err(stop) => answer(stop),
     }
 }

@@ -13,9 +13,11 @@ mod log_reading;
 mod moment_lines;
 mod number_line;
 mod tears;
+mod tears_all;
 mod tears_moments;
 
 pub use dvg_print::{LogCounts, LogFinding, LogVerdict, MomentVerdict, Reading};
 pub use log_line::{LogLine, MOST_LINE_BYTES, read_log_line};
 pub use tears::torn;
+pub use tears_all::torn_all;
 pub use tears_moments::torn_moments;

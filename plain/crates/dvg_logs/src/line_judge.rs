@@ -13,6 +13,6 @@ pub trait LineJudge: Copy {
     /// Takes the next line, the line number `number`, counted from 1, which says `logged`.
     fn take(&mut self, number: usize, logged: LogLine);
 
-    /// Returns what is said at the end of a log of which no line decides.
+    /// Returns what is said at the end of a log.
     fn at_end(&self) -> Self::Verdict;
 }

@@ -36,7 +36,10 @@ pub enum LogLine {
 /// `reset`. One space stands between the parts. Or it is passed over, as it is empty or begins with
 /// `#`. An address has three hexadecimal digits, a word four and a byte two. Letters are of either
 /// case, and a CR may stand at the end. A line has at most 64 bytes.
-pub fn read_log_line(line: &[u8]) -> Option<LogLine> {
+///
+/// With a `base` the address after `wrote` is one of the processor, in four digits. The RAM lies
+/// there from the base on.
+pub fn read_log_line(line: &[u8], base: Option<u16>) -> Option<LogLine> {
     if line.len() > MOST_LINE_BYTES {
         return None;
     }
@@ -45,7 +48,7 @@ pub fn read_log_line(line: &[u8]) -> Option<LogLine> {
         return Some(LogLine::Passed);
     }
     let small = in_small_letters(line);
-    row(small.as_slice())
+    row(small.as_slice(), base)
 }
 
 // Returns `line` without a CR at its end.
@@ -67,33 +70,69 @@ fn in_small_letters(line: &[u8]) -> ArrayVec<u8, MOST_LINE_BYTES> {
 }
 
 // Returns what `line` says, which is in small letters and isn't passed over.
-fn row(line: &[u8]) -> Option<LogLine> {
+fn row(line: &[u8], base: Option<u16>) -> Option<LogLine> {
     if let Some(rest) = line.strip_prefix(b"wrote ") {
-        let (address, byte) = numbers(rest, 2)?;
-        if address >= RAM_END {
-            return None;
-        }
-        Some(LogLine::Wrote(address, byte as u8))
+        let (address, byte) = written(rest, base)?;
+        Some(LogLine::Wrote(address, byte))
     } else if let Some(rest) = line.strip_prefix(b"fetched ") {
-        let (address, word) = numbers(rest, 4)?;
+        let (address, word) = numbers(rest, 3, 4)?;
         Some(LogLine::Fetched(address, word))
     } else if let Some(rest) = line.strip_prefix(b"low ") {
-        let (address, byte) = numbers(rest, 2)?;
+        let (address, byte) = numbers(rest, 3, 2)?;
         Some(LogLine::Low(address, byte as u8))
     } else {
         bare(line)
     }
 }
 
-// Returns the address and the number that `bytes` spell: three hexadecimal digits, one space, and
+// Returns the address and the number that `bytes` spell: `width` hexadecimal digits, one space, and
 // as many digits as `digits` says.
-fn numbers(bytes: &[u8], digits: usize) -> Option<(u16, u16)> {
-    if bytes.len() != 4 + digits || bytes[3] != b' ' {
+fn numbers(bytes: &[u8], width: usize, digits: usize) -> Option<(u16, u16)> {
+    if bytes.len() != width + 1 + digits || bytes[width] != b' ' {
         return None;
     }
-    let address = hex(&bytes[..3], 3)?;
-    let number = hex(&bytes[4..], digits)?;
+    let address = hex(&bytes[..width], width)?;
+    let number = hex(&bytes[width + 1..], digits)?;
     Some((address, number))
+}
+
+// Returns the byte address of the RAM that the processor has at `address`, where the RAM begins at
+// `base`. The processor's address may be below it.
+fn lowered(address: u16, base: u16) -> Option<u16> {
+    if address < base {
+        return None;
+    }
+    Some(address - base)
+}
+
+// Returns the byte address and the byte that `bytes` spell, at an address of the processor. That has
+// the RAM from `base` on.
+fn based(bytes: &[u8], base: u16) -> Option<(u16, u16)> {
+    let (address, byte) = numbers(bytes, 4, 2)?;
+    let within = lowered(address, base)?;
+    Some((within, byte))
+}
+
+// Returns the byte address `address` and the byte `byte`, if the address is one of the RAM.
+fn in_ram(address: u16, byte: u16) -> Option<(u16, u8)> {
+    if address >= RAM_END {
+        return None;
+    }
+    Some((address, byte as u8))
+}
+
+// Returns the byte address and the byte that `bytes` spell, of a write in the RAM.
+fn written(bytes: &[u8], base: Option<u16>) -> Option<(u16, u8)> {
+    match base {
+        Some(base) => {
+            let (address, byte) = based(bytes, base)?;
+            in_ram(address, byte)
+        }
+        None => {
+            let (address, byte) = numbers(bytes, 3, 2)?;
+            in_ram(address, byte)
+        }
+    }
 }
 
 // Returns what `name` alone says.

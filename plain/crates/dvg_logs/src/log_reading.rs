@@ -15,10 +15,21 @@ pub enum LogStop<V> {
     TooLong,
 }
 
-/// The lines that have ended. None of them decides, and none is at fault.
+/// Why the reading stops in a piece of a text, and what of the piece comes after the line by which
+/// it does.
+#[derive(Clone, Copy)]
+#[derive(Debug)]
+pub struct Stopped<'a, V> {
+    pub stop: LogStop<V>,
+    pub rest: &'a [u8],
+}
+
+/// The lines that have ended. None of them is at fault.
 #[derive(Clone, Copy)]
 pub struct JudgedLines<J> {
     judge: J,
+    /// Where the processor has the RAM, if lines `wrote` have its addresses.
+    pub base: Option<u16>,
     /// How many there are.
     pub count: usize,
 }
@@ -32,22 +43,22 @@ impl<J: LineJudge> JudgedLines<J> {
         LogStop::Syntax(self.count + 1)
     }
 
-    // Takes the next line, `line`. Returns why the reading stops there, if it does.
+    // Takes the next line, `line`. Returns why the reading stops there, if it does. A line that
+    // decides is taken, too, so the reading may go on after it.
     fn take(&mut self, line: &[u8]) -> Result<(), LogStop<J::Verdict>> {
         if self.count == usize::MAX {
             return Err(LogStop::TooLong);
         }
         let number = self.count + 1;
-        let Some(logged) = read_log_line(line) else {
+        let Some(logged) = read_log_line(line, self.base) else {
             return Err(LogStop::Syntax(number));
         };
-        match self.judge.find(number, logged) {
+        let found = self.judge.find(number, logged);
+        self.judge.take(number, logged);
+        self.count = number;
+        match found {
             Some(verdict) => Err(LogStop::Found(number, verdict)),
-            None => {
-                self.judge.take(number, logged);
-                self.count = number;
-                Ok(())
-            }
+            None => Ok(()),
         }
     }
 
@@ -74,9 +85,14 @@ pub struct LogReading<J> {
 
 impl<J: LineJudge> LogReading<J> {
     /// Returns the reading before the first piece, whose lines `judge` is told. It was told none.
-    pub fn new(judge: J) -> LogReading<J> {
+    /// With a `base`, lines `wrote` have addresses of the processor.
+    pub fn new(judge: J, base: Option<u16>) -> LogReading<J> {
         LogReading {
-            judged: JudgedLines { judge, count: 0 },
+            judged: JudgedLines {
+                judge,
+                base,
+                count: 0,
+            },
             unfinished: ArrayVec::new(),
         }
     }
@@ -103,30 +119,36 @@ impl<J: LineJudge> LogReading<J> {
         taken
     }
 
-    /// Takes `piece`, the next piece of the text. Returns why the reading stops, if it does: at the
-    /// first line that decides or that is at fault.
-    pub fn take_piece(&mut self, piece: &[u8]) -> Result<(), LogStop<J::Verdict>> {
+    /// Takes `piece`, the next piece of the text. Returns where the reading stops, if it does: at
+    /// the first line that decides or that is at fault. After one that decides it may go on, with
+    /// the rest of the piece.
+    pub fn take_piece<'a>(&mut self, piece: &'a [u8]) -> Result<(), Stopped<'a, J::Verdict>> {
         let mut rest = piece;
         while let Some(end) = memchr(b'\n', rest) {
+            let after = &rest[end + 1..];
             match self.end_line(&rest[..end]) {
                 Ok(()) => {}
-                Err(stop) => return Err(stop),
+                Err(stop) => return Err(Stopped { stop, rest: after }),
             }
-            rest = self.judged.take_number_lines(&rest[end + 1..]);
+            rest = self.judged.take_number_lines(after);
         }
-        self.begin_line(rest)
+        match self.begin_line(rest) {
+            Ok(()) => Ok(()),
+            Err(stop) => Err(Stopped { stop, rest }),
+        }
     }
 
-    /// Takes the end of the text, which ends a line that has begun. Returns what is said of the log
-    /// of all lines, or why the reading stops at the last one.
-    pub fn finish(self) -> Result<J::Verdict, LogStop<J::Verdict>> {
-        let mut judged = self.judged;
+    /// Takes the end of the text, which ends a line that has begun. Returns why the reading stops
+    /// at this last line, if it does.
+    pub fn finish(&mut self) -> Result<(), LogStop<J::Verdict>> {
         if self.unfinished.is_empty() {
-            return Ok(judged.judge.at_end());
+            return Ok(());
         }
-        match judged.take(self.unfinished.as_slice()) {
-            Ok(()) => Ok(judged.judge.at_end()),
-            Err(stop) => Err(stop),
-        }
+        self.judged.take(self.unfinished.as_slice())
+    }
+
+    /// Returns what is said of the log of all lines, once the text has ended.
+    pub fn at_end(&self) -> J::Verdict {
+        self.judged.judge.at_end()
     }
 }

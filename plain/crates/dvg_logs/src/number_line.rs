@@ -57,9 +57,13 @@ fn address_and_word(text: &[u8]) -> Option<(u16, u16, &[u8])> {
 // doesn't decide. What comes after it is returned.
 impl<J: LineJudge> JudgedLines<J> {
     // Takes the rest of a line `wrote` from `text`, after `wrot`: four letters are compared as one
-    // number, and six are not. Returns what comes after the line.
+    // number, and six are not. Returns what comes after the line. One with an address of the
+    // processor isn't taken here.
     #[inline(always)]
     fn take_wrote<'a>(&mut self, text: &'a [u8]) -> Option<&'a [u8]> {
+        if self.base.is_some() {
+            return None;
+        }
         let (address, byte, rest) = address_and_byte(text.strip_prefix(b"e ")?)?;
         if address < RAM_END && self.take_logged(LogLine::Wrote(address, byte)) {
             Some(rest)

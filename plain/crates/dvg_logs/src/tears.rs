@@ -6,8 +6,11 @@ use dvg_print::{Line, LogVerdict};
 use std::io::{Read, Write};
 
 // Returns what is said of the text of a log, which comes from `reader`.
-fn judge_halves<R: Read>(reader: &mut Watched<R>) -> Result<LogVerdict, ToolFault> {
-    judge_text(HalfLines::new(), reader)
+fn judge_halves<R: Read>(
+    base: Option<u16>,
+    reader: &mut Watched<R>,
+) -> Result<LogVerdict, ToolFault> {
+    judge_text(HalfLines::new(), base, reader)
 }
 
 // Writes `verdict`, what is said of a log, to `writer`.
@@ -27,7 +30,8 @@ fn write_verdict<W: Write>(writer: &mut Watched<W>, verdict: LogVerdict) -> Resu
 /// - `torn at line N: wrote A B` of the first write in such a half, by its line, its byte address
 ///   and its byte, and on one more line `so far:` and the same numbers up to that line.
 ///
-/// It takes no memory.
+/// It takes no memory. With a `base`, lines `wrote` have addresses of the processor, and the RAM
+/// lies there from the base on.
 ///
 /// - `Syntax`: this line is the first that says nothing that a line may say (see `read_log_line`),
 ///   and none before it is torn.
@@ -41,8 +45,9 @@ fn write_verdict<W: Write>(writer: &mut Watched<W>, verdict: LogVerdict) -> Resu
 pub fn torn<R: Read, W: Write>(
     reader: &mut Watched<R>,
     writer: &mut Watched<W>,
+    base: Option<u16>,
 ) -> Result<LogVerdict, ToolFault> {
-    let verdict = match judge_halves(reader) {
+    let verdict = match judge_halves(base, reader) {
         Ok(verdict) => verdict,
         Err(fault) => return Err(fault),
     };

@@ -5,8 +5,8 @@ use dvg_io::{StreamFailed, ToolFault, Watched, write_lines};
 use dvg_print::{Line, MomentVerdict};
 use std::io::{Read, Write};
 
-// Writes `verdict`, what is said of a log, to `writer`.
-fn write_verdict<W: Write>(
+/// Writes `verdict`, what is said of a log, or of a torn run in it, to `writer`.
+pub(crate) fn write_verdict<W: Write>(
     writer: &mut Watched<W>,
     verdict: MomentVerdict,
 ) -> Result<(), StreamFailed> {
@@ -19,8 +19,8 @@ fn write_verdict<W: Write>(
 /// that decides or is at fault, and writes what is said of it to `writer` (the text is this
 /// project's own choice):
 ///
-/// - `torn at line N: ..`, where a run of no moment comes to its HALT: after line N, which is shown,
-///   no moment of it was left. No byte that a run reads may change between its moment and its
+/// - `torn at line N: ..`, where a run of no moment comes to its HALT: after line N, which is
+///   shown, no moment of it was left. No byte that a run reads may change between its moment and its
 ///   reading;
 /// - `line N reads what was not written: ..`, where a line reads another byte than the log told of
 ///   last;
@@ -29,13 +29,15 @@ fn write_verdict<W: Write>(
 /// - `no run to judge:` and the same, where none of these had fetched something.
 ///
 /// `halted` tells no word, so the log before it is judged. `reset` may be one of the whole system:
-/// after it nothing is known of memory. It takes no memory, and its faults are those of `torn`.
+/// after it nothing is known of memory. It takes no memory. Its faults are those of `torn`, and a
+/// `base` means the same.
 #[inline(never)]
 pub fn torn_moments<R: Read, W: Write>(
     reader: &mut Watched<R>,
     writer: &mut Watched<W>,
+    base: Option<u16>,
 ) -> Result<MomentVerdict, ToolFault> {
-    let verdict = match judge_text(MomentLines::new(), reader) {
+    let verdict = match judge_text(MomentLines::new(), base, reader) {
         Ok(verdict) => verdict,
         Err(fault) => return Err(fault),
     };

@@ -22,7 +22,8 @@ pub enum Done<A: Allocator = Global> {
     DrewSvg(Option<Undrawn>),
     /// This was said of a log, and the text of it was written.
     Searched(LogVerdict),
-    /// This was said of a log by moments, and the line of it was written.
+    /// This was said of a log by moments, and the line of it was written, after those of its torn
+    /// runs where all were asked for.
     SearchedMoments(MomentVerdict),
     /// A frame of a sketch is refused, and nothing was written.
     Refused(Refusal<A>),
@@ -85,7 +86,8 @@ pub fn status<A: Allocator>(answer: &Result<Done<A>, ToolFault>) -> u8 {
             | Done::SearchedMoments(
                 MomentVerdict::NoRun { .. }
                 | MomentVerdict::Torn { .. }
-                | MomentVerdict::Contradicts { .. },
+                | MomentVerdict::Contradicts { .. }
+                | MomentVerdict::SomeTorn { .. },
             )
             | Done::Refused(_)
             | Done::CheckedFrames { good: false },

@@ -2,7 +2,7 @@ use Rattle.std.proofs.Common.{◌≡◌, ◌∙◌, ◌||◌, ℕ, Option, Some,
 use Rattle.std.specs.Prelude.{is_some, option_and_then}
 use Rattle.clap.specs.Words.{Text, first_of, found_of, rows_of}
 use Rattle.clap.proofs.WalkLemmas.{first_value-rows}
-use Rattle.dvg_args.specs.Options.{address_in, refused_by}
+use Rattle.dvg_args.specs.Options.{hex_in, refused_by}
 use Rattle.dvg_args.proofs.drawing.list_job.Goals as goal
 
 pub returns-in_default-clause-ok : goal.returns-in_default-clause-ok
@@ -17,26 +17,26 @@ returns-in_default-clause-kinds c =
     let found = found_of c.args.found.now in
     let none : Option Text = None in
     let e : none ≡ first_of (codes "at") (rows_of found) = c.in_default.ensures ∙ first_value-rows found (codes "at") in
-    ap (λ o. refused_by false false (not (is_some o) || is_some (option_and_then address_in o))) (sym e)
+    ap (λ o. refused_by false false (not (is_some o) || is_some (option_and_then (hex_in 3) o))) (sym e)
 
-pub returns-in-Some-address_in-clause-ok : goal.returns-in-Some-address_in-clause-ok
-returns-in-Some-address_in-clause-ok c =
+pub returns-in-Some-hex_in-clause-ok : goal.returns-in-Some-hex_in-clause-ok
+returns-in-Some-hex_in-clause-ok c =
     let found = found_of c.args.found.now in
     let e : Some c.in-Some.text.now ≡ first_of (codes "at") (rows_of found) = c.in-Some.ensures ∙ first_value-rows found (codes "at") in
-    let one : Some c.in-Some-address_in.address ≡ address_in c.in-Some.text.now = c.in-Some-address_in.ensures in
-    ap (λ o. Some (codes "list", o)) (ap (λ o. option_and_then address_in o) (sym e) ∙ sym one)
+    let one : Some c.in-Some-hex_in.address ≡ hex_in 3 c.in-Some.text.now = c.in-Some-hex_in.ensures in
+    ap (λ o. Some (codes "list", o)) (ap (λ o. option_and_then (hex_in 3) o) (sym e) ∙ sym one)
 
-pub returns-in-Some-address_in-clause-kinds : goal.returns-in-Some-address_in-clause-kinds
-returns-in-Some-address_in-clause-kinds c =
+pub returns-in-Some-hex_in-clause-kinds : goal.returns-in-Some-hex_in-clause-kinds
+returns-in-Some-hex_in-clause-kinds c =
     let found = found_of c.args.found.now in
     let e : Some c.in-Some.text.now ≡ first_of (codes "at") (rows_of found) = c.in-Some.ensures ∙ first_value-rows found (codes "at") in
-    let one : Some c.in-Some-address_in.address ≡ address_in c.in-Some.text.now = c.in-Some-address_in.ensures in
-    ap (λ o. refused_by false false (not (is_some o) || is_some (option_and_then address_in o))) (sym e) ∙ ap (λ o. refused_by false false (is_some o)) (sym one)
+    let one : Some c.in-Some-hex_in.address ≡ hex_in 3 c.in-Some.text.now = c.in-Some-hex_in.ensures in
+    ap (λ o. refused_by false false (not (is_some o) || is_some (option_and_then (hex_in 3) o))) (sym e) ∙ ap (λ o. refused_by false false (is_some o)) (sym one)
 
 pub returns-in-None-clause-kinds : goal.returns-in-None-clause-kinds
 returns-in-None-clause-kinds c =
     let found = found_of c.args.found.now in
     let e : Some c.in-Some.text.now ≡ first_of (codes "at") (rows_of found) = c.in-Some.ensures ∙ first_value-rows found (codes "at") in
     let none : Option ℕ = None in
-    let one : none ≡ address_in c.in-Some.text.now = c.in-None.ensures in
-    ap (λ o. refused_by false false (not (is_some o) || is_some (option_and_then address_in o))) (sym e) ∙ ap (λ o. refused_by false false (is_some o)) (sym one)
+    let one : none ≡ hex_in 3 c.in-Some.text.now = c.in-None.ensures in
+    ap (λ o. refused_by false false (not (is_some o) || is_some (option_and_then (hex_in 3) o))) (sym e) ∙ ap (λ o. refused_by false false (is_some o)) (sym one)

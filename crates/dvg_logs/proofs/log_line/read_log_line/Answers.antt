@@ -18,11 +18,11 @@ returns-then-is_passed-clause-only c logged tells =
 pub returns-clause-found : goal.returns-clause-found
 returns-clause-found c =
     let text : c.as_slice.result.now ≡ small (strip_carriage_return c.args.line.now) = c.as_slice.ensures.value ∙ (c.in_small_letters-small.ensures ∙ ap small c.without_cr-line.ensures.value) in
-    logged_by c.args.line.now c.row.result (omega arith) (ap is_passed (sym c.without_cr-line.ensures.value) ∙ sym c.is_passed.ensures ∙ c.if-is_passed.false)
-    (subst (λ text. IfSome c.row.result (λ found. LogRow (line_of found) (parts text))) text c.row.ensures.found)
+    logged_by c.args.base c.args.line.now c.row.result (omega arith) (ap is_passed (sym c.without_cr-line.ensures.value) ∙ sym c.is_passed.ensures ∙ c.if-is_passed.false)
+    (subst (λ text. IfSome c.row.result (λ found. LogRow c.args.base (line_of found) (parts text))) text c.row.ensures.found)
 
 pub returns-clause-only : goal.returns-clause-only
 returns-clause-only c logged tells =
     let text : c.as_slice.result.now ≡ small (strip_carriage_return c.args.line.now) = c.as_slice.ensures.value ∙ (c.in_small_letters-small.ensures ∙ ap small c.without_cr-line.ensures.value) in
-    c.row.ensures.only logged (subst (λ text. LogRow logged (parts text)) (sym text)
+    c.row.ensures.only logged (subst (λ text. LogRow c.args.base logged (parts text)) (sym text)
     (row_of c.args.line.now (ap is_passed (sym c.without_cr-line.ensures.value) ∙ sym c.is_passed.ensures ∙ c.if-is_passed.false) tells))

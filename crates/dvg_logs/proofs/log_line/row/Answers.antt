@@ -1,8 +1,6 @@
-use Rattle.std.proofs.Common.{◌<◌, codes, arith, subst, sym}
-use Rattle.dvg_read.specs.Texts.{parts}
-use Rattle.dvg_logs.specs.LogLines.{LogRow}
+use Rattle.std.proofs.Common.{◌<◌, codes, arith}
 use Rattle.dvg_read.proofs.EventRows.{byte_fits}
-use Rattle.dvg_logs.proofs.LogRows.{bare_parts, bare_row, behind_name, fetched_line, fetched_made, fetched_numbers, low_line, low_made, low_numbers, same_line, without, wrote_in_ram, wrote_line, wrote_made, wrote_numbers}
+use Rattle.dvg_logs.proofs.LogRows.{bare_parts, bare_row, behind_name, fetched_line, fetched_made, fetched_numbers, low_line, low_made, low_numbers, same_line, without, wrote_line, wrote_made, wrote_numbers}
 use Rattle.dvg_logs.proofs.log_line.row.Goals as goal
 
 pub returns-in_err-address-clause-only : goal.returns-in_err-address-clause-only
@@ -10,33 +8,21 @@ returns-in_err-address-clause-only c logged row =
     let line = c.args.line.now in
     let is = behind_name line (codes "wrote ") c.strip_prefix.result c.in-Some.rest c.strip_prefix.ensures.cases c.in-Some.is in
     let spelled = wrote_numbers line c.in-Some.rest.now is row in
-    let answered = c.in_err-address.ensures.only spelled.a spelled.n spelled.numbers in
+    let answered = c.in_err-address.ensures.only spelled.a spelled.n spelled.written in
     absurd (cc)
 
-pub overflow_cast-result : goal.overflow_cast-result
-overflow_cast-result c = let small : c.in_ok-address.byte < 256 = byte_fits c.in_ok-address.ensures.found.number in omega arith
+pub returns-in_ok-address-clause-found : goal.returns-in_ok-address-clause-found
+returns-in_ok-address-clause-found c =
+    let line = c.args.line.now in
+    let is = behind_name line (codes "wrote ") c.strip_prefix.result c.in-Some.rest c.strip_prefix.ensures.cases c.in-Some.is in
+    wrote_made line c.in-Some.rest.now is c.in_ok-address.ensures.found
 
-pub returns-then-address-ge-RAM_END-clause-only : goal.returns-then-address-ge-RAM_END-clause-only
-returns-then-address-ge-RAM_END-clause-only c logged row =
+pub returns-in_ok-address-clause-only : goal.returns-in_ok-address-clause-only
+returns-in_ok-address-clause-only c logged row =
     let line = c.args.line.now in
     let is = behind_name line (codes "wrote ") c.strip_prefix.result c.in-Some.rest c.strip_prefix.ensures.cases c.in-Some.is in
     let spelled = wrote_numbers line c.in-Some.rest.now is row in
-    let same = same_line wrote_line c.in_ok-address.address c.in_ok-address.byte spelled.a spelled.n logged (c.in_ok-address.ensures.only spelled.a spelled.n spelled.numbers) spelled.is in
-    let ram = wrote_in_ram (subst (λ logged. LogRow logged (parts line)) (sym same) row) in
-    absurd (omega (arith, ram, c.if-address-ge-RAM_END.true))
-
-pub returns-else-address-ge-RAM_END-clause-found : goal.returns-else-address-ge-RAM_END-clause-found
-returns-else-address-ge-RAM_END-clause-found c =
-    let line = c.args.line.now in
-    let is = behind_name line (codes "wrote ") c.strip_prefix.result c.in-Some.rest c.strip_prefix.ensures.cases c.in-Some.is in
-    wrote_made line c.in-Some.rest.now is (omega (arith, c.if-address-ge-RAM_END.false)) c.in_ok-address.ensures.found
-
-pub returns-else-address-ge-RAM_END-clause-only : goal.returns-else-address-ge-RAM_END-clause-only
-returns-else-address-ge-RAM_END-clause-only c logged row =
-    let line = c.args.line.now in
-    let is = behind_name line (codes "wrote ") c.strip_prefix.result c.in-Some.rest c.strip_prefix.ensures.cases c.in-Some.is in
-    let spelled = wrote_numbers line c.in-Some.rest.now is row in
-    same_line wrote_line c.in_ok-address.address c.in_ok-address.byte spelled.a spelled.n logged (c.in_ok-address.ensures.only spelled.a spelled.n spelled.numbers) spelled.is
+    same_line wrote_line c.in_ok-address.address c.in_ok-address.byte spelled.a spelled.n logged (c.in_ok-address.ensures.only spelled.a spelled.n spelled.written) spelled.is
 
 pub returns-in_err-address-2-clause-only : goal.returns-in_err-address-2-clause-only
 returns-in_err-address-2-clause-only c logged row =
@@ -59,8 +45,8 @@ returns-in_ok-address-2-clause-only c logged row =
     let spelled = fetched_numbers line c.in-Some-strip_prefix.rest.now is row in
     same_line fetched_line c.in_ok-address-2.address c.in_ok-address-2.word spelled.a spelled.n logged (c.in_ok-address-2.ensures.only spelled.a spelled.n spelled.numbers) spelled.is
 
-pub overflow_cast-result-in-Some-strip_prefix-2 : goal.overflow_cast-result-in-Some-strip_prefix-2
-overflow_cast-result-in-Some-strip_prefix-2 c = let small : c.in_ok-address-3.byte < 256 = byte_fits c.in_ok-address-3.ensures.found.number in omega arith
+pub overflow_cast-result : goal.overflow_cast-result
+overflow_cast-result c = let small : c.in_ok-address-3.byte < 256 = byte_fits c.in_ok-address-3.ensures.found.number in omega arith
 
 pub returns-in_err-address-3-clause-only : goal.returns-in_err-address-3-clause-only
 returns-in_err-address-3-clause-only c logged row =
@@ -84,12 +70,12 @@ returns-in_ok-address-3-clause-only c logged row =
     same_line low_line c.in_ok-address-3.address c.in_ok-address-3.byte spelled.a spelled.n logged (c.in_ok-address-3.ensures.only spelled.a spelled.n spelled.numbers) spelled.is
 
 pub returns-in_default-strip_prefix-2-clause-found : goal.returns-in_default-strip_prefix-2-clause-found
-returns-in_default-strip_prefix-2-clause-found c = bare_parts c.args.line.now c.bare.result c.bare.ensures.found
+returns-in_default-strip_prefix-2-clause-found c = bare_parts c.args.base c.args.line.now c.bare.result (c.bare.ensures.found c.args.base)
 
 pub returns-in_default-strip_prefix-2-clause-only : goal.returns-in_default-strip_prefix-2-clause-only
 returns-in_default-strip_prefix-2-clause-only c logged row =
     let line = c.args.line.now in
-    c.bare.ensures.only logged (bare_row c.args.line.now row
+    c.bare.ensures.only c.args.base logged (bare_row c.args.line.now row
     (without line (codes "wrote ") c.strip_prefix.result c.strip_prefix.ensures.cases c.in_default.not-Some)
     (without line (codes "fetched ") c.strip_prefix-in_default.result c.strip_prefix-in_default.ensures.cases c.in_default-strip_prefix.not-Some)
     (without line (codes "low ") c.strip_prefix-in_default-strip_prefix.result c.strip_prefix-in_default-strip_prefix.ensures.cases c.in_default-strip_prefix-2.not-Some))
