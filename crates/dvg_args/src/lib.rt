@@ -21,4 +21,4 @@ mod task;
 
 pub use arguments::job;
 pub use refusal::arguments_status;
-pub use task::{Job, LayForm};
+pub use task::{Job, LayForm, PictureForm};

@@ -2,10 +2,11 @@
 ghost use Rattle.std.specs.Prelude.{◌≡◌, ◌≤◌, ◌+◌, ◌++◌, length};
 ghost use Rattle.dvg_print.specs.Lines.{spaced};
 ghost use Rattle.dvg_print.specs.RunLines.{beam_parts, broke_line, endless_line, instruction_line};
+ghost use Rattle.dvg_print.specs.RunLines.{move_line};
 
 use crate::line::Line;
 use dvg_code::Code;
-use dvg_gen::{Beam, GenFault};
+use dvg_gen::{Beam, GenFault, Move};
 
 impl Line {
     // Appends where `beam` is, in 1/512 units, and its global scale.
@@ -28,6 +29,21 @@ impl Line {
     {
         self.become_placed(usize::from(address), code, canonical);
         self.beam(beam);
+        self.text(b"\n");
+    }
+
+    /// Becomes the line that `picture --moves` writes of `made`: the address of its instruction,
+    /// where it begins and ends, in the unit that it has them, and its intensity.
+    pub fn become_move(&mut self, made: &Move)
+        ensures { self.new ≡ move_line made.now }
+    {
+        self.clear();
+        self.hex_3(usize::from(made.address));
+        self.number(made.x0);
+        self.number(made.y0);
+        self.number(made.x1);
+        self.number(made.y1);
+        self.number(made.z);
         self.text(b"\n");
     }
 

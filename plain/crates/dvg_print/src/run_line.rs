@@ -1,7 +1,7 @@
 //! Lines of what one run of the generator does.
 use crate::line::Line;
 use dvg_code::Code;
-use dvg_gen::{Beam, GenFault};
+use dvg_gen::{Beam, GenFault, Move};
 
 impl Line {
     // Appends where `beam` is, in 1/512 units, and its global scale.
@@ -18,6 +18,19 @@ impl Line {
     pub fn become_instruction(&mut self, address: u16, code: &Code, canonical: bool, beam: &Beam) {
         self.become_placed(usize::from(address), code, canonical);
         self.beam(beam);
+        self.text(b"\n");
+    }
+
+    /// Becomes the line that `picture --moves` writes of `made`: the address of its instruction,
+    /// where it begins and ends, in the unit that it has them, and its intensity.
+    pub fn become_move(&mut self, made: &Move) {
+        self.clear();
+        self.hex_3(usize::from(made.address));
+        self.number(made.x0);
+        self.number(made.y0);
+        self.number(made.x1);
+        self.number(made.y1);
+        self.number(made.z);
         self.text(b"\n");
     }
 

@@ -2,4 +2,4 @@ use Rattle.dvg_picture.proofs.Shown.{finds}
 use Rattle.dvg_picture.proofs.engine.PictureEngineEngine.find.Goals as goal
 
 pub returns : goal.returns
-returns g c = finds c.args.self.now.all c.args.read.now c.run_dump.result c.run_dump.ensures.run c.run_dump.ensures.fault
+returns g c = finds _ c.args.read.now c.run_dump.result c.run_dump.ensures.run c.run_dump.ensures.fault
