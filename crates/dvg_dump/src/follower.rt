@@ -10,7 +10,7 @@ use std::marker::Model;
 
 /// Goes along the instructions of a run, and tells their moves: in 1/512 of a screen unit, or in
 /// whole units, as the counters of `dvg_gen` have them.
-#[derive(Clone, Copy, Debug)]
+#[derive(Debug, Drop)]
 pub struct Follower {
     units: bool,
     beam: Beam,

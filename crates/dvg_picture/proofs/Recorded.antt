@@ -6,6 +6,8 @@ use Rattle.dvg_gen.specs.declared.moving.Move.{Move}
 use Rattle.dvg_gen.specs.Counting.{followed_all}
 use Rattle.dvg_gen.specs.Moving.{made, seen, seen_by}
 use Rattle.dvg_gen.specs.Run.{Visit}
+use Rattle.dvg_gen.specs.declared.stroke.Stroke.{Stroke}
+use Rattle.dvg_print.specs.RunLines.{move_line}
 use Rattle.dvg_print.specs.Shows.{stroke_line}
 use Rattle.dvg_dump.specs.declared.ran.Ran.{Ran}
 use Rattle.dvg_dump.specs.Ends.{End, Complete, Broken, Endless}
@@ -13,7 +15,7 @@ use Rattle.dvg_dump.specs.Traces.{trace, trace_if}
 use Rattle.dvg_dump.specs.Units.{Course, moves_ahead, moves_in, origin, recorded_moves, setting_out, units_if}
 use Rattle.dvg_dump.proofs.Moved.{moves_of_trace, units_more}
 use Rattle.dvg_picture.specs.declared.form.RunForm.{RunForm}
-use Rattle.dvg_picture.specs.Texts.{moved_text, picture_text, recorded_text, run_text, traces}
+use Rattle.dvg_picture.specs.Texts.{moved_text, picture_text, ran_text, recorded_text, run_text, traces}
 
 -- the moves that are recorded are those of the run
 moves_are : (units : Bool) (memory : ℕ → Option ℕ) (visits : List Visit) → moves_ahead (setting_out units) (trace memory visits) ≡ moves_in units visits
@@ -63,5 +65,24 @@ as_strokes (move ∷ later) =
     ap (λ l. flat_map stroke_line (seen_by move.z move) ++ l) (as_strokes later)
     ∙ sym (flat_map-append stroke_line (seen_by move.z move) (seen later))
 
-pub as_moves : (moves : List Move) → flat_map (moved_text false) moves ≡ flat_map (λ move. moved_text false move) moves
-as_moves moves = refl
+-- where whole units are asked for, these are the strokes' lines
+pub in_units_text : (units : Bool) (ran : List Ran) (strokes : List Stroke) → units ≡ true
+    → flat_map (moved_text true) (moves_ahead (setting_out true) ran) ≡ flat_map stroke_line (cond units (seen (moves_ahead (setting_out units) ran)) strokes)
+in_units_text true ran strokes asked = as_strokes (moves_ahead (setting_out true) ran)
+in_units_text false ran strokes asked = cc
+
+-- the lines of instructions, where they are asked for
+pub asked_ran : (asked : Bool) (ran lent given : List Ran) → lent ≡ ran → given ≡ cond asked lent [] → flat_map ran_text given ≡ flat_map ran_text (cond asked ran [])
+asked_ran asked ran lent given same is = ap (flat_map ran_text) (is ∙ ap (λ l. cond asked l []) same)
+
+-- and those of their moves
+moves_of_asked : (asked units : Bool) (ran : List Ran)
+    → flat_map (moved_text false) (moves_ahead (setting_out units) (cond asked ran [])) ≡ flat_map move_line (cond asked (moves_ahead (setting_out units) ran) [])
+moves_of_asked true units ran = refl
+moves_of_asked false true ran = refl
+moves_of_asked false false ran = refl
+
+pub asked_moves : (asked units : Bool) (ran lent given : List Ran) → lent ≡ ran → given ≡ cond asked lent []
+    → flat_map (moved_text false) (moves_ahead (setting_out units) given) ≡ flat_map move_line (cond asked (moves_ahead (setting_out units) ran) [])
+asked_moves asked units ran lent given same is =
+    ap (λ l. flat_map (moved_text false) (moves_ahead (setting_out units) l)) (is ∙ ap (λ l. cond asked l []) same) ∙ moves_of_asked asked units ran

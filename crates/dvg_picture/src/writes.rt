@@ -2,6 +2,7 @@
 ghost use Rattle.std.specs.Prelude.{◌≡◌, ◌++◌, [], cond, flat_map};
 ghost use Rattle.dvg_gen.specs.Moving.{seen};
 ghost use Rattle.dvg_dump.specs.Endings.{end_of};
+ghost use Rattle.dvg_dump.specs.Ends.{Complete};
 ghost use Rattle.dvg_io.specs.Watching.{Writes};
 ghost use Rattle.dvg_print.specs.Shows.{stroke_line};
 ghost use Rattle.dvg_dump.specs.Units.{moves_ahead, setting_out};
@@ -77,6 +78,24 @@ fn write_drawn<W: Write>(
     }
 }
 
+// Writes the line of a picture of so many `words` to `writer`, and the lines of `strokes`, as
+// `write_drawn` does. They may be made in `line`.
+fn write_picture<W: Write>(
+    line: &mut Line,
+    words: u32,
+    trace: &[Ran],
+    strokes: &[Stroke],
+    units: bool,
+    writer: &mut Watched<W>,
+) -> Result<(), StreamFailed>
+    ensures { Writes W.contents (end_text units (moves_ahead (setting_out units) trace.now)
+        (Complete words strokes.now)) result writer.old writer.new }
+{
+    line.become_picture(words as usize, strokes.len());
+    write_whole(writer, line.as_bytes())?;
+    write_drawn(line, trace, strokes, units, writer)
+}
+
 // Writes how `run` ends to `writer`, with `units` in whole units. The lines are made in `line`.
 fn write_end<A: Allocator, W: Write>(
     line: &mut Line,
@@ -90,9 +109,8 @@ fn write_end<A: Allocator, W: Write>(
 {
     match &run.ending {
         Ending::Finished { words, strokes } => {
-            line.become_picture(*words as usize, strokes.len());
-            write_whole(writer, line.as_bytes())?;
-            write_drawn(line, run.ran.as_slice(), strokes.as_slice(), units, writer)
+            let trace = run.ran.as_slice();
+            write_picture(line, *words, trace, strokes.as_slice(), units, writer)
         }
         Ending::Broke { address, fault } => {
             line.become_broke(*address, *fault);
