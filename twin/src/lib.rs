@@ -1,6 +1,7 @@
 //! What the proved sources do, written a second time in plain Rust, with nothing proved and nothing
 //! taken over: an oracle for tests, and what speeds are compared with.
 
+pub mod counters;
 pub mod drafts;
 pub mod draw;
 pub mod driver;

@@ -1,6 +1,7 @@
 //! One run over an image of vector memory in plain Rust, for the plain twin: what it draws, or why
 //! that has no end.
 
+use crate::counters::Counters;
 use crate::generator::{Beam, GenFault, Generator, Stroke, Taken};
 use crate::lines::Line;
 use crate::shows::write_strokes;
@@ -16,13 +17,23 @@ const MOST_WORDS: u32 = 65_536;
 /// The word address after a ROM's last word.
 const ROM_END: usize = 0xC00;
 
-/// An instruction that was run: its address, its words, the beam after it, and its stroke.
+/// An instruction that was run: its address, its words, the beam before and after it, and its
+/// stroke.
 struct Ran {
     address: u16,
     first: u16,
     second: u16,
+    before: Beam,
     beam: Beam,
     stroke: Option<Stroke>,
+}
+
+/// What is written of a run beside how it ends.
+#[derive(Clone, Copy)]
+pub struct Form {
+    pub all: bool,
+    pub moves: bool,
+    pub units: bool,
 }
 
 /// How a run ends.
@@ -58,7 +69,7 @@ fn take_word(generator: &mut Generator, word: Option<u16>) -> Taken {
 }
 
 /// Runs a generator over an image, with the instructions that were run where they are asked for.
-fn run(image: &[u8], all: bool) -> (Vec<Ran>, Ending) {
+fn run(image: &[u8], traces: bool) -> (Vec<Ran>, Ending) {
     let mut generator = Generator::new();
     let mut ran = Vec::new();
     // The address and the first word of an instruction that wants a second one.
@@ -70,8 +81,9 @@ fn run(image: &[u8], all: bool) -> (Vec<Ran>, Ending) {
         };
         let word = word_at(image, address);
         let strokes = generator.strokes().len();
+        let before = generator.beam();
         let taken = take_word(&mut generator, word);
-        if all && let Some(word) = word {
+        if traces && let Some(word) = word {
             if held.is_none() && word < 0xB000 {
                 held = Some((address, word));
             } else {
@@ -80,6 +92,7 @@ fn run(image: &[u8], all: bool) -> (Vec<Ran>, Ending) {
                     address,
                     first,
                     second: word,
+                    before,
                     beam: generator.beam(),
                     stroke: generator.strokes().get(strokes).copied(),
                 });
@@ -112,8 +125,54 @@ fn write_ran(ran: &Ran, writer: &mut impl Write) -> io::Result<()> {
     write_strokes(ran.stroke.as_slice(), writer)
 }
 
-/// Writes how a run ends.
-fn write_ending(ending: &Ending, writer: &mut impl Write) -> io::Result<()> {
+/// The intensity of the move that an instruction makes, by its words. None where it makes none.
+fn intensity(ran: &Ran) -> Option<u8> {
+    match ran.first >> 12 {
+        0..=9 => Some((ran.second >> 12) as u8),
+        0xA => Some(0),
+        0xF => Some((ran.first >> 4 & 15) as u8),
+        _ => None,
+    }
+}
+
+/// Each move of these instructions, with its address: from where to where, and its intensity.
+fn moves(trace: &[Ran], units: bool) -> Vec<(u16, Stroke)> {
+    let mut counters = Counters::new();
+    let mut moves = Vec::new();
+    for ran in trace {
+        let from = counters;
+        counters.step(ran.before.scale, ran.first, ran.second);
+        let Some(z) = intensity(ran) else {
+            continue;
+        };
+        let (x0, y0, x1, y1) = if units {
+            (from.x, from.y, counters.x, counters.y)
+        } else {
+            (ran.before.x, ran.before.y, ran.beam.x, ran.beam.y)
+        };
+        moves.push((ran.address, Stroke { x0, y0, x1, y1, z }));
+    }
+    moves
+}
+
+/// Writes the line of a move.
+fn write_move(address: u16, made: &Stroke, writer: &mut impl Write) -> io::Result<()> {
+    let mut line = Line::new();
+    line.hex::<3>(usize::from(address));
+    for number in [made.x0, made.y0, made.x1, made.y1, u32::from(made.z)] {
+        line.push(b' ');
+        line.decimal(number);
+    }
+    line.push(b'\n');
+    line.write(writer)
+}
+
+/// Writes how a run ends, with these strokes in place of its own where there are some.
+fn write_ending(
+    ending: &Ending,
+    counted: Option<Vec<Stroke>>,
+    writer: &mut impl Write,
+) -> io::Result<()> {
     let mut line = Line::new();
     match ending {
         Ending::Finished(words, strokes) => {
@@ -123,7 +182,7 @@ fn write_ending(ending: &Ending, writer: &mut impl Write) -> io::Result<()> {
             line.decimal(strokes.len() as u32);
             line.push(b'\n');
             line.write(writer)?;
-            write_strokes(strokes, writer)
+            write_strokes(counted.as_ref().unwrap_or(strokes), writer)
         }
         Ending::Broke(address, fault, _) => {
             line.text(b"broke ");
@@ -162,13 +221,23 @@ pub fn is_image(bytes: usize) -> bool {
     bytes == 4096 || bytes == 6144
 }
 
-/// Runs a generator over an image, writes how that ends, with `all` after the instructions that
-/// were run, and answers whether it drew a picture.
-pub fn write_picture(image: &[u8], all: bool, writer: &mut impl Write) -> io::Result<bool> {
-    let (ran, ending) = run(image, all);
-    for ran in &ran {
-        write_ran(ran, writer)?;
+/// Runs a generator over an image, writes what the form asks for and how it ends, and answers
+/// whether it drew a picture.
+pub fn write_picture(image: &[u8], form: Form, writer: &mut impl Write) -> io::Result<bool> {
+    let (ran, ending) = run(image, form.all || form.moves || form.units);
+    if form.all {
+        for ran in &ran {
+            write_ran(ran, writer)?;
+        }
     }
-    write_ending(&ending, writer)?;
+    let moves = moves(&ran, form.units);
+    if form.moves {
+        for (address, made) in &moves {
+            write_move(*address, made, writer)?;
+        }
+    }
+    let seen = moves.into_iter().map(|(_, made)| made);
+    let counted = form.units.then(|| seen.filter(|made| made.z > 0).collect());
+    write_ending(&ending, counted, writer)?;
     Ok(matches!(ending, Ending::Finished(..)))
 }

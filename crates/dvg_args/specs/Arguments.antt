@@ -38,9 +38,11 @@ with_value part option = with_rule part (valued option)
 abbrev pub list_app : App
 list_app = with_value (new_app (codes "list")) (codes "at")
 
--- the subcommand `picture`: of each instruction, or as SVG of a size
+-- the subcommand `picture`: of each instruction, of each move, in whole units, or as SVG of a size
 abbrev pub picture_app : App
-picture_app = with_value (with_flag (with_flag (new_app (codes "picture")) (codes "all")) (codes "svg")) (codes "scale")
+picture_app =
+    let with_moves = with_flag (with_flag (new_app (codes "picture")) (codes "all")) (codes "moves") in
+    with_value (with_flag (with_flag with_moves (codes "units")) (codes "svg")) (codes "scale")
 
 -- the subcommand `check`: with the bound
 abbrev pub check_app : App
@@ -103,9 +105,9 @@ IsJob list_job met = option_map {U = Text × Bool} (λ p. (p.0, gives (codes "at
 IsJob (ListAt address) met =
     option_map {U = Text × Option ℕ} (λ p. (p.0, address_of p.1)) met ≡ Some (codes "list", Some address)
 IsJob Rom met = option_map (λ p. p.0) met ≡ Some (codes "rom")
-IsJob (Picture all) met =
-    option_map {U = Text × Bool × Bool} (λ p. (p.0, sets (codes "svg") p.1, sets (codes "all") p.1)) met
-    ≡ Some (codes "picture", false, all)
+IsJob (Picture form) met = option_map {U = Text × Bool × Bool × Bool × Bool}
+    (λ p. (p.0, sets (codes "svg") p.1, sets (codes "all") p.1, sets (codes "moves") p.1, sets (codes "units") p.1)) met
+    ≡ Some (codes "picture", false, form.all, form.moves, form.units)
 IsJob (PictureSvg percent) met =
     option_map {U = Text × Bool × Option ℕ} (λ p. (p.0, sets (codes "svg") p.1, percent_of p.1)) met
     ≡ Some (codes "picture", true, Some percent)

@@ -1,5 +1,5 @@
 -- What some arguments come to.
-use Rattle.std.specs.Prelude.{◌≡◌, true, false, All, IfSome, List, [], ◌∷◌, None, Some, codes}
+use Rattle.std.specs.Prelude.{◌≡◌, Bool, true, false, All, IfSome, List, [], ◌∷◌, None, Some, codes}
 use Rattle.clap.specs.Words.{Kinds, Row, Text, subcommand_of}
 use Rattle.clap.specs.declared.error.kind.ErrorKind.TheVariants.{ArgumentConflict, DisplayHelp, DisplayVersion}
 use Rattle.clap.specs.declared.error.kind.ErrorKind.TheVariants.{InvalidSubcommand, InvalidValue}
@@ -11,6 +11,7 @@ use Rattle.dvg_args.specs.declared.task.Job.{Job}
 use Rattle.dvg_args.specs.declared.task.Job.TheVariants.{List as list_job, ListAt, Rom, Picture, PictureSvg, Check}
 use Rattle.dvg_args.specs.declared.task.Job.TheVariants.{Play, PlaySvg, Torn, Render, RenderCheck, Lay}
 use Rattle.dvg_args.specs.declared.task.LogRule.TheVariants.{Halves, Moments, AllMoments}
+use Rattle.dvg_args.specs.declared.task.PictureForm.{PictureForm}
 use Rattle.dvg_args.specs.declared.task.LayForm.TheVariants.{Half0, Half1, Table, Rom as RomBytes, Equates, Draft}
 
 -- after any name of the program, the arguments are taken and ask for the job
@@ -22,14 +23,20 @@ AskFor arguments job = (name : Text) → TakesArguments (name ∷ arguments) × 
 abbrev pub FailAs : List Text → Kinds → Type 0
 FailAs arguments kinds = (name : Text) → arguments_fault (name ∷ arguments) ≡ kinds
 
+-- what `picture` shows with these options
+abbrev pub picture_form : (all moves units : Bool) → PictureForm
+picture_form all moves units = record { all = all; moves = moves; units = units }
+
 -- the arguments of each job that reads no sketch
 abbrev pub TextJobArguments : Type 0
 TextJobArguments = AskFor (codes "list" ∷ []) list_job
     × AskFor (codes "list" ∷ codes "--at" ∷ codes "000" ∷ []) (ListAt 0)
     × AskFor (codes "list" ∷ codes "--at" ∷ codes "FfE" ∷ []) (ListAt 4094)
     × AskFor (codes "rom" ∷ []) Rom
-    × AskFor (codes "picture" ∷ []) (Picture false)
-    × AskFor (codes "picture" ∷ codes "--all" ∷ []) (Picture true)
+    × AskFor (codes "picture" ∷ []) (Picture (picture_form false false false))
+    × AskFor (codes "picture" ∷ codes "--all" ∷ []) (Picture (picture_form true false false))
+    × AskFor (codes "picture" ∷ codes "--moves" ∷ []) (Picture (picture_form false true false))
+    × AskFor (codes "picture" ∷ codes "--units" ∷ codes "--moves" ∷ []) (Picture (picture_form false true true))
     × AskFor (codes "picture" ∷ codes "--svg" ∷ []) (PictureSvg 100)
     × AskFor (codes "picture" ∷ codes "--scale" ∷ codes "10" ∷ codes "--svg" ∷ []) (PictureSvg 10)
     × AskFor (codes "check" ∷ []) (Check false)
@@ -94,6 +101,8 @@ RefusedOptions = FailAs (codes "list" ∷ codes "--at" ∷ codes "12" ∷ []) (I
     × FailAs (codes "list" ∷ codes "--at" ∷ codes "+12" ∷ []) (InvalidValue ∷ [])
     × FailAs (codes "list" ∷ codes "--at" ∷ codes "1000" ∷ []) (InvalidValue ∷ [])
     × FailAs (codes "picture" ∷ codes "--svg" ∷ codes "--all" ∷ []) (ArgumentConflict ∷ [])
+    × FailAs (codes "picture" ∷ codes "--moves" ∷ codes "--all" ∷ []) (ArgumentConflict ∷ [])
+    × FailAs (codes "picture" ∷ codes "--svg" ∷ codes "--units" ∷ []) (ArgumentConflict ∷ [])
     × FailAs (codes "picture" ∷ codes "--scale" ∷ codes "50" ∷ []) (MissingRequiredArgument ∷ [])
     × FailAs (codes "picture" ∷ codes "--svg" ∷ codes "--scale" ∷ codes "9" ∷ []) (InvalidValue ∷ [])
     × FailAs (codes "play" ∷ codes "--all" ∷ codes "--svg" ∷ []) (ArgumentConflict ∷ [])
@@ -116,8 +125,8 @@ RefusedOptions = FailAs (codes "list" ∷ codes "--at" ∷ codes "12" ∷ []) (I
 -- the matching gives none of the options that this subcommand may refuse
 abbrev pub GivesNoneRefused : Text → List Row → Type 0
 GivesNoneRefused name rows = (name ≡ codes "torn" → sets (codes "all") rows ≡ false)
-    × All (λ id. sets id rows ≡ false) (codes "svg" ∷ codes "table" ∷ codes "rom" ∷ codes "equates"
-    ∷ codes "draft" ∷ [])
+    × All (λ id. sets id rows ≡ false) (codes "svg" ∷ codes "moves" ∷ codes "units" ∷ codes "table"
+    ∷ codes "rom" ∷ codes "equates" ∷ codes "draft" ∷ [])
     × All (λ id. gives id rows ≡ false) (codes "at" ∷ codes "scale" ∷ codes "rate" ∷ codes "half"
     ∷ codes "base" ∷ [])
 

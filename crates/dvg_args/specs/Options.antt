@@ -124,11 +124,24 @@ shows_well rows = is_some (percent_of rows) && is_some (rate_of rows)
 abbrev pub list_fault : List Row → Kinds
 list_fault rows = refused_by false false (not (gives (codes "at") rows) || is_some (address_of rows))
 
--- how the options of `picture` and of `play` are refused: a size and a rate go with `--svg` alone
-abbrev pub svg_fault : List Row → Kinds
-svg_fault rows = refused_by (sets (codes "svg") rows && sets (codes "all") rows)
+-- how the options of `picture` and of `play` are refused, of which two may clash: a size and a rate go with `--svg`
+-- alone
+abbrev pub svg_fault : (clash : Bool) → List Row → Kinds
+svg_fault clash rows = refused_by clash
     (not (sets (codes "svg") rows) && (gives (codes "scale") rows || gives (codes "rate") rows))
     (shows_well rows)
+
+-- how the options of `picture` are refused: an SVG and each instruction exclude each other, and moves and whole units
+abbrev pub picture_fault : List Row → Kinds
+picture_fault rows = svg_fault
+    ((sets (codes "svg") rows && sets (codes "all") rows)
+    || ((sets (codes "svg") rows || sets (codes "all") rows)
+    && (sets (codes "moves") rows || sets (codes "units") rows)))
+    rows
+
+-- how the options of `play` are refused: an SVG and each entry exclude each other
+abbrev pub play_fault : List Row → Kinds
+play_fault rows = svg_fault (sets (codes "svg") rows && sets (codes "all") rows) rows
 
 -- how the options of `render` are refused
 abbrev pub render_fault : List Row → Kinds
@@ -146,8 +159,8 @@ torn_fault rows =
 -- how the options of a subcommand are refused; one that isn't named here has none that can be
 abbrev pub fault_in : Text → List Row → Kinds
 fault_in name rows = if bytes_eq name (codes "list") then list_fault rows
-    else (if bytes_eq name (codes "picture") then svg_fault rows
-    else (if bytes_eq name (codes "play") then svg_fault rows
+    else (if bytes_eq name (codes "picture") then picture_fault rows
+    else (if bytes_eq name (codes "play") then play_fault rows
     else (if bytes_eq name (codes "render") then render_fault rows
     else (if bytes_eq name (codes "lay") then lay_fault rows
     else (if bytes_eq name (codes "torn") then torn_fault rows else [])))))

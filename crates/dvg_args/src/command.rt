@@ -117,7 +117,11 @@ fn picture_command<'a>(alloc: Global) -> Result<Command<'a>, AllocError>
     let picture = helped(alloc, "picture", about, usage, help::PICTURE);
     let each = "Print each instruction that is run, too";
     let with_all = with_flag(alloc, picture, "all", each)?;
-    let with_svg = with_flag(alloc, with_all, "svg", "Write the picture as SVG")?;
+    let moves = "Print each move of the beam, too, also one that isn't seen";
+    let with_moves = with_flag(alloc, with_all, "moves", moves)?;
+    let units = "Print positions in whole screen units, as hardware counts them";
+    let with_units = with_flag(alloc, with_moves, "units", units)?;
+    let with_svg = with_flag(alloc, with_units, "svg", "Write the picture as SVG")?;
     with_value(alloc, with_svg, "scale", "N", help::SCALE)
 }
 

@@ -1,5 +1,16 @@
 //! What the program can be asked to do.
 
+/// What is shown of what a dump of the memory draws.
+#[derive(Clone, Copy, Debug, PartialEq, Eq)]
+pub struct PictureForm {
+    /// Whether each instruction that is run is listed, too.
+    pub all: bool,
+    /// Whether each move is listed, too.
+    pub moves: bool,
+    /// Whether positions are in whole screen units.
+    pub units: bool,
+}
+
 /// What is laid out of a sketch.
 #[derive(Clone, Copy, Debug, PartialEq, Eq)]
 pub enum LayForm {
@@ -40,10 +51,9 @@ pub enum Job {
     },
     /// Write a ROM as text.
     Rom,
-    /// Show what a dump of the memory draws. With `all`, each instruction that is run is listed,
-    /// too.
+    /// Show what a dump of the memory draws, as `form` says.
     Picture {
-        all: bool,
+        form: PictureForm,
     },
     /// Draw what a dump of the memory draws as SVG, in the size `percent`.
     PictureSvg {

@@ -4,3 +4,4 @@ pub mod Stepping
 pub mod Telling
 pub mod Rows
 pub mod Silent
+pub mod Moved

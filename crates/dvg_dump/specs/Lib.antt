@@ -4,4 +4,5 @@ pub mod Endings
 pub mod Traces
 pub mod Following
 pub mod Tracing
+pub mod Units
 pub mod Laws

@@ -1,5 +1,5 @@
 //! Laws of the definitions alone. Each is the contract of a function that does nothing.
-ghost use Rattle.dvg_dump.specs.Laws.{OneEnd, StrokesOfTrace};
+ghost use Rattle.dvg_dump.specs.Laws.{MovesOfTrace, OneEnd, StrokesOfTrace};
 
 /// The run over a memory of words ends in exactly one way within 65,536 words, of which not ending
 /// is one, and after exactly one list of instructions.
@@ -10,4 +10,9 @@ pub fn one_end()
 /// The strokes of a run are those that are recorded of its instructions, in order.
 pub fn strokes_of_trace()
     ensures { StrokesOfTrace }
+{}
+
+/// The moves of a run are those that are recorded of its instructions, in order.
+pub fn moves_of_trace()
+    ensures { MovesOfTrace }
 {}

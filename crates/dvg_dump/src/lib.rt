@@ -8,6 +8,7 @@
 
 mod dump;
 mod ending;
+mod follower;
 pub mod laws;
 mod ran;
 mod runs;
@@ -15,5 +16,6 @@ mod tracer;
 
 pub use dump::{Dump, DumpFault, LARGE_DUMP_BYTES, SMALL_DUMP_BYTES};
 pub use ending::{Ending, Outcome};
+pub use follower::Follower;
 pub use ran::Ran;
 pub use runs::{MOST_WORDS, Traced};

@@ -17,9 +17,11 @@ use Rattle.dvg_dump.specs.declared.runs.Traced.{Traced}
 use Rattle.dvg_dump.specs.Endings.{end_of, outcome_of}
 use Rattle.dvg_dump.specs.Ends.{End}
 use Rattle.dvg_dump.specs.Memory.{HasDumpSize}
+use Rattle.dvg_picture.specs.declared.form.RunForm.{RunForm}
 use Rattle.dvg_picture.specs.Pictures.{HasDumpFault, IsDumpFault, IsRunOf, Pictures, ShowsRun}
-use Rattle.dvg_picture.specs.Texts.{ran_text, run_text}
 use Rattle.dvg_dump.specs.declared.dump.TheConstants.{LARGE_DUMP_BYTES}
+use Rattle.dvg_picture.specs.Texts.{ran_text, recorded_text, traces}
+use Rattle.dvg_picture.proofs.Recorded.{recorded_as}
 
 -- the next instruction is that at this index
 pub next_ran : (trace : List Ran) (i : ℕ) (ran : Ran) → i < length trace → ran ≡ get_or trace i ran
@@ -39,37 +41,38 @@ faulted LongDump input read e h = omega (arith, h, ap length e, length-take (LAR
 faulted _ input read e h = absurd h
 
 -- the run over what was read is that over the input
-pub run_of : (all : Bool) (input read : List ℕ) (ran : List Ran) (end : End) → read ≡ take (LARGE_DUMP_BYTES + 1) input → IsRunOf all read ran end → IsRunOf all input ran end
-run_of all input read ran end e run = subst (λ dump. IsRunOf all dump ran end) (whole LARGE_DUMP_BYTES read input e (short read run.0)) run
+pub run_of : (recorded : Bool) (input read : List ℕ) (ran : List Ran) (end : End) → read ≡ take (LARGE_DUMP_BYTES + 1) input → IsRunOf recorded read ran end → IsRunOf recorded input ran end
+run_of recorded input read ran end e run = subst (λ dump. IsRunOf recorded dump ran end) (whole LARGE_DUMP_BYTES read input e (short read run.0)) run
 
 -- what is found of what was read is found of the input
-pub finds : {A : Type 0} (all : Bool) (read : List ℕ) (answer : Result (Traced A) Unread)
-    → IfOk answer (λ run. IsRunOf all read run.ran.items (end_of run.ending)) → IfErr answer (IsDumpFault read)
-    → OfInput LARGE_DUMP_BYTES read (λ input. IsFinding (λ run. IsRunOf all input run.ran.items (end_of run.ending)) (HasDumpFault input) answer)
-finds all read (Ok run) ok err input e = run_of all input read run.ran.items (end_of run.ending) e ok
-finds all read (Err (unread.Text fault)) ok err input e = faulted fault input read e err
-finds all read (Err unread.Memory) ok err input e = tt
+pub finds : {A : Type 0} (recorded : Bool) (read : List ℕ) (answer : Result (Traced A) Unread)
+    → IfOk answer (λ run. IsRunOf recorded read run.ran.items (end_of run.ending)) → IfErr answer (IsDumpFault read)
+    → OfInput LARGE_DUMP_BYTES read (λ input. IsFinding (λ run. IsRunOf recorded input run.ran.items (end_of run.ending)) (HasDumpFault input) answer)
+finds recorded read (Ok run) ok err input e = run_of recorded input read run.ran.items (end_of run.ending) e ok
+finds recorded read (Err (unread.Text fault)) ok err input e = faulted fault input read e err
+finds recorded read (Err unread.Memory) ok err input e = tt
 
 -- a run is shown
-shows : (all : Bool) (input : List ℕ) (ran : List Ran) (end : End) (Holds : End → List ℕ → Type 0) → IsRunOf all input ran end
-    → Holds end (run_text ran end) → ShowsRun all input Holds
-shows all input ran end Holds run holds = record {
+shows : (form : RunForm) (input : List ℕ) (ran : List Ran) (end : End) (Holds : End → List ℕ → Type 0) → IsRunOf (traces form) input ran end
+    → Holds end (recorded_text form ran end) → ShowsRun form input Holds
+shows form input ran end Holds run holds = record {
   size = run.0;
   visits = run.1.0;
   end = end;
   ends = run.1.1;
-  holds = subst (λ recorded. Holds end (run_text recorded end)) run.1.2 holds;
+  holds = subst (Holds end) (ap (λ recorded. recorded_text form recorded end) run.1.2 ∙ recorded_as form _ run.1.0 end) holds;
 }
 
-pub drew : (all : Bool) (outcome : Outcome) (ran : List Ran) (end : End) (old new : Option (List ℕ)) (input : List ℕ) → outcome ≡ outcome_of end
-    → IsRunOf all input ran end × Appends old new (run_text ran end) → Pictures all (Ok outcome) input old new
-drew all outcome ran end old new input called run = shows all input ran end (λ end text. (outcome ≡ outcome_of end) × Appends old new text) run.0 (called, run.1)
+pub drew : (form : RunForm) (outcome : Outcome) (ran : List Ran) (end : End) (old new : Option (List ℕ)) (input : List ℕ) → outcome ≡ outcome_of end
+    → IsRunOf (traces form) input ran end × Appends old new (recorded_text form ran end) → Pictures form (Ok outcome) input old new
+drew form outcome ran end old new input called run = shows form input ran end (λ end text. (outcome ≡ outcome_of end) × Appends old new text) run.0 (called, run.1)
 
 -- where it stops
-pub stops : (A : Type 0) (all : Bool) (fault : ToolFault) (old new : Option (List ℕ)) (input : List ℕ)
-    → Answers {F = Traced A} (λ input run. IsRunOf all input run.ran.items (end_of run.ending)) HasDumpFault (λ run. run_text run.ran.items (end_of run.ending)) (Err fault) input old new
-    → Pictures all (Err fault) input old new
-stops A all (Text fault) old new input h = h
-stops A all Reader old new input h = tt
-stops A all Memory old new input h = tt
-stops A all Writer old new input (run, found, begun) = shows all input run.ran.items (end_of run.ending) (λ end text. BeginsToWrite text old new) found begun
+pub stops : (A : Type 0) (form : RunForm) (fault : ToolFault) (old new : Option (List ℕ)) (input : List ℕ)
+    → Answers {F = Traced A} (λ input run. IsRunOf (traces form) input run.ran.items (end_of run.ending)) HasDumpFault
+    (λ run. recorded_text form run.ran.items (end_of run.ending)) (Err fault) input old new
+    → Pictures form (Err fault) input old new
+stops A form (Text fault) old new input h = h
+stops A form Reader old new input h = tt
+stops A form Memory old new input h = tt
+stops A form Writer old new input (run, found, begun) = shows form input run.ran.items (end_of run.ending) (λ end text. BeginsToWrite text old new) found begun

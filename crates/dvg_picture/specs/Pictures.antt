@@ -15,17 +15,18 @@ use Rattle.dvg_dump.specs.Endings.{outcome_of}
 use Rattle.dvg_dump.specs.Ends.{End, Ends}
 use Rattle.dvg_dump.specs.Following.{TellsRun}
 use Rattle.dvg_dump.specs.Memory.{HasDumpSize, memory_of, parts_of}
+use Rattle.dvg_picture.specs.declared.form.RunForm.{RunForm}
 use Rattle.dvg_picture.specs.Texts.{picture_text}
 use Rattle.dvg_dump.specs.declared.dump.TheConstants.{LARGE_DUMP_BYTES}
 
 -- the input is a dump, whose run ends so, and this holds of that end and of the text that is shown
 -- of the run
-pub record ShowsRun (all : Bool) (input : List ℕ) (Holds : End → List ℕ → Type 0) : Type 0 where
+pub record ShowsRun (form : RunForm) (input : List ℕ) (Holds : End → List ℕ → Type 0) : Type 0 where
   pub size : HasDumpSize input
   pub visits : List Visit
   pub end : End
   pub ends : Ends (memory_of (parts_of input)) visits end
-  pub holds : Holds end (picture_text all (memory_of (parts_of input)) visits end)
+  pub holds : Holds end (picture_text form (memory_of (parts_of input)) visits end)
 
 -- the fault of an input that isn't a dump: how many bytes it has, or that these are more than a dump's
 abbrev pub HasDumpFault : List ℕ → TextFault → Type 0
@@ -36,12 +37,13 @@ HasDumpFault input _ = ⊥
 
 -- what `picture` answers of an input, and what went out: the text, or at `Writer` a beginning of it
 -- (that nothing went out at the other faults is a part of `Serves`)
-abbrev pub Pictures : Bool → Result Outcome ToolFault → (input : List ℕ) → Option (List ℕ) → Option (List ℕ) → Type 0
-Pictures all (Ok outcome) input old new = ShowsRun all input
+abbrev pub Pictures : RunForm → Result Outcome ToolFault → (input : List ℕ) → Option (List ℕ) → Option (List ℕ)
+    → Type 0
+Pictures form (Ok outcome) input old new = ShowsRun form input
     (λ end text. (outcome ≡ outcome_of end) × Appends old new text)
-Pictures all (Err (Text fault)) input old new = HasDumpFault input fault
-Pictures all (Err Writer) input old new = ShowsRun all input (λ end text. BeginsToWrite text old new)
-Pictures all _ input old new = Unit {0}
+Pictures form (Err (Text fault)) input old new = HasDumpFault input fault
+Pictures form (Err Writer) input old new = ShowsRun form input (λ end text. BeginsToWrite text old new)
+Pictures form _ input old new = Unit {0}
 
 -- a dump of a good size, whose run is recorded so (for a private contract)
 abbrev pub IsRunOf : Bool → List ℕ → List Ran → End → Type 0

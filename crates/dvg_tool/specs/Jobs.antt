@@ -19,6 +19,7 @@ use Rattle.dvg_logs.specs.AllTears.{AllTakes, AllTears}
 use Rattle.dvg_logs.specs.MomentTears.{MomentTakes, MomentTears}
 use Rattle.dvg_logs.specs.Tears.{Takes, Tears}
 use Rattle.dvg_picture.specs.Pictures.{Pictures}
+use Rattle.dvg_picture.specs.declared.form.RunForm.{RunForm}
 use Rattle.dvg_picture.specs.Svgs.{DrawsSvg}
 use Rattle.dvg_tool.specs.Lists.{Lists, ListsAt}
 use Rattle.dvg_tool.specs.Roms.{WritesRom}
@@ -35,6 +36,7 @@ use Rattle.dvg_args.specs.declared.task.Job.TheVariants.{List as list_job, ListA
 use Rattle.dvg_args.specs.declared.task.Job.TheVariants.{Play, PlaySvg, Torn, Render, RenderCheck, Lay}
 use Rattle.dvg_args.specs.declared.task.LogRule.TheVariants.{Halves, Moments, AllMoments}
 use Rattle.dvg_args.specs.declared.task.LayForm.{LayForm}
+use Rattle.dvg_args.specs.declared.task.PictureForm.{PictureForm}
 use Rattle.dvg_args.specs.declared.task.LayForm.TheVariants as asked
 use Rattle.dvg_read.specs.declared.draft_text.TheConstants.{MOST_TEXT_BYTES}
 use Rattle.dvg_tool.specs.declared.lists.TheConstants.{MOST_LIST_BYTES}
@@ -44,6 +46,10 @@ use Rattle.dvg_mem.specs.declared.TheConstants.{LARGE_ROM_BYTES}
 -- how pictures of this size and rate are shown
 abbrev pub show_of : (percent rate : ℕ) → Show
 show_of percent rate = record { percent = percent; rate = rate }
+
+-- what is written of a run over a dump, as `dvg_picture` has it
+abbrev pub run_form : PictureForm → RunForm
+run_form form = record { all = form.all; moves = form.moves; units = form.units }
 
 -- the form that is asked for, as `dvg_lay` has it
 abbrev pub form_of : LayForm → Form
@@ -75,8 +81,8 @@ Performs {A} (ListAt address) (Ok Written) input old new = ListsAt {T = Done A} 
 Performs {A} (ListAt address) (Err fault) input old new = ListsAt {T = Done A} address (Err fault) input old new
 Performs {A} Rom (Ok Written) input old new = WritesRom {T = Done A} (Ok Written) input old new
 Performs {A} Rom (Err fault) input old new = WritesRom {T = Done A} (Err fault) input old new
-Performs (Picture all) (Ok (Drew outcome)) input old new = Pictures all (Ok outcome) input old new
-Performs (Picture all) (Err fault) input old new = Pictures all (Err fault) input old new
+Performs (Picture form) (Ok (Drew outcome)) input old new = Pictures (run_form form) (Ok outcome) input old new
+Performs (Picture form) (Err fault) input old new = Pictures (run_form form) (Err fault) input old new
 Performs (PictureSvg percent) (Ok (DrewSvg undrawn)) input old new = DrawsSvg percent (Ok undrawn) input old new
 Performs (PictureSvg percent) (Err fault) input old new = DrawsSvg percent (Err fault) input old new
 Performs (Check false) (Ok (Judged verdict)) input old new = Checks (Ok verdict) input old new
@@ -123,7 +129,7 @@ abbrev pub TakesBy : {A : Type 0} → Job → Result (Done A) ToolFault → Opti
 TakesBy list_job answer old new = TakesAtMost (MOST_LIST_BYTES + 1) old new
 TakesBy (ListAt address) answer old new = TakesAtMost (MOST_LIST_BYTES + 1) old new
 TakesBy Rom answer old new = TakesAtMost (LARGE_ROM_BYTES + 1) old new
-TakesBy (Picture all) answer old new = TakesAtMost (LARGE_DUMP_BYTES + 1) old new
+TakesBy (Picture form) answer old new = TakesAtMost (LARGE_DUMP_BYTES + 1) old new
 TakesBy (PictureSvg percent) answer old new = TakesAtMost (LARGE_DUMP_BYTES + 1) old new
 TakesBy (Check bound) answer old new = TakesAtMost (MOST_TEXT_BYTES + 1) old new
 TakesBy (Play all banked) answer old new = TakesAtMost (MOST_TEXT_BYTES + 1) old new

@@ -1,6 +1,6 @@
 //! How much the engines take of a reader that never ends.
 use crate::streams::Endless;
-use crate::tasks::{BANKED_ENTRIES, ENTRIES, PICTURES};
+use crate::tasks::{BANKED_ENTRIES, ENTRIES, INSTRUCTIONS, PICTURES};
 use dvg_tool::{Done, Job, LayForm, TextFault, ToolFault, Watched, perform};
 use std::alloc::Global;
 
@@ -9,7 +9,7 @@ const LIMITS: [(Job, usize, TextFault); 14] = [
     (Job::List, 8192, TextFault::TooLong),
     (Job::ListAt { address: 0 }, 8192, TextFault::TooLong),
     (Job::Rom, 4096, TextFault::RomSize),
-    (Job::Picture { all: true }, 6144, TextFault::LongDump),
+    (INSTRUCTIONS, 6144, TextFault::LongDump),
     (Job::PictureSvg { percent: 100 }, 6144, TextFault::LongDump),
     (Job::Check { bound: false }, 1_048_576, TextFault::TooLong),
     (Job::Check { bound: true }, 1_048_576, TextFault::TooLong),

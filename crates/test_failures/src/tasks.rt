@@ -2,9 +2,10 @@
 use crate::answers::{Answer, Report, answered};
 use crate::traces::FIRST_PICTURE;
 use dvg_frame::{FrameFault, Place};
+use dvg_mem::MEMORY_BYTES;
 use dvg_tool::{
     BoundedVerdict, Job, LayForm, LogCounts, LogFinding, LogRule, LogVerdict, MomentVerdict,
-    Outcome, TextFault, ToolFault, Verdict, Watched, perform,
+    Outcome, PictureForm, TextFault, ToolFault, Verdict, Watched, perform,
 };
 use std::alloc::Global;
 use std::test::Fail;
@@ -29,6 +30,36 @@ pub const BANKED_ENTRIES: Job = Job::Play {
     all: true,
     banked: true,
 };
+
+/// To show what a dump draws: alone, with its instructions, and with its moves in whole units.
+pub const PICTURE: Job = Job::Picture {
+    form: PictureForm {
+        all: false,
+        moves: false,
+        units: false,
+    },
+};
+
+pub const INSTRUCTIONS: Job = Job::Picture {
+    form: PictureForm {
+        all: true,
+        moves: false,
+        units: false,
+    },
+};
+
+pub const MOVES: Job = Job::Picture {
+    form: PictureForm {
+        all: false,
+        moves: true,
+        units: true,
+    },
+};
+
+/// The first bytes of a dump: a LABS, a vector that isn't seen, one that is, and a return.
+const DUMP: [u8; 12] = [
+    0x08, 0xA0, 0x08, 0x00, 0x01, 0x80, 0x01, 0x00, 0x1A, 0xF1, 0x00, 0xD0,
+];
 
 /// A job with its input.
 #[derive(Clone, Copy)]
@@ -87,7 +118,17 @@ const SKETCH: &str = "labs 0 0 0\nhalt\n.frame b\nlabs 0 0 0\nhalt\n";
 
 const REFUSED_SKETCH: &str = "labs 0 0 0\na: call a\nhalt\n";
 
-/// Returns the tasks. One reads `rom`, and two read `dump`, whose first word is a return.
+/// Returns a dump whose run makes three moves and then breaks.
+pub fn dump(alloc: Global) -> Result<Vec<u8>, Fail> {
+    let mut bytes = Vec::new(alloc);
+    bytes.extend_from_slice(&DUMP)?;
+    while bytes.len() < 2 * MEMORY_BYTES {
+        bytes.push(0xD0)?;
+    }
+    Ok(bytes)
+}
+
+/// Returns the tasks. One reads `rom`, and three read `dump`, whose run breaks.
 pub fn tasks<'a>(rom: &'a [u8], dump: &'a [u8]) -> [Task<'a>; 18] {
     let task = |job, input, step, answer| Task {
         job,
@@ -105,17 +146,18 @@ pub fn tasks<'a>(rom: &'a [u8], dump: &'a [u8]) -> [Task<'a>; 18] {
         ),
         task(Job::Rom, rom, 64, Ok(Report::Written)),
         task(
-            Job::Picture { all: false },
+            PICTURE,
             dump,
             64,
             Ok(Report::Drew(Outcome::Broke)),
         ),
         task(
-            Job::Picture { all: true },
+            INSTRUCTIONS,
             dump,
             64,
             Ok(Report::Drew(Outcome::Broke)),
         ),
+        task(MOVES, dump, 64, Ok(Report::Drew(Outcome::Broke))),
         task(
             Job::Check { bound: false },
             REFUSED.as_bytes(),

@@ -156,6 +156,7 @@ struct Counts {
     refused: u64,
     instructions: u64,
     stars: u64,
+    moves: u64,
 }
 
 impl AddAssign for Counts {
@@ -169,6 +170,7 @@ impl AddAssign for Counts {
         self.refused += other.refused;
         self.instructions += other.instructions;
         self.stars += other.stars;
+        self.moves += other.moves;
     }
 }
 
@@ -178,10 +180,22 @@ impl fmt::Display for Counts {
         write!(
             f,
             "{} pictures of {} strokes; {over} fifth calls, {under} returns without a call, \
-             {hole} holes; {} endless; {} of a wrong size; {} instructions told, {} of them not canonical",
-            self.pictures, self.strokes, self.endless, self.refused, self.instructions, self.stars
+             {hole} holes; {} endless; {} of a wrong size; {} instructions told, {} of them not \
+             canonical; {} moves",
+            self.pictures,
+            self.strokes,
+            self.endless,
+            self.refused,
+            self.instructions,
+            self.stars,
+            self.moves
         )
     }
+}
+
+/// How many lines an answer has.
+fn lines(answer: &Answer) -> u64 {
+    answer.output.iter().filter(|byte| **byte == b'\n').count() as u64
 }
 
 /// Counts what an answer with all instructions shows.
@@ -226,7 +240,30 @@ fn compare(program: &Path, twin: &Path, image: &[u8]) -> io::Result<(Counts, Vec
             "`picture --all` ends otherwise than `picture`",
         ));
     }
-    Ok((count(&long), faults))
+    let moves = ask(program, &["picture", "--moves"], image)?;
+    if moves != ask(twin, &["picture", "--moves"], image)? {
+        faults.push(String::from("the twin answers `picture --moves` otherwise"));
+    }
+    if !moves.output.ends_with(&short.output) || moves.status != short.status {
+        faults.push(String::from(
+            "`picture --moves` ends otherwise than `picture`",
+        ));
+    }
+    let counted = ask(program, &["picture", "--moves", "--units"], image)?;
+    if counted != ask(twin, &["picture", "--moves", "--units"], image)? {
+        faults.push(String::from(
+            "the twin answers `picture --moves --units` otherwise",
+        ));
+    }
+    let units = ask(program, &["picture", "--units"], image)?;
+    if !counted.output.ends_with(&units.output) || units.status != short.status {
+        faults.push(String::from(
+            "`picture --moves --units` ends otherwise than `picture --units`",
+        ));
+    }
+    let mut counts = count(&long);
+    counts.moves = lines(&moves) - lines(&short);
+    Ok((counts, faults))
 }
 
 /// Runs images on all processors, each as soon as one is free.

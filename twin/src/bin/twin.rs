@@ -19,7 +19,7 @@ use twin::listing::{ListFault, write_list};
 use twin::made::Made;
 use twin::memory::{BYTES, Banked, Flat};
 use twin::options::Options;
-use twin::picture::{is_image, write_picture, write_picture_svg};
+use twin::picture::{Form, is_image, write_picture, write_picture_svg};
 use twin::shows::write_entries;
 use twin::sketch::read_sketch;
 use twin::svg::{Show, write_svgs};
@@ -235,10 +235,10 @@ fn read_image() -> Result<Vec<u8>, Fault> {
 }
 
 /// Writes what the image of vector memory that standard input holds draws, or why that has no end.
-fn picture(all: bool) -> Result<ExitCode, Fault> {
+fn picture(form: Form) -> Result<ExitCode, Fault> {
     let image = read_image()?;
     let mut writer = output()?;
-    let drew = write_picture(&image, all, &mut writer)
+    let drew = write_picture(&image, form, &mut writer)
         .and_then(|drew| writer.flush().map(|()| drew))
         .map_err(|_| Fault::Writer)?;
     Ok(status_of(drew))
@@ -414,12 +414,21 @@ fn list_by(arguments: &[String]) -> Option<Result<ExitCode, Fault>> {
 
 /// What `picture` is asked for. How large it is shown is asked of an SVG alone.
 fn picture_by(arguments: &[String]) -> Option<Result<ExitCode, Fault>> {
-    let options = Options::read(arguments, &["--all", "--svg"], &["--scale"])?;
+    let alone = ["--all", "--moves", "--units", "--svg"];
+    let options = Options::read(arguments, &alone, &["--scale"])?;
     let show = show_of(&options)?;
-    match (options.has("--svg"), options.has("--all")) {
+    let form = Form {
+        all: options.has("--all"),
+        moves: options.has("--moves"),
+        units: options.has("--units"),
+    };
+    let counted = form.moves || form.units;
+    match (options.has("--svg"), form.all) {
+        (true, true) => None,
+        (true, _) | (_, true) if counted => None,
         (true, false) => Some(picture_svg(show.percent)),
-        (false, all) if !options.has("--scale") => Some(picture(all)),
-        _ => None,
+        (false, _) if options.has("--scale") => None,
+        (false, _) => Some(picture(form)),
     }
 }
 

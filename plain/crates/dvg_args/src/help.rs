@@ -67,7 +67,8 @@ Example:
   rom BF8 0000 0000 0000 0000 0000 0000 0000 0000";
 
 /// How `picture` is called.
-pub(crate) const PICTURE_USAGE: &str = "dvg picture [--all | --svg [--scale N]] < DUMP";
+pub(crate) const PICTURE_USAGE: &str =
+    "dvg picture [--all | [--moves] [--units] | --svg [--scale N]] < DUMP";
 
 /// The input and output of `picture`.
 pub(crate) const PICTURE: &str =
@@ -89,6 +90,15 @@ beam at 0 0 and scale 0. Standard output is one of these:
 With `--all` there is first one line per instruction that is run, in order: its
 address, its name and its numbers as `dvg list` writes them, and after `at` the
 beam after it: x, y and scale. Where it draws a stroke, its line follows.
+
+With `--moves` there is first one line `HHH x0 y0 x1 y1 z` per move, in order: the
+address of its VCTR, SVEC or LABS, from where to where, and the intensity, which is
+0 where nothing is seen and of each LABS. A run that broke or is endless has them
+up to its last whole instruction.
+
+With `--units` moves and strokes are in whole units, 0 to 4095, as hardware counts
+them: along each axis a vector of d in 1/512 counts (|d| + 256) / 512, rounded down,
+with the sign of d, also where nothing is seen, and a LABS sets the count.
 
 With `--svg` standard output is the picture as SVG, in which at 100 percent a
 screen unit is a pixel. Of a run that broke or is endless it has the strokes up

@@ -10,11 +10,13 @@ extern crate plain_std as std;
 
 mod dump;
 mod ending;
+mod follower;
 mod ran;
 mod runs;
 mod tracer;
 
 pub use dump::{Dump, DumpFault, LARGE_DUMP_BYTES, SMALL_DUMP_BYTES};
 pub use ending::{Ending, Outcome};
+pub use follower::Follower;
 pub use ran::Ran;
 pub use runs::{MOST_WORDS, Traced};

@@ -1,0 +1,53 @@
+//! Moves of instructions that were run.
+use crate::ran::Ran;
+use dvg_gen::{Beam, Counters, Move};
+
+/// Goes along the instructions of a run, and tells their moves: in 1/512 of a screen unit, or in
+/// whole units, as the counters of `dvg_gen` have them.
+#[derive(Clone, Copy, Debug)]
+pub struct Follower {
+    units: bool,
+    beam: Beam,
+    counters: Counters,
+}
+
+impl Follower {
+    /// Returns one that stands before the first instruction of a new generator. With `units` it
+    /// tells moves in whole units.
+    pub fn new(units: bool) -> Follower {
+        Follower {
+            units,
+            beam: Beam::place(0, 0, 0),
+            counters: Counters { x: 0, y: 0 },
+        }
+    }
+
+    /// Goes past `ran`, the next instruction, and returns its move. `None` means that it leaves the
+    /// beam as it is.
+    pub fn follow(&mut self, ran: &Ran) -> Option<Move> {
+        let made = Move::of(&self.beam, &ran.code, ran.address);
+        self.beam = ran.beam;
+        match made {
+            Some(made) => Some(self.told(&made)),
+            None => None,
+        }
+    }
+
+    // Lets the counters follow `made`, and returns it in the unit that is asked for.
+    fn told(&mut self, made: &Move) -> Move {
+        let before = self.counters;
+        self.counters.follow(made);
+        if !self.units {
+            return *made;
+        }
+        Move {
+            x0: u32::from(before.x),
+            y0: u32::from(before.y),
+            x1: u32::from(self.counters.x),
+            y1: u32::from(self.counters.y),
+            z: made.z,
+            placed: made.placed,
+            address: made.address,
+        }
+    }
+}
