@@ -1,7 +1,7 @@
 //! What the options of `list`, `picture`, `play` and `render` ask for. That some exclude each
 //! other, and which values they take, is this project's own choice.
 use crate::options::{Shown, hex_in, is_given, is_set, read_shown};
-use crate::task::Job;
+use crate::task::{Job, PictureForm};
 use clap::ArgMatches;
 use clap::error::ErrorKind;
 
@@ -17,15 +17,14 @@ pub(crate) fn list_job(found: &ArgMatches) -> Result<Job, ErrorKind> {
     }
 }
 
-// Returns the size and the rate that the options in `found` give, or the defaults. Refused are
-// `--svg` with `--all` (`ArgumentConflict`), a size or a rate without `--svg`
+// Returns the size and the rate that the options in `found` give, or the defaults. Refused are two
+// options that `clash` (`ArgumentConflict`), a size or a rate without `--svg`
 // (`MissingRequiredArgument`), and a number out of range (`InvalidValue`).
-fn svg_shown(found: &ArgMatches) -> Result<Shown, ErrorKind> {
+fn svg_shown(found: &ArgMatches, clash: bool) -> Result<Shown, ErrorKind> {
     let svg = is_set(found, "svg");
-    let all = is_set(found, "all");
     let scale = is_given(found, "scale");
     let rate = is_given(found, "rate");
-    if svg && all {
+    if clash {
         return Err(ErrorKind::ArgumentConflict);
     }
     if !svg && (scale || rate) {
@@ -37,43 +36,48 @@ fn svg_shown(found: &ArgMatches) -> Result<Shown, ErrorKind> {
     }
 }
 
-/// Returns what the options of `picture` in `found` ask for. Refused are `--svg` with `--all`
-/// (`ArgumentConflict`), a size without `--svg` (`MissingRequiredArgument`), and a size that isn't
-/// a number from 10 to 400 (`InvalidValue`).
+/// Returns what the options of `picture` in `found` ask for. Refused are two of `--svg`, `--all`
+/// and either of `--moves` and `--units` (`ArgumentConflict`), a size without `--svg`
+/// (`MissingRequiredArgument`), and a size that isn't a number from 10 to 400 (`InvalidValue`).
 pub(crate) fn picture_job(found: &ArgMatches) -> Result<Job, ErrorKind> {
-    let shown = match svg_shown(found) {
+    let svg = is_set(found, "svg");
+    let all = is_set(found, "all");
+    let moves = is_set(found, "moves");
+    let units = is_set(found, "units");
+    let clash = (svg && all) || ((svg || all) && (moves || units));
+    let shown = match svg_shown(found, clash) {
         Ok(shown) => shown,
         Err(kind) => return Err(kind),
     };
-    if is_set(found, "svg") {
+    if svg {
         return Ok(Job::PictureSvg {
             percent: shown.percent,
         });
     }
     Ok(Job::Picture {
-        all: is_set(found, "all"),
+        form: PictureForm { all, moves, units },
     })
 }
 
-/// Returns what the options of `play` in `found` ask for. They are refused as those of `picture`
-/// are. A rate is refused as a size is, and where it isn't a number from 1 to 60.
+/// Returns what the options of `play` in `found` ask for. Refused are `--svg` with `--all`
+/// (`ArgumentConflict`), a size or a rate without `--svg` (`MissingRequiredArgument`), and a size
+/// that isn't a number from 10 to 400, or a rate that isn't one from 1 to 60 (`InvalidValue`).
 pub(crate) fn play_job(found: &ArgMatches) -> Result<Job, ErrorKind> {
-    let shown = match svg_shown(found) {
+    let svg = is_set(found, "svg");
+    let all = is_set(found, "all");
+    let shown = match svg_shown(found, svg && all) {
         Ok(shown) => shown,
         Err(kind) => return Err(kind),
     };
     let banked = is_set(found, "banked");
-    if is_set(found, "svg") {
+    if svg {
         return Ok(Job::PlaySvg {
             banked,
             percent: shown.percent,
             rate: shown.rate,
         });
     }
-    Ok(Job::Play {
-        all: is_set(found, "all"),
-        banked,
-    })
+    Ok(Job::Play { all, banked })
 }
 
 /// Returns what the options of `render` in `found` ask for. A size or a rate that is out of range

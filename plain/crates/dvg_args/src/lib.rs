@@ -23,4 +23,4 @@ mod task;
 
 pub use arguments::job;
 pub use refusal::arguments_status;
-pub use task::{Job, LayForm, LogRule};
+pub use task::{Job, LayForm, LogRule, PictureForm};

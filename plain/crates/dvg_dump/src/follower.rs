@@ -4,7 +4,7 @@ use dvg_gen::{Beam, Counters, Move};
 
 /// Goes along the instructions of a run, and tells their moves: in 1/512 of a screen unit, or in
 /// whole units, as the counters of `dvg_gen` have them.
-#[derive(Clone, Copy, Debug)]
+#[derive(Debug)]
 pub struct Follower {
     units: bool,
     beam: Beam,

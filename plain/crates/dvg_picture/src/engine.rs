@@ -1,4 +1,5 @@
 //! The engine `picture`.
+use crate::form::RunForm;
 use crate::writes::write_run;
 use dvg_dump::{Dump, DumpFault, LARGE_DUMP_BYTES, Outcome, Traced};
 use dvg_io::{Engine, StreamFailed, ToolFault, Watched, serve};
@@ -35,8 +36,7 @@ pub(crate) fn run_dump<A: Allocator + Copy>(
 
 // The engine that finds how the run over a dump ends.
 struct PictureEngine {
-    // Whether it finds the instructions, too.
-    all: bool,
+    form: RunForm,
 }
 
 impl<A: Allocator + Copy> Engine<A> for PictureEngine {
@@ -45,7 +45,7 @@ impl<A: Allocator + Copy> Engine<A> for PictureEngine {
     const MOST: u32 = LARGE_DUMP_BYTES as u32;
 
     fn find(&self, alloc: A, read: &[u8]) -> Result<Traced<A>, Unread> {
-        run_dump(alloc, read, self.all)
+        run_dump(alloc, read, self.form.traces())
     }
 
     fn write<W: Write>(
@@ -53,7 +53,7 @@ impl<A: Allocator + Copy> Engine<A> for PictureEngine {
         run: &Traced<A>,
         writer: &mut Watched<W>,
     ) -> Result<(), StreamFailed> {
-        write_run(run, writer)
+        write_run(run, self.form, writer)
     }
 }
 
@@ -66,8 +66,12 @@ impl<A: Allocator + Copy> Engine<A> for PictureEngine {
 /// - `broke`: with the address of the fetch and the fault's number.
 /// - `endless`: there is neither within 65,536 words.
 ///
-/// With `all` it first writes a line for each instruction that was run, with the beam after it, and
-/// then the line of its stroke. Returns which of the three it was. The faults:
+/// Before that it writes what `form` asks for. With `all` these are a line for each instruction that
+/// was run, with the beam after it, and then the line of its stroke. With `moves` it is a line for
+/// each move: the address of its instruction, from where to where it led, and its intensity. Of a
+/// run that is no picture these go up to its last whole instruction. With `units` moves, and the
+/// strokes of a picture, are in whole screen units, and else in 1/512. Returns which of the three
+/// it was. The faults:
 ///
 /// - `DumpSize`: the input has so many bytes, up to 6,144, and neither 4,096 nor 6,144.
 /// - `LongDump`: it has more than 6,144, of which no more than 6,145 are taken.
@@ -80,8 +84,8 @@ pub fn picture<A: Allocator + Copy, R: Read, W: Write>(
     alloc: A,
     reader: &mut Watched<R>,
     writer: &mut Watched<W>,
-    all: bool,
+    form: RunForm,
 ) -> Result<Outcome, ToolFault> {
-    let run = serve(&PictureEngine { all }, alloc, reader, writer)?;
+    let run = serve(&PictureEngine { form }, alloc, reader, writer)?;
     Ok(run.ending.outcome())
 }

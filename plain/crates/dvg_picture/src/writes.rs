@@ -1,4 +1,6 @@
 //! What is written of a run.
+use crate::form::RunForm;
+use crate::moves::write_moves;
 use dvg_dump::{Ending, Ran, Traced};
 use dvg_gen::Stroke;
 use dvg_io::{StreamFailed, Watched, write_strokes, write_whole};
@@ -35,16 +37,48 @@ fn write_trace<W: Write>(trace: &[Ran], writer: &mut Watched<W>) -> Result<(), S
     Ok(())
 }
 
-// Writes how a run ends, `ending`, to `writer`. The lines are made in `line`.
-fn write_end<A: Allocator, W: Write>(
+// Writes the lines of `strokes`, which a run drew, to `writer`, or with `units` those of the strokes
+// of `trace`, its instructions, in whole units. These may be made in `line`.
+fn write_drawn<W: Write>(
     line: &mut Line,
-    ending: &Ending<A>,
+    trace: &[Ran],
+    strokes: &[Stroke],
+    units: bool,
     writer: &mut Watched<W>,
 ) -> Result<(), StreamFailed> {
-    match ending {
+    if units {
+        write_moves(line, trace, true, true, writer)
+    } else {
+        write_strokes(strokes, writer)
+    }
+}
+
+// Writes the line of a picture of so many `words` to `writer`, and the lines of `strokes`, as
+// `write_drawn` does. They may be made in `line`.
+fn write_picture<W: Write>(
+    line: &mut Line,
+    words: u32,
+    trace: &[Ran],
+    strokes: &[Stroke],
+    units: bool,
+    writer: &mut Watched<W>,
+) -> Result<(), StreamFailed> {
+    line.become_picture(words as usize, strokes.len());
+    write_whole(writer, line.as_bytes())?;
+    write_drawn(line, trace, strokes, units, writer)
+}
+
+// Writes how `run` ends to `writer`, with `units` in whole units. The lines are made in `line`.
+fn write_end<A: Allocator, W: Write>(
+    line: &mut Line,
+    run: &Traced<A>,
+    units: bool,
+    writer: &mut Watched<W>,
+) -> Result<(), StreamFailed> {
+    match &run.ending {
         Ending::Finished { words, strokes } => {
-            line.become_picture(*words as usize, strokes.len());
-            write_with_strokes(line.as_bytes(), strokes.as_slice(), writer)
+            let trace = run.ran.as_slice();
+            write_picture(line, *words, trace, strokes.as_slice(), units, writer)
         }
         Ending::Broke { address, fault } => {
             line.become_broke(*address, *fault);
@@ -57,12 +91,27 @@ fn write_end<A: Allocator, W: Write>(
     }
 }
 
-/// Writes the instructions of `run`, and how it ends, to `writer`.
+// Returns `ran` where it is `asked` for, else nothing.
+fn if_asked(asked: bool, ran: &[Ran]) -> &[Ran] {
+    if asked { ran } else { &[] }
+}
+
+/// Writes what `form` asks for of `run`, and how it ends, to `writer`.
 pub(crate) fn write_run<A: Allocator, W: Write>(
     run: &Traced<A>,
+    form: RunForm,
     writer: &mut Watched<W>,
 ) -> Result<(), StreamFailed> {
     write_trace(run.ran.as_slice(), writer)?;
     let mut line = Line::new();
-    write_end(&mut line, &run.ending, writer)
+    let ran = run.ran.as_slice();
+    write_trace(if_asked(form.all, ran), writer)?;
+    write_moves(
+        &mut line,
+        if_asked(form.moves, ran),
+        form.units,
+        false,
+        writer,
+    )?;
+    write_end(&mut line, run, form.units, writer)
 }

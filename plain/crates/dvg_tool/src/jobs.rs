@@ -6,15 +6,24 @@ use crate::outcome::Done;
 use crate::plays::{play, play_in};
 use crate::plays_svg::{play_svg, play_svg_in};
 use crate::roms::rom_text;
-use dvg_args::{Job, LayForm, LogRule};
+use dvg_args::{Job, LayForm, LogRule, PictureForm};
 use dvg_io::{ToolFault, Watched};
 use dvg_lay::{Drawn, Form, Laid, check_sketch, draw_sketch, lay_sketch};
 use dvg_logs::{torn, torn_all, torn_moments};
 use dvg_mem::{Banked, Half};
-use dvg_picture::{picture, picture_svg};
+use dvg_picture::{RunForm, picture, picture_svg};
 use dvg_svg::Show;
 use std::alloc::Allocator;
 use std::io::{Read, Write};
+
+// Returns `form`, which is asked for, as `dvg_picture` has it.
+fn run_form(form: PictureForm) -> RunForm {
+    RunForm {
+        all: form.all,
+        moves: form.moves,
+        units: form.units,
+    }
+}
 
 // Does the job `picture --svg`, from `reader` to `writer`, in the size `percent`.
 fn picture_shown<A: Allocator + Copy, R: Read, W: Write>(
@@ -126,9 +135,10 @@ pub fn perform<A: Allocator + Copy, R: Read, W: Write>(
             list_at(alloc, reader, writer, address).map(|()| Done::Written)
         }
         Job::Rom => rom_text(alloc, reader, writer).map(|()| Done::Written),
-        Job::Picture { all } => picture(alloc, reader, writer, all).map(|outcome| Done::Drew(
-            outcome,
-        )),
+        Job::Picture { form } => {
+            let form = run_form(form);
+            picture(alloc, reader, writer, form).map(|outcome| Done::Drew(outcome))
+        }
         Job::PictureSvg { percent } => picture_shown(alloc, reader, writer, percent),
         Job::Check { bound: false } => check_text(alloc, reader, writer).map(|verdict| Done::Judged(
             verdict,

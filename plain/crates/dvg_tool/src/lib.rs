@@ -20,12 +20,12 @@ mod plays_svg;
 mod roms;
 mod shows;
 
-pub use dvg_args::{Job, LayForm, LogRule, arguments_status, job};
+pub use dvg_args::{Job, LayForm, LogRule, PictureForm, arguments_status, job};
 pub use dvg_io::{ToolFault, Watched};
 pub use dvg_logs::{
     LogCounts, LogFinding, LogVerdict, MomentVerdict, Reading, torn, torn_all, torn_moments,
 };
-pub use dvg_picture::{Outcome, Undrawn, picture};
+pub use dvg_picture::{Outcome, RunForm, Undrawn, picture};
 pub use dvg_print::{BoundedVerdict, Verdict};
 pub use dvg_read::{MOST_TEXT_BYTES, TextFault};
 pub use jobs::perform;
