@@ -52,6 +52,11 @@ four P a b c d h =
     let f = All-tail P b (c ∷ d ∷ []) g in
     (All-head P a (b ∷ c ∷ d ∷ []) h, All-head P b (c ∷ d ∷ []) g, All-head P c (d ∷ []) f, All-head P d [] (All-tail P c (d ∷ []) f))
 
+five : (P : Text → Type 0) (a b c d e : Text) → All P (a ∷ b ∷ c ∷ d ∷ e ∷ []) → P a × P b × P c × P d × P e
+five P a b c d e h =
+    let more = four P b c d e (All-tail P a (b ∷ c ∷ d ∷ e ∷ []) h) in
+    (All-head P a (b ∷ c ∷ d ∷ e ∷ []) h, more.0, more.1, more.2, more.3)
+
 seven : (P : Text → Type 0) (a b c d e f g : Text) → All P (a ∷ b ∷ c ∷ d ∷ e ∷ f ∷ g ∷ []) → P a × P b × P c × P d × P e × P f × P g
 seven P a b c d e f g h =
     let i = All-tail P a (b ∷ c ∷ d ∷ e ∷ f ∷ g ∷ []) h in

@@ -28,6 +28,8 @@ text_job_arguments = (
   λ name. ((refl, refl), refl, refl),
   λ name. ((refl, refl), refl, refl),
   λ name. ((refl, refl), refl, refl),
+  λ name. ((refl, refl), refl, refl),
+  λ name. ((refl, refl), refl, refl),
 )
 
 pub sketch_job_arguments : SketchJobArguments
@@ -75,6 +77,8 @@ other_arguments = (
 pub refused_options : RefusedOptions
 unfolding dvg_app clap_on_literals
 refused_options = (
+  λ name. refl,
+  λ name. refl,
   λ name. refl,
   λ name. refl,
   λ name. refl,
