@@ -67,7 +67,7 @@ impl Follower {
     fn told(&mut self, made: &Move) -> Move
         ensures told { result ∷ [] ≡ units_if self.old.units self.old.counters (made.now ∷ []) }
         ensures past { self.new ≡ record self.old {
-          counters = followed self.old.counters made.now
+          counters = followed self.old.counters made.now;
         } }
     {
         let before = self.counters;

@@ -56,10 +56,16 @@ pub const MOVES: Job = Job::Picture {
     },
 };
 
-/// The first bytes of a dump: a LABS, a vector that isn't seen, one that is, and a return.
-const DUMP: [u8; 12] = [
-    0x08, 0xA0, 0x08, 0x00, 0x01, 0x80, 0x01, 0x00, 0x1A, 0xF1, 0x00, 0xD0,
+/// The first bytes of a dump: a LABS, a vector that isn't seen, one that is, and the low byte of the
+/// word after them.
+const DUMP: [u8; 11] = [
+    0x08, 0xA0, 0x08, 0x00, 0x01, 0x80, 0x01, 0x00, 0x1A, 0xF1, 0x00,
 ];
+
+/// The high bytes of two words after them: of a return without a call, and of a HALT.
+pub const RETURN: u8 = 0xD0;
+
+pub const HALT: u8 = 0xB0;
 
 /// A job with its input.
 #[derive(Clone, Copy)]
@@ -118,12 +124,13 @@ const SKETCH: &str = "labs 0 0 0\nhalt\n.frame b\nlabs 0 0 0\nhalt\n";
 
 const REFUSED_SKETCH: &str = "labs 0 0 0\na: call a\nhalt\n";
 
-/// Returns a dump whose run makes three moves and then breaks.
-pub fn dump(alloc: Global) -> Result<Vec<u8>, Fail> {
+/// Returns a dump whose run makes three moves, the last of which is seen, and then comes to the word
+/// of the high byte `last`.
+pub fn dump(alloc: Global, last: u8) -> Result<Vec<u8>, Fail> {
     let mut bytes = Vec::new(alloc);
     bytes.extend_from_slice(&DUMP)?;
     while bytes.len() < 2 * MEMORY_BYTES {
-        bytes.push(0xD0)?;
+        bytes.push(last)?;
     }
     Ok(bytes)
 }
