@@ -152,18 +152,8 @@ pub fn tasks<'a>(rom: &'a [u8], dump: &'a [u8]) -> [Task<'a>; 18] {
             Err(ToolFault::Text(TextFault::Cut(4))),
         ),
         task(Job::Rom, rom, 64, Ok(Report::Written)),
-        task(
-            PICTURE,
-            dump,
-            64,
-            Ok(Report::Drew(Outcome::Broke)),
-        ),
-        task(
-            INSTRUCTIONS,
-            dump,
-            64,
-            Ok(Report::Drew(Outcome::Broke)),
-        ),
+        task(PICTURE, dump, 64, Ok(Report::Drew(Outcome::Broke))),
+        task(INSTRUCTIONS, dump, 64, Ok(Report::Drew(Outcome::Broke))),
         task(MOVES, dump, 64, Ok(Report::Drew(Outcome::Broke))),
         task(
             Job::Check { bound: false },
