@@ -4,7 +4,7 @@
 //! The page owes what C owes: a device comes from `dvg_new`, and is used by one call at a time, and
 //! no more once `dvg_free` got it.
 use dvg_device::Device;
-use dvg_tool::{Done, Job, LayForm, ToolFault, Watched, finish, perform, status};
+use dvg_tool::{Done, Job, LayForm, LogRule, ToolFault, Watched, finish, perform, status};
 use plain_std::alloc::Global;
 use std::cell::RefCell;
 
@@ -82,7 +82,14 @@ fn job_of(number: u32) -> Option<Job> {
         (2, all) => Some(Job::Picture { all }),
         (3, bound) => Some(Job::Check { bound }),
         (4, all) => Some(Job::Play { all, banked: false }),
-        (5, moments) => Some(Job::Torn { moments }),
+        (5, moments) => {
+            let rule = if moments {
+                LogRule::Moments
+            } else {
+                LogRule::Halves
+            };
+            Some(Job::Torn { rule, base: None })
+        }
         (6, false) => Some(Job::Render {
             percent: PERCENT,
             rate: RATE,
