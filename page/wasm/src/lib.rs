@@ -4,7 +4,9 @@
 //! The page owes what C owes: a device comes from `dvg_new`, and is used by one call at a time, and
 //! no more once `dvg_free` got it.
 use dvg_device::Device;
-use dvg_tool::{Done, Job, LayForm, LogRule, ToolFault, Watched, finish, perform, status};
+use dvg_tool::{
+    Done, Job, LayForm, LogRule, PictureForm, ToolFault, Watched, finish, perform, status,
+};
 use plain_std::alloc::Global;
 use std::cell::RefCell;
 
@@ -79,7 +81,13 @@ fn job_of(number: u32) -> Option<Job> {
     match (number & !8, option) {
         (0, false) => Some(Job::List),
         (1, false) => Some(Job::Rom),
-        (2, all) => Some(Job::Picture { all }),
+        (2, all) => Some(Job::Picture {
+            form: PictureForm {
+                all,
+                moves: false,
+                units: false,
+            },
+        }),
         (3, bound) => Some(Job::Check { bound }),
         (4, all) => Some(Job::Play { all, banked: false }),
         (5, moments) => {
