@@ -135,7 +135,6 @@ pub(crate) fn write_run<A: Allocator, W: Write>(
     ensures { Writes W.contents (recorded_text form run.now.ran.items (end_of run.now.ending))
         result writer.old writer.new }
 {
-    write_trace(run.ran.as_slice(), writer)?;
     let mut line = Line::new();
     let ran = run.ran.as_slice();
     write_trace(if_asked(form.all, ran), writer)?;

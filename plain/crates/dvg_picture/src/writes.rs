@@ -102,7 +102,6 @@ pub(crate) fn write_run<A: Allocator, W: Write>(
     form: RunForm,
     writer: &mut Watched<W>,
 ) -> Result<(), StreamFailed> {
-    write_trace(run.ran.as_slice(), writer)?;
     let mut line = Line::new();
     let ran = run.ran.as_slice();
     write_trace(if_asked(form.all, ran), writer)?;
