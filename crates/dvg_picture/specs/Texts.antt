@@ -2,7 +2,6 @@
 use Rattle.std.specs.Prelude.{ℕ, List, [], ◌∷◌, ◌++◌, ◌||◌, Option, Bool, true, false, codes, cond, decimal, flat_map}
 use Rattle.std.specs.Prelude.{length, option_to_list}
 use Rattle.dvg_gen.specs.declared.moving.Move.{Move}
-use Rattle.dvg_gen.specs.declared.stroke.Stroke.{Stroke}
 use Rattle.dvg_gen.specs.Moving.{seen, seen_by}
 use Rattle.dvg_gen.specs.Run.{Visit}
 use Rattle.dvg_print.specs.Lines.{spaced}
