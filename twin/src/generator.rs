@@ -73,6 +73,21 @@ pub struct Generator {
     open: bool,
 }
 
+/// What a generator keeps, as it is saved: its strokes are those of an open run.
+#[allow(dead_code)]
+#[derive(Clone)]
+pub struct State {
+    pub open: bool,
+    /// The address of the next word.
+    pub at: u16,
+    pub held: Option<u16>,
+    pub low: Option<u8>,
+    /// The newest one comes last.
+    pub return_addresses: Vec<u16>,
+    pub beam: Beam,
+    pub strokes: Vec<Stroke>,
+}
+
 /// A number by its sign bit and its magnitude.
 fn signed(sign: u16, magnitude: u16) -> i32 {
     let magnitude = i32::from(magnitude);
@@ -151,6 +166,52 @@ impl Generator {
     #[allow(dead_code)]
     pub fn return_addresses(&self) -> &[u16] {
         &self.stack[..self.saved]
+    }
+
+    /// What it keeps.
+    #[allow(dead_code)]
+    pub fn state(&self) -> State {
+        State {
+            open: self.open,
+            at: (self.place + u16::from(self.held.is_some())) % 4096,
+            held: self.held,
+            low: self.low,
+            return_addresses: self.return_addresses().to_vec(),
+            beam: self.beam,
+            strokes: if self.open {
+                self.strokes.clone()
+            } else {
+                Vec::new()
+            },
+        }
+    }
+
+    /// A generator that keeps this, if one can.
+    #[allow(dead_code)]
+    pub fn resumed(state: State) -> Option<Generator> {
+        let is_address = |address: &u16| *address < 4096;
+        if !is_address(&state.at)
+            || state.held.is_some_and(|word| word >= 0xB000)
+            || (state.low.is_some() && !state.open)
+            || !state.return_addresses.iter().all(is_address)
+            || state.beam.x.max(state.beam.y) >= 2_097_152
+            || state.beam.scale > 15
+        {
+            return None;
+        }
+        let saved = state.return_addresses.len();
+        let mut stack = [0; 4];
+        stack[..saved].copy_from_slice(&state.return_addresses);
+        Some(Generator {
+            place: (state.at + 4096 - u16::from(state.held.is_some())) % 4096,
+            held: state.held,
+            low: state.low,
+            stack,
+            saved,
+            beam: state.beam,
+            strokes: state.strokes,
+            open: state.open,
+        })
     }
 
     /// The move that this byte, the next one, would make.

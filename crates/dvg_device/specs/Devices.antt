@@ -12,6 +12,7 @@ use Rattle.dvg_device.specs.Worlds.{WorldAnswers}
 use Rattle.dvg_world.specs.Desks.{Driven, IsFresh}
 use Rattle.dvg_device.specs.Drivers.{DriverAnswers}
 use Rattle.dvg_device.specs.Generators.{GeneratorAnswers, Tells}
+use Rattle.dvg_device.specs.States.{CanStand, TakesPart, part_in, unbegun}
 use Rattle.dvg_moment.specs.declared.judge.MomentJudge.{MomentJudge}
 use Rattle.dvg_moment.specs.Judging.{StandsAfter}
 use Rattle.dvg_device.specs.Judges.{JudgeAnswers}
@@ -31,16 +32,18 @@ pub data Open : Type 0 where
   Generator : Machine → Open
   Judge : MomentJudge → Open
 
--- a device: the bytes that were staged, its draft, the strokes of the newest finished run, and what is open
+-- a device: the bytes that were staged, its draft, the strokes of the newest finished run, the machine in the state of
+-- a generator that was told so far, and what is open
 pub record Held : Type 0 where
   pub staged : List ℕ
   pub draft : List OpKind
   pub picture : List Stroke
+  pub waiting : Machine
   pub open_part : Open
 
 -- a device in which nothing is open
 abbrev pub closed : Held
-closed = record { staged = []; draft = []; picture = []; open_part = Nothing }
+closed = record { staged = []; draft = []; picture = []; waiting = unbegun; open_part = Nothing }
 
 -- an operation is pushed: it stands at the end of the draft, under that number; or the numbers name none; or there are
 -- 511
@@ -88,6 +91,13 @@ abbrev pub IsNewJudge : Open → Type 0
 IsNewJudge (Judge judge) = StandsAfter judge []
 IsNewJudge part = ⊥
 
+-- a generator begins in the state that was told, if it can stand so
+abbrev pub ResumeAnswers : Held → Held → Reply → Type 0
+ResumeAnswers old new replies.Opened = CanStand old.waiting
+    × (new ≡ record old { picture = []; waiting = unbegun; open_part = Generator old.waiting })
+ResumeAnswers old new replies.NoState = ¬ CanStand old.waiting × (new ≡ old)
+ResumeAnswers old new _ = ⊥
+
 -- what is answered where nothing is open
 abbrev pub unopened : Request → Reply
 unopened requests.Unknown = replies.Unknown
@@ -126,6 +136,9 @@ Answered requests.OpenDriver old new answer = OpenAnswers (IsOneOf (length old.s
 Answered requests.OpenGenerator old new answer = (machine : Machine) × HasTaken machine [] None
     × (new ≡ record old { picture = []; open_part = Generator machine }) × (answer ≡ replies.Opened)
 Answered requests.OpenJudge old new answer = OpenAnswers (Unit {0}) IsNewJudge old new answer
+Answered requests.Resume old new answer = ResumeAnswers old new answer
+Answered (requests.TellState word) old new answer = (later : Machine) × (new ≡ record old { waiting = later })
+    × TakesPart (part_in word) old.waiting later answer
 Answered requests.Close old new answer = (new ≡ closed) × (answer ≡ replies.Closed)
 Answered requests.CountStrokes old new answer = (new ≡ old) × (answer ≡ replies.Count (length old.picture))
 Answered (requests.StrokeFrom n) old new answer = (new ≡ old) × (answer ≡ begins (slice_get old.picture n))

@@ -14,6 +14,7 @@ use Rattle.dvg_gen.specs.Told.{Told, Start, Reset, Newest, wants}
 use Rattle.dvg_log.specs.Entries.{Shown, entry_by}
 use Rattle.dvg_log.specs.declared.entry.Entry.TheVariants.{Started, Cleared, Still}
 use Rattle.dvg_device.specs.Replies.{answered_by, bit, picture_by}
+use Rattle.dvg_device.specs.States.{CanBeSaved, parts_of, told_part}
 use Rattle.dvg_device.specs.declared.reply.Reply.{Reply}
 use Rattle.dvg_device.specs.declared.reply.Reply.TheVariants.{Came, Wants, Point, Moves, Nothing, Holds}
 use Rattle.dvg_device.specs.declared.reply.Reply.TheVariants.{ReturnsTo, Unknown, NoMemory}
@@ -104,6 +105,8 @@ Tells (questions.MoveTo byte) machine reply = (move : Option Move) × Foretold b
 Tells questions.Beam machine reply = reply ≡ Point machine.beam.x machine.beam.y
 Tells questions.Holds machine reply = reply ≡ told_held machine
 Tells (questions.ReturnTo n) machine reply = reply ≡ told_return (slice_get machine.stack n)
+Tells (questions.State n) machine reply = OfHistories machine (λ history low run. CanBeSaved machine)
+    × (reply ≡ told_part (slice_get (parts_of machine) n))
 
 -- what a generator with these strokes of the newest finished run comes to by a request
 abbrev pub GeneratorAnswers : Request → Machine → Machine → List Stroke → List Stroke → Reply → Type 0

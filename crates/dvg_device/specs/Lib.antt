@@ -2,6 +2,7 @@ pub mod Lookup
 pub mod Operations
 pub mod Requests
 pub mod Replies
+pub mod States
 pub mod Worlds
 pub mod Drivers
 pub mod Generators

@@ -14,6 +14,7 @@ use crate::lone::{ask_generator, fetch, tell};
 use crate::operation::Operation;
 use crate::reply::Reply;
 use crate::request::{Question, Request};
+use crate::waiting::Waiting;
 use dvg_frame::Draft;
 use dvg_gen::{Generator, Stroke};
 use dvg_log::Entry;
@@ -39,14 +40,15 @@ pub(crate) enum Part {
 
 /// A device, in which a world, a driver alone, a generator alone or a judge may be open. It has a
 /// draft, which requests make and an offer hands to the driver; bytes that are staged for what is
-/// opened, and for a reset of the whole system; and the strokes of the newest run that came to a
-/// HALT.
+/// opened, and for a reset of the whole system; the strokes of the newest run that came to a HALT;
+/// and the state of a generator alone, so far as it was told, in which one may begin.
 #[derive(Drop)]
 pub struct Device {
     alloc: Global,
     staged: Vec<u8>,
     draft: Draft,
     picture: Vec<Stroke>,
+    waiting: Waiting,
     part: Part,
     // Blocks of memory of what was open before, for what is opened next.
     spare_world: Option<Box<Cabinet>>,
@@ -64,6 +66,7 @@ impl Model for Device {
       staged = device.staged.items;
       draft = device.draft;
       picture = device.picture.items;
+      waiting = device.waiting;
       open_part = open_of device.part;
     } };
 }
@@ -78,6 +81,7 @@ impl Device {
             staged: Vec::new(alloc),
             draft: Draft::new(),
             picture: Vec::new(alloc),
+            waiting: Waiting::new(alloc),
             part: Part::Nothing,
             spare_world: None,
             spare_desk: None,
@@ -126,6 +130,8 @@ impl Device {
             Request::OpenDriver => self.open_driver(),
             Request::OpenGenerator => self.open_generator(),
             Request::OpenJudge => self.open_judge(),
+            Request::Resume => self.resume(),
+            Request::TellState(word) => self.tell_state(word),
             Request::Close => self.close(),
             Request::CountStrokes => Reply::Count(self.picture.len() as u64),
             Request::StrokeFrom(i) => self.stroke_from(i),
@@ -238,6 +244,25 @@ impl Device {
             Ok(judge) => self.open(Part::Judge(judge)),
             Err(_) => Reply::NoMemory,
         }
+    }
+
+    // Opens a generator in the state that was told.
+    #[inline(never)]
+    fn resume(&mut self) -> Reply
+        ensures { Answered Request.Resume self.old self.new result }
+    {
+        match self.waiting.generator(self.alloc) {
+            Some(generator) => self.open(Part::Generator(generator)),
+            None => Reply::NoState,
+        }
+    }
+
+    // Takes the part of a state that `word` is.
+    #[inline(never)]
+    fn tell_state(&mut self, word: u64) -> Reply
+        ensures { Answered (Request.TellState word) self.old self.new result }
+    {
+        self.waiting.take(self.alloc, word)
     }
 
     // Opens `part`, in which nothing was drawn yet. The memory of what was open stays, for the next

@@ -3,10 +3,14 @@ ghost use Rattle.std.specs.Prelude.{◌≡◌, ◌⊎◌, slice_get};
 ghost use Rattle.dvg_gen.specs.Told.{wants};
 ghost use Rattle.dvg_device.specs.Generators.{Fetches, GeneratorAnswers, LacksRoom, OfHistories};
 ghost use Rattle.dvg_device.specs.Generators.{StaysStill, Tells, told_end, told_held, told_move};
+ghost use Rattle.dvg_device.specs.States.{CanBeSaved, drawing_parts, drawn_so_far, part_of_stroke};
+ghost use Rattle.dvg_device.specs.States.{parts_of, told_part};
+ghost use Rattle.dvg_device.specs.declared.state.StatePart.TheVariants.{Fields};
 ghost use Rattle.dvg_device.specs.Generators.{told_return, wanting};
 
 use crate::reply::{Reply, bit};
 use crate::request::{Question, Request};
+use crate::state::StatePart;
 use dvg_gen::{Generator, Move, Stroke};
 use dvg_log::Entry;
 use std::alloc::Global;
@@ -48,6 +52,7 @@ pub(crate) fn tell(generator: &Generator<Global>, question: Question) -> Reply
         Question::Beam => place_of(generator),
         Question::Holds => held(generator),
         Question::ReturnTo(i) => return_address(generator, i),
+        Question::State(i) => state(generator, i),
     }
 }
 
@@ -110,6 +115,86 @@ fn return_address(generator: &Generator<Global>, i: u64) -> Reply
         Reply::ReturnsTo(addresses[count - 1 - i as usize])
     } else {
         Reply::Nothing
+    }
+}
+
+// Returns the reply that says what part `i` of the state of `generator` is, from 0.
+fn state(generator: &Generator<Global>, i: u64) -> Reply
+    ensures saved { OfHistories generator.now (λ history low run. CanBeSaved generator.now) }
+    ensures told { result ≡ told_part (slice_get (parts_of generator.now) i) }
+{
+    match part(generator, i) {
+        Some(part) => Reply::State(part.word()),
+        None => Reply::Nothing,
+    }
+}
+
+// Returns part `i` of the state of `generator`, if there is one.
+fn part(generator: &Generator<Global>, i: u64) -> Option<StatePart>
+    ensures { result ≡ slice_get (parts_of generator.now) i }
+{
+    let addresses = generator.return_addresses();
+    let returns = addresses.len() as u64;
+    if i == 0 {
+        Some(fields(generator))
+    } else if i <= returns {
+        Some(StatePart::ReturnAddress(addresses[(i - 1) as usize]))
+    } else {
+        part_of_drawing(generator, i - 1 - returns)
+    }
+}
+
+// Returns the first part of the state of `generator`.
+fn fields(generator: &Generator<Global>) -> StatePart
+    ensures { result ≡ Fields generator.now.is_open generator.now.at generator.now.held
+        generator.now.low generator.now.beam.scale }
+{
+    let state = generator.state();
+    StatePart::Fields {
+        is_open: state.is_open,
+        at: state.at,
+        held: state.held,
+        low: state.low,
+        scale: state.scale,
+    }
+}
+
+// Returns part `i` of those that say what the open run of `generator` drew, and where its beam is.
+fn part_of_drawing(generator: &Generator<Global>, i: u64) -> Option<StatePart>
+    ensures { result ≡ slice_get (drawing_parts generator.now) i }
+{
+    let strokes = strokes_so_far(generator);
+    let count = strokes.len() as u64;
+    let stroke = i / 2;
+    if stroke < count {
+        Some(part_of_stroke(strokes[stroke as usize], i % 2 == 1))
+    } else if stroke == count && i % 2 == 0 {
+        let beam = generator.beam();
+        Some(StatePart::Place(beam.x, beam.y))
+    } else {
+        None
+    }
+}
+
+// Returns the strokes that the open run of `generator` drew so far, or none where no run is open.
+fn strokes_so_far(generator: &Generator<Global>) -> &[Stroke]
+    ensures { result.now ≡ drawn_so_far generator.now }
+{
+    if generator.halted() {
+        &[]
+    } else {
+        generator.strokes()
+    }
+}
+
+// Returns where `stroke` leads, where `leads`, or else where it begins.
+fn part_of_stroke(stroke: Stroke, leads: bool) -> StatePart
+    ensures { result ≡ part_of_stroke stroke leads }
+{
+    if leads {
+        StatePart::Line(stroke.x1, stroke.y1, stroke.z)
+    } else {
+        StatePart::Place(stroke.x0, stroke.y0)
     }
 }
 

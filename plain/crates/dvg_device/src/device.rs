@@ -8,6 +8,7 @@ use crate::lone::{ask_generator, fetch, tell};
 use crate::operation::Operation;
 use crate::reply::Reply;
 use crate::request::{Question, Request};
+use crate::waiting::Waiting;
 use dvg_frame::Draft;
 use dvg_gen::{Generator, Stroke};
 use dvg_log::Entry;
@@ -31,13 +32,14 @@ pub(crate) enum Part {
 
 /// A device, in which a world, a driver alone, a generator alone or a judge may be open. It has a
 /// draft, which requests make and an offer hands to the driver; bytes that are staged for what is
-/// opened, and for a reset of the whole system; and the strokes of the newest run that came to a
-/// HALT.
+/// opened, and for a reset of the whole system; the strokes of the newest run that came to a HALT;
+/// and the state of a generator alone, so far as it was told, in which one may begin.
 pub struct Device {
     alloc: Global,
     staged: Vec<u8>,
     draft: Draft,
     picture: Vec<Stroke>,
+    waiting: Waiting,
     part: Part,
     // Blocks of memory of what was open before, for what is opened next.
     spare_world: Option<Box<Cabinet>>,
@@ -52,6 +54,7 @@ impl Device {
             staged: Vec::new(alloc),
             draft: Draft::new(),
             picture: Vec::new(alloc),
+            waiting: Waiting::new(alloc),
             part: Part::Nothing,
             spare_world: None,
             spare_desk: None,
@@ -93,6 +96,8 @@ impl Device {
             Request::OpenDriver => self.open_driver(),
             Request::OpenGenerator => self.open_generator(),
             Request::OpenJudge => self.open_judge(),
+            Request::Resume => self.resume(),
+            Request::TellState(word) => self.tell_state(word),
             Request::Close => self.close(),
             Request::CountStrokes => Reply::Count(self.picture.len() as u64),
             Request::StrokeFrom(i) => self.stroke_from(i),
@@ -185,6 +190,21 @@ impl Device {
             Ok(judge) => self.open(Part::Judge(judge)),
             Err(_) => Reply::NoMemory,
         }
+    }
+
+    // Opens a generator in the state that was told.
+    #[inline(never)]
+    fn resume(&mut self) -> Reply {
+        match self.waiting.generator(self.alloc) {
+            Some(generator) => self.open(Part::Generator(generator)),
+            None => Reply::NoState,
+        }
+    }
+
+    // Takes the part of a state that `word` is.
+    #[inline(never)]
+    fn tell_state(&mut self, word: u64) -> Reply {
+        self.waiting.take(self.alloc, word)
     }
 
     // Opens `part`, in which nothing was drawn yet. The memory of what was open stays, for the next

@@ -28,9 +28,12 @@ mod lone;
 mod operation;
 mod reply;
 mod request;
+mod state;
+mod waiting;
 
 pub use device::Device;
 pub use judging::JudgeLine;
 pub use operation::Operation;
 pub use reply::{Reply, RunState};
 pub use request::{Question, Request};
+pub use state::StatePart;

@@ -46,7 +46,8 @@ pub enum Reply {
     /// - 15, `Broke`: a word address, and as the value the fault's number, 1 to 3, as `dvg play`
     ///   has it;
     /// - 16, `Still`, and nothing has changed;
-    /// - 17, `Cleared`: a reset was done, or the draft or the staged bytes were cleared.
+    /// - 17, `Cleared`: a reset was done, the draft or the staged bytes were cleared, or a part of
+    ///   a state was taken.
     Came(Entry<()>),
     /// 18: the operation has this number in the draft.
     Pushed(u16),
@@ -88,6 +89,11 @@ pub enum Reply {
     Holds(u16, u16),
     /// 34: a return address.
     ReturnsTo(u16),
+    /// 35: a part of a state. Its word, below 2^56, stands from bit 8 on.
+    State(u64),
+    /// 36: what was told is no part that suits the state before it, or no generator can be in that
+    /// state. Nothing has changed.
+    NoState,
     /// 254: there is no such request, or what is open has no such request. Nothing has changed.
     Unknown,
     /// 255: there was no memory for it, and nothing has changed.
@@ -118,6 +124,8 @@ impl Reply {
             Reply::Nothing => packed(32, 0, 0),
             Reply::Holds(first, bits) => packed(33, first, bits),
             Reply::ReturnsTo(address) => packed(34, address, 0),
+            Reply::State(word) => 35 + 0x100 * (word % 0x100_0000_0000_0000),
+            Reply::NoState => packed(36, 0, 0),
             Reply::Unknown => packed(254, 0, 0),
             Reply::NoMemory => packed(255, 0, 0),
         }
