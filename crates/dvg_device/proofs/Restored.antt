@@ -4,7 +4,7 @@ use Rattle.std.proofs.Common.{Bool, true, false, Option, Some, None}
 use Rattle.std.specs.Prelude.{All, IfSome, IsSome}
 use Rattle.std.specs.List.{AllByRecursion}
 use Rattle.std.proofs.lemmas.Bool.{false≢true}
-use Rattle.std.proofs.lemmas.List.{append-nil, append_assoc, get_or-reverse, length-reverse, reverse-append, reverse-reverse}
+use Rattle.std.proofs.lemmas.List.{append-nil, append_assoc, length-reverse, reverse-append, reverse-reverse}
 use Rattle.std.proofs.lemmas.List.Elements.{recursion_from_All}
 use Rattle.dvg_gen.specs.declared.stroke.Stroke.{Stroke}
 use Rattle.dvg_gen.specs.Machine.{Machine, HasTaken, IsAtRun, IsInRun}
@@ -13,6 +13,7 @@ use Rattle.dvg_gen.specs.Told.{Told, Newest}
 use Rattle.dvg_log.specs.declared.entry.Entry.TheVariants.{Cleared}
 use Rattle.dvg_code.specs.Spelling.{IsFirst}
 use Rattle.dvg_device.specs.Devices.{Answered, Generator, Held, ResumeAnswers}
+use Rattle.dvg_device.proofs.Parted.{all_reversed}
 use Rattle.dvg_device.proofs.Worded.{read_again}
 use Rattle.dvg_device.specs.Laws.{AllSuit, ToldInTurn, restored}
 use Rattle.dvg_device.specs.States.{CanBeSaved, CanStand, Suits, TakesPart, drawing_parts, drawn_so_far, part_in, part_of_stroke}
@@ -134,12 +135,6 @@ pub all_suit : (machine before : Machine) → CanBeSaved machine → AllSuit (pa
 all_suit machine before can = (tt, returns_suit (reverse machine.stack) (drawing_parts machine) _
     (rw length-reverse (omega (arith, can.four)))
     (strokes_suit (drawn_so_far machine) machine.beam.x machine.beam.y (drawn_strokes machine can)))
-
--- what holds of each item of a list holds of each where it is turned round
-pub all_reversed : (P : ℕ → Type 0) (ns : List ℕ) → All P ns → All P (reverse ns)
-all_reversed P ns all k d within =
-    let inside : k < length ns = omega (arith, within, length-reverse ns) in
-    subst P (sym (get_or-reverse ns k d inside)) (all (length ns - 1 - k) d (omega (arith, inside)))
 
 first_fits : (held : Option ℕ) → IfSome held IsFirst → IfSome held (λ word. word < 0x1_0000)
 first_fits None first = first

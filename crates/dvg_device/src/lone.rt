@@ -1,5 +1,5 @@
 //! A generator alone.
-ghost use Rattle.std.specs.Prelude.{◌≡◌, ◌⊎◌, slice_get};
+ghost use Rattle.std.specs.Prelude.{◌≡◌, ◌⊎◌, ◌<◌, slice_get, IfSome};
 ghost use Rattle.dvg_gen.specs.Told.{wants};
 ghost use Rattle.dvg_device.specs.Generators.{Fetches, GeneratorAnswers, LacksRoom, OfHistories};
 ghost use Rattle.dvg_device.specs.Generators.{StaysStill, Tells, told_end, told_held, told_move};
@@ -11,7 +11,7 @@ ghost use Rattle.dvg_device.specs.Generators.{told_return, wanting};
 use crate::reply::{Reply, bit};
 use crate::request::{Question, Request};
 use crate::state::StatePart;
-use dvg_gen::{Generator, Move, Stroke};
+use dvg_gen::{Generator, GeneratorState, Move, Stroke};
 use dvg_log::Entry;
 use std::alloc::Global;
 
@@ -131,12 +131,15 @@ fn state(generator: &Generator<Global>, i: u64) -> Reply
 
 // Returns part `i` of the state of `generator`, if there is one.
 fn part(generator: &Generator<Global>, i: u64) -> Option<StatePart>
-    ensures { result ≡ slice_get (parts_of generator.now) i }
+    ensures saved { OfHistories generator.now (λ history low run. CanBeSaved generator.now) }
+    ensures part { result ≡ slice_get (parts_of generator.now) i }
 {
-    let addresses = generator.return_addresses();
+    let state = generator.state();
+    is_byte(state.low);
+    let addresses = state.return_addresses.as_slice();
     let returns = addresses.len() as u64;
     if i == 0 {
-        Some(fields(generator))
+        Some(fields(&state))
     } else if i <= returns {
         Some(StatePart::ReturnAddress(addresses[(i - 1) as usize]))
     } else {
@@ -144,12 +147,20 @@ fn part(generator: &Generator<Global>, i: u64) -> Option<StatePart>
     }
 }
 
-// Returns the first part of the state of `generator`.
-fn fields(generator: &Generator<Global>) -> StatePart
-    ensures { result ≡ Fields generator.now.is_open generator.now.at generator.now.held
-        generator.now.low generator.now.beam.scale }
+// For the proof alone: a low byte that waits is below 256, as its type says. Nothing is done.
+fn is_byte(low: Option<u8>)
+    ensures { IfSome low (λ byte. byte < 0x100) }
 {
-    let state = generator.state();
+    if let Some(byte) = low {
+        let _ = u16::from(byte);
+    }
+}
+
+// Returns the first part of `state`.
+fn fields(state: &GeneratorState) -> StatePart
+    ensures { result ≡ Fields state.now.is_open state.now.at state.now.held state.now.low
+        state.now.scale }
+{
     StatePart::Fields {
         is_open: state.is_open,
         at: state.at,

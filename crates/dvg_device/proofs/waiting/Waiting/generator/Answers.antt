@@ -1,0 +1,26 @@
+use Rattle.std.proofs.Common.{refl, sym, ap, ◌∙◌, subst}
+use Rattle.std.proofs.lemmas.Bool.{false≢true}
+use Rattle.dvg_device.specs.States.{CanStand}
+use Rattle.dvg_device.proofs.Parted.{can_stand, is_state}
+use Rattle.dvg_device.proofs.waiting.Waiting.generator.Goals as goal
+
+pub returns-then-not-is_valid : goal.returns-then-not-is_valid
+returns-then-not-is_valid c = (
+  λ can.
+      let state = c.self.inside.state in
+      let valid = is_state state c.self.inside.strokes.items (subst CanStand (sym c.self.view_is) can) in
+      false≢true (sym c.if-not-is_valid.true ∙ c.is_valid.ensures.1 valid),
+  refl,
+)
+
+pub returns : goal.returns
+returns c =
+    let valid = c.is_valid.ensures.0 c.if-not-is_valid.false in
+    let stands = subst CanStand c.self.view_is (can_stand c.self.inside.state c.self.inside.strokes.items valid) in
+    let same = c.state.view_is ∙ c.replace.ensures.value in
+    let there = is_state c.state.inside.state c.state.inside.strokes.items (subst CanStand (sym same) stands) in
+    (
+      stands,
+      c.resume.ensures.machine (c.resume.ensures.taken.1 there) ∙ same,
+      c.replace.ensures.after ∙ c.new.ensures,
+    )
