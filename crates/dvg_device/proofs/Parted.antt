@@ -87,7 +87,7 @@ later_part machine addresses i is past =
     sym (after_first _ (map ReturnAddress (reverse machine.stack) ++ drawing_parts machine) i (i - 1) (omega (arith, past))
     ∙ ap (λ back. slice_get (map ReturnAddress back ++ drawing_parts machine) (i - 1)) (sym (addresses_are machine addresses is))
     ∙ in_second (map ReturnAddress addresses) (drawing_parts machine) (i - 1) (i - 1 - length addresses)
-        (omega (arith, past, length-map addresses ReturnAddress)))
+    (omega (arith, past, length-map addresses ReturnAddress)))
 
 at_even_odd : (strokes : List Stroke) (d : Stroke) {k k' b b' : ℕ} → k ≡ k' → b ≡ b'
     → ◌≡◌ {A = Option StatePart} (Some (part_of_stroke (get_or strokes k d) (b == 1)))
@@ -148,7 +148,7 @@ pub no_place : (machine : Machine) (i : ℕ) → 2 * length (drawn_so_far machin
 no_place machine i past =
     let rest = Place machine.beam.x machine.beam.y ∷ [] in
     let more : i - 2 * length (drawn_so_far machine) ≡ suc (i - 2 * length (drawn_so_far machine) - 1) =
-        omega (arith, past) in
+    omega (arith, past) in
     after_strokes (drawn_so_far machine) rest i (omega (arith, past)) ∙ ap (slice_get rest) more
 
 -- what stands after all strokes, or at an odd number there, stands after the place

@@ -132,9 +132,12 @@ strokes_suit (stroke ∷ strokes) x y all machine = (tt, (all.0, strokes_suit st
 
 -- no part of a state that can be saved is refused
 pub all_suit : (machine before : Machine) → CanBeSaved machine → AllSuit (parts_of machine) before
-all_suit machine before can = (tt, returns_suit (reverse machine.stack) (drawing_parts machine) _
-    (rw length-reverse (omega (arith, can.four)))
-    (strokes_suit (drawn_so_far machine) machine.beam.x machine.beam.y (drawn_strokes machine can)))
+all_suit machine before can = (
+  tt,
+  returns_suit (reverse machine.stack) (drawing_parts machine) _
+      (rw length-reverse (omega (arith, can.four)))
+      (strokes_suit (drawn_so_far machine) machine.beam.x machine.beam.y (drawn_strokes machine can)),
+)
 
 first_fits : (held : Option ℕ) → IfSome held IsFirst → IfSome held (λ word. word < 0x1_0000)
 first_fits None first = first
@@ -156,8 +159,7 @@ strokes_read [] x y all a b = (place_read x y a b, tt)
 strokes_read (stroke ∷ strokes) x y all a b =
     let x1 = all.0.2 in
     let y1 = all.0.3 in
-    let z = all.0.5 in
-    (
+    let z = all.0.5 in (
       place_read stroke.x0 stroke.y0 all.0.0 all.0.1,
       (
         read_again (Line stroke.x1 stroke.y1 stroke.z) (omega (arith, x1), omega (arith, y1), omega (arith, z)),
@@ -171,8 +173,7 @@ all_read machine can =
     let kept = can.stands.kept in
     let beam = can.stands.beam in
     let at = kept.at_is_address in
-    let addresses = all_reversed (λ address. address < 4096) machine.stack kept.stack_is_addresses in
-    (
+    let addresses = all_reversed (λ address. address < 4096) machine.stack kept.stack_is_addresses in (
       read_again (Fields machine.is_open machine.at machine.held machine.low machine.beam.scale)
           (omega (arith, at), first_fits machine.held kept.held_is_first, can.byte, beam.scale_small),
       returns_read (reverse machine.stack) (drawing_parts machine) (recursion_from_All _ _ addresses)
@@ -198,10 +199,12 @@ pub resumed : (machine : Machine) (old between new : Held) (reply : Reply) → C
     × (new ≡ record old { picture = []; waiting = unbegun; open_part = Generator (restored machine) })
 resumed machine old between new reply can in_turn answers =
     let is : between ≡ record old { waiting = restored machine } =
-        told_parts (parts_of machine) old between (all_read machine can) in_turn
-        ∙ ap (λ waiting. record old { waiting = waiting }) (told_machine machine old.waiting) in
+    told_parts (parts_of machine) old between (all_read machine can) in_turn
+    ∙ ap (λ waiting. record old { waiting = waiting }) (told_machine machine old.waiting) in
     let there = ap (λ held. held.waiting) is in
     let stands = subst CanStand (sym there) (restored_stands machine can.stands) in
-    let done = opened between new reply stands answers in
-    (done.0, done.1 ∙ ap (λ (held : Held). record held
-        { picture = []; waiting = unbegun; open_part = Generator held.waiting }) is)
+    let done = opened between new reply stands answers in (
+      done.0,
+      done.1 ∙ ap (λ (held : Held). record held
+          { picture = []; waiting = unbegun; open_part = Generator held.waiting }) is,
+    )

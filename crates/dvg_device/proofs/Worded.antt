@@ -75,14 +75,14 @@ fields_again : (word at scale : ℕ) (is_open : Bool) (held low : Option ℕ)
 fields_again word at scale is_open held low stands =
     let flags = stands.flags_are in
     let apart = flags_apart (bit is_open) (bit (is_some low)) (bit (is_some held)) (bit_few is_open)
-        (bit_few (is_some low)) (bit_few (is_some held)) in
+    (bit_few (is_some low)) (bit_few (is_some held)) in
     kind_is word 0 stands.kind
     ∙ ap Some (same_fields
-        (flag_again is_open _ (ap (λ f. f % 2) flags ∙ apart.0))
-        stands.at_is
-        (optional_again held _ _ (ap (λ f. f / 4 % 2) flags ∙ apart.2) stands.first_is)
-        (optional_again low _ _ (ap (λ f. f / 2 % 2) flags ∙ apart.1) stands.low_is)
-        stands.scale_is)
+    (flag_again is_open _ (ap (λ f. f % 2) flags ∙ apart.0))
+    stands.at_is
+    (optional_again held _ _ (ap (λ f. f / 4 % 2) flags ∙ apart.2) stands.first_is)
+    (optional_again low _ _ (ap (λ f. f / 2 % 2) flags ∙ apart.1) stands.low_is)
+    stands.scale_is)
 
 same_place : {x x' y y' : ℕ} → x ≡ x' → y ≡ y' → ◌≡◌ {A = Option StatePart} (Some (Place x y)) (Some (Place x' y'))
 same_place x y = cc

@@ -58,7 +58,15 @@ impl Waiting {
         ensures { TakesPart (part_in word) self.old self.new result }
     {
         match StatePart::of(word) {
-            Some(StatePart::Fields { is_open, at, held, low, scale }) => {
+            Some(
+                StatePart::Fields {
+                    is_open,
+                    at,
+                    held,
+                    low,
+                    scale,
+                },
+            ) => {
                 *self = Waiting::new(alloc);
                 self.state.is_open = is_open;
                 self.state.at = at;

@@ -7,24 +7,24 @@ returns-then-i-eq0-clause-saved c = λ history low after.
     let state = c.state-state in
     let slice = c.as_slice-addresses.ensures in
     can_be_saved c.args.generator.now state.result history low state.ensures.machine
-        (state.ensures.valid history low after) (subst (λ (ns : List ℕ). length ns ≤ 4) slice.value slice.fits)
-        c.is_byte.ensures after
+    (state.ensures.valid history low after) (subst (λ (ns : List ℕ). length ns ≤ 4) slice.value slice.fits)
+    c.is_byte.ensures after
 
 pub returns-then-i-returns-clause-saved : goal.returns-then-i-returns-clause-saved
 returns-then-i-returns-clause-saved c = λ history low after.
     let state = c.state-state in
     let slice = c.as_slice-addresses.ensures in
     can_be_saved c.args.generator.now state.result history low state.ensures.machine
-        (state.ensures.valid history low after) (subst (λ (ns : List ℕ). length ns ≤ 4) slice.value slice.fits)
-        c.is_byte.ensures after
+    (state.ensures.valid history low after) (subst (λ (ns : List ℕ). length ns ≤ 4) slice.value slice.fits)
+    c.is_byte.ensures after
 
 pub returns-else-i-returns-clause-saved : goal.returns-else-i-returns-clause-saved
 returns-else-i-returns-clause-saved c = λ history low after.
     let state = c.state-state in
     let slice = c.as_slice-addresses.ensures in
     can_be_saved c.args.generator.now state.result history low state.ensures.machine
-        (state.ensures.valid history low after) (subst (λ (ns : List ℕ). length ns ≤ 4) slice.value slice.fits)
-        c.is_byte.ensures after
+    (state.ensures.valid history low after) (subst (λ (ns : List ℕ). length ns ≤ 4) slice.value slice.fits)
+    c.is_byte.ensures after
 
 pub returns-else-i-returns-clause-part : goal.returns-else-i-returns-clause-part
 returns-else-i-returns-clause-part c =

@@ -30,9 +30,9 @@ returns-else-stroke-count-2 c =
     let strokes = c.strokes_so_far-strokes.result.now in
     let outside = c.if-stroke-count.false in
     let past : 2 * length strokes < c.args.i = past_place (length strokes) c.args.i outside
-        (elim c.else-stroke-count-2.branch [
-          | else-stroke-count-2-via-then-stroke-count-2+else-i-eq0 w ↦ inr w.if-i-eq0.false
-          | else-stroke-count-2-via-else-stroke-count-2 w ↦ inl w.if-stroke-count-2.false
-        ]) in
+    (elim c.else-stroke-count-2.branch [
+      | else-stroke-count-2-via-then-stroke-count-2+else-i-eq0 w ↦ inr w.if-i-eq0.false
+      | else-stroke-count-2-via-else-stroke-count-2 w ↦ inl w.if-stroke-count-2.false
+    ]) in
     sym (no_place c.args.generator.now c.args.i
-        (subst (λ (strokes : List Stroke). 2 * length strokes < c.args.i) c.strokes_so_far-strokes.ensures past))
+    (subst (λ (strokes : List Stroke). 2 * length strokes < c.args.i) c.strokes_so_far-strokes.ensures past))

@@ -18,8 +18,7 @@ returns c =
     let valid = c.is_valid.ensures.0 c.if-not-is_valid.false in
     let stands = subst CanStand c.self.view_is (can_stand c.self.inside.state c.self.inside.strokes.items valid) in
     let same = c.state.view_is ∙ c.replace.ensures.value in
-    let there = is_state c.state.inside.state c.state.inside.strokes.items (subst CanStand (sym same) stands) in
-    (
+    let there = is_state c.state.inside.state c.state.inside.strokes.items (subst CanStand (sym same) stands) in (
       stands,
       c.resume.ensures.machine (c.resume.ensures.taken.1 there) ∙ same,
       c.replace.ensures.after ∙ c.new.ensures,
