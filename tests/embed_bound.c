@@ -244,6 +244,9 @@ static void test_driver_without_memory(dvg *device)
     TAKES_NONE(dvg_generator_move(device, 0xFF, &move), DVG_MOVES);
     TAKES_NONE(dvg_held_by(device, &held), DVG_HOLDS);
     TAKES_NONE(dvg_return_to(device, 0), DVG_NOTHING);
+    TAKES_NONE(dvg_ask(device, DVG_REQUEST_STATE), DVG_STATE);
+    TAKES_NONE(dvg_ask(device, DVG_REQUEST_TELL_STATE | 0x100), DVG_CLEARED);
+    TAKES_NONE(dvg_ask(device, DVG_REQUEST_TELL_STATE), DVG_CLEARED);
     TAKES_NONE(dvg_generator_fetch(device, 0xE0), DVG_FETCHED);
     TAKES_NONE(dvg_generator_hole(device), DVG_BROKE);
     TAKES_NONE(dvg_shut(device), DVG_CLOSED);
@@ -253,10 +256,10 @@ static void test_driver_without_memory(dvg *device)
 static void test_unknown(dvg *device)
 {
     expect(dvg_tick(device).kind == DVG_CLOSED, "nothing is open");
-    expect(dvg_ask(device, 28).kind == DVG_UNKNOWN, "no request, while nothing is open");
+    expect(dvg_ask(device, 30).kind == DVG_UNKNOWN, "no request, while nothing is open");
     expect(dvg_ask(device, 0x12FF).kind == DVG_UNKNOWN, "another one");
     dvg_open_generator(device);
-    expect(dvg_ask(device, 28).kind == DVG_UNKNOWN, "no request, while a generator is open");
+    expect(dvg_ask(device, 30).kind == DVG_UNKNOWN, "no request, while a generator is open");
     expect(dvg_offer(device).kind == DVG_UNKNOWN, "an offer to a generator");
 }
 

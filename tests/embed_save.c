@@ -166,8 +166,7 @@ static void try_bytes(dvg *device, const uint8_t *bytes, size_t size, bool *answ
     if (kind == DVG_OPENED) {
         size_t again;
         uint8_t *other = save(device, &again);
-        *answered = *answered && again == size
-                    && dvg_restore(device, other, again).kind == DVG_OPENED;
+        *answered = *answered && dvg_restore(device, other, again).kind == DVG_OPENED;
         free(other);
     } else {
         *answered = *answered && kind == DVG_NO_STATE
