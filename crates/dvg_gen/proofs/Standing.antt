@@ -2,7 +2,7 @@
 use Rattle.std.proofs.Common.{◌≡◌, ◌↔◌, ℕ, suc, ◌+◌, ◌<◌, true, false, List, [], ◌∷◌, ◌++◌, length, get_or}
 use Rattle.std.proofs.Common.{Option, Some, None, refl, sym, ap, ◌∙◌, subst, arith, append-nil, cond, eqb}
 use Rattle.std.proofs.lemmas.Bool.{eq-eqb}
-use Rattle.std.specs.Prelude.{Result, Ok, Err, IfOk, IsSome, Vec}
+use Rattle.std.specs.Prelude.{Result, Ok, Err, IfOk, IsSome}
 use Rattle.dvg_code.specs.declared.instr.Instr.{Instr}
 use Rattle.dvg_code.specs.declared.instr.Instr.TheVariants.{Jmpl}
 use Rattle.dvg_code.specs.Spelling.{IsFirst, Spells, vctr, labs, halt, jsrl, rtsl, jmpl, svec}
@@ -10,17 +10,16 @@ use Rattle.dvg_gen.specs.declared.beam.Beam.{Beam}
 use Rattle.dvg_gen.specs.declared.taken.GenFault.TheVariants.{StackOver, StackUnder, Hole}
 use Rattle.dvg_gen.specs.declared.stroke.Stroke.{Stroke}
 use Rattle.dvg_gen.specs.declared.taken.Step.{Step}
-use Rattle.dvg_gen.specs.declared.taken.Taken.{Taken}
-use Rattle.dvg_gen.specs.declared.taken.Taken.TheVariants.{Low, Word, Done, Broke}
+use Rattle.dvg_gen.specs.declared.taken.Step.TheVariants.{Low, Word, Done, Broke}
 use Rattle.dvg_gen.specs.Completing.{Completes}
 use Rattle.dvg_gen.specs.Drawing.{moved, drawn}
 use Rattle.dvg_gen.specs.Bytes.{Met, met, Waits, Whole}
-use Rattle.dvg_gen.specs.Machine.{Machine, IsReply, IsInRun, HasTaken, Answers, IsOnward, taken_by}
+use Rattle.dvg_gen.specs.Machine.{Machine, IsInRun, HasTaken, Answers, IsOnward, answer_by, picture_after}
 use Rattle.dvg_gen.specs.Stacks.{stack_by, to_of, CanGo}
 use Rattle.dvg_gen.specs.Obeyed.{past, gone, IsShut, Obeyed}
 use Rattle.dvg_code.specs.Acts.{act_of}
 use Rattle.dvg_gen.specs.Run.{Visit, on, next, wanted, calls, returns, Fate, Goes, Finished, Breaks, fate_by, fate, beam_after, strokes, Adds, first, one, two}
-use Rattle.dvg_gen.specs.Told.{Told, Newest, nothing, goes_on, grown, stopped, begun, Leaves, new, starts, resets, meets_hole, takes, Start, Reset, reply_by}
+use Rattle.dvg_gen.specs.Told.{Told, Fed, Newest, nothing, goes_on, grown, stopped, begun, Leaves, new, starts, resets, meets_hole, takes, Start, Reset, Reply, More, Drew, Fails, reply_by}
 use Rattle.dvg_gen.proofs.Stack.{stack, past_call_is, next_is, Sound, sound_none, sound_more, goes_more, can_more, halts_finish}
 
 -- only a run that goes is opened
@@ -134,11 +133,11 @@ module _ (history : List Told) (low : Option ℕ) (old : Machine) (after : HasTa
   inside = after.stands.running is_open
 
   -- of a low byte
-  pub at_low : (A : Type 0) (byte : ℕ) (machine : Machine) → machine ≡ record old { low = Some byte } → Answers {A = A} history (Waits byte) machine Low
-  at_low A byte machine same =
+  pub at_low : (byte : ℕ) (machine : Machine) → machine ≡ record old { low = Some byte } → Answers history (Waits byte) machine None
+  at_low byte machine same =
       let run = after.run in
       let holding : Machine = record old { low = Some byte } in
-      let answers : Answers {A = A} history (Waits byte) holding Low = (
+      let answers : Answers history (Waits byte) holding None = (
         record {
           run = run;
           leaves = after.leaves;
@@ -152,11 +151,11 @@ module _ (history : List Told) (low : Option ℕ) (old : Machine) (after : HasTa
         },
         refl,
       ) in
-      subst (λ m. Answers {A = A} history (Waits byte) m Low) (sym same) answers
+      subst (λ m. Answers history (Waits byte) m None) (sym same) answers
 
   -- of a hole
-  pub at_hole : (A : Type 0) (machine : Machine) → machine.is_open ≡ false → machine.low ≡ None → machine.beam ≡ old.beam → Answers {A = A} history (Whole None) machine (Broke Hole)
-  at_hole A machine shut dropped beam = (
+  pub at_hole : (machine : Machine) → machine.is_open ≡ false → machine.low ≡ None → machine.beam ≡ old.beam → Answers history (Whole None) machine (Some (Fails Hole))
+  at_hole machine shut dropped beam = (
     record {
       run = stopped after.run;
       leaves = meets_hole after.leaves is_open;
@@ -168,14 +167,14 @@ module _ (history : List Told) (low : Option ℕ) (old : Machine) (after : HasTa
   )
 
   -- of a first word
-  pub at_first : (A : Type 0) (word : ℕ) → IsFirst word → old.held ≡ None → (machine : Machine)
-      → machine ≡ record { at = on old.at 1; held = Some word; low = None; stack = old.stack; beam = old.beam; strokes = old.strokes; is_open = true } → Answers {A = A} history (Whole (Some word)) machine Word
-  at_first A word is_first none machine same =
+  pub at_first : (word : ℕ) → IsFirst word → old.held ≡ None → (machine : Machine)
+      → machine ≡ record old { at = on old.at 1; held = Some word; low = None; is_open = true } → Answers history (Whole (Some word)) machine (Some More)
+  at_first word is_first none machine same =
       let goes = open_goes after.leaves is_open in
       let adds : Adds after.run.visits after.run.held word after.run.visits (Some word) =
       subst (λ held. Adds after.run.visits held word after.run.visits (Some word)) (sym none ∙ inside.held) (first is_first) in
-      let holding : Machine = record { at = on old.at 1; held = Some word; low = None; stack = old.stack; beam = old.beam; strokes = old.strokes; is_open = true } in
-      let answers : Answers {A = A} history (Whole (Some word)) holding Word = (
+      let holding : Machine = record old { at = on old.at 1; held = Some word; low = None; is_open = true } in
+      let answers : Answers history (Whole (Some word)) holding (Some More) = (
         record {
           run = grown after.run after.run.visits (Some word);
           leaves = takes after.leaves is_open adds;
@@ -187,9 +186,9 @@ module _ (history : List Told) (low : Option ℕ) (old : Machine) (after : HasTa
           low = refl;
           waits = none_waits;
         },
-        tt,
+        refl,
       ) in
-      subst (λ m. Answers {A = A} history (Whole (Some word)) m Word) (sym same) answers
+      subst (λ m. Answers history (Whole (Some word)) m (Some More)) (sym same) answers
 
   -- of a word that completes an instruction
   module _ (word : ℕ) (code : Instr) (completes : Completes after.run.held word code) where
@@ -197,8 +196,8 @@ module _ (history : List Told) (low : Option ℕ) (old : Machine) (after : HasTa
     adds = adds_by after.run.visits after.run.held word code completes
 
     -- which the machine goes on from
-    at_go : (A : Type 0) → CanGo (act_of code) old.stack → (machine : Machine) → machine ≡ gone old code → Answers {A = A} history (Whole (Some word)) machine Word
-    at_go A can machine same =
+    at_go : CanGo (act_of code) old.stack → (machine : Machine) → machine ≡ gone old code → Answers history (Whole (Some word)) machine (Some More)
+    at_go can machine same =
         let visits = after.run.visits in
         let newest : Visit = record { place = next visits; code = code } in
         let saved = stack_is after.leaves is_open inside in
@@ -212,7 +211,7 @@ module _ (history : List Told) (low : Option ℕ) (old : Machine) (after : HasTa
         ap (λ at. past (act_of code) at old.stack) inside.at ∙ last.0 ∙ ap (λ st. to_of (act_of code) (next visits) st) saved ∙ sym (next_is newest visits) in
         let sound_after = sound_more newest visits sound can_run in
         let counted : calls (newest ∷ visits) ≡ returns (newest ∷ visits) + length (stack (newest ∷ visits)) = sound_after.counted in
-        let answers : Answers {A = A} history (Whole (Some word)) (gone old code) Word = (
+        let answers : Answers history (Whole (Some word)) (gone old code) (Some More) = (
           record {
             run = grown after.run (newest ∷ visits) None;
             leaves = takes after.leaves is_open adds;
@@ -230,15 +229,15 @@ module _ (history : List Told) (low : Option ℕ) (old : Machine) (after : HasTa
             low = refl;
             waits = none_waits;
           },
-          subst (λ f. IsReply {A = A} Word (reply_by None f (strokes after.run.first (newest ∷ visits)))) (sym goes) tt,
+          ap (λ f. Some (reply_by None f (strokes after.run.first (newest ∷ visits)))) (sym goes),
         ) in
-        subst (λ m. Answers {A = A} history (Whole (Some word)) m Word) (sym same) answers
+        subst (λ m. Answers history (Whole (Some word)) m (Some More)) (sym same) answers
 
     -- which ends the run
-    at_stop : (A : Type 0) (ends : Fate) → fate (record { place = next after.run.visits; code = code } ∷ after.run.visits) ≡ ends → goes_on ends ≡ false → ((b : Beam) → moved b code ≡ b)
-        → (machine : Machine) (taken : Taken A) → IsShut old machine → IsReply taken (reply_by None ends (strokes after.run.first (record { place = next after.run.visits; code = code } ∷ after.run.visits)))
-        → Answers history (Whole (Some word)) machine taken
-    at_stop A ends is_end over still machine taken shut replies =
+    at_stop : (ends : Fate) → fate (record { place = next after.run.visits; code = code } ∷ after.run.visits) ≡ ends → goes_on ends ≡ false → ((b : Beam) → moved b code ≡ b)
+        → (machine : Machine) (answer : Reply) → IsShut old machine → answer ≡ reply_by None ends (strokes after.run.first (record { place = next after.run.visits; code = code } ∷ after.run.visits))
+        → Answers history (Whole (Some word)) machine (Some answer)
+    at_stop ends is_end over still machine answer shut replies =
         let newest : Visit = record { place = next after.run.visits; code = code } in
         let closed : goes_on (fate (newest ∷ after.run.visits)) ≡ false = ap goes_on is_end ∙ over in (
           record {
@@ -252,54 +251,54 @@ module _ (history : List Told) (low : Option ℕ) (old : Machine) (after : HasTa
             low = shut.1;
             waits = none_waits;
           },
-          subst (λ f. IsReply taken (reply_by None f (strokes after.run.first (newest ∷ after.run.visits)))) (sym is_end) replies,
+          ap Some (replies ∙ ap (λ f. reply_by None f (strokes after.run.first (newest ∷ after.run.visits))) (sym is_end)),
         )
 
     -- whichever it is
-    pub at_obeyed : (A : Type 0) (machine : Machine) (taken : Taken A) → Obeyed old code machine taken → Answers history (Whole (Some word)) machine taken
-    at_obeyed A machine Low obeyed = absurd obeyed
-    at_obeyed A machine Word obeyed = at_go A obeyed.0 machine obeyed.1
-    at_obeyed A machine (Done list) obeyed =
+    pub at_obeyed : (machine : Machine) (step : Step) → Obeyed old code machine step → Answers history (Whole (Some word)) machine (answer_by step machine.picture)
+    at_obeyed machine Low obeyed = absurd obeyed
+    at_obeyed machine Word obeyed = at_go obeyed.0 machine obeyed.1
+    at_obeyed machine Done obeyed =
         let visits = after.run.visits in
         let newest : Visit = record { place = next visits; code = code } in
         let finished = halts_finish newest visits (ap act_of obeyed.0) in
         let none : drawn (beam_after after.run.first visits) code ≡ [] = ap (λ k. drawn (beam_after after.run.first visits) k) obeyed.0 in
         let drew : strokes after.run.first (newest ∷ visits) ≡ strokes after.run.first visits =
         ap (λ ys. strokes after.run.first visits ++ ys) none ∙ append-nil (strokes after.run.first visits) in
-        at_stop A Finished finished refl (λ b. ap (λ k. moved b k) obeyed.0) machine (Done list) obeyed.1 (obeyed.2 ∙ inside.strokes ∙ sym drew)
-    at_obeyed A machine (Broke StackOver) obeyed =
+        at_stop Finished finished refl (λ b. ap (λ k. moved b k) obeyed.0) machine (Drew machine.picture) obeyed.1 (ap Drew (obeyed.2 ∙ inside.strokes ∙ sym drew))
+    at_obeyed machine (Broke StackOver) obeyed =
         let visits = after.run.visits in
         let count : calls visits ≡ returns visits + length old.stack = inside.count in
         let four : length old.stack ≡ 4 = obeyed.1 in
         let full : eqb (calls visits) (returns visits + 4) ≡ true = eq-eqb _ _ (omega arith) in
         let breaks = ap (λ k. fate_by (act_of k) visits) obeyed.0.1 ∙ ap (λ b. cond b (Breaks StackOver) Goes) full in
-        at_stop A (Breaks StackOver) breaks refl (λ b. ap (λ k. moved b k) obeyed.0.1) machine (Broke StackOver) obeyed.2 refl
-    at_obeyed A machine (Broke StackUnder) obeyed =
+        at_stop (Breaks StackOver) breaks refl (λ b. ap (λ k. moved b k) obeyed.0.1) machine (Fails StackOver) obeyed.2 refl
+    at_obeyed machine (Broke StackUnder) obeyed =
         let visits = after.run.visits in
         let count : calls visits ≡ returns visits + length old.stack = inside.count in
         let none : length old.stack ≡ 0 = ap length obeyed.1 in
         let empty : eqb (calls visits) (returns visits) ≡ true = eq-eqb _ _ (omega arith) in
         let breaks = ap (λ k. fate_by (act_of k) visits) obeyed.0 ∙ ap (λ b. cond b (Breaks StackUnder) Goes) empty in
-        at_stop A (Breaks StackUnder) breaks refl (λ b. ap (λ k. moved b k) obeyed.0) machine (Broke StackUnder) obeyed.2 refl
-    at_obeyed A machine (Broke Hole) obeyed = absurd obeyed
+        at_stop (Breaks StackUnder) breaks refl (λ b. ap (λ k. moved b k) obeyed.0) machine (Fails StackUnder) obeyed.2 refl
+    at_obeyed machine (Broke Hole) obeyed = absurd obeyed
 
 -- what a fetch that met this leaves and is answered, after whatever history
-abbrev pub Claim : {A : Type 0} → Met → Machine → Machine → Taken A → Type 0
-Claim found old machine taken = (history : List Told) (low : Option ℕ) → HasTaken old history low → Answers history found machine taken
+abbrev pub Claim : Met → Machine → Machine → Option Reply → Type 0
+Claim found old machine answer = (history : List Told) (low : Option ℕ) → HasTaken old history low → Answers history found machine answer
 
 -- what a fetch of this byte leaves and is answered, after whatever history and low byte
-abbrev pub Claims : {A : Type 0} → Option ℕ → Machine → Machine → Taken A → Type 0
-Claims byte old machine taken = (history : List Told) (low : Option ℕ) → HasTaken old history low → Answers history (met low byte) machine taken
+abbrev pub Claims : Option ℕ → Machine → Machine → Option Reply → Type 0
+Claims byte old machine answer = (history : List Told) (low : Option ℕ) → HasTaken old history low → Answers history (met low byte) machine answer
 
 -- it is what it meets with the low byte that the machine has
-pub claim_met : {A E : Type 0} (result : Result Step E) (list : Vec Stroke A) (byte : Option ℕ) (found : Met)
-    (old machine : Machine) → met old.low byte ≡ found
-    → IfOk result (λ step. Claim found old machine (taken_by step list))
-    → IfOk result (λ step. Claims byte old machine (taken_by step list))
-claim_met (Err e) list byte found old machine same claim = claim
-claim_met (Ok step) list byte found old machine same claim = λ history low after.
-    subst (λ l. Answers history (met l byte) machine (taken_by step list)) after.low
-    (subst (λ f. Answers history f machine (taken_by step list)) (sym same) (claim history low after))
+pub claim_met : {E : Type 0} (result : Result Step E) (byte : Option ℕ) (found : Met) (old machine : Machine)
+    → met old.low byte ≡ found
+    → IfOk result (λ step. Claim found old machine (answer_by step machine.picture))
+    → IfOk result (λ step. Claims byte old machine (answer_by step machine.picture))
+claim_met (Err e) byte found old machine same claim = claim
+claim_met (Ok step) byte found old machine same claim = λ history low after.
+    subst (λ l. Answers history (met l byte) machine (answer_by step machine.picture)) after.low
+    (subst (λ f. Answers history f machine (answer_by step machine.picture)) (sym same) (claim history low after))
 
 -- a hole is met whether a low byte waits or not
 pub met_hole : (low : Option ℕ) → met low None ≡ Whole None
@@ -307,46 +306,45 @@ met_hole None = refl
 met_hole (Some low) = refl
 
 -- the claim of a hole
-pub claim_hole : {A : Type 0} (old machine : Machine) (taken : Taken A) → old.is_open ≡ true → taken ≡ Broke Hole → machine ≡ record old { low = None; is_open = false } → Claim (Whole None) old machine taken
-claim_hole {A} old machine taken opened broke shut history low after =
-    subst (λ t. Answers history (Whole None) machine t) (sym broke)
-    (at_hole history low old after opened A machine (ap (λ m. m.is_open) shut) (ap (λ m. m.low) shut) (ap (λ m. m.beam) shut))
+pub claim_hole : (old machine : Machine) (answer : Option Reply) → old.is_open ≡ true → answer ≡ Some (Fails Hole) → machine ≡ record old { low = None; is_open = false } → Claim (Whole None) old machine answer
+claim_hole old machine answer opened broke shut history low after =
+    subst (λ a. Answers history (Whole None) machine a) (sym broke)
+    (at_hole history low old after opened machine (ap (λ m. m.is_open) shut) (ap (λ m. m.low) shut) (ap (λ m. m.beam) shut))
 
 -- the claim of a low byte
-pub claim_low : (A : Type 0) (byte : ℕ) (old machine : Machine) → old.is_open ≡ true → machine ≡ record old { low = Some byte } → Claim {A = A} (Waits byte) old machine Low
-claim_low A byte old machine opened same history low after = at_low history low old after opened A byte machine same
+pub claim_low : (byte : ℕ) (old machine : Machine) → old.is_open ≡ true → machine ≡ record old { low = Some byte } → Claim (Waits byte) old machine None
+claim_low byte old machine opened same history low after = at_low history low old after opened byte machine same
 
 -- the claim of a first word
-pub claim_first : (A : Type 0) (w at : ℕ) (old machine : Machine) → old.is_open ≡ true → old.held ≡ None → IsFirst w → at ≡ on old.at 1
-    → machine ≡ record old { at = at; held = Some w; low = None } → Claim {A = A} (Whole (Some w)) old machine Word
-claim_first A w at old machine opened none is_first on_one same history low after =
+pub claim_first : (w at : ℕ) (old machine : Machine) → old.is_open ≡ true → old.held ≡ None → IsFirst w → at ≡ on old.at 1
+    → machine ≡ record old { at = at; held = Some w; low = None } → Claim (Whole (Some w)) old machine (Some More)
+claim_first w at old machine opened none is_first on_one same history low after =
     let moved = same ∙ ap (λ a. record old { at = a; held = Some w; low = None }) on_one in
-    let holding = moved ∙ ap (λ o. record { at = on old.at 1; held = Some w; low = None; stack = old.stack; beam = old.beam; strokes = old.strokes; is_open = o }) opened in
-    at_first history low old after opened A w is_first none machine holding
+    let holding = moved ∙ ap (λ o. record old { at = on old.at 1; held = Some w; low = None; is_open = o }) opened in
+    at_first history low old after opened w is_first none machine holding
 
 -- the claim of a word that completes an instruction
-claim_obeyed : (A : Type 0) (w : ℕ) (old machine : Machine) (code : Instr) (taken : Taken A) → old.is_open ≡ true → Completes old.held w code
-    → Obeyed old code machine taken → Claim (Whole (Some w)) old machine taken
-claim_obeyed A w old machine code taken opened completes obeyed history low after =
+pub claim_obeyed : (w : ℕ) (old machine : Machine) (code : Instr) (step : Step) → old.is_open ≡ true → Completes old.held w code
+    → Obeyed old code machine step → Claim (Whole (Some w)) old machine (answer_by step machine.picture)
+claim_obeyed w old machine code step opened completes obeyed history low after =
     let held = (after.stands.running (sym after.stands.is_open ∙ opened)).held in
     let completes_run : Completes after.run.held w code = subst (λ h. Completes h w code) held completes in
-    at_obeyed history low old after opened w code completes_run A machine taken obeyed
+    at_obeyed history low old after opened w code completes_run machine step obeyed
 
 -- the same of a result
-pub claim_result : {A E : Type 0} (result : Result Step E) (list : Vec Stroke A) (w : ℕ) (old machine : Machine)
-    (code : Instr) → old.is_open ≡ true → Completes old.held w code
-    → IfOk result (λ step. Obeyed old code machine (taken_by step list))
-    → IfOk result (λ step. Claim (Whole (Some w)) old machine (taken_by step list))
-claim_result {A} (Ok step) list w old machine code opened completes obeyed =
-    claim_obeyed A w old machine code (taken_by step list) opened completes obeyed
-claim_result (Err e) list w old machine code opened completes obeyed = obeyed
+pub claim_result : {E : Type 0} (result : Result Step E) (w : ℕ) (old machine : Machine) (code : Instr)
+    → old.is_open ≡ true → Completes old.held w code → IfOk result (Obeyed old code machine)
+    → IfOk result (λ step. Claim (Whole (Some w)) old machine (answer_by step machine.picture))
+claim_result (Ok step) w old machine code opened completes obeyed =
+    claim_obeyed w old machine code step opened completes obeyed
+claim_result (Err e) w old machine code opened completes obeyed = obeyed
 
 -- a run that obeys goes on exactly where its answer says so
-goes_obeyed : {A : Type 0} (old machine : Machine) (code : Instr) (taken : Taken A) → Obeyed old code machine taken
-    → (machine.is_open ≡ true) ↔ IsOnward taken
+goes_obeyed : (old machine : Machine) (code : Instr) (step : Step) → Obeyed old code machine step
+    → (machine.is_open ≡ true) ↔ IsOnward (answer_by step machine.picture)
 goes_obeyed old machine code Low obeyed = absurd obeyed
 goes_obeyed old machine code Word obeyed = (λ opened. tt, λ onward. ap (λ m. m.is_open) obeyed.1)
-goes_obeyed old machine code (Done list) obeyed = (λ opened. never (sym obeyed.1.0 ∙ opened), λ onward. absurd onward)
+goes_obeyed old machine code Done obeyed = (λ opened. never (sym obeyed.1.0 ∙ opened), λ onward. absurd onward)
 goes_obeyed old machine code (Broke StackOver) obeyed =
     (λ opened. never (sym obeyed.2.0 ∙ opened), λ onward. absurd onward)
 goes_obeyed old machine code (Broke StackUnder) obeyed =
@@ -354,25 +352,79 @@ goes_obeyed old machine code (Broke StackUnder) obeyed =
 goes_obeyed old machine code (Broke Hole) obeyed = absurd obeyed
 
 -- the same of a result
-pub goes_result : {A E : Type 0} (result : Result Step E) (list : Vec Stroke A) (old machine : Machine) (code : Instr)
-    → IfOk result (λ step. Obeyed old code machine (taken_by step list))
-    → IfOk result (λ step. (machine.is_open ≡ true) ↔ IsOnward (taken_by step list))
-goes_result (Ok step) list old machine code obeyed = goes_obeyed old machine code (taken_by step list) obeyed
-goes_result (Err e) list old machine code obeyed = obeyed
+pub goes_result : {E : Type 0} (result : Result Step E) (old machine : Machine) (code : Instr)
+    → IfOk result (Obeyed old code machine)
+    → IfOk result (λ step. (machine.is_open ≡ true) ↔ IsOnward (answer_by step machine.picture))
+goes_result (Ok step) old machine code obeyed = goes_obeyed old machine code step obeyed
+goes_result (Err e) old machine code obeyed = obeyed
+
+-- a HALT makes the picture of the run's strokes, and every other step leaves it
+picture_obeyed : (old machine : Machine) (code : Instr) (step : Step) → Obeyed old code machine step
+    → machine.picture ≡ picture_after step old
+picture_obeyed old machine code Low obeyed = absurd obeyed
+picture_obeyed old machine code Word obeyed = ap (λ m. m.picture) obeyed.1
+picture_obeyed old machine code Done obeyed = obeyed.2
+picture_obeyed old machine code (Broke StackOver) obeyed = obeyed.3
+picture_obeyed old machine code (Broke StackUnder) obeyed = obeyed.3
+picture_obeyed old machine code (Broke Hole) obeyed = absurd obeyed
+
+-- the same of a result
+pub picture_result : {E : Type 0} (result : Result Step E) (old machine : Machine) (code : Instr)
+    → IfOk result (Obeyed old code machine) → IfOk result (λ step. machine.picture ≡ picture_after step old)
+picture_result (Ok step) old machine code obeyed = picture_obeyed old machine code step obeyed
+picture_result (Err e) old machine code obeyed = obeyed
+
+-- a HALT leaves no stroke
+pub none_left : (old machine : Machine) (code : Instr) (step : Step) → Obeyed old code machine step → step ≡ Done
+    → machine.strokes ≡ []
+none_left old machine code step obeyed done = (subst (Obeyed old code machine) done obeyed).3
+
+-- the same of a result
+pub none_left_result : {E : Type 0} (result : Result Step E) (old machine : Machine) (code : Instr)
+    → IfOk result (Obeyed old code machine) → IfOk result (λ step. step ≡ Done → machine.strokes ≡ [])
+none_left_result (Ok step) old machine code obeyed = none_left old machine code step obeyed
+none_left_result (Err e) old machine code obeyed = obeyed
 
 -- what a word claims that alone spells an instruction
-pub claim_alone : {A E : Type 0} (result : Result Step E) (list : Vec Stroke A) (w : ℕ) (old machine : Machine)
-    (code : Instr) → old.is_open ≡ true → old.held ≡ None → Spells code (w ∷ [])
-    → IfOk result (λ step. Obeyed old code machine (taken_by step list))
-    → IfOk result (λ step. Claim (Whole (Some w)) old machine (taken_by step list))
-claim_alone result list w old machine code opened none spells obeyed =
-    claim_result result list w old machine code opened (subst (λ held. Completes held w code) (sym none) spells) obeyed
+pub claim_alone : {E : Type 0} (result : Result Step E) (w : ℕ) (old machine : Machine) (code : Instr)
+    → old.is_open ≡ true → old.held ≡ None → Spells code (w ∷ []) → IfOk result (Obeyed old code machine)
+    → IfOk result (λ step. Claim (Whole (Some w)) old machine (answer_by step machine.picture))
+claim_alone result w old machine code opened none spells obeyed =
+    claim_result result w old machine code opened (subst (λ held. Completes held w code) (sym none) spells) obeyed
 
 -- a machine that goes to an address obeys a JMPL
-pub jumped : {A : Type 0} (old machine : Machine) (taken : Taken A) (address : ℕ) → old.is_open ≡ true → machine ≡ record old { at = address; held = None; low = None } → taken ≡ Word
-    → Obeyed old (Jmpl address) machine taken
-jumped old machine taken address opened moved goes =
+pub jumped : (old machine : Machine) (step : Step) (address : ℕ) → old.is_open ≡ true → machine ≡ record old { at = address; held = None; low = None } → step ≡ Word
+    → Obeyed old (Jmpl address) machine step
+jumped old machine step address opened moved goes =
     let same : machine ≡ gone old (Jmpl address) =
     moved ∙ ap (λ o. record old { at = address; held = None; low = None; is_open = o }) opened
     ∙ ap (λ drew. record old { at = address; held = None; low = None; is_open = true; strokes = drew }) (sym (append-nil old.strokes)) in
-    subst (λ t. Obeyed old (Jmpl address) machine t) (sym goes) (tt, same)
+    subst (Obeyed old (Jmpl address) machine) (sym goes) (tt, same)
+
+-- a machine stands as before with whatever picture
+pub stands_with : (old : Machine) (picture : List Stroke) (history : List Told) (low : Option ℕ) → HasTaken old history low
+    → HasTaken (record old { picture = picture }) history low
+stands_with old picture history low after = record {
+  run = after.run;
+  leaves = after.leaves;
+  stands = record {
+    is_open = after.stands.is_open;
+    beam = after.stands.beam;
+    running = λ opened. let inside = after.stands.running opened in
+        record { at = inside.at; held = inside.held; strokes = inside.strokes; count = inside.count; brackets = inside.brackets };
+  };
+  low = after.low;
+  waits = after.waits;
+}
+
+-- the picture is handed out with the answer to a HALT
+pub handed_out : (history : List Told) (found : Met) (old machine : Machine) (list : List Stroke)
+    → machine ≡ record old { picture = [] } → list ≡ old.picture → Answers history found old (answer_by Done old.picture)
+    → Answers history found machine (Some (Drew list))
+unfolding stands_with
+handed_out history (Waits byte) old machine list same is answers = let never : Some (Drew old.picture) ≡ None = answers.1 in absurd (cc)
+handed_out history (Whole word) old machine list same is answers =
+    let left : Answers history (Whole word) (record old { picture = [] }) (Some (Drew old.picture)) =
+    (stands_with old [] (Fed word ∷ history) None answers.0, answers.1) in
+    subst (λ l. Answers history (Whole word) machine (Some (Drew l))) (sym is)
+    (subst (λ m. Answers history (Whole word) m (Some (Drew old.picture))) (sym same) left)

@@ -1,19 +1,20 @@
 -- What contracts see of a generator, and after which histories it stands.
-use Rattle.std.specs.Prelude.{◌≡◌, ℕ, ◌+◌, ◌<◌, List, ◌∷◌, length, slice_index, Option, Some, None, Bool, true, All}
-use Rattle.std.specs.Prelude.{IfSome, IsSome, Vec}
+use Rattle.std.specs.Prelude.{◌≡◌, ℕ, ◌+◌, ◌<◌, List, [], ◌∷◌, length, slice_index, Option, Some, None, Bool, true, All}
+use Rattle.std.specs.Prelude.{IfSome, IsSome}
 use Rattle.dvg_code.specs.Spelling.{IsFirst}
 use Rattle.dvg_gen.specs.declared.beam.Beam.{Beam}
 use Rattle.dvg_gen.specs.declared.stroke.Stroke.{Stroke}
 use Rattle.dvg_gen.specs.declared.taken.Step.{Step}
-use Rattle.dvg_gen.specs.declared.taken.Step.TheVariants as step
+use Rattle.dvg_gen.specs.declared.taken.Step.TheVariants.{Low, Word, Done, Broke}
 use Rattle.dvg_gen.specs.declared.taken.Taken.{Taken}
-use Rattle.dvg_gen.specs.declared.taken.Taken.TheVariants.{Low, Word, Done, Broke}
+use Rattle.dvg_gen.specs.declared.taken.Taken.TheVariants as taken
 use Rattle.dvg_gen.specs.Run.{past_call, wanted, calls, returns, beam_after, strokes}
 use Rattle.dvg_gen.specs.Told.{Told, Fed, Newest, Leaves, Reply, More, Drew, Fails, reply}
 use Rattle.dvg_gen.specs.Bytes.{Met, Waits, Whole}
 
 -- the address of the next word, the first word of its instruction and its low byte where they were fetched, the return
--- addresses, newest first, the beam, the run's strokes so far, and whether a run is open
+-- addresses, newest first, the beam, the run's strokes so far, those of the newest run that came to a HALT, until they
+-- are taken, and whether a run is open
 pub record Machine : Type 0 where
   pub at : ℕ
   pub held : Option ℕ
@@ -21,6 +22,7 @@ pub record Machine : Type 0 where
   pub stack : List ℕ
   pub beam : Beam
   pub strokes : List Stroke
+  pub picture : List Stroke
   pub is_open : Bool
 
 -- what a generator keeps: its addresses have twelve bits, and a word that it holds wants a second one
@@ -54,29 +56,39 @@ pub record HasTaken (machine : Machine) (history : List Told) (waiting : Option 
   pub low : machine.low ≡ waiting
   pub waits : IsSome waiting → run.is_open ≡ true
 
--- the answer to a word or a hole is that of the definition
-abbrev pub IsReply : {A : Type 0} → Taken A → Reply → Type 0
-IsReply Word More = Unit {0}
-IsReply (Done list) (Drew strokes) = list.items ≡ strokes
-IsReply (Broke fault) (Fails other) = fault ≡ other
-IsReply _ _ = ⊥
+-- the answer to a fetch that led to this step, by the picture after it; none to a low byte
+abbrev pub answer_by : Step → List Stroke → Option Reply
+answer_by Low picture = None
+answer_by Word picture = Some More
+answer_by Done picture = Some (Drew picture)
+answer_by (Broke fault) picture = Some (Fails fault)
+
+-- the same by an answer that has the strokes of a finished run with it
+abbrev pub answer_of : {A : Type 0} → Taken A → Option Reply
+answer_of taken.Low = None
+answer_of taken.Word = Some More
+answer_of (taken.Done strokes) = Some (Drew strokes.items)
+answer_of (taken.Broke fault) = Some (Fails fault)
 
 -- a machine stands after a history and one more fetch, which met this, with the answer that the definition gives to it:
 -- a low byte waits, and a word or a hole is told
-abbrev pub Answers : {A : Type 0} → List Told → Met → Machine → Taken A → Type 0
-Answers history (Waits byte) machine taken = HasTaken machine history (Some byte) × (taken ≡ Low)
-Answers history (Whole word) machine taken = (after : HasTaken machine (Fed word ∷ history) None)
-    × IsReply taken (reply word after.run)
-
--- the answer of this kind, with these strokes where the run is finished
-abbrev pub taken_by : {A : Type 0} → Step → Vec Stroke A → Taken A
-taken_by step.Low list = Low
-taken_by step.Word list = Word
-taken_by step.Done list = Done list
-taken_by (step.Broke fault) list = Broke fault
+abbrev pub Answers : List Told → Met → Machine → Option Reply → Type 0
+Answers history (Waits byte) machine answer = HasTaken machine history (Some byte) × (answer ≡ None)
+Answers history (Whole word) machine answer = (after : HasTaken machine (Fed word ∷ history) None)
+    × (answer ≡ Some (reply word after.run))
 
 -- the run goes on with this answer
-abbrev pub IsOnward : {A : Type 0} → Taken A → Type 0
-IsOnward Low = Unit {0}
-IsOnward Word = Unit {0}
+abbrev pub IsOnward : Option Reply → Type 0
+IsOnward None = Unit {0}
+IsOnward (Some More) = Unit {0}
 IsOnward _ = ⊥
+
+-- the picture after a step from this machine: a HALT makes it of the run's strokes, and else it stays
+abbrev pub picture_after : Step → Machine → List Stroke
+picture_after Done old = old.strokes
+picture_after _ old = old.picture
+
+-- the picture after such an answer, which hands it out
+abbrev pub left_by : {A : Type 0} → Taken A → List Stroke → List Stroke
+left_by (taken.Done strokes) picture = []
+left_by _ picture = picture

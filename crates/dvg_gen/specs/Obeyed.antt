@@ -3,8 +3,8 @@ use Rattle.std.specs.Prelude.{◌≡◌, ℕ, List, [], ◌++◌, length, slice_
 use Rattle.dvg_code.specs.declared.instr.Instr.{Instr}
 use Rattle.dvg_code.specs.declared.instr.Instr.TheVariants.{Vctr, Labs, Halt, Jsrl, Rtsl, Jmpl, Svec}
 use Rattle.dvg_gen.specs.declared.taken.GenFault.TheVariants.{StackOver, StackUnder, Hole}
-use Rattle.dvg_gen.specs.declared.taken.Taken.{Taken}
-use Rattle.dvg_gen.specs.declared.taken.Taken.TheVariants.{Low, Word, Done, Broke}
+use Rattle.dvg_gen.specs.declared.taken.Step.{Step}
+use Rattle.dvg_gen.specs.declared.taken.Step.TheVariants.{Low, Word, Done, Broke}
 use Rattle.dvg_gen.specs.Drawing.{moved, drawn}
 use Rattle.dvg_gen.specs.Machine.{Machine}
 use Rattle.dvg_code.specs.Acts.{Act, Moves, Jumps, Calls, Returns, Halts, act_of}
@@ -38,6 +38,7 @@ gone machine code = record {
   stack = stack_by (act_of code) machine.at machine.stack;
   beam = moved machine.beam code;
   strokes = machine.strokes ++ drawn machine.beam code;
+  picture = machine.picture;
   is_open = true;
 }
 
@@ -45,11 +46,13 @@ gone machine code = record {
 abbrev pub IsShut : Machine → Machine → Type 0
 IsShut old new = (new.is_open ≡ false) × (new.low ≡ None) × (new.beam ≡ old.beam)
 
--- what an instruction does, by the answer
-abbrev pub Obeyed : {A : Type 0} → Machine → Instr → Machine → Taken A → Type 0
+-- what an instruction does, by the step that it led to
+abbrev pub Obeyed : Machine → Instr → Machine → Step → Type 0
 Obeyed old code new Low = ⊥
 Obeyed old code new Word = CanGo (act_of code) old.stack × (new ≡ gone old code)
-Obeyed old code new (Done list) = (code ≡ Halt) × IsShut old new × (list.items ≡ old.strokes)
+Obeyed old code new Done = (code ≡ Halt) × IsShut old new × (new.picture ≡ old.strokes) × (new.strokes ≡ [])
 Obeyed old code new (Broke StackOver) = ((to : ℕ) × (code ≡ Jsrl to)) × (length old.stack ≡ 4) × IsShut old new
+    × (new.picture ≡ old.picture)
 Obeyed old code new (Broke StackUnder) = (code ≡ Rtsl) × (old.stack ≡ []) × IsShut old new
+    × (new.picture ≡ old.picture)
 Obeyed old code new (Broke Hole) = ⊥

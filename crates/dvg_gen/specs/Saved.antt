@@ -18,14 +18,15 @@ pub record IsState (state : GeneratorState) : Type 0 where
   pub waits : IsSome state.low → state.is_open ≡ true
   pub beam : IsBeam state.x state.y state.scale
 
--- the machine in a state, with these strokes
-abbrev pub machine_of : GeneratorState → List Stroke → Machine
-machine_of state strokes = record {
+-- the machine in a state, with these strokes of its run and this picture
+abbrev pub machine_of : GeneratorState → List Stroke → List Stroke → Machine
+machine_of state strokes picture = record {
   at = state.at;
   held = state.held;
   low = state.low;
   stack = reverse state.return_addresses.items;
   beam = record { x = state.x; y = state.y; scale = state.scale };
   strokes = strokes;
+  picture = picture;
   is_open = state.is_open;
 }

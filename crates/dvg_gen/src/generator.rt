@@ -1,7 +1,7 @@
 //! The generator.
 ghost use Rattle.std.specs.Prelude.{◌≡◌, ◌↔◌, ◌+◌, ◌%◌, ◌<◌, ◌≤◌, true, false, ℕ, List, Option, []};
 ghost use Rattle.std.specs.Prelude.{◌∷◌, ◌++◌, IsTrue, IsNone, IsSome, IsOk, IfSome, IfOk, OnErr};
-ghost use Rattle.std.specs.Prelude.{Some, None, Vec, length, option_to_list, reverse};
+ghost use Rattle.std.specs.Prelude.{Some, None, length, option_to_list, reverse};
 ghost use Rattle.dvg_code.specs.Acts.{Moves, act_of};
 ghost use Rattle.dvg_code.specs.Ranges.{InRange};
 ghost use Rattle.dvg_code.specs.Spelling.{IsFirst};
@@ -9,7 +9,8 @@ ghost use Rattle.dvg_code.specs.declared.instr.Instr.{Instr};
 ghost use Rattle.dvg_gen.specs.Bytes.{Whole, met, word_of};
 ghost use Rattle.dvg_gen.specs.Completing.{Completes, DrawsNothing, IsSeen};
 ghost use Rattle.dvg_gen.specs.Drawing.{drawn};
-ghost use Rattle.dvg_gen.specs.Machine.{Answers, HasTaken, IsOnward, Machine, taken_by};
+ghost use Rattle.dvg_gen.specs.Machine.{Answers, HasTaken, IsOnward, Machine};
+ghost use Rattle.dvg_gen.specs.Machine.{answer_by, answer_of, left_by, picture_after};
 ghost use Rattle.dvg_gen.specs.Moving.{AddsMoves, CompletesMove, IsMove, begins_at};
 ghost use Rattle.dvg_gen.specs.Obeyed.{IsLabs, Obeyed};
 ghost use Rattle.dvg_gen.specs.Run as spec;
@@ -49,6 +50,9 @@ pub struct Generator<A: Allocator> {
     stack: ArrayVec<u16, 4>,
     beam: Beam,
     strokes: Vec<Stroke, A>,
+    // The strokes of the newest run that came to a HALT, until they are taken. At a HALT the two
+    // lists change places, so the memory of each is used again.
+    picture: Vec<Stroke, A>,
 }
 
 /// Contracts see a `Machine`.
@@ -65,6 +69,7 @@ impl<A: Allocator> Model for Generator<A> {
       stack = reverse generator.stack.items;
       beam = generator.beam;
       strokes = generator.strokes.items;
+      picture = generator.picture.items;
       is_open = generator.is_open;
     } };
 
@@ -72,10 +77,12 @@ impl<A: Allocator> Model for Generator<A> {
 }
 
 impl<A: Allocator + Copy> Generator<A> {
-    /// Returns a new generator, which is halted. Its strokes will be in memory of `alloc`.
+    /// Returns a new generator, which is halted and has no picture. Its strokes will be in memory of
+    /// `alloc`.
     pub fn new(alloc: A) -> Generator<A>
         ensures stands { HasTaken result [] None }
         ensures halted { result.is_open ≡ false }
+        ensures picture { result.picture ≡ [] }
     {
         Generator {
             alloc,
@@ -86,12 +93,14 @@ impl<A: Allocator + Copy> Generator<A> {
             stack: ArrayVec::new(),
             beam: Beam::place(0, 0, 0),
             strokes: Vec::new(alloc),
+            picture: Vec::new(alloc),
             is_open: false,
         }
     }
 
     /// Begins a run at word zero, with no return address and no stroke. A run that was open is
-    /// abandoned with its strokes and its low byte (this project's own choice).
+    /// abandoned with its strokes and its low byte (this project's own choice). The picture of the
+    /// newest run that came to a HALT stays until it is taken.
     pub fn start(&mut self)
         ensures stands { (history : List Told) (low : Option ℕ) → HasTaken self.old history low
             → HasTaken self.new (Start ∷ history) None }
@@ -106,7 +115,7 @@ impl<A: Allocator + Copy> Generator<A> {
     }
 
     /// Halts the generator. A run that was open is abandoned with its strokes and its low byte; the
-    /// beam stays.
+    /// beam stays, and so does the picture of the newest run that came to a HALT.
     pub fn reset(&mut self)
         ensures stands { (history : List Told) (low : Option ℕ) → HasTaken self.old history low
             → HasTaken self.new (Reset ∷ history) None }
@@ -191,8 +200,8 @@ impl<A: Allocator + Copy> Generator<A> {
         self.stack.as_slice()
     }
 
-    /// Returns the strokes that the newest run drew so far, in the order drawn. One that came to a
-    /// HALT has handed its own out.
+    /// Returns the strokes that the newest run drew so far, in the order drawn. There are none after
+    /// a HALT, which makes the picture of them.
     pub fn strokes(&self) -> &[Stroke]
         ensures value { result.now ≡ self.now.strokes }
         ensures run { (history : List Told) (low : Option ℕ)
@@ -224,48 +233,46 @@ impl<A: Allocator + Copy> Generator<A> {
         self.move_of(u16::from_le_bytes([low, high]))
     }
 
+    /// Returns the picture: the strokes of the newest run that came to a HALT, in the order drawn.
+    /// There are none before the first HALT, and after the picture was taken.
+    pub fn picture(&self) -> &[Stroke]
+        ensures { result.now ≡ self.now.picture }
+    {
+        self.picture.as_slice()
+    }
+
+    /// Takes the picture out, and leaves an empty one. The next strokes need new memory then.
+    #[inline(always)]
+    pub fn take_picture(&mut self) -> Vec<Stroke, A>
+        ensures taken { result.items ≡ self.old.picture }
+        ensures stands { (history : List Told) (low : Option ℕ) → HasTaken self.old history low
+            → HasTaken self.new history low }
+        ensures machine { self.new ≡ record self.old { picture = [] } }
+    {
+        mem::replace(&mut self.picture, Vec::new(self.alloc))
+    }
+
     /// Takes `byte`, and returns what it led to. `byte` is the low byte of the word at the address
     /// that `wants` returns, or its high byte where `wants_high` is true. `None` means that no
-    /// memory answers there. A run must be open. After `Done` or `Broke` the generator is halted.
+    /// memory answers there. A run must be open. After `Done` or `Broke` the generator is halted;
+    /// `Done` makes the picture of the run's strokes, and every other step leaves it as it was.
     ///
     /// Returns `OutOfMemory` where an allocation fails, and then nothing has changed. That comes
     /// only where a high byte completes a vector with an intensity of at least 1.
     #[inline(always)]
-    pub fn take_byte(&mut self, byte: Option<u8>) -> Result<Taken<A>, OutOfMemory>
-        requires { self.old.is_open ≡ true }
-        ensures answers { IfOk result (λ taken. (history : List Told) (low : Option ℕ)
-            → HasTaken self.old history low
-            → Answers history (met low byte) self.new taken) }
-        ensures goes_on { IfOk result (λ taken. (self.new.is_open ≡ true) ↔ IsOnward taken) }
-        ensures room { DrawsNothing self.old.held (met self.old.low byte) → IsOk result }
-        ensures refused { OnErr result (self.new ≡ self.old) }
-    {
-        let mut drawn = self.no_strokes();
-        match self.take_into(byte, &mut drawn) {
-            Ok(step) => Ok(taken(step, drawn)),
-            Err(refused) => Err(refused),
-        }
-    }
-
-    /// Like `take_byte`, but the strokes of a finished run replace those in `drawn`. Otherwise
-    /// `drawn` stays as it is.
-    #[inline(always)]
-    pub fn take_into(
-        &mut self,
-        byte: Option<u8>,
-        drawn: &mut Vec<Stroke, A>,
-    ) -> Result<Step, OutOfMemory>
+    pub fn feed(&mut self, byte: Option<u8>) -> Result<Step, OutOfMemory>
         requires { self.old.is_open ≡ true }
         ensures answers { IfOk result (λ step. (history : List Told) (low : Option ℕ)
             → HasTaken self.old history low
-            → Answers history (met low byte) self.new (taken_by step drawn.new)) }
-        ensures drawn { IfOk result (λ step. (step ≡ Step.Done → ⊥) → drawn.new ≡ drawn.old) }
+            → Answers history (met low byte) self.new (answer_by step self.new.picture)) }
+        ensures picture { IfOk result (λ step. self.new.picture ≡ picture_after step self.old) }
+        ensures strokes { IfOk result (λ step. step ≡ Step.Done → self.new.strokes ≡ []) }
         ensures finished { IfOk result (λ step. step ≡ Step.Done
             → IsSome (word_of (met self.old.low byte))) }
         ensures goes_on { IfOk result (λ step. (self.new.is_open ≡ true)
-            ↔ IsOnward (taken_by step drawn.new)) }
+            ↔ IsOnward (answer_by step self.new.picture)) }
         ensures room { DrawsNothing self.old.held (met self.old.low byte) → IsOk result }
-        ensures refused { OnErr result ((self.new ≡ self.old) × (drawn.new ≡ drawn.old)) }
+        ensures refused { OnErr result (self.new ≡ self.old) }
     {
         let Some(byte) = byte else {
             return Ok(self.break_off(GenFault::Hole));
@@ -275,32 +282,35 @@ impl<A: Allocator + Copy> Generator<A> {
             self.has_low = true;
             return Ok(Step::Low);
         };
-        self.take(u16::from_le_bytes([low, byte]), drawn)
+        self.take(u16::from_le_bytes([low, byte]))
     }
 
-    /// Returns an empty list of strokes, with the allocator of the generator's own.
+    /// Takes `byte` as `feed` does, and the picture, too, where it is `Done`.
     #[inline(always)]
-    pub fn no_strokes(&self) -> Vec<Stroke, A>
-        ensures { result.items ≡ [] }
+    pub fn take_byte(&mut self, byte: Option<u8>) -> Result<Taken<A>, OutOfMemory>
+        requires { self.old.is_open ≡ true }
+        ensures answers { IfOk result (λ taken. (history : List Told) (low : Option ℕ)
+            → HasTaken self.old history low
+            → Answers history (met low byte) self.new (answer_of taken)) }
+        ensures picture { IfOk result (λ taken. self.new.picture
+            ≡ left_by taken self.old.picture) }
+        ensures goes_on { IfOk result (λ taken. (self.new.is_open ≡ true)
+            ↔ IsOnward (answer_of taken)) }
+        ensures room { DrawsNothing self.old.held (met self.old.low byte) → IsOk result }
+        ensures refused { OnErr result (self.new ≡ self.old) }
     {
-        Vec::new(self.alloc)
-    }
-
-    /// Takes back `strokes`, a list that was handed out, so that the next strokes lie in its
-    /// memory. What is in it is forgotten. Where the newest run has drawn already, the list is
-    /// dropped.
-    pub fn reuse(&mut self, strokes: Vec<Stroke, A>)
-        ensures { self.new ≡ self.old }
-    {
-        if self.strokes.is_empty() {
-            self.strokes = strokes;
-            self.strokes.clear();
+        match self.feed(byte) {
+            Ok(Step::Low) => Ok(Taken::Low),
+            Ok(Step::Word) => Ok(Taken::Word),
+            Ok(Step::Done) => Ok(Taken::Done(self.take_picture())),
+            Ok(Step::Broke(fault)) => Ok(Taken::Broke(fault)),
+            Err(refused) => Err(refused),
         }
     }
 
-    /// Returns all that the generator keeps but its strokes.
+    /// Returns all that the generator keeps but its strokes and its picture.
     pub fn state(&self) -> GeneratorState
-        ensures machine { self.now ≡ machine_of result self.now.strokes }
+        ensures machine { self.now ≡ machine_of result self.now.strokes self.now.picture }
         ensures valid { (history : List Told) (low : Option ℕ) → HasTaken self.now history low
             → IsState result }
     {
@@ -319,13 +329,15 @@ impl<A: Allocator + Copy> Generator<A> {
 
     /// Brings the generator into `state`, with `strokes` as what its run drew so far, and returns
     /// `true`. So it goes on as the one whose `state` and `strokes` these were; with no strokes,
-    /// those are missing where the run ends. Returns `false` exactly where `state` isn't valid, and
-    /// then nothing has changed.
+    /// those are missing where the run ends. The picture stays as it was. Returns `false` exactly
+    /// where `state` isn't valid, and then nothing has changed.
     pub fn resume(&mut self, state: &GeneratorState, strokes: Vec<Stroke, A>) -> bool
         ensures taken { IsTrue result ↔ IsState state.now }
-        ensures machine { IsTrue result → self.new ≡ machine_of state.now strokes.items }
-        ensures stands { IsTrue result → (saved : Machine) (history : List Told) (low : Option ℕ)
-            → saved ≡ machine_of state.now strokes.items → HasTaken saved history low
+        ensures machine { IsTrue result
+            → self.new ≡ machine_of state.now strokes.items self.old.picture }
+        ensures stands { IsTrue result → (saved : Machine) (picture : List Stroke)
+            (history : List Told) (low : Option ℕ)
+            → saved ≡ machine_of state.now strokes.items picture → HasTaken saved history low
             → HasTaken self.new history low }
         ensures refused { (IsTrue result → ⊥) → self.new ≡ self.old }
     {
@@ -363,19 +375,19 @@ impl<A: Allocator + Copy> Generator<A> {
         Move::of(&self.beam, &code, self.at)
     }
 
-    // Takes the whole word `word`, as `take_into` takes a high byte. The strokes of a finished run
-    // replace those in `drawn`.
+    // Takes the whole word `word`, as `feed` takes a high byte.
     #[inline(always)]
-    fn take(&mut self, word: u16, drawn: &mut Vec<Stroke, A>) -> Result<Step, OutOfMemory>
+    fn take(&mut self, word: u16) -> Result<Step, OutOfMemory>
         requires { self.old.is_open ≡ true }
         ensures answers { IfOk result (λ step. (history : List Told) (low : Option ℕ)
             → HasTaken self.old history low
-            → Answers history (Whole (Some word)) self.new (taken_by step drawn.new)) }
-        ensures drawn { IfOk result (λ step. (step ≡ Step.Done → ⊥) → drawn.new ≡ drawn.old) }
+            → Answers history (Whole (Some word)) self.new (answer_by step self.new.picture)) }
+        ensures picture { IfOk result (λ step. self.new.picture ≡ picture_after step self.old) }
+        ensures strokes { IfOk result (λ step. step ≡ Step.Done → self.new.strokes ≡ []) }
         ensures goes_on { IfOk result (λ step. (self.new.is_open ≡ true)
-            ↔ IsOnward (taken_by step drawn.new)) }
+            ↔ IsOnward (answer_by step self.new.picture)) }
         ensures room { DrawsNothing self.old.held (Whole (Some word)) → IsOk result }
-        ensures refused { OnErr result ((self.new ≡ self.old) × (drawn.new ≡ drawn.old)) }
+        ensures refused { OnErr result (self.new ≡ self.old) }
     {
         // The opcode says which instruction it is. To look at the decoded ones once more would take
         // time.
@@ -393,7 +405,7 @@ impl<A: Allocator + Copy> Generator<A> {
             return Ok(Step::Word);
         }
         match word >> 12 {
-            0xB => Ok(self.finish(drawn)),
+            0xB => Ok(self.finish()),
             0xC => Ok(self.call(word % 4096)),
             0xD => Ok(self.come_back()),
             0xE => Ok(self.jump(word % 4096)),
@@ -406,7 +418,7 @@ impl<A: Allocator + Copy> Generator<A> {
     fn place(&mut self, code: Code) -> Step
         requires open { self.old.is_open ≡ true }
         requires labs { IsLabs code }
-        ensures { (drawn : Vec Stroke A) → Obeyed self.old code self.new (taken_by result drawn) }
+        ensures { Obeyed self.old code self.new result }
     {
         let Instr::Labs { x, y, scale } = code.instr() else {
             unreachable!()
@@ -421,8 +433,7 @@ impl<A: Allocator + Copy> Generator<A> {
     fn draw(&mut self, code: Code) -> Result<Step, OutOfMemory>
         requires open { self.old.is_open ≡ true }
         requires moves { act_of code ≡ Moves code }
-        ensures obeyed { (drawn : Vec Stroke A)
-            → IfOk result (λ step. Obeyed self.old code self.new (taken_by step drawn)) }
+        ensures obeyed { IfOk result (Obeyed self.old code self.new) }
         ensures room { (IsSeen code → ⊥) → IsOk result }
         ensures refused { OnErr result (self.new ≡ self.old) }
     {
@@ -441,8 +452,7 @@ impl<A: Allocator + Copy> Generator<A> {
     fn call(&mut self, address: u16) -> Step
         requires open { self.old.is_open ≡ true }
         requires in_range { address ≤ 4095 }
-        ensures { (drawn : Vec Stroke A)
-            → Obeyed self.old (Instr.Jsrl address) self.new (taken_by result drawn) }
+        ensures { Obeyed self.old (Instr.Jsrl address) self.new result }
     {
         if self.stack.is_full() {
             return self.break_off(GenFault::StackOver);
@@ -454,8 +464,7 @@ impl<A: Allocator + Copy> Generator<A> {
     // Goes to the address that was saved last. Where none is saved, the run breaks.
     fn come_back(&mut self) -> Step
         requires { self.old.is_open ≡ true }
-        ensures { (drawn : Vec Stroke A)
-            → Obeyed self.old Instr.Rtsl self.new (taken_by result drawn) }
+        ensures { Obeyed self.old Instr.Rtsl self.new result }
     {
         match self.stack.pop() {
             Some(address) => self.jump(address),
@@ -475,14 +484,14 @@ impl<A: Allocator + Copy> Generator<A> {
         Step::Word
     }
 
-    // Ends the run. Its strokes replace those in `drawn`.
-    fn finish(&mut self, drawn: &mut Vec<Stroke, A>) -> Step
-        ensures { Obeyed self.old Instr.Halt self.new (taken_by result drawn.new) }
+    // Ends the run, and makes the picture of its strokes.
+    fn finish(&mut self) -> Step
+        ensures { Obeyed self.old Instr.Halt self.new result }
     {
         self.has_low = false;
         self.is_open = false;
-        let none = self.no_strokes();
-        *drawn = mem::replace(&mut self.strokes, none);
+        mem::swap(&mut self.strokes, &mut self.picture);
+        self.strokes.clear(); // Its memory is used again.
         Step::Done
     }
 
@@ -494,19 +503,6 @@ impl<A: Allocator + Copy> Generator<A> {
         self.has_low = false;
         self.is_open = false;
         Step::Broke(fault)
-    }
-}
-
-// Returns `step` as a `Taken`, where `drawn` are the strokes of a finished run.
-#[inline(always)]
-fn taken<A: Allocator>(step: Step, drawn: Vec<Stroke, A>) -> Taken<A>
-    ensures { result ≡ taken_by step drawn }
-{
-    match step {
-        Step::Low => Taken::Low,
-        Step::Word => Taken::Word,
-        Step::Done => Taken::Done(drawn),
-        Step::Broke(fault) => Taken::Broke(fault),
     }
 }
 

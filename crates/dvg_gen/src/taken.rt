@@ -34,7 +34,7 @@ impl GenFault {
     }
 }
 
-/// What a fetch led to, without the strokes of a finished run.
+/// What a fetch led to. The strokes of a finished run are the generator's picture.
 #[derive(Clone, Copy, Debug, PartialEq, Eq)]
 pub enum Step {
     /// That was the low byte of a word, whose high byte comes next.
@@ -47,7 +47,7 @@ pub enum Step {
     Broke(GenFault),
 }
 
-/// What a fetch led to.
+/// What a fetch led to, with the strokes of a finished run.
 #[derive(Debug, Drop)]
 pub enum Taken<A: Allocator> {
     /// That was the low byte of a word, whose high byte comes next.

@@ -1,7 +1,7 @@
 //! What a log shows of an event.
 ghost use Rattle.std.specs.Prelude.{◌≡◌};
 ghost use Rattle.dvg_gen.specs.Bytes.{met};
-ghost use Rattle.dvg_log.specs.Entries.{drew_in, entry_by, map_entry};
+ghost use Rattle.dvg_log.specs.Entries.{entry_by, map_entry};
 
 use dvg_driver::Action;
 use dvg_frame::FrameFault;
@@ -79,18 +79,13 @@ impl<S: Drop> Entry<S> {
     }
 }
 
-impl<S> Entry<S> {
-    /// Replaces the strokes with `other`. Returns the new entry, and the strokes if this entry
-    /// finished a run.
+impl Entry<()> {
+    /// Returns this entry with `drew` as what its run drew, if it finished one.
     #[inline(always)]
-    pub fn replace<T: Copy>(self, other: T) -> (Entry<T>, Option<S>)
-        ensures entry { result.0 ≡ map_entry (λ _. other) self }
-        ensures drew { result.1 ≡ drew_in self }
+    pub fn with<T: Drop>(self, drew: T) -> Entry<T>
+        ensures { result ≡ map_entry (λ _. drew) self }
     {
-        let entry = match self {
-            Entry::Done(address, word, drew) => {
-                return (Entry::Done(address, word, other), Some(drew));
-            }
+        match self {
             Entry::Offered => Entry::Offered,
             Entry::Refused(fault) => Entry::Refused(fault),
             Entry::Busy => Entry::Busy,
@@ -101,10 +96,10 @@ impl<S> Entry<S> {
             Entry::NoStrobe => Entry::NoStrobe,
             Entry::Low(address, byte) => Entry::Low(address, byte),
             Entry::Fetched(address, word) => Entry::Fetched(address, word),
+            Entry::Done(address, word, ()) => Entry::Done(address, word, drew),
             Entry::Broke(address, fault) => Entry::Broke(address, fault),
             Entry::Still => Entry::Still,
             Entry::Cleared => Entry::Cleared,
-        };
-        (entry, None)
+        }
     }
 }

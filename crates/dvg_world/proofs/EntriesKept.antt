@@ -1,84 +1,81 @@
 -- Entries that are kept, more of them after the others.
 use Rattle.std.proofs.Common.{◌≡◌, ℕ, zero, suc, ◌+◌, ◌-◌, ◌≤◌, List, [], ◌∷◌, ◌++◌, map}
-use Rattle.std.proofs.Common.{length, replicate, get_or, ◌⊎◌, inl, inr}
-use Rattle.std.proofs.Common.{Option, Some, None, Vec, refl, sym, ap, ◌∙◌, subst, append_assoc, arith, length-append}
+use Rattle.std.proofs.Common.{length, replicate, get_or}
+use Rattle.std.proofs.Common.{Option, Some, None, Vec, refl, sym, ap, ◌∙◌, append_assoc, arith, length-append}
 use Rattle.std.specs.Prelude.{option_to_list}
-use Rattle.std.proofs.lemmas.Grind.{flat_map-append}
-use Rattle.std.proofs.lemmas.List.{append-nil, get_or_append_left, length-map, length-replicate, map-append}
+use Rattle.std.proofs.lemmas.List.{append-nil, length-map, length-replicate, map-append}
 use Rattle.std.proofs.lemmas.List.{replicate-append-replicate}
 use Rattle.std.proofs.lemmas.Option.{none-some, same_Some}
-use Rattle.std.proofs.lemmas.List.Elements.{All-head, All-push, All-tail}
 use Rattle.std.proofs.lemmas.List.Sums.{sum_by-append, sum_by-cons}
-use Rattle.std.proofs.Math.Seq.{get_or-append_seam}
 use Rattle.dvg_gen.specs.declared.stroke.Stroke.{Stroke}
 use Rattle.dvg_log.specs.declared.entry.Entry.{Entry}
-use Rattle.dvg_log.specs.declared.entry.Entry.TheVariants.{Done, Still}
-use Rattle.dvg_log.specs.Entries.{Shown, drew_in, map_entry, shown_of}
-use Rattle.dvg_log.specs.own.Owned.{OwnEntry}
+use Rattle.dvg_log.specs.declared.entry.Entry.TheVariants.{Done}
+use Rattle.dvg_log.specs.Entries.{Shown, map_entry}
 use Rattle.dvg_log.specs.Events.{Happening}
 use Rattle.dvg_log.specs.Log.{Log, ◌⟼◌}
 use Rattle.dvg_world.specs.declared.entries.Alike.{Alike}
-use Rattle.dvg_world.specs.Keeping.{alike_entries, all_entries, entries_in, entry_among}
-use Rattle.dvg_world.specs.own.Entries.{AreEntries, HasPicture, HavePictures, entry_count}
-use Rattle.dvg_world.specs.own.Fetched.{IsDrawnBy}
+use Rattle.dvg_world.specs.Keeping.{all_entries, entries_in, pictures_left}
+use Rattle.dvg_world.specs.own.Entries.{AreEntries, entry_count, finished_count, finished_in}
+use Rattle.dvg_world.specs.own.Stepping.{IsDrawnBy}
 
--- more pictures change no entry before them
-same_entry : (drawn more : List (List Stroke)) (entry : Entry ℕ) → HasPicture (length drawn) entry → entry_among (drawn ++ more) entry ≡ entry_among drawn entry
-same_entry drawn more (Done address word number) within = ap (Done address word) (get_or_append_left drawn more [] number within)
-same_entry drawn more _ within = refl
+-- an entry that finished a run has one picture, and any other none
+finished_drew : {A : Type 0} (entry : Entry (Unit {0})) (picture : List Stroke) (drew : Option (Vec Stroke A))
+    → IsDrawnBy (map_entry (λ _. picture) entry) drew → finished_in entry ≡ length (option_to_list drew)
+finished_drew (Done address word unit) picture (Some drew) is = refl
+finished_drew (Done address word unit) picture None is = absurd (none-some picture (sym is))
+finished_drew _ picture (Some drew) is = absurd (none-some drew.items is)
+finished_drew _ picture None is = refl
 
-same_entries : (drawn more : List (List Stroke)) (kept : List Alike) → HavePictures (length drawn) kept
-    → all_entries (drawn ++ more) kept ≡ all_entries drawn kept
-same_entries drawn more [] within = refl
-same_entries drawn more (alike ∷ kept) within =
-    let is_within : Alike → Type 0 = λ alike. HasPicture (length drawn) alike.entry in
-    ap (λ entry. replicate (suc alike.again) entry ++ all_entries (drawn ++ more) kept)
-    (same_entry drawn more alike.entry (All-head is_within alike kept within))
-    ∙ ap (λ rest. alike_entries drawn alike ++ rest)
-    (same_entries drawn more kept (All-tail is_within alike kept within))
+-- it is shown as it is
+shown_last : {A : Type 0} (entry : Entry (Unit {0})) (picture : List Stroke) (drew : Option (Vec Stroke A))
+    → IsDrawnBy (map_entry (λ _. picture) entry) drew
+    → map_entry (λ _. get_or (map (λ strokes. strokes.items) (option_to_list drew)) 0 []) entry
+    ≡ map_entry (λ _. picture) entry
+shown_last (Done address word unit) picture (Some drew) is =
+    ap (Done address word) (sym (same_Some picture drew.items is))
+shown_last (Done address word unit) picture None is = absurd (none-some picture (sym is))
+shown_last _ picture drew is = refl
 
--- the new entry is shown as it is
-shown_last : {A : Type 0} (drawn : List (Vec Stroke A)) (entry : Shown) (drew : Option (Vec Stroke A)) → IsDrawnBy entry drew
-    → entry_among (map (λ strokes. strokes.items) (drawn ++ option_to_list drew)) (map_entry (λ _. length drawn) entry) ≡ entry
-shown_last drawn (Done address word strokes) (Some drew) is =
-    let lists = map (λ (picture : Vec Stroke _). picture.items) drawn in
-    let place : length drawn ≡ length lists = sym (length-map drawn (λ picture. picture.items)) in
-    ap (Done address word) (ap (λ all. get_or all (length drawn) []) (map-append (λ picture. picture.items) drawn (drew ∷ []))
-    ∙ ap (λ n. get_or (lists ++ drew.items ∷ []) n []) place ∙ get_or-append_seam lists drew.items [] [] ∙ sym (same_Some strokes drew.items is))
-shown_last drawn (Done address word strokes) None is = absurd (none-some strokes (sym is))
-shown_last drawn _ (Some drew) is = absurd (none-some drew.items is)
-shown_last drawn _ None is = refl
+-- the pictures of the entries from this one on, and more of them
+record IsNext (pictures more : List (List Stroke)) (entry : Entry (Unit {0})) (n : ℕ) : Type 0 where
+  shown : map_entry (λ _. get_or (pictures ++ more) 0 []) entry ≡ map_entry (λ _. get_or pictures 0 []) entry
+  left : pictures_left entry (pictures ++ more) ≡ pictures_left entry pictures ++ more
+  count : n ≡ length (pictures_left entry pictures)
 
--- its picture is one of them
-last_within : {A : Type 0} (drawn : List (Vec Stroke A)) (entry : Shown) (drew : Option (Vec Stroke A)) → IsDrawnBy entry drew
-    → HasPicture (length (drawn ++ option_to_list drew)) (map_entry (λ _. length drawn) entry)
-last_within drawn (Done address word strokes) (Some drew) is = (let size = length-append drawn (drew ∷ []) in omega (arith, size))
-last_within drawn (Done address word strokes) None is = absurd (none-some strokes (sym is))
-last_within drawn _ drew is = tt
+next_picture : (pictures more : List (List Stroke)) (entry : Entry (Unit {0})) (n : ℕ)
+    → finished_in entry + n ≡ length pictures → IsNext pictures more entry n
+next_picture (picture ∷ pictures) more (Done address word unit) n is =
+    record { shown = refl; left = refl; count = omega (arith, is) }
+next_picture [] more (Done address word unit) n is = absurd (omega (arith, is))
+next_picture pictures more _ n is =
+    let same : 0 + n ≡ length pictures = is in record { shown = refl; left = refl; count = omega (arith, same) }
 
--- with more pictures each is one of them still
-wider : (few many : ℕ) → few ≤ many → (entry : Entry ℕ) → HasPicture few entry → HasPicture many entry
-wider few many le (Done address word number) within = omega (arith, le, within)
-wider few many le _ within = tt
-
-all_wider : (few many : ℕ) → few ≤ many → (kept : List Alike) → HavePictures few kept
-    → HavePictures many kept
-all_wider few many le kept within = λ k d low. wider few many le _ (within k d low)
-
-few_more : {A : Type 0} (drawn : List (Vec Stroke A)) (drew : Option (Vec Stroke A))
-    → (length drawn ≤ length (drawn ++ option_to_list drew)) × (length (drawn ++ option_to_list drew) ≤ length drawn + 1)
-few_more drawn (Some drew) = let size = length-append drawn (drew ∷ []) in (omega (arith, size), omega (arith, size))
-few_more drawn None = let size = ap length (append-nil drawn) in (omega (arith, size), omega (arith, size))
+-- more entries with their pictures, after those that belong together
+all_append : (pictures more : List (List Stroke)) (kept later : List Alike) → finished_count kept ≡ length pictures
+    → all_entries (pictures ++ more) (kept ++ later) ≡ all_entries pictures kept ++ all_entries more later
+all_append [] more [] later is = refl
+all_append (picture ∷ pictures) more [] later is = absurd (omega (arith, is))
+all_append pictures more (alike ∷ kept) later is =
+    let sum = sum_by-cons (λ (alike : Alike). finished_in alike.entry) alike kept in
+    let next = next_picture pictures more alike.entry (finished_count kept) (sym sum ∙ is) in
+    let first = replicate (suc alike.again) (map_entry (λ _. get_or pictures 0 []) alike.entry) in
+    let left = pictures_left alike.entry pictures in
+    ap (λ shown. replicate (suc alike.again) shown
+    ++ all_entries (pictures_left alike.entry (pictures ++ more)) (kept ++ later)) next.shown
+    ∙ ap (λ left. first ++ all_entries left (kept ++ later)) next.left
+    ∙ ap (λ rest. first ++ rest) (all_append left more kept later next.count)
+    ∙ sym (append_assoc first (all_entries left kept) (all_entries more later))
 
 -- as many entries as all that is kept stands for
-pub entries_counted : (drawn : List (List Stroke)) (kept : List Alike)
-    → length (all_entries drawn kept) ≡ entry_count kept
-entries_counted drawn [] = refl
-entries_counted drawn (alike ∷ kept) =
-    length-append (alike_entries drawn alike) (all_entries drawn kept)
-    ∙ ap (λ n. n + length (all_entries drawn kept))
-    (length-replicate (suc alike.again) (entry_among drawn alike.entry))
-    ∙ ap (λ n. suc alike.again + n) (entries_counted drawn kept)
+pub entries_counted : (pictures : List (List Stroke)) (kept : List Alike)
+    → length (all_entries pictures kept) ≡ entry_count kept
+entries_counted pictures [] = refl
+entries_counted pictures (alike ∷ kept) =
+    let shown = map_entry (λ _. get_or pictures 0 []) alike.entry in
+    let left = pictures_left alike.entry pictures in
+    length-append (replicate (suc alike.again) shown) (all_entries left kept)
+    ∙ ap (λ n. n + length (all_entries left kept)) (length-replicate (suc alike.again) shown)
+    ∙ ap (λ n. suc alike.again + n) (entries_counted left kept)
     ∙ sym (sum_by-cons (λ (alike : Alike). suc alike.again) alike kept)
 
 -- none of it stands for no entry
@@ -90,16 +87,15 @@ few_kept (alike ∷ kept) =
     omega (arith, rest, sum)
 
 -- equal entries more
-pub count_more : (kept : List Alike) (alike : Alike)
+count_more : (kept : List Alike) (alike : Alike)
     → entry_count (kept ++ alike ∷ []) ≡ entry_count kept + suc alike.again
 count_more kept alike =
     (let sum = sum_by-append (λ (alike : Alike). suc alike.again) kept (alike ∷ []) in omega (arith, sum))
 
-alike_more : (drawn : List (List Stroke)) (kept : List Alike) (alike : Alike)
-    → all_entries drawn (kept ++ alike ∷ []) ≡ all_entries drawn kept ++ alike_entries drawn alike
-alike_more drawn kept alike =
-    flat_map-append (alike_entries drawn) kept (alike ∷ [])
-    ∙ ap (λ entries. all_entries drawn kept ++ entries) (append-nil (alike_entries drawn alike))
+finished_more : (kept : List Alike) (alike : Alike)
+    → finished_count (kept ++ alike ∷ []) ≡ finished_count kept + finished_in alike.entry
+finished_more kept alike =
+    (let sum = sum_by-append (λ (alike : Alike). finished_in alike.entry) kept (alike ∷ []) in omega (arith, sum))
 
 -- the entries of equal lines
 lines_alike : (times : ℕ) (event : Happening) (entry : Shown) (log : Log)
@@ -112,83 +108,44 @@ lines_alike (suc n) event entry log =
     ∙ ap (λ k. replicate k entry) (let k : n + 1 ≡ suc n = omega arith in k))
 
 -- the entries of a log, and so many equal ones more
-pub kept_more : {A : Type 0} (kept more : List Alike) (drawn later : List (Vec Stroke A)) (entry : Shown)
-    (drew : Option (Vec Stroke A)) (times : ℕ) (event : Happening) (log : Log)
-    → IsDrawnBy entry drew
+pub kept_more : {A : Type 0} (kept more : List Alike) (drawn later : List (Vec Stroke A)) (entry : Entry (Unit {0}))
+    (picture : List Stroke) (drew : Option (Vec Stroke A)) (times : ℕ) (event : Happening) (log : Log)
+    → IsDrawnBy (map_entry (λ _. picture) entry) drew
     → AreEntries kept (length drawn) → all_entries (map (λ strokes. strokes.items) drawn) kept ≡ entries_in log
     → 1 ≤ times → entry_count kept + times ≤ 65536
-    → more ≡ kept ++ record { entry = map_entry (λ _. length drawn) entry; again = times - 1 } ∷ []
+    → more ≡ kept ++ record { entry = entry; again = times - 1 } ∷ []
     → later ≡ drawn ++ option_to_list drew
     → AreEntries more (length later)
-    × (all_entries (map (λ strokes. strokes.items) later) more ≡ entries_in (replicate times (event ⟼ entry) ++ log))
-kept_more {A = A} kept more drawn later entry drew times event log is are shown some room more_is later_is =
+    × (all_entries (map (λ strokes. strokes.items) later) more
+    ≡ entries_in (replicate times (event ⟼ map_entry (λ _. picture) entry) ++ log))
+kept_more {A = A} kept more drawn later entry picture drew times event log is are all some room more_is later_is =
     rw (more_is, later_is) (
       record {
         count = (let sum = count_more kept last in omega (arith, sum, room, some));
-        within = All-push (λ alike. HasPicture (length all) alike.entry) kept last front newest;
+        pictured = (let sum = finished_more kept last in
+            let one = finished_drew entry picture drew is in
+            let size = length-append drawn (option_to_list drew) in
+            let before = are.pictured in omega (arith, sum, one, size, before));
       },
-      alike_more lists kept last
-          ∙ ap (λ front. front ++ alike_entries lists last) before
-          ∙ ap (λ shown. entries_in log ++ replicate (suc (times - 1)) shown) (shown_last drawn entry drew is)
-          ∙ ap (λ k. entries_in log ++ replicate k entry) (let k : suc (times - 1) ≡ times = omega (arith, some) in k)
-          ∙ sym (lines_alike times event entry log),
+      ap (λ lists. all_entries lists (kept ++ last ∷ []))
+          (map-append (λ strokes. strokes.items) drawn (option_to_list drew))
+          ∙ all_append old new kept (last ∷ []) (are.pictured ∙ sym (length-map drawn (λ strokes. strokes.items)))
+          ∙ ap (λ front. front ++ all_entries new (last ∷ [])) all
+          ∙ ap (λ back. entries_in log ++ back)
+          (append-nil (replicate (suc (times - 1)) (map_entry (λ _. get_or new 0 []) entry)))
+          ∙ ap (λ shown. entries_in log ++ replicate (suc (times - 1)) shown) (shown_last entry picture drew is)
+          ∙ ap (λ k. entries_in log ++ replicate k shown) (let k : suc (times - 1) ≡ times = omega (arith, some) in k)
+          ∙ sym (lines_alike times event shown log),
     )
   where
     last : Alike
-    last = record { entry = map_entry (λ _. length drawn) entry; again = times - 1 }
+    last = record { entry = entry; again = times - 1 }
 
-    all : List (Vec Stroke A)
-    all = drawn ++ option_to_list drew
-
-    lists : List (List Stroke)
-    lists = map (λ strokes. strokes.items) all
+    shown : Shown
+    shown = map_entry (λ _. picture) entry
 
     old : List (List Stroke)
     old = map (λ strokes. strokes.items) drawn
 
     new : List (List Stroke)
     new = map (λ strokes. strokes.items) (option_to_list drew)
-
-    front : HavePictures (length all) kept
-    front = all_wider (length drawn) (length all) (few_more drawn drew).0 kept are.within
-
-    newest : HasPicture (length all) last.entry
-    newest = last_within drawn entry drew is
-
-    among_old : HavePictures (length old) kept
-    among_old = subst (λ n. HavePictures n kept) (sym (length-map drawn (λ strokes. strokes.items))) are.within
-
-    before : all_entries lists kept ≡ entries_in log
-    before =
-        ap (λ lists. all_entries lists kept) (map-append (λ strokes. strokes.items) drawn (option_to_list drew))
-        ∙ same_entries old new kept among_old
-        ∙ shown
-
--- an entry of the code has what the run drew
-pub drawn_by : {A : Type 0} (entry : OwnEntry A) → IsDrawnBy (shown_of entry) (drew_in entry)
-drawn_by (Done address word strokes) = refl
-drawn_by _ = refl
-
--- and it is the same entry where something else stands in place of that
-pub same_parts : {A : Type 0} (entry : OwnEntry A) (n : ℕ) → map_entry (λ _. n) entry ≡ map_entry (λ _. n) (shown_of entry)
-same_parts (Done address word strokes) n = refl
-same_parts _ n = refl
-
--- where the entry is that of a finished run, the run drew what was drawn
-pub drew_done : (shown : Shown) (n address word number : ℕ) (drawn : List Stroke)
-    → Done address word number ≡ map_entry (λ _. n) shown
-    → (drew_in shown ≡ None) ⊎ (drew_in shown ≡ Some drawn) → drew_in shown ≡ Some drawn
-drew_done shown n address word number drawn is (inr some) = some
-drew_done (Done _ _ strokes) n address word number drawn is (inl none) = absurd (none-some strokes (sym none))
-drew_done _ n address word number drawn is (inl none) = absurd (cc)
-
--- any other entry drew nothing
-pub drew_other : (shown : Shown) (n : ℕ) (entry : Entry ℕ) → entry ≡ map_entry (λ _. n) shown
-    → ((address word number : ℕ) → entry ≡ Done address word number → ⊥) → drew_in shown ≡ None
-drew_other (Done address word strokes) n entry is other = absurd (other address word n is)
-drew_other _ n entry is other = refl
-
--- only the entry of a still fetch is kept as one
-pub still_shown : (shown : Shown) (n : ℕ) → Still ≡ map_entry (λ _. n) shown → shown ≡ Still
-still_shown Still n is = refl
-still_shown _ n is = absurd (cc)

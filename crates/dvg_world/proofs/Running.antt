@@ -7,7 +7,7 @@ use Rattle.dvg_world.specs.Standing.{AddsLine, State, WorldAfter}
 use Rattle.dvg_world.specs.declared.pictures.Picture.{Picture}
 use Rattle.dvg_world.specs.own.Running.{AddsRun, AreDrawn, DrawsRun, KeepsPicture, StopsDrawing, StopsRun}
 use Rattle.dvg_world.specs.declared.logging.EntriesKept.{EntriesKept}
-use Rattle.dvg_world.specs.own.Logging.{AreKept, KeepsAlike, KeepsEntry, LogsRun, StopsLogging}
+use Rattle.dvg_world.specs.own.Logging.{AreKept, KeepsAlike, LogsRun, StopsLogging}
 use Rattle.dvg_world.specs.own.Stepping.{WantsMemory}
 
 -- no line more
@@ -65,7 +65,7 @@ draws_all {old = old} {new = new} pictures more {number = number} {event = event
 
 -- the next line, whose entry is kept
 pub logs_more : {A : Type 0} {old new : State} (entries before more : EntriesKept A) {done : ℕ} {event : Happening} {world : State} (entry : Shown)
-    → LogsRun old entries event done world before → AddsLine world event entry new → KeepsEntry before entry more → LogsRun old entries event (done + 1) new more
+    → LogsRun old entries event done world before → AddsLine world event entry new → KeepsAlike before entry 1 more → LogsRun old entries event (done + 1) new more
 logs_more entries before more {event = event} entry logged line keeps = λ R image log after are. adds_more entry (logged R image log after are) line (λ log' kept count. keeps event log' kept)
 
 -- a longer log, by so many equal lines after one of which this is kept

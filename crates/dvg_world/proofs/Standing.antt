@@ -1,6 +1,7 @@
 -- Each event adds its line to the logs that a world stands after.
-use Rattle.std.proofs.Common.{◌≡◌, ℕ, ◌<◌, Bool, true, false, List, [], ◌∷◌, length, Option, Some, None, refl, sym, ap, ◌∙◌, subst, lit<, Vec}
+use Rattle.std.proofs.Common.{◌≡◌, ℕ, ◌<◌, Bool, true, false, List, [], ◌∷◌, length, Option, Some, None, refl, sym, ap, ◌∙◌, subst, lit<}
 use Rattle.std.proofs.lemmas.Bool.{eqb-true, eqb-false}
+use Rattle.std.proofs.lemmas.Option.{none-some, same_Some}
 use Rattle.std.proofs.lemmas.List.{get_or-set_other, get_or-set_same}
 use Rattle.std.specs.Prelude.{◌↔◌, IsTrue, IsNone, IsOk, OnErr, Result, Ok, Err, is_ok, is_some, is_none, slice_index, slice_set, nat_eq, if◌then◌else◌}
 use Rattle.dvg_mem.specs.Areas.{half_of_high, other}
@@ -8,13 +9,11 @@ use Rattle.dvg_mem.specs.Memory.{fetched_byte, IsImage, IsRom}
 use Rattle.dvg_gen.specs.Bytes.{Met, met, Waits, Whole, word_of}
 use Rattle.dvg_gen.specs.Completing.{DrawsNothing}
 use Rattle.dvg_gen.specs.declared.stroke.Stroke.{Stroke}
-use Rattle.dvg_gen.specs.declared.taken.GenFault.{GenFault}
 use Rattle.dvg_gen.specs.declared.taken.Step.{Step}
 use Rattle.dvg_gen.specs.declared.taken.Step.TheVariants as step
-use Rattle.dvg_gen.specs.declared.taken.Taken.TheVariants as taken
 use Rattle.dvg_gen.specs.Machine as generator
-use Rattle.dvg_gen.specs.Machine.{Machine, Answers, IsReply, taken_by}
-use Rattle.dvg_gen.specs.Told.{Told, Start, Reset, Fed, Reply, More, Drew, Fails, reply, wants}
+use Rattle.dvg_gen.specs.Machine.{Machine, Answers, answer_by}
+use Rattle.dvg_gen.specs.Told.{Told, Start, Reset, Fed, More, Drew, Fails, reply, wants}
 use Rattle.dvg_gen.proofs.Same.{held_first}
 use Rattle.dvg_gen.proofs.Seen.{draws_some}
 use Rattle.dvg_frame.specs.declared.op.OpKind.{OpKind}
@@ -29,13 +28,13 @@ use Rattle.dvg_driver.specs.Stands as driver
 use Rattle.dvg_driver.specs.Stands.{Stage, Tells, byte1_of, peeked_after}
 use Rattle.dvg_log.specs.Events.{Happening}
 use Rattle.dvg_log.specs.declared.event.Event.TheVariants.{Offer, Redraw, Tick, Strobe, Fetch, ResetGen, ResetCpu, ResetAll}
-use Rattle.dvg_log.specs.Entries.{Shown, entry_by, shown_of}
-use Rattle.dvg_log.specs.own.Owned.{OwnEntry}
+use Rattle.dvg_log.specs.Entries.{Shown, entry_by, map_entry}
+use Rattle.dvg_log.specs.declared.entry.Entry.{Entry}
 use Rattle.dvg_log.specs.declared.entry.Entry.TheVariants.{Offered, Refused, Busy, Asked, NothingPublished, Acted, Started, NoStrobe, Still, Cleared}
 use Rattle.dvg_log.specs.Log.{◌⟼◌, Log, ram, low_byte, meets, history, open_run, life, strobed}
 use Rattle.dvg_log.specs.Legal.{Fits}
 use Rattle.dvg_world.specs.Desks.{Driven, IsFresh, OfferAnswers, RedrawAnswers}
-use Rattle.dvg_world.specs.Standing.{State, StandsAt, WorldAfter, AddsLine, KeepsHeadlineAfter, DrawsNow}
+use Rattle.dvg_world.specs.Standing.{State, StandsAt, WorldAfter, AddsLine, KeepsHeadlineAfter, KeepsLogs, DrawsNow}
 use Rattle.dvg_world.specs.own.Stepping.{ram_by, sent_by}
 use Rattle.dvg_theorem.proofs.Headline.{headline}
 use Rattle.dvg_theorem.proofs.Linked.{opened}
@@ -48,6 +47,18 @@ world_of rom bytes machine stage sent = record { rom = rom; ram = bytes; machine
 pub adds_between : {old old' new new' : State} (event : Happening) (entry : Shown) → old' ≡ old → new ≡ new' → AddsLine old' event entry new' → AddsLine old event entry new
 adds_between {old' = old'} {new = new} event entry same_old same_new adds =
     subst (λ s. AddsLine s event entry new) same_old (subst (λ s. AddsLine old' event entry s) (sym same_new) adds)
+
+pub keeps_between : {old old' new new' : State} → old' ≡ old → new ≡ new' → KeepsLogs old' new' → KeepsLogs old new
+keeps_between {old' = old'} {new = new} same_old same_new keeps =
+    subst (λ s. KeepsLogs s new) same_old (subst (λ s. KeepsLogs old' s) (sym same_new) keeps)
+
+-- the entry by an equation
+pub adds_as : {old new : State} {event : Happening} {entry entry' : Shown} → entry' ≡ entry → AddsLine old event entry' new → AddsLine old event entry new
+adds_as {old} {new} {event} same adds = subst (λ entry. AddsLine old event entry new) same adds
+
+-- a line, and then a world that stands after the same logs
+pub then_keeps : {old mid new : State} {event : Happening} {entry : Shown} → AddsLine old event entry mid → KeepsLogs mid new → AddsLine old event entry new
+then_keeps {event = event} {entry = entry} adds keeps R image log after = keeps R image ((event ⟼ entry) ∷ log) (adds R image log after)
 
 -- the same, where the ROM is known by an equation
 pub same_rom : {old : State} {event : Happening} {entry : Shown} {rom rom' bytes : List ℕ} {machine : Machine}
@@ -121,27 +132,27 @@ module _ {rom bytes : List ℕ} {machine : Machine} {stage : Stage} {sent : Bool
   }
 
 -- an offer or a redraw, by what the driver answers at its desk
-pub offers : {A : Type 0} {rom bytes : List ℕ} {F : List OpKind} {machine : Machine} {stage stage' : Stage} {sent : Bool}
-    (entry : OwnEntry A) → IsDraft F → OfferAnswers rom F stage stage' entry
-    → AddsLine (world_of rom bytes machine stage sent) (Offer F) (shown_of entry) (world_of rom bytes machine stage' sent)
-offers {rom = rom} {bytes} {F} {machine} {stage} {sent = sent} (Refused fault) draft answers =
+pub offers : {rom bytes : List ℕ} {F : List OpKind} {machine : Machine} {stage stage' : Stage} {sent : Bool} (picture : List Stroke)
+    (entry : Entry (Unit {0})) → IsDraft F → OfferAnswers rom F stage stage' entry
+    → AddsLine (world_of rom bytes machine stage sent) (Offer F) (map_entry (λ _. picture) entry) (world_of rom bytes machine stage' sent)
+offers {rom = rom} {bytes} {F} {machine} {stage} {sent = sent} picture (Refused fault) draft answers =
     subst (λ s. AddsLine (world_of rom bytes machine stage sent) (Offer F) (Refused fault) (world_of rom bytes machine s sent))
     (sym answers.1) (offer_refused draft answers.0)
-offers Busy draft answers = offer_busy draft answers.0 answers.1 answers.2
-offers Offered draft answers =
+offers picture Busy draft answers = offer_busy draft answers.0 answers.1 answers.2
+offers picture Offered draft answers =
     offer_taken draft answers.0 refl (λ peeked life after. (answers.1 peeked life after).0)
     (λ peeked life after. (answers.1 peeked life after).1)
-offers entry draft answers = absurd answers
+offers picture entry draft answers = absurd answers
 
-pub redraws : {A : Type 0} {rom bytes : List ℕ} {machine : Machine} {stage stage' : Stage} {sent : Bool}
-    (entry : OwnEntry A) → RedrawAnswers stage stage' entry
-    → AddsLine (world_of rom bytes machine stage sent) Redraw (shown_of entry) (world_of rom bytes machine stage' sent)
-redraws NothingPublished answers = redraw_nothing answers.0 answers.1
-redraws Busy answers = redraw_busy answers.0 answers.1
-redraws Asked answers =
+pub redraws : {rom bytes : List ℕ} {machine : Machine} {stage stage' : Stage} {sent : Bool} (picture : List Stroke)
+    (entry : Entry (Unit {0})) → RedrawAnswers stage stage' entry
+    → AddsLine (world_of rom bytes machine stage sent) Redraw (map_entry (λ _. picture) entry) (world_of rom bytes machine stage' sent)
+redraws picture NothingPublished answers = redraw_nothing answers.0 answers.1
+redraws picture Busy answers = redraw_busy answers.0 answers.1
+redraws picture Asked answers =
     redraw_taken (λ peeked life after. let can = answers peeked life after in (can.0, can.1))
     (λ peeked life after. (answers peeked life after).2)
-redraws entry answers = absurd answers
+redraws picture entry answers = absurd answers
 
 -- what a tick hands in as the flag
 flag_is : (halted : Bool) (run : Option (List (ℕ × ℕ))) (is_open : Bool) → (IsTrue halted ↔ (is_open ≡ false)) → is_open ≡ is_some run → halted ≡ is_none run
@@ -245,22 +256,6 @@ module _ {rom bytes : List ℕ} {machine : Machine} {stage : Stage} {sent : Bool
     };
   }
 
--- the answers of `take` are those of the definition
-more_is : (A : Type 0) (answer : Reply) → IsReply {A = A} taken.Word answer → answer ≡ More
-more_is A More replies = refl
-more_is A (Drew strokes) replies = absurd replies
-more_is A (Fails fault) replies = absurd replies
-
-drew_is : (A : Type 0) (list : Vec Stroke A) (answer : Reply) → IsReply (taken.Done list) answer → answer ≡ Drew list.items
-drew_is A list More replies = absurd replies
-drew_is A list (Drew strokes) replies = ap Drew (sym replies)
-drew_is A list (Fails fault) replies = absurd replies
-
-fails_is : (A : Type 0) (fault : GenFault) (answer : Reply) → IsReply {A = A} (taken.Broke fault) answer → answer ≡ Fails fault
-fails_is A fault More replies = absurd replies
-fails_is A fault (Drew strokes) replies = absurd replies
-fails_is A fault (Fails other) replies = ap Fails (sym replies)
-
 none_open : (run : Option (List (ℕ × ℕ))) → is_some run ≡ false → run ≡ None
 none_open None none = refl
 none_open (Some met) none = absurd (cc)
@@ -270,50 +265,38 @@ module _ {rom bytes : List ℕ} {machine : Machine} {stage : Stage} {sent : Bool
   fetch_still shut R image log w = record { legal = (none_open (open_run log) (sym (open_is w) ∙ shut), tt, w.legal); stands = w.stands }
 
   -- the line of a fetch, by what it met
-  line_of_fetch : {A : Type 0} {machine' : Machine} (R image : List ℕ) (log : Log) (address : ℕ) (found : Met)
-      (answer : Step) (list : Vec Stroke A)
+  line_of_fetch : {machine' : Machine} (R image : List ℕ) (log : Log) (address : ℕ) (found : Met) (answer : Step)
+      (picture : List Stroke)
       → (w : WorldAfter R image log (world_of rom bytes machine stage sent)) → wants w.stands.machine.run ≡ Some address → meets R image log address ≡ found
-      → Answers (history R image log) found machine' (taken_by answer list)
-      → WorldAfter R image ((Fetch ⟼ entry_by address found answer list.items) ∷ log)
+      → Answers (history R image log) found machine' (answer_by answer picture)
+      → WorldAfter R image ((Fetch ⟼ entry_by address found answer picture) ∷ log)
       (world_of rom bytes machine' stage sent)
-  line_of_fetch R image log address (Waits byte) answer list w wanted met x =
+  line_of_fetch R image log address (Waits byte) answer picture w wanted met x =
       let m = w.stands.machine in
       record { legal = ((met, record { run = m.run; leaves = m.leaves; wanted = wanted }), tt, w.legal); stands = with_machine w.stands x.0 }
-  line_of_fetch {machine' = machine'} R image log address (Whole None) answer list w wanted met x =
+  line_of_fetch {machine'} R image log address (Whole None) answer picture w wanted met x =
       let m = w.stands.machine in
       record {
         legal = ((None, met, record { asked = record { run = m.run; leaves = m.leaves; wanted = wanted }; later = x.0.run; leaves_later = x.0.leaves; replies = refl }), tt, w.legal);
         stands = with_machine w.stands (subst (λ o. generator.HasTaken machine' (Fed o ∷ history R image log) None) (sym (ap word_of met)) x.0);
       }
-  line_of_fetch R image log address (Whole (Some word)) step.Low list w wanted met x = absurd x.1
-  line_of_fetch {A} R image log address (Whole (Some word)) step.Word list w wanted met x =
+  line_of_fetch R image log address (Whole (Some word)) step.Low picture w wanted met x = absurd (none-some (reply (Some word) x.0.run) x.1)
+  line_of_fetch R image log address (Whole (Some word)) step.Word picture w wanted met x =
       let m = w.stands.machine in
       record {
-        legal = ((met, record { asked = record { run = m.run; leaves = m.leaves; wanted = wanted }; later = x.0.run; leaves_later = x.0.leaves; replies = more_is A (reply (Some word) x.0.run) x.1 }), tt, w.legal);
+        legal = ((met, record { asked = record { run = m.run; leaves = m.leaves; wanted = wanted }; later = x.0.run; leaves_later = x.0.leaves; replies = sym (same_Some More (reply (Some word) x.0.run) x.1) }), tt, w.legal);
         stands = with_machine w.stands x.0;
       }
-  line_of_fetch {A} R image log address (Whole (Some word)) step.Done list w wanted met x =
+  line_of_fetch R image log address (Whole (Some word)) step.Done picture w wanted met x =
       let m = w.stands.machine in
       record {
-        legal = (
-          (
-            met,
-            record {
-              asked = record { run = m.run; leaves = m.leaves; wanted = wanted };
-              later = x.0.run;
-              leaves_later = x.0.leaves;
-              replies = drew_is A list (reply (Some word) x.0.run) x.1;
-            },
-          ),
-          tt,
-          w.legal,
-        );
+        legal = ((met, record { asked = record { run = m.run; leaves = m.leaves; wanted = wanted }; later = x.0.run; leaves_later = x.0.leaves; replies = sym (same_Some (Drew picture) (reply (Some word) x.0.run) x.1) }), tt, w.legal);
         stands = with_machine w.stands x.0;
       }
-  line_of_fetch {A} {machine'} R image log address (Whole (Some word)) (step.Broke fault) list w wanted met x =
+  line_of_fetch {machine'} R image log address (Whole (Some word)) (step.Broke fault) picture w wanted met x =
       let m = w.stands.machine in
       record {
-        legal = ((Some word, met, record { asked = record { run = m.run; leaves = m.leaves; wanted = wanted }; later = x.0.run; leaves_later = x.0.leaves; replies = fails_is A fault (reply (Some word) x.0.run) x.1 }), tt, w.legal);
+        legal = ((Some word, met, record { asked = record { run = m.run; leaves = m.leaves; wanted = wanted }; later = x.0.run; leaves_later = x.0.leaves; replies = sym (same_Some (Fails fault) (reply (Some word) x.0.run) x.1) }), tt, w.legal);
         stands = with_machine w.stands (subst (λ o. generator.HasTaken machine' (Fed o ∷ history R image log) None) (sym (ap word_of met)) x.0);
       }
 
@@ -326,24 +309,27 @@ module _ {rom bytes : List ℕ} {machine : Machine} {stage : Stage} {sent : Bool
       found ∙ (ap (λ b. fetched_byte b rom address high) w.stands.ram ∙ (ap (λ r. fetched_byte (ram image log) r address high) w.stands.rom ∙ ap (fetched_byte (ram image log) R address) (second ∙ ap is_some same))) in
       (same, ap (met (low_byte log)) (sym there))
 
-  pub fetch_takes : {A : Type 0} {machine' : Machine} {rom' : List ℕ} (address : ℕ) (low byte : Option ℕ) (high : Bool)
-      (answer : Step) (list : Vec Stroke A)
-      (entry : Shown)
+  pub fetch_takes : {machine' : Machine} {rom' : List ℕ} (address : ℕ) (low byte : Option ℕ) (high : Bool) (answer : Step)
+      (picture : List Stroke)
       → ((told : List Told) (l : Option ℕ) (after : generator.HasTaken machine told l) → Some address ≡ wants after.run) → low ≡ machine.low → high ≡ is_some low → rom' ≡ rom → byte ≡ fetched_byte bytes rom' address high
       → ((told : List Told) (l : Option ℕ) → generator.HasTaken machine told l
-      → Answers told (met l byte) machine' (taken_by answer list))
-      → entry ≡ entry_by address (met low byte) answer list.items
-      → AddsLine (world_of rom bytes machine stage sent) Fetch entry (world_of rom bytes machine' stage sent)
-  fetch_takes {machine' = machine'} address low byte high answer list entry wanted kept second of_rom read answers shown
-      R image log w =
+      → Answers told (met l byte) machine' (answer_by answer picture))
+      → AddsLine (world_of rom bytes machine stage sent) Fetch (entry_by address (met low byte) answer picture)
+      (world_of rom bytes machine' stage sent)
+  fetch_takes {machine'} address low byte high answer picture wanted kept second of_rom read answers R image log w =
       let m = w.stands.machine in
       let found = subst (λ rom. byte ≡ fetched_byte bytes rom address high) of_rom read in
       let there = met_in address low byte high w kept second found in
       let told = history R image log in
-      let here = ap (λ l. entry_by address (met l byte) answer list.items) (sym there.0) ∙ sym shown in
+      let here = ap (λ l. entry_by address (met l byte) answer picture) (sym there.0) in
       subst (λ e. WorldAfter R image ((Fetch ⟼ e) ∷ log) (world_of rom bytes machine' stage sent)) here
-      (line_of_fetch R image log address (met (low_byte log) byte) answer list w (sym (wanted told (low_byte log) m))
+      (line_of_fetch R image log address (met (low_byte log) byte) answer picture w (sym (wanted told (low_byte log) m))
       there.1 (answers told (low_byte log) m))
+
+  -- a world whose generator stands after the same
+  pub keeps_machine : {machine' : Machine} → ((told : List Told) (low : Option ℕ) → generator.HasTaken machine told low → generator.HasTaken machine' told low)
+      → KeepsLogs (world_of rom bytes machine stage sent) (world_of rom bytes machine' stage sent)
+  keeps_machine keeps R image log w = record { legal = w.legal; stands = with_machine w.stands (keeps (history R image log) (low_byte log) w.stands.machine) }
 
   pub draws_now : {rom' : List ℕ} (address : ℕ) (low byte : Option ℕ) (high : Bool) → machine.is_open ≡ true → ((told : List Told) (l : Option ℕ) (after : generator.HasTaken machine told l) → Some address ≡ wants after.run)
       → low ≡ machine.low → high ≡ is_some low → rom' ≡ rom → byte ≡ fetched_byte bytes rom' address high → ¬ DrawsNothing machine.held (met machine.low byte) → DrawsNow (world_of rom bytes machine stage sent)

@@ -26,7 +26,7 @@ OfLives stage P = (peeked : ℕ) (life : List Item) → StandsAfter stage peeked
 
 -- an offer: a draft that the check refuses is refused for the fault that is picked; one that it accepts goes on the
 -- life where that is of whole parts, for the half that is free
-abbrev pub OfferAnswers : {S : Type 0} → List ℕ → List OpKind → Stage → Stage → Entry S → Type 0
+abbrev pub OfferAnswers : List ℕ → List OpKind → Stage → Stage → Entry (Unit {0}) → Type 0
 OfferAnswers R F stage later (Refused fault) = faults.Refuses F R fault × (later ≡ stage)
 OfferAnswers R F stage later Busy =
     Accepts F R × (later ≡ stage) × OfLives stage (λ peeked life. ¬ IsWhole life)
@@ -36,7 +36,7 @@ OfferAnswers R F stage later entry = ⊥
 
 -- a redraw: there is nothing to draw again before the life's first flip; then it goes on the life where that is of
 -- whole parts
-abbrev pub RedrawAnswers : {S : Type 0} → Stage → Stage → Entry S → Type 0
+abbrev pub RedrawAnswers : Stage → Stage → Entry (Unit {0}) → Type 0
 RedrawAnswers stage later NothingPublished =
     (later ≡ stage) × OfLives stage (λ peeked life. has_flip life ≡ false)
 RedrawAnswers stage later Busy =

@@ -1,6 +1,6 @@
 -- What is kept of the events of a trace.
 use Rattle.std.specs.Prelude.{◌≡◌, ◌≤◌, ℕ, suc, ◌⊎◌, List, [], ◌∷◌, ◌++◌}
-use Rattle.std.specs.Prelude.{flat_map, get_or, length, replicate, reverse}
+use Rattle.std.specs.Prelude.{drop, get_or, length, replicate, reverse}
 use Rattle.std.specs.Prelude.{Bool, true, false, Option, Some, None}
 use Rattle.dvg_gen.specs.declared.stroke.Stroke.{Stroke}
 use Rattle.dvg_log.specs.declared.entry.Entry.{Entry}
@@ -47,17 +47,17 @@ pictures_of [] = []
 pictures_of ((event ⟼ Done address word strokes) ∷ log) = pictures_of log ++ (length log, strokes) ∷ []
 pictures_of (line ∷ log) = pictures_of log
 
--- an entry that has the number of its picture, by the strokes of all pictures
-abbrev pub entry_among : List (List Stroke) → Entry ℕ → Shown
-entry_among drawn entry = map_entry (λ number. get_or drawn number []) entry
+-- the pictures of the entries after this one: where it finished a run, the first picture is its own
+abbrev pub pictures_left : Entry (Unit {0}) → List (List Stroke) → List (List Stroke)
+pictures_left (Done address word drew) pictures = drop 1 pictures
+pictures_left _ pictures = pictures
 
--- equal entries that are kept as one, by the strokes of all pictures
-abbrev pub alike_entries : List (List Stroke) → Alike → List Shown
-alike_entries drawn alike = replicate (suc alike.again) (entry_among drawn alike.entry)
-
--- the entries of all that is kept
+-- the entries of all that is kept, by the pictures of those that finished a run, in the same order
 abbrev pub all_entries : List (List Stroke) → List Alike → List Shown
-all_entries drawn kept = flat_map (alike_entries drawn) kept
+all_entries pictures [] = []
+all_entries pictures (alike ∷ kept) =
+    replicate (suc alike.again) (map_entry (λ _. get_or pictures 0 []) alike.entry)
+    ++ all_entries (pictures_left alike.entry pictures) kept
 
 -- what the run of an entry drew, or nothing
 abbrev pub strokes_in : Shown → List Stroke

@@ -7,7 +7,8 @@ use Rattle.dvg_driver.specs.Script.{Item}
 use Rattle.dvg_driver.specs.Stands as driver
 use Rattle.dvg_driver.specs.Stands.{Stage, byte1_of}
 use Rattle.dvg_log.specs.Events.{Happening}
-use Rattle.dvg_log.specs.Entries.{Shown}
+use Rattle.dvg_log.specs.declared.entry.Entry.{Entry}
+use Rattle.dvg_log.specs.Entries.{Shown, map_entry}
 use Rattle.dvg_log.specs.Headline.{KeepsHeadline}
 use Rattle.dvg_log.specs.Log.{Log, ◌⟼◌, ram, low_byte, history, life, strobed}
 use Rattle.dvg_log.specs.Legal.{IsLegal}
@@ -20,6 +21,10 @@ pub record State : Type 0 where
   pub machine : Machine
   pub stage : Stage
   pub sent : Bool
+
+-- an entry of a world, with the picture that it keeps as what the run drew, if it finished one
+abbrev pub shown_in : State → Entry (Unit {0}) → Shown
+shown_in world entry = map_entry (λ _. world.machine.picture) entry
 
 -- a world has this ROM and this RAM; its generator stands after the words that it was told and the low byte that waits,
 -- and its driver after its life, which gives byte 001 of the RAM; and it knows whether a strobe was sent
@@ -42,6 +47,10 @@ pub record WorldAfter (R image : List ℕ) (log : Log) (world : State) : Type 0 
 abbrev pub AddsLine : State → Happening → Shown → State → Type 0
 AddsLine old event entry new = (R image : List ℕ) (log : Log) → WorldAfter R image log old
     → WorldAfter R image ((event ⟼ entry) ∷ log) new
+
+-- the new world stands after each log that the old one stands after
+abbrev pub KeepsLogs : State → State → Type 0
+KeepsLogs old new = (R image : List ℕ) (log : Log) → WorldAfter R image log old → WorldAfter R image log new
 
 -- over each log that the world stands after, this line keeps the headline
 abbrev pub KeepsHeadlineAfter : State → Happening → Shown → Type 0

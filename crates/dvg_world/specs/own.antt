@@ -4,4 +4,3 @@ pub mod Leaving
 pub mod Entries
 pub mod Logging
 pub mod Running
-pub mod Fetched

@@ -78,7 +78,7 @@ impl<A: Allocator> Desk<A> {
 
     /// Hands the draft of the operations `ops` to the driver to show, if the check accepts it.
     /// Returns the entry.
-    pub fn offer<S>(&mut self, ops: &[Op]) -> Entry<S>
+    pub fn offer(&mut self, ops: &[Op]) -> Entry<()>
         ensures rom { self.new.rom ≡ self.old.rom }
         ensures answers { OfferAnswers self.old.rom ops.now self.old.stage self.new.stage result }
     {
@@ -93,7 +93,7 @@ impl<A: Allocator> Desk<A> {
     }
 
     /// Asks the driver to have the published frame drawn again. Returns the entry.
-    pub fn redraw<S>(&mut self) -> Entry<S>
+    pub fn redraw(&mut self) -> Entry<()>
         ensures rom { self.new.rom ≡ self.old.rom }
         ensures answers { RedrawAnswers self.old.stage self.new.stage result }
     {

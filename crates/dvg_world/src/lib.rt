@@ -10,8 +10,6 @@
 
 mod desk;
 mod entries;
-mod fetched;
-mod happens;
 mod judge;
 mod logging;
 mod pictures;

@@ -1,27 +1,23 @@
 //! The entries of a trace.
-ghost use Rattle.std.specs.Prelude.{◌≡◌, ◌⊎◌, ◌+◌, ◌≤◌, [], false, length, map, OnErr, OnOk};
-ghost use Rattle.std.specs.Prelude.{None, Some};
-ghost use Rattle.dvg_log.specs.Entries.{Shown, drew_in, map_entry, shown_of};
+ghost use Rattle.std.specs.Prelude.{◌≡◌, ◌+◌, ◌≤◌, List, [], false, length, map, OnErr, OnOk};
+ghost use Rattle.dvg_gen.specs.declared.stroke.Stroke.{Stroke};
+ghost use Rattle.dvg_log.specs.Entries.{map_entry};
 ghost use Rattle.dvg_log.specs.Traces.{BringsDraft, seen_as};
 ghost use Rattle.dvg_log.specs.declared.event.Event.TheVariants.{Fetch, Tick};
 ghost use Rattle.dvg_world.specs.Keeping.{all_entries};
 ghost use Rattle.dvg_world.specs.Kept.{Logs};
 ghost use Rattle.dvg_world.specs.own.Entries.{AreEntries};
-ghost use Rattle.dvg_world.specs.Standing.{AddsLine};
-ghost use Rattle.dvg_world.specs.own.Fetched.{IsDrawnBy};
-ghost use Rattle.dvg_world.specs.own.Logging.{KeepsAlike, KeepsEntry};
-ghost use Rattle.dvg_world.specs.own.Logging.{LogsRun, StopsLogging, room_left};
-ghost use Rattle.dvg_world.specs.own.Stepping.{WantsMemory};
+ghost use Rattle.dvg_world.specs.own.Logging.{KeepsAlike, LogsRun, StopsLogging, room_left};
+ghost use Rattle.dvg_world.specs.own.Stepping.{IsDrawnBy};
 
 use crate::entries::{Alike, Entries};
 use crate::world::World;
 use dvg_code::OutOfMemory;
 use dvg_driver::Action;
 use dvg_gen::Stroke;
-use dvg_log::{Entry, OwnEntry, Trace, TraceEvent};
+use dvg_log::{Entry, Trace, TraceEvent};
 use dvg_mem::{Image, Rom, Store};
 use std::alloc::{Allocator, Global};
-use std::mem;
 
 /// The entries of the events that happened.
 #[derive(Drop)]
@@ -57,51 +53,14 @@ struct EntriesKept<A: Allocator> {
 }
 
 impl<A: Allocator> EntriesKept<A> {
-    // Keeps `entry`. There must be room for it.
+    // Keeps `entry`, `times` times in a row. `drew` has the strokes, if its run finished.
     #[inline(always)]
-    fn keep(&mut self, entry: OwnEntry<A>)
-        requires { 1 ≤ room_left self.old }
-        ensures kept { KeepsEntry self.old (shown_of entry) self.new }
-        ensures left { room_left self.old ≤ room_left self.new + 1 }
-    {
-        let (entry, drew) = entry.replace(self.number());
-        self.keep_parts(entry, drew, 1);
-    }
-
-    // Keeps `entry`, of one fetch, which has the number of the next picture. What its run drew, if
-    // it finished, is taken out of `drawn`, and `other` takes its place.
-    #[inline(always)]
-    fn keep_fetched(&mut self, entry: Entry<u16>, drawn: &mut Vec<Stroke, A>, other: Vec<Stroke, A>)
-        requires { 1 ≤ room_left self.old }
-        ensures kept { (shown : Shown) → entry ≡ map_entry (λ _. length self.old.drawn.items) shown
-            → (drew_in shown ≡ None) ⊎ (drew_in shown ≡ Some drawn.old.items)
-            → KeepsEntry self.old shown self.new }
-        ensures left { room_left self.old ≤ room_left self.new + 1 }
-    {
-        match entry {
-            Entry::Done(..) => self.keep_parts(entry, Some(mem::replace(drawn, other)), 1),
-            _ => self.keep_parts(entry, None, 1),
-        }
-    }
-
-    // Returns the number of the next picture.
-    #[inline(always)]
-    fn number(&self) -> u16
-        requires { 1 ≤ room_left self.now }
-        ensures { result ≡ length self.now.drawn.items }
-    {
-        self.drawn.len() as u16
-    }
-
-    // Keeps `entry`, `times` times in a row, with the number of the next picture in place of the
-    // strokes. `drew` has the strokes, if its run finished.
-    #[inline(always)]
-    fn keep_parts(&mut self, entry: Entry<u16>, drew: Option<Vec<Stroke, A>>, times: usize)
+    fn keep(&mut self, entry: Entry<()>, drew: Option<Vec<Stroke, A>>, times: usize)
         requires some { 1 ≤ times }
         requires room { times ≤ room_left self.old }
-        ensures kept { (shown : Shown) → IsDrawnBy shown drew
-            → entry ≡ map_entry (λ _. length self.old.drawn.items) shown
-            → KeepsAlike self.old shown times self.new }
+        ensures kept { (picture : List Stroke)
+            → IsDrawnBy (map_entry (λ _. picture) entry) drew
+            → KeepsAlike self.old (map_entry (λ _. picture) entry) times self.new }
         ensures left { room_left self.old ≤ room_left self.new + times }
     {
         if let Some(strokes) = drew {
@@ -128,39 +87,6 @@ impl<A: Allocator> EntriesKept<A> {
     }
 }
 
-// Lets `event` happen to `world`, as `happen` does, and keeps its entry in `entries`. The entry is
-// kept where it comes about, so that the code knows which entries there may be.
-#[inline(always)]
-fn keep_next<S: Store>(
-    event: TraceEvent<'_, S::Alloc>,
-    entries: &mut EntriesKept<S::Alloc>,
-    world: &mut World<S>,
-) -> Result<(), OutOfMemory>
-    requires brings { BringsDraft event }
-    requires left { 1 ≤ room_left entries.old }
-    ensures kept { OnOk result ((entry : Shown)
-        × AddsLine world.old (seen_as event.entry) entry world.new
-        × KeepsEntry entries.old entry entries.new) }
-    ensures left { OnOk result (room_left entries.old ≤ room_left entries.new + 1) }
-    ensures room { OnErr result (WantsMemory (seen_as event.entry) world.old) }
-    ensures refused { OnErr result ((entries.new ≡ entries.old) × (world.new ≡ world.old)) }
-{
-    match event {
-        TraceEvent::Offer(ops) => entries.keep(world.offer_ops(ops)),
-        TraceEvent::Redraw => entries.keep(world.redraw()),
-        TraceEvent::Tick => entries.keep(world.tick()),
-        TraceEvent::Strobe => entries.keep(world.strobe()),
-        TraceEvent::Fetch => match world.fetch() {
-            Ok(entry) => entries.keep(entry),
-            Err(refused) => return Err(refused),
-        },
-        TraceEvent::ResetGen => entries.keep(world.reset_generator()),
-        TraceEvent::ResetCpu => entries.keep(world.reset_processor()),
-        TraceEvent::ResetAll(image) => entries.keep(world.reset_all(image)),
-    }
-    Ok(())
-}
-
 // Ticks `world` `times` times, and keeps the entries in `entries`. Stops at the first idle tick,
 // and keeps its entry for the others, too: all later ones would be idle, and change nothing.
 fn log_ticks<S: Store>(entries: &mut EntriesKept<S::Alloc>, times: usize, world: &mut World<S>)
@@ -171,10 +97,10 @@ fn log_ticks<S: Store>(entries: &mut EntriesKept<S::Alloc>, times: usize, world:
     for done in 0..times {
         let action = world.act();
         if let Action::Idle = action {
-            entries.keep_parts(Entry::Acted(Action::Idle), None, times - done);
+            entries.keep(Entry::Acted(Action::Idle), None, times - done);
             return;
         }
-        entries.keep_parts(Entry::Acted(action), None, 1);
+        entries.keep(Entry::Acted(action), None, 1);
     }
 }
 
@@ -192,14 +118,13 @@ fn log_fetches<S: Store>(
     ensures stops { OnErr result (StopsLogging world.old entries.old Fetch times
         world.new entries.new) }
 {
-    let mut drawn = world.no_strokes();
     for done in 0..times {
-        match world.fetch_as(&mut drawn, entries.number()) {
+        match world.fetch() {
             Ok(Entry::Still) => {
-                entries.keep_parts(Entry::Still, None, times - done);
+                entries.keep(Entry::Still, None, times - done);
                 return Ok(());
             }
-            Ok(entry) => entries.keep_fetched(entry, &mut drawn, world.no_strokes()),
+            Ok(entry) => entries.keep(entry, world.take_drawn(entry), 1),
             Err(refused) => return Err(refused),
         }
     }
@@ -231,8 +156,8 @@ fn log_run<S: Store>(
         _ => {}
     }
     for _again in 0..times {
-        match keep_next(event, entries, world) {
-            Ok(()) => {}
+        match world.happen(event) {
+            Ok(entry) => entries.keep(entry, world.take_drawn(entry), 1),
             Err(refused) => return Err(refused),
         }
     }

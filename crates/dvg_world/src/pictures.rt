@@ -9,16 +9,15 @@ ghost use Rattle.dvg_log.specs.declared.event.Event.TheVariants.{Fetch, Offer, T
 ghost use Rattle.dvg_world.specs.Keeping.{pictures_of};
 ghost use Rattle.dvg_world.specs.Kept.{Draws};
 ghost use Rattle.dvg_world.specs.Standing.{WorldAfter};
-ghost use Rattle.dvg_world.specs.own.Fetched.{IsDrawnBy};
 ghost use Rattle.dvg_world.specs.own.Running.{AddsRun, DrawsRun, KeepsPicture, StopsDrawing};
+ghost use Rattle.dvg_world.specs.own.Stepping.{IsDrawnBy};
 
-use crate::happens::happen;
 use crate::world::World;
 use dvg_code::OutOfMemory;
 use dvg_driver::Action;
 use dvg_frame::Op;
 use dvg_gen::Stroke;
-use dvg_log::{Trace, TraceEvent};
+use dvg_log::{Entry, Trace, TraceEvent};
 use dvg_mem::{Image, Rom, Store};
 use std::alloc::{Allocator, Global};
 
@@ -120,14 +119,10 @@ fn fetch_times<S: Store>(
     ensures len { vec_len pictures.new ≤ vec_len pictures.old + times }
     ensures capacity { vec_capacity pictures.new ≡ vec_capacity pictures.old }
 {
-    let mut drawn = world.no_strokes();
     for done in 0..times {
-        match world.feed(&mut drawn) {
-            Ok(None) => return Ok(()),
-            Ok(Some(fetched)) => {
-                let drew = fetched.take_drawn(&mut drawn, world.no_strokes());
-                keep_picture(pictures, number + done, drew);
-            }
+        match world.fetch() {
+            Ok(Entry::Still) => return Ok(()),
+            Ok(entry) => keep_picture(pictures, number + done, world.take_drawn(entry)),
             Err(refused) => return Err(refused),
         }
     }
@@ -167,8 +162,8 @@ fn draw_run<S: Store>(
         _ => {}
     }
     for done in 0..times {
-        match happen(event, world) {
-            Ok(entry) => keep_picture(pictures, number + done, entry.replace(()).1),
+        match world.happen(event) {
+            Ok(entry) => keep_picture(pictures, number + done, world.take_drawn(entry)),
             Err(refused) => return Err(refused),
         }
     }

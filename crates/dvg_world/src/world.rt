@@ -1,10 +1,10 @@
 //! The world: both ends of the vector RAM, one event at a time.
-ghost use Rattle.std.specs.Prelude.{◌≡◌, ◌≢◌, ◌↔◌, ℕ, List, [], length, IfOk, IfSome};
+ghost use Rattle.std.specs.Prelude.{◌≡◌, ◌≢◌, ◌↔◌, ℕ, List, [], length, IfOk};
 ghost use Rattle.std.specs.Prelude.{IsErrOf, IsOk, IsTrue, None, Ok, OnErr, OnOk};
 ghost use Rattle.dvg_driver.specs.Script.{IsWhole};
 ghost use Rattle.dvg_driver.specs.Stands.{IsInRam};
 ghost use Rattle.dvg_frame.specs.Ops.{IsDraft};
-ghost use Rattle.dvg_log.specs.Entries.{drew_in, map_entry, shown_of};
+ghost use Rattle.dvg_log.specs.Entries.{drew_in, shown_of};
 ghost use Rattle.dvg_log.specs.Events.{happening_of};
 ghost use Rattle.dvg_log.specs.declared.event.Event.TheVariants.{Offer, Redraw, Tick, Strobe};
 ghost use Rattle.dvg_log.specs.declared.event.Event.TheVariants.{Fetch, ResetGen, ResetCpu};
@@ -12,19 +12,19 @@ ghost use Rattle.dvg_log.specs.declared.event.Event.TheVariants.{ResetAll};
 ghost use Rattle.dvg_log.specs.declared.entry.Entry.TheVariants.{Acted, Still};
 ghost use Rattle.dvg_log.specs.Legal.{IsLegal};
 ghost use Rattle.dvg_log.specs.Log.{Log};
+ghost use Rattle.dvg_log.specs.Traces.{BringsDraft, seen_as};
 ghost use Rattle.dvg_world.specs.Desks.{OfLives};
-ghost use Rattle.dvg_world.specs.Standing.{AddsLine, DrawsNow, KeepsHeadlineAfter, WorldAfter};
-ghost use Rattle.dvg_world.specs.own.Fetched.{FetchAdds, FinishesByWord, entry_of_fetch};
-ghost use Rattle.dvg_world.specs.own.Stepping.{ram_by, sent_by};
+ghost use Rattle.dvg_world.specs.Standing.{AddsLine, DrawsNow, KeepsHeadlineAfter, KeepsLogs};
+ghost use Rattle.dvg_world.specs.Standing.{WorldAfter, shown_in};
+ghost use Rattle.dvg_world.specs.own.Stepping.{IsDrawnBy, WantsMemory, ram_by, sent_by};
 ghost use Rattle.dvg_world.specs.Wanting.{TakesMemory};
 
 use crate::desk::Desk;
-use crate::fetched::FetchedByte;
 use dvg_code::OutOfMemory;
 use dvg_driver::Action;
 use dvg_frame::{Draft, Op};
 use dvg_gen::{Generator, Stroke};
-use dvg_log::{Entry, Event, OwnEntry, OwnEvent};
+use dvg_log::{Entry, Event, OwnEntry, OwnEvent, TraceEvent};
 use dvg_mem::{Image, MemFault, Rom, Store, fetch_byte};
 use std::marker::Model;
 
@@ -44,6 +44,8 @@ pub struct World<S: Store> {
     store: S,
     generator: Generator<S::Alloc>,
     strobe_sent: bool,
+    // What the strokes of an entry lie in, where it has none.
+    alloc: S::Alloc,
 }
 
 /// Contracts see a `State`.
@@ -75,6 +77,7 @@ impl<S: Store> World<S> {
     ) -> Result<World<S>, OutOfMemory>
         ensures legal { IsLegal rom image.now [] }
         ensures stands { IfOk result (WorldAfter rom image.now []) }
+        ensures picture { IfOk result (λ world. world.machine.picture ≡ []) }
     {
         // An image is one of 2,048 bytes, as its type says.
         let _ = image.bytes();
@@ -85,6 +88,7 @@ impl<S: Store> World<S> {
             store,
             generator: Generator::new(alloc),
             strobe_sent: false,
+            alloc,
         })
     }
 
@@ -101,6 +105,7 @@ impl<S: Store> World<S> {
         image: &Image<S::Alloc>,
     ) -> Result<(), MemFault>
         ensures stands { OnOk result (WorldAfter rom.now image.now [] self.new) }
+        ensures picture { OnOk result (self.new.machine.picture ≡ []) }
         ensures size { IsErrOf result MemFault.Size
             ↔ ((length rom.now ≢ 2048) × (length rom.now ≢ 4096)) }
         ensures room { length rom.now ≡ length self.old.rom → IsOk result }
@@ -118,7 +123,8 @@ impl<S: Store> World<S> {
     // Makes all but the ROM as in a new world, whose RAM holds `image` and whose strokes will be in
     // memory of `alloc`.
     fn power_up(&mut self, alloc: S::Alloc, image: &Image<S::Alloc>)
-        ensures { WorldAfter self.old.rom image.now [] self.new }
+        ensures stands { WorldAfter self.old.rom image.now [] self.new }
+        ensures picture { self.new.machine.picture ≡ [] }
     {
         // An image is one of 2,048 bytes, and a ROM has 2,048 or 4,096, as their types say.
         let _ = image.bytes();
@@ -127,9 +133,11 @@ impl<S: Store> World<S> {
         self.generator = Generator::new(alloc);
         self.desk.reset();
         self.strobe_sent = false;
+        self.alloc = alloc;
     }
 
-    /// Lets `event` happen, by the call that does it, and returns its entry.
+    /// Lets `event` happen, by the call that does it, and returns its entry. The strokes of a run
+    /// that it finishes are taken out of the world.
     ///
     /// Returns `OutOfMemory` where an allocation fails, and then the world is as it was. That comes
     /// only for a fetch that completes a vector with an intensity of at least 1.
@@ -142,8 +150,27 @@ impl<S: Store> World<S> {
         ensures room { (R image : List ℕ) (log : Log) → WorldAfter R image log self.old
             → OnErr result (TakesMemory R image log (happening_of event.now)) }
     {
+        match self.happen(event.lent()) {
+            Ok(entry) => Ok(self.own(entry)),
+            Err(refused) => Err(refused),
+        }
+    }
+
+    // Lets `event` happen, by the call that does it, and returns its entry. Returns `OutOfMemory`
+    // where an allocation fails, and then the world is as it was.
+    #[inline(always)]
+    pub(crate) fn happen(
+        &mut self,
+        event: TraceEvent<'_, S::Alloc>,
+    ) -> Result<Entry<()>, OutOfMemory>
+        requires { BringsDraft event }
+        ensures stands { IfOk result (λ entry. AddsLine self.old (seen_as event.entry)
+            (shown_in self.new entry) self.new) }
+        ensures room { OnErr result (WantsMemory (seen_as event.entry) self.old) }
+        ensures refused { OnErr result (self.new ≡ self.old) }
+    {
         match event {
-            Event::Offer(draft) => Ok(self.offer(draft)),
+            Event::Offer(ops) => Ok(self.offer_ops(ops)),
             Event::Redraw => Ok(self.redraw()),
             Event::Tick => Ok(self.tick()),
             Event::Strobe => Ok(self.strobe()),
@@ -152,6 +179,18 @@ impl<S: Store> World<S> {
             Event::ResetCpu => Ok(self.reset_processor()),
             Event::ResetAll(image) => Ok(self.reset_all(image)),
         }
+    }
+
+    // Returns `entry`, the newest one, with the strokes of the run that it finished, if it did.
+    // They are taken out of the world.
+    pub(crate) fn own(&mut self, entry: Entry<()>) -> OwnEntry<S::Alloc>
+        ensures shown { shown_of result ≡ shown_in self.old entry }
+        ensures stands { KeepsLogs self.old self.new }
+    {
+        let Some(drew) = self.take_drawn(entry) else {
+            return entry.with(Vec::new(self.alloc));
+        };
+        entry.with(drew)
     }
 
     // Returns whether the driver is idle, and so would take a draft that the check accepts.
@@ -163,9 +202,10 @@ impl<S: Store> World<S> {
 
     /// Hands `draft` to the driver to show, as by `Event::Offer`. Returns the entry.
     #[inline(always)]
-    pub fn offer(&mut self, draft: &Draft) -> OwnEntry<S::Alloc>
-        ensures stands { AddsLine self.old (Offer draft.now) (shown_of result) self.new }
-        ensures headline { KeepsHeadlineAfter self.old (Offer draft.now) (shown_of result) }
+    pub fn offer(&mut self, draft: &Draft) -> Entry<()>
+        ensures stands { AddsLine self.old (Offer draft.now) (shown_in self.new result) self.new }
+        ensures headline { KeepsHeadlineAfter self.old (Offer draft.now) (shown_in self.new result) }
+        ensures picture { self.new.machine.picture ≡ self.old.machine.picture }
     {
         self.offer_ops(draft.ops())
     }
@@ -173,9 +213,10 @@ impl<S: Store> World<S> {
     // Hands the draft of the operations `ops` to the driver to show, as `offer` does. Returns the
     // entry.
     #[inline(always)]
-    pub(crate) fn offer_ops(&mut self, ops: &[Op]) -> OwnEntry<S::Alloc>
+    pub(crate) fn offer_ops(&mut self, ops: &[Op]) -> Entry<()>
         requires { IsDraft ops.now }
-        ensures { AddsLine self.old (Offer ops.now) (shown_of result) self.new }
+        ensures stands { AddsLine self.old (Offer ops.now) (shown_in self.new result) self.new }
+        ensures picture { self.new.machine.picture ≡ self.old.machine.picture }
     {
         self.desk.offer(ops)
     }
@@ -183,18 +224,20 @@ impl<S: Store> World<S> {
     /// Asks the driver to have the published frame drawn again, as by `Event::Redraw`. Returns the
     /// entry.
     #[inline(always)]
-    pub fn redraw(&mut self) -> OwnEntry<S::Alloc>
-        ensures stands { AddsLine self.old Redraw (shown_of result) self.new }
-        ensures headline { KeepsHeadlineAfter self.old Redraw (shown_of result) }
+    pub fn redraw(&mut self) -> Entry<()>
+        ensures stands { AddsLine self.old Redraw (shown_in self.new result) self.new }
+        ensures headline { KeepsHeadlineAfter self.old Redraw (shown_in self.new result) }
+        ensures picture { self.new.machine.picture ≡ self.old.machine.picture }
     {
         self.desk.redraw()
     }
 
     /// Lets the driver do one action, as by `Event::Tick`. Returns the entry.
     #[inline(always)]
-    pub fn tick(&mut self) -> OwnEntry<S::Alloc>
-        ensures stands { AddsLine self.old Tick (shown_of result) self.new }
-        ensures headline { KeepsHeadlineAfter self.old Tick (shown_of result) }
+    pub fn tick(&mut self) -> Entry<()>
+        ensures stands { AddsLine self.old Tick (shown_in self.new result) self.new }
+        ensures headline { KeepsHeadlineAfter self.old Tick (shown_in self.new result) }
+        ensures picture { self.new.machine.picture ≡ self.old.machine.picture }
     {
         Entry::Acted(self.act())
     }
@@ -205,6 +248,7 @@ impl<S: Store> World<S> {
     pub fn act(&mut self) -> Action
         ensures stands { AddsLine self.old Tick (Acted result) self.new }
         ensures headline { KeepsHeadlineAfter self.old Tick (Acted result) }
+        ensures picture { self.new.machine.picture ≡ self.old.machine.picture }
         ensures idle { result ≡ Action.Idle → self.new ≡ self.old }
     {
         let byte1 = self.store.read(1);
@@ -230,9 +274,10 @@ impl<S: Store> World<S> {
     /// Lets a strobe reach the generator, if the driver has sent one, as by `Event::Strobe`.
     /// Returns the entry.
     #[inline(always)]
-    pub fn strobe(&mut self) -> OwnEntry<S::Alloc>
-        ensures stands { AddsLine self.old Strobe (shown_of result) self.new }
-        ensures headline { KeepsHeadlineAfter self.old Strobe (shown_of result) }
+    pub fn strobe(&mut self) -> Entry<()>
+        ensures stands { AddsLine self.old Strobe (shown_in self.new result) self.new }
+        ensures headline { KeepsHeadlineAfter self.old Strobe (shown_in self.new result) }
+        ensures picture { self.new.machine.picture ≡ self.old.machine.picture }
     {
         if !self.strobe_sent {
             return Entry::NoStrobe;
@@ -241,102 +286,19 @@ impl<S: Store> World<S> {
         Entry::Started
     }
 
-    /// Lets the generator fetch one byte, as by `Event::Fetch`. Returns the entry.
+    /// Lets the generator fetch one byte, as by `Event::Fetch`. Returns the entry. Where it is
+    /// `Done`, the run's strokes are the new picture; otherwise the picture stays as it was.
     ///
     /// This is the one event that takes memory, for the stroke of a vector with an intensity of at
     /// least 1. Returns `OutOfMemory` where an allocation fails, and then the world is as it was.
     #[inline(always)]
-    pub fn fetch(&mut self) -> Result<OwnEntry<S::Alloc>, OutOfMemory>
-        ensures stands { IfOk result (λ entry. AddsLine self.old Fetch (shown_of entry) self.new) }
+    pub fn fetch(&mut self) -> Result<Entry<()>, OutOfMemory>
+        ensures stands { IfOk result (λ entry. AddsLine self.old Fetch (shown_in self.new entry)
+            self.new) }
         ensures headline { IfOk result
-            (λ entry. KeepsHeadlineAfter self.old Fetch (shown_of entry)) }
-        ensures still { result ≡ Ok Still → self.new ≡ self.old }
-        ensures refused { OnErr result (self.new ≡ self.old) }
-        ensures room { OnErr result (DrawsNow self.old) }
-    {
-        let mut drawn = self.no_strokes();
-        match self.feed(&mut drawn) {
-            Ok(None) => Ok(Entry::Still),
-            Ok(Some(fetched)) => Ok(fetched.entry(drawn)),
-            Err(refused) => Err(refused),
-        }
-    }
-
-    /// Lets the generator fetch one byte, as `fetch` does. The strokes of a run that it finishes
-    /// replace those in `picture`. Otherwise `picture` stays as it is. Returns the entry, without
-    /// the strokes.
-    #[inline(always)]
-    pub fn fetch_into(
-        &mut self,
-        picture: &mut Vec<Stroke, S::Alloc>,
-    ) -> Result<Entry<()>, OutOfMemory>
-        ensures stands { IfOk result (λ entry. AddsLine self.old Fetch
-            (map_entry (λ _. picture.new.items) entry) self.new) }
-        ensures headline { IfOk result (λ entry. KeepsHeadlineAfter self.old Fetch
-            (map_entry (λ _. picture.new.items) entry)) }
+            (λ entry. KeepsHeadlineAfter self.old Fetch (shown_in self.new entry)) }
         ensures picture { IfOk result (λ entry. drew_in entry ≡ None
-            → picture.new ≡ picture.old) }
-        ensures still { result ≡ Ok Still → self.new ≡ self.old }
-        ensures refused { OnErr result
-            ((self.new ≡ self.old) × (picture.new ≡ picture.old)) }
-        ensures room { OnErr result (DrawsNow self.old) }
-    {
-        match self.feed(picture) {
-            Ok(None) => Ok(Entry::Still),
-            Ok(Some(fetched)) => Ok(fetched.entry(())),
-            Err(refused) => Err(refused),
-        }
-    }
-
-    // Returns an empty list of strokes, with the allocator of the generator's own.
-    #[inline(always)]
-    pub(crate) fn no_strokes(&self) -> Vec<Stroke, S::Alloc>
-        ensures { result.items ≡ [] }
-    {
-        self.generator.no_strokes()
-    }
-
-    // Lets the generator fetch one byte, if a run is open. Returns what it fetched, of which no
-    // entry is made. The strokes of a run that it finishes replace those in `drawn`.
-    #[inline(always)]
-    pub(crate) fn feed(
-        &mut self,
-        drawn: &mut Vec<Stroke, S::Alloc>,
-    ) -> Result<Option<FetchedByte>, OutOfMemory>
-        ensures stands { IfOk result (λ fetched. AddsLine self.old Fetch
-            (entry_of_fetch fetched drawn.new.items) self.new) }
-        ensures drawn { IfOk result (λ fetched. drew_in (entry_of_fetch fetched drawn.new.items)
-            ≡ None → drawn.new ≡ drawn.old) }
-        ensures finished { IfOk result (λ fetched. IfSome fetched FinishesByWord) }
-        ensures still { result ≡ Ok None → self.new ≡ self.old }
-        ensures refused { OnErr result ((self.new ≡ self.old) × (drawn.new ≡ drawn.old)) }
-        ensures room { OnErr result (DrawsNow self.old) }
-    {
-        let Some(address) = self.generator.wants() else {
-            return Ok(None);
-        };
-        let low = self.generator.low_byte();
-        let byte = fetch_byte(&self.store, self.desk.rom(), address, low.is_some());
-        let step = self.generator.take_into(byte, drawn)?;
-        Ok(Some(FetchedByte {
-            address,
-            low,
-            byte,
-            step,
-        }))
-    }
-
-    // Lets the generator fetch one byte, as `fetch_into` does with `drawn`. Returns the entry, with
-    // `other` in place of what its run drew. It is built here: a `FetchedByte` would be packed into
-    // one number.
-    #[inline(always)]
-    pub(crate) fn fetch_as<T: Drop>(
-        &mut self,
-        drawn: &mut Vec<Stroke, S::Alloc>,
-        other: T,
-    ) -> Result<Entry<T>, OutOfMemory>
-        ensures stands { IfOk result (λ entry. FetchAdds self.old self.new drawn.new.items
-            (λ shown. entry ≡ map_entry (λ _. other) shown)) }
+            → self.new.machine.picture ≡ self.old.machine.picture) }
         ensures still { result ≡ Ok Still → self.new ≡ self.old }
         ensures refused { OnErr result (self.new ≡ self.old) }
         ensures room { OnErr result (DrawsNow self.old) }
@@ -346,18 +308,47 @@ impl<S: Store> World<S> {
         };
         let low = self.generator.low_byte();
         let byte = fetch_byte(&self.store, self.desk.rom(), address, low.is_some());
-        let step = match self.generator.take_into(byte, drawn) {
-            Ok(step) => step,
-            Err(refused) => return Err(refused),
-        };
-        Ok(Entry::of_fetch(address, low, byte, step, other))
+        let step = self.generator.feed(byte)?;
+        Ok(Entry::of_fetch(address, low, byte, step, ()))
+    }
+
+    /// Returns the picture: the strokes of the newest run that came to a HALT, in the order drawn.
+    /// There are none before the first HALT, and after the picture was taken.
+    pub fn picture(&self) -> &[Stroke]
+        ensures { result.now ≡ self.now.machine.picture }
+    {
+        self.generator.picture()
+    }
+
+    /// Takes the picture out, and leaves an empty one. No event happens, so the log stays as it is.
+    #[inline(always)]
+    pub fn take_picture(&mut self) -> Vec<Stroke, S::Alloc>
+        ensures taken { result.items ≡ self.old.machine.picture }
+        ensures stands { KeepsLogs self.old self.new }
+        ensures state { self.new ≡ record self.old
+            { machine = record self.old.machine { picture = [] } } }
+    {
+        self.generator.take_picture()
+    }
+
+    // Takes the picture out, if `entry`, the newest one, finished the run that drew it.
+    #[inline(always)]
+    pub(crate) fn take_drawn(&mut self, entry: Entry<()>) -> Option<Vec<Stroke, S::Alloc>>
+        ensures drawn { IsDrawnBy (shown_in self.old entry) result }
+        ensures stands { KeepsLogs self.old self.new }
+    {
+        match entry {
+            Entry::Done(..) => Some(self.take_picture()),
+            _ => None,
+        }
     }
 
     /// Resets the generator, as by `Event::ResetGen`. Returns the entry.
     #[inline(always)]
-    pub fn reset_generator(&mut self) -> OwnEntry<S::Alloc>
-        ensures stands { AddsLine self.old ResetGen (shown_of result) self.new }
-        ensures headline { KeepsHeadlineAfter self.old ResetGen (shown_of result) }
+    pub fn reset_generator(&mut self) -> Entry<()>
+        ensures stands { AddsLine self.old ResetGen (shown_in self.new result) self.new }
+        ensures headline { KeepsHeadlineAfter self.old ResetGen (shown_in self.new result) }
+        ensures picture { self.new.machine.picture ≡ self.old.machine.picture }
     {
         self.generator.reset(); // The open run is over.
         Entry::Cleared
@@ -365,9 +356,10 @@ impl<S: Store> World<S> {
 
     /// Resets the driver, as by `Event::ResetCpu`. Returns the entry.
     #[inline(always)]
-    pub fn reset_processor(&mut self) -> OwnEntry<S::Alloc>
-        ensures stands { AddsLine self.old ResetCpu (shown_of result) self.new }
-        ensures headline { KeepsHeadlineAfter self.old ResetCpu (shown_of result) }
+    pub fn reset_processor(&mut self) -> Entry<()>
+        ensures stands { AddsLine self.old ResetCpu (shown_in self.new result) self.new }
+        ensures headline { KeepsHeadlineAfter self.old ResetCpu (shown_in self.new result) }
+        ensures picture { self.new.machine.picture ≡ self.old.machine.picture }
     {
         self.desk.reset();
         Entry::Cleared
@@ -376,9 +368,11 @@ impl<S: Store> World<S> {
     /// Resets the whole system, after which the RAM holds `image`, as by `Event::ResetAll`. Returns
     /// the entry.
     #[inline(always)]
-    pub fn reset_all(&mut self, image: &Image<S::Alloc>) -> OwnEntry<S::Alloc>
-        ensures stands { AddsLine self.old (ResetAll image.now) (shown_of result) self.new }
-        ensures headline { KeepsHeadlineAfter self.old (ResetAll image.now) (shown_of result) }
+    pub fn reset_all(&mut self, image: &Image<S::Alloc>) -> Entry<()>
+        ensures stands { AddsLine self.old (ResetAll image.now) (shown_in self.new result) self.new }
+        ensures headline { KeepsHeadlineAfter self.old (ResetAll image.now)
+            (shown_in self.new result) }
+        ensures picture { self.new.machine.picture ≡ self.old.machine.picture }
     {
         self.store.load(image);
         self.generator.reset();

@@ -1,5 +1,5 @@
 -- What is kept where all entries are.
-use Rattle.std.specs.Prelude.{◌≡◌, ◌-◌, ◌∷◌, ◌++◌, ℕ, List, length, map, min, replicate}
+use Rattle.std.specs.Prelude.{◌≡◌, ◌-◌, ◌++◌, ℕ, List, length, map, min, replicate}
 use Rattle.std.specs.Prelude.{vec_capacity, vec_len}
 use Rattle.dvg_log.specs.Entries.{Shown}
 use Rattle.dvg_log.specs.Events.{Happening}
@@ -20,10 +20,6 @@ AreKept entries log = AreEntries entries.kept.items (length entries.drawn.items)
 abbrev pub room_left : {A : Type 0} → EntriesKept A → ℕ
 room_left entries = min (min (vec_capacity entries.kept) 65536 - entry_count entries.kept.items)
     (min (vec_capacity entries.drawn) 65536 - vec_len entries.drawn)
-
--- one entry more is kept: that of the next line of a log
-abbrev pub KeepsEntry : {A : Type 0} → EntriesKept A → Shown → EntriesKept A → Type 0
-KeepsEntry old entry new = (event : Happening) (log : Log) → AreKept old log → AreKept new ((event ⟼ entry) ∷ log)
 
 -- so many equal entries more are kept: those of the next lines of a log, all of one event
 abbrev pub KeepsAlike : {A : Type 0} → EntriesKept A → Shown → (times : ℕ) → EntriesKept A → Type 0

@@ -1,7 +1,9 @@
 -- One line more: the words of private contracts.
-use Rattle.std.specs.Prelude.{ℕ, Bool, true, List, slice_set}
+use Rattle.std.specs.Prelude.{◌≡◌, ℕ, Bool, true, List, Option, Vec, option_map, slice_set}
+use Rattle.dvg_gen.specs.declared.stroke.Stroke.{Stroke}
 use Rattle.dvg_driver.specs.declared.action.Action.{Action}
 use Rattle.dvg_driver.specs.declared.action.Action.TheVariants.{Wrote, Sent}
+use Rattle.dvg_log.specs.Entries.{Shown, drew_in}
 use Rattle.dvg_log.specs.Events.{Happening}
 use Rattle.dvg_log.specs.Log.{Log}
 use Rattle.dvg_world.specs.Standing.{State, WorldAfter}
@@ -20,3 +22,7 @@ sent_by action sent = sent
 -- after each log that the world stands after, the event takes memory
 abbrev pub WantsMemory : Happening → State → Type 0
 WantsMemory event world = (R image : List ℕ) (log : Log) → WorldAfter R image log world → TakesMemory R image log event
+
+-- this is what the run of an entry drew, if it finished
+abbrev pub IsDrawnBy : {A : Type 0} → Shown → Option (Vec Stroke A) → Type 0
+IsDrawnBy entry drew = drew_in entry ≡ option_map (λ strokes. strokes.items) drew

@@ -1,10 +1,9 @@
-use Rattle.std.proofs.Common.{Ok, refl, sym, ap, ◌∙◌, subst, arith}
-use Rattle.dvg_log.specs.Entries.{map_entry}
+use Rattle.std.proofs.Common.{[], Ok, refl, ap, ◌∙◌, subst, arith}
 use Rattle.dvg_log.specs.declared.entry.Entry.TheVariants.{Still}
 use Rattle.dvg_log.specs.declared.event.Event.TheVariants.{Fetch}
-use Rattle.dvg_world.specs.Standing.{AddsLine}
-use Rattle.dvg_world.proofs.EntriesKept.{still_shown}
+use Rattle.dvg_world.specs.Standing.{AddsLine, shown_in}
 use Rattle.dvg_world.proofs.Running.{adds_none, logs_more, logs_rest, stops_logging}
+use Rattle.dvg_world.proofs.Standing.{then_keeps}
 use Rattle.dvg_world.proofs.logging.log_fetches.Goals as goal
 
 pub loop-done-init : goal.loop-done-init
@@ -13,13 +12,12 @@ loop-done-init g c = record { kept = λ R image log after kept. adds_none Fetch 
 pub loop-done-preserved : goal.loop-done-preserved
 loop-done-preserved g c =
     let left = c.loop-done.invariant.left in
-    let more = c.keep_fetched.ensures.left in
-    let stands = c.in-Ok.ensures.stands in
-    let shown = stands.0 in
-    let number = stands.1 ∙ ap (λ n. map_entry (λ _. n) shown) c.number.ensures in
+    let more = c.keep-in-Ok.ensures.left in
+    let shown = shown_in c.fetch.new.self c.in-Ok.entry in
     record {
-      kept = logs_more c.args.entries.now c.loop-done.entries c.keep_fetched.new.self shown c.loop-done.invariant.kept
-          stands.2 (c.keep_fetched.ensures.kept shown number stands.3);
+      kept = logs_more c.args.entries.now c.loop-done.entries c.keep-in-Ok.new.self shown c.loop-done.invariant.kept
+          (then_keeps c.in-Ok.ensures.stands c.take_drawn.ensures.stands)
+          (c.keep-in-Ok.ensures.kept c.fetch.new.self.machine.picture c.take_drawn.ensures.drawn);
       left = omega (arith, left, more);
     }
 
@@ -30,9 +28,8 @@ returns-in-Err-clause-stops g c =
 
 pub returns-in-Ok-Still-clause-kept : goal.returns-in-Ok-Still-clause-kept
 returns-in-Ok-Still-clause-kept g c =
-    let stands = c.in-Ok-Still.ensures.stands in
-    let still = still_shown stands.0 c.number.result (sym c.in-Ok-Still.field-0-is ∙ stands.1) in
-    let line = subst (λ shown. AddsLine c.loop-done.world Fetch shown c.fetch_as.new.self) still stands.2 in
-    logs_rest c.args.entries.now c.loop-done.entries c.keep_parts.new.self Still c.loop-done.invariant.kept
-    c.loop-done-test.true line (c.fetch_as.ensures.still (c.in-Ok-Still.is ∙ ap Ok c.in-Ok-Still.field-0-is))
-    (c.keep_parts.ensures.kept Still refl refl)
+    let line = subst (λ entry. AddsLine c.loop-done.world Fetch (shown_in c.fetch.new.self entry) c.fetch.new.self)
+    c.in-Ok-Still.field-0-is c.in-Ok-Still.ensures.stands in
+    logs_rest c.args.entries.now c.loop-done.entries c.keep.new.self Still c.loop-done.invariant.kept
+    c.loop-done-test.true line (c.fetch.ensures.still (c.in-Ok-Still.is ∙ ap Ok c.in-Ok-Still.field-0-is))
+    (c.keep.ensures.kept [] refl)

@@ -4,6 +4,7 @@ use Rattle.std.proofs.lemmas.Option.{slice_get_within}
 use Rattle.dvg_log.specs.Traces.{seen_as}
 use Rattle.dvg_theorem.proofs.Headline.{headline}
 use Rattle.dvg_world.proofs.WholeRuns.{begins_so_far, first_left, legal_none, next_left, none_left, one_more, stops_at}
+use Rattle.dvg_world.proofs.Standing.{adds_as, then_keeps}
 use Rattle.dvg_world.proofs.runs.run_trace.Goals as goal
 
 pub returns-in_default-clause-legal : goal.returns-in_default-clause-legal
@@ -67,7 +68,7 @@ loop-again-preserved g c =
     let inside = slice_get_within c.args.trace.now c.loop-again.number event next.0 in
     let pushed = c.push_reserved.ensures in
     record {
-      so_far = one_more {entries' = c.push_reserved.new.self} event c.in-Ok-happen.entry c.loop-again.invariant.so_far next.0 c.in-Ok-happen.ensures.stands pushed.items pushed.len pushed.capacity;
+      so_far = one_more {entries' = c.push_reserved.new.self} event c.own.result c.loop-again.invariant.so_far next.0 (adds_as (sym c.own.ensures.shown) (then_keeps c.in-Ok-happen.ensures.stands c.own.ensures.stands)) pushed.items pushed.len pushed.capacity;
       left = next.1;
       inside = omega (arith, inside);
     }

@@ -1,46 +1,62 @@
-use Rattle.std.proofs.Common.{◌≡◌, ap, sym, ◌∙◌, subst}
-use Rattle.std.specs.Prelude.{Ok}
-use Rattle.dvg_gen.specs.Bytes.{met}
-use Rattle.dvg_log.specs.Entries.{shown_of}
+use Rattle.std.proofs.Common.{◌≡◌, refl, ap, sym, ◌∙◌, subst}
+use Rattle.std.specs.Prelude.{IsSome, is_some}
+use Rattle.dvg_gen.specs.Bytes.{met, word_of}
+use Rattle.dvg_log.specs.Entries.{drew_in, entry_by, map_entry}
 use Rattle.dvg_log.specs.declared.event.Event.TheVariants.{Fetch}
 use Rattle.dvg_log.specs.declared.entry.Entry.TheVariants.{Still}
-use Rattle.dvg_world.specs.Standing.{AddsLine}
-use Rattle.dvg_world.specs.own.Fetched.{entry_of, entry_of_fetch}
-use Rattle.dvg_world.proofs.Standing.{keeps_headline}
-use Rattle.dvg_world.proofs.Fetching.{map_entry_by, never_still}
+use Rattle.dvg_world.specs.Standing.{DrawsNow}
+use Rattle.dvg_world.proofs.Fetching.{map_entry_by, never_still, picture_stays}
+use Rattle.dvg_world.proofs.Standing.{adds_as, adds_between, draws_now, fetch_still, fetch_takes, keeps_headline, on_err, open_of}
 use Rattle.dvg_world.proofs.world.World.fetch.Goals as goal
 
-pub returns-in-Ok-None-clause-stands : goal.returns-in-Ok-None-clause-stands
-returns-in-Ok-None-clause-stands g c =
-    let items = c.feed.new.drawn.items in
-    subst (λ fetched. AddsLine c.args.self.now Fetch (entry_of_fetch fetched items) c.feed.new.self)
-    c.in-Ok-None.field-0-is c.in-Ok-None.ensures.stands
+pub returns-in_default-clause-stands : goal.returns-in_default-clause-stands
+returns-in_default-clause-stands g c =
+    adds_between Fetch Still c.self.view_is (sym c.self.view_is)
+    (fetch_still (c.wants.ensures.halted.0 (ap is_some c.in_default.is)))
 
-pub returns-in-Ok-None-clause-headline : goal.returns-in-Ok-None-clause-headline
-returns-in-Ok-None-clause-headline g c = keeps_headline Fetch Still (returns-in-Ok-None-clause-stands g c)
+pub returns-in_default-clause-headline : goal.returns-in_default-clause-headline
+returns-in_default-clause-headline g c = keeps_headline Fetch Still (returns-in_default-clause-stands g c)
 
-pub returns-in-Ok-None-clause-still : goal.returns-in-Ok-None-clause-still
-returns-in-Ok-None-clause-still g c is = c.feed.ensures.still (c.in-Ok-None.is ∙ ap Ok c.in-Ok-None.field-0-is)
+pub returns-clause-stands : goal.returns-clause-stands
+returns-clause-stands g c =
+    let address = c.in-Some.address in
+    let low = c.low_byte-low.result in
+    let byte = c.fetch_byte-byte.result in
+    let step = c.in_ok-step.step in
+    let picture = c.feed.new.self.picture in
+    let shown : map_entry (λ _. picture) c.of_fetch.result ≡ entry_by address (met low byte) step picture =
+    ap (map_entry (λ _. picture)) c.of_fetch.ensures ∙ map_entry_by (λ _. picture) address (met low byte) step tt in
+    adds_as (sym shown)
+    (adds_between Fetch _ c.self.view_is refl
+    (fetch_takes address low byte c.is_some.result step picture
+    (λ told low after. sym c.in-Some.is ∙ c.wants.ensures.address told low after) c.low_byte-low.ensures
+    c.is_some.ensures c.rom.ensures c.fetch_byte-byte.ensures.byte c.in_ok-step.ensures.answers))
 
-pub returns-in-Ok-Some-clause-stands : goal.returns-in-Ok-Some-clause-stands
-returns-in-Ok-Some-clause-stands g c =
-    let drawn = c.feed.new.drawn in
-    let fetched = c.in-Ok-Some.fetched in
-    let here =
-    subst (λ fetched. AddsLine c.args.self.now Fetch (entry_of_fetch fetched drawn.items) c.feed.new.self)
-    c.in-Ok-Some.field-0-is c.in-Ok-Some.ensures.stands in
-    let shown : shown_of c.entry.result ≡ entry_of fetched drawn.items =
-    ap shown_of c.entry.ensures
-    ∙ map_entry_by (λ list. list.items) fetched.address (met fetched.low fetched.byte) fetched.step drawn in
-    subst (λ entry. AddsLine c.args.self.now Fetch entry c.feed.new.self) (sym shown) here
+pub returns-clause-headline : goal.returns-clause-headline
+returns-clause-headline g c = keeps_headline Fetch _ (returns-clause-stands g c)
 
-pub returns-in-Ok-Some-clause-headline : goal.returns-in-Ok-Some-clause-headline
-returns-in-Ok-Some-clause-headline g c =
-    keeps_headline Fetch (shown_of c.entry.result) (returns-in-Ok-Some-clause-stands g c)
+pub returns-clause-picture : goal.returns-clause-picture
+returns-clause-picture g c none =
+    let low = c.low_byte-low in
+    let byte = c.fetch_byte-byte.result in
+    let step = c.in_ok-step.step in
+    c.in_ok-step.ensures.picture
+    ∙ picture_stays _ c.in-Some.address (met low.result byte) step tt
+    (λ done. subst (λ l. IsSome (word_of (met l byte))) (sym low.ensures) (c.in_ok-step.ensures.finished done))
+    (sym (ap drew_in c.of_fetch.ensures) ∙ none)
+    ∙ ap (λ world. world.machine.picture) c.self.view_is
 
-pub returns-in-Ok-Some-clause-still : goal.returns-in-Ok-Some-clause-still
-returns-in-Ok-Some-clause-still g c is =
-    let fetched = c.in-Ok-Some.fetched in
-    let same : c.entry.result ≡ Still = cc in
-    let found = met fetched.low fetched.byte in
-    absurd (never_still fetched.address found fetched.step c.feed.new.drawn (sym c.entry.ensures ∙ same))
+pub returns-clause-still : goal.returns-clause-still
+returns-clause-still g c is =
+    let same : c.of_fetch.result ≡ Still = cc in
+    let found = met c.low_byte-low.result c.fetch_byte-byte.result in
+    absurd (never_still c.in-Some.address found c.in_ok-step.step tt (sym c.of_fetch.ensures ∙ same))
+
+pub returns-in_err-step-clause-room : goal.returns-in_err-step-clause-room
+returns-in_err-step-clause-room g c =
+    let is_open = open_of c.wants.result c.in-Some.address _ c.in-Some.is c.wants.ensures.halted in
+    on_err c.from_residual.result (subst DrawsNow c.self.view_is
+    (draws_now c.in-Some.address c.low_byte-low.result c.fetch_byte-byte.result c.is_some.result is_open
+    (λ told low after. sym c.in-Some.is ∙ c.wants.ensures.address told low after) c.low_byte-low.ensures
+    c.is_some.ensures c.rom.ensures c.fetch_byte-byte.ensures.byte
+    (λ nothing. let given = c.in_err-step.ensures.room nothing in absurd (cc))))

@@ -1,0 +1,9 @@
+use Rattle.std.proofs.Common.{Some, ap, sym}
+use Rattle.dvg_world.proofs.Owning.{drew_other}
+use Rattle.dvg_world.proofs.world.World.take_drawn.Goals as goal
+
+pub returns-in-Done-clause-drawn : goal.returns-in-Done-clause-drawn
+returns-in-Done-clause-drawn g c = rw c.in-Done.is (ap Some (sym c.take_picture.ensures.taken))
+
+pub returns-in_default-clause-drawn : goal.returns-in_default-clause-drawn
+returns-in_default-clause-drawn g c = drew_other c.args.entry _ c.in_default.not-Done
