@@ -2,7 +2,6 @@
 use dvg_code::OutOfMemory;
 use dvg_gen::{Generator, Step, Stroke};
 use std::alloc::Global;
-use std::mem;
 
 /// The number of steps: of each 29, one start and 28 bytes taken, so 2,000,000 bytes in all.
 const STEPS: u32 = 2_071_429;
@@ -47,7 +46,6 @@ fn byte_at(address: u16, high: bool) -> Option<u8> {
 /// `alloc`. Returns what was drawn, or `OutOfMemory` where an allocation fails.
 pub fn draw(alloc: Global) -> Result<Totals, OutOfMemory> {
     let mut generator = Generator::new(alloc);
-    let mut drawn = Vec::new(alloc);
     let mut totals = Totals {
         runs: 0,
         strokes: 0,
@@ -58,9 +56,8 @@ pub fn draw(alloc: Global) -> Result<Totals, OutOfMemory> {
             None => generator.start(),
             Some(address) => {
                 let byte = byte_at(address, generator.wants_high());
-                if let Step::Done = generator.take_into(byte, &mut drawn)? {
-                    totals = totals.with_run(drawn.as_slice());
-                    generator.reuse(mem::replace(&mut drawn, Vec::new(alloc)));
+                if let Step::Done = generator.feed(byte)? {
+                    totals = totals.with_run(generator.picture());
                 }
             }
         }

@@ -5,7 +5,7 @@ use Rattle.dvg_code.specs.declared.instr.Instr.{Instr}
 use Rattle.dvg_code.specs.declared.instr.Instr.TheVariants.{Vctr, Labs, Halt, Jsrl, Rtsl, Jmpl, Svec}
 use Rattle.dvg_code.specs.Spelling.{Spells, halt, jsrl, rtsl, jmpl}
 use Rattle.dvg_gen.specs.declared.stroke.Stroke.{Stroke}
-use Rattle.dvg_gen.specs.declared.taken.Taken.TheVariants.{Low, Word, Broke}
+use Rattle.dvg_gen.specs.declared.taken.Step.TheVariants.{Word, Broke}
 use Rattle.dvg_gen.specs.declared.taken.GenFault.{GenFault}
 use Rattle.dvg_gen.specs.declared.taken.GenFault.TheVariants.{StackOver, StackUnder, Hole}
 use Rattle.dvg_gen.specs.Bytes.{Waits, Whole}
@@ -26,7 +26,7 @@ use Rattle.dvg_core.specs.Shown.{says}
 use Rattle.dvg_core.proofs.Machines.{kept}
 use Rattle.dvg_core.specs.Refines
 use Rattle.dvg_core.specs.Refines.{Tells, fetches}
-use Rattle.dvg_core.proofs.Fitting.{Fits, Stepped, Halted, halted_at, obeys, more_is, fails_is, shift_in}
+use Rattle.dvg_core.proofs.Fitting.{Fits, Stepped, Halted, halted_at, obeys, reply_is, shift_in}
 use Rattle.dvg_core.proofs.Shifts.{shift, shift_is, hop_is, line_is}
 use Rattle.dvg_code.proofs.Reading.{vctr_read, labs_read, svec_read}
 use Rattle.dvg_code.specs.Fields.{signed}
@@ -96,16 +96,16 @@ module _ (at done fault stroke x0 y0 x y z first low depth s0 s1 s2 s3 scale din
       ≡ machine_of (core 0 high second depth) drew
   ignores high second valid hole = refl
 
-  pub low_byte : (second : ℕ) → Claim {A = Unit {0}} (Waits din) (old 0 second depth) (new 0 second depth) Low
-  low_byte second = claim_low (Unit {0}) din (old 0 second depth) (new 0 second depth) refl
+  pub low_byte : (second : ℕ) → Claim (Waits din) (old 0 second depth) (new 0 second depth) None
+  low_byte second = claim_low din (old 0 second depth) (new 0 second depth) refl
       (ap (λ (l : List Stroke). record (old 0 second depth) { low = Some din; strokes = l }) (append-nil drew))
 
   abbrev gap : Pins
   gap = record { reset = 0; start = 0; valid = 1; hole = 1; din = din }
 
   pub holes : (high second : ℕ)
-      → Claim {A = Unit {0}} (Whole None) (old high second depth) (machine_of (clock (core 1 high second depth) gap) (drew ++ [])) (Broke Hole)
-  holes high second = claim_hole {A = Unit {0}} (old high second depth) (machine_of (clock (core 1 high second depth) gap) (drew ++ [])) (Broke Hole) refl refl
+      → Claim (Whole None) (old high second depth) (machine_of (clock (core 1 high second depth) gap) (drew ++ [])) (Some (Fails Hole))
+  holes high second = claim_hole (old high second depth) (machine_of (clock (core 1 high second depth) gap) (drew ++ [])) (Some (Fails Hole)) refl refl
       (ap (λ (l : List Stroke). record (old high second depth) { low = None; is_open = false; strokes = l }) (append-nil drew))
 
   -- the high byte of a first word
@@ -124,9 +124,9 @@ module _ (at done fault stroke x0 y0 x y z first low depth s0 s1 s2 s3 scale din
   first_new (suc (suc (suc (suc (suc (suc (suc (suc (suc (suc zero)))))))))) less e = rw e
   first_new (suc (suc (suc (suc (suc (suc (suc (suc (suc (suc (suc n))))))))))) less e = absurd (omega arith)
 
-  pub first_word : low < 256 → din < 176 → Claim {A = Unit {0}} (Whole (Some word)) (old 1 0 depth) (new 1 0 depth) Word
+  pub first_word : low < 256 → din < 176 → Claim (Whole (Some word)) (old 1 0 depth) (new 1 0 depth) (Some More)
   first_word low_small less =
-      claim_first (Unit {0}) word ((at + 1) % 4096) (old 1 0 depth) (new 1 0 depth) refl refl (omega arith) refl
+      claim_first word ((at + 1) % 4096) (old 1 0 depth) (new 1 0 depth) refl refl (omega arith) refl
       (first_new (part 4 4 din) (omega arith) refl
       ∙ ap (λ (l : List Stroke). record (old 1 0 depth) { at = (at + 1) % 4096; held = Some word; low = None; strokes = l }) (append-nil drew))
 
@@ -134,20 +134,20 @@ module _ (at done fault stroke x0 y0 x y z first low depth s0 s1 s2 s3 scale din
   abbrev target : ℕ
   target = joined 8 low (part 0 4 din)
 
-  jumps : part 4 4 din ≡ 14 → Obeyed {A = Unit {0}} (old 1 0 depth) (Jmpl target) (new 1 0 depth) Word
+  jumps : part 4 4 din ≡ 14 → Obeyed (old 1 0 depth) (Jmpl target) (new 1 0 depth) Word
   jumps e = (tt, rw e)
 
-  calls : (depth : ℕ) → depth < 4 → part 4 4 din ≡ 12 → Obeyed {A = Unit {0}} (old 1 0 depth) (Jsrl target) (new 1 0 depth) Word
+  calls : (depth : ℕ) → depth < 4 → part 4 4 din ≡ 12 → Obeyed (old 1 0 depth) (Jsrl target) (new 1 0 depth) Word
   calls zero less e = (omega arith, rw e)
   calls (suc zero) less e = (omega arith, rw e)
   calls (suc (suc zero)) less e = (omega arith, rw e)
   calls (suc (suc (suc zero))) less e = (omega arith, rw e)
   calls (suc (suc (suc (suc n)))) less e = absurd (omega arith)
 
-  overflows : part 4 4 din ≡ 12 → Obeyed {A = Unit {0}} (old 1 0 4) (Jsrl target) (new 1 0 4) (Broke StackOver)
-  overflows e = ((target, refl), refl, (rw e, refl, rw e))
+  overflows : part 4 4 din ≡ 12 → Obeyed (old 1 0 4) (Jsrl target) (new 1 0 4) (Broke StackOver)
+  overflows e = ((target, refl), refl, (rw e, refl, rw e), refl)
 
-  returns : (depth : ℕ) → 1 ≤ depth → depth ≤ 4 → part 4 4 din ≡ 13 → Obeyed {A = Unit {0}} (old 1 0 depth) Rtsl (new 1 0 depth) Word
+  returns : (depth : ℕ) → 1 ≤ depth → depth ≤ 4 → part 4 4 din ≡ 13 → Obeyed (old 1 0 depth) Rtsl (new 1 0 depth) Word
   returns zero some less e = absurd (omega arith)
   returns (suc zero) some less e = (omega arith, rw e)
   returns (suc (suc zero)) some less e = (omega arith, rw e)
@@ -155,8 +155,8 @@ module _ (at done fault stroke x0 y0 x y z first low depth s0 s1 s2 s3 scale din
   returns (suc (suc (suc (suc zero)))) some less e = (omega arith, rw e)
   returns (suc (suc (suc (suc (suc n))))) some less e = absurd (omega arith)
 
-  underflows : part 4 4 din ≡ 13 → Obeyed {A = Unit {0}} (old 1 0 0) Rtsl (new 1 0 0) (Broke StackUnder)
-  underflows e = (refl, refl, (rw e, refl, rw e))
+  underflows : part 4 4 din ≡ 13 → Obeyed (old 1 0 0) Rtsl (new 1 0 0) (Broke StackUnder)
+  underflows e = (refl, refl, (rw e, refl, rw e), refl)
 
   halts : part 4 4 din ≡ 11 → IsShut (old 1 0 depth) (new 1 0 depth)
   halts e = (rw e, refl, rw e)
@@ -182,7 +182,7 @@ module _ (at done fault stroke x0 y0 x y z first low depth s0 s1 s2 s3 scale din
   lands depth e = rw e
 
   labs : (depth : ℕ) → part 12 4 first ≡ 10
-      → Obeyed {A = Unit {0}} (old 1 1 depth) (Labs target (part 0 12 first) (part 4 4 din)) (new 1 1 depth) Word
+      → Obeyed (old 1 1 depth) (Labs target (part 0 12 first) (part 4 4 din)) (new 1 1 depth) Word
   labs depth e = (
     tt,
     lands depth e
@@ -243,7 +243,7 @@ module _ (at done fault stroke x0 y0 x y z first low depth s0 s1 s2 s3 scale din
   -- as the definition has them
   module _ (x_in : x < 2097152) (y_in : y < 2097152) (scale_in : scale < 16) (low_in : low < 256) (din_in : din < 256) where
     vctr : (op : ℕ) → op < 10 → part 12 4 first ≡ op
-        → Obeyed {A = Unit {0}} (old 1 1 depth)
+        → Obeyed (old 1 1 depth)
         (Vctr (part 12 4 first) (signed (part 2 1 din) (joined 8 low (part 0 2 din))) (signed (part 10 1 first) (part 0 10 first)) (part 4 4 din))
         (new 1 1 depth) Word
     vctr op less e =
@@ -265,7 +265,7 @@ module _ (at done fault stroke x0 y0 x y z first low depth s0 s1 s2 s3 scale din
     svec_by = 2 + 2 * part 3 1 low + part 3 1 din
 
     svec : part 4 4 din ≡ 15
-        → Obeyed {A = Unit {0}} (old 1 0 depth)
+        → Obeyed (old 1 0 depth)
         (Svec svec_by (signed (part 2 1 low) (part 0 2 low)) (signed (part 2 1 din) (part 0 2 din)) (part 4 4 low))
         (new 1 0 depth) Word
     svec e =
@@ -333,18 +333,18 @@ module _ (at done fault stroke x0 y0 x y z first low depth s0 s1 s2 s3 scale din
     }
 
     goes : (second depth : ℕ) (history : List Told) (code : Instr) → Before second depth history
-        → Completes (kept second first) word code → Obeyed {A = Unit {0}} (old 1 second depth) code (new 1 second depth) Word
+        → Completes (kept second first) word code → Obeyed (old 1 second depth) code (new 1 second depth) Word
         → tells_now second depth ≡ More → Fits (now second depth) → Next second depth history
     goes second depth history code after completes obeyed more fits =
-        let answers = obeys (Unit {0}) word (old 1 second depth) (new 1 second depth) code Word refl completes obeyed history (Some low) after in
-        finish second depth history after answers.0 (more ∙ more_is _ answers.1) fits
+        let answers = obeys word (old 1 second depth) (new 1 second depth) code Word refl completes obeyed history (Some low) after in
+        finish second depth history after answers.0 (more ∙ reply_is _ _ answers.1) fits
 
     breaks : (second depth : ℕ) (history : List Told) (code : Instr) (fault : GenFault) → Before second depth history
-        → Completes (kept second first) word code → Obeyed {A = Unit {0}} (old 1 second depth) code (new 1 second depth) (Broke fault)
+        → Completes (kept second first) word code → Obeyed (old 1 second depth) code (new 1 second depth) (Broke fault)
         → tells_now second depth ≡ Fails fault → Fits (now second depth) → Next second depth history
     breaks second depth history code fault after completes obeyed fails fits =
-        let answers = obeys (Unit {0}) word (old 1 second depth) (new 1 second depth) code (Broke fault) refl completes obeyed history (Some low) after in
-        finish second depth history after answers.0 (fails ∙ fails_is fault _ answers.1) fits
+        let answers = obeys word (old 1 second depth) (new 1 second depth) code (Broke fault) refl completes obeyed history (Some low) after in
+        finish second depth history after answers.0 (fails ∙ reply_is _ _ answers.1) fits
 
     -- a first word
     more_first : (op : ℕ) → op < 11 → part 4 4 din ≡ op → tells_now 0 depth ≡ More
@@ -378,7 +378,7 @@ module _ (at done fault stroke x0 y0 x y z first low depth s0 s1 s2 s3 scale din
     step_first : depth ≤ 4 → (history : List Told) → Before 0 depth history → din < 176 → Next 0 depth history
     step_first deep history after less =
         let answers = first_word low_in less history (Some low) after in
-        finish 0 depth history after answers.0 (more_first (part 4 4 din) (omega arith) refl ∙ more_is _ answers.1)
+        finish 0 depth history after answers.0 (more_first (part 4 4 din) (omega arith) refl ∙ reply_is _ _ answers.1)
         (fits_first (part 4 4 din) depth deep (omega arith) refl)
 
     -- a HALT

@@ -1,16 +1,14 @@
 -- Registers that fit, and what is told of a HALT.
-use Rattle.std.proofs.Common.{◌≡◌, ℕ, zero, suc, ◌<◌, ◌≤◌, true, false, List, [], ◌∷◌, Option, Some, None, refl, sym, ap, ◌∙◌, subst, arith, append-nil}
+use Rattle.std.proofs.Common.{◌≡◌, ℕ, zero, suc, ◌<◌, ◌≤◌, true, false, List, [], ◌∷◌, Option, Some, None, sym, ap, ◌∙◌, subst, arith, append-nil}
 use Rattle.std.specs.Prelude.{IsSome}
 use Rattle.dvg_code.specs.declared.instr.Instr.TheVariants.{Halt}
 use Rattle.dvg_code.specs.Spelling.{Spells}
-use Rattle.dvg_gen.specs.declared.taken.Taken.{Taken}
-use Rattle.dvg_gen.specs.declared.taken.Taken.TheVariants.{Word, Broke}
-use Rattle.dvg_gen.specs.declared.taken.GenFault.{GenFault}
+use Rattle.dvg_gen.specs.declared.taken.Step.{Step}
 use Rattle.dvg_gen.specs.declared.stroke.Stroke.{Stroke}
-use Rattle.dvg_gen.specs.Machine.{Machine, HasTaken, IsInRun, IsReply}
+use Rattle.dvg_gen.specs.Machine.{Machine, HasTaken, IsInRun, answer_by}
 use Rattle.dvg_gen.specs.Obeyed.{IsShut}
 use Rattle.dvg_gen.specs.Run.{Visit, Adds, one, next, strokes}
-use Rattle.dvg_gen.specs.Told.{Told, Fed, takes, grown, Reply, More, Drew, Fails, reply}
+use Rattle.dvg_gen.specs.Told.{Told, Fed, takes, grown, Reply, Drew, reply}
 use Rattle.dvg_code.specs.declared.instr.Instr.{Instr}
 use Rattle.dvg_gen.specs.Bytes.{Met, Whole}
 use Rattle.dvg_gen.specs.Completing.{Completes}
@@ -69,24 +67,17 @@ halted_at history low old machine word after opened none spells shut =
       replies = ap Drew (inside.strokes ∙ sym (append-nil (strokes after.run.first visits)));
     }
 
--- an answer as a reply
-pub more_is : (r : Reply) → IsReply {A = Unit {0}} Word r → More ≡ r
-more_is More is = refl
-more_is (Drew list) is = absurd is
-more_is (Fails fault) is = absurd is
-
-pub fails_is : (fault : GenFault) (r : Reply) → IsReply {A = Unit {0}} (Broke fault) r → Fails fault ≡ r
-fails_is fault More is = absurd is
-fails_is fault (Drew list) is = absurd is
-fails_is fault (Fails other) is = ap Fails is
+-- the reply that is answered
+pub reply_is : (answer replied : Reply) → Some answer ≡ Some replied → answer ≡ replied
+reply_is answer replied e = cc
 
 -- the claim of a word that completes an instruction
-pub obeys : (A : Type 0) (w : ℕ) (old machine : Machine) (code : Instr) (taken : Taken A) → old.is_open ≡ true → Completes old.held w code
-    → Obeyed old code machine taken → Claim (Whole (Some w)) old machine taken
-obeys A w old machine code taken opened completes obeyed history low after =
+pub obeys : (w : ℕ) (old machine : Machine) (code : Instr) (step : Step) → old.is_open ≡ true → Completes old.held w code
+    → Obeyed old code machine step → Claim (Whole (Some w)) old machine (answer_by step machine.picture)
+obeys w old machine code step opened completes obeyed history low after =
     let held = (after.stands.running (sym after.stands.is_open ∙ opened)).held in
     let completes_run : Completes after.run.held w code = subst (λ h. Completes h w code) held completes in
-    at_obeyed history low old after opened w code completes_run A machine taken obeyed
+    at_obeyed history low old after opened w code completes_run machine step obeyed
 
 -- what a clock does
 pub record Stepped (pins : Pins) (old : Core) (drew : List Stroke) (history : List Told) (low : Option ℕ) : Type 0 where

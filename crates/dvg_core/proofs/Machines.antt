@@ -8,7 +8,7 @@ use Rattle.dvg_core.specs.Core.{Core}
 abbrev pub kept : ℕ → ℕ → Option ℕ
 kept flag value = if nat_eq flag 0 then None else Some value
 
--- the machine of a core whose run drew this
+-- the machine of a core whose run drew this; it keeps no picture
 abbrev pub machine_of : Core → List Stroke → Machine
 machine_of core drew = record {
   at = core.at;
@@ -17,5 +17,6 @@ machine_of core drew = record {
   stack = take core.depth (core.s0 ∷ core.s1 ∷ core.s2 ∷ core.s3 ∷ []);
   beam = record { x = core.x; y = core.y; scale = core.scale };
   strokes = drew;
+  picture = [];
   is_open = not (nat_eq core.is_open 0);
 }

@@ -1,10 +1,9 @@
 -- A run that is followed: the words of private contracts.
 use Rattle.std.specs.Prelude.{◌≡◌, ℕ, List, Option, None, Bool, true}
-use Rattle.dvg_gen.specs.declared.taken.Taken.{Taken}
 use Rattle.dvg_gen.specs.Bytes.{Whole}
 use Rattle.dvg_gen.specs.Machine.{Machine, HasTaken, Answers}
 use Rattle.dvg_gen.specs.Run.{Visit, Goes, fate, Runs}
-use Rattle.dvg_gen.specs.Told.{Told, Newest, nothing}
+use Rattle.dvg_gen.specs.Told.{Told, Newest, Reply, nothing}
 use Rattle.dvg_dump.specs.declared.ran.Ran.{Ran}
 use Rattle.dvg_dump.specs.Ends.{End, Ends}
 use Rattle.dvg_dump.specs.Traces.{trace_if}
@@ -23,9 +22,9 @@ pub record Follows (memory : ℕ → Option ℕ) (machine : Machine) (words : �
   pub goes : fate visits ≡ Goes
 
 -- a whole word or a hole was told, with the answer that the definition gives to it
-abbrev pub TakesWord : {A : Type 0} → Machine → Option ℕ → Machine → Taken A → Type 0
-TakesWord old word new taken = (history : List Told) → HasTaken old history None
-    → Answers history (Whole word) new taken
+abbrev pub TakesWord : Machine → Option ℕ → Machine → Option Reply → Type 0
+TakesWord old word new answer = (history : List Told) → HasTaken old history None
+    → Answers history (Whole word) new answer
 
 -- a run over a memory, of which these instructions are recorded, ends so
 abbrev pub TellsRun : Bool → (ℕ → Option ℕ) → List Ran → End → Type 0

@@ -1,11 +1,9 @@
 -- What follows a run beside its generator: the words of private contracts.
 use Rattle.std.specs.Prelude.{◌≡◌, ◌<◌, ◌+◌, ℕ, List, [], ◌∷◌, ◌++◌, Option, Some, None, Bool, true, false}
 use Rattle.dvg_gen.specs.declared.beam.Beam.{Beam}
-use Rattle.dvg_gen.specs.declared.taken.Taken.{Taken}
-use Rattle.dvg_gen.specs.declared.taken.Taken.TheVariants.{Low, Word, Done, Broke}
 use Rattle.dvg_gen.specs.Machine.{Machine}
 use Rattle.dvg_gen.specs.Run.{Visit, next, wanted, beam_after, Adds, Runs}
-use Rattle.dvg_gen.specs.Told.{nothing}
+use Rattle.dvg_gen.specs.Told.{Reply, More, Drew, Fails, nothing}
 use Rattle.dvg_dump.specs.declared.ran.Ran.{Ran}
 use Rattle.dvg_dump.specs.declared.tracer.Spelled.{Spelled}
 use Rattle.dvg_dump.specs.Ends.{Ends, Complete, Broken}
@@ -90,22 +88,20 @@ TracesWord address (Some word) old new = (traces : Bool) (memory : ℕ → Optio
 
 -- the run over a memory after a word more, by the answer: it goes on, or that was how it ends; and
 -- what was recorded then
-abbrev pub Stepped : {A : Type 0} → (memory : ℕ → Option ℕ) → Bool → (words address : ℕ) → Machine → Trail → Taken A
-    → Type 0
-Stepped memory traces words address machine trail Low = ⊥
-Stepped memory traces words address machine trail Word =
+abbrev pub Stepped : (memory : ℕ → Option ℕ) → Bool → (words address : ℕ) → Machine → Trail → Option Reply → Type 0
+Stepped memory traces words address machine trail None = ⊥
+Stepped memory traces words address machine trail (Some More) =
     (visits : List Visit) × (held : Option ℕ) × Follows memory machine (words + 1) visits held
     × Traces traces memory visits held trail
-Stepped memory traces words address machine trail (Done list) =
-    (visits : List Visit) × Ends memory visits (Complete (words + 1) list.items)
+Stepped memory traces words address machine trail (Some (Drew list)) =
+    (visits : List Visit) × Ends memory visits (Complete (words + 1) list)
     × (trail.ran ≡ trace_if traces memory visits)
-Stepped memory traces words address machine trail (Broke fault) =
+Stepped memory traces words address machine trail (Some (Fails fault)) =
     (visits : List Visit) × Ends memory visits (Broken address fault) × (trail.ran ≡ trace_if traces memory visits)
 
 -- a generator and a tracer that follow a run follow it a word more
-abbrev pub Steps : {A : Type 0} → (memory : ℕ → Option ℕ) → (address : ℕ) → Machine → Trail → Machine → Trail → Taken A
-    → Type 0
-Steps memory address old trail new trail' taken = (traces : Bool) (words : ℕ) (visits : List Visit) (held : Option ℕ)
+abbrev pub Steps : (memory : ℕ → Option ℕ) → (address : ℕ) → Machine → Trail → Machine → Trail → Option Reply → Type 0
+Steps memory address old trail new trail' answer = (traces : Bool) (words : ℕ) (visits : List Visit) (held : Option ℕ)
     → words < 65536 → address ≡ wanted visits held
     → Follows memory old words visits held → Traces traces memory visits held trail
-    → Stepped memory traces words address new trail' taken
+    → Stepped memory traces words address new trail' answer

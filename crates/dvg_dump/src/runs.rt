@@ -2,7 +2,7 @@
 ghost use Rattle.std.specs.Prelude.{◌≡◌, ◌<◌, List, IfOk, IsOk, None, false, true};
 ghost use Rattle.dvg_gen.specs.Bytes.{Whole};
 ghost use Rattle.dvg_gen.specs.Completing.{DrawsNothing};
-ghost use Rattle.dvg_gen.specs.Machine.{HasTaken};
+ghost use Rattle.dvg_gen.specs.Machine.{HasTaken, answer_by};
 ghost use Rattle.dvg_gen.specs.Run.{Visit};
 ghost use Rattle.dvg_gen.specs.Told.{Told};
 ghost use Rattle.dvg_dump.specs.Endings.{end_of};
@@ -16,7 +16,7 @@ use crate::ending::Ending;
 use crate::ran::Ran;
 use crate::tracer::Tracer;
 use dvg_code::OutOfMemory;
-use dvg_gen::{Generator, Taken};
+use dvg_gen::{Generator, Step};
 use dvg_mem::fetch;
 use std::alloc::{Allocator, Global};
 
@@ -38,20 +38,21 @@ pub struct Traced<A: Allocator = Global> {
 fn take_word<A: Allocator + Copy>(
     generator: &mut Generator<A>,
     word: Option<u16>,
-) -> Result<Taken<A>, OutOfMemory>
+) -> Result<Step, OutOfMemory>
     requires open { generator.old.is_open ≡ true }
     requires stands { (history : List Told) × HasTaken generator.old history None }
-    ensures takes { IfOk result (TakesWord generator.old word generator.new) }
+    ensures takes { IfOk result (λ step. TakesWord generator.old word generator.new
+        (answer_by step generator.new.picture)) }
     ensures room { DrawsNothing generator.old.held (Whole word) → IsOk result }
 {
     let Some(word) = word else {
-        return generator.take_byte(None);
+        return generator.feed(None);
     };
     let [low, high] = word.to_le_bytes();
-    let Taken::Low = generator.take_byte(Some(low))? else {
+    let Step::Low = generator.feed(Some(low))? else {
         unreachable!()
     };
-    generator.take_byte(Some(high))
+    generator.feed(Some(high))
 }
 
 impl<A: Allocator + Copy> Dump<A> {
@@ -105,14 +106,14 @@ impl<A: Allocator + Copy> Dump<A> {
                 unreachable!()
             };
             match self.step(address, &mut generator, tracer)? {
-                Taken::Low | Taken::Word => {}
-                Taken::Done(strokes) => {
+                Step::Low | Step::Word => {}
+                Step::Done => {
                     return Ok(Ending::Finished {
                         words: words + 1,
-                        strokes,
+                        strokes: generator.take_picture(),
                     });
                 }
-                Taken::Broke(fault) => return Ok(Ending::Broke { address, fault }),
+                Step::Broke(fault) => return Ok(Ending::Broke { address, fault }),
             }
         }
         Ok(Ending::Endless)
@@ -124,12 +125,13 @@ impl<A: Allocator + Copy> Dump<A> {
         address: u16,
         generator: &mut Generator<A>,
         tracer: &mut Tracer<A>,
-    ) -> Result<Taken<A>, OutOfMemory>
+    ) -> Result<Step, OutOfMemory>
         requires address { address < 4096 }
         requires open { generator.old.is_open ≡ true }
         requires stands { (history : List Told) × HasTaken generator.old history None }
-        ensures steps { IfOk result (Steps
-            (memory_of self.now) address generator.old tracer.old generator.new tracer.new) }
+        ensures steps { IfOk result (λ step. Steps (memory_of self.now) address
+            generator.old tracer.old generator.new tracer.new
+            (answer_by step generator.new.picture)) }
         ensures room { tracer.old.traces ≡ false
             → DrawsNothing generator.old.held (Whole (memory_of self.now address)) → IsOk result }
     {

@@ -12,3 +12,5 @@ pub mod Inside
 pub mod Seen
 pub mod Moves
 pub mod Counted
+pub mod Turns
+pub mod Alike

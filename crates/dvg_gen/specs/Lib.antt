@@ -13,4 +13,5 @@ pub mod Moving
 pub mod Counting
 pub mod Saved
 pub mod Numbers
+pub mod Wrapping
 pub mod Laws

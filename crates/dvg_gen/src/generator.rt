@@ -472,8 +472,16 @@ impl<A: Allocator + Copy> Generator<A> {
         }
     }
 
+    // Returns the address after that of the next word.
+    pub(crate) fn next_address(&self) -> u16
+        ensures value { result ≡ spec.on self.now.at 1 }
+        ensures in_range { result < 4096 }
+    {
+        after(self.at)
+    }
+
     // Goes to `address`, where the next instruction begins.
-    fn jump(&mut self, address: u16) -> Step
+    pub(crate) fn jump(&mut self, address: u16) -> Step
         requires in_range { address ≤ 4095 }
         ensures moved { self.new ≡ record self.old { at = address; held = None; low = None } }
         ensures goes_on { result ≡ Step.Word }

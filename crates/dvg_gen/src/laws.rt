@@ -3,6 +3,7 @@ ghost use Rattle.dvg_gen.specs.Laws.{AnswersACall, BeamOfAll, CountersOfMoves, C
 ghost use Rattle.dvg_gen.specs.Laws.{LeastResidue, OneCall, OneRun, OneRunOfMemory, PastTheCall};
 ghost use Rattle.dvg_gen.specs.Laws.{RunInRange, SeenDraws, StaysInRange, StrokesAreSeen};
 ghost use Rattle.dvg_gen.specs.Laws.{UnseenDrawsNothing};
+ghost use Rattle.dvg_gen.specs.Wrapping.{WrapsAlike, WrapsUnbroken};
 
 /// A moved position is exact: the least residue modulo 2,097,152 of the old one and the way.
 pub fn least_residue()
@@ -62,4 +63,11 @@ pub fn seen_moves()
 pub fn counted_moves()
     ensures step { CountersOfMoves }
     ensures run { CountersOfRun }
+{}
+
+/// Where the stack wraps, no call and no return breaks a run. What breaks at no stack is as it is
+/// without a stack that wraps.
+pub fn wrapping_stack()
+    ensures unbroken { WrapsUnbroken }
+    ensures alike { WrapsAlike }
 {}

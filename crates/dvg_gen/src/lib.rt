@@ -17,6 +17,7 @@ mod moving;
 mod state;
 mod stroke;
 mod taken;
+mod wrapping;
 
 pub use beam::Beam;
 pub use counters::Counters;
@@ -25,3 +26,4 @@ pub use moving::Move;
 pub use state::GeneratorState;
 pub use stroke::Stroke;
 pub use taken::{GenFault, Step, Taken};
+pub use wrapping::WrappingGenerator;

@@ -1,7 +1,7 @@
 //! Which word a generator takes next and what it returns, of which a trace never shows a fault or a
 //! word at any address.
 use dvg_code::OutOfMemory;
-use dvg_gen::{GenFault, Generator, Stroke, Taken};
+use dvg_gen::{GenFault, Generator, Step, Stroke, Taken};
 use std::alloc::Global;
 
 /// What the generator returned last.
@@ -99,39 +99,57 @@ fn addresses_are_wanted(rt: HostRuntime) -> Result<(), OutOfMemory> {
     Ok(())
 }
 
-/// Hands `byte` to `generator`. Returns what the run drew, or `None` where the byte finishes none.
-fn finished(
-    generator: &mut Generator<Global>,
-    byte: u8,
-) -> Result<Option<Vec<Stroke, Global>>, OutOfMemory> {
-    if generator.halted() {
-        return Ok(None);
-    }
-    Ok(match generator.take_byte(Some(byte))? {
-        Taken::Done(strokes) => Some(strokes),
-        _ => None,
-    })
-}
-
 /// A frame of one vector: LABS, VCTR and HALT.
 const FRAME: [u16; 5] = [0xA190, 0x0200, 0x9064, 0x7464, 0xB000];
 
+/// Feeds `words` to `generator`, low byte first. Returns what the last byte led to.
+fn fed(generator: &mut Generator<Global>, words: &[u16]) -> Result<Option<Step>, OutOfMemory> {
+    let mut last = None;
+    for word in words {
+        for byte in word.to_le_bytes() {
+            if generator.halted() {
+                return Ok(None);
+            }
+            last = Some(generator.feed(Some(byte))?);
+        }
+    }
+    Ok(last)
+}
+
 #[test]
-fn a_list_that_comes_back_is_used_again(rt: HostRuntime) -> Result<(), OutOfMemory> {
+fn the_picture_stays_until_the_next_halt(rt: HostRuntime) -> Result<(), OutOfMemory> {
+    let mut generator = Generator::new(rt.alloc());
+    assert!(rt; generator.picture().is_empty());
+    generator.start();
+    assert_eq!(rt; fed(&mut generator, &FRAME)?, Some(Step::Done));
+    let first = generator.picture().first().copied();
+    assert!(rt; first.is_some());
+    // A new run draws beside it, and one that is reset or breaks leaves it.
+    generator.start();
+    assert_eq!(rt; fed(&mut generator, &FRAME[..4])?, Some(Step::Word));
+    assert_eq!(rt; generator.strokes().len(), 1);
+    assert_eq!(rt; generator.picture().first().copied(), first);
+    generator.reset();
+    generator.start();
+    let broke = Some(Step::Broke(GenFault::StackUnder));
+    assert_eq!(rt; fed(&mut generator, &[0xD000])?, broke);
+    assert_eq!(rt; generator.picture().len(), 1);
+    // The next HALT has no stroke.
+    generator.start();
+    assert_eq!(rt; fed(&mut generator, &[0xB000])?, Some(Step::Done));
+    assert!(rt; generator.picture().is_empty());
+    Ok(())
+}
+
+#[test]
+fn a_picture_is_taken_once(rt: HostRuntime) -> Result<(), OutOfMemory> {
     let mut generator = Generator::new(rt.alloc());
     generator.start();
-    let drawn = told_words(&mut generator, &FRAME)?;
-    generator.start();
-    let _ = told_words(&mut generator, &FRAME[..4])?;
-    let _ = told(&mut generator, Some(0x00))?;
-    let strokes = finished(&mut generator, 0xB0)?;
-    assert!(rt; strokes.is_some());
-    if let Some(strokes) = strokes {
-        assert_eq!(rt; strokes.len(), 1);
-        generator.reuse(strokes);
-    }
-    generator.start();
-    assert_eq!(rt; told_words(&mut generator, &FRAME)?, drawn);
+    assert_eq!(rt; fed(&mut generator, &FRAME)?, Some(Step::Done));
+    assert!(rt; generator.strokes().is_empty());
+    assert_eq!(rt; generator.take_picture().len(), 1);
+    assert!(rt; generator.picture().is_empty());
+    assert!(rt; generator.take_picture().is_empty());
     Ok(())
 }
 

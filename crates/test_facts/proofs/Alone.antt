@@ -6,9 +6,9 @@ use Rattle.std.specs.Prelude.{Result, Ok, Err, IfOk}
 use Rattle.dvg_gen.specs.declared.stroke.Stroke.{Stroke}
 use Rattle.dvg_gen.specs.declared.taken.Taken.{Taken}
 use Rattle.dvg_gen.specs.declared.taken.Taken.TheVariants.{Low, Word, Done, Broke}
-use Rattle.dvg_gen.specs.Machine.{Machine, HasTaken}
+use Rattle.dvg_gen.specs.Machine.{Machine, HasTaken, answer_of}
 use Rattle.dvg_gen.specs.Run.{Visit, Goes, Runs, begins, fate}
-use Rattle.dvg_gen.specs.Told.{Start, new, starts, wants}
+use Rattle.dvg_gen.specs.Told.{Start, Reply, new, starts, wants}
 use Rattle.dvg_gen.proofs.Same.{before_end, leaves_same}
 use Rattle.dvg_dump.specs.Ends.{End, Complete, Broken, Ends, halts, breaks, meets_hole, goes_on}
 use Rattle.dvg_dump.specs.Following.{Follows, TakesWord}
@@ -16,6 +16,13 @@ use Rattle.dvg_dump.specs.Tracing.{Stepped, Traces, TracesWord, fresh}
 use Rattle.dvg_dump.proofs.OneEnd.{one_end}
 use Rattle.dvg_dump.proofs.Stepping.{stepped, wanted_is}
 use Rattle.test_facts.specs.Facts.{IsComplete}
+
+-- only a low byte is answered by none
+pub was_low : {A : Type 0} (taken : Taken A) → answer_of taken ≡ None → taken ≡ Low
+was_low Low is = refl
+was_low Word is = absurd (cc)
+was_low (Done list) is = absurd (cc)
+was_low (Broke fault) is = absurd (cc)
 
 -- it is in the run, after this many words
 pub record InRun (memory : ℕ → Option ℕ) (words : ℕ) (machine : Machine) : Type 0 where
@@ -58,28 +65,29 @@ traced_none address (Some word) =
 
 module _ {memory : ℕ → Option ℕ} {words : ℕ} {old : Machine} (run : InRun memory words old) where
   -- what comes of a word
-  pub by_word : {A : Type 0} (address : ℕ) (word : Option ℕ) (machine : Machine) (taken : Taken A)
+  pub by_word : (address : ℕ) (word : Option ℕ) (machine : Machine) (answer : Option Reply)
       → words < 65536 → Some address ≡ wants run.follows.after.run → memory address ≡ word
-      → TakesWord old word machine taken
-      → Stepped memory false words address machine (fresh false) taken
-  by_word address word machine taken few at there takes =
+      → TakesWord old word machine answer
+      → Stepped memory false words address machine (fresh false) answer
+  by_word address word machine answer few at there takes =
       let here = wanted_is address run.follows at in
       let none = traces_none memory run.visits run.held false refl in
-      stepped false word machine (fresh false) (fresh false) taken few here there run.follows takes
+      stepped false word machine (fresh false) (fresh false) answer few here there run.follows takes
       (traced_none address word) none
 
 -- the run goes on
 pub goes_further : {A : Type 0} (memory : ℕ → Option ℕ) (machine : Machine) (words address : ℕ)
     (taken : Taken A) → taken ≡ Word
-    → Stepped memory false words address machine (fresh false) taken
+    → Stepped memory false words address machine (fresh false) (answer_of taken)
     → InRun memory (words + 1) machine
 goes_further memory machine words address taken word step =
-    let next = subst (λ t. Stepped memory false words address machine (fresh false) t) word step in
+    let next =
+    subst (λ t. Stepped memory false words address machine (fresh false) (answer_of t)) word step in
     record { visits = next.0; held = next.1; follows = next.2 }
 
 -- a run that is complete later doesn't break
 pub never_breaks : {A : Type 0} (memory : ℕ → Option ℕ) (machine : Machine) (words address : ℕ)
-    (taken : Taken A) → Stepped memory false words address machine (fresh false) taken
+    (taken : Taken A) → Stepped memory false words address machine (fresh false) (answer_of taken)
     → (taken ≡ Word → ⊥) → ((list : Vec Stroke A) → taken ≡ Done list → ⊥)
     → (most : ℕ) (drew : List Stroke) → IsComplete memory most drew → ⊥
 never_breaks memory machine words address Low step not_word not_done most drew complete = step

@@ -14,7 +14,7 @@ use Rattle.dvg_gen.specs.declared.taken.Taken.{Taken}
 use Rattle.dvg_gen.specs.declared.taken.Taken.TheVariants.{Low, Word, Done, Broke}
 use Rattle.dvg_gen.specs.declared.taken.GenFault.TheVariants.{StackUnder}
 use Rattle.dvg_gen.specs.Told.{Fails}
-use Rattle.dvg_gen.specs.Machine.{IsReply}
+use Rattle.dvg_gen.specs.Machine.{answer_of}
 use Rattle.dvg_read.specs.declared.fault.TraceFault.{TraceFault}
 use Rattle.dvg_read.specs.declared.fault.TraceFault.TheVariants as of_trace
 use Rattle.dvg_read.specs.Texts.{lines, unpassed}
@@ -111,11 +111,12 @@ two_run R image (x ∷ y ∷ []) e legal = two R image legal.2.2 (x ∷ y ∷ []
 two_run R image (x ∷ y ∷ z ∷ more) e legal = absurd (omega arith)
 
 -- what breaks by an empty stack
-pub stack_under : {A : Type 0} (taken : Taken A) → IsReply taken (Fails StackUnder) → taken ≡ Broke StackUnder
-stack_under Low r = absurd r
-stack_under Word r = absurd r
-stack_under (Done list) r = absurd r
-stack_under (Broke fault) r = ap Broke r
+pub stack_under : {A : Type 0} (taken : Taken A) → answer_of taken ≡ Some (Fails StackUnder)
+    → taken ≡ Broke StackUnder
+stack_under Low r = absurd (cc)
+stack_under Word r = absurd (cc)
+stack_under (Done list) r = absurd (cc)
+stack_under (Broke fault) r = let same : fault ≡ StackUnder = cc in ap Broke same
 
 -- nothing is stated of the ROM
 abbrev unstated : RomText

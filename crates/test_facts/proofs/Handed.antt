@@ -1,41 +1,44 @@
--- What a generator answers where it hands strokes into a list.
-use Rattle.std.proofs.Common.{◌≡◌, ℕ, List, [], ◌∷◌, Option, Some, None, Vec, refl, lit<, lit≤}
-use Rattle.std.specs.Prelude.{Result, Ok, Err, IfOk}
+-- What a generator answers where it keeps the picture.
+use Rattle.std.proofs.Common.{◌≡◌, ℕ, List, [], ◌∷◌, Option, Some, None, refl, ap, ◌∙◌, lit<, lit≤}
+use Rattle.std.specs.Prelude.{Result, Ok, Err, IfOk, OnErr}
 use Rattle.dvg_code.specs.Spelling.{halt}
 use Rattle.dvg_gen.specs.declared.stroke.Stroke.{Stroke}
 use Rattle.dvg_gen.specs.declared.taken.Step.{Step}
 use Rattle.dvg_gen.specs.declared.taken.Step.TheVariants as step
-use Rattle.dvg_gen.specs.declared.taken.Taken.TheVariants.{Low}
 use Rattle.dvg_gen.specs.Bytes.{met}
-use Rattle.dvg_gen.specs.Machine.{Machine, HasTaken, Answers, IsReply, taken_by}
+use Rattle.dvg_gen.specs.Machine.{Machine, HasTaken, Answers, answer_by, picture_after}
 use Rattle.dvg_gen.specs.Run.{one}
-use Rattle.dvg_gen.specs.Told.{Told, Start, Drew, new, starts, takes}
+use Rattle.dvg_gen.specs.Told.{Told, Start, Drew, starts, takes}
 use Rattle.dvg_gen.proofs.Rows.{HasReply}
+use Rattle.dvg_dump.proofs.Stepping.{is_low}
 
 -- after a start, B000 finishes a run that drew nothing
-pub halt_first : HasReply (Start ∷ []) (Some 0xB000) (Drew [])
-halt_first = record { run = _; leaves = takes (starts new) refl (one (halt (lit≤ tt) (lit< tt))); answered = refl }
+pub halt_after : {machine : Machine} {low : Option ℕ} (history : List Told) → HasTaken machine history low
+    → HasReply (Start ∷ history) (Some 0xB000) (Drew [])
+halt_after history after =
+    record { run = _; leaves = takes (starts after.leaves) refl (one (halt (lit≤ tt) (lit< tt))); answered = refl }
 
--- what is answered as a low byte is one
-pub is_low : {A : Type 0} (answer : Step) (list : Vec Stroke A) → taken_by answer list ≡ Low → answer ≡ step.Low
-is_low step.Low list is = refl
-is_low step.Word list is = cc
-is_low step.Done list is = cc
-is_low (step.Broke fault) list is = cc
-
--- so is the answer to the first byte of a run
-pub low_result : {A E : Type 0} (result : Result Step E) (list : Vec Stroke A) {old : Machine} (machine : Machine)
-    (history : List Told) (byte : ℕ) → HasTaken old history None
+-- the answer to the first byte of a run is that to a low byte
+pub low_result : {E : Type 0} (result : Result Step E) {old : Machine} (machine : Machine) (history : List Told)
+    (byte : ℕ) → HasTaken old history None
     → IfOk result (λ answer. (told : List Told) (low : Option ℕ) → HasTaken old told low
-    → Answers told (met low (Some byte)) machine (taken_by answer list))
+    → Answers told (met low (Some byte)) machine (answer_by answer machine.picture))
     → IfOk result (λ answer. answer ≡ step.Low)
-low_result (Ok answer) list machine history byte after answers = is_low answer list (answers history None after).1
-low_result (Err e) list machine history byte after answers = answers
+low_result (Ok answer) machine history byte after answers =
+    is_low answer machine.picture (answers history None after).1
+low_result (Err e) machine history byte after answers = answers
+
+-- which leaves the picture, as a refusal does
+pub low_kept : {E : Type 0} (result : Result Step E) (old machine : Machine)
+    → IfOk result (λ answer. answer ≡ step.Low) → IfOk result (λ answer. machine.picture ≡ picture_after answer old)
+    → OnErr result (machine ≡ old) → machine.picture ≡ old.picture
+low_kept (Ok answer) old machine low picture refused = picture ∙ ap (λ a. picture_after a old) low
+low_kept (Err e) old machine low picture refused = ap (λ m. m.picture) refused
 
 -- what is answered as an empty picture is one
-pub is_empty : {A : Type 0} (answer : Step) (list : Vec Stroke A) → IsReply (taken_by answer list) (Drew [])
-    → (answer ≡ step.Done) × (list.items ≡ [])
-is_empty step.Low list replies = absurd replies
-is_empty step.Word list replies = absurd replies
-is_empty step.Done list replies = (refl, replies)
-is_empty (step.Broke fault) list replies = absurd replies
+pub is_empty : (answer : Step) (picture : List Stroke) → answer_by answer picture ≡ Some (Drew [])
+    → (answer ≡ step.Done) × (picture ≡ [])
+is_empty step.Low picture replies = absurd (cc)
+is_empty step.Word picture replies = absurd (cc)
+is_empty step.Done picture replies = (refl, cc)
+is_empty (step.Broke fault) picture replies = absurd (cc)

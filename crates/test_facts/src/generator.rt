@@ -24,31 +24,28 @@ pub fn return_without_a_call(alloc: Global) -> Option<Taken<Global>>
     }
 }
 
-/// The first byte of a run is the low one of its word, and leaves `drawn` alone, into which strokes
-/// are handed.
-pub fn low_byte_hands_out_nothing(
-    alloc: Global,
-    drawn: &mut Vec<Stroke>,
-) -> Result<Step, OutOfMemory>
-    ensures step { IfOk result (λ step. step ≡ Step.Low) }
-    ensures drawn { drawn.new ≡ drawn.old }
+/// The first byte of a run is the low one of its word, and leaves the picture alone.
+pub fn low_byte_keeps_the_picture(generator: &mut Generator<Global>) -> Result<Step, OutOfMemory>
+    ensures step { (history : List Told) (low : Option ℕ) → HasTaken generator.old history low
+        → IfOk result (λ step. step ≡ Step.Low) }
+    ensures picture { (history : List Told) (low : Option ℕ) → HasTaken generator.old history low
+        → generator.new.picture ≡ generator.old.picture }
 {
-    let mut generator = Generator::new(alloc);
     generator.start();
-    generator.take_into(Some(0x00), drawn)
+    generator.feed(Some(0x00))
 }
 
-/// A HALT at word zero hands out an empty picture in place of what was in `drawn`. Returns `None`
-/// where the generator asks for memory, which it doesn't.
-pub fn halt_hands_out_an_empty_picture(alloc: Global, drawn: &mut Vec<Stroke>) -> Option<Step>
-    ensures { IfSome result (λ step. (step ≡ Step.Done) × (drawn.new.items ≡ [])) }
+/// A HALT at word zero makes an empty picture, in place of the one before. Returns `None` where the
+/// generator asks for memory, which it doesn't.
+pub fn halt_makes_an_empty_picture(generator: &mut Generator<Global>) -> Option<Step>
+    ensures { (history : List Told) (low : Option ℕ) → HasTaken generator.old history low
+        → IfSome result (λ step. (step ≡ Step.Done) × (generator.new.picture ≡ [])) }
 {
-    let mut generator = Generator::new(alloc);
     generator.start();
-    let Ok(Step::Low) = generator.take_into(Some(0x00), drawn) else {
+    let Ok(Step::Low) = generator.feed(Some(0x00)) else {
         return None;
     };
-    match generator.take_into(Some(0xB0), drawn) {
+    match generator.feed(Some(0xB0)) {
         Ok(step) => Some(step),
         Err(_) => None,
     }
@@ -76,14 +73,18 @@ pub fn short_vector_moves(alloc: Global) -> Option<Option<Move>>
     Some(generator.move_by(Some(0xF0)))
 }
 
-/// A generator into which what another one has was put, strokes apart, has it, and each one that
-/// stands after some history can be put into another.
-pub fn goes_on_as_saved(saved: &Generator<Global>, other: &mut Generator<Global>) -> bool
-    ensures same { IsTrue result → other.new ≡ record saved.now { strokes = [] } }
+/// A generator into which what another one has was put, strokes and picture apart, has it, and each
+/// one that stands after some history can be put into another.
+pub fn goes_on_as_saved(
+    alloc: Global,
+    saved: &Generator<Global>,
+    other: &mut Generator<Global>,
+) -> bool
+    ensures same { IsTrue result
+        → other.new ≡ record saved.now { strokes = []; picture = other.old.picture } }
     ensures done { (history : List Told) (low : Option ℕ) → HasTaken saved.now history low
         → IsTrue result }
 {
     let state = saved.state();
-    let none = other.no_strokes();
-    other.resume(&state, none)
+    other.resume(&state, Vec::new(alloc))
 }

@@ -3,7 +3,7 @@ ghost use Rattle.std.specs.Prelude.{◌≡◌, ◌≤◌, ℕ, List, [], IfOk, N
 ghost use Rattle.test_facts.specs.Facts.{IsComplete, level_frame, level_strokes, nested_frame};
 ghost use Rattle.test_facts.specs.Facts.{shape_frame, shape_strokes, vector_frame, vector_strokes};
 ghost use Rattle.dvg_dump.specs.Following.{TakesWord};
-ghost use Rattle.dvg_gen.specs.Machine.{HasTaken};
+ghost use Rattle.dvg_gen.specs.Machine.{HasTaken, answer_of};
 ghost use Rattle.dvg_gen.specs.Told.{Told};
 ghost use Rattle.dvg_gen.specs.declared.stroke.Stroke as stroke;
 ghost use Rattle.dvg_mem.specs.Memory.{fetched, rom_word};
@@ -39,7 +39,8 @@ fn take_word(
 ) -> Result<Taken<Global>, OutOfMemory>
     requires open { generator.old.is_open ≡ true }
     requires stands { (history : List Told) × HasTaken generator.old history None }
-    ensures { IfOk result (TakesWord generator.old word generator.new) }
+    ensures { IfOk result (λ taken. TakesWord generator.old word generator.new
+        (answer_of taken)) }
 {
     let Some(word) = word else {
         return generator.take_byte(None);

@@ -1,4 +1,5 @@
 use Rattle.std.proofs.Common.{◌≤◌, [], None, false, sym, subst, ◌∙◌, arith}
+use Rattle.dvg_gen.specs.Machine.{answer_of}
 use Rattle.dvg_dump.specs.Tracing.{Stepped, fresh}
 use Rattle.dvg_mem.specs.Memory.{fetched}
 use Rattle.test_facts.proofs.Alone.{at_first, by_word, goes_further, never_breaks, not_so_long}
@@ -15,12 +16,12 @@ returns-in-Done c =
     let at = c.wants.ensures.address run.follows.history None run.follows.after in
     let step =
     by_word run c.in-Some.address c.fetch-word.result c.take_word.new.generator
-    c.in_ok-take_word.field-0 (omega arith) (sym c.in-Some.is ∙ at)
+    (answer_of c.in_ok-take_word.field-0) (omega arith) (sym c.in-Some.is ∙ at)
     (sym c.fetch-word.ensures.word) c.in_ok-take_word.ensures in
     let done =
     subst
-    (Stepped (fetched c.args.store.now c.args.rom.now) false c.loop-words.words c.in-Some.address
-    c.take_word.new.generator (fresh false))
+    (λ taken. Stepped (fetched c.args.store.now c.args.rom.now) false c.loop-words.words
+    c.in-Some.address c.take_word.new.generator (fresh false) (answer_of taken))
     c.in-Done.is step in
     (done.0, done.1)
 
@@ -30,7 +31,7 @@ unreachable-requires-in_default-2 c =
     let at = c.wants.ensures.address run.follows.history None run.follows.after in
     let step =
     by_word run c.in-Some.address c.fetch-word.result c.take_word.new.generator
-    c.in_ok-take_word.field-0 (omega arith) (sym c.in-Some.is ∙ at)
+    (answer_of c.in_ok-take_word.field-0) (omega arith) (sym c.in-Some.is ∙ at)
     (sym c.fetch-word.ensures.word) c.in_ok-take_word.ensures in
     never_breaks _ _ _ _ _ step c.in_default-2.not-Word c.in_default-2.not-Done
     c.requires.0 c.requires.1 c.requires.3
@@ -41,7 +42,7 @@ loop-words-preserved c =
     let at = c.wants.ensures.address run.follows.history None run.follows.after in
     let step =
     by_word run c.in-Some.address c.fetch-word.result c.take_word.new.generator
-    c.in_ok-take_word.field-0 (omega arith) (sym c.in-Some.is ∙ at)
+    (answer_of c.in_ok-take_word.field-0) (omega arith) (sym c.in-Some.is ∙ at)
     (sym c.fetch-word.ensures.word) c.in_ok-take_word.ensures in
     goes_further _ _ c.loop-words.words _ _ c.in-Word.is step
 

@@ -1,9 +1,10 @@
 use Rattle.std.proofs.Common.{◌≡◌, ◌∙◌, ℕ, [], None, arith, subst}
 use Rattle.std.specs.Prelude.{IfSome, false, true}
 use Rattle.dvg_code.specs.Words.{IsWord}
+use Rattle.dvg_gen.specs.Machine.{answer_by}
 use Rattle.dvg_dump.specs.Memory.{memory_of}
 use Rattle.dvg_dump.proofs.Silent.{all_fit, draws_nothing}
-use Rattle.dvg_dump.proofs.Stepping.{followed_first, goes_further, next_step, no_end}
+use Rattle.dvg_dump.proofs.Stepping.{ends_with, followed_first, goes_further, next_step, no_end}
 use Rattle.dvg_dump.proofs.dump.Dump.run_beside.Goals as goal
 
 pub loop-words-init : goal.loop-words-init
@@ -12,18 +13,25 @@ loop-words-init g c = followed_first _ _ c.args.tracer.now (c.start.ensures.stan
 pub returns-in-Done-clause-tells : goal.returns-in-Done-clause-tells
 returns-in-Done-clause-tells g c =
     let f = c.loop-words.invariant in
-    rw c.in-Done.is at (next_step c.step.new.generator c.step.new.tracer c.in_ok-step.field-0 f c.loop-words-test.true (c.in-Some.ensures.address f.follows.history None f.follows.after) c.in_ok-step.ensures.steps)
+    let new = c.step.new.generator in
+    let ended =
+    next_step new c.step.new.tracer (answer_by c.in_ok-step.field-0 new.picture) f c.loop-words-test.true
+    (c.in-Some.ensures.address f.follows.history None f.follows.after) c.in_ok-step.ensures.steps in
+    ends_with (memory_of c.args.self.now) _ _ c.in-Some.address new c.step.new.tracer c.in_ok-step.field-0 _ c.in-Done.is
+    c.take_picture.ensures.taken ended
 
 pub returns-in-Broke-clause-tells : goal.returns-in-Broke-clause-tells
 returns-in-Broke-clause-tells g c =
     let f = c.loop-words.invariant in
-    rw c.in-Broke.is at (next_step c.step.new.generator c.step.new.tracer c.in_ok-step.field-0 f c.loop-words-test.true (c.in-Some.ensures.address f.follows.history None f.follows.after) c.in_ok-step.ensures.steps)
+    let new = c.step.new.generator in
+    rw c.in-Broke.is at (next_step new c.step.new.tracer (answer_by c.in_ok-step.field-0 new.picture) f c.loop-words-test.true (c.in-Some.ensures.address f.follows.history None f.follows.after) c.in_ok-step.ensures.steps)
 
 pub loop-words-preserved : goal.loop-words-preserved
 loop-words-preserved g c =
     let f = c.loop-words.invariant in
+    let new = c.step.new.generator in
     goes_further c.loop-words.words c.in-Some.address c.in_ok-step.field-0 c.in-Low.is
-    (next_step c.step.new.generator c.step.new.tracer c.in_ok-step.field-0 f c.loop-words-test.true (c.in-Some.ensures.address f.follows.history None f.follows.after) c.in_ok-step.ensures.steps)
+    (next_step new c.step.new.tracer (answer_by c.in_ok-step.field-0 new.picture) f c.loop-words-test.true (c.in-Some.ensures.address f.follows.history None f.follows.after) c.in_ok-step.ensures.steps)
 
 pub returns-clause-tells : goal.returns-clause-tells
 returns-clause-tells g c = let all : c.loop-words.words ≡ 65536 = omega arith in no_end all c.loop-words.invariant
