@@ -29,8 +29,8 @@
  *   4. Call with DVG_STACK_KB KB of room on the stack.
  *
  * On the heap a device takes at most DVG_HEAP_KB KB, and besides these what is staged, and 20 bytes
- * for each stroke of the run that is open, of the newest finished one, and of a state that is told;
- * the room for strokes doubles as it grows. Memory is taken by dvg_new, by what stages bytes or opens something, by
+ * for each stroke of the run that is open, of the newest finished one, and of a state that is told.
+ * The room for strokes doubles as it grows, and serves the runs after it. Memory is taken by dvg_new, by what stages bytes or opens something, by
  * what restores a state, and by a fetch that completes a stroke; an offer, a tick and a strobe take none, nor does a reset, but
  * for the bytes that dvg_reset_all stages. What was open leaves its memory to what is opened next,
  * until dvg_shut or dvg_free. */
@@ -132,6 +132,7 @@ enum dvg_request {
     DVG_REQUEST_RETURN_TO = 27,
     DVG_REQUEST_STATE = 28,
     DVG_REQUEST_RESUME = 29,
+    DVG_REQUEST_OPEN_WRAPPING = 30,
     DVG_REQUEST_TELL_STATE = 35
 };
 
@@ -475,6 +476,16 @@ static inline dvg_answer dvg_open_generator(dvg *device)
     return dvg_ask(device, DVG_REQUEST_OPEN_GENERATOR);
 }
 
+/* Opens a generator alone whose stack wraps, as hardware and emulators go on: a fifth call overwrites
+ * the oldest return address, and a return without a call goes to the address that was returned to
+ * last, or saved before; at first all four are 000. A start and a reset leave them. So no call and
+ * no return breaks a run. All else is as of dvg_open_generator, but dvg_held_by has 4 `returns`, and
+ * it isn't saved. DVG_OPENED. */
+static inline dvg_answer dvg_open_wrapping(dvg *device)
+{
+    return dvg_ask(device, DVG_REQUEST_OPEN_WRAPPING);
+}
+
 /* Opens a judge of moments, which was told nothing. DVG_OPENED; DVG_NO_MEMORY. */
 static inline dvg_answer dvg_open_judge(dvg *device)
 {
@@ -788,7 +799,7 @@ static inline uint64_t dvg_saved_number(const uint8_t *bytes)
  * bytes the state has: at most DVG_SAVED_BYTES, and 16 for each stroke that the open run drew so
  * far. Where `size` is less, ask again with as much room: what was written is no whole state.
  * `bytes` may be null where `size` is 0. The generator stays as it is. Returns 0 where no generator
- * alone is open. */
+ * alone is open, or one whose stack wraps. */
 static inline size_t dvg_save(dvg *device, uint8_t *bytes, size_t size)
 {
     uint64_t parts = 0;

@@ -134,6 +134,12 @@ public:
     }
 };
 
+/* A generator alone whose stack wraps: dvg_open_wrapping. It isn't saved. std::bad_alloc. */
+class WrappingGenerator : public Generator {
+public:
+    WrappingGenerator() { expect_opened(dvg_open_wrapping(*this)); }
+};
+
 /* A judge of moments. std::bad_alloc. */
 class Judge : public Device {
 public:

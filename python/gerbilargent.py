@@ -473,6 +473,7 @@ class _Request(enum.IntEnum):
     RETURN_TO = 27
     STATE = 28
     RESUME = 29
+    OPEN_WRAPPING = 30
     TELL_STATE = 35
 
 
@@ -915,11 +916,17 @@ class Driver(_Device):
 
 
 class Generator(_Device):
-    """A generator alone, halted, with the beam at 0, 0 and scale 0. It is handed its bytes."""
+    """A generator alone, halted, with the beam at 0, 0 and scale 0. It is handed its bytes.
 
-    def __init__(self) -> None:
+    With `wraps` its stack wraps, as hardware and emulators go on: a fifth call overwrites the oldest
+    return address, and a return without a call goes to the address that was returned to last, or
+    saved before. At first all four are 000; a start and a reset leave them.
+    """
+
+    def __init__(self, wraps: bool = False) -> None:
         super().__init__()
-        self._ask(_Request.OPEN_GENERATOR)
+        self.wraps = bool(wraps)
+        self._ask(_Request.OPEN_WRAPPING if wraps else _Request.OPEN_GENERATOR)
 
     @property
     def wanted(self) -> Optional[Wanted]:
@@ -979,7 +986,7 @@ class Generator(_Device):
     def return_addresses(self) -> "list[int]":
         """Its return addresses, at most four word addresses, the newest last, to which RTSL leads.
 
-        After a run they stay until the next one.
+        After a run they stay until the next one. Where the stack wraps there are always four.
         """
         count = self._turn(_Request.HOLDS) >> 32 & 0x7
         found = [self._turn(_Request.RETURN_TO, number << 8) for number in range(count)]
@@ -988,8 +995,12 @@ class Generator(_Device):
     def save(self) -> bytes:
         """Its state as bytes, also amid a run, with what the run drew so far.
 
-        `restore` takes them, in any process. Strokes of a finished run are no part of it.
+        `restore` takes them, in any process. Strokes of a finished run are no part of it. One whose
+        stack wraps isn't saved: BadState.
         """
+        self._own_thread()
+        if self._device is not None and self.wraps:
+            raise BadState("a generator whose stack wraps isn't saved")
         parts = array("Q", [0])
         whole = False
         while not whole:
@@ -1004,7 +1015,7 @@ class Generator(_Device):
     def restore(self, saved: Bytes) -> None:
         """Goes on as the generator whose `save` gave these bytes. BadState, OutOfMemory.
 
-        Then it has no strokes of a finished run.
+        Then it has no strokes of a finished run, and its stack doesn't wrap.
         """
         parts = _saved_parts(_bytes("a saved state", saved))
         try:
@@ -1012,6 +1023,7 @@ class Generator(_Device):
             for answer in parts:
                 self._entry(answer)
             self._ask(_Request.RESUME)
+            self.wraps = False
         except Error:
             # What was told is forgotten.
             self._turn(_Request.TELL_STATE)

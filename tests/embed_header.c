@@ -77,6 +77,7 @@ static void test_events(dvg *none)
     ASKS(5, dvg_reset_generator(none));
     ASKS(6, dvg_reset_processor(none));
     ASKS(14, dvg_open_generator(none));
+    ASKS(30, dvg_open_wrapping(none));
     ASKS(15, dvg_shut(none));
     ASKS(16, dvg_wants(none));
 }
@@ -270,6 +271,8 @@ static void test_kind_texts(void)
     TEXT(dvg_kind_text, DVG_NOTHING, "nothing");
     TEXT(dvg_kind_text, DVG_HOLDS, "holds");
     TEXT(dvg_kind_text, DVG_RETURNS_TO, "returns to");
+    TEXT(dvg_kind_text, DVG_STATE, "state");
+    TEXT(dvg_kind_text, DVG_NO_STATE, "no state");
     TEXT(dvg_kind_text, DVG_UNKNOWN, "unknown");
     TEXT(dvg_kind_text, DVG_NO_MEMORY, "no memory");
 }
@@ -294,7 +297,7 @@ static void test_other_texts(void)
     bool all = true;
     for (uint64_t number = 0; number < 256; number++) {
         const char *text = dvg_kind_text(dvg_answer_of(number).kind);
-        bool named = number <= DVG_RETURNS_TO || number >= DVG_UNKNOWN;
+        bool named = number <= DVG_NO_STATE || number >= DVG_UNKNOWN;
         all = all && text != NULL && (strcmp(text, "no kind") == 0) != named;
     }
     expect(all, "each kind has a text, and a number that is none has 'no kind'");

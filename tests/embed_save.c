@@ -227,7 +227,7 @@ static void try_random(dvg *device)
 /* Whether the saved state is as long as the header says. */
 static bool is_as_long(dvg *device, size_t size)
 {
-    dvg_held held;
+    dvg_held held = {0, 0, 0, false, false, 0, 0};
     bool is_open = dvg_wants(device).kind == DVG_WANTED;
     dvg_held_by(device, &held);
     return size == DVG_SAVED_BYTES - 8 * (size_t)(4 - held.returns) + (is_open ? 16 * drawn : 0);
@@ -268,6 +268,8 @@ static void test_others(dvg *one, dvg *other)
     expect(dvg_tick(one).kind == DVG_CLOSED, "and nothing opens");
     dvg_open_world(one, NULL, rom, sizeof rom);
     expect(dvg_save(one, bytes, sizeof bytes) == 0, "a world isn't saved");
+    dvg_open_wrapping(other);
+    expect(dvg_save(other, bytes, sizeof bytes) == 0, "nor is a stack that wraps");
     dvg_open_generator(other);
     expect(dvg_save(other, bytes, sizeof bytes) == 24, "a new generator has 24 bytes");
     expect(dvg_restore(one, bytes, 24).kind == DVG_OPENED, "they are restored where a world is");

@@ -4,7 +4,8 @@
  *   embed_storm COUNT SEED
  *
  * Storm number i, from 0, comes from SEED + i alone. A storm begins with nothing open, with a
- * world, with a driver, with a generator or with a judge, by turns. The first line of what is
+ * world, with a driver, with a generator, with a judge or with a generator whose stack wraps, by
+ * turns. The first line of what is
  * written says how often each kind of answer came, and the last is 'N passed, M failed'.
  *
  * It is linked with the archive of the port and with the twin, twin/src/port.rs, and compiled
@@ -131,7 +132,8 @@ static void fill_rom(void)
 
 /* --- Requests --- */
 
-/* What was opened last: nothing, a world, a driver, a generator or a judge. */
+/* What was opened last: nothing, a world, a driver, a generator, a judge or a generator whose stack
+ * wraps. */
 static int opened = 0;
 
 /* Opens something. */
@@ -151,6 +153,7 @@ static void open_part(dvg *pair, int part)
         break;
     case 2: answer = dvg_open_driver(pair, rom, length); break;
     case 3: answer = dvg_open_generator(pair); break;
+    case 5: answer = dvg_open_wrapping(pair); break;
     default: answer = dvg_open_judge(pair); break;
     }
     if (answer.kind == DVG_OPENED || answer.kind == DVG_CLOSED) {
@@ -380,7 +383,7 @@ static void blow_as_usual(dvg *pair)
 static void blow(dvg *pair)
 {
     switch (below(64)) {
-    case 0: open_part(pair, below(5)); break;
+    case 0: open_part(pair, below(6)); break;
     case 1: dvg_reset_all(pair, below(2) == 0 ? NULL : memory); break;
     case 2: dvg_reset_generator(pair); break;
     case 3: dvg_reset_processor(pair); break;
@@ -419,8 +422,8 @@ static bool storm(uint64_t seed)
         printf("FAILED: no device was made\n");
         return false;
     }
-    if (seed % 5 != 0) {
-        open_part(&pair, (int)(seed % 5));
+    if (seed % 6 != 0) {
+        open_part(&pair, (int)(seed % 6));
     }
     for (int i = 0; i < BLOWS && equal; i++) {
         blow(&pair);

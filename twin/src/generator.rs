@@ -71,6 +71,8 @@ pub struct Generator {
     beam: Beam,
     strokes: Vec<Stroke>,
     open: bool,
+    /// Whether the stack is four registers in a circle, so that no call and no return breaks a run.
+    wraps: bool,
 }
 
 /// What a generator keeps, as it is saved: its strokes are those of an open run.
@@ -109,7 +111,22 @@ impl Generator {
             },
             strokes: Vec::new(),
             open: false,
+            wraps: false,
         }
+    }
+
+    /// A generator whose stack wraps.
+    #[allow(dead_code)]
+    pub fn wrapping() -> Generator {
+        Generator {
+            wraps: true,
+            ..Generator::new()
+        }
+    }
+
+    #[allow(dead_code)]
+    pub fn wraps(&self) -> bool {
+        self.wraps
     }
 
     /// Halts, and drops the strokes and the low byte of an open run.
@@ -125,7 +142,9 @@ impl Generator {
         self.place = 0;
         self.held = None;
         self.low = None;
-        self.saved = 0;
+        if !self.wraps {
+            self.saved = 0;
+        }
         self.open = true;
     }
 
@@ -164,8 +183,14 @@ impl Generator {
 
     /// The return addresses, the newest last.
     #[allow(dead_code)]
-    pub fn return_addresses(&self) -> &[u16] {
-        &self.stack[..self.saved]
+    pub fn return_addresses(&self) -> Vec<u16> {
+        if self.wraps {
+            (self.saved..self.saved + 4)
+                .map(|at| self.stack[at % 4])
+                .collect()
+        } else {
+            self.stack[..self.saved].to_vec()
+        }
     }
 
     /// What it keeps.
@@ -176,7 +201,7 @@ impl Generator {
             at: (self.place + u16::from(self.held.is_some())) % 4096,
             held: self.held,
             low: self.low,
-            return_addresses: self.return_addresses().to_vec(),
+            return_addresses: self.return_addresses(),
             beam: self.beam,
             strokes: if self.open {
                 self.strokes.clone()
@@ -211,6 +236,7 @@ impl Generator {
             beam: state.beam,
             strokes: state.strokes,
             open: state.open,
+            wraps: false,
         })
     }
 
@@ -283,6 +309,15 @@ impl Generator {
             0xB => {
                 self.open = false;
                 Taken::Done(std::mem::take(&mut self.strokes))
+            }
+            0xC if self.wraps => {
+                self.stack[self.saved] = (self.place + 1) % 4096;
+                self.saved = (self.saved + 1) % 4;
+                self.go_on(word & 0xFFF)
+            }
+            0xD if self.wraps => {
+                self.saved = (self.saved + 3) % 4;
+                self.go_on(self.stack[self.saved])
             }
             0xC if self.saved == self.stack.len() => self.broke(GenFault::StackOver),
             0xC => {

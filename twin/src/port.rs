@@ -15,7 +15,7 @@ use crate::world::{Entry, World};
 const MOST_STAGED: usize = 6144;
 
 /// The numbers of requests: the greatest one but the last, and that one, by which a state is told.
-const LAST_REQUEST: u8 = 29;
+const LAST_REQUEST: u8 = 30;
 const TELL_STATE: u8 = 35;
 
 /// The word address after a ROM's last word.
@@ -302,9 +302,9 @@ impl Lone {
     }
 
     fn return_to(&self, request: u64) -> u64 {
-        let newest_first = self.generator.return_addresses().iter().rev();
-        match newest_first.copied().nth((request >> 8) as usize) {
-            Some(address) => packed(34, address, 0),
+        let addresses = self.generator.return_addresses();
+        match addresses.iter().rev().nth((request >> 8) as usize) {
+            Some(address) => packed(34, *address, 0),
             None => NOTHING,
         }
     }
@@ -350,7 +350,7 @@ impl Lone {
             25 => point(self.generator.beam()),
             26 => self.holds(),
             27 => self.return_to(request),
-            28 => self.part(request),
+            28 if !self.generator.wraps() => self.part(request),
             _ => UNKNOWN,
         }
     }
@@ -551,6 +551,10 @@ impl Device {
                 CLOSED
             }
             29 => self.resume(),
+            30 => self.open(Some(Part::Generator(Lone {
+                generator: Generator::wrapping(),
+                last: 0,
+            }))),
             TELL_STATE => self.tell_state(request),
             17 => self.picture.len() as u64,
             18 => self.stroke(request).map_or(0, |stroke| {

@@ -1,5 +1,4 @@
 pub mod Found
-pub mod Left
 pub mod Judged
 pub mod Told
 pub mod Parted

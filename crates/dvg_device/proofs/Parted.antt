@@ -25,8 +25,9 @@ all_reversed P ns all k d within =
     subst P (sym (get_or-reverse ns k d inside)) (all (length ns - 1 - k) d (omega (arith, inside)))
 
 -- a generator can be in a state exactly where it can stand so
-pub can_stand : (state : GeneratorState) (strokes : List Stroke) → IsState state → CanStand (machine_of state strokes)
-can_stand state strokes is = record {
+pub can_stand : (state : GeneratorState) (strokes picture : List Stroke) → IsState state
+    → CanStand (machine_of state strokes picture)
+can_stand state strokes picture is = record {
   kept = record {
     at_is_address = is.kept.at_is_address;
     held_is_first = is.kept.held_is_first;
@@ -36,8 +37,9 @@ can_stand state strokes is = record {
   beam = is.beam;
 }
 
-pub is_state : (state : GeneratorState) (strokes : List Stroke) → CanStand (machine_of state strokes) → IsState state
-is_state state strokes can = record {
+pub is_state : (state : GeneratorState) (strokes picture : List Stroke) → CanStand (machine_of state strokes picture)
+    → IsState state
+is_state state strokes picture can = record {
   kept = record {
     at_is_address = can.kept.at_is_address;
     held_is_first = can.kept.held_is_first;
@@ -126,10 +128,10 @@ drawn_in_range machine history low after = by_flag machine.is_open refl
 
 -- a machine in a state of a generator can be saved
 pub can_be_saved : (machine : Machine) (state : GeneratorState) (history : List Told) (low : Option ℕ)
-    → machine ≡ machine_of state machine.strokes → IsState state → length state.return_addresses.items ≤ 4
+    → machine ≡ machine_of state machine.strokes machine.picture → IsState state → length state.return_addresses.items ≤ 4
     → IfSome state.low (λ byte. byte < 0x100) → HasTaken machine history low → CanBeSaved machine
 can_be_saved machine state history low is valid four byte after = record {
-  stands = subst CanStand (sym is) (can_stand state machine.strokes valid);
+  stands = subst CanStand (sym is) (can_stand state machine.strokes machine.picture valid);
   four = subst (λ (m : Machine). length m.stack ≤ 4) (sym is) (rw length-reverse four);
   byte = subst (λ (m : Machine). IfSome m.low (λ byte. byte < 0x100)) (sym is) byte;
   strokes = drawn_in_range machine history low after;

@@ -184,8 +184,8 @@ all_read machine can =
 -- where a generator can stand so, it begins
 opened : (between new : Held) (reply : Reply) → CanStand between.waiting → ResumeAnswers between new reply
     → (reply ≡ Opened)
-    × (new ≡ record between { picture = []; waiting = unbegun; open_part = Generator between.waiting })
-opened between new Opened can answers = (refl, answers.1)
+    × (new ≡ record between { waiting = unbegun; open_part = Generator between.waiting })
+opened between new Opened can answers = (refl, answers.2)
 opened between new NoState can answers = absurd (answers.0 can)
 opened between new _ can answers = absurd answers
 
@@ -196,7 +196,7 @@ restored_stands machine can = record { kept = can.kept; waits = can.waits; beam 
 pub resumed : (machine : Machine) (old between new : Held) (reply : Reply) → CanBeSaved machine
     → ToldInTurn (map word_of (parts_of machine)) old between → Answered Resume between new reply
     → (reply ≡ Opened)
-    × (new ≡ record old { picture = []; waiting = unbegun; open_part = Generator (restored machine) })
+    × (new ≡ record old { waiting = unbegun; open_part = Generator (restored machine) })
 resumed machine old between new reply can in_turn answers =
     let is : between ≡ record old { waiting = restored machine } =
     told_parts (parts_of machine) old between (all_read machine can) in_turn
@@ -206,5 +206,5 @@ resumed machine old between new reply can in_turn answers =
     let done = opened between new reply stands answers in (
       done.0,
       done.1 ∙ ap (λ (held : Held). record held
-          { picture = []; waiting = unbegun; open_part = Generator held.waiting }) is,
+          { waiting = unbegun; open_part = Generator held.waiting }) is,
     )

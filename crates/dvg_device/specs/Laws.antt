@@ -50,16 +50,15 @@ ToldInTurn [] old new = new ≡ old
 ToldInTurn (word ∷ words) old new = (between : Held) × Answered (TellState word) old between (Came Cleared)
     × ToldInTurn words between new
 
--- the machine that goes on from a saved state: strokes of a run that is over aren't saved
+-- the machine that goes on from a saved state: neither strokes of a run that is over nor the picture are saved
 abbrev pub restored : Machine → Machine
-restored machine = record machine { strokes = drawn_so_far machine }
+restored machine = record machine { strokes = drawn_so_far machine; picture = [] }
 
 -- a device that was told a machine's state, and resumes, opens a generator that stands as the machine does
 abbrev pub IsRestored : Type 0
 IsRestored = (machine : Machine) (old between new : Held) (reply : Reply) → CanBeSaved machine
     → ToldInTurn (map word_of (parts_of machine)) old between → Answered Resume between new reply
-    → (reply ≡ Opened)
-    × (new ≡ record old { picture = []; waiting = unbegun; open_part = Generator (restored machine) })
+    → (reply ≡ Opened) × (new ≡ record old { waiting = unbegun; open_part = Generator (restored machine) })
 
 -- it stands after each history after which the machine stands
 abbrev pub GoesOn : Type 0

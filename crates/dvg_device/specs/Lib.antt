@@ -6,6 +6,7 @@ pub mod States
 pub mod Worlds
 pub mod Drivers
 pub mod Generators
+pub mod Wrappings
 pub mod Judges
 pub mod Devices
 pub mod Parts

@@ -95,6 +95,7 @@ unbegun = record {
   stack = [];
   beam = record { x = 0; y = 0; scale = 0 };
   strokes = [];
+  picture = [];
   is_open = false;
 }
 

@@ -29,6 +29,7 @@ mod reply;
 mod request;
 mod state;
 mod waiting;
+mod wrapping;
 
 pub use device::Device;
 pub use judging::JudgeLine;

@@ -1,5 +1,5 @@
 //! A generator alone.
-ghost use Rattle.std.specs.Prelude.{◌≡◌, ◌⊎◌, ◌<◌, slice_get, IfSome};
+ghost use Rattle.std.specs.Prelude.{◌≡◌, ◌⊎◌, ◌<◌, ◌≤◌, slice_get, IfSome};
 ghost use Rattle.dvg_gen.specs.Told.{wants};
 ghost use Rattle.dvg_device.specs.Generators.{Fetches, GeneratorAnswers, LacksRoom, OfHistories};
 ghost use Rattle.dvg_device.specs.Generators.{StaysStill, Tells, told_end, told_held, told_move};
@@ -15,16 +15,10 @@ use dvg_gen::{Generator, GeneratorState, Move, Stroke};
 use dvg_log::Entry;
 use std::alloc::Global;
 
-// Lets `generator` do `request`. Returns the reply. `picture` has the strokes of the newest run
-// that came to a HALT.
+// Lets `generator` do `request`. Returns the reply.
 #[inline(always)]
-pub(crate) fn ask_generator(
-    generator: &mut Generator<Global>,
-    request: Request,
-    picture: &mut Vec<Stroke>,
-) -> Reply
-    ensures { GeneratorAnswers request generator.old generator.new picture.old.items
-        picture.new.items result }
+pub(crate) fn ask_generator(generator: &mut Generator<Global>, request: Request) -> Reply
+    ensures { GeneratorAnswers request generator.old generator.new result }
 {
     match request {
         Request::Strobe => {
@@ -36,7 +30,7 @@ pub(crate) fn ask_generator(
             Reply::Came(Entry::Cleared)
         }
         Request::Wants => wanted(generator),
-        Request::Fetch(byte) => fetch(generator, byte, picture),
+        Request::Fetch(byte) => fetch(generator, byte),
         Request::Ask(question) => tell(generator, question),
         _ => Reply::Unknown,
     }
@@ -50,14 +44,14 @@ pub(crate) fn tell(generator: &Generator<Global>, question: Question) -> Reply
         Question::Move(byte) => move_of(generator.move_by(byte)),
         Question::MoveTo(byte) => end_of(generator.move_by(byte), generator),
         Question::Beam => place_of(generator),
-        Question::Holds => held(generator),
+        Question::Holds => held(generator, generator.return_addresses().len() as u16),
         Question::ReturnTo(i) => return_address(generator, i),
         Question::State(i) => state(generator, i),
     }
 }
 
 // Returns the reply that says which byte `generator` takes next.
-fn wanted(generator: &Generator<Global>) -> Reply
+pub(crate) fn wanted(generator: &Generator<Global>) -> Reply
     ensures { OfHistories generator.now (λ history low run. result ≡ wanting (wants run) low) }
 {
     match generator.wants() {
@@ -94,14 +88,14 @@ fn place_of(generator: &Generator<Global>) -> Reply
     Reply::Point(beam.x, beam.y)
 }
 
-// Returns the reply that says what else `generator` holds.
-fn held(generator: &Generator<Global>) -> Reply
-    ensures { result ≡ told_held generator.now }
+// Returns the reply that says what else `generator` holds, with `returns` return addresses.
+pub(crate) fn held(generator: &Generator<Global>, returns: u16) -> Reply
+    requires { returns ≤ 4 }
+    ensures { result ≡ told_held generator.now returns }
 {
     let first = generator.first_word();
     let scale = u16::from(generator.beam().scale);
     let waits = 0x10 * bit(generator.low_byte().is_some()) + 0x20 * bit(first.is_some());
-    let returns = generator.return_addresses().len() as u16;
     Reply::Holds(first.unwrap_or(0), scale + waits + 0x100 * returns)
 }
 
@@ -209,23 +203,18 @@ fn part_of_stroke(stroke: Stroke, leads: bool) -> StatePart
     }
 }
 
-// Hands `byte` to `generator`, where `None` is a hole. Returns the reply. The strokes of a finished
-// run replace those in `picture`.
+// Hands `byte` to `generator`, where `None` is a hole. Returns the reply.
 #[inline(always)]
-pub(crate) fn fetch(
-    generator: &mut Generator<Global>,
-    byte: Option<u8>,
-    picture: &mut Vec<Stroke>,
-) -> Reply
-    ensures { Fetches byte generator.old generator.new picture.old.items picture.new.items result
-        ⊎ (LacksRoom byte generator.old generator.new picture.old.items picture.new.items result
-        ⊎ StaysStill generator.old generator.new picture.old.items picture.new.items result) }
+pub(crate) fn fetch(generator: &mut Generator<Global>, byte: Option<u8>) -> Reply
+    ensures { Fetches byte generator.old generator.new result
+        ⊎ (LacksRoom byte generator.old generator.new result
+        ⊎ StaysStill generator.old generator.new result) }
 {
     let Some(address) = generator.wants() else {
         return Reply::Came(Entry::Still);
     };
     let low = generator.low_byte();
-    match generator.take_into(byte, picture) {
+    match generator.feed(byte) {
         Ok(step) => Reply::Came(Entry::of_fetch(address, low, byte, step, ())),
         Err(_) => Reply::NoMemory,
     }

@@ -1,12 +1,10 @@
 //! What a device replies.
 ghost use Rattle.std.specs.Prelude.{◌≡◌, ◌≤◌, ◌+◌, ◌*◌};
-ghost use Rattle.dvg_log.specs.Entries.{shown_of};
-ghost use Rattle.dvg_device.specs.Replies.{acted, answered_by, bit, came, judged, number_of};
-ghost use Rattle.dvg_device.specs.Replies.{packed, picture_by, placed, refusal};
+ghost use Rattle.dvg_device.specs.Replies.{acted, bit, came, judged, number_of, packed, placed};
+ghost use Rattle.dvg_device.specs.Replies.{refusal};
 
 use dvg_driver::Action;
 use dvg_frame::{FrameFault, Place};
-use dvg_gen::Stroke;
 use dvg_log::Entry;
 
 /// How the newest run of a log stands, of which a judge was told a line.
@@ -230,32 +228,4 @@ fn acted(action: Action) -> u64
         Action::Sent => packed(8, 0, 0),
         Action::Idle => packed(9, 0, 0),
     }
-}
-
-// Returns the reply to an event whose entry is `entry`. The strokes of a run that came to a HALT
-// replace those in `picture`.
-#[inline(always)]
-pub(crate) fn answered(entry: Entry, picture: &mut Vec<Stroke>) -> Reply
-    ensures answered { result ≡ answered_by (shown_of entry) }
-    ensures picture { picture.new.items ≡ picture_by (shown_of entry) picture.old.items }
-{
-    Reply::Came(match entry {
-        Entry::Offered => Entry::Offered,
-        Entry::Refused(fault) => Entry::Refused(fault),
-        Entry::Busy => Entry::Busy,
-        Entry::Asked => Entry::Asked,
-        Entry::NothingPublished => Entry::NothingPublished,
-        Entry::Acted(action) => Entry::Acted(action),
-        Entry::Started => Entry::Started,
-        Entry::NoStrobe => Entry::NoStrobe,
-        Entry::Low(address, byte) => Entry::Low(address, byte),
-        Entry::Fetched(address, word) => Entry::Fetched(address, word),
-        Entry::Done(address, word, strokes) => {
-            *picture = strokes;
-            Entry::Done(address, word, ())
-        }
-        Entry::Broke(address, fault) => Entry::Broke(address, fault),
-        Entry::Still => Entry::Still,
-        Entry::Cleared => Entry::Cleared,
-    })
 }

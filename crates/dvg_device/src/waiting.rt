@@ -1,5 +1,5 @@
 //! What was told of a generator's state, before one begins in it.
-ghost use Rattle.std.specs.Prelude.{◌≡◌, ◌↔◌, ◌<◌, IsTrue, MatchOption, Some};
+ghost use Rattle.std.specs.Prelude.{◌≡◌, ◌↔◌, ◌<◌, [], IsTrue, MatchOption, Some};
 ghost use Rattle.dvg_gen.specs.Position.{IsStroke};
 ghost use Rattle.dvg_device.specs.States.{CanStand, TakesPart, part_in, unbegun};
 ghost use Rattle.dvg_device.specs.declared.state.StatePart.TheVariants.{Line, ReturnAddress};
@@ -25,12 +25,13 @@ pub(crate) struct Waiting {
 
 /// Contracts see the machine in that state.
 impl Model for Waiting {
+    ghost use Rattle.std.specs.Prelude.{[]};
     ghost use Rattle.dvg_gen.specs.Machine.{Machine};
     ghost use Rattle.dvg_gen.specs.Saved.{machine_of};
 
     ghost Value = { Machine };
 
-    ghost view = { λ waiting. machine_of waiting.state waiting.strokes.items };
+    ghost view = { λ waiting. machine_of waiting.state waiting.strokes.items [] };
 }
 
 impl Waiting {
@@ -120,7 +121,8 @@ impl Waiting {
     // returns `None`, and nothing has changed.
     pub(crate) fn generator(&mut self, alloc: Global) -> Option<Generator<Global>>
         ensures { MatchOption result ((CanStand self.old → ⊥) × (self.new ≡ self.old))
-            (λ generator. CanStand self.old × (generator ≡ self.old) × (self.new ≡ unbegun)) }
+            (λ generator. CanStand self.old × (self.old.picture ≡ []) × (generator ≡ self.old)
+            × (self.new ≡ unbegun)) }
     {
         if !self.state.is_valid() {
             return None;

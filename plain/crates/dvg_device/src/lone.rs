@@ -1,21 +1,14 @@
 //! A generator alone.
-use std::prelude::*;
-
 use crate::reply::{Reply, bit};
 use crate::request::{Question, Request};
 use crate::state::StatePart;
-use dvg_gen::{Generator, Move, Stroke};
+use dvg_gen::{Generator, GeneratorState, Move, Stroke};
 use dvg_log::Entry;
 use std::alloc::Global;
 
-// Lets `generator` do `request`. Returns the reply. `picture` has the strokes of the newest run
-// that came to a HALT.
+// Lets `generator` do `request`. Returns the reply.
 #[inline(always)]
-pub(crate) fn ask_generator(
-    generator: &mut Generator<Global>,
-    request: Request,
-    picture: &mut Vec<Stroke>,
-) -> Reply {
+pub(crate) fn ask_generator(generator: &mut Generator<Global>, request: Request) -> Reply {
     match request {
         Request::Strobe => {
             generator.start();
@@ -26,7 +19,7 @@ pub(crate) fn ask_generator(
             Reply::Came(Entry::Cleared)
         }
         Request::Wants => wanted(generator),
-        Request::Fetch(byte) => fetch(generator, byte, picture),
+        Request::Fetch(byte) => fetch(generator, byte),
         Request::Ask(question) => tell(generator, question),
         _ => Reply::Unknown,
     }
@@ -38,14 +31,14 @@ pub(crate) fn tell(generator: &Generator<Global>, question: Question) -> Reply {
         Question::Move(byte) => move_of(generator.move_by(byte)),
         Question::MoveTo(byte) => end_of(generator.move_by(byte), generator),
         Question::Beam => place_of(generator),
-        Question::Holds => held(generator),
+        Question::Holds => held(generator, generator.return_addresses().len() as u16),
         Question::ReturnTo(i) => return_address(generator, i),
         Question::State(i) => state(generator, i),
     }
 }
 
 // Returns the reply that says which byte `generator` takes next.
-fn wanted(generator: &Generator<Global>) -> Reply {
+pub(crate) fn wanted(generator: &Generator<Global>) -> Reply {
     match generator.wants() {
         Some(address) => Reply::Wants(address, generator.wants_high()),
         None => Reply::Came(Entry::Still),
@@ -74,12 +67,11 @@ fn place_of(generator: &Generator<Global>) -> Reply {
     Reply::Point(beam.x, beam.y)
 }
 
-// Returns the reply that says what else `generator` holds.
-fn held(generator: &Generator<Global>) -> Reply {
+// Returns the reply that says what else `generator` holds, with `returns` return addresses.
+pub(crate) fn held(generator: &Generator<Global>, returns: u16) -> Reply {
     let first = generator.first_word();
     let scale = u16::from(generator.beam().scale);
     let waits = 0x10 * bit(generator.low_byte().is_some()) + 0x20 * bit(first.is_some());
-    let returns = generator.return_addresses().len() as u16;
     Reply::Holds(first.unwrap_or(0), scale + waits + 0x100 * returns)
 }
 
@@ -104,10 +96,12 @@ fn state(generator: &Generator<Global>, i: u64) -> Reply {
 
 // Returns part `i` of the state of `generator`, if there is one.
 fn part(generator: &Generator<Global>, i: u64) -> Option<StatePart> {
-    let addresses = generator.return_addresses();
+    let state = generator.state();
+    is_byte(state.low);
+    let addresses = state.return_addresses.as_slice();
     let returns = addresses.len() as u64;
     if i == 0 {
-        Some(fields(generator))
+        Some(fields(&state))
     } else if i <= returns {
         Some(StatePart::ReturnAddress(addresses[(i - 1) as usize]))
     } else {
@@ -115,9 +109,15 @@ fn part(generator: &Generator<Global>, i: u64) -> Option<StatePart> {
     }
 }
 
-// Returns the first part of the state of `generator`.
-fn fields(generator: &Generator<Global>) -> StatePart {
-    let state = generator.state();
+// For the proof alone: a low byte that waits is below 256, as its type says. Nothing is done.
+fn is_byte(low: Option<u8>) {
+    if let Some(byte) = low {
+        let _ = u16::from(byte);
+    }
+}
+
+// Returns the first part of `state`.
+fn fields(state: &GeneratorState) -> StatePart {
     StatePart::Fields {
         is_open: state.is_open,
         at: state.at,
@@ -160,19 +160,14 @@ fn part_of_stroke(stroke: Stroke, leads: bool) -> StatePart {
     }
 }
 
-// Hands `byte` to `generator`, where `None` is a hole. Returns the reply. The strokes of a finished
-// run replace those in `picture`.
+// Hands `byte` to `generator`, where `None` is a hole. Returns the reply.
 #[inline(always)]
-pub(crate) fn fetch(
-    generator: &mut Generator<Global>,
-    byte: Option<u8>,
-    picture: &mut Vec<Stroke>,
-) -> Reply {
+pub(crate) fn fetch(generator: &mut Generator<Global>, byte: Option<u8>) -> Reply {
     let Some(address) = generator.wants() else {
         return Reply::Came(Entry::Still);
     };
     let low = generator.low_byte();
-    match generator.take_into(byte, picture) {
+    match generator.feed(byte) {
         Ok(step) => Reply::Came(Entry::of_fetch(address, low, byte, step, ())),
         Err(_) => Reply::NoMemory,
     }

@@ -98,6 +98,9 @@ pub enum Request {
     /// 29: a generator alone begins in the state that was told, which is forgotten. Before any part
     /// was told, that is the state of a new one. Strokes of a finished run are no part of it.
     Resume,
+    /// 30: a generator alone whose stack wraps begins, as hardware goes on: halted, with the beam
+    /// at 0, 0 and scale 0, and four return addresses of 0.
+    OpenWrapping,
     /// 35: a part of a state is told. Its word stands above the code, so the number of the reply
     /// that tells a part is the request by which another device is told it. `StatePart` says which
     /// there are.
@@ -157,6 +160,7 @@ impl Request {
             27 => Request::Ask(Question::ReturnTo(number / 0x100)),
             28 => Request::Ask(Question::State(number / 0x100)),
             29 => Request::Resume,
+            30 => Request::OpenWrapping,
             35 => Request::TellState(number / 0x100),
             _ => Request::Unknown,
         }

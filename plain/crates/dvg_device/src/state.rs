@@ -67,7 +67,9 @@ impl StatePart {
             }
             StatePart::ReturnAddress(address) => 1 + 0x100 * u64::from(address),
             StatePart::Place(x, y) => 2 + place_word(x, y),
-            StatePart::Line(x, y, z) => 3 + place_word(x, y) + 0x10_0000_0000_0000 * u64::from(z % 16),
+            StatePart::Line(x, y, z) => 3
+                + place_word(x, y)
+                + 0x10_0000_0000_0000 * u64::from(z % 16),
         }
     }
 }

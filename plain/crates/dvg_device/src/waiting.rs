@@ -39,7 +39,15 @@ impl Waiting {
     // Takes the part that `word` is. Returns the reply. Strokes take memory of `alloc`.
     pub(crate) fn take(&mut self, alloc: Global, word: u64) -> Reply {
         match StatePart::of(word) {
-            Some(StatePart::Fields { is_open, at, held, low, scale }) => {
+            Some(
+                StatePart::Fields {
+                    is_open,
+                    at,
+                    held,
+                    low,
+                    scale,
+                },
+            ) => {
                 *self = Waiting::new(alloc);
                 self.state.is_open = is_open;
                 self.state.at = at;

@@ -6,7 +6,7 @@ use crate::ending::Ending;
 use crate::ran::Ran;
 use crate::tracer::Tracer;
 use dvg_code::OutOfMemory;
-use dvg_gen::{Generator, Taken};
+use dvg_gen::{Generator, Step};
 use dvg_mem::fetch;
 use std::alloc::{Allocator, Global};
 
@@ -29,15 +29,15 @@ pub struct Traced<A: Allocator = Global> {
 fn take_word<A: Allocator + Copy>(
     generator: &mut Generator<A>,
     word: Option<u16>,
-) -> Result<Taken<A>, OutOfMemory> {
+) -> Result<Step, OutOfMemory> {
     let Some(word) = word else {
-        return generator.take_byte(None);
+        return generator.feed(None);
     };
     let [low, high] = word.to_le_bytes();
-    let Taken::Low = generator.take_byte(Some(low))? else {
+    let Step::Low = generator.feed(Some(low))? else {
         unreachable!()
     };
-    generator.take_byte(Some(high))
+    generator.feed(Some(high))
 }
 
 impl<A: Allocator + Copy> Dump<A> {
@@ -74,14 +74,14 @@ impl<A: Allocator + Copy> Dump<A> {
                 unreachable!()
             };
             match self.step(address, &mut generator, tracer)? {
-                Taken::Low | Taken::Word => {}
-                Taken::Done(strokes) => {
+                Step::Low | Step::Word => {}
+                Step::Done => {
                     return Ok(Ending::Finished {
                         words: words + 1,
-                        strokes,
+                        strokes: generator.take_picture(),
                     });
                 }
-                Taken::Broke(fault) => return Ok(Ending::Broke { address, fault }),
+                Step::Broke(fault) => return Ok(Ending::Broke { address, fault }),
             }
         }
         Ok(Ending::Endless)
@@ -93,7 +93,7 @@ impl<A: Allocator + Copy> Dump<A> {
         address: u16,
         generator: &mut Generator<A>,
         tracer: &mut Tracer<A>,
-    ) -> Result<Taken<A>, OutOfMemory> {
+    ) -> Result<Step, OutOfMemory> {
         let word = fetch(&self.ram, &self.rom, address);
         tracer.take(address, word)?;
         take_word(generator, word)

@@ -18,6 +18,7 @@ mod moving;
 mod state;
 mod stroke;
 mod taken;
+mod wrapping;
 
 pub use beam::Beam;
 pub use counters::Counters;
@@ -26,6 +27,7 @@ pub use moving::Move;
 pub use state::GeneratorState;
 pub use stroke::Stroke;
 pub use taken::{GenFault, Step, Taken};
+pub use wrapping::WrappingGenerator;
 
 #[path = "../rust.rs"]
 mod rust;

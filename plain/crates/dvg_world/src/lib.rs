@@ -12,8 +12,6 @@ extern crate plain_std as std;
 
 mod desk;
 mod entries;
-mod fetched;
-mod happens;
 mod judge;
 mod logging;
 mod pictures;

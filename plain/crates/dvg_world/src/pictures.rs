@@ -1,13 +1,12 @@
 //! The pictures of a trace.
 use std::prelude::*;
 
-use crate::happens::happen;
 use crate::world::World;
 use dvg_code::OutOfMemory;
 use dvg_driver::Action;
 use dvg_frame::Op;
 use dvg_gen::Stroke;
-use dvg_log::{Trace, TraceEvent};
+use dvg_log::{Entry, Trace, TraceEvent};
 use dvg_mem::{Image, Rom, Store};
 use std::alloc::{Allocator, Global};
 
@@ -82,14 +81,10 @@ fn fetch_times<S: Store>(
     times: usize,
     pictures: &mut Vec<Picture<S::Alloc>, S::Alloc>,
 ) -> Result<(), OutOfMemory> {
-    let mut drawn = world.no_strokes();
     for done in 0..times {
-        match world.feed(&mut drawn) {
-            Ok(None) => return Ok(()),
-            Ok(Some(fetched)) => {
-                let drew = fetched.take_drawn(&mut drawn, world.no_strokes());
-                keep_picture(pictures, number + done, drew);
-            }
+        match world.fetch() {
+            Ok(Entry::Still) => return Ok(()),
+            Ok(entry) => keep_picture(pictures, number + done, world.take_drawn(entry)),
             Err(refused) => return Err(refused),
         }
     }
@@ -118,8 +113,8 @@ fn draw_run<S: Store>(
         _ => {}
     }
     for done in 0..times {
-        match happen(event, world) {
-            Ok(entry) => keep_picture(pictures, number + done, entry.replace(()).1),
+        match world.happen(event) {
+            Ok(entry) => keep_picture(pictures, number + done, world.take_drawn(entry)),
             Err(refused) => return Err(refused),
         }
     }

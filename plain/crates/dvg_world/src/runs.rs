@@ -1,7 +1,6 @@
 //! Whole runs.
 use std::prelude::*;
 
-use crate::happens::happen;
 use crate::stopped::Stopped;
 use crate::world::World;
 use dvg_log::{OwnEntry, OwnEvent, Trace};
@@ -79,8 +78,8 @@ pub fn run_trace<S: Store>(
     let mut number = 0;
     for run in trace.runs() {
         for _again in 0..run.1 {
-            match happen(run.0, &mut world) {
-                Ok(entry) => entries.push_reserved(entry),
+            match world.happen(run.0) {
+                Ok(entry) => entries.push_reserved(world.own(entry)),
                 Err(_) => {
                     return Err(Stopped {
                         entries,

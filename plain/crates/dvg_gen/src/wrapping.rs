@@ -1,0 +1,95 @@
+//! A generator whose stack wraps.
+use std::prelude::*;
+
+use crate::generator::Generator;
+use crate::stroke::Stroke;
+use crate::taken::Step;
+use dvg_code::OutOfMemory;
+use std::alloc::Allocator;
+
+/// A generator whose stack wraps, for whoever compares with hardware or an emulator that goes on: a
+/// fifth call overwrites the oldest return address, and a return without a call goes to whatever a
+/// register holds. Everything else is as with `Generator`, whose rules the rest of this project has.
+///
+/// The stack is four registers in a circle, round which a counter of two bits goes. A call writes
+/// the address of the next word into the oldest one, and a return goes to the newest one, which is
+/// the oldest then. That the stack wraps silently is how a common arcade emulator has it; that the
+/// registers are 0 at first, and stay at a start and at a reset, is this project's own choice.
+pub struct WrappingGenerator<A: Allocator> {
+    generator: Generator<A>,
+    // The newest first.
+    registers: [u16; 4],
+}
+
+impl<A: Allocator + Copy> WrappingGenerator<A> {
+    /// Returns a new generator, which is halted and has no picture. Its strokes will be in memory of
+    /// `alloc`.
+    pub fn new(alloc: A) -> WrappingGenerator<A> {
+        WrappingGenerator {
+            generator: Generator::new(alloc),
+            registers: [0; 4],
+        }
+    }
+
+    /// Begins a run at word zero, as `Generator::start` does. The registers stay.
+    pub fn start(&mut self) {
+        self.generator.start();
+    }
+
+    /// Halts the generator, as `Generator::reset` does. The registers stay.
+    pub fn reset(&mut self) {
+        self.generator.reset();
+    }
+
+    /// Returns the generator in it, which tells what is wanted, where the beam is, what the next
+    /// byte moves, and the strokes and the picture. It jumps for each call and each return; their
+    /// addresses are in `registers`.
+    #[inline(always)]
+    pub fn generator(&self) -> &Generator<A> {
+        &self.generator
+    }
+
+    /// Returns the registers, the newest return address first.
+    pub fn registers(&self) -> &[u16; 4] {
+        &self.registers
+    }
+
+    /// Takes the picture out, as `Generator::take_picture` does.
+    #[inline(always)]
+    pub fn take_picture(&mut self) -> Vec<Stroke, A> {
+        self.generator.take_picture()
+    }
+
+    /// Takes `byte`, as `Generator::feed` does, and returns what it led to. A run must be open. No
+    /// call and no return breaks it.
+    #[inline(always)]
+    pub fn feed(&mut self, byte: Option<u8>) -> Result<Step, OutOfMemory> {
+        match self.turn_by(byte) {
+            Some(word) => Ok(self.turn(word)),
+            None => self.generator.feed(byte),
+        }
+    }
+
+    // Returns the call or the return that `byte` completes.
+    #[inline(always)]
+    fn turn_by(&self, byte: Option<u8>) -> Option<u16> {
+        let high = byte?;
+        let low = self.generator.low_byte()?;
+        let word = u16::from_le_bytes([low, high]);
+        let is_turn = 0xC000 <= word && word < 0xE000 && self.generator.first_word().is_none();
+        is_turn.then_some(word)
+    }
+
+    // Jumps as `word` does, which is a call or a return.
+    fn turn(&mut self, word: u16) -> Step {
+        if word < 0xD000 {
+            self.registers.rotate_right(1);
+            self.registers[0] = self.generator.next_address();
+            self.generator.jump(word % 4096)
+        } else {
+            let back = self.registers[0];
+            self.registers.rotate_left(1);
+            self.generator.jump(back)
+        }
+    }
+}
