@@ -12,7 +12,7 @@
  *   a driver alone      it is handed the HALT flag and byte 001 of a RAM, and answers what is to
  *                       be written there
  *   a generator alone   it says which byte it wants, is handed that byte, and answers the strokes
- *                       of a whole run
+ *                       of a whole run; it is saved and restored, and there is one whose stack wraps
  *   a judge             it is told the log of any system, a line at a time, and says of each run
  *                       whether it is of one moment
  *

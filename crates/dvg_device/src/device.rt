@@ -305,6 +305,7 @@ impl Device {
     }
 
     // Returns the strokes of the newest run of what is open that came to a HALT.
+    #[inline(always)]
     fn picture(&self) -> &[Stroke]
         ensures { result.now ≡ picture_in self.now.open_part }
     {

@@ -239,6 +239,7 @@ impl Device {
     }
 
     // Returns the strokes of the newest run of what is open that came to a HALT.
+    #[inline(always)]
     fn picture(&self) -> &[Stroke] {
         match &self.part {
             Part::World(world) => world.picture(),
