@@ -21,8 +21,8 @@ class Generator:
         self.memory = memory
         self.x = self.y = self.scale = 0
         self.whole_x = self.whole_y = 0
-        self.at, self.calls = 0, []
-        self.lines, self.strokes, self.units = [], [], []
+        self.at, self.first, self.calls = 0, 0, []
+        self.words, self.lines, self.strokes, self.units = 0, [], [], []
 
     def peek(self):
         """The word that is next."""
@@ -33,28 +33,32 @@ class Generator:
     def take(self):
         """Fetches that word, and goes on to the one after it."""
         word = self.peek()
-        if len(self.lines) == MOST:
+        if self.words == MOST:
             raise Broke('no end')
+        self.words += 1
         self.lines.append('fetched %03X %04X' % (self.at, word))
         self.at = (self.at + 1) % 4096
         return word
 
     def move(self, scale, dx, dy, intensity):
-        before = self.x, self.y, self.whole_x, self.whole_y
+        x, y, whole_x, whole_y = self.x, self.y, self.whole_x, self.whole_y
         power = (scale + self.scale) % 16
         if power < 10:
             dx, dy = dx * 2 ** power, dy * 2 ** power
             self.x, self.y = (self.x + dx) % PLACES, (self.y + dy) % PLACES
             self.whole_x = (self.whole_x + rounded(dx)) % 4096
             self.whole_y = (self.whole_y + rounded(dy)) % 4096
+        exact = '%d %d %d %d %d' % (x, y, self.x, self.y, intensity)
+        whole = '%d %d %d %d %d' % (whole_x, whole_y, self.whole_x, self.whole_y, intensity)
+        self.lines.append('move %03X %s' % (self.first, exact))
+        self.lines.append('count %03X %s' % (self.first, whole))
         if intensity > 0:
-            self.strokes.append('stroke %d %d %d %d %d'
-                                % (*before[:2], self.x, self.y, intensity))
-            self.units.append('units %d %d %d %d %d'
-                              % (*before[2:], self.whole_x, self.whole_y, intensity))
+            self.strokes.append('stroke ' + exact)
+            self.units.append('units ' + whole)
 
     def step(self):
         """One instruction. Returns whether the run goes on."""
+        self.first = self.at
         opcode = self.peek() >> 12
         if opcode == 0xC and len(self.calls) == 4:
             raise Broke('fifth call')
@@ -70,6 +74,7 @@ class Generator:
             self.whole_x, self.whole_y = second & 0xFFF, word & 0xFFF
             self.x, self.y = self.whole_x * 512, self.whole_y * 512
             self.scale = second >> 12
+            self.lines.append('place %03X %d %d' % (self.first, self.x, self.y))
         elif opcode == 0xC:
             self.calls.append(self.at)
             self.at = word & 0xFFF

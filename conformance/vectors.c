@@ -17,9 +17,13 @@ struct vector {
     dvg_answer last;
 };
 
-/* The strokes of the last run in whole units. */
-static dvg_stroke units[MOST_RUN];
-static unsigned units_count;
+/* What the words of the last run did to the beam: of each that ended such an instruction the move,
+ * and the same in whole units. */
+static struct {
+    bool moves;
+    dvg_move move;
+    dvg_stroke units;
+} made[MOST_RUN];
 static uint32_t unit_x, unit_y;
 
 static uint64_t random_state = 1979;
@@ -58,29 +62,28 @@ static uint32_t counted(uint32_t place, uint32_t from, uint32_t to)
     return (place + (uint32_t)dvg_units(from, to)) & 0xFFF;
 }
 
-/* Notes the move that the port makes of this byte, in whole units. */
-static void note_move(dvg *port, uint8_t byte)
+/* Notes the move that the port makes of this byte, if it ends the word of this number. */
+static void note_move(dvg *port, unsigned number, uint8_t byte)
 {
-    dvg_stroke stroke;
+    dvg_stroke units;
     dvg_move move;
-    if (dvg_generator_move(port, byte, &move).kind != DVG_MOVES) {
+    made[number].moves = dvg_generator_move(port, byte, &move).kind == DVG_MOVES;
+    if (!made[number].moves) {
         return;
     }
-    stroke.x0 = unit_x;
-    stroke.y0 = unit_y;
-    stroke.x1 = unit_x = move.placed ? move.x1 / 512 : counted(unit_x, move.x0, move.x1);
-    stroke.y1 = unit_y = move.placed ? move.y1 / 512 : counted(unit_y, move.y0, move.y1);
-    stroke.z = move.z;
-    if (move.z != 0) {
-        units[units_count++] = stroke;
-    }
+    units.x0 = unit_x;
+    units.y0 = unit_y;
+    units.x1 = unit_x = move.placed ? move.x1 / 512 : counted(unit_x, move.x0, move.x1);
+    units.y1 = unit_y = move.placed ? move.y1 / 512 : counted(unit_y, move.y0, move.y1);
+    units.z = move.z;
+    made[number].move = move;
+    made[number].units = units;
 }
 
 /* Runs it from power on. From word `most` on a HALT is handed, so that strokes can be asked for. */
 static void run(dvg *port, struct vector *vector, unsigned most)
 {
     vector->count = 0;
-    units_count = 0;
     unit_x = unit_y = 0;
     dvg_open_generator(port);
     vector->last = dvg_strobe(port);
@@ -94,7 +97,7 @@ static void run(dvg *port, struct vector *vector, unsigned most)
             vector->last = dvg_generator_hole(port);
         } else {
             uint8_t byte = (uint8_t)(wanted.value ? word >> 8 : word);
-            note_move(port, byte);
+            note_move(port, vector->count, byte);
             vector->last = dvg_generator_fetch(port, byte);
         }
         if (vector->last.kind == DVG_FETCHED || vector->last.kind == DVG_DONE) {
@@ -131,17 +134,32 @@ static void write_memory(FILE *file, const struct vector *vector)
     }
 }
 
-/* The strokes in whole units. */
-static void write_units(FILE *file)
+/* What the word of this number did to the beam. */
+static void write_move(FILE *file, unsigned number)
 {
-    unsigned i;
-    for (i = 0; i < units_count; i++) {
-        dvg_stroke s = units[i];
-        fprintf(file, "units %u %u %u %u %u\n", s.x0, s.y0, s.x1, s.y1, s.z);
+    dvg_move m = made[number].move;
+    dvg_stroke s = made[number].units;
+    if (made[number].moves && m.placed) {
+        fprintf(file, "place %03X %u %u\n", m.address, m.x1, m.y1);
+    } else if (made[number].moves) {
+        fprintf(file, "move %03X %u %u %u %u %u\n", m.address, m.x0, m.y0, m.x1, m.y1, m.z);
+        fprintf(file, "count %03X %u %u %u %u %u\n", m.address, s.x0, s.y0, s.x1, s.y1, s.z);
     }
 }
 
-/* What comes of it: the words fetched, how the run ended, the strokes. */
+/* The strokes of so many words in whole units. */
+static void write_units(FILE *file, unsigned count)
+{
+    unsigned i;
+    for (i = 0; i < count; i++) {
+        dvg_stroke s = made[i].units;
+        if (made[i].moves && s.z != 0) {
+            fprintf(file, "units %u %u %u %u %u\n", s.x0, s.y0, s.x1, s.y1, s.z);
+        }
+    }
+}
+
+/* What comes of it: the words fetched, each with its move, how the run ended, the strokes. */
 static void write_run(FILE *file, dvg *port, const struct vector *vector)
 {
     static struct vector again;
@@ -149,6 +167,7 @@ static void write_run(FILE *file, dvg *port, const struct vector *vector)
     unsigned i;
     for (i = 0; i < vector->count; i++) {
         fprintf(file, "fetched %03X %04X\n", vector->at[i], vector->word[i]);
+        write_move(file, i);
     }
     if (vector->last.kind == DVG_DONE) {
         fputs("halted\n", file);
@@ -164,7 +183,7 @@ static void write_run(FILE *file, dvg *port, const struct vector *vector)
             fprintf(file, "stroke %u %u %u %u %u\n", s.x0, s.y0, s.x1, s.y1, s.z);
         }
     }
-    write_units(file);
+    write_units(file, vector->count);
 }
 
 static FILE *open_file(const char *folder, unsigned long number, const char *ending)

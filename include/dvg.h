@@ -12,7 +12,7 @@
  *   a driver alone      it is handed the HALT flag and byte 001 of a RAM, and answers what is to
  *                       be written there
  *   a generator alone   it says which byte it wants, is handed that byte, and answers the strokes
- *                       of a whole run
+ *                       of a whole run; it is saved and restored, and there is one whose stack wraps
  *   a judge             it is told the log of any system, a line at a time, and says of each run
  *                       whether it is of one moment
  *
@@ -29,9 +29,9 @@
  *   4. Call with DVG_STACK_KB KB of room on the stack.
  *
  * On the heap a device takes at most DVG_HEAP_KB KB, and besides these what is staged, and 20 bytes
- * for each stroke of the run that is open and of the newest finished one; the room for strokes
- * doubles as it grows. Memory is taken by dvg_new, by what stages bytes or opens something, and by
- * a fetch that completes a stroke; an offer, a tick and a strobe take none, nor does a reset, but
+ * for each stroke of the run that is open, of the newest finished one, and of a state that is told.
+ * The room for strokes doubles as it grows, and serves the runs after it. Memory is taken by dvg_new, by what stages bytes or opens something, by
+ * what restores a state, and by a fetch that completes a stroke; an offer, a tick and a strobe take none, nor does a reset, but
  * for the bytes that dvg_reset_all stages. What was open leaves its memory to what is opened next,
  * until dvg_shut or dvg_free. */
 #ifndef DVG_H
@@ -99,8 +99,8 @@ const char *dvg_version(void);
 /* --- Requests and answers --- */
 
 /* The lowest byte of a request says which it is. What it brings stands above: a flag in bit 8, a
- * byte in bits 16 to 23, a count in bits 24 to 39, the number of a stroke or a return address from
- * bit 8 on; and the fields of DVG_REQUEST_PUSH, as dvg_push has them. */
+ * byte in bits 16 to 23, a count in bits 24 to 39, the number of a stroke, a return address or a part
+ * of a state from bit 8 on; and the fields of DVG_REQUEST_PUSH, as dvg_push has them. */
 enum dvg_request {
     DVG_REQUEST_OFFER = 0,
     DVG_REQUEST_REDRAW = 1,
@@ -129,7 +129,11 @@ enum dvg_request {
     DVG_REQUEST_MOVE_TO = 24,
     DVG_REQUEST_BEAM = 25,
     DVG_REQUEST_HOLDS = 26,
-    DVG_REQUEST_RETURN_TO = 27
+    DVG_REQUEST_RETURN_TO = 27,
+    DVG_REQUEST_STATE = 28,
+    DVG_REQUEST_RESUME = 29,
+    DVG_REQUEST_OPEN_WRAPPING = 30,
+    DVG_REQUEST_TELL_STATE = 35
 };
 
 /* The kind of an answer, with what its address and its value are; both are 0 where nothing is said
@@ -187,6 +191,10 @@ typedef enum dvg_kind {
     DVG_NOTHING = 32,          /* = there is no move, or no such return address */
     DVG_HOLDS = 33,            /* = what a generator holds: dvg_held_by */
     DVG_RETURNS_TO = 34,       /* = a return address, which is this word address */
+    DVG_STATE = 35,            /* = a part of a generator's state: the whole number, asked of
+                                    another device, tells it that part: dvg_save */
+    DVG_NO_STATE = 36,         /* = no generator can be in the state that was told, or there is no
+                                    such part, or it doesn't suit the parts before it */
     DVG_UNKNOWN = 254,         /* = there is no such request, whatever is open, or none of
                                     what is open */
     DVG_NO_MEMORY = 255        /* = there was no memory for it */
@@ -337,6 +345,8 @@ static inline const char *dvg_kind_text(dvg_kind kind)
     case DVG_NOTHING: return "nothing";
     case DVG_HOLDS: return "holds";
     case DVG_RETURNS_TO: return "returns to";
+    case DVG_STATE: return "state";
+    case DVG_NO_STATE: return "no state";
     case DVG_UNKNOWN: return "unknown";
     case DVG_NO_MEMORY: return "no memory";
     }
@@ -464,6 +474,16 @@ static inline dvg_answer dvg_open_driver(dvg *device, const uint8_t *rom, size_t
 static inline dvg_answer dvg_open_generator(dvg *device)
 {
     return dvg_ask(device, DVG_REQUEST_OPEN_GENERATOR);
+}
+
+/* Opens a generator alone whose stack wraps, as hardware and emulators go on: a fifth call overwrites
+ * the oldest return address, and a return without a call goes to the address that was returned to
+ * last, or saved before; at first all four are 000. A start and a reset leave them. So no call and
+ * no return breaks a run. All else is as of dvg_open_generator, but dvg_held_by has 4 `returns`, and
+ * it isn't saved. DVG_OPENED. */
+static inline dvg_answer dvg_open_wrapping(dvg *device)
+{
+    return dvg_ask(device, DVG_REQUEST_OPEN_WRAPPING);
 }
 
 /* Opens a judge of moments, which was told nothing. DVG_OPENED; DVG_NO_MEMORY. */
@@ -729,6 +749,110 @@ static inline dvg_answer dvg_reset_processor(dvg *device)
 static inline dvg_answer dvg_reset_all(dvg *device, const uint8_t *ram)
 {
     return dvg_ask_staged(device, dvg_stage_ram(device, ram), DVG_REQUEST_RESET_ALL);
+}
+
+/* --- A saved state --- */
+
+/* A generator alone is saved as bytes, also amid a run, and restored from them, in any device: then
+ * it goes on as the saved one did. That is proved of the requests which these functions make. Saved
+ * is what the open run drew so far, and no strokes of a finished run. A world and a driver aren't
+ * saved.
+ *
+ * The bytes are numbers of 64 bits, the low byte first. The first one has 'D', 'V', 'G' and the
+ * version in its low bytes, and above them how many follow. Those are the parts of the state, as
+ * DVG_REQUEST_STATE is answered. docs/FORMATS.md says what stands in each. */
+
+/* The version of the bytes that dvg_save writes. dvg_restore reads no other one. */
+#define DVG_SAVED_VERSION 1
+
+/* The most bytes of a saved state, but for strokes: each adds 16. */
+#define DVG_SAVED_BYTES 56
+
+/* The first number of a saved state with this many parts. */
+static inline uint64_t dvg_saved_head(uint64_t parts)
+{
+    return (uint64_t)'D' | (uint64_t)'V' << 8 | (uint64_t)'G' << 16
+           | (uint64_t)DVG_SAVED_VERSION << 24 | parts << 32;
+}
+
+/* Writes a number as 8 bytes, the low byte first, if these end within `size`. */
+static inline void dvg_saved_put(uint8_t *bytes, size_t size, size_t at, uint64_t number)
+{
+    size_t i;
+    for (i = 0; i < 8 && at + 8 <= size; i++) {
+        bytes[at + i] = (uint8_t)(number >> 8 * i & 0xFF);
+    }
+}
+
+/* The number that 8 bytes are, the low byte first. */
+static inline uint64_t dvg_saved_number(const uint8_t *bytes)
+{
+    uint64_t number = 0;
+    size_t i;
+    for (i = 8; i > 0; i--) {
+        number = number << 8 | bytes[i - 1];
+    }
+    return number;
+}
+
+/* Of a generator: writes its state to `bytes`, which has room for `size` bytes, and returns how many
+ * bytes the state has: at most DVG_SAVED_BYTES, and 16 for each stroke that the open run drew so
+ * far. Where `size` is less, ask again with as much room: what was written is no whole state.
+ * `bytes` may be null where `size` is 0. The generator stays as it is. Returns 0 where no generator
+ * alone is open, or one whose stack wraps. */
+static inline size_t dvg_save(dvg *device, uint8_t *bytes, size_t size)
+{
+    uint64_t parts = 0;
+    uint64_t part = dvg_turn(device, DVG_REQUEST_STATE);
+    while ((part & 0xFF) == DVG_STATE) {
+        parts++;
+        dvg_saved_put(bytes, size, (size_t)(8 * parts), part);
+        part = dvg_turn(device, DVG_REQUEST_STATE | parts << 8);
+    }
+    if (parts == 0) {
+        return 0;
+    }
+    dvg_saved_put(bytes, size, 0, dvg_saved_head(parts));
+    return (size_t)(8 * parts + 8);
+}
+
+/* Whether these may be the bytes of a saved state, by their first number and the kind of the first
+ * part. */
+static inline bool dvg_is_saved(const uint8_t *bytes, size_t size)
+{
+    return size >= 16 && size % 8 == 0 && (uint64_t)size >> 35 == 0
+           && dvg_saved_number(bytes) == dvg_saved_head(size / 8 - 1)
+           && (dvg_saved_number(bytes + 8) & 0xFFFF) == DVG_REQUEST_TELL_STATE;
+}
+
+/* Opens a generator alone, in place of what is open, that goes on as the one whose saved state these
+ * bytes are. They may be any: DVG_OPENED; DVG_NO_STATE: they are no saved state, or one of another
+ * version; DVG_NO_MEMORY. Where the answer isn't DVG_OPENED, what was open stays as it was. Nothing
+ * finds out that a byte was changed where another state is saved so. */
+static inline dvg_answer dvg_restore(dvg *device, const uint8_t *bytes, size_t size)
+{
+    dvg_answer answer = dvg_answer_of(DVG_NO_STATE);
+    uint64_t part;
+    size_t at;
+    if (!dvg_is_saved(bytes, size)) {
+        return answer;
+    }
+    answer.kind = DVG_CLEARED;
+    for (at = 8; at < size && answer.kind == DVG_CLEARED; at += 8) {
+        part = dvg_saved_number(bytes + at);
+        answer.kind = DVG_NO_STATE;
+        if ((part & 0xFF) == DVG_REQUEST_TELL_STATE) {
+            answer = dvg_ask(device, part);
+        }
+    }
+    if (answer.kind == DVG_CLEARED) {
+        answer = dvg_ask(device, DVG_REQUEST_RESUME);
+    }
+    if (answer.kind != DVG_OPENED) {
+        /* What was told is forgotten, and its memory given back. */
+        dvg_ask(device, DVG_REQUEST_TELL_STATE);
+    }
+    return answer;
 }
 
 /* --- A judge --- */

@@ -111,6 +111,33 @@ public:
         }
         return found;
     }
+
+    /* Its state as bytes: dvg_save. */
+    Bytes save() const {
+        Bytes saved(dvg_save(*this, nullptr, 0));
+        dvg_save(*this, saved.data(), saved.size());
+        return saved;
+    }
+
+    /* Has it go on as the one whose state these bytes are: dvg_restore. Of other bytes
+     * std::invalid_argument; std::bad_alloc. Then it stays as it was. */
+    void restore(const Bytes &saved) {
+        expect_opened(dvg_restore(*this, saved.data(), saved.size()));
+    }
+
+    /* Another one that goes on as this one does, without the strokes of a finished run.
+     * std::bad_alloc. */
+    Generator copy() const {
+        Generator other;
+        other.restore(save());
+        return other;
+    }
+};
+
+/* A generator alone whose stack wraps: dvg_open_wrapping. It isn't saved. std::bad_alloc. */
+class WrappingGenerator : public Generator {
+public:
+    WrappingGenerator() { expect_opened(dvg_open_wrapping(*this)); }
 };
 
 /* A judge of moments. std::bad_alloc. */

@@ -7,11 +7,19 @@ const char *dvg_version(void)
     return DVG_VERSION;
 }
 
+/* Whether the answer to this request is a number or a place, and has no kind. */
+static bool is_number(uint64_t request)
+{
+    uint64_t code = request & 0xFF;
+    return (code >= DVG_REQUEST_STROKES && code <= DVG_REQUEST_STROKE_INTENSITY)
+           || code == DVG_REQUEST_MOVE_TO || code == DVG_REQUEST_BEAM;
+}
+
 /* Whether nothing may be asked after this answer without a look at it. */
 static bool is_last(uint64_t request, uint64_t number)
 {
     dvg_kind kind = dvg_answer_of(number).kind;
-    return (request & 0xFF) < DVG_REQUEST_WANTS && (kind == DVG_DONE || kind == DVG_NO_MEMORY);
+    return (kind == DVG_DONE || kind == DVG_NO_MEMORY) && !is_number(request);
 }
 
 size_t dvg_turns(dvg *device, const uint64_t *requests, uint64_t *answers, size_t count)

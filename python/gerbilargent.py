@@ -55,7 +55,7 @@ from pathlib import Path
 from typing import Iterable, Iterator, NamedTuple, Optional, TypeVar, Union
 
 __all__ = [
-    "BadByte", "BadLog", "BadOperation", "Beam", "Break", "Busy", "Closed", "Draft", "DraftFull",
+    "BadByte", "BadLog", "BadOperation", "BadState", "Beam", "Break", "Busy", "Closed", "Draft", "DraftFull",
     "DraftRefused", "Driver", "Endless", "Entry", "Error", "Event", "Fault", "Generator", "Halted",
     "Judge", "Kind", "LibraryMissing", "MomentJudge", "Move", "NoBytes", "NoEvent", "NoInteger",
     "NothingPublished", "NoStrobe", "OutOfMemory", "RETURNS", "RunBroke", "Stroke", "Picture",
@@ -125,6 +125,8 @@ class Kind(enum.IntEnum):
     NOTHING = 32
     HOLDS = 33
     RETURNS_TO = 34
+    STATE = 35
+    NO_STATE = 36
     UNKNOWN = 254
     NO_MEMORY = 255
 
@@ -311,6 +313,10 @@ class BadByte(Error, ValueError):
     """A byte isn't 0 to 255, a word or an address of more bits than 16, or none of the RAM."""
 
 
+class BadState(Error, ValueError):
+    """Bytes are no saved state of a generator, or one of another version."""
+
+
 class BadOperation(Error, ValueError):
     """A field of an operation is out of its range."""
 
@@ -465,6 +471,10 @@ class _Request(enum.IntEnum):
     BEAM = 25
     HOLDS = 26
     RETURN_TO = 27
+    STATE = 28
+    RESUME = 29
+    OPEN_WRAPPING = 30
+    TELL_STATE = 35
 
 
 #: What is asked of each stroke, as numbers.
@@ -481,8 +491,12 @@ _ERRORS = {
     Kind.NO_OPERATION: BadOperation("a field is out of its range"),
     Kind.FULL: DraftFull(f"a draft has at most {MOST_OPERATIONS} operations"),
     Kind.WRONG_SIZE: WrongSize("a RAM has 2,048 bytes, and a ROM 2,048 or 4,096"),
+    Kind.NO_STATE: BadState("that is no saved state of a generator, or one of another version"),
     Kind.NO_MEMORY: OutOfMemory("memory was refused"),
 }
+
+#: The version of a saved state.
+_SAVED_VERSION = 1
 
 
 def _whole(name: str, value: int) -> int:
@@ -518,6 +532,35 @@ def _bytes(name: str, held: Bytes) -> bytes:
     if view.itemsize != 1:
         raise NoBytes(f"{name} is single bytes, not items of {view.itemsize} bytes")
     return view.tobytes()
+
+
+def _saved_head(parts: int) -> int:
+    """The first number of a saved state with this many parts."""
+    return int.from_bytes(b"DVG", "little") | _SAVED_VERSION << 24 | parts << 32
+
+
+def _turned(numbers: "array[int]") -> "array[int]":
+    """These numbers with their low byte first, or numbers that come so."""
+    if sys.byteorder != "little":
+        numbers.byteswap()
+    return numbers
+
+
+def _saved_parts(saved: bytes) -> "array[int]":
+    """The parts of a saved state, each as the request that tells it. BadState."""
+    parts = array("Q")
+    if len(saved) >= 16 and len(saved) % 8 == 0:
+        parts.frombytes(saved)
+        head = _turned(parts).pop(0)
+        tell = int(_Request.TELL_STATE)
+        if (
+            head == _saved_head(len(parts))
+            and parts[0] & 0xFFFF == tell
+            and all(part & 0xFF == tell for part in parts)
+        ):
+            return parts
+    error = _ERRORS[Kind.NO_STATE]
+    raise type(error)(*error.args)
 
 
 def _units(start: int, end: int) -> int:
@@ -873,11 +916,17 @@ class Driver(_Device):
 
 
 class Generator(_Device):
-    """A generator alone, halted, with the beam at 0, 0 and scale 0. It is handed its bytes."""
+    """A generator alone, halted, with the beam at 0, 0 and scale 0. It is handed its bytes.
 
-    def __init__(self) -> None:
+    With `wraps` its stack wraps, as hardware and emulators go on: a fifth call overwrites the oldest
+    return address, and a return without a call goes to the address that was returned to last, or
+    saved before. At first all four are 000; a start and a reset leave them.
+    """
+
+    def __init__(self, wraps: bool = False) -> None:
         super().__init__()
-        self._ask(_Request.OPEN_GENERATOR)
+        self.wraps = bool(wraps)
+        self._ask(_Request.OPEN_WRAPPING if wraps else _Request.OPEN_GENERATOR)
 
     @property
     def wanted(self) -> Optional[Wanted]:
@@ -937,11 +986,63 @@ class Generator(_Device):
     def return_addresses(self) -> "list[int]":
         """Its return addresses, at most four word addresses, the newest last, to which RTSL leads.
 
-        After a run they stay until the next one.
+        After a run they stay until the next one. Where the stack wraps there are always four.
         """
         count = self._turn(_Request.HOLDS) >> 32 & 0x7
         found = [self._turn(_Request.RETURN_TO, number << 8) for number in range(count)]
         return [number >> 8 & 0xFFFF for number in reversed(found)]
+
+    def save(self) -> bytes:
+        """Its state as bytes, also amid a run, with what the run drew so far.
+
+        `restore` takes them, in any process. Strokes of a finished run are no part of it. One whose
+        stack wraps isn't saved: BadState.
+        """
+        self._own_thread()
+        if self._device is not None and self.wraps:
+            raise BadState("a generator whose stack wraps isn't saved")
+        parts = array("Q", [0])
+        whole = False
+        while not whole:
+            numbers = range(len(parts) - 1, len(parts) + 511)
+            asked = array("Q", (int(_Request.STATE) | number << 8 for number in numbers))
+            self._turns(asked)
+            parts.extend(itertools.takewhile(lambda part: part & 0xFF == Kind.STATE, asked))
+            whole = len(parts) <= numbers[-1] + 1
+        parts[0] = _saved_head(len(parts) - 1)
+        return _turned(parts).tobytes()
+
+    def restore(self, saved: Bytes) -> None:
+        """Goes on as the generator whose `save` gave these bytes. BadState, OutOfMemory.
+
+        Then it has no strokes of a finished run, and its stack doesn't wrap.
+        """
+        parts = _saved_parts(_bytes("a saved state", saved))
+        try:
+            self._turns(parts)
+            for answer in parts:
+                self._entry(answer)
+            self._ask(_Request.RESUME)
+            self.wraps = False
+        except Error:
+            # What was told is forgotten.
+            self._turn(_Request.TELL_STATE)
+            raise
+
+    def copy(self) -> "Generator":
+        """Another one that goes on as this one does, without strokes of a finished run.
+
+        It belongs to the thread that makes it. OutOfMemory.
+        """
+        other = Generator()
+        try:
+            other.restore(self.save())
+        except Error:
+            other.close()
+            raise
+        return other
+
+    __copy__ = copy
 
     def hole(self) -> Entry:
         """No memory answers at the address that it wants: raises RunBroke, or Halted."""

@@ -77,6 +77,7 @@ static void test_events(dvg *none)
     ASKS(5, dvg_reset_generator(none));
     ASKS(6, dvg_reset_processor(none));
     ASKS(14, dvg_open_generator(none));
+    ASKS(30, dvg_open_wrapping(none));
     ASKS(15, dvg_shut(none));
     ASKS(16, dvg_wants(none));
 }
@@ -270,6 +271,8 @@ static void test_kind_texts(void)
     TEXT(dvg_kind_text, DVG_NOTHING, "nothing");
     TEXT(dvg_kind_text, DVG_HOLDS, "holds");
     TEXT(dvg_kind_text, DVG_RETURNS_TO, "returns to");
+    TEXT(dvg_kind_text, DVG_STATE, "state");
+    TEXT(dvg_kind_text, DVG_NO_STATE, "no state");
     TEXT(dvg_kind_text, DVG_UNKNOWN, "unknown");
     TEXT(dvg_kind_text, DVG_NO_MEMORY, "no memory");
 }
@@ -294,7 +297,7 @@ static void test_other_texts(void)
     bool all = true;
     for (uint64_t number = 0; number < 256; number++) {
         const char *text = dvg_kind_text(dvg_answer_of(number).kind);
-        bool named = number <= DVG_RETURNS_TO || number >= DVG_UNKNOWN;
+        bool named = number <= DVG_NO_STATE || number >= DVG_UNKNOWN;
         all = all && text != NULL && (strcmp(text, "no kind") == 0) != named;
     }
     expect(all, "each kind has a text, and a number that is none has 'no kind'");
@@ -349,6 +352,60 @@ static void test_moves(dvg *none)
                && dvg_units(104, 2097000) == -1 && dvg_units(0, 768) == 2
                && dvg_units(0, 1023 * 512) == 1023 && dvg_units(1023 * 512, 0) == -1023,
            "a move in whole units, a half away from zero, also over the edge");
+}
+
+/* --- A saved state --- */
+
+/* A state of two parts: its fields, and where its beam is. */
+static const uint8_t state_bytes[] = {'D', 'V', 'G', 1, 2, 0, 0, 0, 35, 0, 0x34, 0x02, 1, 0xA0, 0xE2, 0x7C,
+                                      35, 2, 0x01, 0, 0x80, 0, 0, 0x04};
+static const uint64_t state_parts[] = {0x7CE2A00102340023, 0x0400008000010223, DVG_NOTHING};
+
+static void test_saving(dvg *none)
+{
+    uint8_t bytes[sizeof state_bytes + 1] = {0};
+    memcpy(answers, state_parts, sizeof state_parts);
+    expect(dvg_save(none, NULL, 0) == 24 && count == 3 && noted[0] == 28 && noted[1] == 0x11C
+               && noted[2] == 0x21C,
+           "a state of two parts has 24 bytes");
+    memcpy(answers, state_parts, sizeof state_parts);
+    expect(dvg_save(none, bytes, 24) == 24 && memcmp(bytes, state_bytes, 24) == 0 && bytes[24] == 0,
+           "which are these");
+    memcpy(answers, state_parts, sizeof state_parts);
+    bytes[16] = 0xA5;
+    expect(dvg_save(none, bytes, 23) == 24 && bytes[16] == 0xA5, "less room is told");
+    answers[0] = DVG_UNKNOWN;
+    expect(dvg_save(none, bytes, 24) == 0 && count == 1, "what is no generator isn't saved");
+}
+
+static void test_restoring(dvg *none)
+{
+    static const int whole[] = {DVG_CLEARED, DVG_CLEARED, DVG_OPENED};
+    static const int no_memory[] = {DVG_CLEARED, DVG_NO_MEMORY, DVG_CLEARED};
+    static const int no_state[] = {DVG_CLEARED, DVG_CLEARED, DVG_NO_STATE, DVG_CLEARED};
+    uint8_t bytes[sizeof state_bytes];
+    uint64_t parts[] = {state_parts[0], state_parts[1], 29, 35};
+    memcpy(bytes, state_bytes, sizeof bytes);
+    answer(3, whole);
+    expect_all(dvg_restore(none, bytes, 24), DVG_OPENED, 3, parts, "a state is told and resumed");
+    answer(4, no_state);
+    expect_all(dvg_restore(none, bytes, 24), DVG_NO_STATE, 4, parts, "a refused one is forgotten");
+    parts[2] = 35;
+    answer(3, no_memory);
+    expect_all(dvg_restore(none, bytes, 24), DVG_NO_MEMORY, 3, parts, "as is one without memory");
+    answer(3, no_memory);
+    bytes[16] = 14;
+    parts[1] = 35;
+    expect_all(dvg_restore(none, bytes, 24), DVG_NO_STATE, 2, parts, "another request isn't asked");
+    bytes[16] = 35;
+    for (size_t at = 0; at < 10; at++) {
+        bytes[at] ^= 1;
+        expect(dvg_restore(none, bytes, 24).kind == DVG_NO_STATE && count == 0, "a changed head");
+        bytes[at] ^= 1;
+    }
+    for (size_t size = 0; size < 24; size++) {
+        expect(dvg_restore(none, bytes, size).kind == DVG_NO_STATE && count == 0, "a cut one");
+    }
 }
 
 /* --- A memory, drawn once --- */
@@ -481,6 +538,8 @@ int main(void)
     test_kind_texts();
     test_other_texts();
     test_moves(none);
+    test_saving(none);
+    test_restoring(none);
     test_fetching(none);
     test_drawing(none);
     printf("%d passed, %d failed\n", passed, failed);

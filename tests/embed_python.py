@@ -9,6 +9,7 @@ built: then the dumps are drawn by dvg_draw, too. What passes prints nothing. Th
 """
 
 import contextlib
+import copy
 import io
 import os
 import random
@@ -249,6 +250,63 @@ def test_moves():
     expect_same((1, -1), (g._units(0, 256), g._units(256, 0)), "a half away from zero")
     expect_same((1, -1), (g._units(2097000, 104), g._units(104, 2097000)), "over the edge")
     expect_same(0, g._units(255, 0), "less than a half")
+
+
+def test_saving():
+    with Generator() as generator:
+        expect_same(24, len(generator.save()), "a new generator is saved in 24 bytes")
+        expect_same(b"DVG\x01\x02\0\0\0#\0", generator.save()[:10], "the head, and its first part")
+        ram = words(0xC002, 0xB000, 0xA190, 0x3200, 0x01FF, 0x7401, 0xF1F5, 0xD000)
+        ram = ram.ljust(2048, b"\0")
+        generator.strobe()
+        while generator.wanted != g.Wanted(7, True):
+            generator.fetch_from(ram)
+        saved = generator.save()
+        expect_same(64, len(saved), "with a return address and two strokes in 64")
+        others = [generator.copy(), copy.copy(generator), Generator()]
+        others[2].restore(bytearray(saved))
+        for other in others:
+            expect_same([saved, []], [other.save(), other.strokes], "a copy is the same")
+        while not generator.halted:
+            generator.fetch_from(ram)
+        for other in others:
+            while not other.halted:
+                other.fetch_from(ram)
+            expect_same(generator.strokes, other.strokes, "and draws the same")
+            expect_same(generator.save(), other.save(), "and ends so")
+            other.close()
+        for kind, other in (
+            (g.BadState, b""), (g.BadState, saved[:-8]), (g.BadState, saved[:-1]),
+            (g.BadState, saved[:3] + b"\2" + saved[4:]), (g.BadState, saved[:9] + b"\1" + saved[10:]),
+            (g.BadState, saved[:16] + b"\x0f" + saved[17:]), (g.BadState, saved[:17] + b"\4" + saved[18:]),
+            (g.BadState, saved[:8] + b"#\0\0\x10" + saved[12:]), (g.NoBytes, 7),
+        ):
+            expect_raises(kind, lambda: generator.restore(other), f"{other!r} is no saved state")
+        expect_same(2, len(generator.strokes), "what is refused changes nothing")
+        generator.restore(saved)
+        expect_same(saved, generator.save(), "another state may be restored")
+        expect_same([], generator.strokes, "which has no strokes of a finished run")
+    expect_raises(g.Closed, generator.save, "a closed generator isn't saved")
+    expect_raises(g.Closed, generator.copy, "nor copied")
+    expect_raises(g.Closed, lambda: generator.restore(saved), "nor restored")
+
+
+def test_saving_many():
+    """States with more parts than are asked for in one call."""
+    ram = words(*[0xF0F1] * 700, 0xE000)
+    with Generator() as generator:
+        for strokes in (0, 1, 254, 255, 256, 257, 700):
+            generator.strobe()
+            for word in range(strokes):
+                generator.fetch(ram[2 * word])
+                generator.fetch(ram[2 * word + 1])
+            expect_same(24 + 16 * strokes, len(generator.save()), f"{strokes} strokes are saved")
+            with generator.copy() as other:
+                generator.fetch(0)
+                generator.fetch(0xB0)
+                other.fetch(0)
+                other.fetch(0xB0)
+                expect_same(generator.strokes, other.strokes, f"and {strokes} drawn")
 
 
 def test_moment_judge():
@@ -1041,6 +1099,8 @@ test_freeing()
 test_driver()
 test_generator()
 test_moves()
+test_saving()
+test_saving_many()
 test_moment_judge()
 test_refusals()
 test_no_memory()

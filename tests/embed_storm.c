@@ -4,7 +4,8 @@
  *   embed_storm COUNT SEED
  *
  * Storm number i, from 0, comes from SEED + i alone. A storm begins with nothing open, with a
- * world, with a driver, with a generator or with a judge, by turns. The first line of what is
+ * world, with a driver, with a generator, with a judge or with a generator whose stack wraps, by
+ * turns. The first line of what is
  * written says how often each kind of answer came, and the last is 'N passed, M failed'.
  *
  * It is linked with the archive of the port and with the twin, twin/src/port.rs, and compiled
@@ -131,7 +132,8 @@ static void fill_rom(void)
 
 /* --- Requests --- */
 
-/* What was opened last: nothing, a world, a driver, a generator or a judge. */
+/* What was opened last: nothing, a world, a driver, a generator, a judge or a generator whose stack
+ * wraps. */
 static int opened = 0;
 
 /* Opens something. */
@@ -151,6 +153,7 @@ static void open_part(dvg *pair, int part)
         break;
     case 2: answer = dvg_open_driver(pair, rom, length); break;
     case 3: answer = dvg_open_generator(pair); break;
+    case 5: answer = dvg_open_wrapping(pair); break;
     default: answer = dvg_open_judge(pair); break;
     }
     if (answer.kind == DVG_OPENED || answer.kind == DVG_CLOSED) {
@@ -267,6 +270,57 @@ static void ask_strokes(dvg *pair)
     dvg_stroke_at(pair, (uint64_t)random_word() << 32 | random_word());
 }
 
+/* What was saved last in this storm. */
+static uint8_t saved[4096];
+static size_t saved_size = 0;
+
+/* Saves a state, or restores one, as it was saved or with a bit changed. */
+static void save_or_restore(dvg *pair)
+{
+    uint8_t changed[sizeof saved];
+    size_t size;
+    switch (below(5)) {
+    case 0:
+    case 1:
+        size = dvg_save(pair, saved, sizeof saved);
+        saved_size = size > sizeof saved ? 0 : size;
+        break;
+    case 2:
+        if (dvg_restore(pair, saved, saved_size).kind == DVG_OPENED) {
+            opened = 3;
+        }
+        break;
+    case 3:
+        memcpy(changed, saved, sizeof saved);
+        if (saved_size > 0) {
+            changed[below((int)saved_size)] ^= (uint8_t)(1 << below(8));
+        }
+        if (dvg_restore(pair, changed, saved_size).kind == DVG_OPENED) {
+            opened = 3;
+        }
+        break;
+    default:
+        size = dvg_save(pair, changed, (size_t)below(64));
+        break;
+    }
+}
+
+/* Tells parts of a state, mostly such as suit, and seldom resumes. */
+static void tell_parts(dvg *pair)
+{
+    for (int count = below(8); count > 0; count--) {
+        uint64_t place = (uint64_t)about(0, 0x1FFFFF) << 16 | (uint64_t)about(0, 0x1FFFFF) << 38;
+        int kind = below(below(20) == 0 ? 256 : 4);
+        uint64_t fields = kind == 0   ? (uint64_t)random_word() << 38 | (uint64_t)about(0, 4095) << 16
+                          : kind == 1 ? (uint64_t)about(0, 4095) << 16
+                                      : place | (uint64_t)below(16) << 60;
+        pair_turn(pair, DVG_REQUEST_TELL_STATE | (uint64_t)kind << 8 | fields);
+    }
+    if (below(4) == 0 && dvg_ask(pair, DVG_REQUEST_RESUME).kind == DVG_OPENED) {
+        opened = 3;
+    }
+}
+
 /* Stages something, or takes it away. */
 static void stage_random(dvg *pair)
 {
@@ -329,7 +383,7 @@ static void blow_as_usual(dvg *pair)
 static void blow(dvg *pair)
 {
     switch (below(64)) {
-    case 0: open_part(pair, below(5)); break;
+    case 0: open_part(pair, below(6)); break;
     case 1: dvg_reset_all(pair, below(2) == 0 ? NULL : memory); break;
     case 2: dvg_reset_generator(pair); break;
     case 3: dvg_reset_processor(pair); break;
@@ -344,8 +398,10 @@ static void blow(dvg *pair)
     case 12: pair_turn(pair, (uint64_t)random_word() << 32 | random_word()); break;
     case 13:
         pair_turn(pair, (uint64_t)random_word() << 32 | (random_word() & 0xFFFFFF00)
-                            | (uint64_t)below(30));
+                            | (uint64_t)below(37));
         break;
+    case 14: save_or_restore(pair); break;
+    case 15: tell_parts(pair); break;
     default: blow_as_usual(pair); break;
     }
 }
@@ -357,6 +413,7 @@ static bool storm(uint64_t seed)
     chance = seed * 0x9E3779B97F4A7C15u;
     equal = true;
     opened = 0;
+    saved_size = 0;
     fill_memory();
     if (below(4) != 0) {
         fill_rom();
@@ -365,8 +422,8 @@ static bool storm(uint64_t seed)
         printf("FAILED: no device was made\n");
         return false;
     }
-    if (seed % 5 != 0) {
-        open_part(&pair, (int)(seed % 5));
+    if (seed % 6 != 0) {
+        open_part(&pair, (int)(seed % 6));
     }
     for (int i = 0; i < BLOWS && equal; i++) {
         blow(&pair);
@@ -383,7 +440,7 @@ static bool storm(uint64_t seed)
 static bool all_kinds_came(void)
 {
     bool all = true;
-    for (int kind = DVG_OFFERED; kind <= DVG_RETURNS_TO; kind++) {
+    for (int kind = DVG_OFFERED; kind <= DVG_NO_STATE; kind++) {
         if (kinds[kind] == 0) {
             printf("FAILED: no request was answered %d\n", kind);
             all = false;

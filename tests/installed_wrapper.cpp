@@ -75,6 +75,21 @@ static void test_moves(const Generator &generator) {
            "return addresses, the newest last");
 }
 
+// A generator amid a run is saved, and goes on in another one, and in a copy.
+static void test_saving(const Generator &generator) {
+    dvg_move move = {}, other = {};
+    const Bytes saved = generator.save();
+    Generator restored;
+    restored.restore(saved);
+    const Generator copy = restored.copy();
+    expect(copy.save() == saved && copy.return_addresses() == generator.return_addresses(),
+           "a copy of what was restored is the same");
+    moves_by(generator, 0xF0F3, move);
+    expect(moves_by(copy, 0xF0F3, other) && other.x0 == move.x0 && other.x1 == move.x1,
+           "and goes on as the first");
+    expect(generator.save() != saved && restored.save() == saved, "by itself");
+}
+
 template <typename Make>
 static bool refuses(Make make) {
     try {
@@ -103,6 +118,8 @@ int main() {
     Generator generator;
     expect(dvg_wants(generator).kind == DVG_STILL, "a generator");
     test_moves(generator);
+    test_saving(generator);
+    expect(refuses([&] { generator.restore(Bytes(24)); }), "bytes that are no saved state");
     expect(dvg_tick(Device()).kind == DVG_CLOSED, "a device in which nothing is open");
     expect(refuses([&] { World(Bytes(1), rom); }), "a RAM of one byte");
     expect(refuses([&] { World(ram, Bytes(2049)); }), "a ROM of 2,049 bytes");

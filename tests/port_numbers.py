@@ -45,7 +45,8 @@ def of_rust(texts):
     """The numbers that the Rust sources have: of requests, kinds, faults and breaks, and limits."""
     request = r"(\d+) => Request::(?:Ask\(Question::)?(\w+)"
     requests = pairs(request, texts["requests"], number_first=True)
-    replies = pairs(r"(?:Entry|Reply|Action|RunState)::(\w+)(?:\(.*?\))* => packed\((\d+),", texts["replies"])
+    reply = r"(?:Entry|Reply|Action|RunState)::(\w+)(?:\(.*?\))* => (?:packed\()?(\d+)[, ]"
+    replies = pairs(reply, texts["replies"])
     numbers = {
         "request": {"WANTS" if it == "Wants" else in_capitals(it): n for it, n in requests.items()},
         "kind": {**{in_capitals(it): n for it, n in replies.items()}, "REFUSED": 1},

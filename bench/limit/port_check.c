@@ -163,9 +163,13 @@ static void ask_on(void)
     case 14:
         ask(DVG_REQUEST_RESET_GENERATOR + below(3));
         break;
-    default:
-        /* Any request but those that only stage more. */
-        ask((uint64_t)below(1u << 30) << 34 | (uint64_t)below(1u << 26) << 8 | below(256));
+    default: {
+        /* Any request but those that only stage more, and those of judges, moves and saved states,
+         * 21 to 35, which the limit hasn't. */
+        uint32_t code = below(256 - 15);
+        code += code > DVG_REQUEST_STROKE_INTENSITY ? 15 : 0;
+        ask((uint64_t)below(1u << 30) << 34 | (uint64_t)below(1u << 26) << 8 | code);
+    }
     }
 }
 

@@ -6,11 +6,13 @@
  *     compare --units ..        either of them, with strokes in whole units
  *     compare --moves ..        any of them, with each move, also an unseen one, as soon as it is
  *                               made
+ *     compare --wrap ..         any of them, beside a generator of the port whose stack wraps
  *
  * Without --moves strokes are compared after a HALT. So each run gets one: after some words the kit
  * hands both sides B000 in place of the memory's words. A fifth call, a return without a call and
  * a word without memory break a run of the port, where hardware goes on: the comparison of that
- * run stops there, and its strokes up to there are compared. A first difference is shrunk.
+ * run stops there, and its strokes up to there are compared. With --wrap no call and no return breaks
+ * a run. A first difference is shrunk.
  *
  * In whole units the rate multipliers round each move along an axis, a half away from zero, also of
  * a vector that isn't drawn, and a LABS sets the place.
@@ -51,7 +53,7 @@ static unsigned drawn;
 static dvg_stroke port_strokes[MOST_STROKES]; /* of the port, in that run */
 static unsigned port_drawn;
 static uint32_t unit_x, unit_y; /* the port's beam in whole units */
-static bool in_units, by_moves;
+static bool in_units, by_moves, wraps;
 static uint64_t random_state;
 static unsigned long stopped_at_stack, stopped_at_hole, halts;
 
@@ -249,13 +251,23 @@ static void run_once(const struct test *test, struct outcome *outcome, bool powe
     }
 }
 
+/* Has the port begin as after power on. */
+static void begin_port(void)
+{
+    if (wraps) {
+        dvg_open_wrapping(port);
+    } else {
+        dvg_open_generator(port);
+    }
+    unit_x = unit_y = 0;
+}
+
 /* Runs both over a test. A run that breaks is run again with a HALT in place of what broke it. */
 static void run(const struct test *test, struct outcome *outcome)
 {
     struct test again;
     memset(outcome, 0, sizeof *outcome);
-    dvg_open_generator(port);
-    unit_x = unit_y = 0;
+    begin_port();
     if (test->interrupted > 0) {
         run_once(test, outcome, true, test->interrupted);
     }
@@ -266,8 +278,7 @@ static void run(const struct test *test, struct outcome *outcome)
         *(outcome->broke == DVG_BREAK_HOLE ? &stopped_at_hole : &stopped_at_stack) += 1;
         again = *test;
         again.most = outcome->words;
-        dvg_open_generator(port);
-        unit_x = unit_y = 0;
+        begin_port();
         run_once(&again, outcome, true, 2 * MOST_RUN + 8);
     }
 }
@@ -551,9 +562,11 @@ static bool is_option(const char *word)
 {
     bool units = strcmp(word, "--units") == 0;
     bool moves = strcmp(word, "--moves") == 0;
+    bool wrap = strcmp(word, "--wrap") == 0;
     in_units |= units;
     by_moves |= moves;
-    return units || moves;
+    wraps |= wrap;
+    return units || moves || wrap;
 }
 
 int main(int count, char **arguments)
@@ -569,8 +582,8 @@ int main(int count, char **arguments)
     images = count > 2 && strcmp(arguments[1], "--image") == 0;
     random_state = count > 2 ? strtoull(arguments[2], NULL, 10) : 1;
     if (!images && (count > 3 || bytes == 0 || random_state == 0)) {
-        fputs("compare [--units] [--moves] [BYTES [SEED]], both above 0, or .. --image FILE..\n",
-              stderr);
+        fputs("compare [--units] [--moves] [--wrap] [BYTES [SEED]], both above 0, or .. --image"
+              " FILE..\n", stderr);
         return 64;
     }
     random_state *= 0x9E3779B97F4A7C15u;

@@ -71,6 +71,23 @@ pub struct Generator {
     beam: Beam,
     strokes: Vec<Stroke>,
     open: bool,
+    /// Whether the stack is four registers in a circle, so that no call and no return breaks a run.
+    wraps: bool,
+}
+
+/// What a generator keeps, as it is saved: its strokes are those of an open run.
+#[allow(dead_code)]
+#[derive(Clone)]
+pub struct State {
+    pub open: bool,
+    /// The address of the next word.
+    pub at: u16,
+    pub held: Option<u16>,
+    pub low: Option<u8>,
+    /// The newest one comes last.
+    pub return_addresses: Vec<u16>,
+    pub beam: Beam,
+    pub strokes: Vec<Stroke>,
 }
 
 /// A number by its sign bit and its magnitude.
@@ -94,7 +111,22 @@ impl Generator {
             },
             strokes: Vec::new(),
             open: false,
+            wraps: false,
         }
+    }
+
+    /// A generator whose stack wraps.
+    #[allow(dead_code)]
+    pub fn wrapping() -> Generator {
+        Generator {
+            wraps: true,
+            ..Generator::new()
+        }
+    }
+
+    #[allow(dead_code)]
+    pub fn wraps(&self) -> bool {
+        self.wraps
     }
 
     /// Halts, and drops the strokes and the low byte of an open run.
@@ -110,7 +142,9 @@ impl Generator {
         self.place = 0;
         self.held = None;
         self.low = None;
-        self.saved = 0;
+        if !self.wraps {
+            self.saved = 0;
+        }
         self.open = true;
     }
 
@@ -149,8 +183,61 @@ impl Generator {
 
     /// The return addresses, the newest last.
     #[allow(dead_code)]
-    pub fn return_addresses(&self) -> &[u16] {
-        &self.stack[..self.saved]
+    pub fn return_addresses(&self) -> Vec<u16> {
+        if self.wraps {
+            (self.saved..self.saved + 4)
+                .map(|at| self.stack[at % 4])
+                .collect()
+        } else {
+            self.stack[..self.saved].to_vec()
+        }
+    }
+
+    /// What it keeps.
+    #[allow(dead_code)]
+    pub fn state(&self) -> State {
+        State {
+            open: self.open,
+            at: (self.place + u16::from(self.held.is_some())) % 4096,
+            held: self.held,
+            low: self.low,
+            return_addresses: self.return_addresses(),
+            beam: self.beam,
+            strokes: if self.open {
+                self.strokes.clone()
+            } else {
+                Vec::new()
+            },
+        }
+    }
+
+    /// A generator that keeps this, if one can.
+    #[allow(dead_code)]
+    pub fn resumed(state: State) -> Option<Generator> {
+        let is_address = |address: &u16| *address < 4096;
+        if !is_address(&state.at)
+            || state.held.is_some_and(|word| word >= 0xB000)
+            || (state.low.is_some() && !state.open)
+            || !state.return_addresses.iter().all(is_address)
+            || state.beam.x.max(state.beam.y) >= 2_097_152
+            || state.beam.scale > 15
+        {
+            return None;
+        }
+        let saved = state.return_addresses.len();
+        let mut stack = [0; 4];
+        stack[..saved].copy_from_slice(&state.return_addresses);
+        Some(Generator {
+            place: (state.at + 4096 - u16::from(state.held.is_some())) % 4096,
+            held: state.held,
+            low: state.low,
+            stack,
+            saved,
+            beam: state.beam,
+            strokes: state.strokes,
+            open: state.open,
+            wraps: false,
+        })
     }
 
     /// The move that this byte, the next one, would make.
@@ -222,6 +309,15 @@ impl Generator {
             0xB => {
                 self.open = false;
                 Taken::Done(std::mem::take(&mut self.strokes))
+            }
+            0xC if self.wraps => {
+                self.stack[self.saved] = (self.place + 1) % 4096;
+                self.saved = (self.saved + 1) % 4;
+                self.go_on(word & 0xFFF)
+            }
+            0xD if self.wraps => {
+                self.saved = (self.saved + 3) % 4;
+                self.go_on(self.stack[self.saved])
             }
             0xC if self.saved == self.stack.len() => self.broke(GenFault::StackOver),
             0xC => {

@@ -6,7 +6,7 @@
 
 use crate::driver::{Action, Driver};
 use crate::frames::{FrameFault, Instr, MOST, Op, Place, Rom, check};
-use crate::generator::{Beam, GenFault, Generator, Move, Stroke, Taken};
+use crate::generator::{Beam, GenFault, Generator, Move, State, Stroke, Taken};
 use crate::memory::{BYTES, Flat};
 use crate::moments::{Line, Moments, Standing};
 use crate::world::{Entry, World};
@@ -14,8 +14,9 @@ use crate::world::{Entry, World};
 /// The most bytes that are staged.
 const MOST_STAGED: usize = 6144;
 
-/// The greatest number of a request.
-const LAST_REQUEST: u8 = 27;
+/// The numbers of requests: the greatest one but the last, and that one, by which a state is told.
+const LAST_REQUEST: u8 = 30;
+const TELL_STATE: u8 = 35;
 
 /// The word address after a ROM's last word.
 const ROM_END: usize = 0xC00;
@@ -46,6 +47,8 @@ pub struct Device {
     staged: Vec<u8>,
     draft: Vec<Op>,
     picture: Vec<Stroke>,
+    /// The state of a generator, so far as it was told.
+    told: State,
     part: Part,
 }
 
@@ -62,6 +65,7 @@ const OPENED: u64 = packed(22, 0, 0);
 const WRONG_SIZE: u64 = packed(23, 0, 0);
 const CLOSED: u64 = packed(24, 0, 0);
 const NOTHING: u64 = packed(32, 0, 0);
+const NO_STATE: u64 = packed(36, 0, 0);
 const UNKNOWN: u64 = packed(254, 0, 0);
 
 /// A fault at a place.
@@ -131,6 +135,81 @@ fn answered(entry: Entry, picture: &mut Vec<Stroke>) -> u64 {
 /// Where the beam is.
 fn point(beam: Beam) -> u64 {
     u64::from(beam.x) | u64::from(beam.y) << 32
+}
+
+/// A place in a part of a state.
+fn place(x: u32, y: u32) -> u64 {
+    u64::from(x) << 16 | u64::from(y) << 38
+}
+
+/// The parts of a state, each as the request that tells it.
+fn parts_of(state: &State) -> Vec<u64> {
+    let mut parts = vec![
+        u64::from(state.at) << 16
+            | u64::from(state.held.unwrap_or(0)) << 32
+            | u64::from(state.low.unwrap_or(0)) << 48
+            | u64::from(state.beam.scale) << 56
+            | u64::from(state.open) << 60
+            | u64::from(state.low.is_some()) << 61
+            | u64::from(state.held.is_some()) << 62,
+    ];
+    let addresses = state.return_addresses.iter();
+    parts.extend(addresses.map(|address| 1 << 8 | u64::from(*address) << 16));
+    for stroke in &state.strokes {
+        parts.push(2 << 8 | place(stroke.x0, stroke.y0));
+        parts.push(3 << 8 | place(stroke.x1, stroke.y1) | u64::from(stroke.z) << 60);
+    }
+    parts.push(2 << 8 | place(state.beam.x, state.beam.y));
+    parts
+        .iter()
+        .map(|part| part | u64::from(TELL_STATE))
+        .collect()
+}
+
+/// The state of which nothing was told.
+fn unbegun() -> State {
+    Generator::new().state()
+}
+
+/// Tells a state one part more, if it is one that suits.
+fn tell_state(state: &mut State, request: u64) -> bool {
+    let beam = Beam {
+        x: (request >> 16) as u32 & 0x3F_FFFF,
+        y: (request >> 38) as u32 & 0x3F_FFFF,
+        scale: state.beam.scale,
+    };
+    match (request >> 8) as u8 {
+        0 => {
+            *state = unbegun();
+            state.open = request >> 60 & 1 == 1;
+            state.at = (request >> 16) as u16;
+            state.held = (request >> 62 & 1 == 1).then_some((request >> 32) as u16);
+            state.low = (request >> 61 & 1 == 1).then_some((request >> 48) as u8);
+            state.beam.scale = (request >> 56) as u8 & 0xF;
+            true
+        }
+        1 => {
+            let fits = state.return_addresses.len() < 4;
+            if fits {
+                state.return_addresses.push((request >> 16) as u16);
+            }
+            fits
+        }
+        2 => {
+            state.beam = beam;
+            true
+        }
+        3 => {
+            let (x0, y0, x1, y1) = (state.beam.x, state.beam.y, beam.x, beam.y);
+            let z = (request >> 60) as u8;
+            let fits = z > 0 && x0.max(y0).max(x1).max(y1) < 2_097_152;
+            if fits {
+                state.strokes.push(Stroke { x0, y0, x1, y1, z });
+            }
+            fits
+        }
+        _ => false,
+    }
 }
 
 /// The byte of a request.
@@ -205,6 +284,14 @@ impl Lone {
         packed(33, first.unwrap_or(0), bits)
     }
 
+    fn part(&self, request: u64) -> u64 {
+        let parts = parts_of(&self.generator.state());
+        parts
+            .get((request >> 8) as usize)
+            .copied()
+            .unwrap_or(NOTHING)
+    }
+
     fn tell_move(&self, request: u64) -> u64 {
         match self.generator.move_by(handed(request)) {
             Some(Move {
@@ -215,9 +302,9 @@ impl Lone {
     }
 
     fn return_to(&self, request: u64) -> u64 {
-        let newest_first = self.generator.return_addresses().iter().rev();
-        match newest_first.copied().nth((request >> 8) as usize) {
-            Some(address) => packed(34, address, 0),
+        let addresses = self.generator.return_addresses();
+        match addresses.iter().rev().nth((request >> 8) as usize) {
+            Some(address) => packed(34, *address, 0),
             None => NOTHING,
         }
     }
@@ -263,6 +350,7 @@ impl Lone {
             25 => point(self.generator.beam()),
             26 => self.holds(),
             27 => self.return_to(request),
+            28 if !self.generator.wraps() => self.part(request),
             _ => UNKNOWN,
         }
     }
@@ -370,6 +458,7 @@ impl Device {
             staged: Vec::new(),
             draft: Vec::new(),
             picture: Vec::new(),
+            told: unbegun(),
             part: Part::Nothing,
         }
     }
@@ -415,6 +504,23 @@ impl Device {
         OPENED
     }
 
+    fn tell_state(&mut self, request: u64) -> u64 {
+        if tell_state(&mut self.told, request) {
+            CLEARED
+        } else {
+            NO_STATE
+        }
+    }
+
+    fn resume(&mut self) -> u64 {
+        let Some(generator) = Generator::resumed(self.told.clone()) else {
+            return NO_STATE;
+        };
+        let last = self.told.low.unwrap_or(0);
+        self.told = unbegun();
+        self.open(Some(Part::Generator(Lone { generator, last })))
+    }
+
     fn stroke(&self, request: u64) -> Option<&Stroke> {
         self.picture.get((request >> 8) as usize)
     }
@@ -444,6 +550,12 @@ impl Device {
                 *self = Device::new();
                 CLOSED
             }
+            29 => self.resume(),
+            30 => self.open(Some(Part::Generator(Lone {
+                generator: Generator::wrapping(),
+                last: 0,
+            }))),
+            TELL_STATE => self.tell_state(request),
             17 => self.picture.len() as u64,
             18 => self.stroke(request).map_or(0, |stroke| {
                 u64::from(stroke.x0) | u64::from(stroke.y0) << 32

@@ -1,4 +1,6 @@
 pub mod Found
-pub mod Left
 pub mod Judged
 pub mod Told
+pub mod Parted
+pub mod Worded
+pub mod Restored

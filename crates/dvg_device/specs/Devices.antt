@@ -3,15 +3,18 @@ use Rattle.std.specs.Prelude.{◌≡◌, ◌+◌, ◌<◌, ◌≤◌, ◌⊎◌,
 use Rattle.std.specs.Prelude.{None}
 use Rattle.dvg_gen.specs.declared.stroke.Stroke.{Stroke}
 use Rattle.dvg_gen.specs.Machine.{Machine, HasTaken}
+use Rattle.dvg_gen.specs.Wrapping.{Wrapped, HasWrapped}
 use Rattle.dvg_frame.specs.declared.op.OpKind.{OpKind}
-use Rattle.dvg_world.specs.Standing.{State, WorldAfter}
+use Rattle.dvg_world.specs.Standing.{State}
 use Rattle.dvg_device.specs.Operations.{Names}
 use Rattle.dvg_device.specs.Requests.{request_of}
 use Rattle.dvg_device.specs.Replies.{number_of, begins, ends, shines}
-use Rattle.dvg_device.specs.Worlds.{WorldAnswers}
+use Rattle.dvg_device.specs.Worlds.{IsBegun, WorldAnswers}
 use Rattle.dvg_world.specs.Desks.{Driven, IsFresh}
 use Rattle.dvg_device.specs.Drivers.{DriverAnswers}
 use Rattle.dvg_device.specs.Generators.{GeneratorAnswers, Tells}
+use Rattle.dvg_device.specs.Wrappings.{TellsWrapped, WrappingAnswers}
+use Rattle.dvg_device.specs.States.{CanStand, TakesPart, part_in, unbegun}
 use Rattle.dvg_moment.specs.declared.judge.MomentJudge.{MomentJudge}
 use Rattle.dvg_moment.specs.Judging.{StandsAfter}
 use Rattle.dvg_device.specs.Judges.{JudgeAnswers}
@@ -29,18 +32,27 @@ pub data Open : Type 0 where
   World : State → Open
   Driver : Driven → Open
   Generator : Machine → Open
+  Wrapping : Wrapped → Open
   Judge : MomentJudge → Open
 
--- a device: the bytes that were staged, its draft, the strokes of the newest finished run, and what is open
+-- the strokes of the newest run of what is open that came to a HALT
+abbrev pub picture_in : Open → List Stroke
+picture_in (World world) = world.machine.picture
+picture_in (Generator machine) = machine.picture
+picture_in (Wrapping wrapped) = wrapped.machine.picture
+picture_in part = []
+
+-- a device: the bytes that were staged, its draft, the machine in the state of a generator that was told so far, and
+-- what is open
 pub record Held : Type 0 where
   pub staged : List ℕ
   pub draft : List OpKind
-  pub picture : List Stroke
+  pub waiting : Machine
   pub open_part : Open
 
 -- a device in which nothing is open
 abbrev pub closed : Held
-closed = record { staged = []; draft = []; picture = []; open_part = Nothing }
+closed = record { staged = []; draft = []; waiting = unbegun; open_part = Nothing }
 
 -- an operation is pushed: it stands at the end of the draft, under that number; or the numbers name none; or there are
 -- 511
@@ -63,11 +75,10 @@ StageAnswers byte count old new _ = ⊥
 abbrev pub IsOneOf : ℕ → ℕ → ℕ → Type 0
 IsOneOf n small large = (n ≡ small) ⊎ (n ≡ large)
 
--- something is opened where the staged bytes are those that it takes: this holds of what is open then, and no stroke is
--- drawn
+-- something is opened where the staged bytes are those that it takes: this holds of what is open then
 abbrev pub OpenAnswers : Type 0 → (Open → Type 0) → Held → Held → Reply → Type 0
 OpenAnswers Fits P old new replies.Opened = Fits × (part : Open) × P part
-    × (new ≡ record old { picture = []; open_part = part })
+    × (new ≡ record old { open_part = part })
 OpenAnswers Fits P old new replies.WrongSize = ¬ Fits × (new ≡ old)
 OpenAnswers Fits P old new replies.NoMemory = Fits × (new ≡ old)
 OpenAnswers Fits P old new _ = ⊥
@@ -75,7 +86,7 @@ OpenAnswers Fits P old new _ = ⊥
 -- a world over the ROM of the bytes after the first 2,048, with those as the first image of its RAM, that stands after
 -- the empty log
 abbrev pub IsNewWorld : List ℕ → Open → Type 0
-IsNewWorld staged (World world) = WorldAfter (drop 2048 staged) (take 2048 staged) [] world
+IsNewWorld staged (World world) = IsBegun (drop 2048 staged) (take 2048 staged) world
 IsNewWorld staged part = ⊥
 
 -- a driver over the ROM of these bytes that stands after the empty life
@@ -88,6 +99,13 @@ abbrev pub IsNewJudge : Open → Type 0
 IsNewJudge (Judge judge) = StandsAfter judge []
 IsNewJudge part = ⊥
 
+-- a generator begins in the state that was told, if it can stand so
+abbrev pub ResumeAnswers : Held → Held → Reply → Type 0
+ResumeAnswers old new replies.Opened = CanStand old.waiting × (old.waiting.picture ≡ [])
+    × (new ≡ record old { waiting = unbegun; open_part = Generator old.waiting })
+ResumeAnswers old new replies.NoState = ¬ CanStand old.waiting × (new ≡ old)
+ResumeAnswers old new _ = ⊥
+
 -- what is answered where nothing is open
 abbrev pub unopened : Request → Reply
 unopened requests.Unknown = replies.Unknown
@@ -96,20 +114,22 @@ unopened asked = replies.Closed
 -- the number of the reply to a question, by what is open
 abbrev pub ToldBy : Question → Open → ℕ → Type 0
 ToldBy question (Generator machine) answer = (told : Reply) × Tells question machine told × (answer ≡ number_of told)
+ToldBy question (Wrapping wrapped) answer = (told : Reply) × TellsWrapped question wrapped told
+    × (answer ≡ number_of told)
 ToldBy question Nothing answer = answer ≡ number_of replies.Closed
 ToldBy question part answer = answer ≡ number_of replies.Unknown
 
 -- what is open comes to this by a request, beside the draft and the staged bytes
 abbrev pub PartAnswers : Open → Request → Held → Held → Reply → Type 0
 PartAnswers Nothing asked old new answer = (new ≡ old) × (answer ≡ unopened asked)
-PartAnswers (World world) asked old new answer = (later : State) × (left : List Stroke)
-    × (new ≡ record old { picture = left; open_part = World later })
-    × WorldAnswers old.draft old.staged asked world later old.picture left answer
+PartAnswers (World world) asked old new answer = (later : State) × (new ≡ record old { open_part = World later })
+    × WorldAnswers old.draft old.staged asked world later answer
 PartAnswers (Driver driven) asked old new answer = (later : Driven) × (new ≡ record old { open_part = Driver later })
     × (later.rom ≡ driven.rom) × DriverAnswers driven.rom old.draft asked driven.stage later.stage answer
-PartAnswers (Generator machine) asked old new answer = (later : Machine) × (left : List Stroke)
-    × (new ≡ record old { picture = left; open_part = Generator later })
-    × GeneratorAnswers asked machine later old.picture left answer
+PartAnswers (Generator machine) asked old new answer = (later : Machine)
+    × (new ≡ record old { open_part = Generator later }) × GeneratorAnswers asked machine later answer
+PartAnswers (Wrapping wrapped) asked old new answer = (later : Wrapped)
+    × (new ≡ record old { open_part = Wrapping later }) × WrappingAnswers asked wrapped later answer
 PartAnswers (Judge judge) asked old new answer = (later : MomentJudge) × (new ≡ record old { open_part = Judge later })
     × JudgeAnswers asked judge later answer
 
@@ -124,13 +144,20 @@ Answered requests.OpenWorld old new answer = OpenAnswers (IsOneOf (length old.st
 Answered requests.OpenDriver old new answer = OpenAnswers (IsOneOf (length old.staged) 2048 4096)
     (IsNewDriver old.staged) old new answer
 Answered requests.OpenGenerator old new answer = (machine : Machine) × HasTaken machine [] None
-    × (new ≡ record old { picture = []; open_part = Generator machine }) × (answer ≡ replies.Opened)
+    × (machine.picture ≡ []) × (new ≡ record old { open_part = Generator machine }) × (answer ≡ replies.Opened)
+Answered requests.OpenWrapping old new answer = (wrapped : Wrapped) × HasWrapped wrapped [] None
+    × (wrapped.machine.picture ≡ []) × (new ≡ record old { open_part = Wrapping wrapped })
+    × (answer ≡ replies.Opened)
 Answered requests.OpenJudge old new answer = OpenAnswers (Unit {0}) IsNewJudge old new answer
+Answered requests.Resume old new answer = ResumeAnswers old new answer
+Answered (requests.TellState word) old new answer = (later : Machine) × (new ≡ record old { waiting = later })
+    × TakesPart (part_in word) old.waiting later answer
 Answered requests.Close old new answer = (new ≡ closed) × (answer ≡ replies.Closed)
-Answered requests.CountStrokes old new answer = (new ≡ old) × (answer ≡ replies.Count (length old.picture))
-Answered (requests.StrokeFrom n) old new answer = (new ≡ old) × (answer ≡ begins (slice_get old.picture n))
-Answered (requests.StrokeTo n) old new answer = (new ≡ old) × (answer ≡ ends (slice_get old.picture n))
-Answered (requests.StrokeIntensity n) old new answer = (new ≡ old) × (answer ≡ shines (slice_get old.picture n))
+Answered requests.CountStrokes old new answer = (new ≡ old)
+    × (answer ≡ replies.Count (length (picture_in old.open_part)))
+Answered (requests.StrokeFrom n) old new answer = (new ≡ old) × (answer ≡ begins (slice_get (picture_in old.open_part) n))
+Answered (requests.StrokeTo n) old new answer = (new ≡ old) × (answer ≡ ends (slice_get (picture_in old.open_part) n))
+Answered (requests.StrokeIntensity n) old new answer = (new ≡ old) × (answer ≡ shines (slice_get (picture_in old.open_part) n))
 Answered asked old new answer = PartAnswers old.open_part asked old new answer
 
 -- a request as a number, with its answer as one

@@ -1,19 +1,18 @@
 -- What a generator alone answers to a request.
 use Rattle.std.specs.Prelude.{◌≡◌, ◌⊎◌, ◌+◌, ◌*◌, ℕ, true, false, List, ◌∷◌, length, slice_get, Option}
-use Rattle.std.specs.Prelude.{Some, None, Vec, is_some, option_to_list}
-use Rattle.std.specs.Global.{Global}
+use Rattle.std.specs.Prelude.{Some, None, is_some, option_to_list}
 use Rattle.dvg_gen.specs.declared.beam.Beam.{Beam}
 use Rattle.dvg_gen.specs.declared.moving.Move.{Move}
-use Rattle.dvg_gen.specs.declared.stroke.Stroke.{Stroke}
 use Rattle.dvg_gen.specs.declared.taken.Step.{Step}
 use Rattle.dvg_gen.specs.Bytes.{met}
 use Rattle.dvg_gen.specs.Completing.{DrawsNothing}
-use Rattle.dvg_gen.specs.Machine.{Machine, HasTaken, Answers, taken_by}
+use Rattle.dvg_gen.specs.Machine.{Machine, HasTaken, Answers, answer_by, picture_after}
 use Rattle.dvg_gen.specs.Moving.{AddsMoves}
 use Rattle.dvg_gen.specs.Told.{Told, Start, Reset, Newest, wants}
-use Rattle.dvg_log.specs.Entries.{Shown, entry_by}
+use Rattle.dvg_log.specs.Entries.{entry_by}
 use Rattle.dvg_log.specs.declared.entry.Entry.TheVariants.{Started, Cleared, Still}
-use Rattle.dvg_device.specs.Replies.{answered_by, bit, picture_by}
+use Rattle.dvg_device.specs.Replies.{bit}
+use Rattle.dvg_device.specs.States.{CanBeSaved, parts_of, told_part}
 use Rattle.dvg_device.specs.declared.reply.Reply.{Reply}
 use Rattle.dvg_device.specs.declared.reply.Reply.TheVariants.{Came, Wants, Point, Moves, Nothing, Holds}
 use Rattle.dvg_device.specs.declared.reply.Reply.TheVariants.{ReturnsTo, Unknown, NoMemory}
@@ -35,32 +34,27 @@ wanting None low = Came Still
 wanting (Some address) low = Wants address (is_some low)
 
 -- a byte or a hole is fetched: at the address that is wanted, and the answer is that of the entry that such a fetch has
--- in a log, with these strokes if it finishes the run; the strokes left are those of the newest finished run
-pub record Fetches (byte : Option ℕ) (machine later : Machine) (drawn left : List Stroke) (reply : Reply) : Type 0 where
+-- in a log. Where it finishes the run, the picture is of its strokes, and else it stays
+pub record Fetches (byte : Option ℕ) (machine later : Machine) (reply : Reply) : Type 0 where
   pub address : ℕ
   pub step : Step
-  pub list : Vec Stroke Global
-  pub entry : Shown
   pub wanted : OfHistories machine (λ history low run. wants run ≡ Some address)
-  pub answers : OfHistories machine (λ history low run. Answers history (met low byte) later (taken_by step list))
-  pub shown : OfHistories machine (λ history low run. entry ≡ entry_by address (met low byte) step list.items)
-  pub answered : reply ≡ answered_by entry
-  pub picture : left ≡ picture_by entry drawn
+  pub answers : OfHistories machine
+      (λ history low run. Answers history (met low byte) later (answer_by step later.picture))
+  pub picture : later.picture ≡ picture_after step machine
+  pub answered : OfHistories machine (λ history low run. reply ≡ Came (entry_by address (met low byte) step tt))
 
 -- there was no memory for the stroke of a vector that the byte completes, and nothing has changed
-pub record LacksRoom (byte : Option ℕ) (machine later : Machine) (drawn left : List Stroke)
-    (reply : Reply) : Type 0 where
+pub record LacksRoom (byte : Option ℕ) (machine later : Machine) (reply : Reply) : Type 0 where
   pub room : OfHistories machine (λ history low run. ¬ DrawsNothing run.held (met low byte))
   pub answered : reply ≡ NoMemory
   pub same : later ≡ machine
-  pub kept : left ≡ drawn
 
 -- a fetch where no run is open changes nothing
-pub record StaysStill (machine later : Machine) (drawn left : List Stroke) (reply : Reply) : Type 0 where
+pub record StaysStill (machine later : Machine) (reply : Reply) : Type 0 where
   pub halted : OfHistories machine (λ history low run. run.is_open ≡ false)
   pub answered : reply ≡ Came Still
   pub same : later ≡ machine
-  pub kept : left ≡ drawn
 
 -- this is the move that a byte or a hole would make, fetched next: where a run is open it is what such a fetch adds to
 -- the moves of the run, and else there is none
@@ -84,12 +78,11 @@ abbrev pub first_or_none : Option ℕ → ℕ
 first_or_none None = 0
 first_or_none (Some word) = word
 
--- what is told of what a generator holds: its first word, and in bits its scale, whether a low byte waits, whether
--- there is a first word, and how many return addresses there are
-abbrev pub told_held : Machine → Reply
-told_held machine = Holds (first_or_none machine.held)
-    (machine.beam.scale + (0x10 * bit (is_some machine.low) + 0x20 * bit (is_some machine.held))
-    + 0x100 * length machine.stack)
+-- what is told of what a generator holds that has so many return addresses: its first word, and in bits its scale,
+-- whether a low byte waits, whether there is a first word, and that number
+abbrev pub told_held : Machine → (returns : ℕ) → Reply
+told_held machine returns = Holds (first_or_none machine.held)
+    (machine.beam.scale + (0x10 * bit (is_some machine.low) + 0x20 * bit (is_some machine.held)) + 0x100 * returns)
 
 -- what is told of a return address
 abbrev pub told_return : Option ℕ → Reply
@@ -102,19 +95,22 @@ Tells (questions.Move byte) machine reply = (move : Option Move) × Foretold byt
 Tells (questions.MoveTo byte) machine reply = (move : Option Move) × Foretold byte machine move
     × (reply ≡ told_end move machine.beam)
 Tells questions.Beam machine reply = reply ≡ Point machine.beam.x machine.beam.y
-Tells questions.Holds machine reply = reply ≡ told_held machine
+Tells questions.Holds machine reply = reply ≡ told_held machine (length machine.stack)
 Tells (questions.ReturnTo n) machine reply = reply ≡ told_return (slice_get machine.stack n)
+Tells (questions.State n) machine reply = OfHistories machine (λ history low run. CanBeSaved machine)
+    × (reply ≡ told_part (slice_get (parts_of machine) n))
 
--- what a generator with these strokes of the newest finished run comes to by a request
-abbrev pub GeneratorAnswers : Request → Machine → Machine → List Stroke → List Stroke → Reply → Type 0
-GeneratorAnswers requests.Strobe machine later drawn left reply = OfHistories machine
-    (λ history low run. HasTaken later (Start ∷ history) None) × (left ≡ drawn) × (reply ≡ Came Started)
-GeneratorAnswers requests.ResetGenerator machine later drawn left reply = OfHistories machine
-    (λ history low run. HasTaken later (Reset ∷ history) None) × (left ≡ drawn) × (reply ≡ Came Cleared)
-GeneratorAnswers requests.Wants machine later drawn left reply = (later ≡ machine) × (left ≡ drawn)
+-- what a generator comes to by a request
+abbrev pub GeneratorAnswers : Request → Machine → Machine → Reply → Type 0
+GeneratorAnswers requests.Strobe machine later reply = OfHistories machine
+    (λ history low run. HasTaken later (Start ∷ history) None) × (later.picture ≡ machine.picture)
+    × (reply ≡ Came Started)
+GeneratorAnswers requests.ResetGenerator machine later reply = OfHistories machine
+    (λ history low run. HasTaken later (Reset ∷ history) None) × (later.picture ≡ machine.picture)
+    × (reply ≡ Came Cleared)
+GeneratorAnswers requests.Wants machine later reply = (later ≡ machine)
     × OfHistories machine (λ history low run. reply ≡ wanting (wants run) low)
-GeneratorAnswers (requests.Fetch byte) machine later drawn left reply = Fetches byte machine later drawn left reply
-    ⊎ (LacksRoom byte machine later drawn left reply ⊎ StaysStill machine later drawn left reply)
-GeneratorAnswers (requests.Ask question) machine later drawn left reply = (later ≡ machine) × (left ≡ drawn)
-    × Tells question machine reply
-GeneratorAnswers request machine later drawn left reply = (later ≡ machine) × (left ≡ drawn) × (reply ≡ Unknown)
+GeneratorAnswers (requests.Fetch byte) machine later reply = Fetches byte machine later reply
+    ⊎ (LacksRoom byte machine later reply ⊎ StaysStill machine later reply)
+GeneratorAnswers (requests.Ask question) machine later reply = (later ≡ machine) × Tells question machine reply
+GeneratorAnswers request machine later reply = (later ≡ machine) × (reply ≡ Unknown)

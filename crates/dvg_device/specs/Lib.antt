@@ -2,9 +2,11 @@ pub mod Lookup
 pub mod Operations
 pub mod Requests
 pub mod Replies
+pub mod States
 pub mod Worlds
 pub mod Drivers
 pub mod Generators
+pub mod Wrappings
 pub mod Judges
 pub mod Devices
 pub mod Parts

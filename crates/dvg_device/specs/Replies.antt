@@ -1,5 +1,5 @@
 -- Replies, and their numbers of 64 bits.
-use Rattle.std.specs.Prelude.{ℕ, ◌+◌, ◌*◌, ◌^◌, Bool, true, false, List, Option, Some, None}
+use Rattle.std.specs.Prelude.{ℕ, ◌+◌, ◌*◌, ◌%◌, ◌^◌, Bool, true, false, Option, Some, None}
 use Rattle.dvg_gen.specs.declared.stroke.Stroke.{Stroke}
 use Rattle.dvg_gen.specs.Numbers.{fault_number}
 use Rattle.dvg_driver.specs.declared.action.Action.{Action}
@@ -11,11 +11,10 @@ use Rattle.dvg_frame.specs.declared.place.Place.TheVariants.{InFrame, InRom}
 use Rattle.dvg_log.specs.declared.entry.Entry.{Entry}
 use Rattle.dvg_log.specs.declared.entry.Entry.TheVariants.{Offered, Refused, Busy, Asked, NothingPublished, Acted}
 use Rattle.dvg_log.specs.declared.entry.Entry.TheVariants.{Started, NoStrobe, Low, Fetched, Done, Broke, Still, Cleared}
-use Rattle.dvg_log.specs.Entries.{Shown, map_entry}
 use Rattle.dvg_device.specs.declared.reply.Reply.{Reply}
 use Rattle.dvg_device.specs.declared.reply.Reply.TheVariants.{Came, Pushed, NoOperation, Full, Staged, Opened}
 use Rattle.dvg_device.specs.declared.reply.Reply.TheVariants.{WrongSize, Closed, Wants, Count, Point, Intensity}
-use Rattle.dvg_device.specs.declared.reply.Reply.TheVariants.{Judged, Moves, Nothing, Holds, ReturnsTo}
+use Rattle.dvg_device.specs.declared.reply.Reply.TheVariants.{Judged, Moves, Nothing, Holds, ReturnsTo, State, NoState}
 use Rattle.dvg_device.specs.declared.reply.Reply.TheVariants.{Unknown, NoMemory}
 use Rattle.dvg_device.specs.declared.reply.RunState.{RunState}
 use Rattle.dvg_device.specs.declared.reply.RunState.TheVariants as runs
@@ -95,17 +94,10 @@ number_of (Moves address z placed) = packed 31 address (z + 0x100 * bit placed)
 number_of Nothing = packed 32 0 0
 number_of (Holds first bits) = packed 33 first bits
 number_of (ReturnsTo address) = packed 34 address 0
+number_of (State word) = 35 + 0x100 * (word % 2 ^ 56)
+number_of NoState = packed 36 0 0
 number_of Unknown = packed 254 0 0
 number_of NoMemory = packed 255 0 0
-
--- the reply to an event, by what the log shows of it
-abbrev pub answered_by : Shown → Reply
-answered_by entry = Came (map_entry (λ strokes. tt) entry)
-
--- the strokes of the newest run that came to a HALT, after this entry
-abbrev pub picture_by : Shown → List Stroke → List Stroke
-picture_by (Done address word strokes) picture = strokes
-picture_by entry picture = picture
 
 -- where a stroke begins and ends, and its intensity; 0 where there is none
 abbrev pub begins : Option Stroke → Reply

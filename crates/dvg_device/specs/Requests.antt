@@ -9,8 +9,9 @@ use Rattle.dvg_device.specs.declared.request.Request.TheVariants.{Offer, Redraw,
 use Rattle.dvg_device.specs.declared.request.Request.TheVariants.{ResetProcessor, ResetAll, Push, ClearDraft, Stage}
 use Rattle.dvg_device.specs.declared.request.Request.TheVariants.{Unstage, OpenWorld, OpenDriver, OpenGenerator, Close}
 use Rattle.dvg_device.specs.declared.request.Request.TheVariants.{Wants, CountStrokes, StrokeFrom, StrokeTo}
-use Rattle.dvg_device.specs.declared.request.Request.TheVariants.{StrokeIntensity, OpenJudge, Tell, Ask, Unknown}
-use Rattle.dvg_device.specs.declared.request.Question.TheVariants.{Move, MoveTo, Beam, Holds, ReturnTo}
+use Rattle.dvg_device.specs.declared.request.Request.TheVariants.{StrokeIntensity, OpenJudge, Tell, Ask, Resume, OpenWrapping}
+use Rattle.dvg_device.specs.declared.request.Request.TheVariants.{TellState, Unknown}
+use Rattle.dvg_device.specs.declared.request.Question.TheVariants.{Move, MoveTo, Beam, Holds, ReturnTo, State}
 
 -- the fields of an operation: a byte each of its kind, its scale and its intensity above the lowest byte, and 16 bits
 -- each of x and y
@@ -62,4 +63,5 @@ request_of n = looked_up Unknown (n % 0x100)
     ∷ (16, Wants) ∷ (17, CountStrokes) ∷ (18, StrokeFrom (n / 0x100)) ∷ (19, StrokeTo (n / 0x100))
     ∷ (20, StrokeIntensity (n / 0x100)) ∷ (21, OpenJudge) ∷ (22, telling (line_in n))
     ∷ (23, Ask (Move (handed (flag_of n) (byte_of n)))) ∷ (24, Ask (MoveTo (handed (flag_of n) (byte_of n))))
-    ∷ (25, Ask Beam) ∷ (26, Ask Holds) ∷ (27, Ask (ReturnTo (n / 0x100))) ∷ [])
+    ∷ (25, Ask Beam) ∷ (26, Ask Holds) ∷ (27, Ask (ReturnTo (n / 0x100)))
+    ∷ (28, Ask (State (n / 0x100))) ∷ (29, Resume) ∷ (30, OpenWrapping) ∷ (35, TellState (n / 0x100)) ∷ [])

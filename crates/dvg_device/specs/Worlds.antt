@@ -1,17 +1,21 @@
 -- What a world answers to a request.
-use Rattle.std.specs.Prelude.{◌≡◌, ◌⊎◌, ◌==◌, ℕ, List, length, if◌then◌else◌, Option, Some, None}
-use Rattle.dvg_gen.specs.declared.stroke.Stroke.{Stroke}
+use Rattle.std.specs.Prelude.{◌≡◌, ◌⊎◌, ◌==◌, ℕ, List, [], length, if◌then◌else◌, Option, Some, None}
 use Rattle.dvg_frame.specs.declared.op.OpKind.{OpKind}
-use Rattle.dvg_log.specs.Entries.{Shown}
+use Rattle.dvg_log.specs.declared.entry.Entry.{Entry}
+use Rattle.dvg_log.specs.Entries.{drew_in}
 use Rattle.dvg_log.specs.declared.event.Event.TheVariants as events
 use Rattle.dvg_log.specs.Events.{Happening}
-use Rattle.dvg_world.specs.Standing.{State, AddsLine, DrawsNow, KeepsHeadlineAfter}
-use Rattle.dvg_device.specs.Replies.{answered_by, picture_by}
+use Rattle.dvg_world.specs.Standing.{State, WorldAfter, AddsLine, DrawsNow, KeepsHeadlineAfter, shown_in}
 use Rattle.dvg_device.specs.declared.reply.Reply.{Reply}
-use Rattle.dvg_device.specs.declared.reply.Reply.TheVariants.{NoMemory, Unknown, WrongSize}
+use Rattle.dvg_device.specs.declared.reply.Reply.TheVariants.{Came, NoMemory, Unknown, WrongSize}
 use Rattle.dvg_device.specs.declared.request.Request.{Request}
 use Rattle.dvg_device.specs.declared.request.Request.TheVariants.{Offer, Redraw, Tick, Strobe, Fetch, ResetGenerator}
 use Rattle.dvg_device.specs.declared.request.Request.TheVariants.{ResetProcessor, ResetAll}
+
+-- a world that begins over a ROM of these bytes and a RAM of those: it stands after the empty log, and has no picture
+pub record IsBegun (R image : List ℕ) (world : State) : Type 0 where
+  pub stands : WorldAfter R image [] world
+  pub picture : world.machine.picture ≡ []
 
 -- the event that a request asks a world for, with this draft and these staged bytes
 abbrev pub event_of : List OpKind → List ℕ → Request → Option Happening
@@ -26,13 +30,13 @@ event_of F staged ResetAll = if length staged == 2048 then Some (events.ResetAll
 event_of F staged request = None
 
 -- the event happens: over each log that the world stands after, it adds a line, which keeps the headline; the reply is
--- of its entry, and the strokes are those of the newest finished run
-pub record Happens (event : Happening) (world later : State) (drawn left : List Stroke) (reply : Reply) : Type 0 where
-  pub entry : Shown
-  pub stands : AddsLine world event entry later
-  pub headline : KeepsHeadlineAfter world event entry
-  pub answered : reply ≡ answered_by entry
-  pub picture : left ≡ picture_by entry drawn
+-- of its entry. Where that finished a run, the picture is of its strokes, and else it stays
+pub record Happens (event : Happening) (world later : State) (reply : Reply) : Type 0 where
+  pub entry : Entry (Unit {0})
+  pub stands : AddsLine world event (shown_in later entry) later
+  pub headline : KeepsHeadlineAfter world event (shown_in later entry)
+  pub picture : drew_in entry ≡ None → later.machine.picture ≡ world.machine.picture
+  pub answered : reply ≡ Came entry
 
 -- an event that there may be no memory for: a fetch that completes a vector that is seen
 abbrev pub TakesRoom : Happening → State → Type 0
@@ -40,11 +44,10 @@ TakesRoom events.Fetch world = DrawsNow world
 TakesRoom event world = ⊥
 
 -- there was no memory for the event, and nothing has changed
-pub record Lacks (event : Happening) (world later : State) (drawn left : List Stroke) (reply : Reply) : Type 0 where
+pub record Lacks (event : Happening) (world later : State) (reply : Reply) : Type 0 where
   pub room : TakesRoom event world
   pub answered : reply ≡ NoMemory
   pub same : later ≡ world
-  pub kept : left ≡ drawn
 
 -- the answer to a request for no event
 abbrev pub declined : Request → Reply
@@ -52,11 +55,10 @@ declined ResetAll = WrongSize
 declined request = Unknown
 
 -- a request that asks for an event has it happen, or there is no memory for it; another one leaves all as it was
-abbrev pub Goes : Option Happening → Request → State → State → List Stroke → List Stroke → Reply → Type 0
-Goes (Some event) request world later drawn left reply = Happens event world later drawn left reply
-    ⊎ Lacks event world later drawn left reply
-Goes None request world later drawn left reply = (later ≡ world) × (left ≡ drawn) × (reply ≡ declined request)
+abbrev pub Goes : Option Happening → Request → State → State → Reply → Type 0
+Goes (Some event) request world later reply = Happens event world later reply ⊎ Lacks event world later reply
+Goes None request world later reply = (later ≡ world) × (reply ≡ declined request)
 
--- what a world with this draft, these staged bytes and these strokes of the newest finished run comes to by a request
-abbrev pub WorldAnswers : List OpKind → List ℕ → Request → State → State → List Stroke → List Stroke → Reply → Type 0
+-- what a world with this draft and these staged bytes comes to by a request
+abbrev pub WorldAnswers : List OpKind → List ℕ → Request → State → State → Reply → Type 0
 WorldAnswers F staged request = Goes (event_of F staged request) request

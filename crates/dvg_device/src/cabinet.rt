@@ -1,9 +1,7 @@
 //! A world, beside the image that it is reset to.
-ghost use Rattle.std.specs.Prelude.{◌≡◌, ◌⊎◌, [], List, length, IfSome, MatchBool};
-ghost use Rattle.dvg_gen.specs.declared.stroke.Stroke.{Stroke};
+ghost use Rattle.std.specs.Prelude.{◌≡◌, ◌⊎◌, length, IfSome, MatchBool};
 ghost use Rattle.dvg_log.specs.declared.event.Event.TheVariants.{Tick, Fetch};
-ghost use Rattle.dvg_world.specs.Standing.{WorldAfter};
-ghost use Rattle.dvg_device.specs.Worlds.{Happens, Lacks, WorldAnswers};
+ghost use Rattle.dvg_device.specs.Worlds.{Happens, IsBegun, Lacks, WorldAnswers};
 
 use crate::happening::{ask_world, fetch_in_world, tick_world};
 use crate::reply::Reply;
@@ -37,7 +35,7 @@ impl Cabinet {
     // Memory is taken from `alloc`. Returns `None` where an allocation fails, or `image` or `rom`
     // has a wrong length.
     pub(crate) fn new(alloc: Global, image: &[u8], rom: &[u8]) -> Option<Cabinet>
-        ensures { IfSome result (λ cabinet. WorldAfter rom.now image.now [] cabinet) }
+        ensures { IfSome result (IsBegun rom.now image.now) }
     {
         let image = Image::new(alloc, image).ok()?;
         let rom = Rom::new(alloc, rom).ok()?;
@@ -50,44 +48,40 @@ impl Cabinet {
     // Returns `false` where an allocation fails, or `rom` has a wrong length.
     pub(crate) fn begin_anew(&mut self, alloc: Global, image: &[u8], rom: &[u8]) -> bool
         requires { length image.now ≡ 2048 }
-        ensures { MatchBool result (WorldAfter rom.now image.now [] self.new) (Unit {0}) }
+        ensures { MatchBool result (IsBegun rom.now image.now self.new) (Unit {0}) }
     {
         self.image.copy_from(image);
         self.world.begin_anew(alloc, rom, &self.image).is_ok()
     }
 
+    // Returns the strokes of the newest run of the world that came to a HALT.
+    pub(crate) fn picture(&self) -> &[Stroke]
+        ensures { result.now ≡ self.now.machine.picture }
+    {
+        self.world.picture()
+    }
+
     // Lets the driver of the world do one action. Returns the reply.
     #[inline(always)]
     pub(crate) fn tick(&mut self) -> Reply
-        ensures { (drawn : List Stroke) → Happens Tick self.old self.new drawn drawn result }
+        ensures { Happens Tick self.old self.new result }
     {
         tick_world(&mut self.world)
     }
 
-    // Lets the generator of the world fetch one byte. Returns the reply. `picture` has the strokes
-    // of the newest run that came to a HALT.
+    // Lets the generator of the world fetch one byte. Returns the reply.
     #[inline(always)]
-    pub(crate) fn fetch(&mut self, picture: &mut Vec<Stroke>) -> Reply
-        ensures { Happens Fetch self.old self.new picture.old.items picture.new.items result
-            ⊎ Lacks Fetch self.old self.new picture.old.items picture.new.items result }
+    pub(crate) fn fetch(&mut self) -> Reply
+        ensures { Happens Fetch self.old self.new result ⊎ Lacks Fetch self.old self.new result }
     {
-        fetch_in_world(&mut self.world, picture)
+        fetch_in_world(&mut self.world)
     }
 
     // Lets the world do `request`, with `draft` and the staged bytes `staged`. Returns the reply.
-    // `picture` has the strokes of the newest run that came to a HALT.
     #[inline(always)]
-    pub(crate) fn ask(
-        &mut self,
-        request: Request,
-        draft: &Draft,
-        staged: &[u8],
-        picture: &mut Vec<Stroke>,
-    ) -> Reply
-        ensures { WorldAnswers draft.now staged.now request self.old self.new picture.old.items
-            picture.new.items result }
+    pub(crate) fn ask(&mut self, request: Request, draft: &Draft, staged: &[u8]) -> Reply
+        ensures { WorldAnswers draft.now staged.now request self.old self.new result }
     {
-        let image = &mut self.image;
-        ask_world(&mut self.world, image, request, draft, staged, picture)
+        ask_world(&mut self.world, &mut self.image, request, draft, staged)
     }
 }

@@ -1,11 +1,11 @@
 //! The device.
 ghost use Rattle.std.specs.Prelude.{◌≡◌, ◌↔◌, [], length, drop, take, slice_get, IfSome, IsTrue};
-ghost use Rattle.dvg_world.specs.Standing.{WorldAfter};
 ghost use Rattle.dvg_device.specs.Devices.{Answered, Driver, IsNewDriver, IsOneOf, PartAnswers};
 ghost use Rattle.dvg_device.specs.Devices.{PushAnswers, StageAnswers, ToldBy, Turned, closed};
-ghost use Rattle.dvg_device.specs.Devices.{unopened};
+ghost use Rattle.dvg_device.specs.Devices.{picture_in, unopened};
 ghost use Rattle.dvg_device.specs.Parts.{open_of};
 ghost use Rattle.dvg_device.specs.Replies.{begins, ends, shines};
+ghost use Rattle.dvg_device.specs.Worlds.{IsBegun};
 
 use crate::cabinet::Cabinet;
 use crate::desk::{ask_driver, tick_driver};
@@ -14,8 +14,10 @@ use crate::lone::{ask_generator, fetch, tell};
 use crate::operation::Operation;
 use crate::reply::Reply;
 use crate::request::{Question, Request};
+use crate::waiting::Waiting;
+use crate::wrapping::{ask_wrapping, fetch_wrapping, tell_wrapping};
 use dvg_frame::Draft;
-use dvg_gen::{Generator, Stroke};
+use dvg_gen::{Generator, Stroke, WrappingGenerator};
 use dvg_log::Entry;
 use dvg_mem::{MEMORY_BYTES, Rom};
 use dvg_moment::MomentJudge;
@@ -34,19 +36,20 @@ pub(crate) enum Part {
     World(Box<Cabinet>),
     Driver(Box<Desk>),
     Generator(Generator<Global>),
+    Wrapping(WrappingGenerator<Global>),
     Judge(Box<MomentJudge>),
 }
 
 /// A device, in which a world, a driver alone, a generator alone or a judge may be open. It has a
 /// draft, which requests make and an offer hands to the driver; bytes that are staged for what is
-/// opened, and for a reset of the whole system; and the strokes of the newest run that came to a
-/// HALT.
+/// opened, and for a reset of the whole system; and the state of a generator alone, so far as it was
+/// told, in which one may begin.
 #[derive(Drop)]
 pub struct Device {
     alloc: Global,
     staged: Vec<u8>,
     draft: Draft,
-    picture: Vec<Stroke>,
+    waiting: Waiting,
     part: Part,
     // Blocks of memory of what was open before, for what is opened next.
     spare_world: Option<Box<Cabinet>>,
@@ -63,7 +66,7 @@ impl Model for Device {
     ghost view = { λ device. record {
       staged = device.staged.items;
       draft = device.draft;
-      picture = device.picture.items;
+      waiting = device.waiting;
       open_part = open_of device.part;
     } };
 }
@@ -77,7 +80,7 @@ impl Device {
             alloc,
             staged: Vec::new(alloc),
             draft: Draft::new(),
-            picture: Vec::new(alloc),
+            waiting: Waiting::new(alloc),
             part: Part::Nothing,
             spare_world: None,
             spare_desk: None,
@@ -108,6 +111,7 @@ impl Device {
         match &self.part {
             Part::Nothing => Reply::Closed.number(),
             Part::Generator(generator) => tell(generator, question).number(),
+            Part::Wrapping(generator) => tell_wrapping(generator, question).number(),
             Part::World(_) | Part::Driver(_) | Part::Judge(_) => Reply::Unknown.number(),
         }
     }
@@ -125,9 +129,12 @@ impl Device {
             Request::OpenWorld => self.open_world(),
             Request::OpenDriver => self.open_driver(),
             Request::OpenGenerator => self.open_generator(),
+            Request::OpenWrapping => self.open_wrapping(),
             Request::OpenJudge => self.open_judge(),
+            Request::Resume => self.resume(),
+            Request::TellState(word) => self.tell_state(word),
             Request::Close => self.close(),
-            Request::CountStrokes => Reply::Count(self.picture.len() as u64),
+            Request::CountStrokes => Reply::Count(self.picture().len() as u64),
             Request::StrokeFrom(i) => self.stroke_from(i),
             Request::StrokeTo(i) => self.stroke_to(i),
             Request::StrokeIntensity(i) => self.stroke_intensity(i),
@@ -229,6 +236,14 @@ impl Device {
         self.open(Part::Generator(Generator::new(self.alloc)))
     }
 
+    // Opens a generator whose stack wraps.
+    #[inline(never)]
+    fn open_wrapping(&mut self) -> Reply
+        ensures { Answered Request.OpenWrapping self.old self.new result }
+    {
+        self.open(Part::Wrapping(WrappingGenerator::new(self.alloc)))
+    }
+
     // Opens a judge.
     #[inline(never)]
     fn open_judge(&mut self) -> Reply
@@ -240,15 +255,32 @@ impl Device {
         }
     }
 
-    // Opens `part`, in which nothing was drawn yet. The memory of what was open stays, for the next
-    // one of its kind.
+    // Opens a generator in the state that was told.
+    #[inline(never)]
+    fn resume(&mut self) -> Reply
+        ensures { Answered Request.Resume self.old self.new result }
+    {
+        match self.waiting.generator(self.alloc) {
+            Some(generator) => self.open(Part::Generator(generator)),
+            None => Reply::NoState,
+        }
+    }
+
+    // Takes the part of a state that `word` is.
+    #[inline(never)]
+    fn tell_state(&mut self, word: u64) -> Reply
+        ensures { Answered (Request.TellState word) self.old self.new result }
+    {
+        self.waiting.take(self.alloc, word)
+    }
+
+    // Opens `part`. The memory of what was open stays, for the next one of its kind.
     fn open(&mut self, part: Part) -> Reply
         ensures opened { result ≡ Reply.Opened }
-        ensures device { self.new ≡ record self.old { picture = []; open_part = open_of part } }
+        ensures device { self.new ≡ record self.old { open_part = open_of part } }
     {
         let before = mem::replace(&mut self.part, part);
         self.keep(before);
-        self.picture = Vec::new(self.alloc);
         Reply::Opened
     }
 
@@ -259,7 +291,7 @@ impl Device {
         match before {
             Part::World(world) => self.spare_world = Some(world),
             Part::Driver(desk) => self.spare_desk = Some(desk),
-            Part::Nothing | Part::Generator(_) | Part::Judge(_) => {}
+            Part::Nothing | Part::Generator(_) | Part::Wrapping(_) | Part::Judge(_) => {}
         }
     }
 
@@ -272,12 +304,26 @@ impl Device {
         Reply::Closed
     }
 
+    // Returns the strokes of the newest run of what is open that came to a HALT.
+    #[inline(always)]
+    fn picture(&self) -> &[Stroke]
+        ensures { result.now ≡ picture_in self.now.open_part }
+    {
+        match &self.part {
+            Part::World(world) => world.picture(),
+            Part::Generator(generator) => generator.picture(),
+            Part::Wrapping(generator) => generator.generator().picture(),
+            Part::Nothing | Part::Driver(_) | Part::Judge(_) => &[],
+        }
+    }
+
     // Returns stroke `i` of the newest run that came to a HALT, if there is one.
     fn stroke(&self, i: u64) -> Option<Stroke>
-        ensures { result ≡ slice_get self.now.picture i }
+        ensures { result ≡ slice_get (picture_in self.now.open_part) i }
     {
-        if i < self.picture.len() as u64 {
-            Some(self.picture[i as usize])
+        let picture = self.picture();
+        if i < picture.len() as u64 {
+            Some(picture[i as usize])
         } else {
             None
         }
@@ -285,7 +331,7 @@ impl Device {
 
     // Returns where stroke `i` begins, or 0, 0 where there is none.
     fn stroke_from(&self, i: u64) -> Reply
-        ensures { result ≡ begins (slice_get self.now.picture i) }
+        ensures { result ≡ begins (slice_get (picture_in self.now.open_part) i) }
     {
         match self.stroke(i) {
             Some(stroke) => Reply::Point(stroke.x0, stroke.y0),
@@ -295,7 +341,7 @@ impl Device {
 
     // Returns where stroke `i` ends, or 0, 0 where there is none.
     fn stroke_to(&self, i: u64) -> Reply
-        ensures { result ≡ ends (slice_get self.now.picture i) }
+        ensures { result ≡ ends (slice_get (picture_in self.now.open_part) i) }
     {
         match self.stroke(i) {
             Some(stroke) => Reply::Point(stroke.x1, stroke.y1),
@@ -305,7 +351,7 @@ impl Device {
 
     // Returns the intensity of stroke `i`, or 0 where there is none.
     fn stroke_intensity(&self, i: u64) -> Reply
-        ensures { result ≡ shines (slice_get self.now.picture i) }
+        ensures { result ≡ shines (slice_get (picture_in self.now.open_part) i) }
     {
         match self.stroke(i) {
             Some(stroke) => Reply::Intensity(stroke.z),
@@ -325,6 +371,7 @@ impl Device {
             Part::World(world) => world.tick(),
             Part::Driver(desk) => tick_driver(desk, halted, byte1),
             Part::Generator(_) => Reply::Unknown,
+            Part::Wrapping(_) => Reply::Unknown,
             Part::Judge(_) => Reply::Unknown,
         }
     }
@@ -336,9 +383,10 @@ impl Device {
     {
         match &mut self.part {
             Part::Nothing => Reply::Closed,
-            Part::World(world) => world.fetch(&mut self.picture),
+            Part::World(world) => world.fetch(),
             Part::Driver(_) => Reply::Unknown,
-            Part::Generator(generator) => fetch(generator, byte, &mut self.picture),
+            Part::Generator(generator) => fetch(generator, byte),
+            Part::Wrapping(generator) => fetch_wrapping(generator, byte),
             Part::Judge(_) => Reply::Unknown,
         }
     }
@@ -350,12 +398,10 @@ impl Device {
     {
         match &mut self.part {
             Part::Nothing => unopened(request),
-            Part::World(world) => {
-                let staged = self.staged.as_slice();
-                world.ask(request, &self.draft, staged, &mut self.picture)
-            }
+            Part::World(world) => world.ask(request, &self.draft, self.staged.as_slice()),
             Part::Driver(desk) => ask_driver(desk, request, &self.draft),
-            Part::Generator(generator) => ask_generator(generator, request, &mut self.picture),
+            Part::Generator(generator) => ask_generator(generator, request),
+            Part::Wrapping(generator) => ask_wrapping(generator, request),
             Part::Judge(judge) => ask_judge(judge, request),
         }
     }
@@ -382,8 +428,8 @@ fn is_one_of(n: usize, small: usize, large: usize) -> bool
 // lies in the memory of `spare` where there is some, otherwise in memory of `alloc`. Returns `None`
 // where an allocation fails, or `staged` has a wrong length.
 fn new_world(alloc: Global, staged: &[u8], spare: Option<Box<Cabinet>>) -> Option<Box<Cabinet>>
-    ensures { IfSome result (λ world. WorldAfter (drop 2048 staged.now)
-        (take 2048 staged.now) [] world.value) }
+    ensures { IfSome result (λ world. IsBegun (drop 2048 staged.now) (take 2048 staged.now)
+        world.value) }
 {
     let (image, rom) = staged.split_at_checked(MEMORY_BYTES)?;
     let Some(mut world) = spare else {

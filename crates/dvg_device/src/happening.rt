@@ -1,20 +1,17 @@
 //! What happens in a world.
-ghost use Rattle.std.specs.Prelude.{◌⊎◌, [], List};
-ghost use Rattle.dvg_gen.specs.declared.stroke.Stroke.{Stroke};
+ghost use Rattle.std.specs.Prelude.{◌⊎◌, []};
 ghost use Rattle.dvg_log.specs.declared.event.Event.TheVariants.{Tick, Fetch};
 ghost use Rattle.dvg_device.specs.Worlds.{Happens, Lacks, WorldAnswers};
 
-use crate::reply::{Reply, answered};
+use crate::reply::Reply;
 use crate::request::Request;
 use dvg_frame::Draft;
-use dvg_gen::Stroke;
 use dvg_log::Entry;
 use dvg_mem::{Flat, Image, MEMORY_BYTES};
 use dvg_world::World;
 
-// Lets `world` do `request`, with `draft` and the staged bytes `staged`. Returns the reply.
-// `picture` has the strokes of the newest run that came to a HALT. `image` is the room for that of
-// a reset of the whole system.
+// Lets `world` do `request`, with `draft` and the staged bytes `staged`. Returns the reply. `image`
+// is the room for that of a reset of the whole system.
 #[inline(always)]
 pub(crate) fn ask_world(
     world: &mut World<Flat>,
@@ -22,20 +19,18 @@ pub(crate) fn ask_world(
     request: Request,
     draft: &Draft,
     staged: &[u8],
-    picture: &mut Vec<Stroke>,
 ) -> Reply
-    ensures { WorldAnswers draft.now staged.now request world.old world.new picture.old.items
-        picture.new.items result }
+    ensures { WorldAnswers draft.now staged.now request world.old world.new result }
 {
     match request {
-        Request::Offer => answered(world.offer(draft), picture),
-        Request::Redraw => answered(world.redraw(), picture),
+        Request::Offer => Reply::Came(world.offer(draft)),
+        Request::Redraw => Reply::Came(world.redraw()),
         Request::Tick { .. } => tick_world(world),
-        Request::Strobe => answered(world.strobe(), picture),
-        Request::Fetch(_) => fetch_in_world(world, picture),
-        Request::ResetGenerator => answered(world.reset_generator(), picture),
-        Request::ResetProcessor => answered(world.reset_processor(), picture),
-        Request::ResetAll => reset_all(world, image, staged, picture),
+        Request::Strobe => Reply::Came(world.strobe()),
+        Request::Fetch(_) => fetch_in_world(world),
+        Request::ResetGenerator => Reply::Came(world.reset_generator()),
+        Request::ResetProcessor => Reply::Came(world.reset_processor()),
+        Request::ResetAll => reset_all(world, image, staged),
         _ => Reply::Unknown,
     }
 }
@@ -43,38 +38,30 @@ pub(crate) fn ask_world(
 // Lets the driver of `world` do one action. Returns the reply.
 #[inline(always)]
 pub(crate) fn tick_world(world: &mut World<Flat>) -> Reply
-    ensures { (drawn : List Stroke) → Happens Tick world.old world.new drawn drawn result }
+    ensures { Happens Tick world.old world.new result }
 {
     Reply::Came(Entry::Acted(world.act()))
 }
 
-// Lets the generator of `world` fetch one byte. Returns the reply. `picture` has the strokes of the
-// newest run that came to a HALT.
+// Lets the generator of `world` fetch one byte. Returns the reply.
 #[inline(always)]
-pub(crate) fn fetch_in_world(world: &mut World<Flat>, picture: &mut Vec<Stroke>) -> Reply
-    ensures { Happens Fetch world.old world.new picture.old.items picture.new.items result
-        ⊎ Lacks Fetch world.old world.new picture.old.items picture.new.items result }
+pub(crate) fn fetch_in_world(world: &mut World<Flat>) -> Reply
+    ensures { Happens Fetch world.old world.new result ⊎ Lacks Fetch world.old world.new result }
 {
-    match world.fetch_into(picture) {
+    match world.fetch() {
         Ok(entry) => Reply::Came(entry),
         Err(_) => Reply::NoMemory,
     }
 }
 
 // Resets the whole system of `world`, where the bytes `staged` are those of an image, which is made
-// in `image`. Returns the reply. `picture` has the strokes of the newest run that came to a HALT.
-fn reset_all(
-    world: &mut World<Flat>,
-    image: &mut Image,
-    staged: &[u8],
-    picture: &mut Vec<Stroke>,
-) -> Reply
-    ensures { WorldAnswers [] staged.now Request.ResetAll world.old world.new picture.old.items
-        picture.new.items result }
+// in `image`. Returns the reply.
+fn reset_all(world: &mut World<Flat>, image: &mut Image, staged: &[u8]) -> Reply
+    ensures { WorldAnswers [] staged.now Request.ResetAll world.old world.new result }
 {
     if staged.len() != MEMORY_BYTES {
         return Reply::WrongSize;
     }
     image.copy_from(staged);
-    answered(world.reset_all(image), picture)
+    Reply::Came(world.reset_all(image))
 }

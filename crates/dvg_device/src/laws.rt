@@ -1,8 +1,25 @@
 //! Laws of the definitions alone. Each is the contract of a function that does nothing.
-ghost use Rattle.dvg_device.specs.Laws.{TakenApart};
+ghost use Rattle.dvg_device.specs.Laws.{GoesOn, IsNeverRefused, IsPassedOn, IsReadAgain};
+ghost use Rattle.dvg_device.specs.Laws.{IsRestored, TakenApart};
 
 /// The number of a reply gives back its kind, address and value: by the lowest byte, the next 16
 /// bits, and the rest.
 pub fn taken_apart()
     ensures { TakenApart }
+{}
+
+/// A part of a state whose fields fit into its word is read in it again, and the number of the
+/// reply that tells it is the request by which another device is told it.
+pub fn parts_are_passed_on()
+    ensures read { IsReadAgain }
+    ensures passed { IsPassedOn }
+{}
+
+/// A device that takes all parts of a generator's state in turn, and resumes, opens a generator
+/// that stands after each history after which the saved one stands: so it goes on as that does. No
+/// part is refused, and the state isn't: only memory may be.
+pub fn state_is_restored()
+    ensures suits { IsNeverRefused }
+    ensures restored { IsRestored }
+    ensures goes_on { GoesOn }
 {}

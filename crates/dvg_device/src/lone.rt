@@ -1,26 +1,24 @@
 //! A generator alone.
-ghost use Rattle.std.specs.Prelude.{◌≡◌, ◌⊎◌, slice_get};
+ghost use Rattle.std.specs.Prelude.{◌≡◌, ◌⊎◌, ◌<◌, ◌≤◌, slice_get, IfSome};
 ghost use Rattle.dvg_gen.specs.Told.{wants};
 ghost use Rattle.dvg_device.specs.Generators.{Fetches, GeneratorAnswers, LacksRoom, OfHistories};
 ghost use Rattle.dvg_device.specs.Generators.{StaysStill, Tells, told_end, told_held, told_move};
+ghost use Rattle.dvg_device.specs.States.{CanBeSaved, drawing_parts, drawn_so_far, part_of_stroke};
+ghost use Rattle.dvg_device.specs.States.{parts_of, told_part};
+ghost use Rattle.dvg_device.specs.declared.state.StatePart.TheVariants.{Fields};
 ghost use Rattle.dvg_device.specs.Generators.{told_return, wanting};
 
 use crate::reply::{Reply, bit};
 use crate::request::{Question, Request};
-use dvg_gen::{Generator, Move, Stroke};
+use crate::state::StatePart;
+use dvg_gen::{Generator, GeneratorState, Move, Stroke};
 use dvg_log::Entry;
 use std::alloc::Global;
 
-// Lets `generator` do `request`. Returns the reply. `picture` has the strokes of the newest run
-// that came to a HALT.
+// Lets `generator` do `request`. Returns the reply.
 #[inline(always)]
-pub(crate) fn ask_generator(
-    generator: &mut Generator<Global>,
-    request: Request,
-    picture: &mut Vec<Stroke>,
-) -> Reply
-    ensures { GeneratorAnswers request generator.old generator.new picture.old.items
-        picture.new.items result }
+pub(crate) fn ask_generator(generator: &mut Generator<Global>, request: Request) -> Reply
+    ensures { GeneratorAnswers request generator.old generator.new result }
 {
     match request {
         Request::Strobe => {
@@ -32,7 +30,7 @@ pub(crate) fn ask_generator(
             Reply::Came(Entry::Cleared)
         }
         Request::Wants => wanted(generator),
-        Request::Fetch(byte) => fetch(generator, byte, picture),
+        Request::Fetch(byte) => fetch(generator, byte),
         Request::Ask(question) => tell(generator, question),
         _ => Reply::Unknown,
     }
@@ -46,13 +44,14 @@ pub(crate) fn tell(generator: &Generator<Global>, question: Question) -> Reply
         Question::Move(byte) => move_of(generator.move_by(byte)),
         Question::MoveTo(byte) => end_of(generator.move_by(byte), generator),
         Question::Beam => place_of(generator),
-        Question::Holds => held(generator),
+        Question::Holds => held(generator, generator.return_addresses().len() as u16),
         Question::ReturnTo(i) => return_address(generator, i),
+        Question::State(i) => state(generator, i),
     }
 }
 
 // Returns the reply that says which byte `generator` takes next.
-fn wanted(generator: &Generator<Global>) -> Reply
+pub(crate) fn wanted(generator: &Generator<Global>) -> Reply
     ensures { OfHistories generator.now (λ history low run. result ≡ wanting (wants run) low) }
 {
     match generator.wants() {
@@ -89,14 +88,14 @@ fn place_of(generator: &Generator<Global>) -> Reply
     Reply::Point(beam.x, beam.y)
 }
 
-// Returns the reply that says what else `generator` holds.
-fn held(generator: &Generator<Global>) -> Reply
-    ensures { result ≡ told_held generator.now }
+// Returns the reply that says what else `generator` holds, with `returns` return addresses.
+pub(crate) fn held(generator: &Generator<Global>, returns: u16) -> Reply
+    requires { returns ≤ 4 }
+    ensures { result ≡ told_held generator.now returns }
 {
     let first = generator.first_word();
     let scale = u16::from(generator.beam().scale);
     let waits = 0x10 * bit(generator.low_byte().is_some()) + 0x20 * bit(first.is_some());
-    let returns = generator.return_addresses().len() as u16;
     Reply::Holds(first.unwrap_or(0), scale + waits + 0x100 * returns)
 }
 
@@ -113,23 +112,109 @@ fn return_address(generator: &Generator<Global>, i: u64) -> Reply
     }
 }
 
-// Hands `byte` to `generator`, where `None` is a hole. Returns the reply. The strokes of a finished
-// run replace those in `picture`.
+// Returns the reply that says what part `i` of the state of `generator` is, from 0.
+fn state(generator: &Generator<Global>, i: u64) -> Reply
+    ensures saved { OfHistories generator.now (λ history low run. CanBeSaved generator.now) }
+    ensures told { result ≡ told_part (slice_get (parts_of generator.now) i) }
+{
+    match part(generator, i) {
+        Some(part) => Reply::State(part.word()),
+        None => Reply::Nothing,
+    }
+}
+
+// Returns part `i` of the state of `generator`, if there is one.
+fn part(generator: &Generator<Global>, i: u64) -> Option<StatePart>
+    ensures saved { OfHistories generator.now (λ history low run. CanBeSaved generator.now) }
+    ensures part { result ≡ slice_get (parts_of generator.now) i }
+{
+    let state = generator.state();
+    is_byte(state.low);
+    let addresses = state.return_addresses.as_slice();
+    let returns = addresses.len() as u64;
+    if i == 0 {
+        Some(fields(&state))
+    } else if i <= returns {
+        Some(StatePart::ReturnAddress(addresses[(i - 1) as usize]))
+    } else {
+        part_of_drawing(generator, i - 1 - returns)
+    }
+}
+
+// For the proof alone: a low byte that waits is below 256, as its type says. Nothing is done.
+fn is_byte(low: Option<u8>)
+    ensures { IfSome low (λ byte. byte < 0x100) }
+{
+    if let Some(byte) = low {
+        let _ = u16::from(byte);
+    }
+}
+
+// Returns the first part of `state`.
+fn fields(state: &GeneratorState) -> StatePart
+    ensures { result ≡ Fields state.now.is_open state.now.at state.now.held state.now.low
+        state.now.scale }
+{
+    StatePart::Fields {
+        is_open: state.is_open,
+        at: state.at,
+        held: state.held,
+        low: state.low,
+        scale: state.scale,
+    }
+}
+
+// Returns part `i` of those that say what the open run of `generator` drew, and where its beam is.
+fn part_of_drawing(generator: &Generator<Global>, i: u64) -> Option<StatePart>
+    ensures { result ≡ slice_get (drawing_parts generator.now) i }
+{
+    let strokes = strokes_so_far(generator);
+    let count = strokes.len() as u64;
+    let stroke = i / 2;
+    if stroke < count {
+        Some(part_of_stroke(strokes[stroke as usize], i % 2 == 1))
+    } else if stroke == count && i % 2 == 0 {
+        let beam = generator.beam();
+        Some(StatePart::Place(beam.x, beam.y))
+    } else {
+        None
+    }
+}
+
+// Returns the strokes that the open run of `generator` drew so far, or none where no run is open.
+fn strokes_so_far(generator: &Generator<Global>) -> &[Stroke]
+    ensures { result.now ≡ drawn_so_far generator.now }
+{
+    if generator.halted() {
+        &[]
+    } else {
+        generator.strokes()
+    }
+}
+
+// Returns where `stroke` leads, where `leads`, or else where it begins.
+fn part_of_stroke(stroke: Stroke, leads: bool) -> StatePart
+    ensures { result ≡ part_of_stroke stroke leads }
+{
+    if leads {
+        StatePart::Line(stroke.x1, stroke.y1, stroke.z)
+    } else {
+        StatePart::Place(stroke.x0, stroke.y0)
+    }
+}
+
+// Hands `byte` to `generator`, where `None` is a hole. Returns the reply.
 #[inline(always)]
-pub(crate) fn fetch(
-    generator: &mut Generator<Global>,
-    byte: Option<u8>,
-    picture: &mut Vec<Stroke>,
-) -> Reply
-    ensures { Fetches byte generator.old generator.new picture.old.items picture.new.items result
-        ⊎ (LacksRoom byte generator.old generator.new picture.old.items picture.new.items result
-        ⊎ StaysStill generator.old generator.new picture.old.items picture.new.items result) }
+pub(crate) fn fetch(generator: &mut Generator<Global>, byte: Option<u8>) -> Reply
+    ensures { Fetches byte generator.old generator.new result
+        ⊎ (LacksRoom byte generator.old generator.new result
+        ⊎ StaysStill generator.old generator.new result) }
 {
     let Some(address) = generator.wants() else {
         return Reply::Came(Entry::Still);
     };
     let low = generator.low_byte();
-    match generator.take_into(byte, picture) {
+    match generator.feed(byte) {
         Ok(step) => Reply::Came(Entry::of_fetch(address, low, byte, step, ())),
         Err(_) => Reply::NoMemory,
     }

@@ -1,12 +1,10 @@
 //! What a device replies.
 ghost use Rattle.std.specs.Prelude.{◌≡◌, ◌≤◌, ◌+◌, ◌*◌};
-ghost use Rattle.dvg_log.specs.Entries.{shown_of};
-ghost use Rattle.dvg_device.specs.Replies.{acted, answered_by, bit, came, judged, number_of};
-ghost use Rattle.dvg_device.specs.Replies.{packed, picture_by, placed, refusal};
+ghost use Rattle.dvg_device.specs.Replies.{acted, bit, came, judged, number_of, packed, placed};
+ghost use Rattle.dvg_device.specs.Replies.{refusal};
 
 use dvg_driver::Action;
 use dvg_frame::{FrameFault, Place};
-use dvg_gen::Stroke;
 use dvg_log::Entry;
 
 /// How the newest run of a log stands, of which a judge was told a line.
@@ -49,7 +47,8 @@ pub enum Reply {
     /// - 15, `Broke`: a word address, and as the value the fault's number, 1 to 3, as `dvg play`
     ///   has it;
     /// - 16, `Still`, and nothing has changed;
-    /// - 17, `Cleared`: a reset was done, or the draft or the staged bytes were cleared.
+    /// - 17, `Cleared`: a reset was done, the draft or the staged bytes were cleared, or a part of
+    ///   a state was taken.
     Came(Entry<()>),
     /// 18: the operation has this number in the draft.
     Pushed(u16),
@@ -91,6 +90,11 @@ pub enum Reply {
     Holds(u16, u16),
     /// 34: a return address.
     ReturnsTo(u16),
+    /// 35: a part of a state. Its word, below 2^56, stands from bit 8 on.
+    State(u64),
+    /// 36: what was told is no part that suits the state before it, or no generator can be in that
+    /// state. Nothing has changed.
+    NoState,
     /// 254: there is no such request, or what is open has no such request. Nothing has changed.
     Unknown,
     /// 255: there was no memory for it, and nothing has changed.
@@ -123,6 +127,8 @@ impl Reply {
             Reply::Nothing => packed(32, 0, 0),
             Reply::Holds(first, bits) => packed(33, first, bits),
             Reply::ReturnsTo(address) => packed(34, address, 0),
+            Reply::State(word) => 35 + 0x100 * (word % 0x100_0000_0000_0000),
+            Reply::NoState => packed(36, 0, 0),
             Reply::Unknown => packed(254, 0, 0),
             Reply::NoMemory => packed(255, 0, 0),
         }
@@ -222,32 +228,4 @@ fn acted(action: Action) -> u64
         Action::Sent => packed(8, 0, 0),
         Action::Idle => packed(9, 0, 0),
     }
-}
-
-// Returns the reply to an event whose entry is `entry`. The strokes of a run that came to a HALT
-// replace those in `picture`.
-#[inline(always)]
-pub(crate) fn answered(entry: Entry, picture: &mut Vec<Stroke>) -> Reply
-    ensures answered { result ≡ answered_by (shown_of entry) }
-    ensures picture { picture.new.items ≡ picture_by (shown_of entry) picture.old.items }
-{
-    Reply::Came(match entry {
-        Entry::Offered => Entry::Offered,
-        Entry::Refused(fault) => Entry::Refused(fault),
-        Entry::Busy => Entry::Busy,
-        Entry::Asked => Entry::Asked,
-        Entry::NothingPublished => Entry::NothingPublished,
-        Entry::Acted(action) => Entry::Acted(action),
-        Entry::Started => Entry::Started,
-        Entry::NoStrobe => Entry::NoStrobe,
-        Entry::Low(address, byte) => Entry::Low(address, byte),
-        Entry::Fetched(address, word) => Entry::Fetched(address, word),
-        Entry::Done(address, word, strokes) => {
-            *picture = strokes;
-            Entry::Done(address, word, ())
-        }
-        Entry::Broke(address, fault) => Entry::Broke(address, fault),
-        Entry::Still => Entry::Still,
-        Entry::Cleared => Entry::Cleared,
-    })
 }

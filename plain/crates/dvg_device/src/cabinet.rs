@@ -1,6 +1,4 @@
 //! A world, beside the image that it is reset to.
-use std::prelude::*;
-
 use crate::happening::{ask_world, fetch_in_world, tick_world};
 use crate::reply::Reply;
 use crate::request::Request;
@@ -36,30 +34,26 @@ impl Cabinet {
         self.world.begin_anew(alloc, rom, &self.image).is_ok()
     }
 
+    // Returns the strokes of the newest run of the world that came to a HALT.
+    pub(crate) fn picture(&self) -> &[Stroke] {
+        self.world.picture()
+    }
+
     // Lets the driver of the world do one action. Returns the reply.
     #[inline(always)]
     pub(crate) fn tick(&mut self) -> Reply {
         tick_world(&mut self.world)
     }
 
-    // Lets the generator of the world fetch one byte. Returns the reply. `picture` has the strokes
-    // of the newest run that came to a HALT.
+    // Lets the generator of the world fetch one byte. Returns the reply.
     #[inline(always)]
-    pub(crate) fn fetch(&mut self, picture: &mut Vec<Stroke>) -> Reply {
-        fetch_in_world(&mut self.world, picture)
+    pub(crate) fn fetch(&mut self) -> Reply {
+        fetch_in_world(&mut self.world)
     }
 
     // Lets the world do `request`, with `draft` and the staged bytes `staged`. Returns the reply.
-    // `picture` has the strokes of the newest run that came to a HALT.
     #[inline(always)]
-    pub(crate) fn ask(
-        &mut self,
-        request: Request,
-        draft: &Draft,
-        staged: &[u8],
-        picture: &mut Vec<Stroke>,
-    ) -> Reply {
-        let image = &mut self.image;
-        ask_world(&mut self.world, image, request, draft, staged, picture)
+    pub(crate) fn ask(&mut self, request: Request, draft: &Draft, staged: &[u8]) -> Reply {
+        ask_world(&mut self.world, &mut self.image, request, draft, staged)
     }
 }

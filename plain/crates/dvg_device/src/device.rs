@@ -8,8 +8,10 @@ use crate::lone::{ask_generator, fetch, tell};
 use crate::operation::Operation;
 use crate::reply::Reply;
 use crate::request::{Question, Request};
+use crate::waiting::Waiting;
+use crate::wrapping::{ask_wrapping, fetch_wrapping, tell_wrapping};
 use dvg_frame::Draft;
-use dvg_gen::{Generator, Stroke};
+use dvg_gen::{Generator, Stroke, WrappingGenerator};
 use dvg_log::Entry;
 use dvg_mem::{MEMORY_BYTES, Rom};
 use dvg_moment::MomentJudge;
@@ -26,18 +28,19 @@ pub(crate) enum Part {
     World(Box<Cabinet>),
     Driver(Box<Desk>),
     Generator(Generator<Global>),
+    Wrapping(WrappingGenerator<Global>),
     Judge(Box<MomentJudge>),
 }
 
 /// A device, in which a world, a driver alone, a generator alone or a judge may be open. It has a
 /// draft, which requests make and an offer hands to the driver; bytes that are staged for what is
-/// opened, and for a reset of the whole system; and the strokes of the newest run that came to a
-/// HALT.
+/// opened, and for a reset of the whole system; and the state of a generator alone, so far as it was
+/// told, in which one may begin.
 pub struct Device {
     alloc: Global,
     staged: Vec<u8>,
     draft: Draft,
-    picture: Vec<Stroke>,
+    waiting: Waiting,
     part: Part,
     // Blocks of memory of what was open before, for what is opened next.
     spare_world: Option<Box<Cabinet>>,
@@ -51,7 +54,7 @@ impl Device {
             alloc,
             staged: Vec::new(alloc),
             draft: Draft::new(),
-            picture: Vec::new(alloc),
+            waiting: Waiting::new(alloc),
             part: Part::Nothing,
             spare_world: None,
             spare_desk: None,
@@ -77,6 +80,7 @@ impl Device {
         match &self.part {
             Part::Nothing => Reply::Closed.number(),
             Part::Generator(generator) => tell(generator, question).number(),
+            Part::Wrapping(generator) => tell_wrapping(generator, question).number(),
             Part::World(_) | Part::Driver(_) | Part::Judge(_) => Reply::Unknown.number(),
         }
     }
@@ -92,9 +96,12 @@ impl Device {
             Request::OpenWorld => self.open_world(),
             Request::OpenDriver => self.open_driver(),
             Request::OpenGenerator => self.open_generator(),
+            Request::OpenWrapping => self.open_wrapping(),
             Request::OpenJudge => self.open_judge(),
+            Request::Resume => self.resume(),
+            Request::TellState(word) => self.tell_state(word),
             Request::Close => self.close(),
-            Request::CountStrokes => Reply::Count(self.picture.len() as u64),
+            Request::CountStrokes => Reply::Count(self.picture().len() as u64),
             Request::StrokeFrom(i) => self.stroke_from(i),
             Request::StrokeTo(i) => self.stroke_to(i),
             Request::StrokeIntensity(i) => self.stroke_intensity(i),
@@ -178,6 +185,12 @@ impl Device {
         self.open(Part::Generator(Generator::new(self.alloc)))
     }
 
+    // Opens a generator whose stack wraps.
+    #[inline(never)]
+    fn open_wrapping(&mut self) -> Reply {
+        self.open(Part::Wrapping(WrappingGenerator::new(self.alloc)))
+    }
+
     // Opens a judge.
     #[inline(never)]
     fn open_judge(&mut self) -> Reply {
@@ -187,12 +200,25 @@ impl Device {
         }
     }
 
-    // Opens `part`, in which nothing was drawn yet. The memory of what was open stays, for the next
-    // one of its kind.
+    // Opens a generator in the state that was told.
+    #[inline(never)]
+    fn resume(&mut self) -> Reply {
+        match self.waiting.generator(self.alloc) {
+            Some(generator) => self.open(Part::Generator(generator)),
+            None => Reply::NoState,
+        }
+    }
+
+    // Takes the part of a state that `word` is.
+    #[inline(never)]
+    fn tell_state(&mut self, word: u64) -> Reply {
+        self.waiting.take(self.alloc, word)
+    }
+
+    // Opens `part`. The memory of what was open stays, for the next one of its kind.
     fn open(&mut self, part: Part) -> Reply {
         let before = mem::replace(&mut self.part, part);
         self.keep(before);
-        self.picture = Vec::new(self.alloc);
         Reply::Opened
     }
 
@@ -201,7 +227,7 @@ impl Device {
         match before {
             Part::World(world) => self.spare_world = Some(world),
             Part::Driver(desk) => self.spare_desk = Some(desk),
-            Part::Nothing | Part::Generator(_) | Part::Judge(_) => {}
+            Part::Nothing | Part::Generator(_) | Part::Wrapping(_) | Part::Judge(_) => {}
         }
     }
 
@@ -212,10 +238,22 @@ impl Device {
         Reply::Closed
     }
 
+    // Returns the strokes of the newest run of what is open that came to a HALT.
+    #[inline(always)]
+    fn picture(&self) -> &[Stroke] {
+        match &self.part {
+            Part::World(world) => world.picture(),
+            Part::Generator(generator) => generator.picture(),
+            Part::Wrapping(generator) => generator.generator().picture(),
+            Part::Nothing | Part::Driver(_) | Part::Judge(_) => &[],
+        }
+    }
+
     // Returns stroke `i` of the newest run that came to a HALT, if there is one.
     fn stroke(&self, i: u64) -> Option<Stroke> {
-        if i < self.picture.len() as u64 {
-            Some(self.picture[i as usize])
+        let picture = self.picture();
+        if i < picture.len() as u64 {
+            Some(picture[i as usize])
         } else {
             None
         }
@@ -254,6 +292,7 @@ impl Device {
             Part::World(world) => world.tick(),
             Part::Driver(desk) => tick_driver(desk, halted, byte1),
             Part::Generator(_) => Reply::Unknown,
+            Part::Wrapping(_) => Reply::Unknown,
             Part::Judge(_) => Reply::Unknown,
         }
     }
@@ -263,9 +302,10 @@ impl Device {
     fn fetch(&mut self, byte: Option<u8>) -> Reply {
         match &mut self.part {
             Part::Nothing => Reply::Closed,
-            Part::World(world) => world.fetch(&mut self.picture),
+            Part::World(world) => world.fetch(),
             Part::Driver(_) => Reply::Unknown,
-            Part::Generator(generator) => fetch(generator, byte, &mut self.picture),
+            Part::Generator(generator) => fetch(generator, byte),
+            Part::Wrapping(generator) => fetch_wrapping(generator, byte),
             Part::Judge(_) => Reply::Unknown,
         }
     }
@@ -275,12 +315,10 @@ impl Device {
     fn ask(&mut self, request: Request) -> Reply {
         match &mut self.part {
             Part::Nothing => unopened(request),
-            Part::World(world) => {
-                let staged = self.staged.as_slice();
-                world.ask(request, &self.draft, staged, &mut self.picture)
-            }
+            Part::World(world) => world.ask(request, &self.draft, self.staged.as_slice()),
             Part::Driver(desk) => ask_driver(desk, request, &self.draft),
-            Part::Generator(generator) => ask_generator(generator, request, &mut self.picture),
+            Part::Generator(generator) => ask_generator(generator, request),
+            Part::Wrapping(generator) => ask_wrapping(generator, request),
             Part::Judge(judge) => ask_judge(judge, request),
         }
     }

@@ -9,7 +9,8 @@
 //! - a *driver* alone: it is handed the HALT flag and byte 001 of a RAM, and returns what is to be
 //!   written there;
 //! - a *generator* alone: it says which byte it takes next, is handed that byte, and returns the
-//!   strokes of a whole run;
+//!   strokes of a whole run. Its state is told in parts, and another one begins in it. There is one
+//!   whose stack wraps, too;
 //! - a *judge* of moments: it is told the log of any system, a line at a time, and says of each run
 //!   whether it is of one moment.
 //!
@@ -28,9 +29,13 @@ mod lone;
 mod operation;
 mod reply;
 mod request;
+mod state;
+mod waiting;
+mod wrapping;
 
 pub use device::Device;
 pub use judging::JudgeLine;
 pub use operation::Operation;
 pub use reply::{Reply, RunState};
 pub use request::{Question, Request};
+pub use state::StatePart;

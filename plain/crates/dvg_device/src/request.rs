@@ -15,11 +15,13 @@ pub enum Question {
     Holds,
     /// Which return address has this number? The newest one has the number 0.
     ReturnTo(u64),
+    /// Which part of its state has this number? The first one has the number 0.
+    State(u64),
 }
 
 /// What a device is asked for. As a number, its lowest byte is the code, which stands first here,
 /// and what it brings stands above: a flag in bit 8, a byte in bits 16 to 23, a count in bits 24 to
-/// 39, and the number of a stroke or a return address from bit 8 on. Bits that mean nothing may
+/// 39, and the number of a stroke, a return address or a part of a state from bit 8 on. Bits that mean nothing may
 /// have any value.
 #[derive(Clone, Copy, Debug, PartialEq, Eq, Hash)]
 pub enum Request {
@@ -91,8 +93,18 @@ pub enum Request {
     /// reply that the line's event had: its kind in bits 8 to 15, its address in 16 to 31, and its
     /// value in 32 to 47. A kind above 16 is that of no line.
     Tell(JudgeLine),
-    /// 23 to 27, in the order of `Question`: what is asked of a generator alone.
+    /// 23 to 28, in the order of `Question`: what is asked of a generator alone.
     Ask(Question),
+    /// 29: a generator alone begins in the state that was told, which is forgotten. Before any part
+    /// was told, that is the state of a new one. Strokes of a finished run are no part of it.
+    Resume,
+    /// 30: a generator alone whose stack wraps begins, as hardware goes on: halted, with the beam
+    /// at 0, 0 and scale 0, and four return addresses of 0.
+    OpenWrapping,
+    /// 35: a part of a state is told. Its word stands above the code, so the number of the reply
+    /// that tells a part is the request by which another device is told it. `StatePart` says which
+    /// there are.
+    TellState(u64),
     /// Any other number.
     Unknown,
 }
@@ -146,6 +158,10 @@ impl Request {
             25 => Request::Ask(Question::Beam),
             26 => Request::Ask(Question::Holds),
             27 => Request::Ask(Question::ReturnTo(number / 0x100)),
+            28 => Request::Ask(Question::State(number / 0x100)),
+            29 => Request::Resume,
+            30 => Request::OpenWrapping,
+            35 => Request::TellState(number / 0x100),
             _ => Request::Unknown,
         }
     }

@@ -15,15 +15,15 @@ opens : (old device : Held) (answer : ℕ) → old ≡ closed → Turned old 14 
     → (answer ≡ 22) × (machine : _) × HasTaken machine [] None × (device ≡ record closed { open_part = Generator machine })
 opens old device answer is turned =
     let now = subst (λ d. Turned d 14 device answer) is turned in
-    (now.2 ∙ ap number_of now.1.3, now.1.0, now.1.1, now.1.2)
+    (now.2 ∙ ap number_of now.1.4, now.1.0, now.1.1, now.1.3)
 
 pub returns : goal.returns
 returns c =
     let first = opens c.new-device.result c.turn-opened.new.self c.turn-opened.result c.new-device.ensures c.turn-opened.ensures.turned in
     let next = subst (λ d. Turned d 3 c.turn-started.new.self c.turn-started.result) first.3 c.turn-started.ensures.turned in
     let part = next.1 in
-    let told = part.3.0 [] None first.2 in
-    let last = subst (λ d. Turned d 16 c.turn.new.self c.turn.result) part.2 c.turn.ensures.turned in
-    let wants_low = last.1.3.2 (Start ∷ []) None told in
+    let told = part.2.0 [] None first.2 in
+    let last = subst (λ d. Turned d 16 c.turn.new.self c.turn.result) part.1 c.turn.ensures.turned in
+    let wants_low = last.1.2.1 (Start ∷ []) None told in
     let zero = last.2 ∙ ap number_of (wants_low ∙ ap (λ address. wanting address None) (wants_zero told.run told.leaves)) in
-    rw (first.0, next.2 ∙ ap number_of part.3.2, zero) refl
+    rw (first.0, next.2 ∙ ap number_of part.2.2, zero) refl

@@ -4,13 +4,18 @@ use Rattle.dvg_device.specs.Worlds.{WorldAnswers}
 use Rattle.dvg_device.proofs.device.Device.ask.Goals as goal
 
 pub returns-in-World : goal.returns-in-World
-returns-in-World c = rw (sym c.self.view_is, c.in-World.is) (
-  c.ask.new.self,
-  c.ask.new.picture.items,
-  refl,
-  subst (λ staged. WorldAnswers c.self.inside.draft staged c.args.request c.in-World.world.value c.ask.new.self c.self.inside.picture.items c.ask.new.picture.items c.ask.result) c.as_slice-staged.ensures.value
-      (subst (λ world. WorldAnswers c.self.inside.draft c.as_slice-staged.result.now c.args.request world c.ask.new.self c.self.inside.picture.items c.ask.new.picture.items c.ask.result) c.deref_mut.ensures.value c.ask.ensures),
-)
+returns-in-World c =
+    let draft = c.self.inside.draft in
+    let request = c.args.request in
+    let later = c.ask.new.self in
+    let reply = c.ask.result in
+    rw (sym c.self.view_is, c.in-World.is) (
+      later,
+      refl,
+      subst (λ staged. WorldAnswers draft staged request c.in-World.world.value later reply) c.as_slice.ensures.value
+          (subst (λ world. WorldAnswers draft c.as_slice.result.now request world later reply)
+          c.deref_mut.ensures.value c.ask.ensures),
+    )
 
 pub returns-in-Driver : goal.returns-in-Driver
 returns-in-Driver c =
@@ -23,4 +28,9 @@ returns-in-Driver c =
     )
 
 pub returns-in-Generator : goal.returns-in-Generator
-returns-in-Generator c = rw (sym c.self.view_is, c.in-Generator.is) (c.ask_generator.new.generator, c.ask_generator.new.picture.items, refl, c.ask_generator.ensures)
+returns-in-Generator c = rw (sym c.self.view_is, c.in-Generator.is)
+    (c.ask_generator.new.generator, refl, c.ask_generator.ensures)
+
+pub returns-in-Wrapping : goal.returns-in-Wrapping
+returns-in-Wrapping c = rw (sym c.self.view_is, c.in-Wrapping.is)
+    (c.ask_wrapping.new.generator, refl, c.ask_wrapping.ensures)

@@ -6,21 +6,18 @@ use Rattle.dvg_device.proofs.device.Device.fetch.Goals as goal
 pub returns-in-World : goal.returns-in-World
 returns-in-World c =
     let later = c.fetch.new.self in
-    let before = c.self.inside.picture.items in
-    let left = c.fetch.new.picture.items in
     let reply = c.fetch.result in
     rw (sym c.self.view_is, c.in-World.is) (
       later,
-      left,
       refl,
-      subst (λ world. Happens Fetch world later before left reply ⊎ Lacks Fetch world later before left reply)
-          c.deref_mut.ensures.value c.fetch.ensures,
+      subst (λ world. Happens Fetch world later reply ⊎ Lacks Fetch world later reply) c.deref_mut.ensures.value
+          c.fetch.ensures,
     )
 
 pub returns-in-Generator : goal.returns-in-Generator
-returns-in-Generator c = rw (sym c.self.view_is, c.in-Generator.is) (
-  c.fetch-in-Generator.new.generator,
-  c.fetch-in-Generator.new.picture.items,
-  refl,
-  c.fetch-in-Generator.ensures,
-)
+returns-in-Generator c = rw (sym c.self.view_is, c.in-Generator.is)
+    (c.fetch-in-Generator.new.generator, refl, c.fetch-in-Generator.ensures)
+
+pub returns-in-Wrapping : goal.returns-in-Wrapping
+returns-in-Wrapping c = rw (sym c.self.view_is, c.in-Wrapping.is)
+    (c.fetch_wrapping.new.generator, refl, c.fetch_wrapping.ensures)

@@ -1,0 +1,9 @@
+use Rattle.dvg_device.specs.States.{word_of}
+use Rattle.dvg_device.proofs.Worded.{passed_on, read_again, word_small}
+use Rattle.dvg_device.proofs.laws.parts_are_passed_on.Goals as goal
+
+pub returns-clause-read : goal.returns-clause-read
+returns-clause-read c = read_again
+
+pub returns-clause-passed : goal.returns-clause-passed
+returns-clause-passed c = λ part fits. passed_on (word_of part) (word_small part fits)

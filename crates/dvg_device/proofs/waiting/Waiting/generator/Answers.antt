@@ -1,0 +1,32 @@
+use Rattle.std.proofs.Common.{[], refl, sym, ap, ◌∙◌, subst}
+use Rattle.std.proofs.lemmas.Bool.{false≢true}
+use Rattle.dvg_gen.specs.Machine.{Machine}
+use Rattle.dvg_gen.specs.Saved.{machine_of}
+use Rattle.dvg_device.specs.States.{CanStand}
+use Rattle.dvg_device.proofs.Parted.{can_stand, is_state}
+use Rattle.dvg_device.proofs.waiting.Waiting.generator.Goals as goal
+
+pub returns-then-not-is_valid : goal.returns-then-not-is_valid
+returns-then-not-is_valid c = (
+  λ can.
+      let state = c.self.inside.state in
+      let valid = is_state state c.self.inside.strokes.items [] (subst CanStand (sym c.self.view_is) can) in
+      false≢true (sym c.if-not-is_valid.true ∙ c.is_valid.ensures.1 valid),
+  refl,
+)
+
+pub returns : goal.returns
+returns c =
+    let valid = c.is_valid.ensures.0 c.if-not-is_valid.false in
+    let stands = subst CanStand c.self.view_is (can_stand c.self.inside.state c.self.inside.strokes.items [] valid) in
+    let same = c.state.view_is ∙ c.replace.ensures.value in
+    let state = c.state.inside.state in
+    let strokes = c.state.inside.strokes.items in
+    let there = is_state state strokes [] (subst CanStand (sym same) stands) in
+    (
+      stands,
+      sym (ap (λ (machine : Machine). machine.picture) c.self.view_is),
+      c.resume.ensures.machine (c.resume.ensures.taken.1 there)
+          ∙ ap (machine_of state strokes) c.new-generator.ensures.picture ∙ same,
+      c.replace.ensures.after ∙ c.new.ensures,
+    )

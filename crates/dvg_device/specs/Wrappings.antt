@@ -1,0 +1,66 @@
+-- What a generator alone whose stack wraps answers to a request.
+use Rattle.std.specs.Prelude.{◌≡◌, ◌⊎◌, ℕ, false, ◌∷◌, slice_get, List, Option, Some, None}
+use Rattle.dvg_gen.specs.declared.taken.Step.{Step}
+use Rattle.dvg_gen.specs.Bytes.{met}
+use Rattle.dvg_gen.specs.Completing.{DrawsNothing}
+use Rattle.dvg_gen.specs.Machine.{answer_by, picture_after}
+use Rattle.dvg_gen.specs.Told.{Told, Start, Reset, Newest, wants}
+use Rattle.dvg_gen.specs.Wrapping.{Wrapped, HasWrapped, AnswersWrapped}
+use Rattle.dvg_log.specs.Entries.{entry_by}
+use Rattle.dvg_log.specs.declared.entry.Entry.TheVariants.{Started, Cleared, Still}
+use Rattle.dvg_device.specs.Generators.{Tells, told_held, told_return, wanting}
+use Rattle.dvg_device.specs.declared.reply.Reply.{Reply}
+use Rattle.dvg_device.specs.declared.reply.Reply.TheVariants.{Came, Unknown, NoMemory}
+use Rattle.dvg_device.specs.declared.request.Request.{Request}
+use Rattle.dvg_device.specs.declared.request.Request.TheVariants as requests
+use Rattle.dvg_device.specs.declared.request.Question.{Question}
+use Rattle.dvg_device.specs.declared.request.Question.TheVariants as questions
+
+-- this holds of each history of words, with the low byte after it, that the generator stands after, and of the run that
+-- it leaves in the generator in it
+abbrev pub OfWraps : Wrapped → (List Told → Option ℕ → Newest → Type 0) → Type 0
+OfWraps wrapped P = (history : List Told) (low : Option ℕ) (stands : HasWrapped wrapped history low)
+    → P history low stands.after.run
+
+-- a byte or a hole is fetched, as a generator alone does
+pub record FetchesWrapped (byte : Option ℕ) (wrapped later : Wrapped) (reply : Reply) : Type 0 where
+  pub address : ℕ
+  pub step : Step
+  pub wanted : OfWraps wrapped (λ history low run. wants run ≡ Some address)
+  pub answers : OfWraps wrapped
+      (λ history low run. AnswersWrapped history (met low byte) later (answer_by step later.machine.picture))
+  pub picture : later.machine.picture ≡ picture_after step wrapped.machine
+  pub answered : OfWraps wrapped (λ history low run. reply ≡ Came (entry_by address (met low byte) step tt))
+
+-- there was no memory for the stroke of a vector that the byte completes, and nothing has changed
+pub record LacksRoomWrapped (byte : Option ℕ) (wrapped later : Wrapped) (reply : Reply) : Type 0 where
+  pub room : OfWraps wrapped (λ history low run. ¬ DrawsNothing run.held (met low byte))
+  pub answered : reply ≡ NoMemory
+  pub same : later ≡ wrapped
+
+-- a fetch where no run is open changes nothing
+pub record StaysStillWrapped (wrapped later : Wrapped) (reply : Reply) : Type 0 where
+  pub halted : OfWraps wrapped (λ history low run. run.is_open ≡ false)
+  pub answered : reply ≡ Came Still
+  pub same : later ≡ wrapped
+
+-- the answer to a question, which changes nothing: that of the generator in it, but the return addresses are the four
+-- registers, the newest first. A state of it isn't saved
+abbrev pub TellsWrapped : Question → Wrapped → Reply → Type 0
+TellsWrapped questions.Holds wrapped reply = reply ≡ told_held wrapped.machine 4
+TellsWrapped (questions.ReturnTo n) wrapped reply = reply ≡ told_return (slice_get wrapped.registers n)
+TellsWrapped (questions.State n) wrapped reply = reply ≡ Unknown
+TellsWrapped question wrapped reply = Tells question wrapped.machine reply
+
+-- what it comes to by a request
+abbrev pub WrappingAnswers : Request → Wrapped → Wrapped → Reply → Type 0
+WrappingAnswers requests.Strobe wrapped later reply = OfWraps wrapped
+    (λ history low run. HasWrapped later (Start ∷ history) None) × (reply ≡ Came Started)
+WrappingAnswers requests.ResetGenerator wrapped later reply = OfWraps wrapped
+    (λ history low run. HasWrapped later (Reset ∷ history) None) × (reply ≡ Came Cleared)
+WrappingAnswers requests.Wants wrapped later reply = (later ≡ wrapped)
+    × OfWraps wrapped (λ history low run. reply ≡ wanting (wants run) low)
+WrappingAnswers (requests.Fetch byte) wrapped later reply = FetchesWrapped byte wrapped later reply
+    ⊎ (LacksRoomWrapped byte wrapped later reply ⊎ StaysStillWrapped wrapped later reply)
+WrappingAnswers (requests.Ask question) wrapped later reply = (later ≡ wrapped) × TellsWrapped question wrapped reply
+WrappingAnswers request wrapped later reply = (later ≡ wrapped) × (reply ≡ Unknown)

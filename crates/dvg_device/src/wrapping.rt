@@ -1,0 +1,76 @@
+//! A generator alone whose stack wraps.
+ghost use Rattle.std.specs.Prelude.{◌≡◌, ◌⊎◌, slice_get};
+ghost use Rattle.dvg_device.specs.Generators.{told_return};
+ghost use Rattle.dvg_device.specs.Wrappings.{FetchesWrapped, LacksRoomWrapped, StaysStillWrapped};
+ghost use Rattle.dvg_device.specs.Wrappings.{TellsWrapped, WrappingAnswers};
+
+use crate::lone::{held, tell, wanted};
+use crate::reply::Reply;
+use crate::request::{Question, Request};
+use dvg_gen::WrappingGenerator;
+use dvg_log::Entry;
+use std::alloc::Global;
+
+// Lets `generator` do `request`. Returns the reply.
+#[inline(never)]
+pub(crate) fn ask_wrapping(generator: &mut WrappingGenerator<Global>, request: Request) -> Reply
+    ensures { WrappingAnswers request generator.old generator.new result }
+{
+    match request {
+        Request::Strobe => {
+            generator.start();
+            Reply::Came(Entry::Started)
+        }
+        Request::ResetGenerator => {
+            generator.reset();
+            Reply::Came(Entry::Cleared)
+        }
+        Request::Wants => wanted(generator.generator()),
+        Request::Fetch(byte) => fetch_wrapping(generator, byte),
+        Request::Ask(question) => tell_wrapping(generator, question),
+        _ => Reply::Unknown,
+    }
+}
+
+// Returns the reply of `generator` to `question`.
+pub(crate) fn tell_wrapping(generator: &WrappingGenerator<Global>, question: Question) -> Reply
+    ensures { TellsWrapped question generator.now result }
+{
+    match question {
+        Question::Holds => held(generator.generator(), 4),
+        Question::ReturnTo(i) => register(generator, i),
+        Question::State(_) => Reply::Unknown,
+        question => tell(generator.generator(), question),
+    }
+}
+
+// Returns the reply that says what register `i` of `generator` has, from 0, the newest one.
+fn register(generator: &WrappingGenerator<Global>, i: u64) -> Reply
+    ensures { result ≡ told_return (slice_get generator.now.registers i) }
+{
+    let registers: &[u16] = generator.registers();
+    if i < registers.len() as u64 {
+        Reply::ReturnsTo(registers[i as usize])
+    } else {
+        Reply::Nothing
+    }
+}
+
+// Hands `byte` to `generator`, where `None` is a hole. Returns the reply.
+pub(crate) fn fetch_wrapping(
+    generator: &mut WrappingGenerator<Global>,
+    byte: Option<u8>,
+) -> Reply
+    ensures { FetchesWrapped byte generator.old generator.new result
+        ⊎ (LacksRoomWrapped byte generator.old generator.new result
+        ⊎ StaysStillWrapped generator.old generator.new result) }
+{
+    let Some(address) = generator.generator().wants() else {
+        return Reply::Came(Entry::Still);
+    };
+    let low = generator.generator().low_byte();
+    match generator.feed(byte) {
+        Ok(step) => Reply::Came(Entry::of_fetch(address, low, byte, step, ())),
+        Err(_) => Reply::NoMemory,
+    }
+}

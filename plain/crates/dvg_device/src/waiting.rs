@@ -1,0 +1,118 @@
+//! What was told of a generator's state, before one begins in it.
+use std::prelude::*;
+
+use crate::reply::Reply;
+use crate::state::StatePart;
+use arrayvec::ArrayVec;
+use dvg_gen::{Generator, GeneratorState, Stroke};
+use dvg_log::Entry;
+use std::alloc::Global;
+use std::mem;
+
+/// What came of a part that was taken.
+const TAKEN: Reply = Reply::Came(Entry::Cleared);
+
+/// The state of a generator, so far as its parts were told.
+pub(crate) struct Waiting {
+    state: GeneratorState,
+    strokes: Vec<Stroke>,
+}
+
+impl Waiting {
+    // Returns the state of which no part was told: that of a new generator.
+    pub(crate) fn new(alloc: Global) -> Waiting {
+        Waiting {
+            state: GeneratorState {
+                is_open: false,
+                at: 0,
+                held: None,
+                low: None,
+                return_addresses: ArrayVec::new(),
+                x: 0,
+                y: 0,
+                scale: 0,
+            },
+            strokes: Vec::new(alloc),
+        }
+    }
+
+    // Takes the part that `word` is. Returns the reply. Strokes take memory of `alloc`.
+    pub(crate) fn take(&mut self, alloc: Global, word: u64) -> Reply {
+        match StatePart::of(word) {
+            Some(
+                StatePart::Fields {
+                    is_open,
+                    at,
+                    held,
+                    low,
+                    scale,
+                },
+            ) => {
+                *self = Waiting::new(alloc);
+                self.state.is_open = is_open;
+                self.state.at = at;
+                self.state.held = held;
+                self.state.low = low;
+                self.state.scale = scale;
+                TAKEN
+            }
+            Some(StatePart::ReturnAddress(address)) => self.take_return_address(address),
+            Some(StatePart::Place(x, y)) => {
+                self.state.x = x;
+                self.state.y = y;
+                TAKEN
+            }
+            Some(StatePart::Line(x, y, z)) => self.take_line(x, y, z),
+            None => Reply::NoState,
+        }
+    }
+
+    // Takes one more return address.
+    fn take_return_address(&mut self, address: u16) -> Reply {
+        match self.state.return_addresses.try_push(address) {
+            Ok(()) => TAKEN,
+            Err(_) => Reply::NoState,
+        }
+    }
+
+    // Takes one more stroke, from the place to `x` and `y`, with the intensity `z`.
+    fn take_line(&mut self, x: u32, y: u32, z: u8) -> Reply {
+        let stroke = Stroke {
+            x0: self.state.x,
+            y0: self.state.y,
+            x1: x,
+            y1: y,
+            z,
+        };
+        if !is_stroke(&stroke) {
+            return Reply::NoState;
+        }
+        match self.strokes.push(stroke) {
+            Ok(()) => TAKEN,
+            Err(_) => Reply::NoMemory,
+        }
+    }
+
+    // Returns a generator in this state, and forgets the state, where a generator can be in it. Else
+    // returns `None`, and nothing has changed.
+    pub(crate) fn generator(&mut self, alloc: Global) -> Option<Generator<Global>> {
+        if !self.state.is_valid() {
+            return None;
+        }
+        let Waiting { state, strokes } = mem::replace(self, Waiting::new(alloc));
+        let mut generator = Generator::new(alloc);
+        generator.resume(&state, strokes);
+        Some(generator)
+    }
+}
+
+// Returns whether a generator can have drawn `stroke`.
+fn is_stroke(stroke: &Stroke) -> bool {
+    let Stroke { x0, y0, x1, y1, z } = *stroke;
+    is_inside(x0) && is_inside(y0) && is_inside(x1) && is_inside(y1) && matches!(z, 1..=15)
+}
+
+// Returns whether the beam can be at `place`, along an axis.
+fn is_inside(place: u32) -> bool {
+    place < 2_097_152
+}

@@ -1,0 +1,299 @@
+/* Saves generators amid random runs, restores each into another device, and lets both go on: each
+ * answer, move and stroke must be equal to the end. Then it restores other bytes: those of a saved
+ * state with each bit changed, or cut, of other versions, and random ones. Each is answered, and
+ * where it is refused, what was open stays.
+ *
+ *   embed_save COUNT SEED
+ *
+ * Generator number i, from 0, comes from SEED + i alone. It is linked with the archive, and compiled
+ * with a sanitizer: then what a device does with memory is watched, too. The last line of what is
+ * written is 'N passed, M failed'.
+ */
+#include "dvg.h"
+
+#include <inttypes.h>
+#include <stdio.h>
+#include <stdlib.h>
+#include <string.h>
+
+/* The most bytes that a generator is handed before it is saved, and after. */
+#define MOST_BEFORE 400
+#define MOST_AFTER 300
+
+static unsigned long passed = 0, failed = 0;
+static uint64_t seed = 0;
+
+static void expect(bool holds, const char *what)
+{
+    if (holds) {
+        passed++;
+    } else {
+        failed++;
+        printf("FAILED: %s, of the generator of seed %" PRIu64 "\n", what, seed);
+    }
+}
+
+/* --- Chance --- */
+
+/* A linear congruential generator (Knuth's MMIX constants), of which the high bits are used. */
+static uint64_t chance = 0;
+
+static uint32_t random_word(void)
+{
+    chance = chance * 6364136223846793005u + 1442695040888963407u;
+    return (uint32_t)(chance >> 32);
+}
+
+/* A number below `limit`. */
+static uint32_t below(uint32_t limit)
+{
+    return random_word() % limit;
+}
+
+/* A memory of 4,096 words: instructions of each kind, of which calls and returns are many. */
+static uint8_t memory[8192];
+
+static void fill_memory(void)
+{
+    static const uint16_t tops[] = {0x0, 0x4, 0x9, 0xA, 0xC, 0xC, 0xD, 0xE, 0xF, 0xF, 0xF};
+    for (size_t at = 0; at < sizeof memory; at += 2) {
+        uint32_t word = random_word() >> 16 & 0xFFF;
+        word |= (uint32_t)(below(60) == 0 ? 0xB : tops[below(11)]) << 12;
+        memory[at] = (uint8_t)(word & 0xFF);
+        memory[at + 1] = (uint8_t)(word >> 8);
+    }
+}
+
+/* --- A run --- */
+
+/* How many strokes the open run drew so far. */
+static size_t drawn = 0;
+
+/* Hands a generator the byte that it wants, or seldom a hole; begins a run where none is open. */
+static dvg_answer go_on(dvg *device, bool hole)
+{
+    dvg_answer wanted = dvg_wants(device);
+    dvg_move move = {0, 0, 0, 0, 0, false, 0};
+    uint8_t byte;
+    if (wanted.kind != DVG_WANTED) {
+        drawn = 0;
+        return dvg_strobe(device);
+    }
+    if (hole) {
+        return dvg_generator_hole(device);
+    }
+    byte = memory[2 * wanted.address + wanted.value];
+    if (dvg_generator_move(device, byte, &move).kind == DVG_MOVES && move.z > 0) {
+        drawn++;
+    }
+    return dvg_generator_fetch(device, byte);
+}
+
+static bool same_stroke(dvg_stroke one, dvg_stroke other)
+{
+    return one.x0 == other.x0 && one.y0 == other.y0 && one.x1 == other.x1 && one.y1 == other.y1
+           && one.z == other.z;
+}
+
+/* Whether the strokes of both are the same. */
+static bool same_strokes(dvg *one, dvg *other)
+{
+    uint64_t count = dvg_strokes(one);
+    bool same = dvg_strokes(other) == count;
+    for (uint64_t i = 0; i < count && same; i++) {
+        same = same_stroke(dvg_stroke_at(one, i), dvg_stroke_at(other, i));
+    }
+    return same;
+}
+
+/* Whether all is the same that can be asked of both, but for the strokes of a finished run. */
+static bool stand_alike(dvg *one, dvg *other, uint8_t byte)
+{
+    bool same = true;
+    for (uint64_t request = DVG_REQUEST_MOVE; request <= DVG_REQUEST_RETURN_TO; request++) {
+        for (uint64_t i = 0; i < 5; i++) {
+            uint64_t asked = request == DVG_REQUEST_RETURN_TO ? request | i << 8
+                                                              : request | (uint64_t)byte << 16;
+            same = same && dvg_turn(one, asked) == dvg_turn(other, asked);
+        }
+    }
+    return same && dvg_turn(one, DVG_REQUEST_WANTS) == dvg_turn(other, DVG_REQUEST_WANTS);
+}
+
+/* Whether both go on alike, run after run. */
+static bool go_on_alike(dvg *one, dvg *other)
+{
+    bool same = true;
+    for (uint32_t left = below(MOST_AFTER); left > 0 && same; left--) {
+        dvg_answer wanted = dvg_wants(one);
+        bool hole = below(200) == 0;
+        uint8_t byte = memory[2 * (wanted.address & 0xFFF) + (wanted.value & 1)];
+        dvg_answer first, second;
+        same = stand_alike(one, other, byte);
+        first = go_on(one, hole);
+        second = go_on(other, hole);
+        same = same && first.kind == second.kind && first.address == second.address
+               && first.value == second.value
+               && (first.kind != DVG_DONE || same_strokes(one, other));
+    }
+    return same;
+}
+
+/* --- Bytes --- */
+
+/* What is saved of a device, in memory that is the caller's to free. */
+static uint8_t *save(dvg *device, size_t *size)
+{
+    uint8_t *bytes;
+    *size = dvg_save(device, NULL, 0);
+    bytes = malloc(*size + 1);
+    if (bytes == NULL) {
+        exit(2);
+    }
+    bytes[*size] = 0xA5;
+    expect(dvg_save(device, bytes, *size) == *size && bytes[*size] == 0xA5,
+           "as many bytes are written as there are");
+    return bytes;
+}
+
+/* Other bytes are answered. Where they are refused, the generator that was open stays, with its
+ * answers; what opens can be saved, and restored again. */
+static void try_bytes(dvg *device, const uint8_t *bytes, size_t size, bool *answered)
+{
+    uint64_t wants = dvg_turn(device, DVG_REQUEST_WANTS);
+    uint64_t beam = dvg_turn(device, DVG_REQUEST_BEAM);
+    dvg_kind kind = dvg_restore(device, bytes, size).kind;
+    if (kind == DVG_OPENED) {
+        size_t again;
+        uint8_t *other = save(device, &again);
+        *answered = *answered && dvg_restore(device, other, again).kind == DVG_OPENED;
+        free(other);
+    } else {
+        *answered = *answered && kind == DVG_NO_STATE
+                    && dvg_turn(device, DVG_REQUEST_WANTS) == wants
+                    && dvg_turn(device, DVG_REQUEST_BEAM) == beam;
+    }
+}
+
+/* Each bit of a saved state changed, each beginning of it, and other versions. */
+static void try_changed(dvg *device, uint8_t *bytes, size_t size)
+{
+    bool answered = true;
+    for (size_t bit = 0; bit < 8 * size; bit++) {
+        bytes[bit / 8] ^= (uint8_t)(1 << bit % 8);
+        try_bytes(device, bytes, size, &answered);
+        bytes[bit / 8] ^= (uint8_t)(1 << bit % 8);
+    }
+    expect(answered, "each changed bit is answered");
+    answered = true;
+    for (size_t length = 0; length < size; length++) {
+        answered = answered && dvg_restore(device, bytes, length).kind == DVG_NO_STATE;
+    }
+    expect(answered, "each beginning of a saved state is refused");
+    answered = true;
+    for (int version = 0; version < 256; version++) {
+        bytes[3] = (uint8_t)version;
+        answered = answered
+                   && (dvg_restore(device, bytes, size).kind == DVG_OPENED)
+                          == (version == DVG_SAVED_VERSION);
+    }
+    bytes[3] = DVG_SAVED_VERSION;
+    expect(answered, "other versions are refused");
+}
+
+/* Random bytes, mostly with the head of a saved state, and with parts. */
+static void try_random(dvg *device)
+{
+    uint8_t bytes[128];
+    size_t size = below(sizeof bytes + 1);
+    bool answered = true;
+    for (size_t at = 0; at < sizeof bytes; at++) {
+        bytes[at] = (uint8_t)below(256);
+    }
+    if (below(8) != 0) {
+        size = 8 * (2 + below(14));
+        dvg_saved_put(bytes, size, 0, dvg_saved_head(size / 8 - 1));
+        for (size_t at = 8; at < size; at += 8) {
+            bytes[at] = DVG_REQUEST_TELL_STATE;
+            bytes[at + 1] = (uint8_t)(at == 8 ? 0 : below(5));
+        }
+    }
+    try_bytes(device, bytes, size, &answered);
+    expect(answered, "random bytes are answered");
+}
+
+/* --- One generator --- */
+
+/* Whether the saved state is as long as the header says. */
+static bool is_as_long(dvg *device, size_t size)
+{
+    dvg_held held = {0, 0, 0, false, false, 0, 0};
+    bool is_open = dvg_wants(device).kind == DVG_WANTED;
+    dvg_held_by(device, &held);
+    return size == DVG_SAVED_BYTES - 8 * (size_t)(4 - held.returns) + (is_open ? 16 * drawn : 0);
+}
+
+static void test_generator(dvg *one, dvg *other)
+{
+    size_t size, again;
+    uint8_t *bytes, *copy;
+    chance = seed * 0x9E3779B97F4A7C15u;
+    fill_memory();
+    dvg_open_generator(one);
+    for (uint32_t left = below(MOST_BEFORE); left > 0; left--) {
+        go_on(one, below(300) == 0);
+    }
+    bytes = save(one, &size);
+    expect(is_as_long(one, size), "a state is as long as the header says");
+    expect(dvg_restore(other, bytes, size).kind == DVG_OPENED, "a saved state is restored");
+    expect(dvg_strokes(other) == 0, "with no strokes of a finished run");
+    copy = save(other, &again);
+    expect(again == size && memcmp(bytes, copy, size) == 0, "and saved as the same bytes");
+    expect(go_on_alike(one, other), "both go on alike");
+    if (seed % 16 == 0 && size < 400) {
+        try_changed(other, bytes, size);
+    }
+    try_random(other);
+    free(bytes);
+    free(copy);
+}
+
+/* What is no generator has no state, and a restored one takes the place of what was open. */
+static void test_others(dvg *one, dvg *other)
+{
+    static const uint8_t rom[DVG_ROM_BYTES];
+    uint8_t bytes[DVG_SAVED_BYTES] = {0};
+    expect(dvg_save(one, bytes, sizeof bytes) == 0, "where nothing is open, there is no state");
+    expect(dvg_restore(one, bytes, 0).kind == DVG_NO_STATE, "no bytes are no state");
+    expect(dvg_tick(one).kind == DVG_CLOSED, "and nothing opens");
+    dvg_open_world(one, NULL, rom, sizeof rom);
+    expect(dvg_save(one, bytes, sizeof bytes) == 0, "a world isn't saved");
+    dvg_open_wrapping(other);
+    expect(dvg_save(other, bytes, sizeof bytes) == 0, "nor is a stack that wraps");
+    dvg_open_generator(other);
+    expect(dvg_save(other, bytes, sizeof bytes) == 24, "a new generator has 24 bytes");
+    expect(dvg_restore(one, bytes, 24).kind == DVG_OPENED, "they are restored where a world is");
+    expect(dvg_tick(one).kind == DVG_UNKNOWN && dvg_wants(one).kind == DVG_STILL,
+           "and a generator takes its place");
+}
+
+int main(int count, char **words)
+{
+    dvg *one = NULL, *other = NULL;
+    if (count != 3) {
+        fprintf(stderr, "usage: embed_save COUNT SEED\n");
+        return 64;
+    }
+    if (dvg_new(&one) != 0 || dvg_new(&other) != 0) {
+        return 2;
+    }
+    test_others(one, other);
+    seed = strtoull(words[2], NULL, 10);
+    for (unsigned long left = strtoul(words[1], NULL, 10); left > 0; left--, seed++) {
+        test_generator(one, other);
+    }
+    dvg_free(one);
+    dvg_free(other);
+    printf("%lu passed, %lu failed\n", passed, failed);
+    return failed == 0 ? 0 : 1;
+}
