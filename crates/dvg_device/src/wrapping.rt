@@ -57,10 +57,7 @@ fn register(generator: &WrappingGenerator<Global>, i: u64) -> Reply
 }
 
 // Hands `byte` to `generator`, where `None` is a hole. Returns the reply.
-pub(crate) fn fetch_wrapping(
-    generator: &mut WrappingGenerator<Global>,
-    byte: Option<u8>,
-) -> Reply
+pub(crate) fn fetch_wrapping(generator: &mut WrappingGenerator<Global>, byte: Option<u8>) -> Reply
     ensures { FetchesWrapped byte generator.old generator.new result
         ⊎ (LacksRoomWrapped byte generator.old generator.new result
         ⊎ StaysStillWrapped generator.old generator.new result) }

@@ -11,8 +11,8 @@ returns-in-Ok c =
     let address = c.in-Some.address in
     let step = c.in-Ok.step in
     let wanted = subst (λ (machine : Machine). (history : List Told) (low : Option ℕ)
-        (after : HasTaken machine history low) → c.wants.result ≡ wants after.run) c.generator.ensures
-        c.wants.ensures.address in
+    (after : HasTaken machine history low) → c.wants.result ≡ wants after.run) c.generator.ensures
+    c.wants.ensures.address in
     let low = c.low_byte-low.ensures ∙ ap (λ (machine : Machine). machine.low) c.generator-2.ensures in
     inl (record {
       address = address;

@@ -22,8 +22,7 @@ returns c =
     let same = c.state.view_is ∙ c.replace.ensures.value in
     let state = c.state.inside.state in
     let strokes = c.state.inside.strokes.items in
-    let there = is_state state strokes [] (subst CanStand (sym same) stands) in
-    (
+    let there = is_state state strokes [] (subst CanStand (sym same) stands) in (
       stands,
       sym (ap (λ (machine : Machine). machine.picture) c.self.view_is),
       c.resume.ensures.machine (c.resume.ensures.taken.1 there)
