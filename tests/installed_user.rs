@@ -6,8 +6,8 @@ use std::error::Error;
 use gerbilargent::{
     Action, AllocError, AllocFailed, BadCode, BadOp, Code, CodeFault, Draft, DraftFull, Driver,
     DriverFault, Entry, Flat, FrameFault, GenFault, Generator, Global, Image, Instr, Judge,
-    MemFault, MomentJudge, Op, OpKind, OutOfMemory, Rom, Stopped, Stroke, Vec, World, dump, named,
-    read, sketch,
+    MemFault, MomentJudge, Op, OpKind, OutOfMemory, Rom, Stopped, Stroke, Vec, World, dump, read,
+    sketch,
 };
 
 /// A frame of one vector. None where a field is out of its range, or the draft is full.
