@@ -9,7 +9,7 @@ use Rattle.dvg_print.specs.Shows.{entry_line, shown, shown_entry, stroke_line, s
 use Rattle.dvg_world.specs.Keeping.{strokes_in}
 
 -- the number of the strokes that stand in an entry
-pub counted : (strokes : List Stroke) (entry : Entry ℕ) → map_entry (λ _. length strokes) entry ≡ map_entry (λ drew. length drew) (map_entry (λ _. strokes) entry)
+pub counted : {A : Type 0} (strokes : List Stroke) (entry : Entry A) → map_entry (λ _. length strokes) entry ≡ map_entry (λ drew. length drew) (map_entry (λ _. strokes) entry)
 counted strokes (Done address word number) = refl
 counted strokes _ = refl
 
@@ -40,7 +40,7 @@ shown_run all n (suc times) entry later =
     ∙ sym (append_assoc first others (shown all (n + suc times) later))
 
 -- the line of an entry, and after it those of what its run drew
-pub line_then : (n : ℕ) (strokes : List Stroke) (entry : Entry ℕ) → strokes ≡ strokes_in (map_entry (λ _. strokes) entry)
+pub line_then : {A : Type 0} (n : ℕ) (strokes : List Stroke) (entry : Entry A) → strokes ≡ strokes_in (map_entry (λ _. strokes) entry)
     → shown_entry true n (map_entry (λ _. strokes) entry)
     ≡ entry_line n (map_entry (λ _. length strokes) entry) ++ flat_map stroke_line strokes
 line_then n strokes entry drawn =
