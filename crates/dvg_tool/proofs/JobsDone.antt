@@ -1,6 +1,6 @@
 -- From what an engine answers to what is answered of it.
-use Rattle.std.proofs.Common.{◌≡◌, List, ℕ, Option, Some, None, Ok, subst}
-use Rattle.std.specs.Prelude.{◌↔◌, All, Bool, IfSome, IsTrue}
+use Rattle.std.proofs.Common.{◌≡◌, List, ℕ, Option, Result, Some, None, Ok, Err, subst, sym}
+use Rattle.std.specs.Prelude.{◌↔◌, All, Bool, IfSome, IsTrue, MatchResult}
 use Rattle.dvg_lay.specs.Checks.{ChecksSketch, IsGoodVerdict}
 use Rattle.dvg_lay.specs.DrawnSketches.{Draws}
 use Rattle.dvg_lay.specs.declared.drawn.Drawn.{Drawn}
@@ -9,11 +9,15 @@ use Rattle.dvg_svg.specs.declared.show.Show.{Show}
 use Rattle.dvg_lay.specs.Sketches.{Lays}
 use Rattle.dvg_lay.specs.declared.form.Form.{Form}
 use Rattle.dvg_lay.specs.declared.form.Laid.{Laid}
-use Rattle.dvg_args.specs.declared.task.Job.TheVariants.{Render, RenderCheck, Lay}
+use Rattle.dvg_print.specs.declared.moment_verdict.MomentVerdict.{MomentVerdict}
+use Rattle.dvg_io.specs.declared.fault.ToolFault.{ToolFault}
+use Rattle.dvg_logs.specs.AllTears.{AllTears}
+use Rattle.dvg_args.specs.declared.task.Job.TheVariants.{Render, RenderCheck, Lay, Torn}
+use Rattle.dvg_args.specs.declared.task.LogRule.TheVariants.{AllMoments}
 use Rattle.dvg_args.specs.declared.task.LayForm.{LayForm}
 use Rattle.dvg_tool.specs.Jobs.{Performs, answered, answered_drawn, form_of}
 use Rattle.dvg_tool.specs.declared.outcome.Done.{Done}
-use Rattle.dvg_tool.specs.declared.outcome.Done.TheVariants.{CheckedFrames}
+use Rattle.dvg_tool.specs.declared.outcome.Done.TheVariants.{CheckedFrames, SearchedMoments}
 
 -- what is answered of a sketch that was laid out, or that is refused
 pub laid_answered : {A : Type 0} (form : LayForm) (asked : Form) (laid : Laid A) (done : Done A) (known old new : Option (List ℕ)) → asked ≡ form_of form → done ≡ answered laid
@@ -32,3 +36,11 @@ pub said_answered : {A : Type 0} (said : Said A) (good : Bool) (known old new : 
     → IfSome known (λ input. ChecksSketch (Ok said) input old new) → IfSome known (λ input. Performs {A = A} RenderCheck (Ok (CheckedFrames good)) input old new)
 said_answered said good None old new is h = tt
 said_answered said good (Some input) old new is h = (said, is, h)
+
+-- and of a log, each of whose torn runs has its line
+pub all_answered : {A : Type 0} (base : Option ℕ) (answer : Result MomentVerdict ToolFault) (done : Result (Done A) ToolFault) (known old new : Option (List ℕ))
+    → MatchResult answer (λ verdict. done ≡ Ok (SearchedMoments verdict)) (λ fault. done ≡ Err fault)
+    → IfSome known (λ input. AllTears base answer input old new) → IfSome known (λ input. Performs (Torn AllMoments base) done input old new)
+all_answered base answer done None old new is h = tt
+all_answered base (Ok verdict) done (Some input) old new is h = subst (λ d. Performs (Torn AllMoments base) d input old new) (sym is) h
+all_answered base (Err fault) done (Some input) old new is h = subst (λ d. Performs (Torn AllMoments base) d input old new) (sym is) h
