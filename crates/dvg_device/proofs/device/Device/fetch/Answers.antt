@@ -1,23 +1,21 @@
-use Rattle.std.proofs.Common.{◌⊎◌, refl, sym, subst}
+use Rattle.std.proofs.Common.{rules, ◌⊎◌, refl, sym, subst}
 use Rattle.dvg_log.specs.declared.event.Event.TheVariants.{Fetch}
 use Rattle.dvg_device.specs.Worlds.{Happens, Lacks}
+use Rattle.dvg_device.proofs.device.Device.fetch.Goals.{in-Nothing, in-World, in-Driver, in-Generator, in-Wrapping, in-Judge}
 use Rattle.dvg_device.proofs.device.Device.fetch.Goals as goal
 
-pub returns-in-World : goal.returns-in-World
-returns-in-World c =
-    let later = c.fetch.new.self in
-    let reply = c.fetch.result in
-    rw (sym c.self.view_is, c.in-World.is) (
-      later,
-      refl,
-      subst (λ world. Happens Fetch world later reply ⊎ Lacks Fetch world later reply) c.deref_mut.ensures.value
-          c.fetch.ensures,
-    )
-
-pub returns-in-Generator : goal.returns-in-Generator
-returns-in-Generator c = rw (sym c.self.view_is, c.in-Generator.is)
-    (c.fetch-in-Generator.new.generator, refl, c.fetch-in-Generator.ensures)
-
-pub returns-in-Wrapping : goal.returns-in-Wrapping
-returns-in-Wrapping c = rw (sym c.self.view_is, c.in-Wrapping.is)
-    (c.fetch_wrapping.new.generator, refl, c.fetch_wrapping.ensures)
+pub returns : goal.returns
+returns c = elim c.match-self.branch [
+  | in-Nothing w ↦ rw (w.result-is, w.self-inside-is, sym c.self.view_is, w.in-Nothing.is) (search rules)
+  | in-World w ↦ rw (w.result-is, w.self-inside-is, sym c.self.view_is, w.in-World.is) (
+    w.fetch.new.self,
+    refl,
+    subst (λ world. Happens Fetch world w.fetch.new.self w.fetch.result ⊎ Lacks Fetch world w.fetch.new.self w.fetch.result) w.deref_mut.ensures.value w.fetch.ensures,
+  )
+  | in-Driver w ↦ rw (w.result-is, w.self-inside-is, sym c.self.view_is, w.in-Driver.is) (search rules)
+  | in-Generator w ↦ rw (w.result-is, w.self-inside-is, sym c.self.view_is, w.in-Generator.is)
+      (w.fetch-in-Generator.new.generator, refl, w.fetch-in-Generator.ensures)
+  | in-Wrapping w ↦ rw (w.result-is, w.self-inside-is, sym c.self.view_is, w.in-Wrapping.is)
+      (w.fetch_wrapping.new.generator, refl, w.fetch_wrapping.ensures)
+  | in-Judge w ↦ rw (w.result-is, w.self-inside-is, sym c.self.view_is, w.in-Judge.is) (search rules)
+]
