@@ -16,6 +16,7 @@ ghost use Rattle.dvg_log.specs.Traces.{BringsDraft, seen_as};
 ghost use Rattle.dvg_world.specs.Desks.{OfLives};
 ghost use Rattle.dvg_world.specs.Standing.{AddsLine, DrawsNow, KeepsHeadlineAfter, KeepsLogs};
 ghost use Rattle.dvg_world.specs.Standing.{WorldAfter, shown_in};
+ghost use Rattle.dvg_world.specs.own.Running.{ChangesNothing};
 ghost use Rattle.dvg_world.specs.own.Stepping.{IsDrawnBy, WantsMemory, ram_by, sent_by};
 ghost use Rattle.dvg_world.specs.Wanting.{TakesMemory};
 
@@ -166,6 +167,7 @@ impl<S: Store> World<S> {
         requires { BringsDraft event }
         ensures stands { IfOk result (λ entry. AddsLine self.old (seen_as event.entry)
             (shown_in self.new entry) self.new) }
+        ensures still { IfOk result (λ entry. ChangesNothing entry → self.new ≡ self.old) }
         ensures room { OnErr result (WantsMemory (seen_as event.entry) self.old) }
         ensures refused { OnErr result (self.new ≡ self.old) }
     {
@@ -238,6 +240,7 @@ impl<S: Store> World<S> {
         ensures stands { AddsLine self.old Tick (shown_in self.new result) self.new }
         ensures headline { KeepsHeadlineAfter self.old Tick (shown_in self.new result) }
         ensures picture { self.new.machine.picture ≡ self.old.machine.picture }
+        ensures idle { result ≡ Acted Action.Idle → self.new ≡ self.old }
     {
         Entry::Acted(self.act())
     }
