@@ -47,7 +47,8 @@ next_picture : (pictures more : List (List Stroke)) (entry : Entry (Unit {0})) (
 next_picture (picture ∷ pictures) more (Done address word unit) n is =
     record { shown = refl; left = refl; count = omega (arith, is) }
 next_picture [] more (Done address word unit) n is = absurd (omega (arith, is))
-next_picture pictures more _ n is = record { shown = refl; left = refl; count = is }
+next_picture pictures more _ n is =
+    let same : 0 + n ≡ length pictures = is in record { shown = refl; left = refl; count = omega (arith, same) }
 
 -- more entries with their pictures, after those that belong together
 all_append : (pictures more : List (List Stroke)) (kept later : List Alike) → finished_count kept ≡ length pictures

@@ -3,7 +3,6 @@ use Rattle.std.proofs.Common.{◌≡◌, ℕ, Some, None, refl}
 use Rattle.std.specs.Prelude.{IsSome}
 use Rattle.dvg_gen.specs.Bytes.{Met, Waits, Whole, word_of}
 use Rattle.dvg_gen.specs.Machine.{Machine, picture_after}
-use Rattle.dvg_gen.specs.declared.stroke.Stroke.{Stroke}
 use Rattle.dvg_gen.specs.declared.taken.Step.{Step}
 use Rattle.dvg_gen.specs.declared.taken.Step.TheVariants as step
 use Rattle.dvg_log.specs.Entries.{drew_in, entry_by, map_entry}

@@ -189,10 +189,10 @@ impl<S: Store> World<S> {
         ensures shown { shown_of result ≡ shown_in self.old entry }
         ensures stands { KeepsLogs self.old self.new }
     {
-        match self.take_drawn(entry) {
-            Some(drew) => entry.with(drew),
-            None => entry.with(Vec::new(self.alloc)),
-        }
+        let Some(drew) = self.take_drawn(entry) else {
+            return entry.with(Vec::new(self.alloc));
+        };
+        entry.with(drew)
     }
 
     // Returns whether the driver is idle, and so would take a draft that the check accepts.
@@ -311,10 +311,8 @@ impl<S: Store> World<S> {
         };
         let low = self.generator.low_byte();
         let byte = fetch_byte(&self.store, self.desk.rom(), address, low.is_some());
-        match self.generator.feed(byte) {
-            Ok(step) => Ok(Entry::of_fetch(address, low, byte, step, ())),
-            Err(refused) => Err(refused),
-        }
+        let step = self.generator.feed(byte)?;
+        Ok(Entry::of_fetch(address, low, byte, step, ()))
     }
 
     /// Returns the picture: the strokes of the newest run that came to a HALT, in the order drawn.
