@@ -7,8 +7,8 @@ ghost use Rattle.dvg_log.specs.Events.{Happening};
 ghost use Rattle.dvg_log.specs.Log.{Log, ◌⟼◌};
 ghost use Rattle.dvg_log.specs.Traces.{BringsDraft, seen_as};
 ghost use Rattle.dvg_world.specs.Keeping.{Happened};
-ghost use Rattle.dvg_world.specs.Standing.{KeepsLogs, WorldAfter, shown_in};
-ghost use Rattle.dvg_world.specs.own.Running.{ChangesNothing, IsPassedOver, KeepsRun, StopsKeeping};
+ghost use Rattle.dvg_world.specs.Standing.{ChangesNothing, KeepsLogs, WorldAfter, shown_in};
+ghost use Rattle.dvg_world.specs.own.Running.{IsPassedOver, KeepsRun, StopsKeeping};
 
 use crate::world::World;
 use dvg_code::OutOfMemory;
@@ -55,7 +55,15 @@ pub(crate) trait Keeper<S: Store> {
 fn changes_nothing(entry: Entry<()>) -> bool
     ensures { IsTrue result → ChangesNothing entry }
 {
-    matches!(entry, Entry::Still | Entry::Acted(Action::Idle))
+    matches!(
+        entry,
+        Entry::Still
+            | Entry::Acted(Action::Idle)
+            | Entry::Refused(_)
+            | Entry::Busy
+            | Entry::NothingPublished
+            | Entry::NoStrobe
+    )
 }
 
 // Lets `event` happen to `world` `times` times, the first time as event number `number`, and has
@@ -78,10 +86,10 @@ fn happen_times<S: Store, K: Keeper<S>>(
         (seen_as event.entry) times world.new (K.IsKept keeper.new)) }
     ensures left { K.room keeper.old ≤ K.room keeper.new + times }
 {
+    if keeper.passes_over(event) && !world.is_idle() {
+        return Ok(());
+    }
     for done in 0..times {
-        if keeper.passes_over(event) && !world.is_idle() {
-            return Ok(());
-        }
         match world.happen(event) {
             Ok(entry) => {
                 if changes_nothing(entry) {
@@ -137,7 +145,7 @@ pub(crate) fn happen_all<S: Store, K: Keeper<S>>(
     let mut number = 0;
     for run in trace.runs() {
         let times = run.1;
-        match happen_times(run.0, number, times, keeper, world) {
+        match happen_run(run.0, number, times, keeper, world) {
             Ok(()) => number += times,
             Err(_) => return false,
         }

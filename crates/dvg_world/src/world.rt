@@ -1,6 +1,6 @@
 //! The world: both ends of the vector RAM, one event at a time.
 ghost use Rattle.std.specs.Prelude.{◌≡◌, ◌≢◌, ◌↔◌, ℕ, List, [], length, IfOk};
-ghost use Rattle.std.specs.Prelude.{IsErrOf, IsOk, IsTrue, None, Ok, OnErr, OnOk};
+ghost use Rattle.std.specs.Prelude.{IsErrOf, IsOk, IsTrue, None, OnErr, OnOk};
 ghost use Rattle.dvg_driver.specs.Script.{IsWhole};
 ghost use Rattle.dvg_driver.specs.Stands.{IsInRam};
 ghost use Rattle.dvg_frame.specs.Ops.{IsDraft};
@@ -9,14 +9,14 @@ ghost use Rattle.dvg_log.specs.Events.{happening_of};
 ghost use Rattle.dvg_log.specs.declared.event.Event.TheVariants.{Offer, Redraw, Tick, Strobe};
 ghost use Rattle.dvg_log.specs.declared.event.Event.TheVariants.{Fetch, ResetGen, ResetCpu};
 ghost use Rattle.dvg_log.specs.declared.event.Event.TheVariants.{ResetAll};
-ghost use Rattle.dvg_log.specs.declared.entry.Entry.TheVariants.{Acted, Still};
+ghost use Rattle.dvg_log.specs.declared.entry.Entry.TheVariants.{Acted};
 ghost use Rattle.dvg_log.specs.Legal.{IsLegal};
 ghost use Rattle.dvg_log.specs.Log.{Log};
 ghost use Rattle.dvg_log.specs.Traces.{BringsDraft, seen_as};
 ghost use Rattle.dvg_world.specs.Desks.{OfLives};
-ghost use Rattle.dvg_world.specs.Standing.{AddsLine, DrawsNow, KeepsHeadlineAfter, KeepsLogs};
+ghost use Rattle.dvg_world.specs.Standing.{AddsLine, ChangesNothing, DrawsNow};
+ghost use Rattle.dvg_world.specs.Standing.{KeepsHeadlineAfter, KeepsLogs};
 ghost use Rattle.dvg_world.specs.Standing.{WorldAfter, shown_in};
-ghost use Rattle.dvg_world.specs.own.Running.{ChangesNothing};
 ghost use Rattle.dvg_world.specs.own.Stepping.{IsDrawnBy, WantsMemory, ram_by, sent_by};
 ghost use Rattle.dvg_world.specs.Wanting.{TakesMemory};
 
@@ -167,7 +167,7 @@ impl<S: Store> World<S> {
         requires { BringsDraft event }
         ensures stands { IfOk result (λ entry. AddsLine self.old (seen_as event.entry)
             (shown_in self.new entry) self.new) }
-        ensures still { IfOk result (λ entry. ChangesNothing entry → self.new ≡ self.old) }
+        ensures same { IfOk result (λ entry. ChangesNothing entry → self.new ≡ self.old) }
         ensures room { OnErr result (WantsMemory (seen_as event.entry) self.old) }
         ensures refused { OnErr result (self.new ≡ self.old) }
     {
@@ -208,6 +208,7 @@ impl<S: Store> World<S> {
         ensures stands { AddsLine self.old (Offer draft.now) (shown_in self.new result) self.new }
         ensures headline { KeepsHeadlineAfter self.old (Offer draft.now) (shown_in self.new result) }
         ensures picture { self.new.machine.picture ≡ self.old.machine.picture }
+        ensures same { ChangesNothing result → self.new ≡ self.old }
     {
         self.offer_ops(draft.ops())
     }
@@ -219,6 +220,7 @@ impl<S: Store> World<S> {
         requires { IsDraft ops.now }
         ensures stands { AddsLine self.old (Offer ops.now) (shown_in self.new result) self.new }
         ensures picture { self.new.machine.picture ≡ self.old.machine.picture }
+        ensures same { ChangesNothing result → self.new ≡ self.old }
     {
         self.desk.offer(ops)
     }
@@ -230,6 +232,7 @@ impl<S: Store> World<S> {
         ensures stands { AddsLine self.old Redraw (shown_in self.new result) self.new }
         ensures headline { KeepsHeadlineAfter self.old Redraw (shown_in self.new result) }
         ensures picture { self.new.machine.picture ≡ self.old.machine.picture }
+        ensures same { ChangesNothing result → self.new ≡ self.old }
     {
         self.desk.redraw()
     }
@@ -240,7 +243,7 @@ impl<S: Store> World<S> {
         ensures stands { AddsLine self.old Tick (shown_in self.new result) self.new }
         ensures headline { KeepsHeadlineAfter self.old Tick (shown_in self.new result) }
         ensures picture { self.new.machine.picture ≡ self.old.machine.picture }
-        ensures idle { result ≡ Acted Action.Idle → self.new ≡ self.old }
+        ensures same { ChangesNothing result → self.new ≡ self.old }
     {
         Entry::Acted(self.act())
     }
@@ -281,6 +284,7 @@ impl<S: Store> World<S> {
         ensures stands { AddsLine self.old Strobe (shown_in self.new result) self.new }
         ensures headline { KeepsHeadlineAfter self.old Strobe (shown_in self.new result) }
         ensures picture { self.new.machine.picture ≡ self.old.machine.picture }
+        ensures same { ChangesNothing result → self.new ≡ self.old }
     {
         if !self.strobe_sent {
             return Entry::NoStrobe;
@@ -302,7 +306,7 @@ impl<S: Store> World<S> {
             (λ entry. KeepsHeadlineAfter self.old Fetch (shown_in self.new entry)) }
         ensures picture { IfOk result (λ entry. drew_in entry ≡ None
             → self.new.machine.picture ≡ self.old.machine.picture) }
-        ensures still { result ≡ Ok Still → self.new ≡ self.old }
+        ensures same { IfOk result (λ entry. ChangesNothing entry → self.new ≡ self.old) }
         ensures refused { OnErr result (self.new ≡ self.old) }
         ensures room { OnErr result (DrawsNow self.old) }
     {

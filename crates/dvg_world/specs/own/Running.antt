@@ -1,10 +1,8 @@
 -- Several lines more, all of one event: the words of private contracts.
 use Rattle.std.specs.Prelude.{◌≡◌, ◌+◌, ◌<◌, ◌++◌, ◌∷◌, ℕ, List, length, map, None, replicate, Vec}
 use Rattle.dvg_gen.specs.declared.stroke.Stroke.{Stroke}
-use Rattle.dvg_driver.specs.declared.action.Action.TheVariants.{Idle}
 use Rattle.dvg_log.specs.Entries.{Shown, drew_in, shown_of}
 use Rattle.dvg_log.specs.declared.entry.Entry.{Entry}
-use Rattle.dvg_log.specs.declared.entry.Entry.TheVariants.{Acted, Still}
 use Rattle.dvg_log.specs.Events.{Happening}
 use Rattle.dvg_log.specs.declared.event.Event.TheVariants.{Offer}
 use Rattle.dvg_log.specs.Log.{Log, ◌⟼◌, events_of}
@@ -28,12 +26,6 @@ pub record StopsRun (R image : List ℕ) (log : Log) (event : Happening) (times 
   pub before : done < times
   pub run : AddsRun R image log event done IsKept world
   pub takes : TakesMemory R image run.later event
-
--- an entry that changes nothing, so that the same event has it again
-abbrev pub ChangesNothing : Entry (Unit {0}) → Type 0
-ChangesNothing Still = Unit {0}
-ChangesNothing (Acted Idle) = Unit {0}
-ChangesNothing _ = ⊥
 
 -- an offer, of whose entry nothing is kept
 abbrev pub IsPassedOver : (Log → Type 0) → Happening → Type 0

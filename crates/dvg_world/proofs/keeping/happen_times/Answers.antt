@@ -1,0 +1,19 @@
+use Rattle.std.proofs.Common.{arith, subst}
+use Rattle.dvg_log.specs.Traces.{seen_as}
+use Rattle.dvg_world.specs.Standing.{shown_in}
+use Rattle.dvg_world.proofs.Passing.{keeps_over}
+use Rattle.dvg_world.proofs.Running.{keeps_all, keeps_begin, keeps_next, keeps_rest, keeps_stops}
+use Rattle.dvg_world.proofs.keeping.happen_times.Goals as goal
+
+pub loop-done-init : goal.loop-done-init
+loop-done-init g c = record { kept = keeps_begin c.args.number (seen_as c.args.event); left = omega arith }
+
+pub loop-done-preserved : goal.loop-done-preserved
+loop-done-preserved g c =
+    let left = c.loop-done.invariant.left in
+    let more = c.keep.ensures.left in
+    record {
+      kept = keeps_next c.loop-done.invariant.kept (shown_in c.happen.new.self c.in-Ok.entry) c.in-Ok.ensures.stands
+          c.keep.ensures.stands c.keep.ensures.kept;
+      left = omega (arith, left, more);
+    }
