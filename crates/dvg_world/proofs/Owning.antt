@@ -14,6 +14,11 @@ pub drew_other : (entry : Entry (Unit {0})) (picture : List Stroke)
 drew_other (Done address word drew) picture other = absurd (other address word drew refl)
 drew_other _ picture other = refl
 
+pub undrawn_as : (entry : Entry (Unit {0})) (picture : List Stroke) → drew_in entry ≡ None
+    → drew_in (map_entry (λ _. picture) entry) ≡ None
+undrawn_as (Done address word unit) picture none = absurd (none-some unit (sym none))
+undrawn_as _ picture none = refl
+
 -- with the strokes that its run drew an entry shows them
 pub owned_some : {A : Type 0} (entry : Entry (Unit {0})) (picture : List Stroke) (drew : Vec Stroke A)
     → IsDrawnBy (map_entry (λ _. picture) entry) (Some drew)

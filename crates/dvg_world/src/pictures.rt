@@ -63,10 +63,11 @@ impl<S: Store> Keeper<S> for PicturesKept<S::Alloc> {
 
     #[inline(always)]
     fn keep(&mut self, number: usize, entry: Entry<()>, world: &mut World<S>) {
-        if let Some(strokes) = world.take_drawn(entry) {
-            let event = number;
-            self.pictures.push_reserved(Picture { event, strokes });
-        }
+        let Some(strokes) = world.take_drawn(entry) else {
+            return;
+        };
+        let event = number;
+        self.pictures.push_reserved(Picture { event, strokes });
     }
 
     #[inline(always)]
@@ -84,7 +85,8 @@ impl<S: Store> Keeper<S> for PicturesKept<S::Alloc> {
 ///
 /// The list of pictures is grown once, for as many as there are events, before the first happens.
 ///
-/// A draft is checked only where the driver is idle. Any other offer is refused, or the driver is busy: nothing changes, and no picture comes.
+/// A draft is checked only where the driver is idle, and at most twice where it is offered many
+/// times in a row. Any other offer is refused, or the driver is busy: nothing changes, and no picture comes.
 pub fn draw_trace<S: Store>(
     alloc: S::Alloc,
     rom: Rom<S::Alloc>,
