@@ -1,7 +1,8 @@
 -- After which logs a world stands.
-use Rattle.std.specs.Prelude.{◌≡◌, ℕ, Bool, List, ◌∷◌, slice_index, Option}
+use Rattle.std.specs.Prelude.{◌≡◌, ℕ, Bool, List, [], ◌∷◌, slice_index, Option}
 use Rattle.dvg_gen.specs.Machine as generator
 use Rattle.dvg_gen.specs.Machine.{Machine}
+use Rattle.dvg_gen.specs.declared.stroke.Stroke.{Stroke}
 use Rattle.dvg_gen.specs.Told.{Told}
 use Rattle.dvg_driver.specs.declared.action.Action.TheVariants.{Idle}
 use Rattle.dvg_driver.specs.Script.{Item}
@@ -9,7 +10,7 @@ use Rattle.dvg_driver.specs.Stands as driver
 use Rattle.dvg_driver.specs.Stands.{Stage, byte1_of}
 use Rattle.dvg_log.specs.Events.{Happening}
 use Rattle.dvg_log.specs.declared.entry.Entry.{Entry}
-use Rattle.dvg_log.specs.declared.entry.Entry.TheVariants.{Refused, Busy, NothingPublished, Acted, NoStrobe, Still}
+use Rattle.dvg_log.specs.declared.entry.Entry.TheVariants.{Refused, Busy, NothingPublished, Acted, NoStrobe, Done, Still}
 use Rattle.dvg_log.specs.Entries.{Shown, map_entry}
 use Rattle.dvg_log.specs.Headline.{KeepsHeadline}
 use Rattle.dvg_log.specs.Log.{Log, ◌⟼◌, ram, low_byte, history, life, strobed}
@@ -27,6 +28,11 @@ pub record State : Type 0 where
 -- an entry of a world, with the picture that it keeps as what the run drew, if it finished one
 abbrev pub shown_in : State → Entry (Unit {0}) → Shown
 shown_in world entry = map_entry (λ _. world.machine.picture) entry
+
+-- what is left of a picture where an entry that finished its run has the strokes
+abbrev pub picture_left : {S : Type 0} → Entry S → List Stroke → List Stroke
+picture_left (Done address word drew) picture = []
+picture_left _ picture = picture
 
 -- an entry that changes nothing: the same event has it again, as often as it comes next
 abbrev pub ChangesNothing : Entry (Unit {0}) → Type 0

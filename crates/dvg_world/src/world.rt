@@ -16,7 +16,7 @@ ghost use Rattle.dvg_log.specs.Traces.{BringsDraft, seen_as};
 ghost use Rattle.dvg_world.specs.Desks.{OfLives};
 ghost use Rattle.dvg_world.specs.Standing.{AddsLine, ChangesNothing, DrawsNow};
 ghost use Rattle.dvg_world.specs.Standing.{KeepsHeadlineAfter, KeepsLogs};
-ghost use Rattle.dvg_world.specs.Standing.{WorldAfter, shown_in};
+ghost use Rattle.dvg_world.specs.Standing.{WorldAfter, picture_left, shown_in};
 ghost use Rattle.dvg_world.specs.own.Stepping.{IsDrawnBy, WantsMemory, ram_by, sent_by};
 ghost use Rattle.dvg_world.specs.Wanting.{TakesMemory};
 
@@ -147,6 +147,8 @@ impl<S: Store> World<S> {
             (shown_of entry) self.new) }
         ensures headline { IfOk result
             (λ entry. KeepsHeadlineAfter self.old (happening_of event.now) (shown_of entry)) }
+        ensures picture { IfOk result (λ entry. self.new.machine.picture
+            ≡ picture_left (shown_of entry) self.old.machine.picture) }
         ensures refused { OnErr result (self.new ≡ self.old) }
         ensures room { (R image : List ℕ) (log : Log) → WorldAfter R image log self.old
             → OnErr result (TakesMemory R image log (happening_of event.now)) }
@@ -167,6 +169,8 @@ impl<S: Store> World<S> {
         requires { BringsDraft event }
         ensures stands { IfOk result (λ entry. AddsLine self.old (seen_as event.entry)
             (shown_in self.new entry) self.new) }
+        ensures picture { IfOk result (λ entry. drew_in entry ≡ None
+            → self.new.machine.picture ≡ self.old.machine.picture) }
         ensures same { IfOk result (λ entry. ChangesNothing entry → self.new ≡ self.old) }
         ensures room { OnErr result (WantsMemory (seen_as event.entry) self.old) }
         ensures refused { OnErr result (self.new ≡ self.old) }
@@ -187,6 +191,7 @@ impl<S: Store> World<S> {
     // They are taken out of the world.
     pub(crate) fn own(&mut self, entry: Entry<()>) -> OwnEntry<S::Alloc>
         ensures shown { shown_of result ≡ shown_in self.old entry }
+        ensures left { self.new.machine.picture ≡ picture_left entry self.old.machine.picture }
         ensures stands { KeepsLogs self.old self.new }
     {
         let Some(drew) = self.take_drawn(entry) else {
@@ -342,6 +347,7 @@ impl<S: Store> World<S> {
     #[inline(always)]
     pub(crate) fn take_drawn(&mut self, entry: Entry<()>) -> Option<Vec<Stroke, S::Alloc>>
         ensures drawn { IsDrawnBy (shown_in self.old entry) result }
+        ensures left { self.new.machine.picture ≡ picture_left entry self.old.machine.picture }
         ensures stands { KeepsLogs self.old self.new }
     {
         match entry {

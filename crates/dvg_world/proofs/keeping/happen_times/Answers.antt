@@ -17,3 +17,7 @@ loop-done-preserved g c =
           c.keep.ensures.stands c.keep.ensures.kept;
       left = omega (arith, left, more);
     }
+
+pub returns-in-Err-clause-stops : goal.returns-in-Err-clause-stops
+returns-in-Err-clause-stops g c =
+    keeps_stops c.loop-done.invariant.kept c.args.times c.loop-done-test.true c.in-Err.ensures.room c.in-Err.ensures.refused
