@@ -155,19 +155,19 @@ redraws picture Asked answers =
 redraws picture entry answers = absurd answers
 
 -- where they change nothing, the driver stays
-pub offer_same : {R : List ℕ} {F : List OpKind} {stage later : Stage} (entry : Entry (Unit {0})) → ChangesNothing entry
+pub offer_same : (R : List ℕ) (F : List OpKind) (stage later : Stage) (entry : Entry (Unit {0})) → ChangesNothing entry
     → OfferAnswers R F stage later entry → later ≡ stage
-offer_same (Refused fault) nothing answers = answers.1
-offer_same Busy nothing answers = answers.1
-offer_same Offered nothing answers = absurd nothing
-offer_same _ nothing answers = absurd answers
+offer_same R F stage later (Refused fault) nothing answers = answers.1
+offer_same R F stage later Busy nothing answers = answers.1
+offer_same R F stage later Offered nothing answers = absurd nothing
+offer_same R F stage later _ nothing answers = absurd answers
 
-pub redraw_same : {stage later : Stage} (entry : Entry (Unit {0})) → ChangesNothing entry
+pub redraw_same : (stage later : Stage) (entry : Entry (Unit {0})) → ChangesNothing entry
     → RedrawAnswers stage later entry → later ≡ stage
-redraw_same NothingPublished nothing answers = answers.0
-redraw_same Busy nothing answers = answers.0
-redraw_same Asked nothing answers = absurd nothing
-redraw_same _ nothing answers = absurd answers
+redraw_same stage later NothingPublished nothing answers = answers.0
+redraw_same stage later Busy nothing answers = answers.0
+redraw_same stage later Asked nothing answers = absurd nothing
+redraw_same stage later _ nothing answers = absurd answers
 
 pub same_parts : {rom rom' bytes : List ℕ} {machine : Machine} {stage stage' : Stage} {sent : Bool} → rom' ≡ rom
     → stage' ≡ stage → world_of rom' bytes machine stage' sent ≡ world_of rom bytes machine stage sent

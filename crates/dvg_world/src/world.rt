@@ -9,7 +9,7 @@ ghost use Rattle.dvg_log.specs.Events.{happening_of};
 ghost use Rattle.dvg_log.specs.declared.event.Event.TheVariants.{Offer, Redraw, Tick, Strobe};
 ghost use Rattle.dvg_log.specs.declared.event.Event.TheVariants.{Fetch, ResetGen, ResetCpu};
 ghost use Rattle.dvg_log.specs.declared.event.Event.TheVariants.{ResetAll};
-ghost use Rattle.dvg_log.specs.declared.entry.Entry.TheVariants.{Acted};
+ghost use Rattle.dvg_log.specs.declared.entry.Entry.TheVariants.{Acted, Cleared};
 ghost use Rattle.dvg_log.specs.Legal.{IsLegal};
 ghost use Rattle.dvg_log.specs.Log.{Log};
 ghost use Rattle.dvg_log.specs.Traces.{BringsDraft, seen_as};
@@ -362,6 +362,7 @@ impl<S: Store> World<S> {
         ensures stands { AddsLine self.old ResetGen (shown_in self.new result) self.new }
         ensures headline { KeepsHeadlineAfter self.old ResetGen (shown_in self.new result) }
         ensures picture { self.new.machine.picture ≡ self.old.machine.picture }
+        ensures entry { result ≡ Cleared }
     {
         self.generator.reset(); // The open run is over.
         Entry::Cleared
@@ -373,6 +374,7 @@ impl<S: Store> World<S> {
         ensures stands { AddsLine self.old ResetCpu (shown_in self.new result) self.new }
         ensures headline { KeepsHeadlineAfter self.old ResetCpu (shown_in self.new result) }
         ensures picture { self.new.machine.picture ≡ self.old.machine.picture }
+        ensures entry { result ≡ Cleared }
     {
         self.desk.reset();
         Entry::Cleared
@@ -386,6 +388,7 @@ impl<S: Store> World<S> {
         ensures headline { KeepsHeadlineAfter self.old (ResetAll image.now)
             (shown_in self.new result) }
         ensures picture { self.new.machine.picture ≡ self.old.machine.picture }
+        ensures entry { result ≡ Cleared }
     {
         self.store.load(image);
         self.generator.reset();

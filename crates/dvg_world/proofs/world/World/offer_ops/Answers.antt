@@ -10,4 +10,4 @@ returns-clause-stands g c =
 
 pub returns-clause-same : goal.returns-clause-same
 returns-clause-same g c nothing =
-    same_parts c.offer.ensures.rom (offer_same c.offer.result nothing c.offer.ensures.answers) ∙ c.self.view_is
+    same_parts c.offer.ensures.rom (offer_same _ _ _ _ c.offer.result nothing c.offer.ensures.answers) ∙ c.self.view_is

@@ -13,4 +13,4 @@ returns-clause-headline g c = keeps_headline Redraw _ (returns-clause-stands g c
 
 pub returns-clause-same : goal.returns-clause-same
 returns-clause-same g c nothing =
-    same_parts c.redraw.ensures.rom (redraw_same c.redraw.result nothing c.redraw.ensures.answers) ∙ c.self.view_is
+    same_parts c.redraw.ensures.rom (redraw_same _ _ c.redraw.result nothing c.redraw.ensures.answers) ∙ c.self.view_is
