@@ -1,6 +1,6 @@
 //! Traces that happen to a world, and what is kept of them.
-ghost use Rattle.std.specs.Prelude.{◌≡◌, ◌+◌, ◌^◌, ◌<◌, ◌≤◌, [], List, ℕ, length, IsTrue, None};
-ghost use Rattle.std.specs.Prelude.{OnErr, OnOk, replicate};
+ghost use Rattle.std.specs.Prelude.{◌≡◌, ◌+◌, ◌^◌, ◌<◌, ◌≤◌, ◌∷◌, ◌++◌, [], List, ℕ, length};
+ghost use Rattle.std.specs.Prelude.{IsTrue, None, OnErr, OnOk, replicate};
 ghost use Rattle.dvg_gen.specs.declared.stroke.Stroke.{Stroke};
 ghost use Rattle.dvg_log.specs.Entries.{drew_in, map_entry};
 ghost use Rattle.dvg_log.specs.Events.{Happening};
@@ -27,7 +27,7 @@ pub(crate) trait Keeper<S: Store> {
     // Returns whether `event` may be passed over where the driver isn't idle: it is an offer, and
     // the keeper keeps nothing of one that isn't taken.
     fn passes_over(&self, event: TraceEvent<'_, S::Alloc>) -> bool
-        ensures { IsTrue result → IsPassedOver (IsKept self.now) (seen_as event) };
+        ensures { IsTrue result → IsPassedOver (IsKept self.now) (seen_as event.entry) };
 
     // Keeps the next line, the line number `number`, of `entry`, the newest one of `world`. The
     // picture may be taken out. There must be room.
@@ -107,8 +107,8 @@ fn happen_times<S: Store, K: Keeper<S>>(
 // Does what `happen_times` does. Ticks and fetches come most often: by this they have a loop of
 // their own.
 #[inline(always)]
-fn happen_run<S: Store, K: Keeper<S>>(
-    event: TraceEvent<'_, S::Alloc>,
+fn happen_run<'a, S: Store, K: Keeper<S>>(
+    event: TraceEvent<'a, S::Alloc>,
     number: usize,
     times: usize,
     keeper: &mut K,
@@ -123,9 +123,11 @@ fn happen_run<S: Store, K: Keeper<S>>(
         (seen_as event.entry) times world.new (K.IsKept keeper.new)) }
     ensures left { K.room keeper.old ≤ K.room keeper.new + times }
 {
+    let tick: TraceEvent<'a, S::Alloc> = TraceEvent::Tick;
+    let fetch: TraceEvent<'a, S::Alloc> = TraceEvent::Fetch;
     match event {
-        TraceEvent::Tick => happen_times(TraceEvent::Tick, number, times, keeper, world),
-        TraceEvent::Fetch => happen_times(TraceEvent::Fetch, number, times, keeper, world),
+        TraceEvent::Tick => happen_times(tick, number, times, keeper, world),
+        TraceEvent::Fetch => happen_times(fetch, number, times, keeper, world),
         _ => happen_times(event, number, times, keeper, world),
     }
 }
