@@ -11,7 +11,7 @@ loop-run-init g c =
     let same = ap length all in
     record {
       so_far = λ R image after kept. keeps_none after kept all;
-      all = same;
+      all = omega (arith, same);
       room = omega (arith, room, same);
     }
 

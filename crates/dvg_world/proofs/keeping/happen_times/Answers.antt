@@ -18,6 +18,18 @@ loop-done-preserved g c =
       left = omega (arith, left, more);
     }
 
+pub returns-then-not-is_idle-clause-kept : goal.returns-then-not-is_idle-clause-kept
+returns-then-not-is_idle-clause-kept g c =
+    keeps_over c.args.event c.is_idle.result c.requires.brings (c.passes_over.ensures c.if-passes_over.true)
+    c.is_idle.ensures c.if-not-is_idle.true (omega arith) (keeps_begin c.args.number (seen_as c.args.event))
+
+pub returns-then-changes_nothing-clause-kept : goal.returns-then-changes_nothing-clause-kept
+returns-then-changes_nothing-clause-kept g c =
+    let world = c.happen.new.self in
+    keeps_rest c.loop-done.invariant.kept c.args.times (shown_in world c.in-Ok.entry) c.loop-done-test.true
+    c.in-Ok.ensures.stands (c.in-Ok.ensures.same (c.changes_nothing.ensures c.if-changes_nothing.true))
+    (c.keep_alike.ensures.kept world.machine.picture)
+
 pub returns-in-Err-clause-stops : goal.returns-in-Err-clause-stops
 returns-in-Err-clause-stops g c =
     keeps_stops c.loop-done.invariant.kept c.args.times c.loop-done-test.true c.in-Err.ensures.room c.in-Err.ensures.refused
