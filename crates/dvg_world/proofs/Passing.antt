@@ -1,5 +1,5 @@
 -- Offers that change nothing.
-use Rattle.std.proofs.Common.{◌≡◌, ℕ, ◌≤◌, Bool, true, false, List, None, ⊎_elim, refl, sym, subst, arith}
+use Rattle.std.proofs.Common.{◌≡◌, ℕ, ◌≤◌, Bool, true, false, List, None, ⊎_elim, refl, sym, subst}
 use Rattle.std.specs.Prelude.{◌↔◌, IsTrue}
 use Rattle.dvg_mem.specs.Memory.{IsRom}
 use Rattle.dvg_frame.specs.declared.op.OpKind.{OpKind}

@@ -1,5 +1,5 @@
 -- What is kept where all entries are.
-use Rattle.std.specs.Prelude.{◌≡◌, ◌-◌, ◌++◌, ℕ, List, length, map, min, replicate}
+use Rattle.std.specs.Prelude.{◌≡◌, ◌-◌, ◌++◌, ℕ, length, map, min, replicate}
 use Rattle.std.specs.Prelude.{vec_capacity, vec_len}
 use Rattle.dvg_log.specs.Entries.{Shown}
 use Rattle.dvg_log.specs.Events.{Happening}

@@ -32,10 +32,14 @@ pub struct Generator<A: Allocator> {
     stack: ArrayVec<u16, 4>,
     beam: Beam,
     strokes: Vec<Stroke, A>,
+    // The strokes of the newest run that came to a HALT, until they are taken. At a HALT the two
+    // lists change places, so the memory of each is used again.
+    picture: Vec<Stroke, A>,
 }
 
 impl<A: Allocator + Copy> Generator<A> {
-    /// Returns a new generator, which is halted. Its strokes will be in memory of `alloc`.
+    /// Returns a new generator, which is halted and has no picture. Its strokes will be in memory of
+    /// `alloc`.
     pub fn new(alloc: A) -> Generator<A> {
         Generator {
             alloc,
@@ -46,12 +50,14 @@ impl<A: Allocator + Copy> Generator<A> {
             stack: ArrayVec::new(),
             beam: Beam::place(0, 0, 0),
             strokes: Vec::new(alloc),
+            picture: Vec::new(alloc),
             is_open: false,
         }
     }
 
     /// Begins a run at word zero, with no return address and no stroke. A run that was open is
-    /// abandoned with its strokes and its low byte (this project's own choice).
+    /// abandoned with its strokes and its low byte (this project's own choice). The picture of the
+    /// newest run that came to a HALT stays until it is taken.
     pub fn start(&mut self) {
         self.reset();
         self.at = 0;
@@ -61,7 +67,7 @@ impl<A: Allocator + Copy> Generator<A> {
     }
 
     /// Halts the generator. A run that was open is abandoned with its strokes and its low byte; the
-    /// beam stays.
+    /// beam stays, and so does the picture of the newest run that came to a HALT.
     pub fn reset(&mut self) {
         self.strokes.clear();
         self.has_low = false; // The high byte never comes.
@@ -108,8 +114,8 @@ impl<A: Allocator + Copy> Generator<A> {
         self.stack.as_slice()
     }
 
-    /// Returns the strokes that the newest run drew so far, in the order drawn. One that came to a
-    /// HALT has handed its own out.
+    /// Returns the strokes that the newest run drew so far, in the order drawn. There are none after
+    /// a HALT, which makes the picture of them.
     pub fn strokes(&self) -> &[Stroke] {
         self.strokes.as_slice()
     }
@@ -130,29 +136,27 @@ impl<A: Allocator + Copy> Generator<A> {
         self.move_of(u16::from_le_bytes([low, high]))
     }
 
+    /// Returns the picture: the strokes of the newest run that came to a HALT, in the order drawn.
+    /// There are none before the first HALT, and after the picture was taken.
+    pub fn picture(&self) -> &[Stroke] {
+        self.picture.as_slice()
+    }
+
+    /// Takes the picture out, and leaves an empty one. The next strokes need new memory then.
+    #[inline(always)]
+    pub fn take_picture(&mut self) -> Vec<Stroke, A> {
+        mem::replace(&mut self.picture, Vec::new(self.alloc))
+    }
+
     /// Takes `byte`, and returns what it led to. `byte` is the low byte of the word at the address
     /// that `wants` returns, or its high byte where `wants_high` is true. `None` means that no
-    /// memory answers there. A run must be open. After `Done` or `Broke` the generator is halted.
+    /// memory answers there. A run must be open. After `Done` or `Broke` the generator is halted;
+    /// `Done` makes the picture of the run's strokes, and every other step leaves it as it was.
     ///
     /// Returns `OutOfMemory` where an allocation fails, and then nothing has changed. That comes
     /// only where a high byte completes a vector with an intensity of at least 1.
     #[inline(always)]
-    pub fn take_byte(&mut self, byte: Option<u8>) -> Result<Taken<A>, OutOfMemory> {
-        let mut drawn = self.no_strokes();
-        match self.take_into(byte, &mut drawn) {
-            Ok(step) => Ok(taken(step, drawn)),
-            Err(refused) => Err(refused),
-        }
-    }
-
-    /// Like `take_byte`, but the strokes of a finished run replace those in `drawn`. Otherwise
-    /// `drawn` stays as it is.
-    #[inline(always)]
-    pub fn take_into(
-        &mut self,
-        byte: Option<u8>,
-        drawn: &mut Vec<Stroke, A>,
-    ) -> Result<Step, OutOfMemory> {
+    pub fn feed(&mut self, byte: Option<u8>) -> Result<Step, OutOfMemory> {
         let Some(byte) = byte else {
             return Ok(self.break_off(GenFault::Hole));
         };
@@ -161,26 +165,22 @@ impl<A: Allocator + Copy> Generator<A> {
             self.has_low = true;
             return Ok(Step::Low);
         };
-        self.take(u16::from_le_bytes([low, byte]), drawn)
+        self.take(u16::from_le_bytes([low, byte]))
     }
 
-    /// Returns an empty list of strokes, with the allocator of the generator's own.
+    /// Takes `byte` as `feed` does, and the picture, too, where it is `Done`.
     #[inline(always)]
-    pub fn no_strokes(&self) -> Vec<Stroke, A> {
-        Vec::new(self.alloc)
-    }
-
-    /// Takes back `strokes`, a list that was handed out, so that the next strokes lie in its
-    /// memory. What is in it is forgotten. Where the newest run has drawn already, the list is
-    /// dropped.
-    pub fn reuse(&mut self, strokes: Vec<Stroke, A>) {
-        if self.strokes.is_empty() {
-            self.strokes = strokes;
-            self.strokes.clear();
+    pub fn take_byte(&mut self, byte: Option<u8>) -> Result<Taken<A>, OutOfMemory> {
+        match self.feed(byte) {
+            Ok(Step::Low) => Ok(Taken::Low),
+            Ok(Step::Word) => Ok(Taken::Word),
+            Ok(Step::Done) => Ok(Taken::Done(self.take_picture())),
+            Ok(Step::Broke(fault)) => Ok(Taken::Broke(fault)),
+            Err(refused) => Err(refused),
         }
     }
 
-    /// Returns all that the generator keeps but its strokes.
+    /// Returns all that the generator keeps but its strokes and its picture.
     pub fn state(&self) -> GeneratorState {
         let Beam { x, y, scale } = self.beam;
         GeneratorState {
@@ -197,8 +197,8 @@ impl<A: Allocator + Copy> Generator<A> {
 
     /// Brings the generator into `state`, with `strokes` as what its run drew so far, and returns
     /// `true`. So it goes on as the one whose `state` and `strokes` these were; with no strokes,
-    /// those are missing where the run ends. Returns `false` exactly where `state` isn't valid, and
-    /// then nothing has changed.
+    /// those are missing where the run ends. The picture stays as it was. Returns `false` exactly
+    /// where `state` isn't valid, and then nothing has changed.
     pub fn resume(&mut self, state: &GeneratorState, strokes: Vec<Stroke, A>) -> bool {
         if !state.is_valid() {
             return false;
@@ -231,10 +231,9 @@ impl<A: Allocator + Copy> Generator<A> {
         Move::of(&self.beam, &code, self.at)
     }
 
-    // Takes the whole word `word`, as `take_into` takes a high byte. The strokes of a finished run
-    // replace those in `drawn`.
+    // Takes the whole word `word`, as `feed` takes a high byte.
     #[inline(always)]
-    fn take(&mut self, word: u16, drawn: &mut Vec<Stroke, A>) -> Result<Step, OutOfMemory> {
+    fn take(&mut self, word: u16) -> Result<Step, OutOfMemory> {
         // The opcode says which instruction it is. To look at the decoded ones once more would take
         // time.
         if let Some(first) = self.held {
@@ -251,7 +250,7 @@ impl<A: Allocator + Copy> Generator<A> {
             return Ok(Step::Word);
         }
         match word >> 12 {
-            0xB => Ok(self.finish(drawn)),
+            0xB => Ok(self.finish()),
             0xC => Ok(self.call(word % 4096)),
             0xD => Ok(self.come_back()),
             0xE => Ok(self.jump(word % 4096)),
@@ -309,12 +308,12 @@ impl<A: Allocator + Copy> Generator<A> {
         Step::Word
     }
 
-    // Ends the run. Its strokes replace those in `drawn`.
-    fn finish(&mut self, drawn: &mut Vec<Stroke, A>) -> Step {
+    // Ends the run, and makes the picture of its strokes.
+    fn finish(&mut self) -> Step {
         self.has_low = false;
         self.is_open = false;
-        let none = self.no_strokes();
-        *drawn = mem::replace(&mut self.strokes, none);
+        mem::swap(&mut self.strokes, &mut self.picture);
+        self.strokes.clear(); // Its memory is used again.
         Step::Done
     }
 
@@ -323,17 +322,6 @@ impl<A: Allocator + Copy> Generator<A> {
         self.has_low = false;
         self.is_open = false;
         Step::Broke(fault)
-    }
-}
-
-// Returns `step` as a `Taken`, where `drawn` are the strokes of a finished run.
-#[inline(always)]
-fn taken<A: Allocator>(step: Step, drawn: Vec<Stroke, A>) -> Taken<A> {
-    match step {
-        Step::Low => Taken::Low,
-        Step::Word => Taken::Word,
-        Step::Done => Taken::Done(drawn),
-        Step::Broke(fault) => Taken::Broke(fault),
     }
 }
 

@@ -32,7 +32,7 @@ impl GenFault {
     }
 }
 
-/// What a fetch led to, without the strokes of a finished run.
+/// What a fetch led to. The strokes of a finished run are the generator's picture.
 #[derive(Clone, Copy, Debug, PartialEq, Eq, Hash)]
 pub enum Step {
     /// That was the low byte of a word, whose high byte comes next.
@@ -45,7 +45,7 @@ pub enum Step {
     Broke(GenFault),
 }
 
-/// What a fetch led to.
+/// What a fetch led to, with the strokes of a finished run.
 #[derive(Debug)]
 #[derive(Clone)]
 pub enum Taken<A: Allocator> {

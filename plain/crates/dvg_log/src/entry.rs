@@ -76,15 +76,11 @@ impl<S: Drop> Entry<S> {
     }
 }
 
-impl<S> Entry<S> {
-    /// Replaces the strokes with `other`. Returns the new entry, and the strokes if this entry
-    /// finished a run.
+impl Entry<()> {
+    /// Returns this entry with `drew` as what its run drew, if it finished one.
     #[inline(always)]
-    pub fn replace<T: Copy>(self, other: T) -> (Entry<T>, Option<S>) {
-        let entry = match self {
-            Entry::Done(address, word, drew) => {
-                return (Entry::Done(address, word, other), Some(drew));
-            }
+    pub fn with<T: Drop>(self, drew: T) -> Entry<T> {
+        match self {
             Entry::Offered => Entry::Offered,
             Entry::Refused(fault) => Entry::Refused(fault),
             Entry::Busy => Entry::Busy,
@@ -95,10 +91,10 @@ impl<S> Entry<S> {
             Entry::NoStrobe => Entry::NoStrobe,
             Entry::Low(address, byte) => Entry::Low(address, byte),
             Entry::Fetched(address, word) => Entry::Fetched(address, word),
+            Entry::Done(address, word, ()) => Entry::Done(address, word, drew),
             Entry::Broke(address, fault) => Entry::Broke(address, fault),
             Entry::Still => Entry::Still,
             Entry::Cleared => Entry::Cleared,
-        };
-        (entry, None)
+        }
     }
 }

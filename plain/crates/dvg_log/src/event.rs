@@ -3,7 +3,7 @@ use std::prelude::*;
 
 use dvg_frame::{Draft, Op};
 use dvg_mem::Image;
-use std::alloc::Global;
+use std::alloc::{Allocator, Global};
 
 /// One thing that happens. Events come in any order and number: a strobe that is sent and never
 /// given as an event is a lost one, and one that is given again is a repeated one.
@@ -39,3 +39,20 @@ pub type OwnEvent<A = Global> = Event<Box<Draft, A>, Image<A>>;
 
 /// An event whose operations and bytes lie elsewhere.
 pub type TraceEvent<'a, A = Global> = Event<&'a [Op], &'a Image<A>>;
+
+impl<A: Allocator> Event<Box<Draft, A>, Image<A>> {
+    /// Returns the event, with what it brings as it lies in this one.
+    #[inline(always)]
+    pub fn lent(&self) -> TraceEvent<'_, A> {
+        match self {
+            Event::Offer(draft) => Event::Offer(draft.ops()),
+            Event::Redraw => Event::Redraw,
+            Event::Tick => Event::Tick,
+            Event::Strobe => Event::Strobe,
+            Event::Fetch => Event::Fetch,
+            Event::ResetGen => Event::ResetGen,
+            Event::ResetCpu => Event::ResetCpu,
+            Event::ResetAll(image) => Event::ResetAll(image),
+        }
+    }
+}

@@ -11,7 +11,7 @@ use std::io::Write;
 // it finished. The line is made in `lines`.
 fn write_next<W: Write>(
     lines: &mut EntryLines,
-    entry: &Entry<u16>,
+    entry: &Entry<()>,
     strokes: &[Stroke],
     writer: &mut Watched<W>,
 ) -> Result<(), StreamFailed> {

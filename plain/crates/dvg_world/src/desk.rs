@@ -53,7 +53,7 @@ impl<A: Allocator> Desk<A> {
 
     /// Hands the draft of the operations `ops` to the driver to show, if the check accepts it.
     /// Returns the entry.
-    pub fn offer<S>(&mut self, ops: &[Op]) -> Entry<S> {
+    pub fn offer(&mut self, ops: &[Op]) -> Entry<()> {
         let checked = match self.checker.check(ops, &self.rom) {
             Ok(checked) => checked,
             Err(fault) => return Entry::Refused(fault),
@@ -65,7 +65,7 @@ impl<A: Allocator> Desk<A> {
     }
 
     /// Asks the driver to have the published frame drawn again. Returns the entry.
-    pub fn redraw<S>(&mut self) -> Entry<S> {
+    pub fn redraw(&mut self) -> Entry<()> {
         match self.driver.redraw() {
             Ok(()) => Entry::Asked,
             Err(DriverFault::NothingPublished) => Entry::NothingPublished,

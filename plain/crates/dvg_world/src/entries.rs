@@ -5,16 +5,16 @@ use dvg_gen::Stroke;
 use dvg_log::Entry;
 use std::alloc::{Allocator, Global};
 
-/// A run-length encoded entry: `entry`, `again + 1` times in a row. It has ten bytes.
+/// A run-length encoded entry: `entry`, `again + 1` times in a row. It has eight bytes.
 #[derive(Clone, Copy)]
 #[derive(Debug)]
 pub(crate) struct Alike {
-    pub(crate) entry: Entry<u16>,
+    pub(crate) entry: Entry<()>,
     pub(crate) again: u16,
 }
 
-/// The entries of events, in little room: equal ones may be kept as one, an entry of a finished run
-/// has the number of its picture, and the strokes of all pictures lie in a list of their own.
+/// The entries of events, in little room: equal ones may be kept as one, and the strokes of all
+/// pictures lie in a list of their own. The nth entry that finished a run has the nth of these.
 #[derive(Clone, Debug)]
 pub struct Entries<A: Allocator = Global> {
     pub(crate) kept: Vec<Alike, A>,
@@ -36,8 +36,8 @@ impl<A: Allocator> Entries<A> {
 #[derive(Clone, Copy)]
 #[derive(Debug)]
 pub struct EntryRun<'a> {
-    /// The entry. What stands in it in place of the strokes has no meaning outside.
-    pub entry: &'a Entry<u16>,
+    /// The entry, without its strokes.
+    pub entry: &'a Entry<()>,
     /// The number of times that it comes in a row.
     pub times: usize,
     /// What the generator's run drew, if the entry finished one; otherwise nothing.
@@ -63,10 +63,12 @@ impl<'a, A: Allocator> Iterator for EntryRuns<'a, A> {
         let entry = &kept[0].entry;
         let times = usize::from(kept[0].again) + 1;
         self.kept = &kept[1..];
-        let strokes = match entry {
-            Entry::Done(_, _, picture) => self.drawn[usize::from(*picture)].as_slice(),
-            _ => &[],
-        };
+        let drawn = self.drawn;
+        let mut strokes: &'a [Stroke] = &[];
+        if let Entry::Done(..) = entry {
+            strokes = drawn[0].as_slice();
+            self.drawn = &drawn[1..];
+        }
         Some(EntryRun {
             entry,
             times,

@@ -12,9 +12,8 @@ extern crate plain_std as std;
 
 mod desk;
 mod entries;
-mod fetched;
-mod happens;
 mod judge;
+mod keeping;
 mod logging;
 mod pictures;
 mod runs;

@@ -2,14 +2,12 @@
 use std::prelude::*;
 
 use crate::entries::{Alike, Entries};
+use crate::keeping::{Keeper, happen_all};
 use crate::world::World;
-use dvg_code::OutOfMemory;
-use dvg_driver::Action;
 use dvg_gen::Stroke;
-use dvg_log::{Entry, OwnEntry, Trace, TraceEvent};
+use dvg_log::{Entry, Trace, TraceEvent};
 use dvg_mem::{Image, Rom, Store};
 use std::alloc::{Allocator, Global};
-use std::mem;
 
 /// The entries of the events that happened.
 #[derive(Clone, Debug)]
@@ -41,33 +39,9 @@ struct EntriesKept<A: Allocator> {
 }
 
 impl<A: Allocator> EntriesKept<A> {
-    // Keeps `entry`. There must be room for it.
+    // Keeps `entry`, `times` times in a row. `drew` has the strokes, if its run finished.
     #[inline(always)]
-    fn keep(&mut self, entry: OwnEntry<A>) {
-        let (entry, drew) = entry.replace(self.number());
-        self.keep_parts(entry, drew, 1);
-    }
-
-    // Keeps `entry`, of one fetch, which has the number of the next picture. What its run drew, if
-    // it finished, is taken out of `drawn`, and `other` takes its place.
-    #[inline(always)]
-    fn keep_fetched(&mut self, entry: Entry<u16>, drawn: &mut Vec<Stroke, A>, other: Vec<Stroke, A>) {
-        match entry {
-            Entry::Done(..) => self.keep_parts(entry, Some(mem::replace(drawn, other)), 1),
-            _ => self.keep_parts(entry, None, 1),
-        }
-    }
-
-    // Returns the number of the next picture.
-    #[inline(always)]
-    fn number(&self) -> u16 {
-        self.drawn.len() as u16
-    }
-
-    // Keeps `entry`, `times` times in a row, with the number of the next picture in place of the
-    // strokes. `drew` has the strokes, if its run finished.
-    #[inline(always)]
-    fn keep_parts(&mut self, entry: Entry<u16>, drew: Option<Vec<Stroke, A>>, times: usize) {
+    fn add(&mut self, entry: Entry<()>, drew: Option<Vec<Stroke, A>>, times: usize) {
         if let Some(strokes) = drew {
             self.drawn.push_reserved(strokes);
         }
@@ -87,88 +61,21 @@ impl<A: Allocator> EntriesKept<A> {
     }
 }
 
-// Lets `event` happen to `world`, as `happen` does, and keeps its entry in `entries`. The entry is
-// kept where it comes about, so that the code knows which entries there may be.
-#[inline(always)]
-fn keep_next<S: Store>(
-    event: TraceEvent<'_, S::Alloc>,
-    entries: &mut EntriesKept<S::Alloc>,
-    world: &mut World<S>,
-) -> Result<(), OutOfMemory> {
-    match event {
-        TraceEvent::Offer(ops) => entries.keep(world.offer_ops(ops)),
-        TraceEvent::Redraw => entries.keep(world.redraw()),
-        TraceEvent::Tick => entries.keep(world.tick()),
-        TraceEvent::Strobe => entries.keep(world.strobe()),
-        TraceEvent::Fetch => match world.fetch() {
-            Ok(entry) => entries.keep(entry),
-            Err(refused) => return Err(refused),
-        },
-        TraceEvent::ResetGen => entries.keep(world.reset_generator()),
-        TraceEvent::ResetCpu => entries.keep(world.reset_processor()),
-        TraceEvent::ResetAll(image) => entries.keep(world.reset_all(image)),
+impl<S: Store> Keeper<S> for EntriesKept<S::Alloc> {
+    #[inline(always)]
+    fn passes_over(&self, _event: TraceEvent<'_, S::Alloc>) -> bool {
+        false
     }
-    Ok(())
-}
 
-// Ticks `world` `times` times, and keeps the entries in `entries`. Stops at the first idle tick,
-// and keeps its entry for the others, too: all later ones would be idle, and change nothing.
-fn log_ticks<S: Store>(entries: &mut EntriesKept<S::Alloc>, times: usize, world: &mut World<S>) {
-    for done in 0..times {
-        let action = world.act();
-        if let Action::Idle = action {
-            entries.keep_parts(Entry::Acted(Action::Idle), None, times - done);
-            return;
-        }
-        entries.keep_parts(Entry::Acted(action), None, 1);
+    #[inline(always)]
+    fn keep(&mut self, _number: usize, entry: Entry<()>, world: &mut World<S>) {
+        self.add(entry, world.take_drawn(entry), 1);
     }
-}
 
-// Lets `world` fetch `times` times, and keeps the entries in `entries`. Stops at the first fetch
-// that finds the generator halted, and keeps its entry for the others, too: all later ones would
-// find it halted, and change nothing.
-fn log_fetches<S: Store>(
-    entries: &mut EntriesKept<S::Alloc>,
-    times: usize,
-    world: &mut World<S>,
-) -> Result<(), OutOfMemory> {
-    let mut drawn = world.no_strokes();
-    for done in 0..times {
-        match world.fetch_as(&mut drawn, entries.number()) {
-            Ok(Entry::Still) => {
-                entries.keep_parts(Entry::Still, None, times - done);
-                return Ok(());
-            }
-            Ok(entry) => entries.keep_fetched(entry, &mut drawn, world.no_strokes()),
-            Err(refused) => return Err(refused),
-        }
+    #[inline(always)]
+    fn keep_alike(&mut self, entry: Entry<()>, times: usize) {
+        self.add(entry, None, times);
     }
-    Ok(())
-}
-
-// Lets the event of `run` happen to `world` as many times as `run` says, and keeps the entries in
-// `entries`.
-fn log_run<S: Store>(
-    run: (TraceEvent<'_, S::Alloc>, usize),
-    entries: &mut EntriesKept<S::Alloc>,
-    world: &mut World<S>,
-) -> Result<(), OutOfMemory> {
-    let (event, times) = run;
-    match event {
-        TraceEvent::Tick => {
-            log_ticks(entries, times, world);
-            return Ok(());
-        }
-        TraceEvent::Fetch => return log_fetches(entries, times, world),
-        _ => {}
-    }
-    for _again in 0..times {
-        match keep_next(event, entries, world) {
-            Ok(()) => {}
-            Err(refused) => return Err(refused),
-        }
-    }
-    Ok(())
 }
 
 /// Lets the events of `trace` happen to a new world of `rom` and `image`, as `run_trace` does.
@@ -197,11 +104,6 @@ pub fn log_trace<S: Store>(
         return Logged::unstarted(alloc);
     };
     let mut entries = EntriesKept { kept, drawn };
-    for run in trace.runs() {
-        match log_run(run, &mut entries, &mut world) {
-            Ok(()) => {}
-            Err(_) => return entries.logged(false),
-        }
-    }
-    entries.logged(true)
+    let is_whole = happen_all(trace, &mut entries, &mut world);
+    entries.logged(is_whole)
 }

@@ -2,12 +2,11 @@
 use std::prelude::*;
 
 use crate::desk::Desk;
-use crate::fetched::FetchedByte;
 use dvg_code::OutOfMemory;
 use dvg_driver::Action;
 use dvg_frame::{Draft, Op};
 use dvg_gen::{Generator, Stroke};
-use dvg_log::{Entry, Event, OwnEntry, OwnEvent};
+use dvg_log::{Entry, Event, OwnEntry, OwnEvent, TraceEvent};
 use dvg_mem::{Image, MemFault, Rom, Store, fetch_byte};
 
 /// Both ends of the vector RAM: the driver that writes frames into it, and the generator that draws
@@ -26,6 +25,8 @@ pub struct World<S: Store> {
     store: S,
     generator: Generator<S::Alloc>,
     strobe_sent: bool,
+    // What the strokes of an entry lie in, where it has none.
+    alloc: S::Alloc,
 }
 
 impl<S: Store> World<S> {
@@ -49,6 +50,7 @@ impl<S: Store> World<S> {
             store,
             generator: Generator::new(alloc),
             strobe_sent: false,
+            alloc,
         })
     }
 
@@ -83,15 +85,30 @@ impl<S: Store> World<S> {
         self.generator = Generator::new(alloc);
         self.desk.reset();
         self.strobe_sent = false;
+        self.alloc = alloc;
     }
 
-    /// Lets `event` happen, by the call that does it, and returns its entry.
+    /// Lets `event` happen, by the call that does it, and returns its entry. The strokes of a run
+    /// that it finishes are taken out of the world.
     ///
     /// Returns `OutOfMemory` where an allocation fails, and then the world is as it was. That comes
     /// only for a fetch that completes a vector with an intensity of at least 1.
     pub fn apply(&mut self, event: &OwnEvent<S::Alloc>) -> Result<OwnEntry<S::Alloc>, OutOfMemory> {
+        match self.happen(event.lent()) {
+            Ok(entry) => Ok(self.own(entry)),
+            Err(refused) => Err(refused),
+        }
+    }
+
+    // Lets `event` happen, by the call that does it, and returns its entry. Returns `OutOfMemory`
+    // where an allocation fails, and then the world is as it was.
+    #[inline(always)]
+    pub(crate) fn happen(
+        &mut self,
+        event: TraceEvent<'_, S::Alloc>,
+    ) -> Result<Entry<()>, OutOfMemory> {
         match event {
-            Event::Offer(draft) => Ok(self.offer(draft)),
+            Event::Offer(ops) => Ok(self.offer_ops(ops)),
             Event::Redraw => Ok(self.redraw()),
             Event::Tick => Ok(self.tick()),
             Event::Strobe => Ok(self.strobe()),
@@ -102,6 +119,15 @@ impl<S: Store> World<S> {
         }
     }
 
+    // Returns `entry`, the newest one, with the strokes of the run that it finished, if it did.
+    // They are taken out of the world.
+    pub(crate) fn own(&mut self, entry: Entry<()>) -> OwnEntry<S::Alloc> {
+        let Some(drew) = self.take_drawn(entry) else {
+            return entry.with(Vec::new(self.alloc));
+        };
+        entry.with(drew)
+    }
+
     // Returns whether the driver is idle, and so would take a draft that the check accepts.
     pub(crate) fn is_idle(&self) -> bool {
         self.desk.is_idle()
@@ -109,27 +135,27 @@ impl<S: Store> World<S> {
 
     /// Hands `draft` to the driver to show, as by `Event::Offer`. Returns the entry.
     #[inline(always)]
-    pub fn offer(&mut self, draft: &Draft) -> OwnEntry<S::Alloc> {
+    pub fn offer(&mut self, draft: &Draft) -> Entry<()> {
         self.offer_ops(draft.ops())
     }
 
     // Hands the draft of the operations `ops` to the driver to show, as `offer` does. Returns the
     // entry.
     #[inline(always)]
-    pub(crate) fn offer_ops(&mut self, ops: &[Op]) -> OwnEntry<S::Alloc> {
+    pub(crate) fn offer_ops(&mut self, ops: &[Op]) -> Entry<()> {
         self.desk.offer(ops)
     }
 
     /// Asks the driver to have the published frame drawn again, as by `Event::Redraw`. Returns the
     /// entry.
     #[inline(always)]
-    pub fn redraw(&mut self) -> OwnEntry<S::Alloc> {
+    pub fn redraw(&mut self) -> Entry<()> {
         self.desk.redraw()
     }
 
     /// Lets the driver do one action, as by `Event::Tick`. Returns the entry.
     #[inline(always)]
-    pub fn tick(&mut self) -> OwnEntry<S::Alloc> {
+    pub fn tick(&mut self) -> Entry<()> {
         Entry::Acted(self.act())
     }
 
@@ -156,7 +182,7 @@ impl<S: Store> World<S> {
     /// Lets a strobe reach the generator, if the driver has sent one, as by `Event::Strobe`.
     /// Returns the entry.
     #[inline(always)]
-    pub fn strobe(&mut self) -> OwnEntry<S::Alloc> {
+    pub fn strobe(&mut self) -> Entry<()> {
         if !self.strobe_sent {
             return Entry::NoStrobe;
         }
@@ -164,93 +190,53 @@ impl<S: Store> World<S> {
         Entry::Started
     }
 
-    /// Lets the generator fetch one byte, as by `Event::Fetch`. Returns the entry.
+    /// Lets the generator fetch one byte, as by `Event::Fetch`. Returns the entry. Where it is
+    /// `Done`, the run's strokes are the new picture; otherwise the picture stays as it was.
     ///
     /// This is the one event that takes memory, for the stroke of a vector with an intensity of at
     /// least 1. Returns `OutOfMemory` where an allocation fails, and then the world is as it was.
     #[inline(always)]
-    pub fn fetch(&mut self) -> Result<OwnEntry<S::Alloc>, OutOfMemory> {
-        let mut drawn = self.no_strokes();
-        match self.feed(&mut drawn) {
-            Ok(None) => Ok(Entry::Still),
-            Ok(Some(fetched)) => Ok(fetched.entry(drawn)),
-            Err(refused) => Err(refused),
-        }
-    }
-
-    /// Lets the generator fetch one byte, as `fetch` does. The strokes of a run that it finishes
-    /// replace those in `picture`. Otherwise `picture` stays as it is. Returns the entry, without
-    /// the strokes.
-    #[inline(always)]
-    pub fn fetch_into(
-        &mut self,
-        picture: &mut Vec<Stroke, S::Alloc>,
-    ) -> Result<Entry<()>, OutOfMemory> {
-        match self.feed(picture) {
-            Ok(None) => Ok(Entry::Still),
-            Ok(Some(fetched)) => Ok(fetched.entry(())),
-            Err(refused) => Err(refused),
-        }
-    }
-
-    // Returns an empty list of strokes, with the allocator of the generator's own.
-    #[inline(always)]
-    pub(crate) fn no_strokes(&self) -> Vec<Stroke, S::Alloc> {
-        self.generator.no_strokes()
-    }
-
-    // Lets the generator fetch one byte, if a run is open. Returns what it fetched, of which no
-    // entry is made. The strokes of a run that it finishes replace those in `drawn`.
-    #[inline(always)]
-    pub(crate) fn feed(
-        &mut self,
-        drawn: &mut Vec<Stroke, S::Alloc>,
-    ) -> Result<Option<FetchedByte>, OutOfMemory> {
-        let Some(address) = self.generator.wants() else {
-            return Ok(None);
-        };
-        let low = self.generator.low_byte();
-        let byte = fetch_byte(&self.store, self.desk.rom(), address, low.is_some());
-        let step = self.generator.take_into(byte, drawn)?;
-        Ok(Some(FetchedByte {
-            address,
-            low,
-            byte,
-            step,
-        }))
-    }
-
-    // Lets the generator fetch one byte, as `fetch_into` does with `drawn`. Returns the entry, with
-    // `other` in place of what its run drew. It is built here: a `FetchedByte` would be packed into
-    // one number.
-    #[inline(always)]
-    pub(crate) fn fetch_as<T: Drop>(
-        &mut self,
-        drawn: &mut Vec<Stroke, S::Alloc>,
-        other: T,
-    ) -> Result<Entry<T>, OutOfMemory> {
+    pub fn fetch(&mut self) -> Result<Entry<()>, OutOfMemory> {
         let Some(address) = self.generator.wants() else {
             return Ok(Entry::Still);
         };
         let low = self.generator.low_byte();
         let byte = fetch_byte(&self.store, self.desk.rom(), address, low.is_some());
-        let step = match self.generator.take_into(byte, drawn) {
-            Ok(step) => step,
-            Err(refused) => return Err(refused),
-        };
-        Ok(Entry::of_fetch(address, low, byte, step, other))
+        let step = self.generator.feed(byte)?;
+        Ok(Entry::of_fetch(address, low, byte, step, ()))
+    }
+
+    /// Returns the picture: the strokes of the newest run that came to a HALT, in the order drawn.
+    /// There are none before the first HALT, and after the picture was taken.
+    pub fn picture(&self) -> &[Stroke] {
+        self.generator.picture()
+    }
+
+    /// Takes the picture out, and leaves an empty one. No event happens, so the log stays as it is.
+    #[inline(always)]
+    pub fn take_picture(&mut self) -> Vec<Stroke, S::Alloc> {
+        self.generator.take_picture()
+    }
+
+    // Takes the picture out, if `entry`, the newest one, finished the run that drew it.
+    #[inline(always)]
+    pub(crate) fn take_drawn(&mut self, entry: Entry<()>) -> Option<Vec<Stroke, S::Alloc>> {
+        match entry {
+            Entry::Done(..) => Some(self.take_picture()),
+            _ => None,
+        }
     }
 
     /// Resets the generator, as by `Event::ResetGen`. Returns the entry.
     #[inline(always)]
-    pub fn reset_generator(&mut self) -> OwnEntry<S::Alloc> {
+    pub fn reset_generator(&mut self) -> Entry<()> {
         self.generator.reset(); // The open run is over.
         Entry::Cleared
     }
 
     /// Resets the driver, as by `Event::ResetCpu`. Returns the entry.
     #[inline(always)]
-    pub fn reset_processor(&mut self) -> OwnEntry<S::Alloc> {
+    pub fn reset_processor(&mut self) -> Entry<()> {
         self.desk.reset();
         Entry::Cleared
     }
@@ -258,7 +244,7 @@ impl<S: Store> World<S> {
     /// Resets the whole system, after which the RAM holds `image`, as by `Event::ResetAll`. Returns
     /// the entry.
     #[inline(always)]
-    pub fn reset_all(&mut self, image: &Image<S::Alloc>) -> OwnEntry<S::Alloc> {
+    pub fn reset_all(&mut self, image: &Image<S::Alloc>) -> Entry<()> {
         self.store.load(image);
         self.generator.reset();
         self.desk.reset();

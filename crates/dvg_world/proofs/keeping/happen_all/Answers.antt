@@ -1,4 +1,4 @@
-use Rattle.std.proofs.Common.{◌+◌, length, replicate, ap, ◌∙◌, arith, length-append}
+use Rattle.std.proofs.Common.{length, replicate, ap, ◌∙◌, arith, length-append}
 use Rattle.std.proofs.lemmas.List.{length-replicate}
 use Rattle.dvg_log.specs.Traces.{seen_as}
 use Rattle.dvg_world.proofs.KeptSoFar.{happened_all, happened_part, keeps_none, keeps_run}
