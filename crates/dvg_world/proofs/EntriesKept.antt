@@ -98,7 +98,7 @@ finished_more kept alike =
     (let sum = sum_by-append (λ (alike : Alike). finished_in alike.entry) kept (alike ∷ []) in omega (arith, sum))
 
 -- the entries of equal lines
-lines_alike : (times : ℕ) (event : Happening) (entry : Shown) (log : Log)
+pub lines_alike : (times : ℕ) (event : Happening) (entry : Shown) (log : Log)
     → entries_in (replicate times (event ⟼ entry) ++ log) ≡ entries_in log ++ replicate times entry
 lines_alike zero event entry log = sym (append-nil (entries_in log))
 lines_alike (suc n) event entry log =

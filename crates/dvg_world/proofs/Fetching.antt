@@ -6,17 +6,16 @@ use Rattle.dvg_gen.specs.Machine.{Machine, picture_after}
 use Rattle.dvg_gen.specs.declared.taken.Step.{Step}
 use Rattle.dvg_gen.specs.declared.taken.Step.TheVariants as step
 use Rattle.dvg_log.specs.Entries.{drew_in, entry_by, map_entry}
-use Rattle.dvg_log.specs.declared.entry.Entry.TheVariants.{Still}
+use Rattle.dvg_world.specs.Standing.{ChangesNothing}
 
--- a generator that fetches isn't still
-pub never_still : {S : Type 0} (address : ℕ) (found : Met) (answer : Step) (drew : S)
-    → entry_by address found answer drew ≡ Still → ⊥
-never_still address (Waits byte) answer drew is = cc
-never_still address (Whole None) answer drew is = cc
-never_still address (Whole (Some word)) step.Low drew is = cc
-never_still address (Whole (Some word)) step.Word drew is = cc
-never_still address (Whole (Some word)) step.Done drew is = cc
-never_still address (Whole (Some word)) (step.Broke fault) drew is = cc
+-- the entry of a generator that fetches isn't one that changes nothing
+pub fetch_changes : (address : ℕ) (found : Met) (answer : Step) → ChangesNothing (entry_by address found answer tt) → ⊥
+fetch_changes address (Waits byte) answer nothing = nothing
+fetch_changes address (Whole None) answer nothing = nothing
+fetch_changes address (Whole (Some word)) step.Low nothing = nothing
+fetch_changes address (Whole (Some word)) step.Word nothing = nothing
+fetch_changes address (Whole (Some word)) step.Done nothing = nothing
+fetch_changes address (Whole (Some word)) (step.Broke fault) nothing = nothing
 
 -- what the run drew stands in the entry as it is
 pub map_entry_by : {S T : Type 0} (f : S → T) (address : ℕ) (found : Met) (answer : Step) (drew : S)

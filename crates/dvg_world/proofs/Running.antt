@@ -3,12 +3,10 @@ use Rattle.std.proofs.Common.{◌≡◌, ℕ, zero, suc, ◌+◌, ◌-◌, ◌<�
 use Rattle.dvg_log.specs.Entries.{Shown}
 use Rattle.dvg_log.specs.Events.{Happening}
 use Rattle.dvg_log.specs.Log.{Log, ◌⟼◌, events_of}
-use Rattle.dvg_world.specs.Standing.{AddsLine, State, WorldAfter}
-use Rattle.dvg_world.specs.declared.pictures.Picture.{Picture}
-use Rattle.dvg_world.specs.own.Running.{AddsRun, AreDrawn, DrawsRun, KeepsPicture, StopsDrawing, StopsRun}
-use Rattle.dvg_world.specs.declared.logging.EntriesKept.{EntriesKept}
-use Rattle.dvg_world.specs.own.Logging.{AreKept, KeepsAlike, LogsRun, StopsLogging}
+use Rattle.dvg_world.specs.Standing.{AddsLine, KeepsLogs, State, WorldAfter}
+use Rattle.dvg_world.specs.own.Running.{AddsRun, KeepsRun, StopsKeeping, StopsRun}
 use Rattle.dvg_world.specs.own.Stepping.{WantsMemory}
+use Rattle.dvg_world.proofs.Standing.{then_keeps}
 
 -- no line more
 pub adds_none : {R image : List ℕ} {log : Log} {IsKept : Log → Type 0} {world : State} (event : Happening) → WorldAfter R image log world → IsKept log → AddsRun R image log event 0 IsKept world
@@ -47,27 +45,6 @@ adds_so so run = record { later = run.later; after = run.after; events = run.eve
 pub stops_there : {R image : List ℕ} {log : Log} {event : Happening} {IsKept : Log → Type 0} {n times : ℕ} {world : State} → AddsRun R image log event n IsKept world → n < times → WantsMemory event world → StopsRun R image log event times IsKept world
 stops_there {R = R} {image = image} {n = n} run inside wants = record { done = n; before = inside; run = run; takes = wants R image run.later run.after }
 
--- the next line, whose picture is kept if it has one
-pub draws_more : {A : Type 0} {old new : State} (pictures before more : List (Picture A)) {number done : ℕ} {event : Happening} {world : State} (entry : Shown)
-    → DrawsRun old pictures number event done world before → AddsLine world event entry new → KeepsPicture before (number + done) entry more → DrawsRun old pictures number event (done + 1) new more
-draws_more pictures before more {number = number} {done = done} {event = event} entry drawn line keeps = λ R image log after are count.
-    adds_more entry (drawn R image log after are count) line (λ log' kept longer. keeps event log' kept (omega (arith, longer, count)))
-
--- the same where the fetch is refused memory
-pub stops_drawing : {A : Type 0} {old world new : State} (pictures before : List (Picture A)) {number done times : ℕ} {event : Happening}
-    → DrawsRun old pictures number event done world before → done < times → WantsMemory event world → new ≡ world → StopsDrawing old pictures number event times new before
-stops_drawing pictures before {times = times} {event = event} drawn inside wants same = λ R image log after are count.
-    subst (StopsRun R image log event times (AreDrawn before)) (sym same) (stops_there (drawn R image log after are count) inside wants)
-
--- as many lines as there are
-pub draws_all : {A : Type 0} {old new : State} (pictures more : List (Picture A)) {number done times : ℕ} {event : Happening} → done ≡ times → DrawsRun old pictures number event done new more → DrawsRun old pictures number event times new more
-draws_all {old = old} {new = new} pictures more {number = number} {event = event} is drawn = subst (λ k. DrawsRun old pictures number event k new more) is drawn
-
--- the next line, whose entry is kept
-pub logs_more : {A : Type 0} {old new : State} (entries before more : EntriesKept A) {done : ℕ} {event : Happening} {world : State} (entry : Shown)
-    → LogsRun old entries event done world before → AddsLine world event entry new → KeepsAlike before entry 1 more → LogsRun old entries event (done + 1) new more
-logs_more entries before more {event = event} entry logged line keeps = λ R image log after are. adds_more entry (logged R image log after are) line (λ log' kept count. keeps event log' kept)
-
 -- a longer log, by so many equal lines after one of which this is kept
 abbrev IsKeptBefore : (times : ℕ) (event : Happening) (entry : Shown) (IsKept : Log → Type 0) (longer : Log) → Type 0
 IsKeptBefore times event entry IsKept longer =
@@ -89,22 +66,42 @@ times_more {R = R} {image = image} {log = log} {event = event} {IsKept = IsKept}
     (adds_more entry (times_more entry k run line) line
     (λ longer kept count. (kept.0, kept.1, ap (λ lines. (event ⟼ entry) ∷ lines) kept.2)))
 
--- as many lines as are left, all of one entry, and nothing changes
-pub logs_rest : {A : Type 0} {old world new : State} (entries before more : EntriesKept A) {done times : ℕ}
-    {event : Happening} (entry : Shown) → LogsRun old entries event done world before → done < times
-    → AddsLine world event entry new → new ≡ world → KeepsAlike before entry (times - done) more
-    → LogsRun old entries event times new more
-logs_rest {world = world} {new = new} entries before more {done = done} {times = times} {event = event}
-    entry logged inside line same keeps = λ R image log after are.
-    let still : AddsLine new event entry new = subst (λ world. AddsLine world event entry new) (sym same) line in
-    let run = subst (AddsRun R image log event done (AreKept before)) (sym same) (logged R image log after are) in
-    subst (λ n. AddsRun R image log event n (AreKept more) new)
-    (let n : done + (times - done) ≡ times = omega (arith, inside) in n)
-    (adds_so (λ longer kept. subst (AreKept more) (sym kept.2) (keeps event kept.0 kept.1))
-    (times_more entry (times - done) run still))
+module _ {old world : State} {IsKept Before : Log → Type 0} {number done : ℕ} {event : Happening} (so_far : KeepsRun old IsKept number event done world Before) where
+  -- the next line is kept
+  pub keeps_next : {mid new : State} {Later : Log → Type 0} (entry : Shown) → AddsLine world event entry mid → KeepsLogs mid new
+      → ((event : Happening) (log : Log) → Before log → length log ≡ number + done → Later ((event ⟼ entry) ∷ log))
+      → KeepsRun old IsKept number event (done + 1) new Later
+  keeps_next entry line same keeps = λ R image log after kept count.
+      adds_more entry (so_far R image log after kept count) (then_keeps line same)
+      (λ log' before longer. keeps event log' before (omega (arith, longer, count)))
 
--- the same where the fetch is refused memory
-pub stops_logging : {A : Type 0} {old world new : State} (entries before : EntriesKept A) {done times : ℕ} {event : Happening}
-    → LogsRun old entries event done world before → done < times → WantsMemory event world → new ≡ world → StopsLogging old entries event times new before
-stops_logging entries before {times = times} {event = event} logged inside wants same = λ R image log after are.
-    subst (StopsRun R image log event times (AreKept before)) (sym same) (stops_there (logged R image log after are) inside wants)
+  -- as many lines as are left, all of one entry, and nothing changes
+  pub keeps_rest : {new : State} {Later : Log → Type 0} (times : ℕ) (entry : Shown) → done < times
+      → AddsLine world event entry new → new ≡ world
+      → ((event : Happening) (log : Log) → Before log → Later (replicate (times - done) (event ⟼ entry) ++ log))
+      → KeepsRun old IsKept number event times new Later
+  keeps_rest {new = new} {Later = Later} times entry inside line same keeps = λ R image log after kept count.
+      let still : AddsLine new event entry new = subst (λ world. AddsLine world event entry new) (sym same) line in
+      let run = subst (AddsRun R image log event done Before) (sym same) (so_far R image log after kept count) in
+      subst (λ n. AddsRun R image log event n Later new)
+      (let n : done + (times - done) ≡ times = omega (arith, inside) in n)
+      (adds_so (λ longer before. subst Later (sym before.2) (keeps event before.0 before.1))
+      (times_more entry (times - done) run still))
+
+  -- the event is refused memory
+  pub keeps_stops : {new : State} (times : ℕ) → done < times → WantsMemory event world → new ≡ world
+      → StopsKeeping old IsKept number event times new Before
+  keeps_stops times inside wants same = λ R image log after kept count.
+      subst (StopsRun R image log event times Before) (sym same)
+      (stops_there (so_far R image log after kept count) inside wants)
+
+-- no line yet
+pub keeps_begin : {world : State} {IsKept : Log → Type 0} (number : ℕ) (event : Happening)
+    → KeepsRun world IsKept number event 0 world IsKept
+keeps_begin number event = λ R image log after kept count. adds_none event after kept
+
+-- as many lines as there are
+pub keeps_all : {old new : State} {IsKept Later : Log → Type 0} (number : ℕ) (event : Happening) {done times : ℕ} → done ≡ times
+    → KeepsRun old IsKept number event done new Later → KeepsRun old IsKept number event times new Later
+keeps_all {old} {new} {IsKept} {Later} number event is kept =
+    subst (λ n. KeepsRun old IsKept number event n new Later) is kept

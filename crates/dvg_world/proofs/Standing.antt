@@ -34,7 +34,7 @@ use Rattle.dvg_log.specs.declared.entry.Entry.TheVariants.{Offered, Refused, Bus
 use Rattle.dvg_log.specs.Log.{◌⟼◌, Log, ram, low_byte, meets, history, open_run, life, strobed}
 use Rattle.dvg_log.specs.Legal.{Fits}
 use Rattle.dvg_world.specs.Desks.{Driven, IsFresh, OfferAnswers, RedrawAnswers}
-use Rattle.dvg_world.specs.Standing.{State, StandsAt, WorldAfter, AddsLine, KeepsHeadlineAfter, KeepsLogs, DrawsNow}
+use Rattle.dvg_world.specs.Standing.{State, StandsAt, WorldAfter, AddsLine, ChangesNothing, KeepsHeadlineAfter, KeepsLogs, DrawsNow}
 use Rattle.dvg_world.specs.own.Stepping.{ram_by, sent_by}
 use Rattle.dvg_theorem.proofs.Headline.{headline}
 use Rattle.dvg_theorem.proofs.Linked.{opened}
@@ -153,6 +153,32 @@ redraws picture Asked answers =
     redraw_taken (λ peeked life after. let can = answers peeked life after in (can.0, can.1))
     (λ peeked life after. (answers peeked life after).2)
 redraws picture entry answers = absurd answers
+
+-- where they change nothing, the driver stays
+pub offer_same : (R : List ℕ) (F : List OpKind) (stage later : Stage) (entry : Entry (Unit {0})) → ChangesNothing entry
+    → OfferAnswers R F stage later entry → later ≡ stage
+offer_same R F stage later (Refused fault) nothing answers = answers.1
+offer_same R F stage later Busy nothing answers = answers.1
+offer_same R F stage later Offered nothing answers = absurd nothing
+offer_same R F stage later _ nothing answers = absurd answers
+
+pub redraw_same : (stage later : Stage) (entry : Entry (Unit {0})) → ChangesNothing entry
+    → RedrawAnswers stage later entry → later ≡ stage
+redraw_same stage later NothingPublished nothing answers = answers.0
+redraw_same stage later Busy nothing answers = answers.0
+redraw_same stage later Asked nothing answers = absurd nothing
+redraw_same stage later _ nothing answers = absurd answers
+
+pub same_parts : {rom rom' bytes : List ℕ} {machine : Machine} {stage stage' : Stage} {sent : Bool} → rom' ≡ rom
+    → stage' ≡ stage → world_of rom' bytes machine stage' sent ≡ world_of rom bytes machine stage sent
+same_parts {rom} {bytes = bytes} {machine} {stage' = stage'} {sent} same_rom same_stage =
+    ap (λ rom. world_of rom bytes machine stage' sent) same_rom
+    ∙ ap (λ stage. world_of rom bytes machine stage sent) same_stage
+
+-- of the actions only an idle one changes nothing
+pub acts_idle : (action : Action) → ChangesNothing (Acted action) → action ≡ Idle
+acts_idle Idle nothing = refl
+acts_idle _ nothing = absurd nothing
 
 -- what a tick hands in as the flag
 flag_is : (halted : Bool) (run : Option (List (ℕ × ℕ))) (is_open : Bool) → (IsTrue halted ↔ (is_open ≡ false)) → is_open ≡ is_some run → halted ≡ is_none run

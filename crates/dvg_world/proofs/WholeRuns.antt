@@ -1,5 +1,5 @@
 -- The log of a run, one entry after the other.
-use Rattle.std.proofs.Common.{◌≡◌, ℕ, zero, suc, ◌+◌, ◌-◌, ◌≤◌, replicate, ◌<◌, List, [], ◌∷◌, ◌++◌, map, reverse, length, get_or, slice_get, drop, Some, refl, arith, sym, ap, ◌∙◌, subst, inr, length-append, not-suc-le-zero, le_of_suc-le-suc, Vec, vec_len, vec_capacity}
+use Rattle.std.proofs.Common.{◌≡◌, ℕ, zero, suc, ◌+◌, ◌<◌, List, [], ◌∷◌, ◌++◌, map, reverse, length, get_or, slice_get, Some, refl, sym, ap, ◌∙◌, subst, inr, length-append, not-suc-le-zero, le_of_suc-le-suc, Vec, vec_len, vec_capacity}
 use Rattle.std.proofs.lemmas.List.{reverse-append, map-append}
 use Rattle.std.proofs.lemmas.Option.{get_or_from_slice_get, slice_get_within}
 use Rattle.std.specs.List.{zip}
@@ -73,23 +73,8 @@ pub stops_at : {A : Type 0} {R image : List ℕ} {events : List Happening} {entr
     → IsStop R image events (record { entries = entries; event = n })
 stops_at {R = R} {image = image} {events = events} {entries = entries} event so_far at wants = inr (event, at, wants R image (log_of events entries.items) so_far.after)
 
--- of the events that are left, the first one has this number, and the others come after it
-pub next_left : (events : List Happening) (n : ℕ) (event : Happening) (rest : List Happening) → drop n events ≡ event ∷ rest → (slice_get events n ≡ Some event) × (drop (n + 1) events ≡ rest)
-next_left events zero event rest left = (ap (λ events. slice_get events 0) left, ap (λ events. drop 1 events) left)
-next_left [] (suc n) event rest left = absurd cc
-next_left (first ∷ events) (suc n) event rest left =
-    let next = next_left events n event rest left in
-    (next.0, ap (λ k. drop k (first ∷ events)) (let k : suc n + 1 ≡ suc (n + 1) = omega arith in k) ∙ next.1)
-
 -- the event of an item is the one that its number has
 pub mapped_at : {X : Type 0} (f : X → Happening) (xs : List X) (n : ℕ) (d : X) → n < length xs → slice_get (map f xs) n ≡ Some (f (get_or xs n d))
 mapped_at f [] n d inside = absurd (not-suc-le-zero inside)
 mapped_at f (x ∷ xs) zero d inside = refl
 mapped_at f (x ∷ xs) (suc n) d inside = mapped_at f xs n d (le_of_suc-le-suc inside)
-
--- an event that comes so many times, and then the others
-pub first_left : (event : Happening) (times again : ℕ) (rest : List Happening) → again < times → replicate (times - again) event ++ rest ≡ event ∷ (replicate (times - (again + 1)) event ++ rest)
-first_left event times again rest inside = ap (λ k. replicate k event ++ rest) (let k : times - again ≡ suc (times - (again + 1)) = omega arith in k)
-
-pub none_left : (event : Happening) (times again : ℕ) (rest : List Happening) → times ≤ again → replicate (times - again) event ++ rest ≡ rest
-none_left event times again rest all = ap (λ k. replicate k event ++ rest) (let k : times - again ≡ 0 = omega arith in k)

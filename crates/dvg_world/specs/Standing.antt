@@ -1,13 +1,16 @@
 -- After which logs a world stands.
-use Rattle.std.specs.Prelude.{◌≡◌, ℕ, Bool, List, ◌∷◌, slice_index, Option}
+use Rattle.std.specs.Prelude.{◌≡◌, ℕ, Bool, List, [], ◌∷◌, slice_index, Option}
 use Rattle.dvg_gen.specs.Machine as generator
 use Rattle.dvg_gen.specs.Machine.{Machine}
+use Rattle.dvg_gen.specs.declared.stroke.Stroke.{Stroke}
 use Rattle.dvg_gen.specs.Told.{Told}
+use Rattle.dvg_driver.specs.declared.action.Action.TheVariants.{Idle}
 use Rattle.dvg_driver.specs.Script.{Item}
 use Rattle.dvg_driver.specs.Stands as driver
 use Rattle.dvg_driver.specs.Stands.{Stage, byte1_of}
 use Rattle.dvg_log.specs.Events.{Happening}
 use Rattle.dvg_log.specs.declared.entry.Entry.{Entry}
+use Rattle.dvg_log.specs.declared.entry.Entry.TheVariants.{Refused, Busy, NothingPublished, Acted, NoStrobe, Done, Still}
 use Rattle.dvg_log.specs.Entries.{Shown, map_entry}
 use Rattle.dvg_log.specs.Headline.{KeepsHeadline}
 use Rattle.dvg_log.specs.Log.{Log, ◌⟼◌, ram, low_byte, history, life, strobed}
@@ -25,6 +28,21 @@ pub record State : Type 0 where
 -- an entry of a world, with the picture that it keeps as what the run drew, if it finished one
 abbrev pub shown_in : State → Entry (Unit {0}) → Shown
 shown_in world entry = map_entry (λ _. world.machine.picture) entry
+
+-- what is left of a picture where an entry that finished its run has the strokes
+abbrev pub picture_left : {S : Type 0} → Entry S → List Stroke → List Stroke
+picture_left (Done address word drew) picture = []
+picture_left _ picture = picture
+
+-- an entry that changes nothing: the same event has it again, as often as it comes next
+abbrev pub ChangesNothing : Entry (Unit {0}) → Type 0
+ChangesNothing (Refused fault) = Unit {0}
+ChangesNothing Busy = Unit {0}
+ChangesNothing NothingPublished = Unit {0}
+ChangesNothing (Acted Idle) = Unit {0}
+ChangesNothing NoStrobe = Unit {0}
+ChangesNothing Still = Unit {0}
+ChangesNothing _ = ⊥
 
 -- a world has this ROM and this RAM; its generator stands after the words that it was told and the low byte that waits,
 -- and its driver after its life, which gives byte 001 of the RAM; and it knows whether a strobe was sent

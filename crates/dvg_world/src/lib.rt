@@ -11,6 +11,7 @@
 mod desk;
 mod entries;
 mod judge;
+mod keeping;
 mod logging;
 mod pictures;
 mod runs;

@@ -1,21 +1,9 @@
 //! The pictures of a trace.
-ghost use Rattle.std.specs.Prelude.{◌≡◌, ◌+◌, ◌^◌, ◌<◌, ◌≤◌, [], ℕ, List, false};
-ghost use Rattle.std.specs.Prelude.{vec_capacity, vec_len, OnErr, OnOk};
-ghost use Rattle.dvg_frame.specs.Ops.{IsDraft};
-ghost use Rattle.dvg_log.specs.Entries.{Shown};
-ghost use Rattle.dvg_log.specs.Log.{Log};
-ghost use Rattle.dvg_log.specs.Traces.{BringsDraft, seen_as};
-ghost use Rattle.dvg_log.specs.declared.event.Event.TheVariants.{Fetch, Offer, Tick};
-ghost use Rattle.dvg_world.specs.Keeping.{pictures_of};
+ghost use Rattle.std.specs.Prelude.{◌≡◌, [], false};
 ghost use Rattle.dvg_world.specs.Kept.{Draws};
-ghost use Rattle.dvg_world.specs.Standing.{WorldAfter};
-ghost use Rattle.dvg_world.specs.own.Running.{AddsRun, DrawsRun, KeepsPicture, StopsDrawing};
-ghost use Rattle.dvg_world.specs.own.Stepping.{IsDrawnBy};
 
+use crate::keeping::{Keeper, happen_all};
 use crate::world::World;
-use dvg_code::OutOfMemory;
-use dvg_driver::Action;
-use dvg_frame::Op;
 use dvg_gen::Stroke;
 use dvg_log::{Entry, Trace, TraceEvent};
 use dvg_mem::{Image, Rom, Store};
@@ -53,121 +41,37 @@ impl<A: Allocator> Drawn<A> {
     }
 }
 
-// Ticks `world` `times` times, which completes no picture. Stops at the first idle tick: all later
-// ones would be idle, too, and change nothing.
-fn tick_times<S: Store>(world: &mut World<S>, times: usize)
-    ensures { (R image : List ℕ) (log : Log) → WorldAfter R image log world.old
-        → AddsRun R image log Tick times (λ later. pictures_of later ≡ pictures_of log) world.new }
-{
-    for _tick in 0..times {
-        match world.act() {
-            Action::Idle => return,
-            _ => {}
-        }
-    }
+// What is kept where pictures alone are.
+#[derive(Drop)]
+struct PicturesKept<A: Allocator> {
+    pictures: Vec<Picture<A>, A>,
 }
 
-// Offers the operations `ops` to `world` `times` times, which completes no picture. The first offer
-// is taken where the driver is idle and the check accepts the draft. Any other changes nothing,
-// whatever the check would return. So the draft is checked at most once, where the driver is idle.
-fn offer_times<S: Store>(world: &mut World<S>, ops: &[Op], times: usize)
-    requires draft { IsDraft ops.now }
-    requires some { 1 ≤ times }
-    ensures { (R image : List ℕ) (log : Log) → WorldAfter R image log world.old
-        → AddsRun R image log (Offer ops.now) times (λ later. pictures_of later ≡ pictures_of log)
-        world.new }
-{
-    if world.is_idle() {
-        let _answer = world.offer_ops(ops);
-    }
-}
+impl<S: Store> Keeper<S> for PicturesKept<S::Alloc> {
+    ghost use Rattle.std.specs.Prelude.{◌≡◌, ◌-◌, map, vec_capacity, vec_len};
+    ghost use Rattle.dvg_world.specs.Keeping.{pictures_of};
+    ghost use Rattle.dvg_world.specs.Kept.{picture_seen};
 
-// Adds a picture to `pictures`, if the event number `event` finished a run, which drew `drew`.
-// There must be room for it.
-#[inline(always)]
-fn keep_picture<A: Allocator>(
-    pictures: &mut Vec<Picture<A>, A>,
-    event: usize,
-    drew: Option<Vec<Stroke, A>>,
-)
-    requires { vec_len pictures.old < vec_capacity pictures.old }
-    ensures kept { (entry : Shown) → IsDrawnBy entry drew
-        → KeepsPicture pictures.old.items event entry pictures.new.items }
-    ensures len { vec_len pictures.new ≤ vec_len pictures.old + 1 }
-    ensures capacity { vec_capacity pictures.new ≡ vec_capacity pictures.old }
-{
-    if let Some(strokes) = drew {
-        pictures.push_reserved(Picture { event, strokes });
-    }
-}
+    ghost IsKept = { λ kept log. map picture_seen kept.pictures.items ≡ pictures_of log };
 
-// Lets `world` fetch `times` times, the first as event number `number`, and adds the pictures to
-// `pictures`. Stops at the first fetch that finds the generator halted: all later ones would find
-// it halted, too, and change nothing.
-fn fetch_times<S: Store>(
-    world: &mut World<S>,
-    number: usize,
-    times: usize,
-    pictures: &mut Vec<Picture<S::Alloc>, S::Alloc>,
-) -> Result<(), OutOfMemory>
-    requires numbers { number + times < 2 ^ 64 }
-    requires room { vec_len pictures.old + times ≤ vec_capacity pictures.old }
-    ensures draws { OnOk result (DrawsRun world.old pictures.old.items number Fetch times
-        world.new pictures.new.items) }
-    ensures stops { OnErr result (StopsDrawing world.old pictures.old.items number Fetch times
-        world.new pictures.new.items) }
-    ensures len { vec_len pictures.new ≤ vec_len pictures.old + times }
-    ensures capacity { vec_capacity pictures.new ≡ vec_capacity pictures.old }
-{
-    for done in 0..times {
-        match world.fetch() {
-            Ok(Entry::Still) => return Ok(()),
-            Ok(entry) => keep_picture(pictures, number + done, world.take_drawn(entry)),
-            Err(refused) => return Err(refused),
-        }
-    }
-    Ok(())
-}
+    ghost room = { λ kept. vec_capacity kept.pictures - vec_len kept.pictures };
 
-// Lets the event of `run` happen to `world` as many times as `run` says, the first as event number
-// `number`, and adds the pictures to `pictures`.
-fn draw_run<S: Store>(
-    run: (TraceEvent<'_, S::Alloc>, usize),
-    number: usize,
-    world: &mut World<S>,
-    pictures: &mut Vec<Picture<S::Alloc>, S::Alloc>,
-) -> Result<(), OutOfMemory>
-    requires brings { BringsDraft run.0 }
-    requires some { 1 ≤ run.1 }
-    requires numbers { number + run.1 < 2 ^ 64 }
-    requires room { vec_len pictures.old + run.1 ≤ vec_capacity pictures.old }
-    ensures draws { OnOk result (DrawsRun world.old pictures.old.items number
-        (seen_as run.entry.0) run.entry.1 world.new pictures.new.items) }
-    ensures stops { OnErr result (StopsDrawing world.old pictures.old.items number
-        (seen_as run.entry.0) run.entry.1 world.new pictures.new.items) }
-    ensures len { vec_len pictures.new ≤ vec_len pictures.old + run.entry.1 }
-    ensures capacity { vec_capacity pictures.new ≡ vec_capacity pictures.old }
-{
-    let (event, times) = run;
-    match event {
-        TraceEvent::Offer(ops) => {
-            offer_times(world, ops, times);
-            return Ok(());
-        }
-        TraceEvent::Tick => {
-            tick_times(world, times);
-            return Ok(());
-        }
-        TraceEvent::Fetch => return fetch_times(world, number, times, pictures),
-        _ => {}
+    #[inline(always)]
+    fn passes_over(&self, event: TraceEvent<'_, S::Alloc>) -> bool {
+        matches!(event, TraceEvent::Offer(_))
     }
-    for done in 0..times {
-        match world.happen(event) {
-            Ok(entry) => keep_picture(pictures, number + done, world.take_drawn(entry)),
-            Err(refused) => return Err(refused),
-        }
+
+    #[inline(always)]
+    fn keep(&mut self, number: usize, entry: Entry<()>, world: &mut World<S>) {
+        let Some(strokes) = world.take_drawn(entry) else {
+            return;
+        };
+        let event = number;
+        self.pictures.push_reserved(Picture { event, strokes });
     }
-    Ok(())
+
+    #[inline(always)]
+    fn keep_alike(&mut self, _entry: Entry<()>, _times: usize) {}
 }
 
 /// Lets the events of `trace` happen to a new world of `rom` and `image`, as `run_trace` does.
@@ -181,8 +85,8 @@ fn draw_run<S: Store>(
 ///
 /// The list of pictures is grown once, for as many as there are events, before the first happens.
 ///
-/// A draft is checked only where the driver is idle, and once where it is offered many times in a
-/// row. Any other offer is refused, or the driver is busy: nothing changes, and no picture comes.
+/// A draft is checked only where the driver is idle, and at most twice where it is offered many
+/// times in a row. Any other offer is refused, or the driver is busy: nothing changes, and no picture comes.
 pub fn draw_trace<S: Store>(
     alloc: S::Alloc,
     rom: Rom<S::Alloc>,
@@ -194,24 +98,13 @@ pub fn draw_trace<S: Store>(
     let Ok(mut world) = World::<S>::new(alloc, rom, image) else {
         return Drawn::unstarted(alloc);
     };
-    let Ok(mut pictures) = Vec::with_capacity(alloc, trace.len()) else {
+    let Ok(pictures) = Vec::with_capacity(alloc, trace.len()) else {
         return Drawn::unstarted(alloc);
     };
-    let mut number = 0;
-    for run in trace.runs() {
-        let times = run.1;
-        match draw_run(run, number, &mut world, &mut pictures) {
-            Ok(()) => number += times,
-            Err(_) => {
-                return Drawn {
-                    pictures,
-                    is_whole: false,
-                };
-            }
-        }
-    }
+    let mut kept = PicturesKept { pictures };
+    let is_whole = happen_all(trace, &mut kept, &mut world);
     Drawn {
-        pictures,
-        is_whole: true,
+        pictures: kept.pictures,
+        is_whole,
     }
 }

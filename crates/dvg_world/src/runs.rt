@@ -6,9 +6,10 @@ ghost use Rattle.dvg_log.specs.Legal.{IsLegal};
 ghost use Rattle.dvg_log.specs.Log.{Throughout};
 ghost use Rattle.dvg_world.specs.Runs.{IsStop, log_by};
 
+use crate::keeping::{Keeper, happen_all};
 use crate::stopped::Stopped;
 use crate::world::World;
-use dvg_log::{OwnEntry, OwnEvent, Trace};
+use dvg_log::{Entry, OwnEntry, OwnEvent, Trace, TraceEvent};
 use dvg_mem::{Image, Rom, Store};
 use std::alloc::Allocator;
 
@@ -98,25 +99,48 @@ pub fn run_trace<S: Store>(
     let Ok(mut world) = World::<S>::new(alloc, rom, image) else {
         return Err(unstarted(alloc));
     };
-    let Ok(mut entries) = Vec::with_capacity(alloc, trace.len()) else {
+    let Ok(entries) = Vec::with_capacity(alloc, trace.len()) else {
         return Err(unstarted(alloc));
     };
-    let mut number = 0;
-    for run in trace.runs() {
-        for _again in 0..run.1 {
-            match world.happen(run.0) {
-                Ok(entry) => entries.push_reserved(world.own(entry)),
-                Err(_) => {
-                    return Err(Stopped {
-                        entries,
-                        event: number,
-                    });
-                }
-            }
-            number += 1;
+    let mut kept = OwnEntries { alloc, entries };
+    if happen_all(trace, &mut kept, &mut world) {
+        return Ok(kept.entries);
+    }
+    let event = kept.entries.len();
+    Err(Stopped {
+        entries: kept.entries,
+        event,
+    })
+}
+
+// The entries of a log, each of which owns its strokes.
+#[derive(Drop)]
+struct OwnEntries<A: Allocator> {
+    alloc: A,
+    entries: Vec<OwnEntry<A>, A>,
+}
+
+impl<S: Store> Keeper<S> for OwnEntries<S::Alloc> {
+    ghost use Rattle.std.specs.Prelude.{◌-◌, vec_capacity, vec_len};
+    ghost use Rattle.dvg_world.specs.own.Running.{AreOwned};
+
+    ghost IsKept = { λ kept log. AreOwned kept.entries.items log };
+
+    ghost room = { λ kept. vec_capacity kept.entries - vec_len kept.entries };
+
+    fn passes_over(&self, _event: TraceEvent<'_, S::Alloc>) -> bool {
+        false
+    }
+
+    fn keep(&mut self, _number: usize, entry: Entry<()>, world: &mut World<S>) {
+        self.entries.push_reserved(world.own(entry));
+    }
+
+    fn keep_alike(&mut self, entry: Entry<()>, times: usize) {
+        for _again in 0..times {
+            self.entries.push_reserved(entry.with(Vec::new(self.alloc)));
         }
     }
-    Ok(entries)
 }
 
 // Returns a run that stopped before its first event. Its list is empty, with the allocator `alloc`.

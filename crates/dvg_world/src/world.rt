@@ -1,6 +1,6 @@
 //! The world: both ends of the vector RAM, one event at a time.
 ghost use Rattle.std.specs.Prelude.{◌≡◌, ◌≢◌, ◌↔◌, ℕ, List, [], length, IfOk};
-ghost use Rattle.std.specs.Prelude.{IsErrOf, IsOk, IsTrue, None, Ok, OnErr, OnOk};
+ghost use Rattle.std.specs.Prelude.{IsErrOf, IsOk, IsTrue, None, OnErr, OnOk};
 ghost use Rattle.dvg_driver.specs.Script.{IsWhole};
 ghost use Rattle.dvg_driver.specs.Stands.{IsInRam};
 ghost use Rattle.dvg_frame.specs.Ops.{IsDraft};
@@ -9,13 +9,14 @@ ghost use Rattle.dvg_log.specs.Events.{happening_of};
 ghost use Rattle.dvg_log.specs.declared.event.Event.TheVariants.{Offer, Redraw, Tick, Strobe};
 ghost use Rattle.dvg_log.specs.declared.event.Event.TheVariants.{Fetch, ResetGen, ResetCpu};
 ghost use Rattle.dvg_log.specs.declared.event.Event.TheVariants.{ResetAll};
-ghost use Rattle.dvg_log.specs.declared.entry.Entry.TheVariants.{Acted, Still};
+ghost use Rattle.dvg_log.specs.declared.entry.Entry.TheVariants.{Acted, Cleared};
 ghost use Rattle.dvg_log.specs.Legal.{IsLegal};
 ghost use Rattle.dvg_log.specs.Log.{Log};
 ghost use Rattle.dvg_log.specs.Traces.{BringsDraft, seen_as};
 ghost use Rattle.dvg_world.specs.Desks.{OfLives};
-ghost use Rattle.dvg_world.specs.Standing.{AddsLine, DrawsNow, KeepsHeadlineAfter, KeepsLogs};
-ghost use Rattle.dvg_world.specs.Standing.{WorldAfter, shown_in};
+ghost use Rattle.dvg_world.specs.Standing.{AddsLine, ChangesNothing, DrawsNow};
+ghost use Rattle.dvg_world.specs.Standing.{KeepsHeadlineAfter, KeepsLogs};
+ghost use Rattle.dvg_world.specs.Standing.{WorldAfter, picture_left, shown_in};
 ghost use Rattle.dvg_world.specs.own.Stepping.{IsDrawnBy, WantsMemory, ram_by, sent_by};
 ghost use Rattle.dvg_world.specs.Wanting.{TakesMemory};
 
@@ -146,6 +147,8 @@ impl<S: Store> World<S> {
             (shown_of entry) self.new) }
         ensures headline { IfOk result
             (λ entry. KeepsHeadlineAfter self.old (happening_of event.now) (shown_of entry)) }
+        ensures picture { IfOk result (λ entry. self.new.machine.picture
+            ≡ picture_left (shown_of entry) self.old.machine.picture) }
         ensures refused { OnErr result (self.new ≡ self.old) }
         ensures room { (R image : List ℕ) (log : Log) → WorldAfter R image log self.old
             → OnErr result (TakesMemory R image log (happening_of event.now)) }
@@ -166,6 +169,9 @@ impl<S: Store> World<S> {
         requires { BringsDraft event }
         ensures stands { IfOk result (λ entry. AddsLine self.old (seen_as event.entry)
             (shown_in self.new entry) self.new) }
+        ensures picture { IfOk result (λ entry. drew_in entry ≡ None
+            → self.new.machine.picture ≡ self.old.machine.picture) }
+        ensures same { IfOk result (λ entry. ChangesNothing entry → self.new ≡ self.old) }
         ensures room { OnErr result (WantsMemory (seen_as event.entry) self.old) }
         ensures refused { OnErr result (self.new ≡ self.old) }
     {
@@ -185,6 +191,7 @@ impl<S: Store> World<S> {
     // They are taken out of the world.
     pub(crate) fn own(&mut self, entry: Entry<()>) -> OwnEntry<S::Alloc>
         ensures shown { shown_of result ≡ shown_in self.old entry }
+        ensures left { self.new.machine.picture ≡ picture_left entry self.old.machine.picture }
         ensures stands { KeepsLogs self.old self.new }
     {
         let Some(drew) = self.take_drawn(entry) else {
@@ -206,6 +213,7 @@ impl<S: Store> World<S> {
         ensures stands { AddsLine self.old (Offer draft.now) (shown_in self.new result) self.new }
         ensures headline { KeepsHeadlineAfter self.old (Offer draft.now) (shown_in self.new result) }
         ensures picture { self.new.machine.picture ≡ self.old.machine.picture }
+        ensures same { ChangesNothing result → self.new ≡ self.old }
     {
         self.offer_ops(draft.ops())
     }
@@ -217,6 +225,7 @@ impl<S: Store> World<S> {
         requires { IsDraft ops.now }
         ensures stands { AddsLine self.old (Offer ops.now) (shown_in self.new result) self.new }
         ensures picture { self.new.machine.picture ≡ self.old.machine.picture }
+        ensures same { ChangesNothing result → self.new ≡ self.old }
     {
         self.desk.offer(ops)
     }
@@ -228,6 +237,7 @@ impl<S: Store> World<S> {
         ensures stands { AddsLine self.old Redraw (shown_in self.new result) self.new }
         ensures headline { KeepsHeadlineAfter self.old Redraw (shown_in self.new result) }
         ensures picture { self.new.machine.picture ≡ self.old.machine.picture }
+        ensures same { ChangesNothing result → self.new ≡ self.old }
     {
         self.desk.redraw()
     }
@@ -238,6 +248,7 @@ impl<S: Store> World<S> {
         ensures stands { AddsLine self.old Tick (shown_in self.new result) self.new }
         ensures headline { KeepsHeadlineAfter self.old Tick (shown_in self.new result) }
         ensures picture { self.new.machine.picture ≡ self.old.machine.picture }
+        ensures same { ChangesNothing result → self.new ≡ self.old }
     {
         Entry::Acted(self.act())
     }
@@ -278,6 +289,7 @@ impl<S: Store> World<S> {
         ensures stands { AddsLine self.old Strobe (shown_in self.new result) self.new }
         ensures headline { KeepsHeadlineAfter self.old Strobe (shown_in self.new result) }
         ensures picture { self.new.machine.picture ≡ self.old.machine.picture }
+        ensures same { ChangesNothing result → self.new ≡ self.old }
     {
         if !self.strobe_sent {
             return Entry::NoStrobe;
@@ -299,7 +311,7 @@ impl<S: Store> World<S> {
             (λ entry. KeepsHeadlineAfter self.old Fetch (shown_in self.new entry)) }
         ensures picture { IfOk result (λ entry. drew_in entry ≡ None
             → self.new.machine.picture ≡ self.old.machine.picture) }
-        ensures still { result ≡ Ok Still → self.new ≡ self.old }
+        ensures same { IfOk result (λ entry. ChangesNothing entry → self.new ≡ self.old) }
         ensures refused { OnErr result (self.new ≡ self.old) }
         ensures room { OnErr result (DrawsNow self.old) }
     {
@@ -335,6 +347,7 @@ impl<S: Store> World<S> {
     #[inline(always)]
     pub(crate) fn take_drawn(&mut self, entry: Entry<()>) -> Option<Vec<Stroke, S::Alloc>>
         ensures drawn { IsDrawnBy (shown_in self.old entry) result }
+        ensures left { self.new.machine.picture ≡ picture_left entry self.old.machine.picture }
         ensures stands { KeepsLogs self.old self.new }
     {
         match entry {
@@ -349,6 +362,7 @@ impl<S: Store> World<S> {
         ensures stands { AddsLine self.old ResetGen (shown_in self.new result) self.new }
         ensures headline { KeepsHeadlineAfter self.old ResetGen (shown_in self.new result) }
         ensures picture { self.new.machine.picture ≡ self.old.machine.picture }
+        ensures entry { result ≡ Cleared }
     {
         self.generator.reset(); // The open run is over.
         Entry::Cleared
@@ -360,6 +374,7 @@ impl<S: Store> World<S> {
         ensures stands { AddsLine self.old ResetCpu (shown_in self.new result) self.new }
         ensures headline { KeepsHeadlineAfter self.old ResetCpu (shown_in self.new result) }
         ensures picture { self.new.machine.picture ≡ self.old.machine.picture }
+        ensures entry { result ≡ Cleared }
     {
         self.desk.reset();
         Entry::Cleared
@@ -373,6 +388,7 @@ impl<S: Store> World<S> {
         ensures headline { KeepsHeadlineAfter self.old (ResetAll image.now)
             (shown_in self.new result) }
         ensures picture { self.new.machine.picture ≡ self.old.machine.picture }
+        ensures entry { result ≡ Cleared }
     {
         self.store.load(image);
         self.generator.reset();

@@ -1,14 +1,12 @@
 -- What is kept where all entries are.
-use Rattle.std.specs.Prelude.{◌≡◌, ◌-◌, ◌++◌, ℕ, List, length, map, min, replicate}
+use Rattle.std.specs.Prelude.{◌≡◌, ◌-◌, ◌++◌, ℕ, length, map, min, replicate}
 use Rattle.std.specs.Prelude.{vec_capacity, vec_len}
 use Rattle.dvg_log.specs.Entries.{Shown}
 use Rattle.dvg_log.specs.Events.{Happening}
 use Rattle.dvg_log.specs.Log.{Log, ◌⟼◌}
 use Rattle.dvg_world.specs.declared.logging.EntriesKept.{EntriesKept}
 use Rattle.dvg_world.specs.Keeping.{all_entries, entries_in}
-use Rattle.dvg_world.specs.Standing.{State, WorldAfter}
 use Rattle.dvg_world.specs.own.Entries.{AreEntries, entry_count}
-use Rattle.dvg_world.specs.own.Running.{AddsRun, StopsRun}
 
 -- they are the entries of a log, and the strokes of its pictures
 abbrev pub AreKept : {A : Type 0} → EntriesKept A → Log → Type 0
@@ -25,13 +23,3 @@ room_left entries = min (min (vec_capacity entries.kept) 65536 - entry_count ent
 abbrev pub KeepsAlike : {A : Type 0} → EntriesKept A → Shown → (times : ℕ) → EntriesKept A → Type 0
 KeepsAlike old entry times new = (event : Happening) (log : Log) → AreKept old log
     → AreKept new (replicate times (event ⟼ entry) ++ log)
-
--- after each log that the world stands after and of which the entries are kept, so many lines more are added
-abbrev pub LogsRun : {A : Type 0} → State → EntriesKept A → Happening → (times : ℕ) → State → EntriesKept A → Type 0
-LogsRun old entries event times new more = (R image : List ℕ) (log : Log) → WorldAfter R image log old
-    → AreKept entries log → AddsRun R image log event times (AreKept more) new
-
--- or fewer, and then the event takes memory
-abbrev pub StopsLogging : {A : Type 0} → State → EntriesKept A → Happening → (times : ℕ) → State → EntriesKept A → Type 0
-StopsLogging old entries event times new more = (R image : List ℕ) (log : Log) → WorldAfter R image log old
-    → AreKept entries log → StopsRun R image log event times (AreKept more) new

@@ -13,6 +13,7 @@ extern crate plain_std as std;
 mod desk;
 mod entries;
 mod judge;
+mod keeping;
 mod logging;
 mod pictures;
 mod runs;

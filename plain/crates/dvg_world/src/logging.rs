@@ -2,9 +2,8 @@
 use std::prelude::*;
 
 use crate::entries::{Alike, Entries};
+use crate::keeping::{Keeper, happen_all};
 use crate::world::World;
-use dvg_code::OutOfMemory;
-use dvg_driver::Action;
 use dvg_gen::Stroke;
 use dvg_log::{Entry, Trace, TraceEvent};
 use dvg_mem::{Image, Rom, Store};
@@ -42,7 +41,7 @@ struct EntriesKept<A: Allocator> {
 impl<A: Allocator> EntriesKept<A> {
     // Keeps `entry`, `times` times in a row. `drew` has the strokes, if its run finished.
     #[inline(always)]
-    fn keep(&mut self, entry: Entry<()>, drew: Option<Vec<Stroke, A>>, times: usize) {
+    fn add(&mut self, entry: Entry<()>, drew: Option<Vec<Stroke, A>>, times: usize) {
         if let Some(strokes) = drew {
             self.drawn.push_reserved(strokes);
         }
@@ -62,63 +61,21 @@ impl<A: Allocator> EntriesKept<A> {
     }
 }
 
-// Ticks `world` `times` times, and keeps the entries in `entries`. Stops at the first idle tick,
-// and keeps its entry for the others, too: all later ones would be idle, and change nothing.
-fn log_ticks<S: Store>(entries: &mut EntriesKept<S::Alloc>, times: usize, world: &mut World<S>) {
-    for done in 0..times {
-        let action = world.act();
-        if let Action::Idle = action {
-            entries.keep(Entry::Acted(Action::Idle), None, times - done);
-            return;
-        }
-        entries.keep(Entry::Acted(action), None, 1);
+impl<S: Store> Keeper<S> for EntriesKept<S::Alloc> {
+    #[inline(always)]
+    fn passes_over(&self, _event: TraceEvent<'_, S::Alloc>) -> bool {
+        false
     }
-}
 
-// Lets `world` fetch `times` times, and keeps the entries in `entries`. Stops at the first fetch
-// that finds the generator halted, and keeps its entry for the others, too: all later ones would
-// find it halted, and change nothing.
-fn log_fetches<S: Store>(
-    entries: &mut EntriesKept<S::Alloc>,
-    times: usize,
-    world: &mut World<S>,
-) -> Result<(), OutOfMemory> {
-    for done in 0..times {
-        match world.fetch() {
-            Ok(Entry::Still) => {
-                entries.keep(Entry::Still, None, times - done);
-                return Ok(());
-            }
-            Ok(entry) => entries.keep(entry, world.take_drawn(entry), 1),
-            Err(refused) => return Err(refused),
-        }
+    #[inline(always)]
+    fn keep(&mut self, _number: usize, entry: Entry<()>, world: &mut World<S>) {
+        self.add(entry, world.take_drawn(entry), 1);
     }
-    Ok(())
-}
 
-// Lets the event of `run` happen to `world` as many times as `run` says, and keeps the entries in
-// `entries`.
-fn log_run<S: Store>(
-    run: (TraceEvent<'_, S::Alloc>, usize),
-    entries: &mut EntriesKept<S::Alloc>,
-    world: &mut World<S>,
-) -> Result<(), OutOfMemory> {
-    let (event, times) = run;
-    match event {
-        TraceEvent::Tick => {
-            log_ticks(entries, times, world);
-            return Ok(());
-        }
-        TraceEvent::Fetch => return log_fetches(entries, times, world),
-        _ => {}
+    #[inline(always)]
+    fn keep_alike(&mut self, entry: Entry<()>, times: usize) {
+        self.add(entry, None, times);
     }
-    for _again in 0..times {
-        match world.happen(event) {
-            Ok(entry) => entries.keep(entry, world.take_drawn(entry), 1),
-            Err(refused) => return Err(refused),
-        }
-    }
-    Ok(())
 }
 
 /// Lets the events of `trace` happen to a new world of `rom` and `image`, as `run_trace` does.
@@ -147,11 +104,6 @@ pub fn log_trace<S: Store>(
         return Logged::unstarted(alloc);
     };
     let mut entries = EntriesKept { kept, drawn };
-    for run in trace.runs() {
-        match log_run(run, &mut entries, &mut world) {
-            Ok(()) => {}
-            Err(_) => return entries.logged(false),
-        }
-    }
-    entries.logged(true)
+    let is_whole = happen_all(trace, &mut entries, &mut world);
+    entries.logged(is_whole)
 }

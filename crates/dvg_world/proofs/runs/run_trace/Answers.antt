@@ -1,10 +1,8 @@
-use Rattle.std.proofs.Common.{◌≡◌, ◌-◌, ◌++◌, length, replicate, ap, sym, ◌∙◌, arith}
-use Rattle.std.proofs.lemmas.List.{length-drop}
-use Rattle.std.proofs.lemmas.Option.{slice_get_within}
-use Rattle.dvg_log.specs.Traces.{seen_as}
+use Rattle.std.proofs.Common.{rules, ap, map}
+use Rattle.dvg_log.specs.Entries.{shown_of}
 use Rattle.dvg_theorem.proofs.Headline.{headline}
-use Rattle.dvg_world.proofs.WholeRuns.{begins_so_far, first_left, legal_none, next_left, none_left, one_more, stops_at}
-use Rattle.dvg_world.proofs.Standing.{adds_as, then_keeps}
+use Rattle.dvg_world.proofs.OwnEntries.{owned_legal, owned_stop, owned_whole}
+use Rattle.dvg_world.proofs.WholeRuns.{legal_none}
 use Rattle.dvg_world.proofs.runs.run_trace.Goals as goal
 
 pub returns-in_default-clause-legal : goal.returns-in_default-clause-legal
@@ -21,77 +19,33 @@ returns-in_default-with_capacity-clause-legal g c =
 pub returns-in_default-with_capacity-clause-headline : goal.returns-in_default-with_capacity-clause-headline
 returns-in_default-with_capacity-clause-headline g c = headline c.args.rom c.args.image.now _ (returns-in_default-with_capacity-clause-legal g c)
 
-pub loop-run-init : goal.loop-run-init
-loop-run-init g c =
-    let made = c.in-Ok-with_capacity.ensures in
-    record {
-      so_far = begins_so_far c.in-Ok.ensures.stands made.items made.len (made.exact ∙ c.len.ensures.value);
-      left = sym (c.into_iter-run-iterator.ensures.into_iter_gives ∙ c.runs-run-items.ensures);
-      inside = omega arith;
-    }
+pub returns-then-happen_all-clause-legal : goal.returns-then-happen_all-clause-legal
+returns-then-happen_all-clause-legal g c =
+    owned_legal c.happen_all.new.keeper.entries.items
+    (c.happen_all.ensures c.args.rom c.args.image.now c.in-Ok.ensures.stands
+    (ap (map shown_of) c.in-Ok-with_capacity.ensures.items))
 
-pub loop-again-init : goal.loop-again-init
-loop-again-init g c =
-    let run = c.in-Some.run' in
-    record {
-      so_far = c.loop-run.invariant.so_far;
-      left = c.loop-run.invariant.left ∙ c.in-Some.ensures.steps.2 ∙ ap (λ k. replicate k (seen_as run.0) ++ c.next.new.self) (let k : run.1 ≡ run.1 - 0 = omega arith in k);
-      inside = c.loop-run.invariant.inside;
-    }
+pub returns-then-happen_all-clause-headline : goal.returns-then-happen_all-clause-headline
+returns-then-happen_all-clause-headline g c =
+    headline c.args.rom c.args.image.now _ (returns-then-happen_all-clause-legal g c)
 
-pub loop-run-preserved : goal.loop-run-preserved
-loop-run-preserved g c =
-    let run = c.in-Some.run' in
-    record {
-      so_far = c.loop-again.invariant.so_far;
-      left = c.loop-again.invariant.left ∙ none_left (seen_as run.0) run.1 c.loop-again._again c.next.new.self c.loop-again-test.false;
-      inside = c.loop-again.invariant.inside;
-    }
+pub returns-then-happen_all-clause-whole : goal.returns-then-happen_all-clause-whole
+returns-then-happen_all-clause-whole g c =
+    owned_whole c.happen_all.new.keeper.entries.items c.if-happen_all.true
+    (c.happen_all.ensures c.args.rom c.args.image.now c.in-Ok.ensures.stands
+    (ap (map shown_of) c.in-Ok-with_capacity.ensures.items))
 
-pub push_reserved-requires : goal.push_reserved-requires
-push_reserved-requires g c =
-    let run = c.in-Some.run' in
-    let event = seen_as run.0 in
-    let first = first_left event run.1 c.loop-again._again c.next.new.self c.loop-again-test.true in
-    let next = next_left c.args.trace.now c.loop-again.number event _ (c.loop-again.invariant.left ∙ first) in
-    let inside = slice_get_within c.args.trace.now c.loop-again.number event next.0 in
-    let len = c.loop-again.invariant.so_far.len in
-    let room = c.loop-again.invariant.so_far.room in
-    omega (arith, inside, len, room)
-
-pub loop-again-preserved : goal.loop-again-preserved
-loop-again-preserved g c =
-    let run = c.in-Some.run' in
-    let event = seen_as run.0 in
-    let first = first_left event run.1 c.loop-again._again c.next.new.self c.loop-again-test.true in
-    let next = next_left c.args.trace.now c.loop-again.number event _ (c.loop-again.invariant.left ∙ first) in
-    let inside = slice_get_within c.args.trace.now c.loop-again.number event next.0 in
-    let pushed = c.push_reserved.ensures in
-    record {
-      so_far = one_more {entries' = c.push_reserved.new.self} event c.own.result c.loop-again.invariant.so_far next.0 (adds_as (sym c.own.ensures.shown) (then_keeps c.in-Ok-happen.ensures.stands c.own.ensures.stands)) pushed.items pushed.len pushed.capacity;
-      left = next.1;
-      inside = omega (arith, inside);
-    }
-
-pub returns-in-Err-clause-headline : goal.returns-in-Err-clause-headline
-returns-in-Err-clause-headline g c = headline c.args.rom c.args.image.now _ c.loop-again.invariant.so_far.after.legal
-
-pub returns-in-Err-clause-early : goal.returns-in-Err-clause-early
-returns-in-Err-clause-early g c =
-    let run = c.in-Some.run' in
-    let event = seen_as run.0 in
-    let first = first_left event run.1 c.loop-again._again c.next.new.self c.loop-again-test.true in
-    let next = next_left c.args.trace.now c.loop-again.number event _ (c.loop-again.invariant.left ∙ first) in
-    stops_at event c.loop-again.invariant.so_far next.0 c.in-Err.ensures.room
+pub returns-clause-legal : goal.returns-clause-legal
+returns-clause-legal g c =
+    owned_legal c.happen_all.new.keeper.entries.items
+    (c.happen_all.ensures c.args.rom c.args.image.now c.in-Ok.ensures.stands
+    (ap (map shown_of) c.in-Ok-with_capacity.ensures.items))
 
 pub returns-clause-headline : goal.returns-clause-headline
-returns-clause-headline g c = headline c.args.rom c.args.image.now _ c.loop-run.invariant.so_far.after.legal
+returns-clause-headline g c = headline c.args.rom c.args.image.now _ (returns-clause-legal g c)
 
-pub returns-clause-whole : goal.returns-clause-whole
-returns-clause-whole g c =
-    let n = c.loop-run.number in
-    let none = ap length (c.loop-run.invariant.left ∙ c.in-None.ensures.steps.0) in
-    let rest = length-drop n c.args.trace.now in
-    let inside = c.loop-run.invariant.inside in
-    let count = c.loop-run.invariant.so_far.count in
-    omega (arith, none, rest, inside, count)
+pub returns-clause-early : goal.returns-clause-early
+returns-clause-early g c =
+    owned_stop c.happen_all.new.keeper.entries _ (search rules) c.if-happen_all.false
+    (c.happen_all.ensures c.args.rom c.args.image.now c.in-Ok.ensures.stands
+    (ap (map shown_of) c.in-Ok-with_capacity.ensures.items))

@@ -1,8 +1,8 @@
-use Rattle.std.proofs.Common.{subst}
-use Rattle.dvg_world.specs.Standing.{AddsLine, shown_in}
+use Rattle.std.proofs.Common.{ap, subst, sym, ◌∙◌}
+use Rattle.dvg_world.specs.Standing.{AddsLine, picture_left, shown_in}
 use Rattle.dvg_world.specs.Wanting.{TakesMemory}
+use Rattle.dvg_world.proofs.Owning.{left_same, left_shown}
 use Rattle.dvg_world.proofs.Standing.{adds_as, keeps_headline, then_keeps}
-use Rattle.std.proofs.Common.{sym}
 use Rattle.dvg_world.proofs.world.World.apply.Goals as goal
 
 pub returns-in-Ok-clause-stands : goal.returns-in-Ok-clause-stands
@@ -18,3 +18,12 @@ returns-in-Ok-clause-headline g c = keeps_headline _ _ (returns-in-Ok-clause-sta
 pub returns-in-Err-clause-room : goal.returns-in-Err-clause-room
 returns-in-Err-clause-room g c = λ R image log after.
     subst (TakesMemory R image log) c.lent.ensures.value (c.in-Err.ensures.room R image log after)
+
+pub returns-in-Ok-clause-picture : goal.returns-in-Ok-clause-picture
+returns-in-Ok-clause-picture g c =
+    let entry = c.in-Ok.entry in
+    let mid = c.happen.new.self in
+    let before = c.args.self.now.machine.picture in
+    c.own.ensures.left ∙ left_same entry before mid.machine.picture c.in-Ok.ensures.picture
+    ∙ sym (left_shown entry mid.machine.picture before)
+    ∙ ap (λ shown. picture_left shown before) (sym c.own.ensures.shown)

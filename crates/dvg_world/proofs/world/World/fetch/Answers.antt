@@ -4,8 +4,8 @@ use Rattle.dvg_gen.specs.Bytes.{met, word_of}
 use Rattle.dvg_log.specs.Entries.{drew_in, entry_by, map_entry}
 use Rattle.dvg_log.specs.declared.event.Event.TheVariants.{Fetch}
 use Rattle.dvg_log.specs.declared.entry.Entry.TheVariants.{Still}
-use Rattle.dvg_world.specs.Standing.{DrawsNow}
-use Rattle.dvg_world.proofs.Fetching.{map_entry_by, never_still, picture_stays}
+use Rattle.dvg_world.specs.Standing.{ChangesNothing, DrawsNow}
+use Rattle.dvg_world.proofs.Fetching.{fetch_changes, map_entry_by, picture_stays}
 use Rattle.dvg_world.proofs.Standing.{adds_as, adds_between, draws_now, fetch_still, fetch_takes, keeps_headline, on_err, open_of}
 use Rattle.dvg_world.proofs.world.World.fetch.Goals as goal
 
@@ -46,11 +46,10 @@ returns-clause-picture g c none =
     (sym (ap drew_in c.of_fetch.ensures) ∙ none)
     ∙ ap (λ world. world.machine.picture) c.self.view_is
 
-pub returns-clause-still : goal.returns-clause-still
-returns-clause-still g c is =
-    let same : c.of_fetch.result ≡ Still = cc in
+pub returns-clause-same : goal.returns-clause-same
+returns-clause-same g c nothing =
     let found = met c.low_byte-low.result c.fetch_byte-byte.result in
-    absurd (never_still c.in-Some.address found c.in_ok-step.step tt (sym c.of_fetch.ensures ∙ same))
+    absurd (fetch_changes c.in-Some.address found c.in_ok-step.step (subst ChangesNothing c.of_fetch.ensures nothing))
 
 pub returns-in_err-step-clause-room : goal.returns-in_err-step-clause-room
 returns-in_err-step-clause-room g c =

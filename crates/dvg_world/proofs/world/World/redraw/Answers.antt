@@ -1,6 +1,6 @@
-use Rattle.std.proofs.Common.{refl}
+use Rattle.std.proofs.Common.{refl, ◌∙◌}
 use Rattle.dvg_log.specs.declared.event.Event.TheVariants.{Redraw}
-use Rattle.dvg_world.proofs.Standing.{adds_between, keeps_headline, redraws, same_rom}
+use Rattle.dvg_world.proofs.Standing.{adds_between, keeps_headline, redraw_same, redraws, same_parts, same_rom}
 use Rattle.dvg_world.proofs.world.World.redraw.Goals as goal
 
 pub returns-clause-stands : goal.returns-clause-stands
@@ -10,3 +10,7 @@ returns-clause-stands g c =
 
 pub returns-clause-headline : goal.returns-clause-headline
 returns-clause-headline g c = keeps_headline Redraw _ (returns-clause-stands g c)
+
+pub returns-clause-same : goal.returns-clause-same
+returns-clause-same g c nothing =
+    same_parts c.redraw.ensures.rom (redraw_same _ _ c.redraw.result nothing c.redraw.ensures.answers) ∙ c.self.view_is

@@ -2,8 +2,8 @@ use Rattle.std.proofs.Common.{rules, ◌≡◌, ◌+◌, ◌-◌, ◌<◌, ◌�
 use Rattle.std.specs.Prelude.{option_to_list, vec_capacity, vec_len}
 use Rattle.dvg_world.specs.own.Entries.{entry_count}
 use Rattle.dvg_world.proofs.EntriesKept.{few_kept, kept_more}
-use Rattle.dvg_world.proofs.logging.EntriesKept.keep.Goals.{in-Some, in_default}
-use Rattle.dvg_world.proofs.logging.EntriesKept.keep.Goals as goal
+use Rattle.dvg_world.proofs.logging.EntriesKept.add.Goals.{in-Some, in_default}
+use Rattle.dvg_world.proofs.logging.EntriesKept.add.Goals as goal
 
 pub push_reserved-requires-2 : goal.push_reserved-requires-2
 push_reserved-requires-2 g c =

@@ -1,0 +1,6 @@
+use Rattle.dvg_world.proofs.Owning.{undrawn_as}
+use Rattle.dvg_world.proofs.logging.EntriesKeptAllocKeeper.keep_alike.Goals as goal
+
+pub returns-clause-kept : goal.returns-clause-kept
+returns-clause-kept g c picture event log kept =
+    c.add.ensures.kept picture (undrawn_as c.args.entry picture c.requires.undrawn) event log kept
