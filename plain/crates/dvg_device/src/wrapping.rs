@@ -46,10 +46,7 @@ fn register(generator: &WrappingGenerator<Global>, i: u64) -> Reply {
 }
 
 // Hands `byte` to `generator`, where `None` is a hole. Returns the reply.
-pub(crate) fn fetch_wrapping(
-    generator: &mut WrappingGenerator<Global>,
-    byte: Option<u8>,
-) -> Reply {
+pub(crate) fn fetch_wrapping(generator: &mut WrappingGenerator<Global>, byte: Option<u8>) -> Reply {
     let Some(address) = generator.generator().wants() else {
         return Reply::Came(Entry::Still);
     };
