@@ -1,7 +1,7 @@
 //! Lines are handed to the writer one by one: one that fails at a call got the lines before.
 use crate::plays_mishaps::long_picture;
 use crate::streams::{Failing, Mishap};
-use crate::tasks::{ENTRIES, HALT, INSTRUCTIONS, MOVES, PICTURE, PICTURES, dump};
+use crate::tasks::{ENTRIES, HALT, INSTRUCTIONS, MOVES, PICTURE, PICTURES, moving_dump};
 use crate::traces::FIRST_PICTURE;
 use dvg_mem::MEMORY_BYTES;
 use dvg_tool::{Job, LayForm, LogRule, Watched, perform};
@@ -89,7 +89,7 @@ fn a_failing_writer_got_the_lines_of_a_trace_before(rt: HostRuntime) -> Result<(
 #[test]
 fn a_failing_writer_got_the_lines_of_a_run_before(rt: HostRuntime) -> Result<(), Fail> {
     let alloc = rt.alloc();
-    let dump = dump(alloc, HALT)?;
+    let dump = moving_dump(alloc, HALT)?;
     assert_eq!(rt; lines_written(alloc, PICTURE, dump.as_slice())?, 2);
     assert_eq!(rt; lines_written(alloc, MOVES, dump.as_slice())?, 5);
     assert_eq!(rt; lines_written(alloc, INSTRUCTIONS, dump.as_slice())?, 7);

@@ -2,7 +2,7 @@
 //! and nothing is tried again.
 use crate::answers::answered;
 use crate::streams::{Failing, Mishap};
-use crate::tasks::{NOT_TORN, RETURN, Task, dump, tasks, written};
+use crate::tasks::{NOT_TORN, RETURN, Task, moving_dump, tasks, written};
 use dvg_frame::FrameFault;
 use dvg_mem::MEMORY_BYTES;
 use dvg_tool::{
@@ -111,7 +111,7 @@ fn each_read_fails(alloc: Global, task: Task) -> Result<bool, Fail> {
 #[test]
 fn each_read_fails_in_turn(rt: HostRuntime) -> Result<(), Fail> {
     let rom = vec![in rt.alloc(); 0xD0u8; MEMORY_BYTES]?;
-    let dump = dump(rt.alloc(), RETURN)?;
+    let dump = moving_dump(rt.alloc(), RETURN)?;
     for task in tasks(rom.as_slice(), dump.as_slice()) {
         assert!(rt; each_read_fails(rt.alloc(), task)?);
         assert!(rt; does_well(rt.alloc(), task)?);
@@ -166,7 +166,7 @@ fn each_write_fails(alloc: Global, task: Task) -> Result<bool, Fail> {
 #[test]
 fn each_write_fails_in_turn(rt: HostRuntime) -> Result<(), Fail> {
     let rom = vec![in rt.alloc(); 0xD0u8; MEMORY_BYTES]?;
-    let dump = dump(rt.alloc(), RETURN)?;
+    let dump = moving_dump(rt.alloc(), RETURN)?;
     for task in tasks(rom.as_slice(), dump.as_slice()) {
         assert!(rt; each_write_fails(rt.alloc(), task)?);
     }

@@ -1,6 +1,6 @@
 //! Memory that an engine is refused, and that none asks for once it has begun to write.
 use crate::answers::{Report, answered};
-use crate::tasks::{RETURN, Task, dump, tasks, written};
+use crate::tasks::{RETURN, Task, moving_dump, tasks, written};
 use bumpalo::Bump;
 use dvg_mem::MEMORY_BYTES;
 use dvg_tool::{Job, ToolFault, Watched, perform};
@@ -42,7 +42,7 @@ fn refusals(alloc: Global, task: Task) -> Result<usize, Fail> {
 #[test]
 fn each_growth_is_refused_in_turn(rt: HostRuntime) -> Result<(), Fail> {
     let rom = vec![in rt.alloc(); 0xD0u8; MEMORY_BYTES]?;
-    let dump = dump(rt.alloc(), RETURN)?;
+    let dump = moving_dump(rt.alloc(), RETURN)?;
     for task in tasks(rom.as_slice(), dump.as_slice()) {
         let (least, most) = match task.job {
             Job::List | Job::ListAt { .. } => (0, 64),
@@ -111,7 +111,7 @@ fn asks_before_it_writes(alloc: Global, task: Task) -> bool {
 #[test]
 fn nothing_is_asked_for_after_the_first_write(rt: HostRuntime) -> Result<(), Fail> {
     let rom = vec![in rt.alloc(); 0xD0u8; MEMORY_BYTES]?;
-    let dump = dump(rt.alloc(), RETURN)?;
+    let dump = moving_dump(rt.alloc(), RETURN)?;
     for task in tasks(rom.as_slice(), dump.as_slice()) {
         assert!(rt; asks_before_it_writes(rt.alloc(), task));
     }

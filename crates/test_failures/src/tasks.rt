@@ -126,17 +126,17 @@ const REFUSED_SKETCH: &str = "labs 0 0 0\na: call a\nhalt\n";
 
 /// Returns a dump whose run makes three moves, the last of which is seen, and then comes to the word
 /// of the high byte `last`.
-pub fn dump(alloc: Global, last: u8) -> Result<Vec<u8>, Fail> {
+pub fn moving_dump(alloc: Global, last: u8) -> Result<Vec<u8>, Fail> {
     let mut bytes = Vec::new(alloc);
-    bytes.extend_from_slice(&DUMP)?;
-    while bytes.len() < 2 * MEMORY_BYTES {
+    bytes.extend_from_slice(DUMP.as_slice())?;
+    for _place in DUMP.len()..2 * MEMORY_BYTES {
         bytes.push(last)?;
     }
     Ok(bytes)
 }
 
 /// Returns the tasks. One reads `rom`, and three read `dump`, whose run breaks.
-pub fn tasks<'a>(rom: &'a [u8], dump: &'a [u8]) -> [Task<'a>; 18] {
+pub fn tasks<'a>(rom: &'a [u8], dump: &'a [u8]) -> [Task<'a>; 19] {
     let task = |job, input, step, answer| Task {
         job,
         input,
