@@ -62,12 +62,24 @@ fn a_closed_device_has_an_answer_to_each_request(rt: HostRuntime) {
     assert_eq!(rt; device.turn(15), 24);
     assert_eq!(rt; device.turn(0x1016), 24);
     assert_eq!(rt; device.turn(0x1116), 254);
-    for code in 23..28 {
+    for code in 23..29 {
         assert_eq!(rt; device.turn(code), 24, "{code}");
     }
-    for code in 28..256 {
+    for code in 31..35 {
         assert_eq!(rt; device.turn(code), 254, "{code}");
     }
+    for code in 36..256 {
+        assert_eq!(rt; device.turn(code), 254, "{code}");
+    }
+}
+
+#[test]
+fn a_device_that_was_told_no_state_resumes_as_a_new_one(rt: HostRuntime) {
+    let mut device = Device::new(rt.alloc());
+    assert_eq!(rt; device.turn(29), 22);
+    assert_eq!(rt; device.turn(3), 10);
+    assert_eq!(rt; device.turn(30), 22);
+    assert_eq!(rt; device.turn(3), 10);
 }
 
 /// Words 1 and 2 are a display list in one buffer. Both are written between their readings, and

@@ -20,9 +20,9 @@ fn main() {
     world.strobe();
     loop {
         // An error is want of memory, and then nothing has changed.
-        if let Entry::Done(address, _, strokes) = world.fetch().expect("memory") {
+        if let Entry::Done(address, _, ()) = world.fetch().expect("memory") {
             println!("done at {address:03X}");
-            for stroke in &strokes {
+            for stroke in world.picture() {
                 println!("{stroke:?}");
             }
             break;
