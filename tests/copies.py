@@ -69,7 +69,9 @@ def words_of_owner(text, at):
     trait, _, owner = block[0][generics.end() :].rpartition(" for ")
     name = GENERICS.sub("", owner).strip().split("::")[-1]
     parameters = re.findall(r"[<,] *(\w+)", generics[1] or "")
-    return (name, *(it for it in re.findall(r"\b[A-Z]\w*", trait) if it not in parameters))
+    arguments = "".join(GENERICS.findall(owner)) if trait else ""
+    words = re.findall(r"\b[A-Z]\w*", arguments) + re.findall(r"\b[A-Z]\w*", trait)
+    return (name, *(it for it in words if it not in parameters))
 
 
 def body_of(text, head):
