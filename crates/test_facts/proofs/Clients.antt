@@ -182,8 +182,8 @@ play_only (Play all banked) (Some p) x y = ap (λ q. Play q.2 q.3) (sym (same_So
 play_only (PlaySvg banked percent rate) None x y = absurd (cc)
 play_only (PlaySvg banked percent rate) (Some p) x y =
     absurd (true≢false (sym (ap (λ q. q.1) (same_Some _ _ x)) ∙ ap (λ q. q.1) (same_Some _ _ y)))
-play_only (Torn moments) None x y = absurd (cc)
-play_only (Torn moments) (Some p) x y = absurd (begins_so p.0 (codes "torn") (ap (λ q. q.0) (same_Some _ _ x)) (ap (λ q. q.0) (same_Some _ _ y)) (λ (d : 116 ≡ 112). omega arith))
+play_only (Torn rule base) None x y = absurd (cc)
+play_only (Torn rule base) (Some p) x y = absurd (begins_so p.0 (codes "torn") (ap (λ q. q.0) (same_Some _ _ x)) (ap (λ q. q.0) (same_Some _ _ y)) (λ (d : 116 ≡ 112). omega arith))
 play_only (Render percent rate) None x y = absurd (cc)
 play_only (Render percent rate) (Some p) x y = absurd (begins_so p.0 (codes "render") (ap (λ q. q.0) (same_Some _ _ x)) (ap (λ q. q.0) (same_Some _ _ y)) (λ (d : 114 ≡ 112). omega arith))
 play_only RenderCheck None x y = absurd (cc)
