@@ -164,7 +164,7 @@ fn world<'a, S: Store<Alloc = &'a Refusing>>(alloc: &'a Refusing) -> Option<Stri
     world.strobe();
     loop {
         match again(|| world.fetch()) {
-            Ok(done @ Entry::Done(..)) => return told(Ok::<_, ()>(done)),
+            Ok(Entry::Done(..)) => return told(Ok::<_, ()>(world.picture())),
             Ok(_) => {}
             Err(_) => return None,
         }

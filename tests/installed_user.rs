@@ -41,8 +41,8 @@ fn draw() -> Result<std::vec::Vec<Stroke>, Box<dyn Error>> {
 /// What a world's run draws.
 fn drawn_by(world: &mut World<Flat>) -> Result<std::vec::Vec<Stroke>, Box<dyn Error>> {
     loop {
-        if let Entry::Done(_, _, strokes) = world.fetch()? {
-            return Ok(strokes.iter().copied().collect());
+        if let Entry::Done(_, _, ()) = world.fetch()? {
+            return Ok(world.picture().iter().copied().collect());
         }
     }
 }

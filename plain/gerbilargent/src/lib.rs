@@ -27,8 +27,8 @@
 //! while world.tick() != Entry::Acted(Action::Sent) {}
 //! world.strobe();
 //! loop {
-//!     if let Entry::Done(address, _, strokes) = world.fetch().ok()? {
-//!         assert_eq!((address, strokes.len()), (0x205, 1));
+//!     if let Entry::Done(address, _, ()) = world.fetch().ok()? {
+//!         assert_eq!((address, world.picture().len()), (0x205, 1));
 //!         return Some(());
 //!     }
 //! }
