@@ -60,6 +60,13 @@ def attributes_begin(text, head):
     return first
 
 
+def words_of_arguments(owner, parameters):
+    """The words of a type's arguments, or none where these are parameters of its impl."""
+    words = re.findall(r"\(\)|(?<!')\b\w+", "".join(GENERICS.findall(owner)))
+    words = ["unit" if it == "()" else it for it in words]
+    return words if set(words) - set(parameters) else []
+
+
 def words_of_owner(text, at):
     """The type of the impl that this place is in, and the trait's words if it is of a trait."""
     block = list(BLOCK.finditer(text, 0, at))[-1]
@@ -68,9 +75,11 @@ def words_of_owner(text, at):
     generics = re.match(f"impl({GENERICS.pattern})?", block[0])
     trait, _, owner = block[0][generics.end() :].rpartition(" for ")
     name = GENERICS.sub("", owner).strip().split("::")[-1]
-    parameters = re.findall(r"[<,] *(\w+)", generics[1] or "")
+    parameters = re.findall(r"[<,] *(?:const +)?(\w+)", generics[1] or "")
     arguments = "".join(GENERICS.findall(owner)) if trait else ""
     words = re.findall(r"\b[A-Z]\w*", arguments) + re.findall(r"\b[A-Z]\w*", trait)
+    if not trait:
+        name = "+".join((name, *words_of_arguments(owner, parameters)))
     return (name, *(it for it in words if it not in parameters))
 
 
@@ -113,7 +122,7 @@ def functions_of(crate, path, text):
         places = body_of(text, head)
         if places:
             owner = words_of_owner(text, head.start()) if head[1] else ()
-            module = homes.get(owner[0] if owner else "", module_of(path))
+            module = homes.get(owner[0].split("+")[0] if owner else "", module_of(path))
             first = attributes_begin(text, head.start())
             yield Function(head[2], module, owner, first, head.start(), *places)
 
