@@ -10,7 +10,8 @@ use Rattle.dvg_frame.specs.declared.place.Place.{Place}
 use Rattle.dvg_frame.specs.declared.place.Place.TheVariants.{InFrame, InRom}
 use Rattle.dvg_frame.specs.declared.fault.FrameFault.{FrameFault}
 use Rattle.dvg_frame.specs.declared.fault.FrameFault.TheVariants.{RunsOff, OutOfRom, TooDeep, NoCaller}
-use Rattle.dvg_frame.specs.declared.checking.pair.TheConstants.{DEEPEST, ROM_END}
+use Rattle.dvg_frame.specs.declared.checking.pair.TheConstants.{DEEPEST}
+use Rattle.dvg_mem.specs.declared.TheConstants.{ROM_END}
 use Rattle.dvg_frame.specs.declared.checking.pair.Pair.{Pair}
 use Rattle.dvg_frame.specs.declared.checking.way.Way.{Way}
 use Rattle.dvg_frame.specs.declared.checking.way.Way.TheVariants.{Move, Jump, Call, Return, Halt}

@@ -14,7 +14,8 @@ use Rattle.dvg_frame.specs.declared.place.Place.{Place}
 use Rattle.dvg_frame.specs.declared.place.Place.TheVariants.{InFrame, InRom}
 use Rattle.dvg_frame.specs.declared.fault.FrameFault.{FrameFault}
 use Rattle.dvg_frame.specs.declared.fault.FrameFault.TheVariants.{RunsOff, OutOfRom, TooDeep}
-use Rattle.dvg_frame.specs.declared.checking.pair.TheConstants.{DEEPEST, ROM_END}
+use Rattle.dvg_frame.specs.declared.checking.pair.TheConstants.{DEEPEST}
+use Rattle.dvg_mem.specs.declared.TheConstants.{ROM_END}
 use Rattle.dvg_mem.specs.Memory.{first_word, rom_word}
 use Rattle.dvg_mem.proofs.Roms.{behind_ram, none_there}
 use Rattle.dvg_frame.specs.declared.checking.pair.Pair.{Pair}

@@ -3,6 +3,7 @@ ghost use Rattle.std.specs.Prelude.{All, ◌≡◌, ◌+◌, ◌<◌, ◌≤◌,
 ghost use Rattle.std.specs.Prelude.{IfOk, IsOk, IsTrue, OnErr, OnOk, Some, slice_get};
 ghost use Rattle.dvg_frame.specs.Layout.{op_words};
 ghost use Rattle.dvg_frame.specs.Ops.{IsDraft, IsOp};
+ghost use Rattle.dvg_frame.specs.declared.draft.TheConstants.{MAX_OPS};
 ghost use Rattle.dvg_frame.specs.declared.op.OpKind.{OpKind};
 
 use crate::op::{Op, OpKind};
@@ -11,7 +12,7 @@ use std::marker::Model;
 use thiserror::Error;
 
 /// The most operations that a draft holds. One word each is as much as a half of the RAM has.
-pub(crate) const MAX_OPS: usize = 511;
+pub const MAX_OPS: usize = 511;
 
 /// There is no room: a draft has at most 511 operations.
 #[derive(Clone, Copy, Debug, PartialEq, Eq, Error)]
@@ -63,7 +64,7 @@ impl Draft {
     /// Adds `op` at the end, and returns its number. Returns `DraftFull` exactly where there are
     /// 511 operations, and then nothing has changed.
     pub fn push(&mut self, op: Op) -> Result<u16, DraftFull>
-        ensures room { IsOk result ↔ (length self.old < 511) }
+        ensures room { IsOk result ↔ (length self.old < MAX_OPS) }
         ensures number { IfOk result (λ number. number ≡ length self.old) }
         ensures pushed { OnOk result (self.new ≡ self.old ++ op ∷ []) }
         ensures refused { OnErr result (self.new ≡ self.old) }
@@ -79,7 +80,7 @@ impl Draft {
     /// Adds `ops` at the end. Returns `DraftFull` exactly where there would be more than 511
     /// operations, and then nothing has changed.
     pub fn try_extend_from_slice(&mut self, ops: &[Op]) -> Result<(), DraftFull>
-        ensures room { IsOk result ↔ (length self.old + length ops.now ≤ 511) }
+        ensures room { IsOk result ↔ (length self.old + length ops.now ≤ MAX_OPS) }
         ensures pushed { OnOk result (self.new ≡ self.old ++ ops.now) }
         ensures refused { OnErr result (self.new ≡ self.old) }
     {

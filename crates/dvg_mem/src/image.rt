@@ -2,6 +2,7 @@
 ghost use Rattle.std.specs.Prelude.{◌≡◌, ◌≢◌, ◌↔◌, ◌<◌, length, IfOk, IfSome, IsErrOf, Err};
 ghost use Rattle.dvg_mem.specs.Filled.{IsFilled};
 ghost use Rattle.dvg_mem.specs.Memory.{IsImage};
+ghost use Rattle.dvg_mem.specs.declared.TheConstants.{MEMORY_BYTES};
 
 use crate::MEMORY_BYTES;
 use std::alloc::{AllocError, Allocator, Global};
@@ -83,7 +84,7 @@ impl<A: Allocator> Image<A> {
     /// fails.
     pub fn new(alloc: A, bytes: &[u8]) -> Result<Image<A>, MemFault>
         ensures bytes { IfOk result (λ image. image ≡ bytes.now) }
-        ensures size { IsErrOf result MemFault.Size ↔ (length bytes.now ≢ 2048) }
+        ensures size { IsErrOf result MemFault.Size ↔ (length bytes.now ≢ MEMORY_BYTES) }
     {
         if bytes.len() != MEMORY_BYTES {
             return Err(MemFault::Size);
@@ -102,7 +103,7 @@ impl<A: Allocator> Image<A> {
     /// Replaces the bytes with `bytes`, whose length must be 2,048. They go into the memory that
     /// the image has.
     pub fn copy_from(&mut self, bytes: &[u8])
-        requires { length bytes.now ≡ 2048 }
+        requires { length bytes.now ≡ MEMORY_BYTES }
         ensures { self.new ≡ bytes.now }
     {
         self.bytes.copy_from_slice(bytes);

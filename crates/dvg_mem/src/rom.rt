@@ -4,6 +4,7 @@ ghost use Rattle.std.specs.Prelude.{IsErrOf, IsOk, OnErr, OnOk, Some};
 ghost use Rattle.dvg_mem.specs.Areas.{IsInMap};
 ghost use Rattle.dvg_mem.specs.Memory.{IsGrown, IsRom, first_word, rom_word};
 ghost use Rattle.dvg_mem.specs.Grown.{ArePushedBack};
+ghost use Rattle.dvg_mem.specs.declared.TheConstants.{LARGE_ROM_BYTES, MEMORY_BYTES};
 
 use crate::areas::Area;
 use crate::image::MemFault;
@@ -39,7 +40,8 @@ impl<A: Allocator> Rom<A> {
     pub fn new(alloc: A, bytes: &[u8]) -> Result<Rom<A>, MemFault>
         ensures bytes { IfOk result (λ rom. rom ≡ bytes.now) }
         ensures size { IsErrOf result MemFault.Size
-            ↔ ((length bytes.now ≢ 2048) × (length bytes.now ≢ 4096)) }
+            ↔ ((length bytes.now ≢ MEMORY_BYTES)
+                × (length bytes.now ≢ LARGE_ROM_BYTES)) }
     {
         if bytes.len() != MEMORY_BYTES && bytes.len() != LARGE_ROM_BYTES {
             return Err(MemFault::Size);
@@ -60,7 +62,8 @@ impl<A: Allocator> Rom<A> {
     pub fn copy_from(&mut self, alloc: A, bytes: &[u8]) -> Result<(), MemFault>
         ensures bytes { OnOk result (self.new ≡ bytes.now) }
         ensures size { IsErrOf result MemFault.Size
-            ↔ ((length bytes.now ≢ 2048) × (length bytes.now ≢ 4096)) }
+            ↔ ((length bytes.now ≢ MEMORY_BYTES)
+                × (length bytes.now ≢ LARGE_ROM_BYTES)) }
         ensures room { length bytes.now ≡ length self.old → IsOk result }
         ensures refused { OnErr result (self.new ≡ self.old) }
     {
@@ -80,8 +83,8 @@ impl<A: Allocator> Rom<A> {
     /// Returns the word address of the first word: 800 or 400.
     pub fn first(&self) -> u16
         ensures first { result ≡ first_word self.now }
-        ensures size { ((result ≡ 0x800) × (length self.now ≡ 2048))
-            ⊎ ((result ≡ 0x400) × (length self.now ≡ 4096)) }
+        ensures size { ((result ≡ 0x800) × (length self.now ≡ MEMORY_BYTES))
+            ⊎ ((result ≡ 0x400) × (length self.now ≡ LARGE_ROM_BYTES)) }
     {
         if self.bytes.len() == MEMORY_BYTES {
             FIRST_ROM_WORD

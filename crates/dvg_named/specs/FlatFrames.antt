@@ -13,10 +13,11 @@ use Rattle.dvg_rows.specs.RowPlaces.{doings}
 use Rattle.dvg_rows.specs.RowValues.{name_of}
 use Rattle.dvg_named.specs.FirstUnknown.{WantsNone}
 use Rattle.dvg_named.specs.Ungiven.{framed}
+use Rattle.dvg_frame.specs.declared.draft.TheConstants.{MAX_OPS}
 
 -- a draft can hold what the frame does
 abbrev pub HasFewOps : held.FrameRows → Type 0
-HasFewOps frame = length (doings (rows_of frame.rows.now)) ≤ 511
+HasFewOps frame = length (doings (rows_of frame.rows.now)) ≤ MAX_OPS
 
 -- each name that the frame wants is given
 abbrev pub KnowsNames : List Laid → held.FrameRows → Type 0

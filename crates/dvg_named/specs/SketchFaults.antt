@@ -16,6 +16,7 @@ use Rattle.dvg_named.specs.Places.{IsAddress, Laid, laid, laid_end}
 use Rattle.dvg_named.specs.Meanings.{Frame, IsMeant}
 use Rattle.dvg_read.specs.RomTexts.{RomText}
 use Rattle.dvg_read.specs.declared.draft_text.TheConstants.{MOST_TEXT_BYTES}
+use Rattle.dvg_frame.specs.declared.draft.TheConstants.{MAX_OPS}
 
 -- each name is given once: in a frame, in the ROM, and among the names of frames
 pub record GivesOnce (sketch : Spelled) : Type 0 where
@@ -25,7 +26,7 @@ pub record GivesOnce (sketch : Spelled) : Type 0 where
 
 -- a draft can hold what each frame does
 abbrev pub DraftsFit : Spelled → Type 0
-DraftsFit sketch = All (λ frame. length (doings frame.rows) ≤ 511) (frames sketch)
+DraftsFit sketch = All (λ frame. length (doings frame.rows) ≤ MAX_OPS) (frames sketch)
 
 -- the sections of the ROM as they are laid
 abbrev pub laid_of : Spelled → List Laid

@@ -8,6 +8,7 @@ ghost use Rattle.dvg_rows.specs.RowPlaces.{doings};
 ghost use Rattle.dvg_rows.specs.RowValues.{doing_of};
 ghost use Rattle.dvg_named.specs.FirstUnknown.{WantsNone};
 ghost use Rattle.dvg_named.specs.Ungiven.{Drafts, framed};
+ghost use Rattle.dvg_frame.specs.declared.draft.TheConstants.{MAX_OPS};
 
 use crate::laid::{LaidNames, address_of};
 use dvg_frame::{Draft, Op, OpKind};
@@ -22,7 +23,7 @@ pub(crate) fn draft_of<A: Allocator + Copy>(
     rows: &NamedRows<'_, '_, A>,
     rom: &LaidNames<'_, '_, '_, A>,
 ) -> Option<Draft>
-    requires few { length (doings (rows_of rows.now)) ≤ 511 }
+    requires few { length (doings (rows_of rows.now)) ≤ MAX_OPS }
     requires low { AreLow (laid_sections rom.now) }
     ensures draft { IfSome result (Drafts rom.now rows.now) }
     ensures unknown { IfNone result
@@ -47,7 +48,7 @@ fn op_of<A: Allocator + Copy>(
     rom: &LaidNames<'_, '_, '_, A>,
     doing: &Doing,
 ) -> Option<Op>
-    requires few { length (doings (rows_of rows.now)) ≤ 511 }
+    requires few { length (doings (rows_of rows.now)) ≤ MAX_OPS }
     requires low { AreLow (laid_sections rom.now) }
     ensures drafted { let laid = laid_sections rom.now in
         IfSome result (IsDrafted laid (rows_of rows.now) (doing_of doing.now)) }

@@ -4,6 +4,7 @@ ghost use Rattle.dvg_named.specs.FlatDrafts.{PushesDraft, StopsDraft};
 ghost use Rattle.dvg_rows.specs.HeldRows.{rows_of};
 ghost use Rattle.dvg_named.specs.LaidValues.{AreLow, laid_sections};
 ghost use Rattle.dvg_rows.specs.RowPlaces.{doings};
+ghost use Rattle.dvg_frame.specs.declared.draft.TheConstants.{MAX_OPS};
 
 use crate::drafting::draft_of;
 use crate::laid::LaidNames;
@@ -28,7 +29,7 @@ pub(crate) fn push_draft<A: Allocator + Copy>(
     rows: &[Row],
     rom: &LaidNames<'_, '_, '_, A>,
 ) -> Result<(), DraftFault>
-    requires few { length (doings (rows_of rows.now)) ≤ 511 }
+    requires few { length (doings (rows_of rows.now)) ≤ MAX_OPS }
     requires low { AreLow (laid_sections rom.now) }
     ensures pushed { OnOk result (PushesDraft rom.now rows.now ops.old.items ops.new.items) }
     ensures kept { OnErr result (ops.new.items ≡ ops.old.items) }

@@ -9,7 +9,7 @@ ghost use Rattle.dvg_named.specs.StatedRoms.{HoldsStated, TellsStated};
 
 use crate::laid::free_with;
 use arrayvec::ArrayVec;
-use dvg_mem::{FIRST_LARGE_ROM_WORD, FIRST_ROM_WORD, LARGE_ROM_BYTES, LAST_ROM_WORD};
+use dvg_mem::{FIRST_LARGE_ROM_WORD, FIRST_ROM_WORD, LARGE_ROM_BYTES, ROM_END};
 use dvg_read::{read_rom_parts, ungiven_rom};
 
 /// The ROM that the lines describe which were read so far.
@@ -83,7 +83,7 @@ impl StatedRom {
     pub fn first(&self) -> u16
         ensures { result + length self.now.bytes.items / 2 ≡ 0xC00 }
     {
-        LAST_ROM_WORD + 1 - (self.bytes.as_slice().len() / 2) as u16
+        ROM_END - (self.bytes.as_slice().len() / 2) as u16
     }
 }
 

@@ -9,6 +9,7 @@ use Rattle.dvg_read.specs.FirstFaults.{IsShort, Reaches}
 use Rattle.dvg_read.specs.OpLines.{IsOpLine}
 use Rattle.dvg_read.specs.RomTexts.{RomText, SpellsRom}
 use Rattle.dvg_read.specs.declared.draft_text.TheConstants.{MOST_TEXT_BYTES}
+use Rattle.dvg_frame.specs.declared.draft.TheConstants.{MAX_OPS}
 
 -- lines that describe the ROM, and then lines of operations
 pub record SpellsDraft (rom : RomText) (ops : List OpKind) (ls : List (List ℕ)) : Type 0 where
@@ -22,14 +23,14 @@ pub record SpellsDraft (rom : RomText) (ops : List OpKind) (ls : List (List ℕ)
 pub record Denotes (text : List ℕ) (rom : RomText) (ops : List OpKind) : Type 0 where
   pub short : IsShort text
   pub spelled : SpellsDraft rom ops (unpassed (lines text))
-  pub count : length ops ≤ 511
+  pub count : length ops ≤ MAX_OPS
 
 -- lines that spell a ROM and no more operations than a draft holds
 pub record IsFineDraft (ls : List (List ℕ)) : Type 0 where
   pub rom : RomText
   pub ops : List OpKind
   pub spelled : SpellsDraft rom ops ls
-  pub count : length ops ≤ 511
+  pub count : length ops ≤ MAX_OPS
 
 -- line n is the first with which the lines spell nothing
 pub record DraftMeetsSyntax (text : List ℕ) (n : ℕ) : Type 0 where
@@ -46,7 +47,7 @@ pub record DraftMeetsFull (text : List ℕ) (n : ℕ) : Type 0 where
   pub rom : RomText
   pub ops : List OpKind
   pub right : SpellsDraft rom ops (unpassed before ++ line ∷ [])
-  pub over : 511 < length ops
+  pub over : MAX_OPS < length ops
 
 -- the fault of a draft's text
 abbrev pub HasDraftFault : List ℕ → TextFault → Type 0

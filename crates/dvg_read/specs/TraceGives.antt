@@ -19,6 +19,7 @@ use Rattle.dvg_read.specs.TextLines.{AddsOps}
 use Rattle.dvg_read.specs.Texts.{lines, unpassed}
 use Rattle.dvg_read.specs.TraceTexts.{DenotesTrace, FitsTrace, HasTraceFault, IsFineTrace, SpellsTrace}
 use Rattle.dvg_log.specs.declared.trace.TheConstants.{MOST_EVENTS}
+use Rattle.dvg_frame.specs.declared.draft.TheConstants.{MAX_OPS}
 
 -- the text denotes these events and a ROM of these bytes
 pub record GivesTrace (text : List ℕ) (events : List Happening) (R : List ℕ) : Type 0 where
@@ -115,7 +116,7 @@ pub record ReadsText {A : Type 0} (text : List ℕ) (reading : Reading A) : Type
 abbrev pub StopsLine : LineFault → List Happening → Option (List OpKind) → RomReading → List ℕ → Type 0
 StopsLine line_fault.Syntax old opened held line = (rom now : RomText) (new : List Happening)
     (left : Option (List OpKind)) → HoldsRom rom held → ¬ Takes rom old opened line now new left
-StopsLine line_fault.Full old opened held line = (F : List OpKind) × (511 < length F)
+StopsLine line_fault.Full old opened held line = (F : List OpKind) × (MAX_OPS < length F)
     × ((rom : RomText) → Takes rom old opened line rom old (Some F))
 StopsLine line_fault.Many old opened held line = (new : List Happening) × (MOST_EVENTS < length new)
     × ((rom : RomText) → Takes rom old opened line rom new None)
@@ -127,7 +128,7 @@ StopsLine _ old opened held line = ⊥
 -- why one more operation isn't read
 abbrev pub StopsOperation : LineFault → List OpKind → List ℕ → Type 0
 StopsOperation line_fault.Syntax F line = (op : OpKind) → ¬ IsOpLine op line
-StopsOperation line_fault.Full F line = (op : OpKind) × (511 ≤ length F) × IsOpLine op line
+StopsOperation line_fault.Full F line = (op : OpKind) × (MAX_OPS ≤ length F) × IsOpLine op line
 StopsOperation _ F line = ⊥
 
 -- why these further events aren't held

@@ -14,6 +14,7 @@ use Rattle.dvg_read.specs.RomTexts.{RomText, SpellsRom}
 use Rattle.dvg_read.specs.FirstFaults.{IsShort, Reaches}
 use Rattle.dvg_read.specs.declared.draft_text.TheConstants.{MOST_TEXT_BYTES}
 use Rattle.dvg_log.specs.declared.trace.TheConstants.{MOST_EVENTS}
+use Rattle.dvg_frame.specs.declared.draft.TheConstants.{MAX_OPS}
 
 -- a name alone, or a name and a count
 pub data Counts (name : List ℕ) : ℕ → List (List ℕ) → Type 0 where
@@ -58,14 +59,14 @@ pub record SpellsTrace (rom : RomText) (events : List Happening) (opened : Optio
 
 -- what an offer brings can be held by a draft
 abbrev pub FitsDraft : Happening → Type 0
-FitsDraft (Offer F) = length F ≤ 511
+FitsDraft (Offer F) = length F ≤ MAX_OPS
 FitsDraft event = Unit {0}
 
 -- at most 65,536 events, with drafts of at most 511 operations
 pub record FitsTrace (events : List Happening) (opened : Option (List OpKind)) : Type 0 where
   pub count : length events ≤ MOST_EVENTS
   pub drafts : All FitsDraft events
-  pub last : IfSome opened (λ F. length F ≤ 511)
+  pub last : IfSome opened (λ F. length F ≤ MAX_OPS)
 
 -- the text denotes this ROM and these events: what those of its lines spell that aren't passed over
 pub record DenotesTrace (text : List ℕ) (rom : RomText) (events : List Happening) : Type 0 where
@@ -98,7 +99,7 @@ pub record TraceMeetsFull (text : List ℕ) (n : ℕ) : Type 0 where
   pub events : List Happening
   pub F : List OpKind
   pub right : SpellsTrace rom events (Some F) (unpassed before ++ line ∷ [])
-  pub over : 511 < length F
+  pub over : MAX_OPS < length F
 
 -- line n brings the number of events above 65,536
 pub record MeetsMany (text : List ℕ) (n : ℕ) : Type 0 where

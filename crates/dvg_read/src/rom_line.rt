@@ -10,7 +10,7 @@ ghost use Rattle.dvg_read.specs.Texts.{parts};
 use crate::line_parts::parts_of;
 use crate::number::hex;
 use arrayvec::ArrayVec;
-use dvg_mem::LAST_ROM_WORD;
+use dvg_mem::ROM_END;
 use std::marker::Model;
 
 /// The most words that a line gives.
@@ -65,7 +65,7 @@ pub fn read_rom_parts(first: u16, cut: &[&[u8]]) -> Option<RomWords>
     if words.is_empty() || address < first {
         return None;
     }
-    if usize::from(address) + words.len() > usize::from(LAST_ROM_WORD) + 1 {
+    if usize::from(address) + words.len() > usize::from(ROM_END) {
         return None;
     }
     Some(RomWords { address, words })

@@ -2,6 +2,7 @@
 ghost use Rattle.std.specs.Prelude.{◌≡◌};
 ghost use Rattle.dvg_read.specs.Texts.{is_passed};
 ghost use Rattle.memchr.specs.Find.{IsFirstByte, is_byte};
+ghost use Rattle.dvg_frame.specs.declared.draft.TheConstants.{MAX_OPS};
 
 use crate::event_head::{HEAD, after_name, letters_at_head, reset_at_head};
 use crate::event_line::SpelledEvent;
@@ -95,10 +96,10 @@ impl<'a> TextLines<'a> {
     /// to `draft` as long as it has room. Returns how many lines it took.
     #[inline(always)]
     pub(crate) fn take_ops(&mut self, draft: &mut Draft) -> u16
-        requires few { length draft.old ≤ 511 }
+        requires few { length draft.old ≤ MAX_OPS }
         ensures taken { AddsOps (lines_left self.old) draft.old result (lines_left self.new)
             draft.new }
-        ensures few { length draft.new ≤ 511 }
+        ensures few { length draft.new ≤ MAX_OPS }
     {
         let mut rest = self.rest;
         let mut count = 0;

@@ -12,6 +12,7 @@ ghost use Rattle.dvg_read.specs.TraceGives.{StopsEvents, WantsMemory};
 ghost use Rattle.dvg_read.specs.TraceGives.{StopsLine, StopsOperation, StopsReading, events_read};
 ghost use Rattle.dvg_read.specs.TraceGives.{opened_of};
 ghost use Rattle.dvg_log.specs.declared.trace.TheConstants.{MOST_EVENTS};
+ghost use Rattle.dvg_frame.specs.declared.draft.TheConstants.{MAX_OPS};
 
 use crate::draft_text::MOST_TEXT_BYTES;
 use crate::event_line::{EventLine, read_event_line};
@@ -201,7 +202,7 @@ fn is_offer(line: &[u8]) -> bool
 pub(crate) fn add_op(draft: &mut Draft, line: &[u8]) -> Result<(), LineFault>
     ensures added { OnOk result ((op : OpKind) × IsOpLine op line.now
         × (draft.new ≡ draft.old ++ op ∷ [])) }
-    ensures room { OnOk result (length draft.old < 511) }
+    ensures room { OnOk result (length draft.old < MAX_OPS) }
     ensures fault { IfErr result (λ fault. StopsOperation fault draft.old line.now) }
 {
     let Some(op) = read_op(line) else {
@@ -214,7 +215,7 @@ pub(crate) fn add_op(draft: &mut Draft, line: &[u8]) -> Result<(), LineFault>
 #[inline(always)]
 fn push_op(draft: &mut Draft, op: Op) -> Result<(), LineFault>
     ensures added { OnOk result (draft.new ≡ draft.old ++ op ∷ []) }
-    ensures room { OnOk result (length draft.old < 511) }
+    ensures room { OnOk result (length draft.old < MAX_OPS) }
     ensures fault { (line : List ℕ) → IsOpLine op line
         → IfErr result (λ fault. StopsOperation fault draft.old line) }
 {

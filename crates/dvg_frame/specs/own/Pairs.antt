@@ -1,7 +1,8 @@
 -- Pairs of a place and a depth, counted in the order of the faults. Only the check's own functions cite this.
 use Rattle.std.specs.Prelude.{ℕ, ◌+◌, ◌-◌, ◌*◌, ◌/◌, ◌%◌, ◌<◌, ◌≤◌, if◌then◌else◌, nat_lt}
 use Rattle.dvg_frame.specs.declared.draft.TheConstants.{MAX_OPS}
-use Rattle.dvg_frame.specs.declared.checking.pair.TheConstants.{DEEPEST, ROM_FIRST, ROM_END}
+use Rattle.dvg_frame.specs.declared.checking.pair.TheConstants.{DEEPEST, ROM_FIRST}
+use Rattle.dvg_mem.specs.declared.TheConstants.{ROM_END}
 use Rattle.dvg_frame.specs.declared.place.Place.{Place}
 use Rattle.dvg_frame.specs.declared.place.Place.TheVariants.{InFrame, InRom}
 use Rattle.dvg_frame.specs.declared.checking.pair.Pair.{Pair}

@@ -11,7 +11,8 @@ use Rattle.dvg_frame.specs.declared.fault.FrameFault.{FrameFault}
 use Rattle.dvg_frame.specs.declared.fault.FrameFault.TheVariants.{Empty, NoLabs, TooLong, Target, RunsOff, OutOfRom}
 use Rattle.dvg_frame.specs.declared.fault.FrameFault.TheVariants.{TooDeep, NoCaller, Loops}
 use Rattle.dvg_frame.specs.declared.checking.pair.Pair.{Pair}
-use Rattle.dvg_frame.specs.declared.checking.pair.TheConstants.{DEEPEST, ROM_END}
+use Rattle.dvg_frame.specs.declared.checking.pair.TheConstants.{DEEPEST}
+use Rattle.dvg_mem.specs.declared.TheConstants.{ROM_END}
 use Rattle.dvg_frame.specs.declared.checking.way.Way.{Way}
 use Rattle.dvg_frame.specs.declared.checking.way.Way.TheVariants.{Move, Jump, Call, Return, Halt}
 use Rattle.dvg_frame.specs.declared.checking.way.Span.{Span}

@@ -8,11 +8,10 @@ ghost use Rattle.dvg_frame.specs.declared.checking.way.Way.{Way};
 ghost use Rattle.dvg_frame.specs.declared.op.OpKind.{OpKind};
 ghost use Rattle.dvg_frame.specs.declared.place.Place.{Place};
 
-use crate::checking::pair::ROM_END;
 use crate::draft::words_of;
 use crate::op::{Op, OpKind};
 use crate::place::Place;
-use dvg_mem::Rom;
+use dvg_mem::{ROM_END, Rom};
 use std::alloc::Allocator;
 
 /// Where the instruction at a place leads on: its successors.
