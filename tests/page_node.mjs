@@ -1,9 +1,9 @@
 // What can be tested of the page without a browser: dvg.wasm, and the modules of page/src. Called
 // by tests/page, with the program's name and what to test:
 //
-//     node tests/page_node.mjs DVG FOLDER SEEDS EVENTS
+//     node tests/page_node.mjs DVG FOLDER SEEDS EVENTS [first]
 //
-// FOLDER is for what is thrown away.
+// FOLDER is for what is thrown away. With `first` the tests end at the first failure.
 //
 // The last line is 'N passed, M failed'.
 import { spawnSync } from 'node:child_process';
@@ -28,7 +28,8 @@ import { Twin, bytesOfTable, linesOfListing } from '../page/src/twin.mjs';
 import { LESSONS, stateOfLesson } from '../page/src/lessons.mjs';
 
 const [program, work] = process.argv.slice(2, 4),
-  [seeds, events] = process.argv.slice(4).map(Number);
+  [seeds, events] = process.argv.slice(4, 6).map(Number),
+  endsAtFirst = process.argv[6] === 'first';
 const top = new URL('..', import.meta.url).pathname;
 const engine = await Engine.of(readFileSync(`${top}page/dvg.wasm`));
 let passed = 0, failed = 0;
@@ -41,7 +42,13 @@ function expect(what, wanted, found) {
     const near = (text) => JSON.stringify(text.slice(Math.max(0, at - 40), at + 60));
     const [left, right] = [near(String(wanted)), near(String(found))];
     console.log(`FAILED: ${what}\n  wanted ${left}\n  found  ${right}`);
+    if (endsAtFirst) end();
   }
+}
+
+function end() {
+  console.log(`${passed} passed, ${failed} failed`);
+  process.exit(failed === 0 ? 0 : 1);
 }
 
 // --- The commands, on tests/cases ---
@@ -732,8 +739,6 @@ function testTwin() {
   }
 }
 
-testCases();
-testSketchCases();
 testProcessor();
 testTwin();
 testSchedules();
@@ -755,5 +760,7 @@ testBuses();
 testSketches();
 testTears();
 testLessons();
-console.log(`${passed} passed, ${failed} failed`);
-process.exit(failed === 0 ? 0 : 1);
+// These two take longer than all others.
+testCases();
+testSketchCases();
+end();
