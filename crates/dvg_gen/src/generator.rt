@@ -16,8 +16,10 @@ ghost use Rattle.dvg_gen.specs.Obeyed.{IsLabs, Obeyed};
 ghost use Rattle.dvg_gen.specs.Run as spec;
 ghost use Rattle.dvg_gen.specs.Saved.{IsReturns, IsState, machine_of};
 ghost use Rattle.dvg_gen.specs.Told.{Told, Start, Reset, wants};
+ghost use Rattle.dvg_gen.specs.declared.TheConstants.{STACK_DEPTH};
 ghost use Rattle.dvg_gen.specs.declared.stroke.Stroke.{Stroke};
 
+use crate::STACK_DEPTH;
 use crate::beam::Beam;
 use crate::moving::Move;
 use crate::state::GeneratorState;
@@ -47,7 +49,7 @@ pub struct Generator<A: Allocator> {
     held: Option<u16>,
     // The low byte of the next word, where `has_low`.
     low: u8,
-    stack: ArrayVec<u16, 4>,
+    stack: ArrayVec<u16, STACK_DEPTH>,
     beam: Beam,
     strokes: Vec<Stroke, A>,
     // The strokes of the newest run that came to a HALT, until they are taken. At a HALT the two
@@ -192,7 +194,7 @@ impl<A: Allocator + Copy> Generator<A> {
     /// one.
     pub fn return_addresses(&self) -> &[u16]
         ensures value { reverse result.now ≡ self.now.stack }
-        ensures fits { length result.now ≤ 4 }
+        ensures fits { length result.now ≤ STACK_DEPTH }
         ensures run { (history : List Told) (low : Option ℕ)
             (after : HasTaken self.now history low) → after.run.is_open ≡ true
             → IsReturns (reverse result.now) after.run.visits }
@@ -523,7 +525,7 @@ fn after(address: u16) -> u16
 }
 
 // Returns a copy of `addresses`.
-fn copied(addresses: &ArrayVec<u16, 4>) -> ArrayVec<u16, 4>
+fn copied(addresses: &ArrayVec<u16, STACK_DEPTH>) -> ArrayVec<u16, STACK_DEPTH>
     ensures { result.items ≡ addresses.now.items }
 {
     let mut copies = ArrayVec::new();

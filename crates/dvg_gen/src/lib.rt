@@ -27,3 +27,6 @@ pub use state::GeneratorState;
 pub use stroke::Stroke;
 pub use taken::{GenFault, Step, Taken};
 pub use wrapping::WrappingGenerator;
+
+/// The most return addresses that are kept: Atari's stack has four registers.
+pub const STACK_DEPTH: usize = 4;

@@ -8,6 +8,7 @@ ghost use Rattle.dvg_gen.specs.Run.{on};
 ghost use Rattle.dvg_gen.specs.Told.{Told, Start, Reset};
 ghost use Rattle.dvg_gen.specs.Wrapping.{AnswersWrapped, HasWrapped, jump_of, turn_of, turned};
 
+use crate::STACK_DEPTH;
 use crate::generator::Generator;
 use crate::stroke::Stroke;
 use crate::taken::Step;
@@ -27,7 +28,7 @@ use std::marker::Model;
 pub struct WrappingGenerator<A: Allocator> {
     generator: Generator<A>,
     // The newest first.
-    registers: [u16; 4],
+    registers: [u16; STACK_DEPTH],
 }
 
 /// Contracts see a `Wrapped`.
@@ -53,7 +54,7 @@ impl<A: Allocator + Copy> WrappingGenerator<A> {
     {
         WrappingGenerator {
             generator: Generator::new(alloc),
-            registers: [0; 4],
+            registers: [0; STACK_DEPTH],
         }
     }
 
@@ -86,7 +87,7 @@ impl<A: Allocator + Copy> WrappingGenerator<A> {
     }
 
     /// Returns the registers, the newest return address first.
-    pub fn registers(&self) -> &[u16; 4]
+    pub fn registers(&self) -> &[u16; STACK_DEPTH]
         ensures { result.now ≡ self.now.registers }
     {
         &self.registers

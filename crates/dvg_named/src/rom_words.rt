@@ -23,6 +23,7 @@ ghost use Rattle.dvg_named.specs.Ungiven.{WantsInRom, in_rom};
 use crate::laid::{LaidNames, LaidRows, address_of};
 use dvg_code::{Code, Instr, encode};
 use dvg_frame::OpKind;
+use dvg_mem::ROM_END;
 use dvg_rows::Doing;
 use std::alloc::Allocator;
 

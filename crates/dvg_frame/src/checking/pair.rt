@@ -4,10 +4,11 @@ ghost use Rattle.dvg_frame.specs.own.Pairs.{IsPair, index, pair_at};
 
 use crate::draft::MAX_OPS;
 use crate::place::Place;
+use dvg_gen::STACK_DEPTH;
 use dvg_mem::{FIRST_LARGE_ROM_WORD, ROM_END};
 
 /// The most calls that are open at once: the generator's return stack holds four addresses.
-pub(crate) const DEEPEST: u8 = 4;
+pub(crate) const DEEPEST: u8 = STACK_DEPTH as u8;
 
 /// The word address of the first word that a ROM can have.
 pub(crate) const ROM_FIRST: u16 = FIRST_LARGE_ROM_WORD;
