@@ -1,6 +1,6 @@
 //! A generator whose stack wraps.
 ghost use Rattle.std.specs.Prelude.{◌≡◌, ◌+◌, ◌<◌, ◌≤◌, ℕ, List, [], ◌∷◌, Option, None, Some};
-ghost use Rattle.std.specs.Prelude.{IsOk, IfOk, OnErr, true};
+ghost use Rattle.std.specs.Prelude.{IsOk, IfOk, OnErr, true, false};
 ghost use Rattle.dvg_gen.specs.Bytes.{met};
 ghost use Rattle.dvg_gen.specs.Completing.{DrawsNothing};
 ghost use Rattle.dvg_gen.specs.Machine.{answer_by, picture_after};
@@ -58,20 +58,25 @@ impl<A: Allocator + Copy> WrappingGenerator<A> {
         }
     }
 
-    /// Begins a run at word zero, as `Generator::start` does. The registers stay.
+    /// Begins a run at word zero, as `Generator::start` does. The registers stay, and so does the
+    /// picture.
     pub fn start(&mut self)
         ensures stands { (history : List Told) (low : Option ℕ) → HasWrapped self.old history low
             → HasWrapped self.new (Start ∷ history) None }
         ensures registers { self.new.registers ≡ self.old.registers }
+        ensures machine { self.new.machine ≡ record self.old.machine
+            { at = 0; held = None; low = None; stack = []; strokes = []; is_open = true } }
     {
         self.generator.start();
     }
 
-    /// Halts the generator, as `Generator::reset` does. The registers stay.
+    /// Halts the generator, as `Generator::reset` does. The registers stay, and so does the picture.
     pub fn reset(&mut self)
         ensures stands { (history : List Told) (low : Option ℕ) → HasWrapped self.old history low
             → HasWrapped self.new (Reset ∷ history) None }
         ensures registers { self.new.registers ≡ self.old.registers }
+        ensures machine { self.new.machine ≡ record self.old.machine
+            { low = None; strokes = []; is_open = false } }
     {
         self.generator.reset();
     }
@@ -100,6 +105,7 @@ impl<A: Allocator + Copy> WrappingGenerator<A> {
         ensures stands { (history : List Told) (low : Option ℕ) → HasWrapped self.old history low
             → HasWrapped self.new history low }
         ensures registers { self.new.registers ≡ self.old.registers }
+        ensures machine { self.new.machine ≡ record self.old.machine { picture = [] } }
     {
         self.generator.take_picture()
     }

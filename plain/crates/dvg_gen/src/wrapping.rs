@@ -31,12 +31,13 @@ impl<A: Allocator + Copy> WrappingGenerator<A> {
         }
     }
 
-    /// Begins a run at word zero, as `Generator::start` does. The registers stay.
+    /// Begins a run at word zero, as `Generator::start` does. The registers stay, and so does the
+    /// picture.
     pub fn start(&mut self) {
         self.generator.start();
     }
 
-    /// Halts the generator, as `Generator::reset` does. The registers stay.
+    /// Halts the generator, as `Generator::reset` does. The registers stay, and so does the picture.
     pub fn reset(&mut self) {
         self.generator.reset();
     }
