@@ -41,7 +41,7 @@ impl<A: Allocator> Rom<A> {
         ensures bytes { IfOk result (λ rom. rom ≡ bytes.now) }
         ensures size { IsErrOf result MemFault.Size
             ↔ ((length bytes.now ≢ MEMORY_BYTES)
-                × (length bytes.now ≢ LARGE_ROM_BYTES)) }
+            × (length bytes.now ≢ LARGE_ROM_BYTES)) }
     {
         if bytes.len() != MEMORY_BYTES && bytes.len() != LARGE_ROM_BYTES {
             return Err(MemFault::Size);
@@ -63,7 +63,7 @@ impl<A: Allocator> Rom<A> {
         ensures bytes { OnOk result (self.new ≡ bytes.now) }
         ensures size { IsErrOf result MemFault.Size
             ↔ ((length bytes.now ≢ MEMORY_BYTES)
-                × (length bytes.now ≢ LARGE_ROM_BYTES)) }
+            × (length bytes.now ≢ LARGE_ROM_BYTES)) }
         ensures room { length bytes.now ≡ length self.old → IsOk result }
         ensures refused { OnErr result (self.new ≡ self.old) }
     {
