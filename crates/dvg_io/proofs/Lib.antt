@@ -1,6 +1,6 @@
 pub mod Known
 pub mod Inputs
 pub mod Went
-pub mod StrokeLines
 pub mod Unfound
 pub mod Served
+pub mod StrokeLines

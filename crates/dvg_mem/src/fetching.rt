@@ -36,7 +36,13 @@ pub fn fetch<S: Store, A: Allocator>(store: &S, rom: &Rom<A>, w: u16) -> Option<
     ensures word { result ≡ fetched (S.content store.now) rom.now w }
     ensures hole { IsNone result ↔ IsInMap (first_word rom.now) Area.Hole w }
 {
-    let low = fetch_byte(store, rom, w, false)?;
-    let high = fetch_byte(store, rom, w, true)?;
-    Some(u16::from_le_bytes([low, high]))
+    match rom.area(w) {
+        Area::Zero | Area::Frame(_) | Area::Unused => {
+            let low = store.read(2 * w);
+            let high = store.read(2 * w + 1);
+            Some(u16::from_le_bytes([low, high]))
+        }
+        Area::Rom => Some(rom.word(w)),
+        Area::Hole => None,
+    }
 }

@@ -5,9 +5,8 @@ ghost use Rattle.dvg_print.specs.Lines.{spaced};
 ghost use Rattle.dvg_print.specs.Numbering.{CountsUp};
 ghost use Rattle.dvg_print.specs.Shows.{position_text};
 
-/// The bytes in which lines are made from the end of the last one to the front of the first one.
-/// They are cleared for each picture, so they are few.
-pub(crate) const BLOCK_BYTES: usize = 1024;
+/// The bytes in which a line is made from its end to its front. The longest one has 69.
+pub(crate) const BLOCK_BYTES: usize = 96;
 
 /// The bytes in which a number is counted up. No number of 64 bits has more digits.
 pub(crate) const NUMBER_BYTES: usize = 24;
@@ -22,7 +21,7 @@ static PAIRS: [u8; 200] = *b"0001020304050607080910111213141516171819\
 fn put_pair(bytes: &mut [u8; BLOCK_BYTES], end: usize, pair: u32)
     requires pair { pair < 100 }
     requires room { 2 ≤ end }
-    requires inside { end ≤ 1024 }
+    requires inside { end ≤ 96 }
     ensures { drop (end - 2) bytes.new
         ≡ (48 + pair / 10) ∷ (48 + pair % 10) ∷ drop end bytes.old }
 {
@@ -37,7 +36,7 @@ fn put_pair(bytes: &mut [u8; BLOCK_BYTES], end: usize, pair: u32)
 fn put_first(bytes: &mut [u8; BLOCK_BYTES], end: usize, number: u32) -> usize
     requires number { number < 100 }
     requires room { length (decimal number) ≤ end }
-    requires inside { end ≤ 1024 }
+    requires inside { end ≤ 96 }
     ensures start { result + length (decimal number) ≡ end }
     ensures text { drop result bytes.new ≡ decimal number ++ drop end bytes.old }
 {
@@ -53,7 +52,7 @@ fn put_first(bytes: &mut [u8; BLOCK_BYTES], end: usize, number: u32) -> usize
 #[inline(always)]
 fn put_number(bytes: &mut [u8; BLOCK_BYTES], end: usize, number: u32) -> usize
     requires room { 10 ≤ end }
-    requires inside { end ≤ 1024 }
+    requires inside { end ≤ 96 }
     ensures start { result + length (decimal number) ≡ end }
     ensures few { end ≤ result + 10 }
     ensures text { drop result bytes.new ≡ decimal number ++ drop end bytes.old }
@@ -92,7 +91,7 @@ fn small_count(number: u32) -> usize
 pub(crate) fn put_small(bytes: &mut [u8; BLOCK_BYTES], end: usize, number: u32) -> usize
     requires number { number < 10000 }
     requires room { 4 ≤ end }
-    requires inside { end ≤ 1024 }
+    requires inside { end ≤ 96 }
     ensures start { result + length (decimal number) ≡ end }
     ensures few { end ≤ result + 4 }
     ensures text { drop result bytes.new ≡ decimal number ++ drop end bytes.old }
@@ -108,7 +107,7 @@ pub(crate) fn put_small(bytes: &mut [u8; BLOCK_BYTES], end: usize, number: u32) 
 pub(crate) fn put_tiny(bytes: &mut [u8; BLOCK_BYTES], end: usize, number: u32) -> usize
     requires number { number < 100 }
     requires room { 2 ≤ end }
-    requires inside { end ≤ 1024 }
+    requires inside { end ≤ 96 }
     ensures start { result + length (decimal number) ≡ end }
     ensures few { end ≤ result + 2 }
     ensures text { drop result bytes.new ≡ decimal number ++ drop end bytes.old }
@@ -121,7 +120,7 @@ pub(crate) fn put_tiny(bytes: &mut [u8; BLOCK_BYTES], end: usize, number: u32) -
 #[inline(always)]
 pub(crate) fn put_byte(bytes: &mut [u8; BLOCK_BYTES], end: usize, byte: u8) -> usize
     requires room { 1 ≤ end }
-    requires inside { end ≤ 1024 }
+    requires inside { end ≤ 96 }
     ensures start { result + 1 ≡ end }
     ensures text { drop result bytes.new ≡ byte ∷ drop end bytes.old }
 {
@@ -133,7 +132,7 @@ pub(crate) fn put_byte(bytes: &mut [u8; BLOCK_BYTES], end: usize, byte: u8) -> u
 #[inline(always)]
 pub(crate) fn put_part(bytes: &mut [u8; BLOCK_BYTES], end: usize, number: u32) -> usize
     requires room { 11 ≤ end }
-    requires inside { end ≤ 1024 }
+    requires inside { end ≤ 96 }
     ensures start { result + length (spaced (decimal number ∷ [])) ≡ end }
     ensures few { end ≤ result + 11 }
     ensures text { drop result bytes.new ≡ spaced (decimal number ∷ []) ++ drop end bytes.old }
@@ -145,7 +144,7 @@ pub(crate) fn put_part(bytes: &mut [u8; BLOCK_BYTES], end: usize, number: u32) -
 // Puts the position `x y` before `end`. Returns where it begins.
 pub(crate) fn put_position(bytes: &mut [u8; BLOCK_BYTES], end: usize, x: u32, y: u32) -> usize
     requires room { 21 ≤ end }
-    requires inside { end ≤ 1024 }
+    requires inside { end ≤ 96 }
     ensures start { result + length (position_text x y) ≡ end }
     ensures few { end ≤ result + 21 }
     ensures text { drop result bytes.new ≡ position_text x y ++ drop end bytes.old }

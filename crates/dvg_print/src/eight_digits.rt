@@ -116,7 +116,7 @@ pub(crate) fn digits_of(number: u32) -> Digits
 #[inline(always)]
 pub(crate) fn put_digits(bytes: &mut [u8; BLOCK_BYTES], end: usize, digits: &Digits) -> usize
     requires room { 8 ≤ end }
-    requires inside { end ≤ 1024 }
+    requires inside { end ≤ 96 }
     ensures start { result + length (decimal digits.now.number) ≡ end }
     ensures few { end ≤ result + 8 }
     ensures text { drop result bytes.new ≡ decimal digits.now.number ++ drop end bytes.old }

@@ -31,14 +31,14 @@ impl Model for InstrLine {
 
     ghost view = { λ instr_line. drop instr_line.start instr_line.bytes };
 
-    ghost invariant = { λ instr_line. instr_line.start ≤ 1024 };
+    ghost invariant = { λ instr_line. instr_line.start ≤ 96 };
 }
 
 // Puts the last three hexadecimal digits of `n` before `end`. Returns where they begin.
 #[inline(always)]
 fn put_hex_3(bytes: &mut [u8; BLOCK_BYTES], end: usize, n: usize) -> usize
     requires room { 3 ≤ end }
-    requires inside { end ≤ 1024 }
+    requires inside { end ≤ 96 }
     ensures start { result + 3 ≡ end }
     ensures text { drop result bytes.new ≡ hex_3 n ++ drop end bytes.old }
 {
@@ -52,7 +52,7 @@ fn put_hex_3(bytes: &mut [u8; BLOCK_BYTES], end: usize, n: usize) -> usize
 #[inline(always)]
 fn put_name(bytes: &mut [u8; BLOCK_BYTES], end: usize, name: &[u8; 4]) -> usize
     requires room { 5 ≤ end }
-    requires inside { end ≤ 1024 }
+    requires inside { end ≤ 96 }
     ensures start { result + 5 ≡ end }
     ensures text { drop result bytes.new ≡ spaced (name.now ∷ []) ++ drop end bytes.old }
 {
@@ -65,7 +65,7 @@ fn put_name(bytes: &mut [u8; BLOCK_BYTES], end: usize, name: &[u8; 4]) -> usize
 fn put_unsigned(bytes: &mut [u8; BLOCK_BYTES], end: usize, n: u16) -> usize
     requires small { n < 10000 }
     requires room { 5 ≤ end }
-    requires inside { end ≤ 1024 }
+    requires inside { end ≤ 96 }
     ensures before { result ≤ end }
     ensures few { end ≤ result + 5 }
     ensures text { drop result bytes.new ≡ spaced (decimal n ∷ []) ++ drop end bytes.old }
@@ -79,7 +79,7 @@ fn put_unsigned(bytes: &mut [u8; BLOCK_BYTES], end: usize, n: u16) -> usize
 fn put_short(bytes: &mut [u8; BLOCK_BYTES], end: usize, n: u8) -> usize
     requires small { n < 100 }
     requires room { 3 ≤ end }
-    requires inside { end ≤ 1024 }
+    requires inside { end ≤ 96 }
     ensures before { result ≤ end }
     ensures few { end ≤ result + 3 }
     ensures text { drop result bytes.new ≡ spaced (decimal n ∷ []) ++ drop end bytes.old }
@@ -94,7 +94,7 @@ fn put_short(bytes: &mut [u8; BLOCK_BYTES], end: usize, n: u8) -> usize
 fn put_integer(bytes: &mut [u8; BLOCK_BYTES], end: usize, n: i16) -> usize
     requires small { unsigned_abs n < 10000 }
     requires room { 5 ≤ end }
-    requires inside { end ≤ 1024 }
+    requires inside { end ≤ 96 }
     ensures before { result ≤ end }
     ensures few { end ≤ result + 5 }
     ensures text { drop result bytes.new ≡ signed_decimal n ++ drop end bytes.old }
@@ -110,7 +110,7 @@ fn put_integer(bytes: &mut [u8; BLOCK_BYTES], end: usize, n: i16) -> usize
 fn put_signed(bytes: &mut [u8; BLOCK_BYTES], end: usize, n: i16) -> usize
     requires small { unsigned_abs n < 10000 }
     requires room { 6 ≤ end }
-    requires inside { end ≤ 1024 }
+    requires inside { end ≤ 96 }
     ensures before { result ≤ end }
     ensures few { end ≤ result + 6 }
     ensures text { drop result bytes.new ≡ spaced (signed_decimal n ∷ []) ++ drop end bytes.old }
@@ -124,7 +124,7 @@ fn put_signed(bytes: &mut [u8; BLOCK_BYTES], end: usize, n: i16) -> usize
 #[inline(always)]
 fn put_star(bytes: &mut [u8; BLOCK_BYTES], end: usize, canonical: bool) -> usize
     requires room { 2 ≤ end }
-    requires inside { end ≤ 1024 }
+    requires inside { end ≤ 96 }
     ensures before { result ≤ end }
     ensures few { end ≤ result + 2 }
     ensures text { drop result bytes.new
@@ -152,7 +152,7 @@ fn put_vector(
     requires dy { unsigned_abs dy < 10000 }
     requires z { z < 100 }
     requires room { 27 ≤ end }
-    requires inside { end ≤ 1024 }
+    requires inside { end ≤ 96 }
     ensures before { result ≤ end }
     ensures few { end ≤ result + 27 }
     ensures text { drop result bytes.new
@@ -172,7 +172,7 @@ fn put_labs(bytes: &mut [u8; BLOCK_BYTES], end: usize, x: u16, y: u16, scale: u8
     requires y { y < 10000 }
     requires scale { scale < 100 }
     requires room { 27 ≤ end }
-    requires inside { end ≤ 1024 }
+    requires inside { end ≤ 96 }
     ensures before { result ≤ end }
     ensures few { end ≤ result + 27 }
     ensures text { drop result bytes.new
@@ -190,7 +190,7 @@ fn put_labs(bytes: &mut [u8; BLOCK_BYTES], end: usize, x: u16, y: u16, scale: u8
 #[inline(always)]
 fn put_addressed(bytes: &mut [u8; BLOCK_BYTES], end: usize, name: &[u8; 4], address: u16) -> usize
     requires room { 9 ≤ end }
-    requires inside { end ≤ 1024 }
+    requires inside { end ≤ 96 }
     ensures before { result ≤ end }
     ensures few { end ≤ result + 9 }
     ensures text { drop result bytes.new
@@ -206,7 +206,7 @@ fn put_addressed(bytes: &mut [u8; BLOCK_BYTES], end: usize, name: &[u8; 4], addr
 fn put_instr(bytes: &mut [u8; BLOCK_BYTES], end: usize, instr: Instr) -> usize
     requires in_range { InRange instr }
     requires room { 27 ≤ end }
-    requires inside { end ≤ 1024 }
+    requires inside { end ≤ 96 }
     ensures before { result ≤ end }
     ensures few { end ≤ result + 27 }
     ensures text { drop result bytes.new ≡ spaced (instr_parts instr) ++ drop end bytes.old }
@@ -235,7 +235,7 @@ fn put_placed(
     canonical: bool,
 ) -> usize
     requires room { 32 ≤ end }
-    requires inside { end ≤ 1024 }
+    requires inside { end ≤ 96 }
     ensures before { result ≤ end }
     ensures text { drop result bytes.new
         ≡ hex_3 place ++ spaced (listed_parts code.now canonical) ++ drop end bytes.old }
@@ -249,7 +249,7 @@ fn put_placed(
 #[inline(always)]
 fn put_any(bytes: &mut [u8; BLOCK_BYTES], end: usize, n: u32) -> usize
     requires room { 11 ≤ end }
-    requires inside { end ≤ 1024 }
+    requires inside { end ≤ 96 }
     ensures before { result ≤ end }
     ensures few { end ≤ result + 11 }
     ensures text { drop result bytes.new ≡ spaced (decimal n ∷ []) ++ drop end bytes.old }
@@ -266,7 +266,7 @@ fn put_any(bytes: &mut [u8; BLOCK_BYTES], end: usize, n: u32) -> usize
 #[inline(always)]
 fn put_beam(bytes: &mut [u8; BLOCK_BYTES], end: usize, beam: &Beam) -> usize
     requires room { 36 ≤ end }
-    requires inside { end ≤ 1024 }
+    requires inside { end ≤ 96 }
     ensures before { result ≤ end }
     ensures few { end ≤ result + 36 }
     ensures text { drop result bytes.new ≡ spaced (beam_parts beam.now) ++ drop end bytes.old }

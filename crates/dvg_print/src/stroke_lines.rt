@@ -1,6 +1,5 @@
 //! Lines of strokes, of which most begin where the one before ended.
-ghost use Rattle.std.specs.Prelude.{◌≡◌, ◌≤◌, ◌<◌, ◌+◌, ◌++◌, ◌∷◌, [], length, decimal, drop, take};
-ghost use Rattle.std.specs.Prelude.{flat_map, min, IsTrue};
+ghost use Rattle.std.specs.Prelude.{◌≡◌, ◌≤◌, ◌<◌, ◌+◌, ◌++◌, ◌∷◌, [], decimal, drop, IsTrue};
 ghost use Rattle.dvg_print.specs.Lines.{spaced};
 ghost use Rattle.dvg_print.specs.Numbering.{IsSmall};
 ghost use Rattle.dvg_print.specs.Shows.{position_text, stroke_line};
@@ -9,9 +8,6 @@ use crate::digits::{BLOCK_BYTES, put_byte, put_part, put_position};
 use crate::eight_digits::{Digits, GREAT, digits_of, put_digits};
 use dvg_gen::Stroke;
 use std::marker::Model;
-
-/// The most lines that are made together. They fit, as none has more than 56 bytes.
-const MOST_LINES: usize = 16;
 
 /// What the line of a stroke ends with, by its intensity: four bytes, the lowest one first. Those
 /// from the space on count.
@@ -41,16 +37,19 @@ struct Point {
     y: Digits,
 }
 
-/// The lines that `play` writes of strokes, as many as are written together. They are made from the
-/// last one to the first, so no byte of a number is moved.
+/// The lines that `play` writes of strokes, one at a time. Each is made from its end to its front,
+/// so no byte of a number is moved. The texts of where it ends are kept, as the next one mostly
+/// begins there.
 #[derive(Drop)]
 pub struct StrokeLines {
-    // The lines are at the end of these bytes.
+    // The line is at the end of these bytes.
     bytes: [u8; BLOCK_BYTES],
     start: usize,
+    // Where a stroke before ended, or 0, 0.
+    last: Point,
 }
 
-/// Contracts see the lines.
+/// Contracts see the line.
 impl Model for StrokeLines {
     ghost use Rattle.std.specs.Prelude.{◌≤◌, List, ℕ, drop};
 
@@ -58,7 +57,7 @@ impl Model for StrokeLines {
 
     ghost view = { λ stroke_lines. drop stroke_lines.start stroke_lines.bytes };
 
-    ghost invariant = { λ stroke_lines. stroke_lines.start ≤ 1024 };
+    ghost invariant = { λ stroke_lines. stroke_lines.start ≤ 96 };
 }
 
 // Whether each number of `stroke` has a text of eight bytes, and its intensity one in the table.
@@ -83,24 +82,11 @@ fn point_at(x: u32, y: u32) -> Point
     }
 }
 
-// Returns where `stroke` ends. Mostly that is `next`, where the stroke after it begins.
-#[inline(always)]
-fn end_of(stroke: &Stroke, next: Point) -> Point
-    requires { IsSmall stroke.now }
-    ensures x { result.x.number ≡ stroke.now.x1 }
-    ensures y { result.y.number ≡ stroke.now.y1 }
-{
-    if stroke.x1 == next.x.number && stroke.y1 == next.y.number {
-        return next;
-    }
-    point_at(stroke.x1, stroke.y1)
-}
-
 // Puts `point` before `end`. Returns where it begins.
 #[inline(always)]
 fn put_point(bytes: &mut [u8; BLOCK_BYTES], end: usize, point: &Point) -> usize
     requires room { 17 ≤ end }
-    requires inside { end ≤ 1024 }
+    requires inside { end ≤ 96 }
     ensures before { result ≤ end }
     ensures few { end ≤ result + 17 }
     ensures text { drop result bytes.new
@@ -111,12 +97,29 @@ fn put_point(bytes: &mut [u8; BLOCK_BYTES], end: usize, point: &Point) -> usize
     put_digits(bytes, space, &point.x)
 }
 
+// Puts where `stroke` begins before `end`. Mostly that is `last`, where the stroke before ended.
+// Returns where the text begins.
+#[inline(always)]
+fn put_start(bytes: &mut [u8; BLOCK_BYTES], end: usize, stroke: &Stroke, last: &Point) -> usize
+    requires small { IsSmall stroke.now }
+    requires room { 17 ≤ end }
+    requires inside { end ≤ 96 }
+    ensures before { result ≤ end }
+    ensures text { drop result bytes.new
+        ≡ position_text stroke.now.x0 stroke.now.y0 ++ drop end bytes.old }
+{
+    if stroke.x0 == last.x.number && stroke.y0 == last.y.number {
+        return put_point(bytes, end, last);
+    }
+    put_point(bytes, end, &point_at(stroke.x0, stroke.y0))
+}
+
 // Puts a space, the intensity `z` and a line end before `end`. Returns where the space is.
 #[inline(always)]
 fn put_intensity(bytes: &mut [u8; BLOCK_BYTES], end: usize, z: u8) -> usize
     requires intensity { z < 16 }
     requires room { 4 ≤ end }
-    requires inside { end ≤ 1024 }
+    requires inside { end ≤ 96 }
     ensures before { result ≤ end }
     ensures few { end ≤ result + 4 }
     ensures text { drop result bytes.new ≡ spaced (decimal z ∷ []) ++ 10 ∷ drop end bytes.old }
@@ -129,7 +132,7 @@ fn put_intensity(bytes: &mut [u8; BLOCK_BYTES], end: usize, z: u8) -> usize
 #[inline(never)]
 fn put_any(bytes: &mut [u8; BLOCK_BYTES], end: usize, stroke: &Stroke) -> usize
     requires room { 56 ≤ end }
-    requires inside { end ≤ 1024 }
+    requires inside { end ≤ 96 }
     ensures before { result ≤ end }
     ensures few { end ≤ result + 56 }
     ensures text { drop result bytes.new ≡ stroke_line stroke.now ++ drop end bytes.old }
@@ -141,74 +144,52 @@ fn put_any(bytes: &mut [u8; BLOCK_BYTES], end: usize, stroke: &Stroke) -> usize
     put_position(bytes, space, stroke.x0, stroke.y0)
 }
 
-// Puts the line of `stroke` before `end`. `next` is a point of the stroke after it. Returns where
-// the line begins, and a point: the one where `stroke` begins, or `next` if its numbers are great.
+// Puts the line of `stroke`, whose numbers are small, at the end of `bytes`. `last` is where the
+// stroke before ended, and becomes where this one ends. Returns where the line begins.
 #[inline(always)]
-fn put_stroke(
-    bytes: &mut [u8; BLOCK_BYTES],
-    end: usize,
-    stroke: &Stroke,
-    next: Point,
-) -> (usize, Point)
-    requires room { 56 ≤ end }
-    requires inside { end ≤ 1024 }
-    ensures before { result.0 ≤ end }
-    ensures few { end ≤ result.0 + 56 }
-    ensures text { drop result.0 bytes.new ≡ stroke_line stroke.now ++ drop end bytes.old }
+fn put_small(bytes: &mut [u8; BLOCK_BYTES], stroke: &Stroke, last: &mut Point) -> usize
+    requires { IsSmall stroke.now }
+    ensures inside { result ≤ 96 }
+    ensures text { drop result bytes.new ≡ stroke_line stroke.now }
 {
-    if !is_small(stroke) {
-        return (put_any(bytes, end, stroke), next);
-    }
-    let to = put_intensity(bytes, end, stroke.z);
-    let last = end_of(stroke, next);
-    let middle = put_point(bytes, to, &last);
+    let to = put_intensity(bytes, BLOCK_BYTES, stroke.z);
+    let end = point_at(stroke.x1, stroke.y1);
+    let middle = put_point(bytes, to, &end);
     let space = put_byte(bytes, middle, b' ');
-    let first = point_at(stroke.x0, stroke.y0);
-    (put_point(bytes, space, &first), first)
-}
-
-// Puts the lines of `strokes`, at most 16, at the end of `bytes`. Returns where they begin.
-fn put_strokes(bytes: &mut [u8; BLOCK_BYTES], strokes: &[Stroke]) -> usize
-    requires { length strokes.now ≤ 16 }
-    ensures inside { result ≤ 1024 }
-    ensures text { drop result bytes.new ≡ flat_map stroke_line strokes.now }
-{
-    let mut start = BLOCK_BYTES;
-    let mut next = point_at(0, 0);
-    let mut left = strokes.len();
-    while left > 0 {
-        left -= 1;
-        (start, next) = put_stroke(bytes, start, &strokes[left], next);
-    }
+    let start = put_start(bytes, space, stroke, last);
+    *last = end;
     start
 }
 
 impl StrokeLines {
-    /// Returns lines with no bytes.
+    /// Returns a line with no bytes.
     pub fn new() -> StrokeLines
         ensures { result ≡ [] }
     {
         StrokeLines {
             bytes: [0; BLOCK_BYTES],
             start: BLOCK_BYTES,
+            last: point_at(0, 0),
         }
     }
 
-    /// Returns the bytes of the lines.
+    /// Returns the bytes of the line.
+    #[inline(always)]
     pub fn as_bytes(&self) -> &[u8]
         ensures { result.now ≡ self.now }
     {
         &self.bytes[self.start..]
     }
 
-    /// Becomes the lines of the first 16 of `strokes`, or of all where there are fewer. Returns how
-    /// many.
-    pub fn become_first(&mut self, strokes: &[Stroke]) -> usize
-        ensures count { result ≡ min 16 (length strokes.now) }
-        ensures text { self.new ≡ flat_map stroke_line (take result strokes.now) }
+    /// Becomes the line of `stroke`.
+    #[inline(always)]
+    pub fn become_line(&mut self, stroke: &Stroke)
+        ensures { self.new ≡ stroke_line stroke.now }
     {
-        let count = strokes.len().min(MOST_LINES);
-        self.start = put_strokes(&mut self.bytes, &strokes[..count]);
-        count
+        if !is_small(stroke) {
+            self.start = put_any(&mut self.bytes, BLOCK_BYTES, stroke);
+            return;
+        }
+        self.start = put_small(&mut self.bytes, stroke, &mut self.last);
     }
 }

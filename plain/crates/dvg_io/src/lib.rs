@@ -12,6 +12,6 @@ mod watched;
 
 pub use engine::{Engine, serve};
 pub use fault::ToolFault;
-pub use strokes::write_strokes;
+pub use strokes::{write_strokes, write_strokes_in};
 pub use transfer::{collect_words, read_up_to, write_lines, write_whole};
 pub use watched::{StreamFailed, Watched};

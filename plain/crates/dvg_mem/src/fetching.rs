@@ -24,7 +24,13 @@ pub fn fetch_byte<S: Store, A: Allocator>(store: &S, rom: &Rom<A>, w: u16, high:
 /// Returns the word at the word address `w`, which has 12 bits, in `store`, the RAM, or in `rom`.
 /// Returns `None` exactly for a hole.
 pub fn fetch<S: Store, A: Allocator>(store: &S, rom: &Rom<A>, w: u16) -> Option<u16> {
-    let low = fetch_byte(store, rom, w, false)?;
-    let high = fetch_byte(store, rom, w, true)?;
-    Some(u16::from_le_bytes([low, high]))
+    match rom.area(w) {
+        Area::Zero | Area::Frame(_) | Area::Unused => {
+            let low = store.read(2 * w);
+            let high = store.read(2 * w + 1);
+            Some(u16::from_le_bytes([low, high]))
+        }
+        Area::Rom => Some(rom.word(w)),
+        Area::Hole => None,
+    }
 }

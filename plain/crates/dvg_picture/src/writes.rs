@@ -3,36 +3,40 @@ use crate::form::RunForm;
 use crate::moves::write_moves;
 use dvg_dump::{Ending, Ran, Traced};
 use dvg_gen::Stroke;
-use dvg_io::{StreamFailed, Watched, write_strokes, write_whole};
-use dvg_print::{InstrLine, Line};
+use dvg_io::{StreamFailed, Watched, write_strokes, write_strokes_in, write_whole};
+use dvg_print::{InstrLine, Line, StrokeLines};
 use std::alloc::Allocator;
 use std::io::Write;
 
-// Writes `line` to `writer`, and after it a line for each of `strokes`.
+// Writes `line` to `writer`, and after it a line for each of `strokes`. These are made in `lines`.
 fn write_with_strokes<W: Write>(
     line: &[u8],
+    lines: &mut StrokeLines,
     strokes: &[Stroke],
     writer: &mut Watched<W>,
 ) -> Result<(), StreamFailed> {
     write_whole(writer, line)?;
-    write_strokes(strokes, writer)
+    write_strokes_in(lines, strokes, writer)
 }
 
-// Writes the lines of `ran`, an instruction that was run, to `writer`. They are made in `line`.
+// Writes the lines of `ran`, an instruction that was run, to `writer`. They are made in `line` and
+// `lines`.
 fn write_ran<W: Write>(
     line: &mut InstrLine,
+    lines: &mut StrokeLines,
     ran: &Ran,
     writer: &mut Watched<W>,
 ) -> Result<(), StreamFailed> {
     line.become_instruction(ran.address, &ran.code, ran.canonical, &ran.beam);
-    write_with_strokes(line.as_bytes(), ran.stroke.as_slice(), writer)
+    write_with_strokes(line.as_bytes(), lines, ran.stroke.as_slice(), writer)
 }
 
 // Writes the lines of `trace`, the instructions that were run, to `writer`.
 fn write_trace<W: Write>(trace: &[Ran], writer: &mut Watched<W>) -> Result<(), StreamFailed> {
     let mut line = InstrLine::new();
+    let mut lines = StrokeLines::new();
     for ran in trace {
-        write_ran(&mut line, ran, writer)?;
+        write_ran(&mut line, &mut lines, ran, writer)?;
     }
     Ok(())
 }

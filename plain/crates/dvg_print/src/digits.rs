@@ -1,7 +1,6 @@
 //! Digits of numbers, in the bytes of a line.
-/// The bytes in which lines are made from the end of the last one to the front of the first one.
-/// They are cleared for each picture, so they are few.
-pub(crate) const BLOCK_BYTES: usize = 1024;
+/// The bytes in which a line is made from its end to its front. The longest one has 69.
+pub(crate) const BLOCK_BYTES: usize = 96;
 
 /// The bytes in which a number is counted up. No number of 64 bits has more digits.
 pub(crate) const NUMBER_BYTES: usize = 24;

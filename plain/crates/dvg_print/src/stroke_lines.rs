@@ -3,9 +3,6 @@ use crate::digits::{BLOCK_BYTES, put_byte, put_part, put_position};
 use crate::eight_digits::{Digits, GREAT, digits_of, put_digits};
 use dvg_gen::Stroke;
 
-/// The most lines that are made together. They fit, as none has more than 56 bytes.
-const MOST_LINES: usize = 16;
-
 /// What the line of a stroke ends with, by its intensity: four bytes, the lowest one first. Those
 /// from the space on count.
 static ENDS: [u32; 16] = [
@@ -33,12 +30,15 @@ struct Point {
     y: Digits,
 }
 
-/// The lines that `play` writes of strokes, as many as are written together. They are made from the
-/// last one to the first, so no byte of a number is moved.
+/// The lines that `play` writes of strokes, one at a time. Each is made from its end to its front,
+/// so no byte of a number is moved. The texts of where it ends are kept, as the next one mostly
+/// begins there.
 pub struct StrokeLines {
-    // The lines are at the end of these bytes.
+    // The line is at the end of these bytes.
     bytes: [u8; BLOCK_BYTES],
     start: usize,
+    // Where a stroke before ended, or 0, 0.
+    last: Point,
 }
 
 // Whether each number of `stroke` has a text of eight bytes, and its intensity one in the table.
@@ -56,21 +56,22 @@ fn point_at(x: u32, y: u32) -> Point {
     }
 }
 
-// Returns where `stroke` ends. Mostly that is `next`, where the stroke after it begins.
-#[inline(always)]
-fn end_of(stroke: &Stroke, next: Point) -> Point {
-    if stroke.x1 == next.x.number && stroke.y1 == next.y.number {
-        return next;
-    }
-    point_at(stroke.x1, stroke.y1)
-}
-
 // Puts `point` before `end`. Returns where it begins.
 #[inline(always)]
 fn put_point(bytes: &mut [u8; BLOCK_BYTES], end: usize, point: &Point) -> usize {
     let at = put_digits(bytes, end, &point.y);
     let space = put_byte(bytes, at, b' ');
     put_digits(bytes, space, &point.x)
+}
+
+// Puts where `stroke` begins before `end`. Mostly that is `last`, where the stroke before ended.
+// Returns where the text begins.
+#[inline(always)]
+fn put_start(bytes: &mut [u8; BLOCK_BYTES], end: usize, stroke: &Stroke, last: &Point) -> usize {
+    if stroke.x0 == last.x.number && stroke.y0 == last.y.number {
+        return put_point(bytes, end, last);
+    }
+    put_point(bytes, end, &point_at(stroke.x0, stroke.y0))
 }
 
 // Puts a space, the intensity `z` and a line end before `end`. Returns where the space is.
@@ -90,57 +91,42 @@ fn put_any(bytes: &mut [u8; BLOCK_BYTES], end: usize, stroke: &Stroke) -> usize 
     put_position(bytes, space, stroke.x0, stroke.y0)
 }
 
-// Puts the line of `stroke` before `end`. `next` is a point of the stroke after it. Returns where
-// the line begins, and a point: the one where `stroke` begins, or `next` if its numbers are great.
+// Puts the line of `stroke`, whose numbers are small, at the end of `bytes`. `last` is where the
+// stroke before ended, and becomes where this one ends. Returns where the line begins.
 #[inline(always)]
-fn put_stroke(
-    bytes: &mut [u8; BLOCK_BYTES],
-    end: usize,
-    stroke: &Stroke,
-    next: Point,
-) -> (usize, Point) {
-    if !is_small(stroke) {
-        return (put_any(bytes, end, stroke), next);
-    }
-    let to = put_intensity(bytes, end, stroke.z);
-    let last = end_of(stroke, next);
-    let middle = put_point(bytes, to, &last);
+fn put_small(bytes: &mut [u8; BLOCK_BYTES], stroke: &Stroke, last: &mut Point) -> usize {
+    let to = put_intensity(bytes, BLOCK_BYTES, stroke.z);
+    let end = point_at(stroke.x1, stroke.y1);
+    let middle = put_point(bytes, to, &end);
     let space = put_byte(bytes, middle, b' ');
-    let first = point_at(stroke.x0, stroke.y0);
-    (put_point(bytes, space, &first), first)
-}
-
-// Puts the lines of `strokes`, at most 16, at the end of `bytes`. Returns where they begin.
-fn put_strokes(bytes: &mut [u8; BLOCK_BYTES], strokes: &[Stroke]) -> usize {
-    let mut start = BLOCK_BYTES;
-    let mut next = point_at(0, 0);
-    let mut left = strokes.len();
-    while left > 0 {
-        left -= 1;
-        (start, next) = put_stroke(bytes, start, &strokes[left], next);
-    }
+    let start = put_start(bytes, space, stroke, last);
+    *last = end;
     start
 }
 
 impl StrokeLines {
-    /// Returns lines with no bytes.
+    /// Returns a line with no bytes.
     pub fn new() -> StrokeLines {
         StrokeLines {
             bytes: [0; BLOCK_BYTES],
             start: BLOCK_BYTES,
+            last: point_at(0, 0),
         }
     }
 
-    /// Returns the bytes of the lines.
+    /// Returns the bytes of the line.
+    #[inline(always)]
     pub fn as_bytes(&self) -> &[u8] {
         &self.bytes[self.start..]
     }
 
-    /// Becomes the lines of the first 16 of `strokes`, or of all where there are fewer. Returns how
-    /// many.
-    pub fn become_first(&mut self, strokes: &[Stroke]) -> usize {
-        let count = strokes.len().min(MOST_LINES);
-        self.start = put_strokes(&mut self.bytes, &strokes[..count]);
-        count
+    /// Becomes the line of `stroke`.
+    #[inline(always)]
+    pub fn become_line(&mut self, stroke: &Stroke) {
+        if !is_small(stroke) {
+            self.start = put_any(&mut self.bytes, BLOCK_BYTES, stroke);
+            return;
+        }
+        self.start = put_small(&mut self.bytes, stroke, &mut self.last);
     }
 }

@@ -12,5 +12,5 @@ returns-in_err-write_whole g c =
 pub returns : goal.returns
 returns g c =
     let strokes = flat_map stroke_line c.args.strokes.now in
-    writes_second g.W.Write.contents c.args.line.now strokes c.write_strokes.result
-    c.args.writer.now c.write_whole.new.writer c.write_strokes.new.writer (search rules) c.write_strokes.ensures
+    writes_second g.W.Write.contents c.args.line.now strokes c.write_strokes_in.result
+    c.args.writer.now c.write_whole.new.writer c.write_strokes_in.new.writer (search rules) c.write_strokes_in.ensures

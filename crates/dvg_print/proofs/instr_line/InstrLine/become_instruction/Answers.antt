@@ -11,7 +11,7 @@ returns c =
     let beam = beam_parts c.args.beam.now in
     let address = c.args.address in
     let last = c.put_byte-newline.ensures.text
-    ∙ ap (λ rest. 10 ∷ rest) (drop_all 1024 c.self.inside.bytes (search rules)) in
+    ∙ ap (λ rest. 10 ∷ rest) (drop_all 96 c.self.inside.bytes (search rules)) in
     let after = c.put_beam-at.ensures.text ∙ ap (λ rest. spaced beam ++ rest) last in
     c.put_placed-self-inside.ensures.text
     ∙ ap (λ n. hex_3 n ++ spaced listed ++ drop c.put_beam-at.result c.put_beam-at.new.bytes) c.from.ensures
