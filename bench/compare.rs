@@ -8,8 +8,10 @@
 //!
 //! `compare names PROVED PLAIN FOLDER` runs them once on each sketch that is slow to read.
 //!
-//! `compare ROWS PROVED PLAIN FOLDER LIMIT --instructions` counts instructions instead.
+//! `compare ROWS PROVED PLAIN FOLDER LIMIT --instructions` counts instructions and page faults
+//! instead; `--functions` also names those of the proved program that take most.
 
+#[allow(dead_code)]
 mod inputs;
 mod instructions;
 mod rows;
@@ -259,7 +261,7 @@ fn compare_once(rows: &[Row], programs: &Programs) -> io::Result<()> {
 
 /// Says how the program is called.
 fn misuse() -> ExitCode {
-    eprintln!("usage: compare ROWS PROVED PLAIN FOLDER [LIMIT [--instructions]]");
+    eprintln!("usage: compare ROWS PROVED PLAIN FOLDER [LIMIT [--instructions | --functions]]");
     eprintln!("       compare names PROVED PLAIN FOLDER");
     eprintln!("ROWS is dvg, play, picture, sketch or parts");
     ExitCode::from(64)
@@ -292,8 +294,9 @@ fn main() -> ExitCode {
     let done = match (others, limit) {
         ([], _) if *name == "names" => compare_once(rows, &programs),
         ([] | [_], _) => compare(rows, &programs, parts),
-        ([_, "--instructions"], Some(limit)) => {
-            instructions::count(rows, &[proved, plain, limit], folder, parts)
+        ([_, what @ ("--instructions" | "--functions")], Some(limit)) => {
+            let programs = [proved, plain, limit];
+            instructions::count(rows, &programs, folder, parts, *what == "--functions")
         }
         _ => return misuse(),
     };

@@ -1,15 +1,34 @@
 //! Instructions that programs take for a unit of a row, by valgrind's tool callgrind: in their own
-//! code, without the kernel's. Where times waver, these hardly do.
+//! code, without the kernel's. Where times waver, these hardly do. Beside them stand page faults.
 
 use crate::rows::{Against, Row, START_UP, Unit};
 use crate::runs::Contender;
 use std::fs;
 use std::io;
-use std::path::Path;
+use std::path::{Path, PathBuf};
+use std::process::Command;
+
+/// The runs of which the least page faults count.
+const FAULT_RUNS: usize = 11;
+
+/// The functions that are named, of each row.
+const FUNCTIONS: usize = 4;
+
+/// What a run takes, or what a row takes beyond a start.
+#[derive(Clone, Copy)]
+struct Taken {
+    instructions: f64,
+    faults: i64,
+}
+
+/// Where callgrind leaves what it counted.
+fn counts_of(folder: &Path) -> PathBuf {
+    folder.join("callgrind.out")
+}
 
 /// How many instructions a run takes.
-pub fn counted(contender: &Contender, folder: &Path) -> io::Result<f64> {
-    let output = folder.join("callgrind.out");
+fn counted(contender: &Contender, folder: &Path) -> io::Result<f64> {
+    let output = counts_of(folder);
     let out = format!("--callgrind-out-file={}", output.display());
     contender
         .command(&["valgrind", "--quiet", "--tool=callgrind", &out])?
@@ -20,16 +39,52 @@ pub fn counted(contender: &Contender, folder: &Path) -> io::Result<f64> {
         .ok_or_else(|| io::Error::other("callgrind tells no sum"))
 }
 
-/// Makes an input and counts the instructions of each program.
-fn count_all(row: &Row, input: &[u8], programs: &[&Path], folder: &Path) -> io::Result<Vec<f64>> {
-    programs
+/// What a run takes of both.
+fn taken(contender: &Contender, folder: &Path) -> io::Result<Taken> {
+    let mut faults = i64::MAX;
+    for _ in 0..FAULT_RUNS {
+        faults = faults.min(contender.timed_run()?.1.faults);
+    }
+    Ok(Taken {
+        instructions: counted(contender, folder)?,
+        faults,
+    })
+}
+
+/// Prints the functions of a program that took most of the instructions that were counted last, and
+/// how many a unit: those that callgrind knows by a name, of the program's own.
+fn print_functions(program: &Path, unit: &Unit, folder: &Path) -> io::Result<()> {
+    let text = Command::new("callgrind_annotate")
+        .arg(counts_of(folder))
+        .output()?
+        .stdout;
+    let object = format!("[{}]", fs::canonicalize(program)?.display());
+    let text = String::from_utf8_lossy(&text);
+    let own = text.lines().filter(|line| line.ends_with(&object));
+    for line in own.take(FUNCTIONS) {
+        let count: String = line.chars().take_while(|c| *c != '(').collect();
+        let count: f64 = count.replace([',', ' '], "").parse().unwrap_or(0.0);
+        let name = line.split_once("???:").map_or(line, |(_, name)| name);
+        let name = name.trim_end_matches(&object);
+        println!("    {:>10.2}  {name}", count / unit.count as f64);
+    }
+    Ok(())
+}
+
+/// Makes an input and counts what each program takes. The proved one is the last, so that its
+/// counts stay where callgrind left them.
+fn count_all(row: &Row, input: &[u8], programs: &[&Path], folder: &Path) -> io::Result<Vec<Taken>> {
+    let mut all = programs
         .iter()
+        .rev()
         .map(|program| {
             let contender = Contender::new(program, row.arguments, "counted", folder);
             contender.write_input(input)?;
-            counted(&contender, folder)
+            taken(&contender, folder)
         })
-        .collect()
+        .collect::<io::Result<Vec<Taken>>>()?;
+    all.reverse();
+    Ok(all)
 }
 
 /// The programs of a row, of which the limit is the last one.
@@ -40,43 +95,67 @@ fn programs_of<'a>(row: &Row, programs: &'a [&'a Path; 3]) -> &'a [&'a Path] {
     }
 }
 
-/// Prints a row: instructions a unit of each program, and proved / limit.
-fn print_row(row: &Row, unit: &Unit, counts: &[f64], start_up: &[f64]) {
-    let each: Vec<f64> = counts
+/// Prints a row: instructions a unit of each program, proved / limit, and the page faults of both
+/// beyond a start.
+fn print_row(row: &Row, unit: &Unit, all: &[Taken], starts: &[Taken]) {
+    let beyond: Vec<Taken> = all
         .iter()
-        .zip(start_up)
-        .map(|(all, start)| (all - start) / unit.count as f64)
+        .zip(starts)
+        .map(|(all, start)| Taken {
+            instructions: (all.instructions - start.instructions) / unit.count as f64,
+            faults: all.faults - start.faults,
+        })
         .collect();
     print!("{:<48} {:<10}", row.name, unit.name);
-    for number in &each {
-        print!(" {number:>10.2}");
+    for taken in &beyond {
+        print!(" {:>10.2}", taken.instructions);
     }
-    match each[..] {
-        [proved, _, limit] if limit > 0.0 => println!(" {:>14.1}", proved / limit),
+    match beyond[..] {
+        [proved, _, limit] if limit.instructions > 0.0 => println!(
+            " {:>14.1} {:>7} {:>7}",
+            proved.instructions / limit.instructions,
+            proved.faults,
+            limit.faults
+        ),
         _ => println!(),
     }
 }
 
-/// Counts the instructions of all rows that have a unit, and prints the table. The programs are the
-/// proved one, its twin and the limit.
-pub fn count(rows: &[Row], programs: &[&Path; 3], folder: &Path, parts: bool) -> io::Result<()> {
-    let start_up = if parts {
-        vec![0.0; 3]
+/// Counts what all rows take that have a unit, and prints the table. The programs are the proved
+/// one, its twin and the limit. With `functions` those of the proved one that take most are named.
+pub fn count(
+    rows: &[Row],
+    programs: &[&Path; 3],
+    folder: &Path,
+    parts: bool,
+    functions: bool,
+) -> io::Result<()> {
+    let nothing = Taken {
+        instructions: 0.0,
+        faults: 0,
+    };
+    let starts = if parts {
+        vec![nothing; 3]
     } else {
         count_all(&START_UP, &[], programs, folder)?
     };
+    let start_up: Vec<f64> = starts.iter().map(|start| start.instructions).collect();
     println!(
-        "Instructions in all of a start, {start_up:.0?}, are taken off, then a unit of each.\n"
+        "Instructions in all of a start, {start_up:.0?}, are taken off, then a unit of each;\n\
+         and the page faults of the proved one and of the limit beyond a start.\n"
     );
     println!(
-        "{:<48} {:<10} {:>10} {:>10} {:>10} {:>14}",
-        "row", "unit", "proved", "plain", "limit", "proved / limit"
+        "{:<48} {:<10} {:>10} {:>10} {:>10} {:>14} {:>7} {:>7}",
+        "row", "unit", "proved", "plain", "limit", "proved / limit", "faults", "limit"
     );
     for row in rows {
         let Some(unit) = &row.unit else { continue };
         let input = unit.input.unwrap_or(row.input)();
-        let counts = count_all(row, &input, programs_of(row, programs), folder)?;
-        print_row(row, unit, &counts, &start_up);
+        let all = count_all(row, &input, programs_of(row, programs), folder)?;
+        print_row(row, unit, &all, &starts);
+        if functions {
+            print_functions(programs[0], unit, folder)?;
+        }
     }
     Ok(())
 }

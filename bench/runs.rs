@@ -35,6 +35,8 @@ pub struct Cost {
     pub processor_ms: f64,
     /// The most memory that the process held at once.
     pub memory_kib: f64,
+    /// The page faults for which nothing had to be read.
+    pub faults: i64,
 }
 
 impl Contender {
@@ -112,6 +114,7 @@ impl Contender {
             wall_ms: milliseconds(start.elapsed()),
             processor_ms: milliseconds(usage.user.duration() + usage.system.duration()),
             memory_kib: usage.most_memory as f64,
+            faults: usage.faults,
         };
         let answer = Answer {
             status,
@@ -158,7 +161,9 @@ struct Usage {
     user: Time,
     system: Time,
     most_memory: i64,
-    others: [i64; 13],
+    unused: [i64; 3],
+    faults: i64,
+    others: [i64; 9],
 }
 
 unsafe extern "C" {

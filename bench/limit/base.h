@@ -22,6 +22,11 @@ typedef int32_t i32;
 #define APART static __attribute__((noinline))
 #define RARE static __attribute__((noinline, cold, unused))
 
+/* Small variables that stand together, in a page that each run touches, and large ones that begin
+ * with a page. */
+#define NEAR __attribute__((section(".data")))
+#define PAGES __attribute__((aligned(4096)))
+
 INLINE u16 load16(const void *from)
 {
     u16 value;

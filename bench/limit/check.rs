@@ -6,6 +6,7 @@
 //! there are. What passes prints nothing. The last line is 'N passed, M failed'.
 
 #[path = "../inputs.rs"]
+#[allow(dead_code)]
 mod inputs;
 #[path = "../rows.rs"]
 #[allow(dead_code)]

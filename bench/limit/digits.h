@@ -4,6 +4,8 @@
 
 #include "base.h"
 
+#include <emmintrin.h>
+
 #define FOUR_OF(entry, n) entry(n), entry(n + 1), entry(n + 2), entry(n + 3)
 #define SIXTEEN_OF(entry, n) \
     FOUR_OF(entry, n), FOUR_OF(entry, n + 4), FOUR_OF(entry, n + 8), FOUR_OF(entry, n + 12)
@@ -39,6 +41,34 @@ INLINE u32 three_digits(u32 number)
 INLINE u32 four_digits(u32 number)
 {
     return hex_pair[number >> 8] | (u32)hex_pair[number & 0xFF] << 16;
+}
+
+/* Hexadecimal digits of these values, a byte each. */
+INLINE __m128i hex_digits(__m128i values)
+{
+    __m128i letters = _mm_cmpgt_epi8(values, _mm_set1_epi8(9));
+    __m128i more = _mm_and_si128(letters, _mm_set1_epi8('A' - '0' - 10));
+    return _mm_add_epi8(_mm_add_epi8(values, _mm_set1_epi8('0')), more);
+}
+
+/* Writes eight words, each after a space, and answers the place after them. Three bytes more are
+ * written. */
+INLINE u8 *put_eight_words(u8 *to, const u16 *words)
+{
+    const __m128i value = _mm_set1_epi8(15);
+    __m128i low_first = _mm_loadu_si128((const __m128i *)(const void *)words);
+    __m128i bytes = _mm_or_si128(_mm_slli_epi16(low_first, 8), _mm_srli_epi16(low_first, 8));
+    __m128i upper = hex_digits(_mm_and_si128(_mm_srli_epi16(bytes, 4), value));
+    __m128i lower = hex_digits(_mm_and_si128(bytes, value));
+    u64 digits[4];
+    _mm_storeu_si128((__m128i *)(void *)digits, _mm_unpacklo_epi8(upper, lower));
+    _mm_storeu_si128((__m128i *)(void *)(digits + 2), _mm_unpackhi_epi8(upper, lower));
+    for (u32 i = 0; i < 4; i++) {
+        store64(to, ' ' | digits[i] << 8);
+        store64(to + 5, ' ' | digits[i] >> 32 << 8);
+        to += 10;
+    }
+    return to;
 }
 
 /* Writes a decimal number below 100,000,000, and answers the place after it. Eight bytes are

@@ -76,33 +76,46 @@ INLINE u32 take_vctr(struct cursor *cursor)
     return scale << 12 | down << 10 | dy | (z << 12 | left << 10 | dx) << 16;
 }
 
-/* A number from 0 to 15 of one or two digits. */
-INLINE u32 take_intensity(struct cursor *cursor)
-{
-    u32 first = take_digit(cursor, 0, 9);
-    u32 second = *cursor->at - (u32)'0';
-    u32 two = second <= 9;
-    cursor->at += two;
-    cursor->bad |= two & ((first != 1) | (second > 5));
-    return two ? 10 + second : first;
-}
+/* The bounds of each byte of ` S DX DY Z` with its line end, and what a byte of a short vector's word
+ * has of signs and of digits before they are added: by whether DX is negative, DY is, and Z has two
+ * digits. */
+struct form {
+    u8 least[16];
+    u8 most[16];
+    i32 word;
+};
+
+#define ANY "\377\377\377\377"
+#define FORM(least, most, left, down, two) \
+    {least "\n", most, SVEC + (down << 10) + (160 * two) + (left << 2) - ('0' << 8) - ('0' << 4) - '0'}
+
+static const struct form forms[8] = {
+    FORM(" 2 0 0 0", " 5 3 3 9\n\377\377\377" ANY, 0, 0, 0),
+    FORM(" 2 -1 0 0", " 5 -3 3 9\n\377\377" ANY, 1, 0, 0),
+    FORM(" 2 0 -1 0", " 5 3 -3 9\n\377\377" ANY, 0, 1, 0),
+    FORM(" 2 -1 -1 0", " 5 -3 -3 9\n\377" ANY, 1, 1, 0),
+    FORM(" 2 0 0 10", " 5 3 3 15\n\377\377" ANY, 0, 0, 1),
+    FORM(" 2 -1 0 10", " 5 -3 3 15\n\377" ANY, 1, 0, 1),
+    FORM(" 2 0 -1 10", " 5 3 -3 15\n\377" ANY, 0, 1, 1),
+    FORM(" 2 -1 -1 10", " 5 -3 -3 15\n" ANY, 1, 1, 1),
+};
 
 /* `svec S DX DY Z`. */
 INLINE u32 take_svec(struct cursor *cursor)
 {
-    take_character(cursor, ' ');
-    u32 scale = take_digit(cursor, 2, 5) - 2;
-    take_character(cursor, ' ');
-    u32 left = take_sign(cursor);
-    u32 dx = take_digit(cursor, left, 3);
-    take_character(cursor, ' ');
-    u32 down = take_sign(cursor);
-    u32 dy = take_digit(cursor, down, 3);
-    take_character(cursor, ' ');
-    u32 z = take_intensity(cursor);
-    take_character(cursor, '\n');
-    return SVEC | (scale & 1) << 11 | (down << 2 | dy) << 8 | z << 4 | (scale >> 1) << 3
-        | left << 2 | dx;
+    const u8 *at = cursor->at;
+    u32 left = at[3] == '-', down = at[5 + left] == '-', signs = left + down;
+    u32 two = at[8 + signs] != '\n';
+    const struct form *form = &forms[left + 2 * down + 4 * two];
+    __m128i bytes = _mm_loadu_si128((const __m128i *)(const void *)at);
+    __m128i least = _mm_loadu_si128((const __m128i *)(const void *)form->least);
+    __m128i most = _mm_loadu_si128((const __m128i *)(const void *)form->most);
+    __m128i wrong = _mm_or_si128(_mm_subs_epu8(least, bytes), _mm_subs_epu8(bytes, most));
+    u32 right = (u32)_mm_movemask_epi8(_mm_cmpeq_epi8(wrong, _mm_setzero_si128()));
+    cursor->bad |= right ^ 0xFFFF;
+    cursor->at = at + 9 + signs + two;
+    u32 scale = at[1], dx = at[3 + left], dy = at[5 + signs], z = at[7 + signs + two];
+    return (u32)form->word + ((scale & 1) << 11) + ((scale & 4) << 1) + (dy << 8) + (z << 4) + dx;
 }
 
 /* `labs X Y S`. */
@@ -118,14 +131,27 @@ INLINE u32 take_labs(struct cursor *cursor)
     return LABS | y | (scale << 12 | x) << 16;
 }
 
+/* Takes the number of an operation. Most have three digits. */
+INLINE u32 take_operation_number(struct cursor *cursor)
+{
+    u32 bytes = load32(cursor->at), digits = (bytes & 0xFFFFFF) - 0x303030;
+    if (likely(bytes >> 24 == '\n')) {
+        cursor->bad |= ((bytes & 0xF0F0F0) ^ 0x303030) | ((digits + 0x767676) & 0x808080);
+        cursor->bad |= (digits & 0xFF) == 0;
+        cursor->at += 4;
+        return 100 * (digits & 0xFF) + 10 * (digits >> 8 & 0xFF) + (digits >> 16);
+    }
+    u32 number = take_number(cursor, 65535);
+    take_character(cursor, '\n');
+    return number;
+}
+
 /* ` N` after `call` or `jump`, and `rom HHH`. */
 INLINE u32 take_target(struct cursor *cursor, bool is_jump)
 {
     if (*cursor->at == ' ') {
         cursor->at++;
-        u32 number = take_number(cursor, 65535);
-        take_character(cursor, '\n');
-        return (is_jump ? JUMP : CALL) | number << 16;
+        return (is_jump ? JUMP : CALL) | take_operation_number(cursor) << 16;
     }
     if (load32(cursor->at) == FOUR('r', 'o', 'm', ' ')) {
         cursor->at += 4;

@@ -5,7 +5,7 @@
 #include "generator.h"
 
 /* The number of the event at hand, and its digits, the first one lowest. */
-static u32 number, number_width = 1;
+static u32 number NEAR, number_width = 1;
 static u64 number_text = '0';
 
 /* The last digit went beyond 9. */

@@ -7,7 +7,7 @@
 enum { MOST_LIST_BYTES = 8192, SMALL_ROM_BYTES = 2048, LARGE_ROM_BYTES = 4096 };
 
 /* What standard input holds of words. One byte more tells that it is too much. */
-static u16 input_words[MOST_LIST_BYTES / 2 + 2];
+static u16 input_words[MOST_LIST_BYTES / 2 + 2] PAGES;
 
 INLINE void add_space(void)
 {
@@ -136,11 +136,7 @@ static __attribute__((noreturn)) void rom(void)
     for (u32 place = 0; place < count; place += 8) {
         ADD("rom ");
         add_hex(ROM_END - count + place);
-        for (u32 i = place; i < place + 8; i++) {
-            add_space();
-            store32(out, four_digits(input_words[i]));
-            out += 4;
-        }
+        out = put_eight_words(out, input_words + place);
         *out++ = '\n';
     }
     finish(0);

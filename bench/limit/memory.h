@@ -11,10 +11,10 @@ enum { LARGE_ROM = 0x400, SMALL_ROM = 0x800, ROM_END = 0xC00, ADDRESSES = 0x1000
 /* RTSL: what a word of the ROM is that nothing gives. */
 enum { RETURN_WORD = 0xD000 };
 
-/* The words by their addresses, each with its low byte first, and where the ROM begins. */
+/* Where the ROM begins, and the words by their addresses, each with its low byte first. */
 struct memory {
-    u16 words[ADDRESSES + 8];
     u32 rom;
+    u16 words[ADDRESSES + 8];
 };
 
 INLINE u8 *ram_of(struct memory *memory)
@@ -43,7 +43,7 @@ static void clear_rom(struct memory *memory, u32 first)
 }
 
 /* Whether a line that tells of the ROM has been read: no `map` may follow. */
-static bool rom_was_stated;
+static bool rom_was_stated NEAR;
 
 /* Reads the line `map 2048` or `map 4096`, and answers the place after it; null where this is none,
  * or may not stand here. */

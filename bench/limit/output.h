@@ -11,7 +11,7 @@
  * longest lines that are made at once. */
 enum { BUFFERED = 65536, LONGEST = 4096 };
 
-static u8 output[BUFFERED + LONGEST] __attribute__((aligned(64)));
+static u8 output[BUFFERED + LONGEST] PAGES;
 
 /* Where the next byte goes. */
 static u8 *out = output;

@@ -6,16 +6,16 @@
 #include "lines.h"
 #include "trace.h"
 
-static struct stroke strokes[MOST_EVENTS];
+static struct stroke strokes[MOST_EVENTS] PAGES;
 static struct generator generator = {.list = strokes};
-static struct driver driver;
+static struct driver driver NEAR;
 
 /* Whether a strobe was sent since the last reset of the whole system. */
-static u32 strobe_was_sent;
+static u32 strobe_was_sent NEAR;
 
 /* The byte that the whole RAM holds, until a frame is taken, and -1 from then on. Nothing else
  * reads the RAM before. */
-static i32 fill;
+static i32 fill NEAR;
 
 /* --- Fetches --- */
 

@@ -5,7 +5,6 @@
 #include "digits.h"
 #include "output.h"
 
-#include <emmintrin.h>
 #include <sys/mman.h>
 #include <sys/stat.h>
 
@@ -16,7 +15,7 @@ enum { MOST_TEXT = 1048576, SLACK = 64, PAGE = 4096 };
 static u8 text_buffer[MOST_TEXT + 1 + SLACK] __attribute__((aligned(64)));
 
 /* The text, whose last byte is a line end, and the place after it. */
-static const u8 *text, *text_end;
+static const u8 *text NEAR, *text_end NEAR;
 
 /* Whether there are zeros enough after so many bytes in the page of the last one. */
 INLINE bool leaves_slack(size_t count)

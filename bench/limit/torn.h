@@ -13,12 +13,12 @@ enum { PIECE = 32768, LONGEST_LINE = 64 };
 static u8 log_buffer[LONGEST_LINE + PIECE + 2 * LONGEST_LINE] __attribute__((aligned(64)));
 
 /* How many lines there are before those that are judged. */
-static u64 lines_before;
+static u64 lines_before NEAR;
 
 /* What the open run draws: none is open; it has fetched nothing; half 0; half 1; neither half. */
 enum { CLOSED, BEGUN, DRAWS_0, DRAWS_1, DRAWS_NEITHER };
 
-static u32 drawn = CLOSED;
+static u32 drawn NEAR = CLOSED;
 
 /* What the lines tell that are judged: runs that began, that drew a half and that halted, and bytes
  * that were written. */
@@ -26,7 +26,7 @@ struct seen {
     u64 runs, drew, halted, writes;
 };
 
-static struct seen seen;
+static struct seen seen NEAR;
 
 /* How 16 bytes of a line must be: those that are fixed, and those that are hexadecimal digits. */
 struct pattern {
@@ -236,12 +236,38 @@ INLINE const u8 *take_other(const u8 *line, u32 *draws, struct seen *counts)
     return NULL;
 }
 
-/* Judges whole lines. */
-APART void judge(const u8 *lines, const u8 *end)
+static void judge(const u8 *lines, const u8 *end);
+
+/* Judges a line that has capitals or a CR at its end as the same line without these, and answers
+ * the place after it. One that has neither says nothing that a line may say. */
+RARE const u8 *judge_unusual(const u8 *lines, const u8 *line)
+{
+    static u8 usual[2 * LONGEST_LINE];
+    u64 before = lines_before;
+    u32 length = 0, others = 0;
+    lines_before += count_lines(lines, line);
+    for (; length < LONGEST_LINE && line[length] != '\n'; length++) {
+        u32 byte = line[length], is_capital = byte - 'A' < 26;
+        usual[length] = (u8)(byte + ('a' - 'A') * is_capital);
+        others += is_capital;
+    }
+    u32 is_cr = length > 0 && usual[length - 1] == '\r';
+    if (line[length] != '\n' || others + is_cr == 0) {
+        fail_at("syntax at line ", lines_before + 1);
+    }
+    usual[length - is_cr] = '\n';
+    judge(usual, usual + length - is_cr + 1);
+    lines_before = before;
+    return line + length + 1;
+}
+
+/* Judges lines up to one that has capitals or a CR, or says nothing that a line may say, and answers
+ * the place where it stops. The lines that are counted begin before. */
+APART const u8 *judge_usual(const u8 *lines, const u8 *line, const u8 *end)
 {
     u32 draws = drawn;
     struct seen counts = seen;
-    const u8 *line = lines, *next;
+    const u8 *next;
     while (line < end) {
         if (is_write(line)) {
             counts.writes++;
@@ -261,11 +287,21 @@ APART void judge(const u8 *lines, const u8 *end)
         } else if ((next = take_other(line, &draws, &counts)) != NULL) {
             line = next;
         } else {
-            fail_at("syntax at line ", lines_before + count_lines(lines, line) + 1);
+            break;
         }
     }
     drawn = draws;
     seen = counts;
+    return line;
+}
+
+/* Judges whole lines. */
+static void judge(const u8 *lines, const u8 *end)
+{
+    const u8 *line = judge_usual(lines, lines, end);
+    while (line < end) {
+        line = judge_usual(lines, judge_unusual(lines, line), end);
+    }
 }
 
 /* Reads the next piece after so many bytes that are held, and answers how many are held then: those

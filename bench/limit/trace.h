@@ -24,8 +24,8 @@ struct reader {
     u32 newest;
 };
 
-static struct draft draft;
-static struct memory memory;
+static struct draft draft NEAR;
+static struct memory memory PAGES;
 static struct checker checker;
 
 enum { KIND = 28, REST = (1 << KIND) - 1 };
@@ -86,20 +86,27 @@ APART const u8 *read_other(const u8 *line, const u8 **after)
 APART const u8 *read_offer(const u8 *line)
 {
     const u8 *after = NULL;
-    clear_draft(&draft);
+    u32 count = 0, words = 0, targets = 0;
     while (line != NULL) {
         u32 operation;
         const u8 *next = read_operation(line, &operation);
-        if (likely(next != NULL)) {
-            if (unlikely(draft.count == MOST_OPERATIONS)) {
-                fail_at_line("full at line ", line);
-            }
-            add_operation(&draft, operation);
-            line = next;
-        } else {
+        if (unlikely(next == NULL)) {
             line = read_other(line, &after);
+            continue;
         }
+        if (unlikely(count == MOST_OPERATIONS)) {
+            fail_at_line("full at line ", line);
+        }
+        if (names_operation(operation) && second_word(operation) >= targets) {
+            targets = second_word(operation) + 1;
+        }
+        words += words_of(operation);
+        draft.operations[count++] = operation;
+        line = next;
     }
+    draft.count = count;
+    draft.words = words;
+    draft.targets = targets;
     return after;
 }
 
@@ -198,7 +205,7 @@ struct name {
     u32 kind;
 };
 
-static struct name names[16];
+static struct name names[16] NEAR;
 
 INLINE struct name *name_of(u64 characters)
 {

@@ -15,7 +15,7 @@ use Rattle.dvg_logs.specs.declared.log_reading.LogStop.{LogStop}
 use Rattle.dvg_logs.specs.declared.log_reading.LogStop.TheVariants.{Found, Syntax, TooLong}
 use Rattle.dvg_logs.specs.declared.log_reading.LogReading.{LogReading}
 use Rattle.dvg_logs.specs.HalfLines.{EndsUntorn, FindsTorn}
-use Rattle.dvg_logs.specs.Judging.{JudgesInput, ReadsAs, answer_of, found_in}
+use Rattle.dvg_logs.specs.Judging.{JudgesInput, ReadsAs, answer_of}
 use Rattle.dvg_logs.specs.LogCounts.{counts_of, no_run_drew}
 use Rattle.dvg_logs.specs.LogReading.{HasRead, StopsAt, number_of}
 use Rattle.dvg_logs.specs.LogTexts.{IsWhole, Says}

@@ -5,6 +5,7 @@ pub mod DrawnCounts
 pub mod OneVerdict
 pub mod Inputs
 pub mod NumberLines
+pub mod CommentLines
 pub mod MomentLines
 pub mod OneMoment
 pub mod ReadsOn

@@ -7,8 +7,7 @@ use Rattle.std.proofs.lemmas.Grind.{flat_map-append}
 use Rattle.dvg_driver.specs.declared.action.Action.TheVariants.{Wrote}
 use Rattle.dvg_log.specs.declared.entry.Entry.TheVariants.{Acted}
 use Rattle.dvg_log.specs.declared.event.Event.TheVariants.{Tick}
-use Rattle.dvg_log.specs.Log.{◌⟼◌, Line, Log, Throughout}
-use Rattle.dvg_log.specs.Torn.{IsUntorn}
+use Rattle.dvg_log.specs.Log.{◌⟼◌, Line, Log}
 use Rattle.std.proofs.lemmas.Bool.{cases_lt, eqb-true}
 use Rattle.dvg_read.specs.Texts.{lines}
 use Rattle.dvg_read.proofs.LineEnds.{line_at, line_last}

@@ -1,12 +1,11 @@
 -- What lines make of what is known of a log, by the rule of moments.
-use Rattle.std.proofs.Common.{◌≡◌, ◌≢◌, ◌≤◌, ◌<◌, ◌+◌, ◌%◌, ◌^◌, ◌-◌, ℕ, suc, List, [], ◌∷◌, length, Option, Some, None, Bool, true, false, true≢false, ◌⊎◌, ◌&&◌, ◌||◌, cond, inl, inr, refl, sym, ap, ◌∙◌, arith, subst}
+use Rattle.std.proofs.Common.{◌≡◌, ◌≢◌, ◌≤◌, ◌<◌, ◌+◌, ◌%◌, ◌^◌, ◌-◌, ℕ, suc, List, [], ◌∷◌, length, Option, Some, None, Bool, true, false, ◌&&◌, ◌||◌, cond, inl, inr, refl, sym, ap, ◌∙◌, arith}
 use Rattle.std.specs.Prelude.{IsTrue, ◌↔◌, option_map, is_some}
-use Rattle.std.specs.List.{count_by}
 use Rattle.std.proofs.lemmas.Option.{none-some}
 use Rattle.dvg_log.specs.Entries.{Shown}
 use Rattle.dvg_log.specs.Events.{Happening}
 use Rattle.dvg_driver.specs.declared.action.Action.TheVariants.{Idle, Wrote}
-use Rattle.dvg_log.specs.declared.entry.Entry.TheVariants.{Acted, Cleared, Started, Fetched}
+use Rattle.dvg_log.specs.declared.entry.Entry.TheVariants.{Acted, Cleared, Started}
 use Rattle.dvg_log.specs.declared.event.Event.TheVariants.{Fetch, ResetGen, Strobe, Tick}
 use Rattle.dvg_print.specs.declared.moment_verdict.MomentVerdict.{MomentVerdict}
 use Rattle.dvg_logs.specs.LogLineTells.{line_of}
@@ -18,7 +17,6 @@ use Rattle.dvg_moment.specs.Moment.{Contradicts, OfOneMoment, reads, told}
 use Rattle.dvg_moment.proofs.Latest.{past_on, still_of_one, torn_on}
 use Rattle.dvg_print.specs.declared.moment_verdict.Reading.{Reading}
 use Rattle.dvg_print.specs.declared.moment_verdict.Reading.TheVariants as of
-use Rattle.dvg_logs.specs.LogCounts.{begins}
 use Rattle.dvg_logs.specs.MomentLogs.{AreDecided, IsSound, TornSince, judged_log, halted_of, halts_run, has_judged, has_read, reading_entry}
 use Rattle.dvg_logs.specs.MomentLines.{TearsSo}
 use Rattle.dvg_logs.specs.declared.moment_lines.Tear.{Tear}

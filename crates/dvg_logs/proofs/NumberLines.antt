@@ -14,7 +14,7 @@ use Rattle.dvg_read.specs.Texts.{IsHex, is_passed, parts}
 use Rattle.dvg_logs.specs.LogLines.{LogRow, Tells, logged, small}
 use Rattle.dvg_logs.specs.LogLineTells.{AreNumbers, AreWritten, BeginsWithNumbers}
 use Rattle.dvg_logs.specs.declared.log_reading.JudgedLines.{JudgedLines}
-use Rattle.dvg_logs.specs.LogReading.{HasJudged, HeadLine, IsOpen, IsRead, TakesLine, TakesLines}
+use Rattle.dvg_logs.specs.LogReading.{HasJudged, HeadLine, IsRead, TakesLine, TakesLines}
 use Rattle.dvg_logs.proofs.LogReads.{first_read, line_off}
 use Rattle.dvg_logs.proofs.SmallLines.{small_numbers, stripped}
 use Rattle.dvg_logs.proofs.LogRows.{fetched_line, fetched_made, low_line, low_made, wrote_line, wrote_made}

@@ -5,11 +5,11 @@ use Rattle.dvg_log.specs.Events.{Happening}
 use Rattle.dvg_log.specs.Log.{◌⟼◌, Line, Log, Throughout}
 use Rattle.dvg_read.specs.Texts.{lines}
 use Rattle.dvg_print.specs.declared.moment_verdict.MomentVerdict.{MomentVerdict}
-use Rattle.dvg_logs.specs.AllTears.{AreTears, EndsAll, IsTear, JudgesAll, of_all}
+use Rattle.dvg_logs.specs.AllTears.{AreTears, EndsAll, IsTear, of_all}
 use Rattle.dvg_logs.specs.LogLaws.{OneAllVerdict}
 use Rattle.dvg_logs.specs.LogLines.{IsLogOf, Tells}
-use Rattle.dvg_logs.specs.LogTexts.{IsFoundAt, IsLogSo}
-use Rattle.dvg_logs.specs.MomentLogs.{AreDecided, Decides, IsSound}
+use Rattle.dvg_logs.specs.LogTexts.{IsFoundAt}
+use Rattle.dvg_logs.specs.MomentLogs.{AreDecided, Decides}
 use Rattle.dvg_logs.proofs.OneMoment.{decides_once, ends_once, unsound}
 use Rattle.dvg_logs.proofs.OneVerdict.{Of, StopsAt, log_once, never_stops, one_stop, same_fronts, same_lines, tells_once}
 

@@ -1,7 +1,5 @@
 -- Of the text of a log one verdict by moments is given at most, and none where a line tells nothing.
-use Rattle.std.proofs.Common.{◌≡◌, ◌+◌, ℕ, List, [], ◌∷◌, ◌++◌, length, refl, sym, ap, ◌∙◌, subst, arith, inl, inr, Result, Ok, Err, IfErr, IfOk, true, false, true≢false, Option, Some, None}
-use Rattle.dvg_log.specs.Entries.{Shown}
-use Rattle.dvg_log.specs.Events.{Happening}
+use Rattle.std.proofs.Common.{◌≡◌, ℕ, List, [], ◌∷◌, length, refl, sym, ap, ◌∙◌, subst, inl, inr, true, false, true≢false, Option, Some, None}
 use Rattle.dvg_log.specs.declared.entry.Entry.TheVariants.{Offered, Refused, Busy, Asked, NothingPublished, Acted, Started, NoStrobe, Low, Fetched, Done, Broke, Still, Cleared}
 use Rattle.dvg_log.specs.declared.event.Event.TheVariants.{Fetch}
 use Rattle.dvg_log.specs.Log.{◌⟼◌, Line, Log, Throughout}
@@ -18,11 +16,11 @@ use Rattle.dvg_logs.specs.LogLaws.{IsJudgedByMoments}
 use Rattle.dvg_logs.specs.LogCounts.{halts}
 use Rattle.dvg_logs.specs.LogLines.{IsLogOf, Tells}
 use Rattle.dvg_logs.specs.LogReading as reading
-use Rattle.dvg_logs.specs.LogTexts.{IsFoundAt, IsWhole}
-use Rattle.dvg_logs.specs.MomentLogs.{Decides, Ends, IsSound, TornSince, has_judged, judged_log, reading_entry}
-use Rattle.dvg_logs.specs.MomentTears.{HasMomentFault, JudgesMoments}
+use Rattle.dvg_logs.specs.LogTexts.{IsFoundAt}
+use Rattle.dvg_logs.specs.MomentLogs.{Decides, Ends, IsSound, TornSince, judged_log, reading_entry}
+use Rattle.dvg_logs.specs.MomentTears.{JudgesMoments}
 use Rattle.dvg_logs.proofs.MomentLines.{torn_of}
-use Rattle.dvg_logs.proofs.OneVerdict.{Of, StopsAt, log_once, never_stops, one_stop, same_fronts, same_lines, syntax_stops, tells_once}
+use Rattle.dvg_logs.proofs.OneVerdict.{Of, StopsAt, log_once, never_stops, one_stop, same_fronts, same_lines, tells_once}
 
 -- ---- what decides
 

@@ -1,5 +1,5 @@
 -- Of the text of a log one verdict is given at most, and none where a line tells nothing.
-use Rattle.std.proofs.Common.{◌≡◌, ◌<◌, ◌+◌, ◌-◌, ℕ, suc, List, [], ◌∷◌, ◌++◌, codes, length, take, drop, reverse, refl, sym, ap, ◌∙◌, subst, arith, append_assoc, length-append, ⊎_elim, inl, inr, Result, Ok, Err, IfErr, IfOk, Bool, true, false, true≢false, cond, Option, Some, None}
+use Rattle.std.proofs.Common.{◌≡◌, ◌<◌, ◌+◌, ◌-◌, ℕ, suc, List, [], ◌∷◌, ◌++◌, codes, length, take, drop, reverse, refl, sym, ap, ◌∙◌, subst, arith, append_assoc, length-append, ⊎_elim, inl, inr, Bool, true, false, true≢false, cond, Option, Some, None}
 use Rattle.std.specs.List.{AllZip}
 use Rattle.std.proofs.lemmas.Bool.{cases_lt}
 use Rattle.std.proofs.lemmas.List.{nil_from_length, reverse-append, reverse-reverse}
@@ -26,7 +26,7 @@ use Rattle.dvg_logs.specs.HalfLines.{EndsUntorn, FindsTorn, IsTornLine}
 use Rattle.dvg_logs.specs.LogReading as reading
 use Rattle.dvg_logs.specs.Judging.{found_in}
 use Rattle.dvg_logs.specs.LogCounts.{counts_of, no_run_drew}
-use Rattle.dvg_logs.specs.LogTexts.{Finds, HasLogFault, IsFoundAt, IsLogSo, IsTornAt, IsUntornLog, IsWhole, JudgesLog, MeetsSyntax, Says}
+use Rattle.dvg_logs.specs.LogTexts.{Finds, HasLogFault, IsFoundAt, IsLogSo, IsTornAt, IsWhole, JudgesLog, MeetsSyntax, Says}
 use Rattle.dvg_logs.proofs.LogReads.{log_length, torn_at}
 use Rattle.dvg_logs.proofs.LogRows.{NumberRow, WrittenRow, fetched_line, fetched_row, low_line, low_row, passed_alone, row_of, wrote_line, wrote_row}
 

@@ -1,11 +1,10 @@
 -- How a reading goes on after a line that decides.
-use Rattle.std.proofs.Common.{◌≡◌, ◌<◌, ◌≤◌, ◌+◌, ◌*◌, ℕ, List, [], ◌∷◌, ◌++◌, Option, length, refl, sym, ap, ◌∙◌, subst, arith, append_assoc, append-nil, length-append}
+use Rattle.std.proofs.Common.{◌≡◌, ◌≤◌, ℕ, List, [], ◌∷◌, ◌++◌, Option, length, sym, ap, ◌∙◌, subst, arith, append_assoc, append-nil, length-append}
 use Rattle.dvg_log.specs.Log.{Log}
-use Rattle.dvg_logs.specs.declared.log_reading.JudgedLines.{JudgedLines}
 use Rattle.dvg_logs.specs.declared.log_reading.LogReading.{LogReading}
 use Rattle.dvg_logs.specs.declared.log_reading.LogStop.{LogStop}
 use Rattle.dvg_logs.specs.declared.log_reading.LogStop.TheVariants.{Found, Syntax, TooLong}
-use Rattle.dvg_logs.specs.LogReading.{GoesOn, HasJudged, HasRead, IsOpen, IsRead, JudgesOn, ReadsOn, place_of}
+use Rattle.dvg_logs.specs.LogReading.{GoesOn, HasRead, IsOpen, IsRead, JudgesOn, ReadsOn, place_of}
 use Rattle.dvg_logs.proofs.LogReads.{line_read}
 
 pub on_weaker : {V : Type 0} {P Q : V → Type 0} (stop : LogStop V) → ((one : V) → P one → Q one) → GoesOn stop P → GoesOn stop Q

@@ -1,11 +1,10 @@
 -- How the torn runs of a log are told, and what is answered at last.
-use Rattle.std.proofs.Common.{◌≡◌, ◌<◌, ◌≤◌, ◌+◌, ◌-◌, ◌%◌, ◌^◌, ℕ, suc, List, [], ◌∷◌, ◌++◌, flat_map, length, reverse, take, Option, Some, None, IfSome, IsNone, Result, Ok, Err, refl, sym, ap, ◌∙◌, subst, arith, append_assoc, append-nil, length-append, inl, inr, ◌⊎◌, Bool, true, false, cond, eqb}
+use Rattle.std.proofs.Common.{◌≡◌, ◌<◌, ◌≤◌, ◌+◌, ◌%◌, ◌^◌, ℕ, List, [], ◌∷◌, ◌++◌, flat_map, length, reverse, Option, Some, None, IfSome, IsNone, Result, Ok, Err, refl, sym, ap, ◌∙◌, subst, arith, append_assoc, append-nil, length-append, inl, inr, ◌⊎◌, Bool, true, false, cond, eqb}
 use Rattle.std.proofs.lemmas.List.{reverse-append}
 use Rattle.std.proofs.lemmas.Grind.{flat_map-append}
 use Rattle.std.specs.Io.KnownBytes.{Appends, Consumes, IsAtEnd}
-use Rattle.dvg_log.specs.Log.{◌⟼◌, Line, Log, Throughout}
+use Rattle.dvg_log.specs.Log.{◌⟼◌, Line, Log}
 use Rattle.dvg_read.specs.Texts.{lines}
-use Rattle.dvg_read.specs.declared.fault.TextFault.TheVariants as of_text
 use Rattle.dvg_print.specs.declared.moment_verdict.MomentVerdict.{MomentVerdict}
 use Rattle.dvg_print.specs.declared.moment_verdict.MomentVerdict.TheVariants as say
 use Rattle.dvg_print.specs.MomentVerdicts.{moment_verdict_text}
@@ -15,12 +14,12 @@ use Rattle.dvg_io.specs.Watching.{BeginsToWrite}
 use Rattle.dvg_io.proofs.Known.{Appends-trans}
 use Rattle.dvg_io.proofs.Went.{second_begun}
 use Rattle.dvg_logs.specs.AllTears.{AllTakes, AllTears, AreSaid, AreTears, EndsAll, IsTear, JudgesAll, of_all, texts_of}
-use Rattle.dvg_logs.specs.LogReading.{GoesOn, HasJudged, HasRead, ReadsOn, StopsAt, number_of}
+use Rattle.dvg_logs.specs.LogReading.{GoesOn, HasJudged, HasRead, StopsAt, number_of}
 use Rattle.dvg_logs.specs.LogTexts.{IsFoundAt, IsWhole}
 use Rattle.dvg_logs.specs.MomentLines.{StandsSo}
 use Rattle.dvg_logs.specs.MomentLogs.{AreDecided, Decides, Ends}
-use Rattle.dvg_logs.specs.Tears.{TakesUpTo, ended}
-use Rattle.dvg_logs.specs.Telling.{EndsSo, EndsWhole, HasTold, HasToldAll, IsTold, IsToldAnswer, TellsAs, TellsLast, TellsTear, failed_by}
+use Rattle.dvg_logs.specs.Tears.{TakesUpTo}
+use Rattle.dvg_logs.specs.Telling.{EndsSo, EndsWhole, HasTold, IsTold, TellsAs, TellsLast, TellsTear, failed_by}
 use Rattle.dvg_logs.specs.declared.log_reading.JudgedLines.{JudgedLines}
 use Rattle.dvg_logs.specs.declared.log_reading.LogReading.{LogReading}
 use Rattle.dvg_logs.specs.declared.moment_lines.MomentLines.{MomentLines}

@@ -1,5 +1,5 @@
 -- How `torn --moments --all` tells its lines (for private contracts).
-use Rattle.std.specs.Prelude.{◌≡◌, ◌<◌, ℕ, List, [], ◌∷◌, ◌++◌, length, Option, Some, None, Result, Ok, Err}
+use Rattle.std.specs.Prelude.{◌≡◌, ◌<◌, ℕ, List, ◌∷◌, ◌++◌, length, Option, Some, None, Result, Ok, Err}
 use Rattle.std.specs.Io.KnownBytes.{Appends}
 use Rattle.dvg_read.specs.Texts.{lines}
 use Rattle.dvg_read.specs.declared.fault.TextFault.TheVariants as of_text

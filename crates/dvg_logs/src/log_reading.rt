@@ -219,7 +219,7 @@ impl<J: LineJudge> LogReading<J> {
                 Ok(()) => {}
                 Err(stop) => return Err(Stopped { stop, rest: after }),
             }
-            rest = self.judged.take_number_lines(after);
+            rest = self.judged.take_usual_lines(after);
         }
         match self.begin_line(rest) {
             Ok(()) => Ok(()),

@@ -1,12 +1,13 @@
-//! Lines of logs that have numbers, as most do: each is read at the head of a text, with no search
-//! for its end.
+//! Lines of logs that have numbers, as most do, and comments. Each is taken from the head of a text,
+//! one that has numbers with no search for its end.
 ghost use Rattle.std.specs.Prelude.{◌≡◌, ◌+◌, ◌*◌, ◌<◌, IfSome};
 ghost use Rattle.dvg_logs.specs.LogLineTells.{BeginsWithNumbers};
 
 use crate::line_judge::LineJudge;
-use crate::log_line::{LogLine, RAM_END};
+use crate::log_line::{LogLine, MOST_LINE_BYTES, RAM_END};
 use crate::log_reading::JudgedLines;
 use dvg_read::digit_of;
+use memchr::memchr;
 
 /// The most bytes of a line that has numbers, with its end. A text with fewer bytes left is read
 /// otherwise.
@@ -66,8 +67,8 @@ fn address_and_word(text: &[u8]) -> Option<(u16, u16, &[u8])>
     Some((of_three(a, b, c), word, rest))
 }
 
-// Most lines of a log have numbers. Each is taken from the head of a text, if it ends there and
-// doesn't decide. What comes after it is returned.
+// Each line is taken from the head of a text, if it ends there and doesn't decide. What comes after
+// it is returned.
 impl<J: LineJudge> JudgedLines<J> {
     ghost use Rattle.std.specs.Prelude.{◌≡◌, ◌+◌, ◌-◌, ◌^◌, ◌<◌, ◌++◌, IfSome, IsNone, IsSome};
     ghost use Rattle.std.specs.Prelude.{codes};
@@ -131,10 +132,30 @@ impl<J: LineJudge> JudgedLines<J> {
         }
     }
 
-    // Takes a line that has numbers from the head of `text`. Returns what comes after it. The name
-    // that comes most often is looked for first.
+    // Takes a line that begins with `#` from the head of `text`. Returns what comes after it.
     #[inline(always)]
-    fn take_number_line<'a>(&mut self, text: &'a [u8]) -> Option<&'a [u8]>
+    fn take_comment<'a>(&mut self, text: &'a [u8]) -> Option<&'a [u8]>
+        requires room { self.old.count < 2 ^ 64 - 1 }
+        ensures taken { IfSome result (λ rest.
+            TakesLine J.Stands J.Passes self.old self.new text.now rest.now) }
+        ensures count { IsSome result → self.new.count ≡ self.old.count + 1 }
+        ensures none { IsNone result → self.new ≡ self.old }
+    {
+        let [b'#', ..] = text else {
+            return None;
+        };
+        let end = memchr(b'\n', text)?;
+        if end <= MOST_LINE_BYTES && self.take_logged(LogLine::Passed) {
+            Some(&text[end + 1..])
+        } else {
+            None
+        }
+    }
+
+    // Takes a line that has numbers, or begins with `#`, from the head of `text`. Returns what
+    // comes after it. The name that comes most often is looked for first.
+    #[inline(always)]
+    fn take_usual_line<'a>(&mut self, text: &'a [u8]) -> Option<&'a [u8]>
         requires room { self.old.count < 2 ^ 64 - 1 }
         ensures taken { IfSome result (λ rest.
             TakesLine J.Stands J.Passes self.old self.new text.now rest.now) }
@@ -148,21 +169,23 @@ impl<J: LineJudge> JudgedLines<J> {
             self.take_wrote(rest)
         } else if let Some(rest) = text.strip_prefix(b"fetched ") {
             self.take_fetched(rest)
+        } else if let Some(rest) = text.strip_prefix(b"low ") {
+            self.take_low(rest)
         } else {
-            self.take_low(text.strip_prefix(b"low ")?)
+            self.take_comment(text)
         }
     }
 
-    /// Takes lines that have numbers from the head of `text`, up to the first line that has none,
-    /// that decides or that doesn't end. It stops, too, where fewer bytes are left than the longest
-    /// such line has. Returns what comes after the lines.
+    /// Takes lines that have numbers, or begin with `#`, from the head of `text`, up to the first one
+    /// that is another, that decides or that doesn't end. It stops, too, where fewer bytes are left
+    /// than the longest line with numbers has. Returns what comes after the lines.
     #[inline(never)]
-    pub fn take_number_lines<'a>(&mut self, text: &'a [u8]) -> &'a [u8]
+    pub fn take_usual_lines<'a>(&mut self, text: &'a [u8]) -> &'a [u8]
         ensures { TakesLines J.Stands J.Passes self.old self.new text.now result.now }
     {
         let mut rest = text;
         while self.count < usize::MAX {
-            let Some(after) = self.take_number_line(rest) else {
+            let Some(after) = self.take_usual_line(rest) else {
                 break;
             };
             rest = after;

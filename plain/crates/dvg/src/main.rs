@@ -9,19 +9,21 @@ mod explain;
 mod explained;
 mod forms;
 mod places;
+mod told;
 
 use clap::Error;
 use clap::error::ErrorKind;
 use dvg_io::read_up_to;
 use dvg_tool::{
-    Done, Job, MOST_TEXT_BYTES, TextFault, ToolFault, Watched, arguments_status, finish, job,
-    perform, status,
+    Done, Job, LogRule, MOST_TEXT_BYTES, TextFault, ToolFault, Watched, arguments_status, finish,
+    job, perform, status,
 };
 use explain::explain;
 use std::alloc::Global;
-use std::io::{BufWriter, Read, Write};
+use std::io::{BufWriter, IsTerminal, Read, Write};
 use std::process::ExitCode;
 use std::{env, io};
+use told::Told;
 
 /// The exit status of arguments that can't be read as text.
 const MISUSE: u8 = 64;
@@ -73,14 +75,28 @@ fn answer_arguments(rt: &HostRuntime, error: &Error) -> u8 {
     arguments_status(error)
 }
 
-/// Does `job` from `input` to standard output.
+/// Returns whether it may be told how far `job` is: not where it writes lines on a terminal before
+/// it has read all.
+fn may_tell(rt: &HostRuntime, job: Job) -> bool {
+    match job {
+        Job::Torn {
+            rule: LogRule::AllMoments,
+            ..
+        } => !rt.stdout().is_terminal(),
+        _ => true,
+    }
+}
+
+/// Does `job` from `input` to standard output. Where that takes long, standard error tells how far
+/// it is, if that is a terminal.
 fn run<R: Read + Drop>(rt: &HostRuntime, job: Job, input: R) -> Result<Done<Global>, ToolFault> {
     let Ok(output) = BufWriter::with_capacity(rt.alloc(), OUTPUT_BYTES, io::writer(rt)) else {
         return Err(ToolFault::Memory);
     };
-    let mut reader = Watched::new(input);
+    let mut reader = Watched::new(Told::new(rt, input, may_tell(rt, job)));
     let mut writer = Watched::new(output);
     let answer = perform(rt.alloc(), job, &mut reader, &mut writer);
+    reader.into_inner().clear();
     finish(answer, &mut writer)
 }
 

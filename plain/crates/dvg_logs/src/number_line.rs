@@ -1,9 +1,10 @@
-//! Lines of logs that have numbers, as most do: each is read at the head of a text, with no search
-//! for its end.
+//! Lines of logs that have numbers, as most do, and comments. Each is taken from the head of a text,
+//! one that has numbers with no search for its end.
 use crate::line_judge::LineJudge;
-use crate::log_line::{LogLine, RAM_END};
+use crate::log_line::{LogLine, MOST_LINE_BYTES, RAM_END};
 use crate::log_reading::JudgedLines;
 use dvg_read::digit_of;
+use memchr::memchr;
 
 /// The most bytes of a line that has numbers, with its end. A text with fewer bytes left is read
 /// otherwise.
@@ -53,8 +54,8 @@ fn address_and_word(text: &[u8]) -> Option<(u16, u16, &[u8])> {
     Some((of_three(a, b, c), word, rest))
 }
 
-// Most lines of a log have numbers. Each is taken from the head of a text, if it ends there and
-// doesn't decide. What comes after it is returned.
+// Each line is taken from the head of a text, if it ends there and doesn't decide. What comes after
+// it is returned.
 impl<J: LineJudge> JudgedLines<J> {
     // Takes the rest of a line `wrote` from `text`, after `wrot`: four letters are compared as one
     // number, and six are not. Returns what comes after the line. One with an address of the
@@ -96,10 +97,24 @@ impl<J: LineJudge> JudgedLines<J> {
         }
     }
 
-    // Takes a line that has numbers from the head of `text`. Returns what comes after it. The name
-    // that comes most often is looked for first.
+    // Takes a line that begins with `#` from the head of `text`. Returns what comes after it.
     #[inline(always)]
-    fn take_number_line<'a>(&mut self, text: &'a [u8]) -> Option<&'a [u8]> {
+    fn take_comment<'a>(&mut self, text: &'a [u8]) -> Option<&'a [u8]> {
+        let [b'#', ..] = text else {
+            return None;
+        };
+        let end = memchr(b'\n', text)?;
+        if end <= MOST_LINE_BYTES && self.take_logged(LogLine::Passed) {
+            Some(&text[end + 1..])
+        } else {
+            None
+        }
+    }
+
+    // Takes a line that has numbers, or begins with `#`, from the head of `text`. Returns what
+    // comes after it. The name that comes most often is looked for first.
+    #[inline(always)]
+    fn take_usual_line<'a>(&mut self, text: &'a [u8]) -> Option<&'a [u8]> {
         if text.len() < MOST_NUMBER_BYTES {
             return None;
         }
@@ -107,19 +122,21 @@ impl<J: LineJudge> JudgedLines<J> {
             self.take_wrote(rest)
         } else if let Some(rest) = text.strip_prefix(b"fetched ") {
             self.take_fetched(rest)
+        } else if let Some(rest) = text.strip_prefix(b"low ") {
+            self.take_low(rest)
         } else {
-            self.take_low(text.strip_prefix(b"low ")?)
+            self.take_comment(text)
         }
     }
 
-    /// Takes lines that have numbers from the head of `text`, up to the first line that has none,
-    /// that decides or that doesn't end. It stops, too, where fewer bytes are left than the longest
-    /// such line has. Returns what comes after the lines.
+    /// Takes lines that have numbers, or begin with `#`, from the head of `text`, up to the first one
+    /// that is another, that decides or that doesn't end. It stops, too, where fewer bytes are left
+    /// than the longest line with numbers has. Returns what comes after the lines.
     #[inline(never)]
-    pub fn take_number_lines<'a>(&mut self, text: &'a [u8]) -> &'a [u8] {
+    pub fn take_usual_lines<'a>(&mut self, text: &'a [u8]) -> &'a [u8] {
         let mut rest = text;
         while self.count < usize::MAX {
-            let Some(after) = self.take_number_line(rest) else {
+            let Some(after) = self.take_usual_line(rest) else {
                 break;
             };
             rest = after;

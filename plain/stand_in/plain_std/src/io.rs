@@ -1,7 +1,7 @@
 //! Input and output.
 use crate::alloc::{AllocError, AllocFailed, Global};
 #[cfg(feature = "program")]
-pub use crate::runtime::{BufWriter, writer};
+pub use crate::runtime::{BufWriter, IsTerminal, writer};
 pub use host::io::{Error, ErrorKind, Read, Result, Write};
 
 impl From<AllocError> for Error {

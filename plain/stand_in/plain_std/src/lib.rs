@@ -26,6 +26,8 @@ pub mod io;
 pub mod runtime;
 #[cfg(feature = "serde")]
 mod serde_forms;
+#[cfg(feature = "program")]
+pub mod time;
 
 pub use core::{convert, fmt, iter, marker, mem, slice};
 #[cfg(feature = "program")]

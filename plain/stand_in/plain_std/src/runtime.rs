@@ -24,6 +24,16 @@ impl HostRuntime {
     pub fn stdin(&self) -> Stream {
         Stream::of(0)
     }
+
+    /// Standard output.
+    pub fn stdout(&self) -> Stream {
+        Stream::of(1)
+    }
+
+    /// Standard error.
+    pub fn stderr(&self) -> Stream {
+        Stream::of(2)
+    }
 }
 
 /// A standard stream as the system gives it, with no buffer of its own, that isn't closed.
@@ -124,6 +134,18 @@ impl Write for Stream {
 
     fn flush(&mut self) -> Result<()> {
         Ok(())
+    }
+}
+
+/// What may be a terminal.
+pub trait IsTerminal {
+    /// Whether it is one.
+    fn is_terminal(&self) -> bool;
+}
+
+impl IsTerminal for Stream {
+    fn is_terminal(&self) -> bool {
+        !start::was_closed(self.1) && host::io::IsTerminal::is_terminal(&*self.0)
     }
 }
 

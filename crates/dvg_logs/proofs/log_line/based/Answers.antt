@@ -1,4 +1,4 @@
-use Rattle.std.proofs.Common.{◌≡◌, ◌+◌, ◌∙◌, ℕ, Option, Some, None, ap, sym, subst}
+use Rattle.std.proofs.Common.{◌≡◌, ◌+◌, ℕ, Option, Some, ap, subst}
 use Rattle.std.specs.Prelude.{unwrap_or}
 use Rattle.dvg_logs.specs.LogLineTells.{AreNumbers}
 use Rattle.dvg_logs.proofs.LogRows.{same_numbers}

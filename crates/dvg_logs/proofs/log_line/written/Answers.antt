@@ -1,4 +1,4 @@
-use Rattle.std.proofs.Common.{◌≡◌, ◌<◌, ◌∙◌, ℕ, Option, Some, None, ap, arith}
+use Rattle.std.proofs.Common.{◌≡◌, ◌<◌, ◌∙◌, ℕ, Option, Some, ap, arith}
 use Rattle.std.specs.Prelude.{unwrap_or}
 use Rattle.dvg_read.proofs.EventRows.{byte_fits}
 use Rattle.dvg_logs.proofs.LogRows.{based, unbased}

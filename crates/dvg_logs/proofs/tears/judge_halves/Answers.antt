@@ -1,4 +1,3 @@
-use Rattle.dvg_io.specs.Watching.{stream_of}
 use Rattle.dvg_logs.proofs.Inputs.{halves_known}
 use Rattle.dvg_logs.proofs.tears.judge_halves.Goals as goal
 

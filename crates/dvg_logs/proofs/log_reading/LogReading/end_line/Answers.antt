@@ -1,6 +1,6 @@
 use Rattle.std.proofs.Common.{◌≡◌, ◌≤◌, [], ◌∷◌, ◌++◌, ◌∙◌, ap, arith, length, length-append, sym, subst}
 use Rattle.std.proofs.lemmas.Result.{on_ok_weaker}
-use Rattle.dvg_logs.specs.LogReading.{GoesOn, HasJudged, IsRead, JudgesOn, StopsAt}
+use Rattle.dvg_logs.specs.LogReading.{HasJudged, IsRead, JudgesOn, StopsAt}
 use Rattle.dvg_logs.proofs.LogReads.{first_read, first_stops, if_err_weaker, line_read, line_stops, none_left}
 use Rattle.dvg_logs.proofs.ReadsOn.{first_on, line_on, on_weaker}
 use Rattle.dvg_logs.proofs.log_reading.LogReading.end_line.Goals as goal

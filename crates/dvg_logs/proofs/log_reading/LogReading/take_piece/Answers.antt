@@ -1,9 +1,9 @@
-use Rattle.std.proofs.Common.{◌≡◌, ◌++◌, ◌∷◌, [], ◌∙◌, take, ap, sym, subst, refl, append_assoc, append-nil, arith, OnOk}
+use Rattle.std.proofs.Common.{◌++◌, ◌∷◌, [], ◌∙◌, take, ap, sym, subst, refl, append_assoc, append-nil, arith}
 use Rattle.dvg_read.specs.Texts.{lines}
 use Rattle.dvg_read.proofs.FirstBytes.{IsCutAt, behind, cut_at_first}
 use Rattle.dvg_logs.specs.LogReading.{HasRead, IsRead, StopsAt}
 use Rattle.dvg_logs.proofs.NumberLines.{lines_off, lines_read}
-use Rattle.dvg_logs.proofs.LogReads.{at_line, behind_front, cut_line, if_err_weaker, line_off, no_line}
+use Rattle.dvg_logs.proofs.LogReads.{at_line, behind_front, cut_line, line_off, no_line}
 use Rattle.dvg_logs.proofs.ReadsOn.{on_weaker, piece_on}
 use Rattle.dvg_logs.proofs.log_reading.LogReading.take_piece.Goals as goal
 
@@ -53,7 +53,7 @@ loop-end-preserved g c =
     let line = cut_line rest end (rw c.in-Some.is at cut) in
     let (no_less, more) = c.loop-end.invariant.farther in
     let on = c.in-Ok.ensures.farther in
-    let numbers = c.take_number_lines-rest.ensures in
+    let numbers = c.take_usual_lines-rest.ensures in
     let so_long = front ++ (take end rest ++ 10 ∷ []) in
     record {
       done = record {
@@ -61,7 +61,7 @@ loop-end-preserved g c =
         split = lines_off so_long c.args.piece.now numbers (line_off front (take end rest) (behind end rest) rest c.args.piece.now split line);
         read = λ base said text read.
             let ended = subst (HasRead base g.J.LineJudge.Stands (g.J.LineJudge.Passes said) c.end_line.new.self) (append_assoc text front (take end rest ++ 10 ∷ [])) (c.in-Ok.ensures.read base said (text ++ front) (done.read base said text read)) in
-            subst (IsRead base g.J.LineJudge.Stands (g.J.LineJudge.Passes said) c.take_number_lines-rest.new.self c.end_line.new.self.unfinished.items) (append_assoc text so_long numbers.front) (lines_read numbers base said c.in-Ok.ensures.ended ended);
+            subst (IsRead base g.J.LineJudge.Stands (g.J.LineJudge.Passes said) c.take_usual_lines-rest.new.self c.end_line.new.self.unfinished.items) (append_assoc text so_long numbers.front) (lines_read numbers base said c.in-Ok.ensures.ended ended);
       };
       count = omega (arith, c.in-Ok.ensures.count, numbers.farther);
       farther = (omega (arith, no_less, on, numbers.farther), λ fewer. omega (arith, no_less, on, numbers.farther));

@@ -1,4 +1,4 @@
-use Rattle.std.proofs.Common.{[], ◌∙◌, refl, sym}
+use Rattle.std.proofs.Common.{[], ◌∙◌, refl}
 use Rattle.dvg_log.specs.declared.entry.Entry.TheVariants.{Done}
 use Rattle.dvg_log.specs.declared.event.Event.TheVariants.{Fetch}
 use Rattle.dvg_log.specs.Log.{◌⟼◌, open_run}

@@ -1,4 +1,4 @@
-use Rattle.std.proofs.Common.{◌≡◌, ◌<◌, ◌++◌, ◌∷◌, [], ◌∙◌, ap, arith, append_assoc, append-nil, length, length-append, refl, rules, subst, sym, IsNone}
+use Rattle.std.proofs.Common.{◌++◌, ◌∷◌, [], ◌∙◌, ap, arith, append_assoc, append-nil, length, length-append, refl, rules, subst, sym, IsNone}
 use Rattle.dvg_read.specs.Texts.{lines}
 use Rattle.dvg_io.specs.Watching.{stream_of}
 use Rattle.dvg_logs.specs.LogReading.{HasRead, StopsAt, place_of}

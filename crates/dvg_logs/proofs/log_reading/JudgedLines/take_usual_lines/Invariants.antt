@@ -1,6 +1,6 @@
 use Rattle.std.proofs.Common.{length}
 use Rattle.dvg_logs.specs.LogReading.{TakesLines}
-use Rattle.dvg_logs.proofs.log_reading.JudgedLines.take_number_lines.Given as goal
+use Rattle.dvg_logs.proofs.log_reading.JudgedLines.take_usual_lines.Given as goal
 
 abbrev pub invariant-loop-self : goal.invariant-loop-self
 invariant-loop-self g l = TakesLines g.J.LineJudge.Stands g.J.LineJudge.Passes l.initial.self l.self l.fn.text l.rest

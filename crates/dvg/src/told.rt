@@ -1,0 +1,96 @@
+//! A reader that tells on standard error how far it is, if that is a terminal.
+ghost use Rattle.std.specs.Prelude.{◌≡◌};
+ghost use Rattle.std.specs.Io.{ReadsAtMost};
+ghost use Rattle.std.specs.Io.KnownBytes.{ReadConsumes};
+
+use std::io::{IsTerminal, Read, Result};
+use std::time::Instant;
+
+/// After so many bytes it is looked whether there is something to tell.
+const MEGABYTE: u64 = 1_000_000;
+
+/// The seconds that a line stays before it is written anew.
+const STAYS_SECONDS: u64 = 1;
+
+/// What clears a line, whatever it tells.
+const CLEARING: &str = "\r                           \r";
+
+/// A reader that tells on standard error how much of another one was read, if that is a terminal:
+/// in one line, which is written anew each second. It gives what the other one gives.
+#[derive(Drop)]
+pub struct Told<'a, R> {
+    rt: &'a HostRuntime,
+    stream: R,
+    // Whether something may be told.
+    may: bool,
+    // How many bytes were read, and how many at the last look.
+    read: u64,
+    looked_at: u64,
+    // When the last line was written, or the first look was.
+    since: Option<Instant>,
+    // Whether there is a line.
+    stands: bool,
+}
+
+impl<'a, R> Told<'a, R> {
+    /// Returns a reader that gives what `stream` gives. It tells nothing, unless it `may`.
+    pub fn new(rt: &'a HostRuntime, stream: R, may: bool) -> Told<'a, R>
+        ensures { result.stream ≡ stream }
+    {
+        Told {
+            rt,
+            stream,
+            may,
+            read: 0,
+            looked_at: 0,
+            since: None,
+            stands: false,
+        }
+    }
+
+    // Writes the line anew, if it is time to.
+    fn tell(&mut self)
+        ensures { self.new.stream ≡ self.old.stream }
+    {
+        self.looked_at = self.read;
+        if !self.may || !self.rt.stderr().is_terminal() {
+            return;
+        }
+        let Ok(now) = Instant::now(self.rt) else {
+            return;
+        };
+        if let Some(since) = self.since {
+            if now.duration_since(since).as_secs() < STAYS_SECONDS {
+                return;
+            }
+            let megabytes = self.read / MEGABYTE;
+            let _ = eprint!(self.rt; "\rdvg: {megabytes} MB read");
+            self.stands = true;
+        }
+        self.since = Some(now);
+    }
+
+    /// Clears the line, if there is one.
+    pub fn clear(&self) {
+        if self.stands {
+            let _ = eprint!(self.rt; "{CLEARING}");
+        }
+    }
+}
+
+impl<R: Read> Read for Told<'_, R> {
+    ghost remaining = { λ told. R.remaining told.stream };
+
+    fn read(&mut self, buf: &mut [u8]) -> Result<usize>
+        ensures bound { ReadsAtMost result buf.new }
+        ensures bytes { ReadConsumes (R.remaining self.old.stream) (R.remaining self.new.stream)
+            result buf.new }
+    {
+        let count = self.stream.read(buf)?;
+        self.read = self.read.saturating_add(count as u64);
+        if self.read.saturating_sub(self.looked_at) >= MEGABYTE {
+            self.tell();
+        }
+        Ok(count)
+    }
+}
