@@ -125,16 +125,14 @@ static void fetch_frames(struct port_round *round, dvg *device, const uint8_t *r
 {
     want(dvg_open_generator(device), DVG_OPENED);
     for (int frame = 0; frame < FRAMES; frame++) {
-        dvg_answer answer;
         uint64_t times = 0;
-        want(dvg_strobe(device), DVG_STARTED);
+        dvg_answer answer = want(dvg_strobe(device), DVG_STARTED);
         double start = now();
-        do {
-            dvg_answer wanted = dvg_wants(device);
-            answer = dvg_generator_fetch(device, ram[2 * wanted.address + wanted.value]);
+        while (answer.next >= 0) {
+            answer = dvg_generator_fetch(device, ram[answer.next]);
             round->sum += answer.value;
             times++;
-        } while (answer.kind == DVG_LOW || answer.kind == DVG_FETCHED);
+        }
         count(round, PORT_GENERATOR_FETCH, start, times);
         want(answer, DVG_DONE);
     }

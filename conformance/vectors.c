@@ -87,16 +87,14 @@ static void run(dvg *port, struct vector *vector, unsigned most)
     unit_x = unit_y = 0;
     dvg_open_generator(port);
     vector->last = dvg_strobe(port);
-    while (vector->count < MOST_RUN) {
-        dvg_answer wanted = dvg_wants(port);
-        uint16_t word = vector->count >= most ? 0xB000 : vector->words[wanted.address & 0xFFF];
-        if (wanted.kind != DVG_WANTED) {
-            return;
-        }
-        if (vector->count < most && vector->hole[wanted.address]) {
+    while (vector->count < MOST_RUN && vector->last.next >= 0) {
+        unsigned address = (unsigned)vector->last.next / 2;
+        bool high = vector->last.next % 2 != 0;
+        uint16_t word = vector->count >= most ? 0xB000 : vector->words[address];
+        if (vector->count < most && vector->hole[address]) {
             vector->last = dvg_generator_hole(port);
         } else {
-            uint8_t byte = (uint8_t)(wanted.value ? word >> 8 : word);
+            uint8_t byte = (uint8_t)(high ? word >> 8 : word);
             note_move(port, vector->count, byte);
             vector->last = dvg_generator_fetch(port, byte);
         }

@@ -200,11 +200,14 @@ typedef enum dvg_kind {
     DVG_NO_MEMORY = 255        /* = there was no memory for it */
 } dvg_kind;
 
-/* An answer, but for those that are a number, a place or an intensity. */
+/* An answer, but for those that are a number, a place, an intensity or a part of a state. */
 typedef struct dvg_answer {
     dvg_kind kind;
     uint16_t address;
     uint16_t value;
+    int32_t next;               /* of DVG_STARTED, DVG_LOW and DVG_FETCHED from a generator alone:
+                                   the address of the byte that it wants next, 0 to 8,191, which is
+                                   twice that of its word, and 1 more for the high one; else -1 */
 } dvg_answer;
 
 /* Why the check refuses a draft: the numbers of `dvg check`. The address of the answer is the
@@ -267,13 +270,16 @@ typedef struct dvg_held {
     uint8_t returns;
 } dvg_held;
 
-/* The answer that a number is. */
+/* The answer that a number is: the kind in bits 0 to 7, the address in bits 8 to 23, and the value
+ * in bits 24 to 39. Bit 60 says whether a byte is wanted next, and its address stands in bits 40 to
+ * 55. Mask what you take of a number: bits that say nothing today may say something one day. */
 static inline dvg_answer dvg_answer_of(uint64_t number)
 {
     dvg_answer answer;
     answer.kind = (dvg_kind)(number & 0xFF);
     answer.address = (uint16_t)(number >> 8 & 0xFFFF);
     answer.value = (uint16_t)(number >> 24 & 0xFFFF);
+    answer.next = (number >> 60 & 1) != 0 ? (int32_t)(number >> 40 & 0xFFFF) : -1;
     return answer;
 }
 
@@ -638,7 +644,15 @@ static inline dvg_answer dvg_driver_tick(dvg *device, bool halted, uint8_t byte1
 }
 
 /* Of a world or a generator: a start strobe arrives. DVG_STARTED, also amid a run, which is
- * abandoned with its strokes; of a world also DVG_NO_STROBE. */
+ * abandoned with its strokes; of a world also DVG_NO_STROBE. A generator alone says with it, and with
+ * the answer to each byte, which byte it wants next, so a run takes one turn a byte. This runs over
+ * the 8,192 bytes at `memory` until it halts or breaks, or memory is refused:
+ *
+ *     dvg_answer answer = dvg_strobe(device);
+ *     while (answer.next >= 0) {
+ *         answer = dvg_generator_fetch(device, memory[answer.next]);
+ *     }
+ */
 static inline dvg_answer dvg_strobe(dvg *device)
 {
     return dvg_ask(device, DVG_REQUEST_STROBE);
@@ -652,14 +666,15 @@ static inline dvg_answer dvg_fetch(dvg *device)
 }
 
 /* Of a generator: which byte it wants. DVG_WANTED; DVG_STILL: it is halted, which is the HALT flag.
- */
+ * The answer to a strobe, or to the byte before, has said it already. */
 static inline dvg_answer dvg_wants(dvg *device)
 {
     return dvg_ask(device, DVG_REQUEST_WANTS);
 }
 
 /* Of a generator: it is handed the byte that it wants. Answers as dvg_fetch, and DVG_BROKE where
- * the byte ends a word that breaks the run. */
+ * the byte ends a word that breaks the run. After DVG_NO_MEMORY the same byte is still wanted,
+ * though `next` is -1. */
 static inline dvg_answer dvg_generator_fetch(dvg *device, uint8_t byte)
 {
     return dvg_ask(device, DVG_REQUEST_FETCH | (uint64_t)byte << 16);
@@ -949,6 +964,20 @@ static inline dvg_stroke dvg_stroke_at(dvg *device, uint64_t number)
 
 /* --- A memory, drawn once --- */
 
+/* Of a generator: it is handed the byte at a byte address of the memory that
+ * dvg_generator_fetch_from has, or that no memory answers. */
+static inline dvg_answer dvg_hand_from(dvg *device, size_t byte, const uint8_t *ram,
+                                       const uint8_t *rom, size_t rom_length)
+{
+    if (byte < DVG_RAM_BYTES) {
+        return dvg_generator_fetch(device, ram[byte]);
+    }
+    if (byte >= 0x1800 - rom_length && byte < 0x1800) {
+        return dvg_generator_fetch(device, rom[byte - (0x1800 - rom_length)]);
+    }
+    return dvg_generator_hole(device);
+}
+
 /* Of a generator: it fetches the byte that it wants from this memory, which the caller keeps. Word
  * addresses 0x000 to 0x3FF are those of the 2,048 bytes at `ram`. Those of the ROM end with 0xBFF:
  * they begin at 0x800 where it has 2,048 bytes, and at 0x400 where it has 4,096. Elsewhere no
@@ -958,7 +987,6 @@ static inline dvg_answer dvg_generator_fetch_from(dvg *device, const uint8_t *ra
                                                   const uint8_t *rom, size_t rom_length)
 {
     dvg_answer wanted;
-    size_t byte;
     if (rom_length != DVG_ROM_BYTES && rom_length != DVG_LARGE_ROM_BYTES) {
         return dvg_answer_of(DVG_WRONG_SIZE);
     }
@@ -966,14 +994,7 @@ static inline dvg_answer dvg_generator_fetch_from(dvg *device, const uint8_t *ra
     if (wanted.kind != DVG_WANTED) {
         return wanted;
     }
-    byte = 2 * (size_t)wanted.address + wanted.value;
-    if (byte < DVG_RAM_BYTES) {
-        return dvg_generator_fetch(device, ram[byte]);
-    }
-    if (byte >= 0x1800 - rom_length && byte < 0x1800) {
-        return dvg_generator_fetch(device, rom[byte - (0x1800 - rom_length)]);
-    }
-    return dvg_generator_hole(device);
+    return dvg_hand_from(device, 2 * (size_t)wanted.address + wanted.value, ram, rom, rom_length);
 }
 
 /* How dvg_draw ended. */
@@ -1018,12 +1039,8 @@ static inline dvg_drawn dvg_draw(dvg *device, const uint8_t *ram, const uint8_t 
     }
     dvg_open_generator(device);
     drawn.last = dvg_strobe(device);
-    while (drawn.words < most_words
-           && (drawn.last.kind == DVG_STARTED || drawn.last.kind == DVG_FETCHED)) {
-        drawn.last = dvg_generator_fetch_from(device, ram, rom, rom_length);
-        if (drawn.last.kind == DVG_LOW) {
-            drawn.last = dvg_generator_fetch_from(device, ram, rom, rom_length);
-        }
+    while (drawn.words < most_words && drawn.last.next >= 0) {
+        drawn.last = dvg_hand_from(device, (size_t)drawn.last.next, ram, rom, rom_length);
         if (drawn.last.kind == DVG_FETCHED || drawn.last.kind == DVG_DONE) {
             drawn.words++;
         }

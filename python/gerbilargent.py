@@ -585,10 +585,24 @@ def _rom(rom: Optional[Bytes]) -> bytes:
     return held
 
 
+# The bits of an answer that make an entry. Above them stands which byte a generator wants next.
+_ENTRY_BITS = (1 << 40) - 1
+
+
 @functools.lru_cache(maxsize=1 << 14)
 def _entry_of(number: int) -> Entry:
     """The entry that an answer is, with the number of strokes from bit 40 on."""
     return Entry(Kind(number & 0xFF), number >> 8 & 0xFFFF, number >> 24 & 0xFFFF, number >> 40)
+
+
+def _handed_at(at: int, ram: Bytes, rom: Bytes) -> int:
+    """How a fetch is handed the byte at this byte address, of this RAM and ROM, or no memory."""
+    rom_begins = 0x1800 - len(rom)
+    if at < RAM_BYTES:
+        return ram[at] << 16
+    if rom_begins <= at < 0x1800:
+        return rom[at - rom_begins] << 16
+    return 0x100
 
 
 @functools.lru_cache(maxsize=16)
@@ -683,7 +697,7 @@ class _Device:
 
     def _entry(self, number: int) -> Entry:
         """The entry that the newest answer is; what is refused is raised."""
-        entry = _entry_of(number)
+        entry = _entry_of(number & _ENTRY_BITS)
         if entry.kind in _ERRORS:
             error = _ERRORS[entry.kind]
             raise type(error)(*error.args)
@@ -1056,13 +1070,7 @@ class Generator(_Device):
         wanted = self.wanted
         if wanted is None:
             raise Halted("the generator is halted")
-        at = 2 * wanted.address + wanted.high
-        rom_begins = 0x1800 - len(rom)
-        if at < RAM_BYTES:
-            return self.fetch(ram[at])
-        if rom_begins <= at < 0x1800:
-            return self.fetch(rom[at - rom_begins])
-        return self.hole()
+        return self._ask(_Request.FETCH, _handed_at(2 * wanted.address + wanted.high, ram, rom))
 
     def draw(
         self, ram: Bytes, rom: Optional[Bytes] = None, most_words: int = MOST_WORDS
@@ -1073,10 +1081,15 @@ class Generator(_Device):
         """
         held_ram, held_rom = _ram(ram), _rom(rom)
         most = _whole("most_words", most_words)
-        self.strobe()
-        for words in range(1, most + 1):
-            self.fetch_from(held_ram, held_rom)
-            if self.fetch_from(held_ram, held_rom).kind is Kind.DONE:
+        low, fetched = int(Kind.LOW), int(Kind.FETCHED)
+        number = self._turn(_Request.STROBE)
+        words = 0
+        while words < most:
+            at = number >> 40 & 0x1FFF  # each answer says which byte is wanted next
+            number = self._turn(_Request.FETCH, _handed_at(at, held_ram, held_rom))
+            words += number & 0xFF != low
+            if number & 0xFF not in (low, fetched):
+                self._entry(number)
                 return Picture(words, self.strokes)
         raise Endless(most)
 

@@ -120,7 +120,7 @@ static uint8_t rom_byte(const Vcore_beam &beam)
 /* One clock; a fetch that is answered is the port's, too. */
 static void play_clock(Vcore_beam &beam, dvg *port)
 {
-    dvg_answer answer = {DVG_IDLE, 0, 0};
+    dvg_answer answer = {DVG_IDLE, 0, 0, -1};
     beam.rom = rom_byte(beam);
     beam.eval();
     if (beam.takes) {

@@ -98,7 +98,7 @@ static void agree_before(const Vdvg_board &board, dvg *port)
 /* The generator's event of this clock, by the RAM as it stands. Returns its answer. */
 static dvg_answer tell_port(const Vdvg_board &board, dvg *port)
 {
-    dvg_answer none = {DVG_IDLE, 0, 0};
+    dvg_answer none = {DVG_IDLE, 0, 0, -1};
     if (board.reset || owed.starting) {
         shown.clear();
         counts.resets += board.reset && !filling;

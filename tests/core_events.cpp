@@ -73,7 +73,7 @@ static void agree_on_fetch(dvg_answer answer, bool running)
 template <class Looks, class Changes> static void step(Pins pins, Looks looks, Changes changes)
 {
     bool starts = starting && !pins.reset, writes = pins.access && pins.write && pins.a >> 11 == 8;
-    dvg_answer answer = {DVG_STILL, 0, 0};
+    dvg_answer answer = {DVG_STILL, 0, 0, -1};
     starting = false;
     board->reset = pins.reset;
     board->hold = pins.hold;

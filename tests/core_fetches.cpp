@@ -78,7 +78,7 @@ static void choose_pins(Vdvg_core &core)
 /* The same event for the port's generator. Returns its answer, DVG_IDLE where there was none. */
 static dvg_answer tell_port(dvg *port, const Vdvg_core &core)
 {
-    dvg_answer none = {DVG_IDLE, 0, 0};
+    dvg_answer none = {DVG_IDLE, 0, 0, -1};
     counts.with_another += core.reset && (core.start || core.valid);
     if (core.reset || core.start) {
         shown.clear();

@@ -127,7 +127,7 @@ static void end_picture()
 /* The event of the core in this clock, with the port's answer. */
 static dvg_answer tell_port()
 {
-    dvg_answer none = {DVG_IDLE, 0, 0};
+    dvg_answer none = {DVG_IDLE, 0, 0, -1};
     if (BOARD(starting)) {
         puts("started");
         agree_on_pins();

@@ -84,7 +84,7 @@ static void test_events(dvg *none)
 
 static void test_judge(dvg *none)
 {
-    dvg_answer low = {DVG_LOW, 0xABC, 0xEF};
+    dvg_answer low = {DVG_LOW, 0xABC, 0xEF, -1};
     ASKS(21, dvg_open_judge(none));
     ASKS(0x0A16, dvg_judge_started(none));
     ASKS(0x00A507FF0616, dvg_judge_wrote(none, 0x7FF, 0xA5));
@@ -214,6 +214,13 @@ static void test_answers(dvg *none)
            "a refusal is no broken run");
     expect(dvg_answer_of(0xFF).kind == DVG_NO_MEMORY && dvg_answer_of(0xFE).kind == DVG_UNKNOWN,
            "the last kinds");
+    got = dvg_answer_of(0x1013572E0129010D);
+    expect(got.kind == DVG_FETCHED && got.address == 0x2901 && got.value == 0x2E01
+               && got.next == 0x1357,
+           "which byte is wanted next");
+    expect(dvg_answer_of(0x0013572E0129010D).next == -1 && dvg_answer_of(DVG_STARTED).next == -1,
+           "and that none is told");
+    expect(dvg_answer_of(0x1000000000000000 | DVG_STARTED).next == 0, "that of word zero");
     answers[0] = 0x123456789;
     expect(dvg_strokes(none) == 0x123456789 && noted[0] == 17, "the number of strokes");
     answers[0] = 0x0003200000040000;
@@ -425,6 +432,9 @@ static void answer_all(int number, const uint64_t *wanted)
 
 #define WANTS_BYTE(address, high) (DVG_WANTED | (uint64_t)(address) << 8 | (uint64_t)(high) << 24)
 
+/* An answer of a generator alone that wants the byte at this byte address next. */
+#define ONWARD(kind, byte) ((kind) | (uint64_t)1 << 60 | (uint64_t)(byte) << 40)
+
 static uint8_t ram[DVG_RAM_BYTES];
 static uint8_t rom[DVG_LARGE_ROM_BYTES];
 
@@ -469,14 +479,10 @@ static void test_fetching(dvg *none)
 static void test_drawing(dvg *none)
 {
     static const uint64_t done[] = {DVG_OPENED,
-                                    DVG_STARTED,
-                                    WANTS_BYTE(0, 0),
-                                    DVG_LOW,
-                                    WANTS_BYTE(0, 1),
-                                    DVG_FETCHED,
-                                    WANTS_BYTE(1, 0),
-                                    DVG_LOW,
-                                    WANTS_BYTE(1, 1),
+                                    ONWARD(DVG_STARTED, 0),
+                                    ONWARD(DVG_LOW, 1),
+                                    ONWARD(DVG_FETCHED, 2),
+                                    ONWARD(DVG_LOW, 3),
                                     DVG_DONE,
                                     2,
                                     1,
@@ -485,41 +491,40 @@ static void test_drawing(dvg *none)
                                     3,
                                     4,
                                     8};
-    static const uint64_t hole[] = {DVG_OPENED, DVG_STARTED, WANTS_BYTE(0x400, 0),
+    static const uint64_t hole[] = {DVG_OPENED, ONWARD(DVG_STARTED, 0x800),
                                     0x0003040000 | DVG_BROKE};
-    static const uint64_t refused[] = {DVG_OPENED, DVG_STARTED,      WANTS_BYTE(0, 0),
-                                       DVG_LOW,    WANTS_BYTE(0, 1), DVG_NO_MEMORY};
-    static const uint64_t asked[] = {14,   3,        16,    0x110004, 16,   0x000004,
-                                     16,   0x000004, 16,    0x000004, 17,   0x12,
-                                     0x13, 0x14,     0x112, 0x113,    0x114};
+    static const uint64_t refused[] = {DVG_OPENED, ONWARD(DVG_STARTED, 0), ONWARD(DVG_LOW, 1),
+                                       DVG_NO_MEMORY};
+    static const uint64_t asked[] = {14, 3,    0x110004, 0x000004, 0x000004, 0x000004, 17,
+                                     0x12, 0x13, 0x14,   0x112,    0x113,    0x114};
     uint64_t context = 1;
     dvg_drawn drawn;
-    answer_all(17, done);
+    answer_all(13, done);
     noted_number = 0;
     drawn = dvg_draw(none, ram, rom, 2048, 10, tell, &context);
     expect(drawn.last.kind == DVG_DONE && drawn.words == 2 && drawn.strokes == 2
-               && noted_number == 809 && count == 17 && memcmp(noted, asked, sizeof asked) == 0,
+               && noted_number == 809 && count == 13 && memcmp(noted, asked, sizeof asked) == 0,
            "a run is drawn, and its strokes are handed on in order");
-    answer_all(17, done);
+    answer_all(13, done);
     noted_number = 0;
     drawn = dvg_draw(none, ram, rom, 2048, 2, NULL, NULL);
-    expect(drawn.last.kind == DVG_DONE && drawn.strokes == 2 && noted_number == 0 && count == 11,
+    expect(drawn.last.kind == DVG_DONE && drawn.strokes == 2 && noted_number == 0 && count == 7,
            "without a function they are counted");
-    answer_all(17, done);
+    answer_all(13, done);
     drawn = dvg_draw(none, ram, rom, 2048, 1, tell, &context);
-    expect(drawn.last.kind == DVG_FETCHED && drawn.words == 1 && drawn.strokes == 0 && count == 6,
+    expect(drawn.last.kind == DVG_FETCHED && drawn.words == 1 && drawn.strokes == 0 && count == 4,
            "a run is cut off at the cap");
-    answer_all(17, done);
+    answer_all(13, done);
     drawn = dvg_draw(none, ram, rom, 2048, 0, tell, &context);
     expect(drawn.last.kind == DVG_STARTED && drawn.words == 0 && count == 2, "and begun at least");
-    answer_all(4, hole);
+    answer_all(3, hole);
     drawn = dvg_draw(none, ram, rom, 2048, 10, tell, &context);
     expect(drawn.last.kind == DVG_BROKE && drawn.last.address == 0x400 && drawn.words == 0
-               && count == 4 && dvg_break_of(drawn.last) == DVG_BREAK_HOLE,
+               && count == 3 && dvg_break_of(drawn.last) == DVG_BREAK_HOLE,
            "a run that breaks");
-    answer_all(6, refused);
+    answer_all(4, refused);
     drawn = dvg_draw(none, ram, rom, 2048, 10, tell, &context);
-    expect(drawn.last.kind == DVG_NO_MEMORY && drawn.words == 0 && drawn.strokes == 0 && count == 6,
+    expect(drawn.last.kind == DVG_NO_MEMORY && drawn.words == 0 && drawn.strokes == 0 && count == 4,
            "refused memory ends it");
     drawn = dvg_draw(none, ram, rom, 0, 10, tell, &context);
     expect(drawn.last.kind == DVG_WRONG_SIZE && drawn.words == 0 && drawn.strokes == 0

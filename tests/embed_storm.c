@@ -228,24 +228,40 @@ static void ask_moves(dvg *pair, uint8_t byte)
     dvg_return_to(pair, random_byte());
 }
 
+/* Whether an answer to a fetch says which byte is wanted next, as dvg_wants says it. Only a
+ * generator alone does, where its run goes on. */
+static void expect_next(dvg_answer answer, dvg_answer wanted)
+{
+    bool goes_on = answer.kind == DVG_LOW || answer.kind == DVG_FETCHED;
+    bool told = wanted.kind == DVG_WANTED && goes_on;
+    if (answer.next != (told ? 2 * wanted.address + wanted.value : -1) && equal) {
+        equal = false;
+        printf("FAILED: next is %d, where %d is wanted, after %s\n", (int)answer.next,
+               2 * wanted.address + wanted.value, dvg_kind_text(answer.kind));
+    }
+}
+
 /* Lets the generator fetch this many times: from the memory, and seldom something else. */
 static void fetch_often(dvg *pair, int count)
 {
+    dvg_answer wanted = dvg_wants(pair);
     for (; count > 0; count--) {
-        dvg_answer wanted = dvg_wants(pair);
+        dvg_answer answer;
         if (below(4) == 0) {
             ask_moves(pair, wanted.kind == DVG_WANTED && below(8) != 0
                                 ? memory[2 * wanted.address + wanted.value] : random_byte());
         }
         if (wanted.kind != DVG_WANTED) {
-            dvg_fetch(pair);
+            answer = dvg_fetch(pair);
         } else if (below(500) == 0) {
-            dvg_generator_hole(pair);
+            answer = dvg_generator_hole(pair);
         } else if (below(100) == 0) {
-            dvg_generator_fetch(pair, random_byte());
+            answer = dvg_generator_fetch(pair, random_byte());
         } else {
-            dvg_generator_fetch(pair, memory[2 * wanted.address + wanted.value]);
+            answer = dvg_generator_fetch(pair, memory[2 * wanted.address + wanted.value]);
         }
+        wanted = dvg_wants(pair);
+        expect_next(answer, wanted);
     }
 }
 

@@ -232,16 +232,24 @@ INLINE u64 ask_driver(struct device *device, u64 request)
     }
 }
 
+/* An answer of a generator alone, and which byte it wants next, if any. */
+INLINE u64 onward(const struct generator *generator, u64 came)
+{
+    u64 byte = 2 * wanted_address(generator) + generator->has_low;
+    return generator->open ? came | (u64)1 << 60 | byte << 40 : came;
+}
+
 INLINE u64 ask_generator(struct device *device, u64 request)
 {
     struct generator *generator = &device->generator;
     u32 address = wanted_address(generator);
     switch (request & 0xFF) {
     case 3:
-        return start(device);
+        return onward(generator, start(device));
     case 4:
         return generator->open
-                   ? take_byte(device, address, brought_byte(request), flag_of(request))
+                   ? onward(generator, take_byte(device, address, brought_byte(request),
+                                                 flag_of(request)))
                    : answer(STILL, 0, 0);
     case 5:
         reset_generator(generator);

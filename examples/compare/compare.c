@@ -48,6 +48,7 @@ struct outcome {
 };
 
 static dvg *port;
+static int32_t port_next; /* the byte address that the port wants next; -1 where it is halted */
 static dvg_stroke strokes[MOST_STROKES]; /* of mine, in the run that is open */
 static unsigned drawn;
 static dvg_stroke port_strokes[MOST_STROKES]; /* of the port, in that run */
@@ -136,17 +137,18 @@ static void write_wanted(char *text, size_t room, enum mine_state state, unsigne
 static void compare_wanted(struct outcome *outcome, enum mine_state state)
 {
     struct mine_wanted mine = mine_wants();
-    dvg_answer wanted = dvg_wants(port);
+    unsigned address = (unsigned)port_next / 2;
+    bool high = port_next % 2 != 0;
     bool same = mine.state == state;
     if (state > MINE_HALTED && mine.state == MINE_RUNS) {
         return; /* where hardware goes on */
     }
     if (same && state == MINE_RUNS) {
-        same = mine.address == wanted.address && mine.high == (wanted.value != 0);
+        same = mine.address == address && mine.high == high;
     }
     if (!same) {
         char theirs[40], ours[40];
-        write_wanted(theirs, sizeof theirs, state, wanted.address, wanted.value != 0);
+        write_wanted(theirs, sizeof theirs, state, address, high);
         write_wanted(ours, sizeof ours, mine.state, mine.address, mine.high);
         outcome->differs = true;
         snprintf(outcome->where, sizeof outcome->where, "port: %s; mine: %s", theirs, ours);
@@ -206,13 +208,13 @@ static enum mine_state state_of(dvg_answer answer)
 /* Hands both the byte that the port wants. Returns the port's answer. */
 static dvg_answer hand_byte(const struct test *test, struct outcome *outcome)
 {
-    dvg_answer wanted = dvg_wants(port);
-    int32_t word = outcome->words >= test->most ? HALT : test->words[wanted.address];
-    int byte = word == HOLE ? HOLE : wanted.value ? word >> 8 : word & 0xFF;
+    int32_t word = outcome->words >= test->most ? HALT : test->words[port_next / 2];
+    int byte = word == HOLE ? HOLE : port_next % 2 != 0 ? word >> 8 : word & 0xFF;
     unsigned before = port_drawn;
     note_move(byte);
     dvg_answer answer = byte == HOLE ? dvg_generator_hole(port)
                                      : dvg_generator_fetch(port, (uint8_t)byte);
+    port_next = answer.next;
     mine_byte(byte);
     outcome->bytes++;
     if (answer.kind == DVG_FETCHED || answer.kind == DVG_DONE) {
@@ -236,7 +238,7 @@ static void run_once(const struct test *test, struct outcome *outcome, bool powe
 {
     unsigned byte;
     enum mine_state state = MINE_RUNS;
-    dvg_strobe(port);
+    port_next = dvg_strobe(port).next;
     mine_start(power_on);
     drawn = port_drawn = 0;
     outcome->words = 0;

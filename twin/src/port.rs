@@ -309,6 +309,17 @@ impl Lone {
         }
     }
 
+    /// Which byte it wants next, in bits from bit 40 on; 0 where no run is open.
+    fn onward(&self) -> u64 {
+        match self.generator.wants() {
+            Some(address) => {
+                let byte = u64::from(address) << 1 | u64::from(self.generator.wants_high());
+                1 << 60 | byte << 40
+            }
+            None => 0,
+        }
+    }
+
     fn fetch(&mut self, request: u64, picture: &mut Vec<Stroke>) -> u64 {
         let Some(address) = self.generator.wants() else {
             return STILL;
@@ -323,7 +334,7 @@ impl Lone {
             Taken::Done(strokes) => Entry::Done(address, word, strokes),
             Taken::Broke(fault) => Entry::Broke(address, fault),
         };
-        answered(entry, picture)
+        answered(entry, picture) | self.onward()
     }
 
     #[inline]
@@ -331,7 +342,7 @@ impl Lone {
         match request as u8 {
             3 => {
                 self.generator.start();
-                packed(10, 0, 0)
+                packed(10, 0, 0) | self.onward()
             }
             4 => self.fetch(request, picture),
             5 => {

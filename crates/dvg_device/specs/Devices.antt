@@ -111,11 +111,14 @@ abbrev pub unopened : Request → Reply
 unopened requests.Unknown = replies.Unknown
 unopened asked = replies.Closed
 
+-- a number is that of a reply of which this holds
+abbrev pub Numbered : (Reply → Type 0) → ℕ → Type 0
+Numbered P answer = (answered : Reply) × P answered × (answer ≡ number_of answered)
+
 -- the number of the reply to a question, by what is open
 abbrev pub ToldBy : Question → Open → ℕ → Type 0
-ToldBy question (Generator machine) answer = (told : Reply) × Tells question machine told × (answer ≡ number_of told)
-ToldBy question (Wrapping wrapped) answer = (told : Reply) × TellsWrapped question wrapped told
-    × (answer ≡ number_of told)
+ToldBy question (Generator machine) answer = Numbered (Tells question machine) answer
+ToldBy question (Wrapping wrapped) answer = Numbered (TellsWrapped question wrapped) answer
 ToldBy question Nothing answer = answer ≡ number_of replies.Closed
 ToldBy question part answer = answer ≡ number_of replies.Unknown
 
@@ -162,5 +165,4 @@ Answered asked old new answer = PartAnswers old.open_part asked old new answer
 
 -- a request as a number, with its answer as one
 abbrev pub Turned : Held → ℕ → Held → ℕ → Type 0
-Turned old number new answer = (answered : Reply) × Answered (request_of number) old new answered × (answer
-    ≡ number_of answered)
+Turned old number new answer = Numbered (Answered (request_of number) old new) answer

@@ -10,12 +10,13 @@ use Rattle.dvg_gen.specs.Machine.{Machine, HasTaken, Answers, answer_by, picture
 use Rattle.dvg_gen.specs.Moving.{AddsMoves}
 use Rattle.dvg_gen.specs.Told.{Told, Start, Reset, Newest, wants}
 use Rattle.dvg_log.specs.Entries.{entry_by}
+use Rattle.dvg_log.specs.declared.entry.Entry.{Entry}
 use Rattle.dvg_log.specs.declared.entry.Entry.TheVariants.{Started, Cleared, Still}
 use Rattle.dvg_device.specs.Replies.{bit}
 use Rattle.dvg_device.specs.States.{CanBeSaved, parts_of, told_part}
 use Rattle.dvg_device.specs.declared.reply.Reply.{Reply}
-use Rattle.dvg_device.specs.declared.reply.Reply.TheVariants.{Came, Wants, Point, Moves, Nothing, Holds}
-use Rattle.dvg_device.specs.declared.reply.Reply.TheVariants.{ReturnsTo, Unknown, NoMemory}
+use Rattle.dvg_device.specs.declared.reply.Reply.TheVariants.{Came, Onward, Wants, Point, Moves, Nothing}
+use Rattle.dvg_device.specs.declared.reply.Reply.TheVariants.{Holds, ReturnsTo, Unknown, NoMemory}
 use Rattle.dvg_device.specs.declared.request.Request.{Request}
 use Rattle.dvg_device.specs.declared.request.Request.TheVariants as requests
 use Rattle.dvg_device.specs.declared.request.Question.{Question}
@@ -33,8 +34,14 @@ abbrev pub wanting : Option ℕ → Option ℕ → Reply
 wanting None low = Came Still
 wanting (Some address) low = Wants address (is_some low)
 
+-- what came of it, and which byte is wanted then, if any
+abbrev pub onward : Entry (Unit {0}) → Option ℕ → Option ℕ → Reply
+onward entry None low = Came entry
+onward entry (Some address) low = Onward entry address (is_some low)
+
 -- a byte or a hole is fetched: at the address that is wanted, and the answer is that of the entry that such a fetch has
--- in a log. Where it finishes the run, the picture is of its strokes, and else it stays
+-- in a log, with the byte that is wanted after it. Where it finishes the run, the picture is of its strokes, and else it
+-- stays
 pub record Fetches (byte : Option ℕ) (machine later : Machine) (reply : Reply) : Type 0 where
   pub address : ℕ
   pub step : Step
@@ -42,7 +49,9 @@ pub record Fetches (byte : Option ℕ) (machine later : Machine) (reply : Reply)
   pub answers : OfHistories machine
       (λ history low run. Answers history (met low byte) later (answer_by step later.picture))
   pub picture : later.picture ≡ picture_after step machine
-  pub answered : OfHistories machine (λ history low run. reply ≡ Came (entry_by address (met low byte) step tt))
+  pub entry : Entry (Unit {0})
+  pub came : OfHistories machine (λ history low run. entry ≡ entry_by address (met low byte) step tt)
+  pub answered : OfHistories later (λ history low run. reply ≡ onward entry (wants run) low)
 
 -- there was no memory for the stroke of a vector that the byte completes, and nothing has changed
 pub record LacksRoom (byte : Option ℕ) (machine later : Machine) (reply : Reply) : Type 0 where
@@ -100,11 +109,11 @@ Tells (questions.ReturnTo n) machine reply = reply ≡ told_return (slice_get ma
 Tells (questions.State n) machine reply = OfHistories machine (λ history low run. CanBeSaved machine)
     × (reply ≡ told_part (slice_get (parts_of machine) n))
 
--- what a generator comes to by a request
+-- what a generator comes to by a request. After a strobe the low byte of word zero is wanted
 abbrev pub GeneratorAnswers : Request → Machine → Machine → Reply → Type 0
 GeneratorAnswers requests.Strobe machine later reply = OfHistories machine
     (λ history low run. HasTaken later (Start ∷ history) None) × (later.picture ≡ machine.picture)
-    × (reply ≡ Came Started)
+    × (reply ≡ Onward Started 0 false)
 GeneratorAnswers requests.ResetGenerator machine later reply = OfHistories machine
     (λ history low run. HasTaken later (Reset ∷ history) None) × (later.picture ≡ machine.picture)
     × (reply ≡ Came Cleared)

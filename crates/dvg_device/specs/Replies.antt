@@ -12,8 +12,8 @@ use Rattle.dvg_log.specs.declared.entry.Entry.{Entry}
 use Rattle.dvg_log.specs.declared.entry.Entry.TheVariants.{Offered, Refused, Busy, Asked, NothingPublished, Acted}
 use Rattle.dvg_log.specs.declared.entry.Entry.TheVariants.{Started, NoStrobe, Low, Fetched, Done, Broke, Still, Cleared}
 use Rattle.dvg_device.specs.declared.reply.Reply.{Reply}
-use Rattle.dvg_device.specs.declared.reply.Reply.TheVariants.{Came, Pushed, NoOperation, Full, Staged, Opened}
-use Rattle.dvg_device.specs.declared.reply.Reply.TheVariants.{WrongSize, Closed, Wants, Count, Point, Intensity}
+use Rattle.dvg_device.specs.declared.reply.Reply.TheVariants.{Came, Onward, Pushed, NoOperation, Full, Staged}
+use Rattle.dvg_device.specs.declared.reply.Reply.TheVariants.{Opened, WrongSize, Closed, Wants, Count, Point, Intensity}
 use Rattle.dvg_device.specs.declared.reply.Reply.TheVariants.{Judged, Moves, Nothing, Holds, ReturnsTo, State, NoState}
 use Rattle.dvg_device.specs.declared.reply.Reply.TheVariants.{Unknown, NoMemory}
 use Rattle.dvg_device.specs.declared.reply.RunState.{RunState}
@@ -73,9 +73,14 @@ abbrev pub bit : Bool → ℕ
 bit true = 1
 bit false = 0
 
+-- which byte is taken next, in bits from bit 40 on: its address, and bit 60, which says that there is one
+abbrev pub next : ℕ → Bool → ℕ
+next address high = 2 ^ 60 + 2 ^ 40 * (2 * address + bit high)
+
 -- the number of a reply
 abbrev pub number_of : Reply → ℕ
 number_of (Came entry) = came entry
+number_of (Onward entry address high) = came entry + next address high
 number_of (Pushed i) = packed 18 0 i
 number_of NoOperation = packed 19 0 0
 number_of Full = packed 20 0 0

@@ -7,10 +7,11 @@ use Rattle.dvg_gen.specs.Machine.{answer_by, picture_after}
 use Rattle.dvg_gen.specs.Told.{Told, Start, Reset, Newest, wants}
 use Rattle.dvg_gen.specs.Wrapping.{Wrapped, HasWrapped, AnswersWrapped}
 use Rattle.dvg_log.specs.Entries.{entry_by}
+use Rattle.dvg_log.specs.declared.entry.Entry.{Entry}
 use Rattle.dvg_log.specs.declared.entry.Entry.TheVariants.{Started, Cleared, Still}
-use Rattle.dvg_device.specs.Generators.{Tells, told_held, told_return, wanting}
+use Rattle.dvg_device.specs.Generators.{Tells, onward, told_held, told_return, wanting}
 use Rattle.dvg_device.specs.declared.reply.Reply.{Reply}
-use Rattle.dvg_device.specs.declared.reply.Reply.TheVariants.{Came, Unknown, NoMemory}
+use Rattle.dvg_device.specs.declared.reply.Reply.TheVariants.{Came, Onward, Unknown, NoMemory}
 use Rattle.dvg_device.specs.declared.request.Request.{Request}
 use Rattle.dvg_device.specs.declared.request.Request.TheVariants as requests
 use Rattle.dvg_device.specs.declared.request.Question.{Question}
@@ -30,7 +31,9 @@ pub record FetchesWrapped (byte : Option ℕ) (wrapped later : Wrapped) (reply :
   pub answers : OfWraps wrapped
       (λ history low run. AnswersWrapped history (met low byte) later (answer_by step later.machine.picture))
   pub picture : later.machine.picture ≡ picture_after step wrapped.machine
-  pub answered : OfWraps wrapped (λ history low run. reply ≡ Came (entry_by address (met low byte) step tt))
+  pub entry : Entry (Unit {0})
+  pub came : OfWraps wrapped (λ history low run. entry ≡ entry_by address (met low byte) step tt)
+  pub answered : OfWraps later (λ history low run. reply ≡ onward entry (wants run) low)
 
 -- there was no memory for the stroke of a vector that the byte completes, and nothing has changed
 pub record LacksRoomWrapped (byte : Option ℕ) (wrapped later : Wrapped) (reply : Reply) : Type 0 where
@@ -55,9 +58,11 @@ TellsWrapped question wrapped reply = Tells question wrapped.machine reply
 -- what it comes to by a request
 abbrev pub WrappingAnswers : Request → Wrapped → Wrapped → Reply → Type 0
 WrappingAnswers requests.Strobe wrapped later reply = OfWraps wrapped
-    (λ history low run. HasWrapped later (Start ∷ history) None) × (reply ≡ Came Started)
+    (λ history low run. HasWrapped later (Start ∷ history) None) × (later.machine.picture ≡ wrapped.machine.picture)
+    × (reply ≡ Onward Started 0 false)
 WrappingAnswers requests.ResetGenerator wrapped later reply = OfWraps wrapped
-    (λ history low run. HasWrapped later (Reset ∷ history) None) × (reply ≡ Came Cleared)
+    (λ history low run. HasWrapped later (Reset ∷ history) None) × (later.machine.picture ≡ wrapped.machine.picture)
+    × (reply ≡ Came Cleared)
 WrappingAnswers requests.Wants wrapped later reply = (later ≡ wrapped)
     × OfWraps wrapped (λ history low run. reply ≡ wanting (wants run) low)
 WrappingAnswers (requests.Fetch byte) wrapped later reply = FetchesWrapped byte wrapped later reply

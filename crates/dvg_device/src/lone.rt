@@ -6,7 +6,7 @@ ghost use Rattle.dvg_device.specs.Generators.{StaysStill, Tells, told_end, told_
 ghost use Rattle.dvg_device.specs.States.{CanBeSaved, drawing_parts, drawn_so_far, part_of_stroke};
 ghost use Rattle.dvg_device.specs.States.{parts_of, told_part};
 ghost use Rattle.dvg_device.specs.declared.state.StatePart.TheVariants.{Fields};
-ghost use Rattle.dvg_device.specs.Generators.{told_return, wanting};
+ghost use Rattle.dvg_device.specs.Generators.{onward, told_return, wanting};
 
 use crate::reply::{Reply, bit};
 use crate::request::{Question, Request};
@@ -23,7 +23,7 @@ pub(crate) fn ask_generator(generator: &mut Generator<Global>, request: Request)
     match request {
         Request::Strobe => {
             generator.start();
-            Reply::Came(Entry::Started)
+            Reply::Onward(Entry::Started, 0, false)
         }
         Request::ResetGenerator => {
             generator.reset();
@@ -215,7 +215,18 @@ pub(crate) fn fetch(generator: &mut Generator<Global>, byte: Option<u8>) -> Repl
     };
     let low = generator.low_byte();
     match generator.feed(byte) {
-        Ok(step) => Reply::Came(Entry::of_fetch(address, low, byte, step, ())),
+        Ok(step) => onward(Entry::of_fetch(address, low, byte, step, ()), generator),
         Err(_) => Reply::NoMemory,
+    }
+}
+
+// Returns the reply that `entry` came, and which byte `generator` takes next, if any.
+#[inline(always)]
+pub(crate) fn onward(entry: Entry<()>, generator: &Generator<Global>) -> Reply
+    ensures { OfHistories generator.now (λ history low run. result ≡ onward entry (wants run) low) }
+{
+    match generator.wants() {
+        Some(address) => Reply::Onward(entry, address, generator.wants_high()),
+        None => Reply::Came(entry),
     }
 }

@@ -1,7 +1,7 @@
 //! What a device replies.
-ghost use Rattle.std.specs.Prelude.{◌≡◌, ◌≤◌, ◌+◌, ◌*◌};
-ghost use Rattle.dvg_device.specs.Replies.{acted, bit, came, judged, number_of, packed, placed};
-ghost use Rattle.dvg_device.specs.Replies.{refusal};
+ghost use Rattle.std.specs.Prelude.{◌≡◌, ◌≤◌, ◌<◌, ◌+◌, ◌*◌};
+ghost use Rattle.dvg_device.specs.Replies.{acted, bit, came, judged, next, number_of, packed};
+ghost use Rattle.dvg_device.specs.Replies.{placed, refusal};
 
 use dvg_driver::Action;
 use dvg_frame::{FrameFault, Place};
@@ -23,8 +23,9 @@ pub enum RunState {
 }
 
 /// What a device replies. As a number, its lowest byte is the kind, which stands first here, an
-/// address stands in bits 8 to 23, and a value from bit 24 on; but the reply to a question about
-/// strokes, and that of a place, is what was asked for, and nothing else.
+/// address stands in bits 8 to 23, and a value in bits 24 to 39. The bits above are 0, but where the
+/// run of a generator alone goes on (`Onward`). The reply to a question about strokes, and that of a
+/// place, is what was asked for, and nothing else; a part of a state has the kind below it.
 #[derive(Clone, Copy, Debug, PartialEq, Eq)]
 pub enum Reply {
     /// 0 to 17: what came of it, as a log shows it; the strokes of a run that came to a HALT can be
@@ -50,6 +51,11 @@ pub enum Reply {
     /// - 17, `Cleared`: a reset was done, the draft or the staged bytes were cleared, or a part of
     ///   a state was taken.
     Came(Entry<()>),
+    /// 10, 12 and 13 of a generator alone: the same, and its run goes on. It takes a byte of the
+    /// word at this address next, the high one (`true`) or the low one. Which byte that is stands
+    /// above the number of what came: in bits 40 to 55 twice the address, and 1 more for the high
+    /// one; and 1 in bit 60.
+    Onward(Entry<()>, u16, bool),
     /// 18: the operation has this number in the draft.
     Pushed(u16),
     /// 19: the fields are those of no operation, and nothing has changed.
@@ -109,6 +115,7 @@ impl Reply {
     {
         match self {
             Reply::Came(entry) => came(entry),
+            Reply::Onward(entry, address, high) => came(entry) + next(address, high),
             Reply::Pushed(i) => packed(18, 0, i),
             Reply::NoOperation => packed(19, 0, 0),
             Reply::Full => packed(20, 0, 0),
@@ -150,6 +157,16 @@ fn move_bits(z: u8, placed: bool) -> u16
     u16::from(z) + 0x100 * bit(placed)
 }
 
+// Returns the bits that say which byte is taken next: one of the word at `address`, the high one
+// where `high`.
+#[inline(always)]
+fn next(address: u16, high: bool) -> u64
+    ensures value { result ≡ next address high }
+    ensures small { result ≤ 0x1FFF_FF00_0000_0000 }
+{
+    0x1000_0000_0000_0000 + 0x100_0000_0000 * (2 * u64::from(address) + u64::from(bit(high)))
+}
+
 // Returns the number of the reply of a judge, by which the newest run stands as `run` says, with
 // `value`.
 #[inline(always)]
@@ -168,7 +185,8 @@ fn judged(run: RunState, value: u16) -> u64
 // Returns the number of `entry`, what came of a request.
 #[inline(always)]
 fn came(entry: Entry<()>) -> u64
-    ensures { result ≡ came entry }
+    ensures value { result ≡ came entry }
+    ensures small { result < 0x100_0000_0000 }
 {
     match entry {
         Entry::Offered => packed(0, 0, 0),
@@ -191,7 +209,8 @@ fn came(entry: Entry<()>) -> u64
 // Returns the number of `kind`, `address` and `value`.
 #[inline(always)]
 fn packed(kind: u8, address: u16, value: u16) -> u64
-    ensures { result ≡ packed kind address value }
+    ensures value { result ≡ packed kind address value }
+    ensures small { result < 0x100_0000_0000 }
 {
     u64::from(kind) + 0x100 * u64::from(address) + 0x100_0000 * u64::from(value)
 }
@@ -199,7 +218,8 @@ fn packed(kind: u8, address: u16, value: u16) -> u64
 // Returns the number of a refusal with the fault number `fault`, at `place`, if the fault names
 // one.
 fn placed(fault: u8, place: Option<Place>) -> u64
-    ensures { result ≡ placed fault place }
+    ensures value { result ≡ placed fault place }
+    ensures small { result < 0x100_0000_0000 }
 {
     match place {
         None => packed(1, 0, u16::from(fault)),
@@ -210,7 +230,8 @@ fn placed(fault: u8, place: Option<Place>) -> u64
 
 // Returns the number of a refusal with `fault`.
 fn refusal(fault: FrameFault) -> u64
-    ensures { result ≡ refusal fault }
+    ensures value { result ≡ refusal fault }
+    ensures small { result < 0x100_0000_0000 }
 {
     placed(fault.number(), fault.place())
 }
@@ -218,7 +239,8 @@ fn refusal(fault: FrameFault) -> u64
 // Returns the number of `action`.
 #[inline(always)]
 fn acted(action: Action) -> u64
-    ensures { result ≡ acted action }
+    ensures value { result ≡ acted action }
+    ensures small { result < 0x100_0000_0000 }
 {
     match action {
         Action::Peek => packed(5, 0, 0),

@@ -70,7 +70,8 @@ impl<A: Allocator + Copy> WrappingGenerator<A> {
         self.generator.start();
     }
 
-    /// Halts the generator, as `Generator::reset` does. The registers stay, and so does the picture.
+    /// Halts the generator, as `Generator::reset` does. The registers stay, and so does the
+    /// picture.
     pub fn reset(&mut self)
         ensures stands { (history : List Told) (low : Option ℕ) → HasWrapped self.old history low
             → HasWrapped self.new (Reset ∷ history) None }

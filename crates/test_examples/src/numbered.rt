@@ -15,6 +15,9 @@ const FIRST_DRAFT: [u64; 3] = [
 /// the ROM.
 const OPENS_WORLD: [u64; 2] = [0x10_0000_000A, 12];
 
+/// The reply to a strobe of a generator alone: the byte at address 0 is wanted next.
+const BEGUN: u64 = 0x1000_0000_0000_000A;
+
 /// Lets `device` do all `requests`. Returns the number of the last reply.
 fn asked(device: &mut Device, requests: &[u64]) -> u64 {
     let mut last = 0;
@@ -77,9 +80,33 @@ fn a_closed_device_has_an_answer_to_each_request(rt: HostRuntime) {
 fn a_device_that_was_told_no_state_resumes_as_a_new_one(rt: HostRuntime) {
     let mut device = Device::new(rt.alloc());
     assert_eq!(rt; device.turn(29), 22);
-    assert_eq!(rt; device.turn(3), 10);
+    assert_eq!(rt; device.turn(3), BEGUN);
     assert_eq!(rt; device.turn(30), 22);
-    assert_eq!(rt; device.turn(3), 10);
+    assert_eq!(rt; device.turn(3), BEGUN);
+}
+
+/// A run calls word 401, from where it jumps to word 003, and halts. Each answer says which byte is
+/// wanted next, of either kind of generator.
+#[test]
+fn each_answer_says_which_byte_is_wanted_next(rt: HostRuntime) {
+    let mut device = Device::new(rt.alloc());
+    for opening in [14, 30] {
+        assert_eq!(rt; device.turn(opening), 22);
+        assert_eq!(rt; device.turn(3), BEGUN);
+        assert_eq!(rt; device.turn(0x01_0004), 0x1000_0100_0100_000C);
+        assert_eq!(rt; device.turn(0xC4_0004), 0x1008_02C4_0100_000D);
+        assert_eq!(rt; device.turn(0x03_0004), 0x1008_0300_0304_010C);
+        assert_eq!(rt; device.turn(0xE0_0004), 0x1000_06E0_0304_010D);
+        assert_eq!(rt; device.turn(0x00_0004), 0x1000_0700_0000_030C);
+        assert_eq!(rt; device.turn(16), 0x100_0319);
+        assert_eq!(rt; device.turn(0xB0_0004), 0xB0_0000_030E);
+        assert_eq!(rt; device.turn(4), 16);
+        // At a hole the run breaks, and a reset ends it: nothing is wanted.
+        assert_eq!(rt; device.turn(3), BEGUN);
+        assert_eq!(rt; device.turn(0x104), 0x300_000F);
+        assert_eq!(rt; device.turn(3), BEGUN);
+        assert_eq!(rt; device.turn(5), 17);
+    }
 }
 
 /// Words 1 and 2 are a display list in one buffer. Both are written between their readings, and
@@ -161,7 +188,7 @@ fn a_driver_and_a_generator_alone_draw_it_too(rt: HostRuntime) {
         generator.answer(Request::Fetch(None)),
         Reply::Came(Entry::Still)
     );
-    assert_eq!(rt; generator.turn(3), 10);
+    assert_eq!(rt; generator.turn(3), BEGUN);
     assert_eq!(rt;
         generator.answer(Request::Fetch(None)),
         Reply::Came(Entry::Broke(0, GenFault::Hole))

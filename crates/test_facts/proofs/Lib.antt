@@ -13,3 +13,4 @@ pub mod FourFrames
 pub mod TraceRuns
 pub mod Handed
 pub mod Moved
+pub mod Opening

@@ -4,12 +4,12 @@ use std::prelude::*;
 use crate::cabinet::Cabinet;
 use crate::desk::{ask_driver, tick_driver};
 use crate::judging::ask_judge;
-use crate::lone::{ask_generator, fetch, tell};
+use crate::lone::{ask_generator, fetch, tell, wanted};
 use crate::operation::Operation;
 use crate::reply::Reply;
 use crate::request::{Question, Request};
 use crate::waiting::Waiting;
-use crate::wrapping::{ask_wrapping, fetch_wrapping, tell_wrapping};
+use crate::wrapping::{ask_wrapping, fetch_wrapping, tell_wrapping, wanted_wrapping};
 use dvg_frame::Draft;
 use dvg_gen::{Generator, Stroke, WrappingGenerator};
 use dvg_log::Entry;
@@ -64,17 +64,41 @@ impl Device {
     /// Does `request`, a number of 64 bits, and returns the number of the reply. `Request` says
     /// which requests there are, and `Reply` which replies.
     pub fn turn(&mut self, request: u64) -> u64 {
-        // The most frequent ones go their own way, so that what they bring stays in registers.
+        // The most frequent ones go their own way, so that what they bring stays in registers. What
+        // takes more than a few steps stands apart, so that the others save no registers for it.
         match Request::of(request) {
-            Request::Tick { halted, byte1 } => self.tick(halted, byte1).number(),
-            Request::Fetch(byte) => self.fetch(byte).number(),
+            Request::Tick { halted, byte1 } => self.turn_tick(halted, byte1),
+            Request::Fetch(byte) => self.turn_fetch(byte),
+            Request::Wants => self.wants().number(),
             Request::Ask(question) => self.told(question),
-            request => self.answer(request).number(),
+            Request::Push(operation) => self.turn_push(operation),
+            Request::Stage { byte, count } => self.turn_stage(byte, count),
+            Request::StrokeFrom(i) => self.stroke_from(i).number(),
+            Request::StrokeTo(i) => self.stroke_to(i).number(),
+            Request::StrokeIntensity(i) => self.stroke_intensity(i).number(),
+            _ => self.turn_seldom(request),
         }
     }
 
-    // Returns the number of the reply to `question`. It stands apart, so that the requests of a run
-    // stay as fast.
+    // Does `request` as `turn` does.
+    #[inline(never)]
+    fn turn_seldom(&mut self, request: u64) -> u64 {
+        self.answer(Request::of(request)).number()
+    }
+
+    // Adds `operation` to the draft. Returns the number of the reply.
+    #[inline(never)]
+    fn turn_push(&mut self, operation: Operation) -> u64 {
+        self.push(operation).number()
+    }
+
+    // Stages `byte` `count` times. Returns the number of the reply.
+    #[inline(never)]
+    fn turn_stage(&mut self, byte: u8, count: u16) -> u64 {
+        self.stage(byte, count).number()
+    }
+
+    // Returns the number of the reply to `question`.
     #[inline(never)]
     fn told(&mut self, question: Question) -> u64 {
         match &self.part {
@@ -284,28 +308,42 @@ impl Device {
     }
 
     // Lets what is open do a tick. A driver alone reads `halted`, the HALT flag, and `byte1`, byte
-    // 001 of a RAM.
-    #[inline(always)]
-    fn tick(&mut self, halted: bool, byte1: u8) -> Reply {
+    // 001 of a RAM. Returns the number of the reply.
+    #[inline(never)]
+    fn turn_tick(&mut self, halted: bool, byte1: u8) -> u64 {
         match &mut self.part {
-            Part::Nothing => Reply::Closed,
-            Part::World(world) => world.tick(),
-            Part::Driver(desk) => tick_driver(desk, halted, byte1),
-            Part::Generator(_) => Reply::Unknown,
-            Part::Wrapping(_) => Reply::Unknown,
-            Part::Judge(_) => Reply::Unknown,
+            Part::Nothing => Reply::Closed.number(),
+            Part::World(world) => world.tick().number(),
+            Part::Driver(desk) => tick_driver(desk, halted, byte1).number(),
+            Part::Generator(_) => Reply::Unknown.number(),
+            Part::Wrapping(_) => Reply::Unknown.number(),
+            Part::Judge(_) => Reply::Unknown.number(),
         }
     }
 
     // Lets what is open fetch a byte. A generator alone is handed `byte`, where `None` is a hole.
-    #[inline(always)]
-    fn fetch(&mut self, byte: Option<u8>) -> Reply {
+    // Returns the number of the reply.
+    #[inline(never)]
+    fn turn_fetch(&mut self, byte: Option<u8>) -> u64 {
         match &mut self.part {
+            Part::Nothing => Reply::Closed.number(),
+            Part::World(world) => world.fetch().number(),
+            Part::Driver(_) => Reply::Unknown.number(),
+            Part::Generator(generator) => fetch(generator, byte).number(),
+            Part::Wrapping(generator) => fetch_wrapping(generator, byte).number(),
+            Part::Judge(_) => Reply::Unknown.number(),
+        }
+    }
+
+    // Returns the reply that says which byte what is open takes next.
+    #[inline(always)]
+    fn wants(&self) -> Reply {
+        match &self.part {
             Part::Nothing => Reply::Closed,
-            Part::World(world) => world.fetch(),
+            Part::Generator(generator) => wanted(generator),
+            Part::Wrapping(generator) => wanted_wrapping(generator),
+            Part::World(_) => Reply::Unknown,
             Part::Driver(_) => Reply::Unknown,
-            Part::Generator(generator) => fetch(generator, byte),
-            Part::Wrapping(generator) => fetch_wrapping(generator, byte),
             Part::Judge(_) => Reply::Unknown,
         }
     }

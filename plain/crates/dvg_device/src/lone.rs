@@ -12,7 +12,7 @@ pub(crate) fn ask_generator(generator: &mut Generator<Global>, request: Request)
     match request {
         Request::Strobe => {
             generator.start();
-            Reply::Came(Entry::Started)
+            Reply::Onward(Entry::Started, 0, false)
         }
         Request::ResetGenerator => {
             generator.reset();
@@ -168,7 +168,16 @@ pub(crate) fn fetch(generator: &mut Generator<Global>, byte: Option<u8>) -> Repl
     };
     let low = generator.low_byte();
     match generator.feed(byte) {
-        Ok(step) => Reply::Came(Entry::of_fetch(address, low, byte, step, ())),
+        Ok(step) => onward(Entry::of_fetch(address, low, byte, step, ()), generator),
         Err(_) => Reply::NoMemory,
+    }
+}
+
+// Returns the reply that `entry` came, and which byte `generator` takes next, if any.
+#[inline(always)]
+pub(crate) fn onward(entry: Entry<()>, generator: &Generator<Global>) -> Reply {
+    match generator.wants() {
+        Some(address) => Reply::Onward(entry, address, generator.wants_high()),
+        None => Reply::Came(entry),
     }
 }

@@ -19,8 +19,9 @@ pub enum RunState {
 }
 
 /// What a device replies. As a number, its lowest byte is the kind, which stands first here, an
-/// address stands in bits 8 to 23, and a value from bit 24 on; but the reply to a question about
-/// strokes, and that of a place, is what was asked for, and nothing else.
+/// address stands in bits 8 to 23, and a value in bits 24 to 39. The bits above are 0, but where the
+/// run of a generator alone goes on (`Onward`). The reply to a question about strokes, and that of a
+/// place, is what was asked for, and nothing else; a part of a state has the kind below it.
 #[derive(Clone, Copy, Debug, PartialEq, Eq, Hash)]
 pub enum Reply {
     /// 0 to 17: what came of it, as a log shows it; the strokes of a run that came to a HALT can be
@@ -46,6 +47,11 @@ pub enum Reply {
     /// - 17, `Cleared`: a reset was done, the draft or the staged bytes were cleared, or a part of
     ///   a state was taken.
     Came(Entry<()>),
+    /// 10, 12 and 13 of a generator alone: the same, and its run goes on. It takes a byte of the
+    /// word at this address next, the high one (`true`) or the low one. Which byte that is stands
+    /// above the number of what came: in bits 40 to 55 twice the address, and 1 more for the high
+    /// one; and 1 in bit 60.
+    Onward(Entry<()>, u16, bool),
     /// 18: the operation has this number in the draft.
     Pushed(u16),
     /// 19: the fields are those of no operation, and nothing has changed.
@@ -103,6 +109,7 @@ impl Reply {
     pub fn number(self) -> u64 {
         match self {
             Reply::Came(entry) => came(entry),
+            Reply::Onward(entry, address, high) => came(entry) + next(address, high),
             Reply::Pushed(i) => packed(18, 0, i),
             Reply::NoOperation => packed(19, 0, 0),
             Reply::Full => packed(20, 0, 0),
@@ -137,6 +144,13 @@ pub(crate) fn bit(flag: bool) -> u16 {
 // Returns the intensity `z` of a move, and whether a LABS places the beam, in bits.
 fn move_bits(z: u8, placed: bool) -> u16 {
     u16::from(z) + 0x100 * bit(placed)
+}
+
+// Returns the bits that say which byte is taken next: one of the word at `address`, the high one
+// where `high`.
+#[inline(always)]
+fn next(address: u16, high: bool) -> u64 {
+    0x1000_0000_0000_0000 + 0x100_0000_0000 * (2 * u64::from(address) + u64::from(bit(high)))
 }
 
 // Returns the number of the reply of a judge, by which the newest run stands as `run` says, with

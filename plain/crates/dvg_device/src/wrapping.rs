@@ -1,5 +1,5 @@
 //! A generator alone whose stack wraps.
-use crate::lone::{held, tell, wanted};
+use crate::lone::{held, onward, tell, wanted};
 use crate::reply::Reply;
 use crate::request::{Question, Request};
 use dvg_gen::WrappingGenerator;
@@ -12,17 +12,23 @@ pub(crate) fn ask_wrapping(generator: &mut WrappingGenerator<Global>, request: R
     match request {
         Request::Strobe => {
             generator.start();
-            Reply::Came(Entry::Started)
+            Reply::Onward(Entry::Started, 0, false)
         }
         Request::ResetGenerator => {
             generator.reset();
             Reply::Came(Entry::Cleared)
         }
-        Request::Wants => wanted(generator.generator()),
+        Request::Wants => wanted_wrapping(generator),
         Request::Fetch(byte) => fetch_wrapping(generator, byte),
         Request::Ask(question) => tell_wrapping(generator, question),
         _ => Reply::Unknown,
     }
+}
+
+// Returns the reply that says which byte `generator` takes next.
+#[inline(always)]
+pub(crate) fn wanted_wrapping(generator: &WrappingGenerator<Global>) -> Reply {
+    wanted(generator.generator())
 }
 
 // Returns the reply of `generator` to `question`.
@@ -52,7 +58,10 @@ pub(crate) fn fetch_wrapping(generator: &mut WrappingGenerator<Global>, byte: Op
     };
     let low = generator.generator().low_byte();
     match generator.feed(byte) {
-        Ok(step) => Reply::Came(Entry::of_fetch(address, low, byte, step, ())),
+        Ok(step) => onward(
+            Entry::of_fetch(address, low, byte, step, ()),
+            generator.generator(),
+        ),
         Err(_) => Reply::NoMemory,
     }
 }

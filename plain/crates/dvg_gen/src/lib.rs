@@ -3,11 +3,11 @@
 //! A `Beam` says what one instruction does to the beam and what it draws. A `Generator` is the
 //! machine that fetches words: it is handed one byte a call, the low one of a word and then the
 //! high one, keeps its place, its return addresses and its strokes, and hands the strokes out where
-//! a run ends. A `WrappingGenerator` is one whose stack wraps, as hardware goes on after a fifth call
-//! and after a return without one. Instructions, the stack of four and the HALT flag are those of Atari's DVG
-//! documentation and of Margolin's *The Secret Life of Vector Generators*; what is this project's
-//! own choice is marked so. Memory is taken only where a high byte completes a vector with an
-//! intensity of at least 1.
+//! a run ends. A `WrappingGenerator` is one whose stack wraps, as hardware goes on after a fifth
+//! call and after a return without one. Instructions, the stack of four and the HALT flag are those
+//! of Atari's DVG documentation and of Margolin's *The Secret Life of Vector Generators*; what is
+//! this project's own choice is marked so. Memory is taken only where a high byte completes a
+//! vector with an intensity of at least 1.
 #![no_std]
 
 extern crate plain_std as std;

@@ -37,7 +37,8 @@ impl<A: Allocator + Copy> WrappingGenerator<A> {
         self.generator.start();
     }
 
-    /// Halts the generator, as `Generator::reset` does. The registers stay, and so does the picture.
+    /// Halts the generator, as `Generator::reset` does. The registers stay, and so does the
+    /// picture.
     pub fn reset(&mut self) {
         self.generator.reset();
     }

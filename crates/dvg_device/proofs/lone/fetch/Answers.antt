@@ -1,7 +1,6 @@
 use Rattle.std.proofs.Common.{sym, ap, ◌∙◌, inl}
 use Rattle.dvg_gen.specs.Bytes.{met}
 use Rattle.dvg_log.specs.Entries.{entry_by}
-use Rattle.dvg_device.specs.declared.reply.Reply.TheVariants.{Came}
 use Rattle.dvg_device.proofs.lone.fetch.Goals as goal
 
 pub returns-in-Ok : goal.returns-in-Ok
@@ -14,6 +13,8 @@ returns-in-Ok c =
       wanted = λ history low after. sym (c.wants.ensures.address history low after) ∙ c.in-Some.is;
       answers = c.in-Ok.ensures.answers;
       picture = c.in-Ok.ensures.picture;
-      answered = λ history low after. ap Came (c.of_fetch.ensures
-          ∙ ap (λ waits. entry_by address (met waits c.args.byte) step tt) (c.low_byte-low.ensures ∙ after.low));
+      entry = c.of_fetch.result;
+      came = λ history low after. c.of_fetch.ensures
+          ∙ ap (λ waits. entry_by address (met waits c.args.byte) step tt) (c.low_byte-low.ensures ∙ after.low);
+      answered = c.onward.ensures;
     })

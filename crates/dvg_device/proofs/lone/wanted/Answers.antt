@@ -1,14 +1,8 @@
-use Rattle.std.proofs.Common.{◌≡◌, ◌↔◌, Bool, true, false, Option, Some, None, refl, sym, ap, ◌∙◌, IsTrue}
-use Rattle.std.specs.Prelude.{is_some, IsSome}
+use Rattle.std.proofs.Common.{sym, ap, ◌∙◌}
 use Rattle.dvg_device.specs.declared.reply.Reply.TheVariants.{Wants}
 use Rattle.dvg_device.specs.Generators.{wanting}
+use Rattle.dvg_device.proofs.Wanted.{same_flag}
 use Rattle.dvg_device.proofs.lone.wanted.Goals as goal
-
--- a flag that is true exactly where there is something
-same_flag : {A : Type 0} (flag : Bool) (low : Option A) → IsTrue flag ↔ IsSome low → flag ≡ is_some low
-same_flag true low both = sym (both.0 refl)
-same_flag false None both = refl
-same_flag false (Some a) both = both.1 refl
 
 pub returns-in-Some : goal.returns-in-Some
 returns-in-Some c history low after =

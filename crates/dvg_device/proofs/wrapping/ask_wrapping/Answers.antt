@@ -1,10 +1,13 @@
-use Rattle.std.proofs.Common.{rules, ◌≡◌, refl, subst}
-use Rattle.dvg_gen.specs.Told.{wants}
-use Rattle.dvg_device.specs.Generators.{OfHistories, wanting}
+use Rattle.std.proofs.Common.{refl, ap}
+use Rattle.dvg_gen.specs.Machine.{Machine}
 use Rattle.dvg_device.proofs.wrapping.ask_wrapping.Goals as goal
 
-pub returns-in-Wants : goal.returns-in-Wants
-returns-in-Wants c =
-    let reply = c.wanted.result in
-    let told = subst (λ machine. OfHistories machine (λ history low run. reply ≡ wanting (wants run) low)) c.generator.ensures c.wanted.ensures in
-    rw c.in-Wants.is (refl, λ history low stands. told _ low stands.after)
+pub returns-in-Strobe : goal.returns-in-Strobe
+returns-in-Strobe c =
+    let picture = ap (λ (machine : Machine). machine.picture) c.start.ensures.machine in
+    rw c.in-Strobe.is (c.start.ensures.stands, picture, refl)
+
+pub returns-in-ResetGenerator : goal.returns-in-ResetGenerator
+returns-in-ResetGenerator c =
+    let picture = ap (λ (machine : Machine). machine.picture) c.reset.ensures.machine in
+    rw c.in-ResetGenerator.is (c.reset.ensures.stands, picture, refl)

@@ -1,7 +1,5 @@
-use Rattle.std.proofs.Common.{◌≡◌, sym, ◌∙◌, subst}
-use Rattle.dvg_device.specs.Devices.{Answered}
-use Rattle.dvg_device.specs.Replies.{number_of}
-use Rattle.dvg_device.specs.declared.reply.Reply.{Reply}
+use Rattle.std.proofs.Common.{sym, ◌∙◌, subst}
+use Rattle.dvg_device.specs.Devices.{Answered, Numbered}
 use Rattle.dvg_device.proofs.Told.{told_apart}
 use Rattle.dvg_device.proofs.device.Device.turn.Goals as goal
 
@@ -10,8 +8,7 @@ returns-in-Ask c =
     let old = c.args.self.now in
     let new = c.told.new.self in
     let answer = c.told.result in
-    let asked = sym c.in-Ask.is ∙ c.of.ensures in
     record {
-      turned = subst (λ request. (told : Reply) × Answered request old new told × (answer ≡ number_of told)) asked
+      turned = subst (λ request. Numbered (Answered request old new) answer) (sym c.in-Ask.is ∙ c.of.ensures)
           (told_apart c.in-Ask.question old new answer c.told.ensures.same c.told.ensures.told);
     }
