@@ -7,7 +7,7 @@ use Rattle.clap.specs.declared.error.Error.{Error}
 use Rattle.clap.specs.declared.error.kind.ErrorKind.TheVariants.{ArgumentConflict, InvalidValue}
 use Rattle.clap.specs.Words.{Text}
 use Rattle.dvg_args.specs.Options.{form_by, given_count, refused_by}
-use Rattle.dvg_args.specs.declared.task.LayForm.{LayForm}
+use Rattle.dvg_job.specs.declared.form.LayForm.{LayForm}
 
 -- an error by the first kinds is one by these, or else by others
 pub first_kind : (kinds more : Kinds) (e : Error) → HasKind kinds e → HasKind (or_else kinds more) e

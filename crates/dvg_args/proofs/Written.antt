@@ -51,55 +51,12 @@ sketch_job_arguments = (
 
 pub help_arguments : HelpArguments
 unfolding dvg_app clap_on_literals
-help_arguments = (
-  λ name. refl,
-  λ name. refl,
-  λ name. refl,
-  λ name. refl,
-  λ name. refl,
-  λ name. refl,
-  λ name. refl,
-)
+help_arguments name = refl
 
 pub other_arguments : OtherArguments
 unfolding dvg_app clap_on_literals
-other_arguments = (
-  λ name. refl,
-  λ name. refl,
-  λ name. refl,
-  λ name. refl,
-  λ name. refl,
-  λ name. refl,
-  λ name. refl,
-  λ name. refl,
-)
+other_arguments name = refl
 
 pub refused_options : RefusedOptions
 unfolding dvg_app clap_on_literals
-refused_options = (
-  λ name. refl,
-  λ name. refl,
-  λ name. refl,
-  λ name. refl,
-  λ name. refl,
-  λ name. refl,
-  λ name. refl,
-  λ name. refl,
-  λ name. refl,
-  λ name. refl,
-  λ name. refl,
-  λ name. refl,
-  λ name. refl,
-  λ name. refl,
-  λ name. refl,
-  λ name. refl,
-  λ name. refl,
-  λ name. refl,
-  λ name. refl,
-  λ name. refl,
-  λ name. refl,
-  λ name. refl,
-  λ name. refl,
-  λ name. refl,
-  λ name. refl,
-)
+refused_options name = refl

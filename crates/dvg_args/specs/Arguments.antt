@@ -8,11 +8,11 @@ use Rattle.clap.specs.declared.builder.ArgAction.TheVariants.{Set, SetTrue}
 use Rattle.clap.specs.declared.error.kind.ErrorKind.{ErrorKind}
 use Rattle.clap.specs.declared.error.kind.ErrorKind.TheVariants.{DisplayHelp, DisplayVersion, OutOfMemory}
 use Rattle.dvg_args.specs.Options.{address_of, base_of, fault_in, form_of, gives, percent_of, rate_of, rule_of, sets}
-use Rattle.dvg_args.specs.declared.task.Job.{Job}
-use Rattle.dvg_args.specs.declared.task.Job.TheVariants.{List as list_job, ListAt, Rom, Picture, PictureSvg, Check}
-use Rattle.dvg_args.specs.declared.task.Job.TheVariants.{Play, PlaySvg, Torn, Render, RenderCheck, Lay}
-use Rattle.dvg_args.specs.declared.task.LogRule.{LogRule}
-use Rattle.dvg_args.specs.declared.task.LayForm.{LayForm}
+use Rattle.dvg_job.specs.declared.form.LayForm.{LayForm}
+use Rattle.dvg_job.specs.declared.form.LogRule.{LogRule}
+use Rattle.dvg_job.specs.declared.task.Job.{Job}
+use Rattle.dvg_job.specs.declared.task.Job.TheVariants.{List as list_job, ListAt, Rom, Picture, PictureSvg, Check}
+use Rattle.dvg_job.specs.declared.task.Job.TheVariants.{Play, PlaySvg, Torn, Render, RenderCheck, Lay}
 
 -- a subcommand with no option of its own
 abbrev pub plain : Text → Shape
@@ -116,15 +116,15 @@ IsJob (Check bound) met =
 IsJob (Play all banked) met = option_map {U = Text × Bool × Bool × Bool}
     (λ p. (p.0, sets (codes "svg") p.1, sets (codes "all") p.1, sets (codes "banked") p.1)) met
     ≡ Some (codes "play", false, all, banked)
-IsJob (PlaySvg banked percent rate) met = option_map {U = Text × Bool × Bool × Option ℕ × Option ℕ}
+IsJob (PlaySvg banked show) met = option_map {U = Text × Bool × Bool × Option ℕ × Option ℕ}
     (λ p. (p.0, sets (codes "svg") p.1, sets (codes "banked") p.1, percent_of p.1, rate_of p.1)) met
-    ≡ Some (codes "play", true, banked, Some percent, Some rate)
+    ≡ Some (codes "play", true, banked, Some show.percent, Some show.rate)
 IsJob (Torn rule base) met = option_map {U = Text × LogRule × Option (Option ℕ)}
     (λ p. (p.0, rule_of (sets (codes "moments") p.1) (sets (codes "all") p.1), base_of p.1)) met
     ≡ Some (codes "torn", rule, Some base)
-IsJob (Render percent rate) met = option_map {U = Text × Bool × Option ℕ × Option ℕ}
+IsJob (Render show) met = option_map {U = Text × Bool × Option ℕ × Option ℕ}
     (λ p. (p.0, sets (codes "check") p.1, percent_of p.1, rate_of p.1)) met
-    ≡ Some (codes "render", false, Some percent, Some rate)
+    ≡ Some (codes "render", false, Some show.percent, Some show.rate)
 IsJob RenderCheck met =
     option_map {U = Text × Bool} (λ p. (p.0, sets (codes "check") p.1)) met ≡ Some (codes "render", true)
 IsJob (Lay form) met =

@@ -1,5 +1,5 @@
 -- What some arguments come to.
-use Rattle.std.specs.Prelude.{◌≡◌, Bool, true, false, All, IfSome, List, [], ◌∷◌, None, Some, codes}
+use Rattle.std.specs.Prelude.{◌≡◌, ℕ, true, false, All, IfSome, List, [], ◌∷◌, None, Some, codes, map}
 use Rattle.clap.specs.Words.{Kinds, Row, Text, subcommand_of}
 use Rattle.clap.specs.declared.error.kind.ErrorKind.TheVariants.{ArgumentConflict, DisplayHelp, DisplayVersion}
 use Rattle.clap.specs.declared.error.kind.ErrorKind.TheVariants.{InvalidSubcommand, InvalidValue}
@@ -7,25 +7,27 @@ use Rattle.clap.specs.declared.error.kind.ErrorKind.TheVariants.{MissingRequired
 use Rattle.clap.specs.declared.error.kind.ErrorKind.TheVariants.{UnknownArgument}
 use Rattle.dvg_args.specs.Options.{gives, sets}
 use Rattle.dvg_args.specs.Arguments.{IsJob, TakesArguments, arguments_fault, dvg_app, options_fault}
-use Rattle.dvg_args.specs.declared.task.Job.{Job}
-use Rattle.dvg_args.specs.declared.task.Job.TheVariants.{List as list_job, ListAt, Rom, Picture, PictureSvg, Check}
-use Rattle.dvg_args.specs.declared.task.Job.TheVariants.{Play, PlaySvg, Torn, Render, RenderCheck, Lay}
-use Rattle.dvg_args.specs.declared.task.LogRule.TheVariants.{Halves, Moments, AllMoments}
-use Rattle.dvg_args.specs.declared.task.PictureForm.{PictureForm}
-use Rattle.dvg_args.specs.declared.task.LayForm.TheVariants.{Half0, Half1, Table, Rom as RomBytes, Equates, Draft}
+use Rattle.dvg_job.specs.declared.task.Job.{Job}
+use Rattle.dvg_job.specs.declared.task.Job.TheVariants.{List as list_job, ListAt, Rom, Picture, PictureSvg, Check}
+use Rattle.dvg_job.specs.declared.task.Job.TheVariants.{Play, PlaySvg, Torn, Render, RenderCheck, Lay}
+use Rattle.dvg_job.specs.declared.form.LogRule.TheVariants.{Halves, Moments, AllMoments}
+use Rattle.dvg_job.specs.declared.form.TheConstants.PictureForm.{PLAIN}
+use Rattle.dvg_job.specs.declared.form.Show.{Show}
+use Rattle.dvg_mem.specs.declared.half.Half.TheVariants.{H0, H1}
+use Rattle.dvg_job.specs.declared.form.LayForm.TheVariants.{Bytes, Table, Rom as RomBytes, Equates, Draft}
 
 -- after any name of the program, the arguments are taken and ask for the job
 abbrev pub AskFor : List Text → Job → Type 0
 AskFor arguments job = (name : Text) → TakesArguments (name ∷ arguments) × (arguments_fault (name ∷ arguments) ≡ [])
     × IsJob job (subcommand_of dvg_app (name ∷ arguments))
 
--- after any name of the program, the arguments fail by one of the kinds
-abbrev pub FailAs : List Text → Kinds → Type 0
-FailAs arguments kinds = (name : Text) → arguments_fault (name ∷ arguments) ≡ kinds
+-- after any name of the program, each of these arguments fails by one of the kinds beside it
+abbrev pub FailAs : List (List Text × Kinds) → Type 0
+FailAs rows = (name : Text) → map (λ row. arguments_fault (name ∷ row.0)) rows ≡ map (λ row. row.1) rows
 
--- what `picture` shows with these options
-abbrev pub picture_form : (all moves units : Bool) → PictureForm
-picture_form all moves units = record { all = all; moves = moves; units = units }
+-- pictures of this size, at this rate
+abbrev pub show_of : (percent rate : ℕ) → Show
+show_of percent rate = record { percent = percent; rate = rate }
 
 -- the arguments of each job that reads no sketch
 abbrev pub TextJobArguments : Type 0
@@ -33,10 +35,10 @@ TextJobArguments = AskFor (codes "list" ∷ []) list_job
     × AskFor (codes "list" ∷ codes "--at" ∷ codes "000" ∷ []) (ListAt 0)
     × AskFor (codes "list" ∷ codes "--at" ∷ codes "FfE" ∷ []) (ListAt 4094)
     × AskFor (codes "rom" ∷ []) Rom
-    × AskFor (codes "picture" ∷ []) (Picture (picture_form false false false))
-    × AskFor (codes "picture" ∷ codes "--all" ∷ []) (Picture (picture_form true false false))
-    × AskFor (codes "picture" ∷ codes "--moves" ∷ []) (Picture (picture_form false true false))
-    × AskFor (codes "picture" ∷ codes "--units" ∷ codes "--moves" ∷ []) (Picture (picture_form false true true))
+    × AskFor (codes "picture" ∷ []) (Picture PLAIN)
+    × AskFor (codes "picture" ∷ codes "--all" ∷ []) (Picture (record PLAIN { all = true }))
+    × AskFor (codes "picture" ∷ codes "--moves" ∷ []) (Picture (record PLAIN { moves = true }))
+    × AskFor (codes "picture" ∷ codes "--units" ∷ codes "--moves" ∷ []) (Picture (record PLAIN { moves = true; units = true }))
     × AskFor (codes "picture" ∷ codes "--svg" ∷ []) (PictureSvg 100)
     × AskFor (codes "picture" ∷ codes "--scale" ∷ codes "10" ∷ codes "--svg" ∷ []) (PictureSvg 10)
     × AskFor (codes "check" ∷ []) (Check false)
@@ -45,9 +47,9 @@ TextJobArguments = AskFor (codes "list" ∷ []) list_job
     × AskFor (codes "play" ∷ codes "--all" ∷ []) (Play true false)
     × AskFor (codes "play" ∷ codes "--banked" ∷ []) (Play false true)
     × AskFor (codes "play" ∷ codes "--banked" ∷ codes "--all" ∷ []) (Play true true)
-    × AskFor (codes "play" ∷ codes "--svg" ∷ []) (PlaySvg false 100 30)
+    × AskFor (codes "play" ∷ codes "--svg" ∷ []) (PlaySvg false (show_of 100 30))
     × AskFor (codes "play" ∷ codes "--rate" ∷ codes "60" ∷ codes "--svg" ∷ codes "--banked" ∷ codes "--scale=400" ∷ [])
-    (PlaySvg true 400 60)
+    (PlaySvg true (show_of 400 60))
     × AskFor (codes "torn" ∷ []) (Torn Halves None)
     × AskFor (codes "torn" ∷ codes "--base" ∷ codes "4000" ∷ []) (Torn Halves (Some 0x4000))
     × AskFor (codes "torn" ∷ codes "--moments" ∷ []) (Torn Moments None)
@@ -57,14 +59,14 @@ TextJobArguments = AskFor (codes "list" ∷ []) list_job
 
 -- the arguments of each job that reads a sketch
 abbrev pub SketchJobArguments : Type 0
-SketchJobArguments = AskFor (codes "render" ∷ []) (Render 100 30)
-    × AskFor (codes "render" ∷ codes "--scale" ∷ codes "33" ∷ codes "--rate" ∷ codes "1" ∷ []) (Render 33 1)
+SketchJobArguments = AskFor (codes "render" ∷ []) (Render (show_of 100 30))
+    × AskFor (codes "render" ∷ codes "--scale" ∷ codes "33" ∷ codes "--rate" ∷ codes "1" ∷ []) (Render (show_of 33 1))
     × AskFor (codes "render" ∷ codes "--check" ∷ []) RenderCheck
     × AskFor (codes "render" ∷ codes "--check" ∷ codes "--scale" ∷ codes "50" ∷ codes "--rate" ∷ codes "3" ∷ []) RenderCheck
-    × AskFor (codes "lay" ∷ []) (Lay Half0)
-    × AskFor (codes "lay" ∷ codes "--half" ∷ codes "0" ∷ []) (Lay Half0)
-    × AskFor (codes "lay" ∷ codes "--half" ∷ codes "1" ∷ []) (Lay Half1)
-    × AskFor (codes "lay" ∷ codes "--half=1" ∷ []) (Lay Half1)
+    × AskFor (codes "lay" ∷ []) (Lay (Bytes H0))
+    × AskFor (codes "lay" ∷ codes "--half" ∷ codes "0" ∷ []) (Lay (Bytes H0))
+    × AskFor (codes "lay" ∷ codes "--half" ∷ codes "1" ∷ []) (Lay (Bytes H1))
+    × AskFor (codes "lay" ∷ codes "--half=1" ∷ []) (Lay (Bytes H1))
     × AskFor (codes "lay" ∷ codes "--table" ∷ []) (Lay Table)
     × AskFor (codes "lay" ∷ codes "--rom" ∷ []) (Lay RomBytes)
     × AskFor (codes "lay" ∷ codes "--equates" ∷ []) (Lay Equates)
@@ -73,54 +75,57 @@ SketchJobArguments = AskFor (codes "render" ∷ []) (Render 100 30)
 -- arguments that ask for help, or for the version; the arguments after `help` may name no
 -- subcommand
 abbrev pub HelpArguments : Type 0
-HelpArguments = FailAs (codes "--help" ∷ []) (DisplayHelp ∷ [])
-    × FailAs (codes "-h" ∷ []) (DisplayHelp ∷ [])
-    × FailAs (codes "play" ∷ codes "--help" ∷ []) (DisplayHelp ∷ [])
-    × FailAs (codes "help" ∷ []) (DisplayHelp ∷ InvalidSubcommand ∷ [])
-    × FailAs (codes "help" ∷ codes "play" ∷ []) (DisplayHelp ∷ InvalidSubcommand ∷ [])
-    × FailAs (codes "--version" ∷ []) (DisplayVersion ∷ [])
-    × FailAs (codes "-V" ∷ []) (DisplayVersion ∷ [])
+HelpArguments = FailAs (
+    (codes "--help" ∷ [], DisplayHelp ∷ [])
+    ∷ (codes "-h" ∷ [], DisplayHelp ∷ [])
+    ∷ (codes "play" ∷ codes "--help" ∷ [], DisplayHelp ∷ [])
+    ∷ (codes "help" ∷ [], DisplayHelp ∷ InvalidSubcommand ∷ [])
+    ∷ (codes "help" ∷ codes "play" ∷ [], DisplayHelp ∷ InvalidSubcommand ∷ [])
+    ∷ (codes "--version" ∷ [], DisplayVersion ∷ [])
+    ∷ (codes "-V" ∷ [], DisplayVersion ∷ []) ∷ [])
 
 -- arguments that are refused: none, a word that is no subcommand, an option of another subcommand, an
 -- option twice, and an argument too many
 abbrev pub OtherArguments : Type 0
-OtherArguments = FailAs [] (MissingSubcommand ∷ [])
-    × FailAs (codes "lists" ∷ []) (UnknownArgument ∷ InvalidSubcommand ∷ [])
-    × FailAs (codes "draw" ∷ []) (UnknownArgument ∷ InvalidSubcommand ∷ [])
-    × FailAs (codes "list" ∷ codes "--all" ∷ []) (UnknownArgument ∷ [])
-    × FailAs (codes "check" ∷ codes "--all" ∷ []) (UnknownArgument ∷ [])
-    × FailAs (codes "torn" ∷ codes "--svg" ∷ []) (UnknownArgument ∷ [])
-    × FailAs (codes "play" ∷ codes "--all" ∷ codes "--all" ∷ []) (ArgumentConflict ∷ [])
-    × FailAs (codes "list" ∷ codes "list" ∷ []) (UnknownArgument ∷ [])
+OtherArguments = FailAs (
+    ([], MissingSubcommand ∷ [])
+    ∷ (codes "lists" ∷ [], UnknownArgument ∷ InvalidSubcommand ∷ [])
+    ∷ (codes "draw" ∷ [], UnknownArgument ∷ InvalidSubcommand ∷ [])
+    ∷ (codes "list" ∷ codes "--all" ∷ [], UnknownArgument ∷ [])
+    ∷ (codes "check" ∷ codes "--all" ∷ [], UnknownArgument ∷ [])
+    ∷ (codes "torn" ∷ codes "--svg" ∷ [], UnknownArgument ∷ [])
+    ∷ (codes "play" ∷ codes "--all" ∷ codes "--all" ∷ [], ArgumentConflict ∷ [])
+    ∷ (codes "list" ∷ codes "list" ∷ [], UnknownArgument ∷ []) ∷ [])
 
 -- options that are refused: a value that is none or that is missing, options that exclude each
 -- other, a size or a rate without `--svg`, and all torn runs without `--moments`
 abbrev pub RefusedOptions : Type 0
-RefusedOptions = FailAs (codes "list" ∷ codes "--at" ∷ codes "12" ∷ []) (InvalidValue ∷ [])
-    × FailAs (codes "list" ∷ codes "--at" ∷ codes "12G" ∷ []) (InvalidValue ∷ [])
-    × FailAs (codes "list" ∷ codes "--at" ∷ codes "+12" ∷ []) (InvalidValue ∷ [])
-    × FailAs (codes "list" ∷ codes "--at" ∷ codes "1000" ∷ []) (InvalidValue ∷ [])
-    × FailAs (codes "picture" ∷ codes "--svg" ∷ codes "--all" ∷ []) (ArgumentConflict ∷ [])
-    × FailAs (codes "picture" ∷ codes "--moves" ∷ codes "--all" ∷ []) (ArgumentConflict ∷ [])
-    × FailAs (codes "picture" ∷ codes "--svg" ∷ codes "--units" ∷ []) (ArgumentConflict ∷ [])
-    × FailAs (codes "picture" ∷ codes "--scale" ∷ codes "50" ∷ []) (MissingRequiredArgument ∷ [])
-    × FailAs (codes "picture" ∷ codes "--svg" ∷ codes "--scale" ∷ codes "9" ∷ []) (InvalidValue ∷ [])
-    × FailAs (codes "play" ∷ codes "--all" ∷ codes "--svg" ∷ []) (ArgumentConflict ∷ [])
-    × FailAs (codes "play" ∷ codes "--rate" ∷ codes "3" ∷ []) (MissingRequiredArgument ∷ [])
-    × FailAs (codes "play" ∷ codes "--svg" ∷ codes "--rate" ∷ codes "61" ∷ []) (InvalidValue ∷ [])
-    × FailAs (codes "render" ∷ codes "--scale" ∷ codes "401" ∷ []) (InvalidValue ∷ [])
-    × FailAs (codes "render" ∷ codes "--check" ∷ codes "--rate" ∷ codes "0" ∷ []) (InvalidValue ∷ [])
-    × FailAs (codes "render" ∷ codes "--rate" ∷ []) (InvalidValue ∷ [])
-    × FailAs (codes "torn" ∷ codes "--all" ∷ []) (MissingRequiredArgument ∷ [])
-    × FailAs (codes "torn" ∷ codes "--base" ∷ codes "400" ∷ []) (InvalidValue ∷ [])
-    × FailAs (codes "torn" ∷ codes "--moments" ∷ codes "--base" ∷ codes "+400" ∷ []) (InvalidValue ∷ [])
-    × FailAs (codes "torn" ∷ codes "--base" ∷ codes "14000" ∷ []) (InvalidValue ∷ [])
-    × FailAs (codes "lay" ∷ codes "--half" ∷ codes "2" ∷ []) (InvalidValue ∷ [])
-    × FailAs (codes "lay" ∷ codes "--half" ∷ []) (InvalidValue ∷ [])
-    × FailAs (codes "lay" ∷ codes "--half" ∷ codes "0" ∷ codes "--rom" ∷ []) (ArgumentConflict ∷ [])
-    × FailAs (codes "lay" ∷ codes "--rom" ∷ codes "--table" ∷ []) (ArgumentConflict ∷ [])
-    × FailAs (codes "lay" ∷ codes "--draft" ∷ codes "--rom" ∷ []) (ArgumentConflict ∷ [])
-    × FailAs (codes "lay" ∷ codes "--half" ∷ codes "0" ∷ codes "--half" ∷ codes "1" ∷ []) (ArgumentConflict ∷ [])
+RefusedOptions = FailAs (
+    (codes "list" ∷ codes "--at" ∷ codes "12" ∷ [], InvalidValue ∷ [])
+    ∷ (codes "list" ∷ codes "--at" ∷ codes "12G" ∷ [], InvalidValue ∷ [])
+    ∷ (codes "list" ∷ codes "--at" ∷ codes "+12" ∷ [], InvalidValue ∷ [])
+    ∷ (codes "list" ∷ codes "--at" ∷ codes "1000" ∷ [], InvalidValue ∷ [])
+    ∷ (codes "picture" ∷ codes "--svg" ∷ codes "--all" ∷ [], ArgumentConflict ∷ [])
+    ∷ (codes "picture" ∷ codes "--moves" ∷ codes "--all" ∷ [], ArgumentConflict ∷ [])
+    ∷ (codes "picture" ∷ codes "--svg" ∷ codes "--units" ∷ [], ArgumentConflict ∷ [])
+    ∷ (codes "picture" ∷ codes "--scale" ∷ codes "50" ∷ [], MissingRequiredArgument ∷ [])
+    ∷ (codes "picture" ∷ codes "--svg" ∷ codes "--scale" ∷ codes "9" ∷ [], InvalidValue ∷ [])
+    ∷ (codes "play" ∷ codes "--all" ∷ codes "--svg" ∷ [], ArgumentConflict ∷ [])
+    ∷ (codes "play" ∷ codes "--rate" ∷ codes "3" ∷ [], MissingRequiredArgument ∷ [])
+    ∷ (codes "play" ∷ codes "--svg" ∷ codes "--rate" ∷ codes "61" ∷ [], InvalidValue ∷ [])
+    ∷ (codes "render" ∷ codes "--scale" ∷ codes "401" ∷ [], InvalidValue ∷ [])
+    ∷ (codes "render" ∷ codes "--check" ∷ codes "--rate" ∷ codes "0" ∷ [], InvalidValue ∷ [])
+    ∷ (codes "render" ∷ codes "--rate" ∷ [], InvalidValue ∷ [])
+    ∷ (codes "torn" ∷ codes "--all" ∷ [], MissingRequiredArgument ∷ [])
+    ∷ (codes "torn" ∷ codes "--base" ∷ codes "400" ∷ [], InvalidValue ∷ [])
+    ∷ (codes "torn" ∷ codes "--moments" ∷ codes "--base" ∷ codes "+400" ∷ [], InvalidValue ∷ [])
+    ∷ (codes "torn" ∷ codes "--base" ∷ codes "14000" ∷ [], InvalidValue ∷ [])
+    ∷ (codes "lay" ∷ codes "--half" ∷ codes "2" ∷ [], InvalidValue ∷ [])
+    ∷ (codes "lay" ∷ codes "--half" ∷ [], InvalidValue ∷ [])
+    ∷ (codes "lay" ∷ codes "--half" ∷ codes "0" ∷ codes "--rom" ∷ [], ArgumentConflict ∷ [])
+    ∷ (codes "lay" ∷ codes "--rom" ∷ codes "--table" ∷ [], ArgumentConflict ∷ [])
+    ∷ (codes "lay" ∷ codes "--draft" ∷ codes "--rom" ∷ [], ArgumentConflict ∷ [])
+    ∷ (codes "lay" ∷ codes "--half" ∷ codes "0" ∷ codes "--half" ∷ codes "1" ∷ [], ArgumentConflict ∷ []) ∷ [])
 
 -- the matching gives none of the options that this subcommand may refuse
 abbrev pub GivesNoneRefused : Text → List Row → Type 0

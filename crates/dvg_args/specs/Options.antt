@@ -12,11 +12,12 @@ use Rattle.clap.specs.Words.{Kinds, Row, Text, first_of}
 use Rattle.clap.specs.declared.error.kind.ErrorKind.{ErrorKind}
 use Rattle.clap.specs.declared.error.kind.ErrorKind.TheVariants.{ArgumentConflict, InvalidValue}
 use Rattle.clap.specs.declared.error.kind.ErrorKind.TheVariants.{MissingRequiredArgument}
-use Rattle.dvg_args.specs.declared.options.Shown.{Shown}
-use Rattle.dvg_args.specs.declared.task.LogRule.{LogRule}
-use Rattle.dvg_args.specs.declared.task.LogRule.TheVariants.{Halves, Moments, AllMoments}
-use Rattle.dvg_args.specs.declared.task.LayForm.{LayForm}
-use Rattle.dvg_args.specs.declared.task.LayForm.TheVariants.{Half0, Half1, Table, Rom as RomBytes, Equates, Draft}
+use Rattle.dvg_job.specs.declared.form.LayForm.{LayForm}
+use Rattle.dvg_job.specs.declared.form.LayForm.TheVariants.{Bytes, Table, Rom as RomBytes, Equates, Draft}
+use Rattle.dvg_job.specs.declared.form.LogRule.{LogRule}
+use Rattle.dvg_job.specs.declared.form.LogRule.TheVariants.{Halves, Moments, AllMoments}
+use Rattle.dvg_job.specs.declared.form.Show.{Show}
+use Rattle.dvg_mem.specs.declared.half.Half.TheVariants.{H0, H1}
 
 -- the matching sets the flag
 abbrev pub sets : Text → List Row → Bool
@@ -88,8 +89,8 @@ given_count half table rom equates draft =
 
 -- the form in a half of this number
 abbrev pub half_form : Text → Option LayForm
-half_form number = if bytes_eq number (codes "0") then Some Half0
-    else (if bytes_eq number (codes "1") then Some Half1 else None)
+half_form number = if bytes_eq number (codes "0") then Some (Bytes H0)
+    else (if bytes_eq number (codes "1") then Some (Bytes H1) else None)
 
 -- the form that an option asks for; without one it is half 0
 abbrev pub form_by : (table rom equates draft : Bool) → (half : Option Text) → Option LayForm
@@ -97,7 +98,7 @@ form_by true rom equates draft half = Some Table
 form_by false true equates draft half = Some RomBytes
 form_by false false true draft half = Some Equates
 form_by false false false true half = Some Draft
-form_by false false false false half = option_map_or half_form half (Some Half0)
+form_by false false false false half = option_map_or half_form half (Some (Bytes H0))
 
 -- how many of the options of `lay` the matching gives
 abbrev pub forms_given : List Row → ℕ
@@ -170,5 +171,5 @@ abbrev pub Refuses : {T : Type 0} → Result T ErrorKind → Kinds → Type 0
 Refuses answer kinds = MatchResult answer (λ _. kinds ≡ []) (λ kind. kinds ≡ kind ∷ [])
 
 -- how large and how fast pictures are shown (for a private contract)
-abbrev pub Shows : List Row → Shown → Type 0
-Shows rows shown = (percent_of rows ≡ Some shown.percent) × (rate_of rows ≡ Some shown.rate)
+abbrev pub Shows : List Row → Show → Type 0
+Shows rows show = (percent_of rows ≡ Some show.percent) × (rate_of rows ≡ Some show.rate)

@@ -11,9 +11,9 @@ use crate::laying::lay_job;
 use crate::logging::torn_job;
 use crate::misuse::misuse;
 use crate::options::is_set;
-use crate::task::Job;
 use clap::error::ErrorKind;
 use clap::{ArgMatches, Error};
+use dvg_job::Job;
 use std::alloc::Global;
 
 // Returns the job of the subcommand `name`, whose options in `found` can't be refused. Returns

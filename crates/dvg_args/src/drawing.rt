@@ -6,10 +6,10 @@ ghost use Rattle.dvg_args.specs.Options.{Refuses, Shows, list_fault, picture_fau
 ghost use Rattle.dvg_args.specs.Options.{play_fault, render_fault, svg_fault};
 ghost use Rattle.dvg_args.specs.Arguments.{IsJob};
 
-use crate::options::{Shown, hex_in, is_given, is_set, read_shown};
-use crate::task::{Job, PictureForm};
+use crate::options::{hex_in, is_given, is_set, read_show};
 use clap::ArgMatches;
 use clap::error::ErrorKind;
+use dvg_job::{Job, PictureForm, Show};
 
 /// Returns what the option of `list` in `found` asks for. A value that isn't three hexadecimal
 /// digits is refused (`InvalidValue`).
@@ -29,7 +29,7 @@ pub(crate) fn list_job(found: &ArgMatches) -> Result<Job, ErrorKind>
 // Returns the size and the rate that the options in `found` give, or the defaults. Refused are two
 // options that `clash` (`ArgumentConflict`), a size or a rate without `--svg`
 // (`MissingRequiredArgument`), and a number out of range (`InvalidValue`).
-fn svg_shown(found: &ArgMatches, clash: bool) -> Result<Shown, ErrorKind>
+fn svg_show(found: &ArgMatches, clash: bool) -> Result<Show, ErrorKind>
     ensures ok { IfOk result (Shows (rows_of (found_of found.now))) }
     ensures kinds { Refuses result (svg_fault clash (rows_of (found_of found.now))) }
 {
@@ -42,8 +42,8 @@ fn svg_shown(found: &ArgMatches, clash: bool) -> Result<Shown, ErrorKind>
     if !svg && (scale || rate) {
         return Err(ErrorKind::MissingRequiredArgument);
     }
-    match read_shown(found) {
-        Some(shown) => Ok(shown),
+    match read_show(found) {
+        Some(show) => Ok(show),
         None => Err(ErrorKind::InvalidValue),
     }
 }
@@ -61,13 +61,13 @@ pub(crate) fn picture_job(found: &ArgMatches) -> Result<Job, ErrorKind>
     let moves = is_set(found, "moves");
     let units = is_set(found, "units");
     let clash = (svg && all) || ((svg || all) && (moves || units));
-    let shown = match svg_shown(found, clash) {
-        Ok(shown) => shown,
+    let show = match svg_show(found, clash) {
+        Ok(show) => show,
         Err(kind) => return Err(kind),
     };
     if svg {
         return Ok(Job::PictureSvg {
-            percent: shown.percent,
+            percent: show.percent,
         });
     }
     Ok(Job::Picture {
@@ -84,17 +84,13 @@ pub(crate) fn play_job(found: &ArgMatches) -> Result<Job, ErrorKind>
 {
     let svg = is_set(found, "svg");
     let all = is_set(found, "all");
-    let shown = match svg_shown(found, svg && all) {
-        Ok(shown) => shown,
+    let show = match svg_show(found, svg && all) {
+        Ok(show) => show,
         Err(kind) => return Err(kind),
     };
     let banked = is_set(found, "banked");
     if svg {
-        return Ok(Job::PlaySvg {
-            banked,
-            percent: shown.percent,
-            rate: shown.rate,
-        });
+        return Ok(Job::PlaySvg { banked, show });
     }
     Ok(Job::Play { all, banked })
 }
@@ -105,14 +101,11 @@ pub(crate) fn render_job(found: &ArgMatches) -> Result<Job, ErrorKind>
     ensures ok { IfOk result (λ j. IsJob j (Some (codes "render", rows_of (found_of found.now)))) }
     ensures kinds { Refuses result (render_fault (rows_of (found_of found.now))) }
 {
-    let Some(shown) = read_shown(found) else {
+    let Some(show) = read_show(found) else {
         return Err(ErrorKind::InvalidValue);
     };
     if is_set(found, "check") {
         return Ok(Job::RenderCheck);
     }
-    Ok(Job::Render {
-        percent: shown.percent,
-        rate: shown.rate,
-    })
+    Ok(Job::Render { show })
 }

@@ -5,9 +5,10 @@ ghost use Rattle.dvg_args.specs.Options.{Refuses, form_by, form_of, given_count,
 ghost use Rattle.dvg_args.specs.Arguments.{IsJob};
 
 use crate::options::is_set;
-use crate::task::{Job, LayForm};
 use clap::ArgMatches;
 use clap::error::ErrorKind;
+use dvg_job::{Job, LayForm};
+use dvg_mem::Half;
 
 // Returns how many of `half`, `table`, `rom`, `equates` and `draft` are given.
 fn given_count(half: bool, table: bool, rom: bool, equates: bool, draft: bool) -> u8
@@ -21,9 +22,9 @@ fn half_form(number: &str) -> Option<LayForm>
     ensures { result ≡ half_form number.now }
 {
     if number == "0" {
-        Some(LayForm::Half0)
+        Some(LayForm::Bytes(Half::H0))
     } else if number == "1" {
-        Some(LayForm::Half1)
+        Some(LayForm::Bytes(Half::H1))
     } else {
         None
     }
@@ -55,7 +56,7 @@ fn form_by(
     }
     match half {
         Some(number) => half_form(number),
-        None => Some(LayForm::Half0),
+        None => Some(LayForm::Bytes(Half::H0)),
     }
 }
 

@@ -6,9 +6,9 @@ ghost use Rattle.dvg_args.specs.Options.{Refuses, base_of, torn_fault};
 ghost use Rattle.dvg_args.specs.Arguments.{IsJob};
 
 use crate::options::{hex_in, is_set};
-use crate::task::{Job, LogRule};
 use clap::ArgMatches;
 use clap::error::ErrorKind;
+use dvg_job::{Job, LogRule};
 
 // Returns the rule that the flags `--moments` and `--all` ask for.
 fn rule_of(moments: bool, all: bool) -> LogRule

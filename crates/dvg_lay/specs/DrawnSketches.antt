@@ -6,7 +6,7 @@ use Rattle.dvg_named.specs.declared.meaning.NamedFrame.{NamedFrame}
 use Rattle.dvg_named.specs.declared.meaning.RomName.{RomName}
 use Rattle.dvg_named.specs.ReadSketches.{IsSketchOf, lent_of}
 use Rattle.dvg_named.specs.SketchFaults.{HasSketchFault}
-use Rattle.dvg_svg.specs.declared.show.Show.{Show}
+use Rattle.dvg_job.specs.declared.form.Show.{Show}
 use Rattle.dvg_svg.specs.Svg.{strokes_of, svgs_text}
 use Rattle.dvg_lay.specs.declared.drawn.Drawn.{Drawn}
 use Rattle.dvg_lay.specs.declared.drawn.Drawn.TheVariants.{Pictures, Refused}

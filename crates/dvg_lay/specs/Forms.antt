@@ -2,8 +2,8 @@
 use Rattle.std.specs.Prelude.{◌≡◌, ◌⊎◌, ℕ, List, [], All}
 use Rattle.dvg_named.specs.declared.meaning.NamedFrame.{NamedFrame}
 use Rattle.dvg_named.specs.declared.meaning.RomName.{RomName}
-use Rattle.dvg_lay.specs.declared.form.Form.{Form}
-use Rattle.dvg_lay.specs.declared.form.Form.TheVariants.{Bytes, Tables, RomBytes, RomNames, Drafts}
+use Rattle.dvg_job.specs.declared.form.LayForm.{LayForm}
+use Rattle.dvg_job.specs.declared.form.LayForm.TheVariants.{Bytes, Table, Rom as RomBytes, Equates, Draft}
 use Rattle.dvg_lay.specs.declared.form.Laid.{Laid}
 use Rattle.dvg_lay.specs.declared.form.Laid.TheVariants as laids
 use Rattle.dvg_lay.specs.declared.refusal.Refusal.{Refusal}
@@ -12,28 +12,28 @@ use Rattle.dvg_lay.specs.Texts.{frames_bytes, name_lines, tables}
 use Rattle.dvg_lay.specs.Drafts.{drafts_text}
 
 -- what is laid out over a ROM
-abbrev pub form_text : Form → (R : List ℕ) → List RomName → List NamedFrame → List ℕ
+abbrev pub form_text : LayForm → (R : List ℕ) → List RomName → List NamedFrame → List ℕ
 form_text (Bytes half) R names frames = frames_bytes half frames
-form_text Tables R names frames = tables 0 frames
+form_text Table R names frames = tables 0 frames
 form_text RomBytes R names frames = R
-form_text RomNames R names frames = name_lines names
-form_text Drafts R names frames = drafts_text R frames
+form_text Equates R names frames = name_lines names
+form_text Draft R names frames = drafts_text R frames
 
 -- of these frames it may be: the check accepts all, and a table can express all; drafts are not checked
-abbrev pub MayLay : Form → (R : List ℕ) → List NamedFrame → Type 0
-MayLay Tables R frames = All (IsGood R) frames × All NamesHighRom frames
-MayLay Drafts R frames = Unit {0}
+abbrev pub MayLay : LayForm → (R : List ℕ) → List NamedFrame → Type 0
+MayLay Table R frames = All (IsGood R) frames × All NamesHighRom frames
+MayLay Draft R frames = Unit {0}
 MayLay _ R frames = All (IsGood R) frames
 
 -- the refusal tells why it may not be
-abbrev pub IsRefusal : {A : Type 0} → Form → (R : List ℕ) → List RomName → List NamedFrame
+abbrev pub IsRefusal : {A : Type 0} → LayForm → (R : List ℕ) → List RomName → List NamedFrame
     → Refusal A → Type 0
-IsRefusal Tables R names frames refusal = IsFault R names frames refusal ⊎ IsLow R names frames refusal
-IsRefusal Drafts R names frames refusal = ⊥
+IsRefusal Table R names frames refusal = IsFault R names frames refusal ⊎ IsLow R names frames refusal
+IsRefusal Draft R names frames refusal = ⊥
 IsRefusal _ R names frames refusal = IsFault R names frames refusal
 
 -- what came of it: the text, or a refusal
-abbrev pub IsLaid : {A : Type 0} → Form → (R : List ℕ) → List RomName → List NamedFrame → Laid A
+abbrev pub IsLaid : {A : Type 0} → LayForm → (R : List ℕ) → List RomName → List NamedFrame → Laid A
     → Type 0
 IsLaid form R names frames (laids.Text text) =
     MayLay form R frames × (text.items ≡ form_text form R names frames)

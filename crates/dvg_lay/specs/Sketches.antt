@@ -5,12 +5,12 @@ use Rattle.dvg_named.specs.declared.meaning.NamedFrame.{NamedFrame}
 use Rattle.dvg_named.specs.declared.meaning.RomName.{RomName}
 use Rattle.dvg_named.specs.SketchFaults.{HasSketchFault}
 use Rattle.dvg_named.specs.ReadSketches.{IsSketchOf, lent_of}
-use Rattle.dvg_lay.specs.declared.form.Form.{Form}
+use Rattle.dvg_job.specs.declared.form.LayForm.{LayForm}
 use Rattle.dvg_lay.specs.declared.form.Laid.{Laid}
 use Rattle.dvg_lay.specs.Forms.{IsLaid, shown}
 
 -- the text denotes frames over a ROM with names, and this came of laying these out
-pub record LaysOut {A : Type 0} (form : Form) (text : List ℕ) (laid : Laid A) : Type 0 where
+pub record LaysOut {A : Type 0} (form : LayForm) (text : List ℕ) (laid : Laid A) : Type 0 where
   pub R : List ℕ
   pub names : List RomName
   pub frames : List NamedFrame
@@ -18,5 +18,5 @@ pub record LaysOut {A : Type 0} (form : Form) (text : List ℕ) (laid : Laid A) 
   pub came : IsLaid form R names frames laid
 
 -- what is answered of an input, and what went out
-abbrev pub Lays : {A : Type 0} → Form → Meaning (Laid A)
+abbrev pub Lays : {A : Type 0} → LayForm → Meaning (Laid A)
 Lays form = Answers (LaysOut form) HasSketchFault shown

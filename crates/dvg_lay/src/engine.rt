@@ -8,8 +8,9 @@ ghost use Rattle.dvg_lay.specs.Sketches.{Lays, LaysOut};
 ghost use Rattle.dvg_named.specs.SketchFaults.{HasSketchFault};
 ghost use Rattle.dvg_read.specs.declared.draft_text.TheConstants.{MOST_TEXT_BYTES};
 
-use crate::form::{Form, Laid, lay};
+use crate::form::{Laid, lay};
 use dvg_io::{Engine, StreamFailed, ToolFault, Watched, serve, write_lines, write_whole};
+use dvg_job::LayForm;
 use dvg_mem::Rom;
 use dvg_named::{Sketch, read_sketch};
 use dvg_read::{MOST_TEXT_BYTES, Unread};
@@ -20,7 +21,7 @@ use std::io::{Read, Write};
 fn lay_read<A: Allocator + Copy>(
     alloc: A,
     sketch: &Sketch<'_, A>,
-    form: Form,
+    form: LayForm,
 ) -> Result<Laid<A>, Unread>
     requires inside { AreInside sketch.now }
     requires read { (text : List ℕ) × IsReadOf text sketch.now }
@@ -49,7 +50,7 @@ fn lay_read<A: Allocator + Copy>(
 // The engine that finds what comes of laying out the sketch of a text.
 #[derive(Drop)]
 struct LayEngine {
-    form: Form,
+    form: LayForm,
 }
 
 impl<A: Allocator + Copy> Engine<A> for LayEngine {
@@ -77,8 +78,11 @@ impl<A: Allocator + Copy> Engine<A> for LayEngine {
 
     fn write<W: Write>(&self, laid: &Laid<A>, writer: &mut Watched<W>) -> Result<(), StreamFailed> {
         match self.form {
-            Form::Bytes(_) | Form::RomBytes => write_whole(writer, laid.as_bytes()),
-            Form::Tables | Form::RomNames | Form::Drafts => write_lines(writer, laid.as_bytes()),
+            LayForm::Bytes(_) | LayForm::Rom => write_whole(writer, laid.as_bytes()),
+            LayForm::Table | LayForm::Equates | LayForm::Draft => write_lines(
+                writer,
+                laid.as_bytes(),
+            ),
         }
     }
 }
@@ -100,7 +104,7 @@ pub fn lay_sketch<A: Allocator + Copy, R: Read, W: Write>(
     alloc: A,
     reader: &mut Watched<R>,
     writer: &mut Watched<W>,
-    form: Form,
+    form: LayForm,
 ) -> Result<Laid<A>, ToolFault>
     requires fresh { AreFresh reader.old writer.old }
     ensures { Serves R.remaining W.contents MOST_TEXT_BYTES ComesBeforeText (Lays form)

@@ -7,24 +7,10 @@ use crate::drafts::lay_drafts;
 use crate::laying::{lay_bytes, lay_names, lay_rom, lay_tables};
 use crate::refusal::{Refusal, Unlaid};
 use dvg_code::OutOfMemory;
-use dvg_mem::{Half, Rom};
+use dvg_job::LayForm;
+use dvg_mem::Rom;
 use dvg_named::{NamedFrame, RomName};
 use std::alloc::{Allocator, Global};
-
-/// What is laid out of a sketch.
-#[derive(Clone, Copy, Debug, PartialEq, Eq)]
-pub enum Form {
-    /// The bytes of each frame as it lies in this half, as `lay_bytes` makes them.
-    Bytes(Half),
-    /// The tables of the frames, as `lay_tables` makes them.
-    Tables,
-    /// The bytes of the ROM.
-    RomBytes,
-    /// The names of the ROM, as `lay_names` makes their lines.
-    RomNames,
-    /// The frames as drafts without names, as `lay_drafts` makes them. They aren't checked.
-    Drafts,
-}
 
 /// What came of laying a sketch out.
 #[derive(Debug, Drop)]
@@ -53,7 +39,7 @@ fn lay_text<A: Allocator + Copy>(
     rom: &Rom<A>,
     names: &[RomName],
     frames: &[NamedFrame],
-    form: Form,
+    form: LayForm,
 ) -> Result<Vec<u8, A>, Unlaid<A>>
     requires { All IsLent frames.now }
     ensures may { OnOk result (MayLay form rom.now frames.now) }
@@ -62,11 +48,11 @@ fn lay_text<A: Allocator + Copy>(
     ensures refused { IfErr result (IsUnlaid (IsRefusal form rom.now names.now frames.now)) }
 {
     match form {
-        Form::Bytes(half) => lay_bytes(alloc, rom, names, frames, half),
-        Form::Tables => lay_tables(alloc, rom, names, frames),
-        Form::RomBytes => lay_rom(alloc, rom, names, frames),
-        Form::RomNames => lay_names(alloc, rom, names, frames),
-        Form::Drafts => match lay_drafts(alloc, rom, frames) {
+        LayForm::Bytes(half) => lay_bytes(alloc, rom, names, frames, half),
+        LayForm::Table => lay_tables(alloc, rom, names, frames),
+        LayForm::Rom => lay_rom(alloc, rom, names, frames),
+        LayForm::Equates => lay_names(alloc, rom, names, frames),
+        LayForm::Draft => match lay_drafts(alloc, rom, frames) {
             Ok(text) => Ok(text),
             Err(_) => Err(Unlaid::Memory),
         },
@@ -80,7 +66,7 @@ pub(crate) fn lay<A: Allocator + Copy>(
     rom: &Rom<A>,
     names: &[RomName],
     frames: &[NamedFrame],
-    form: Form,
+    form: LayForm,
 ) -> Result<Laid<A>, OutOfMemory>
     requires { All IsLent frames.now }
     ensures { IfOk result (IsLaid form rom.now names.now frames.now) }

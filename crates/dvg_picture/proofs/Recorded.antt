@@ -14,18 +14,18 @@ use Rattle.dvg_dump.specs.Ends.{End, Complete, Broken, Endless}
 use Rattle.dvg_dump.specs.Traces.{trace, trace_if}
 use Rattle.dvg_dump.specs.Units.{Course, moves_ahead, moves_in, origin, recorded_moves, setting_out, units_if}
 use Rattle.dvg_dump.proofs.Moved.{moves_of_trace, units_more}
-use Rattle.dvg_picture.specs.declared.form.RunForm.{RunForm}
+use Rattle.dvg_job.specs.declared.form.PictureForm.{PictureForm}
 use Rattle.dvg_picture.specs.Texts.{moved_text, picture_text, ran_text, recorded_text, run_text, traces}
 
 -- the moves that are recorded are those of the run
 moves_are : (units : Bool) (memory : ℕ → Option ℕ) (visits : List Visit) → moves_ahead (setting_out units) (trace memory visits) ≡ moves_in units visits
 moves_are units memory visits = ap (units_if units origin) (sym (moves_of_trace memory visits))
 
-abbrev form_of : (all moves units : Bool) → RunForm
+abbrev form_of : (all moves units : Bool) → PictureForm
 form_of all moves units = record { all = all; moves = moves; units = units }
 
 -- of a run whose instructions are recorded
-traced : (form : RunForm) (memory : ℕ → Option ℕ) (visits : List Visit) (end : End) → recorded_text form (trace memory visits) end ≡ picture_text form memory visits end
+traced : (form : PictureForm) (memory : ℕ → Option ℕ) (visits : List Visit) (end : End) → recorded_text form (trace memory visits) end ≡ picture_text form memory visits end
 traced form memory visits end = ap (λ moves. run_text form (trace memory visits) moves end) (moves_are form.units memory visits)
 
 by_flags : (all moves units : Bool) (memory : ℕ → Option ℕ) (visits : List Visit) (end : End)
@@ -37,7 +37,7 @@ by_flags false false false memory visits (Complete words drew) = refl
 by_flags false false false memory visits (Broken address fault) = refl
 by_flags false false false memory visits Endless = refl
 
-pub recorded_as : (form : RunForm) (memory : ℕ → Option ℕ) (visits : List Visit) (end : End)
+pub recorded_as : (form : PictureForm) (memory : ℕ → Option ℕ) (visits : List Visit) (end : End)
     → recorded_text form (trace_if (traces form) memory visits) end ≡ picture_text form memory visits end
 recorded_as form = by_flags form.all form.moves form.units
 

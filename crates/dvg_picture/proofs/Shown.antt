@@ -17,7 +17,7 @@ use Rattle.dvg_dump.specs.declared.runs.Traced.{Traced}
 use Rattle.dvg_dump.specs.Endings.{end_of, outcome_of}
 use Rattle.dvg_dump.specs.Ends.{End}
 use Rattle.dvg_dump.specs.Memory.{HasDumpSize}
-use Rattle.dvg_picture.specs.declared.form.RunForm.{RunForm}
+use Rattle.dvg_job.specs.declared.form.PictureForm.{PictureForm}
 use Rattle.dvg_picture.specs.Pictures.{HasDumpFault, IsDumpFault, IsRunOf, Pictures, ShowsRun}
 use Rattle.dvg_dump.specs.declared.dump.TheConstants.{LARGE_DUMP_BYTES}
 use Rattle.dvg_picture.specs.Texts.{ran_text, recorded_text, traces}
@@ -53,7 +53,7 @@ finds recorded read (Err (unread.Text fault)) ok err input e = faulted fault inp
 finds recorded read (Err unread.Memory) ok err input e = tt
 
 -- a run is shown
-shows : (form : RunForm) (input : List ℕ) (ran : List Ran) (end : End) (Holds : End → List ℕ → Type 0) → IsRunOf (traces form) input ran end
+shows : (form : PictureForm) (input : List ℕ) (ran : List Ran) (end : End) (Holds : End → List ℕ → Type 0) → IsRunOf (traces form) input ran end
     → Holds end (recorded_text form ran end) → ShowsRun form input Holds
 shows form input ran end Holds run holds = record {
   size = run.0;
@@ -63,12 +63,12 @@ shows form input ran end Holds run holds = record {
   holds = subst (Holds end) (ap (λ recorded. recorded_text form recorded end) run.1.2 ∙ recorded_as form _ run.1.0 end) holds;
 }
 
-pub drew : (form : RunForm) (outcome : Outcome) (ran : List Ran) (end : End) (old new : Option (List ℕ)) (input : List ℕ) → outcome ≡ outcome_of end
+pub drew : (form : PictureForm) (outcome : Outcome) (ran : List Ran) (end : End) (old new : Option (List ℕ)) (input : List ℕ) → outcome ≡ outcome_of end
     → IsRunOf (traces form) input ran end × Appends old new (recorded_text form ran end) → Pictures form (Ok outcome) input old new
 drew form outcome ran end old new input called run = shows form input ran end (λ end text. (outcome ≡ outcome_of end) × Appends old new text) run.0 (called, run.1)
 
 -- where it stops
-pub stops : (A : Type 0) (form : RunForm) (fault : ToolFault) (old new : Option (List ℕ)) (input : List ℕ)
+pub stops : (A : Type 0) (form : PictureForm) (fault : ToolFault) (old new : Option (List ℕ)) (input : List ℕ)
     → Answers {F = Traced A} (λ input run. IsRunOf (traces form) input run.ran.items (end_of run.ending)) HasDumpFault
     (λ run. recorded_text form run.ran.items (end_of run.ending)) (Err fault) input old new
     → Pictures form (Err fault) input old new

@@ -15,13 +15,13 @@ use Rattle.dvg_dump.specs.Endings.{outcome_of}
 use Rattle.dvg_dump.specs.Ends.{End, Ends}
 use Rattle.dvg_dump.specs.Following.{TellsRun}
 use Rattle.dvg_dump.specs.Memory.{HasDumpSize, memory_of, parts_of}
-use Rattle.dvg_picture.specs.declared.form.RunForm.{RunForm}
+use Rattle.dvg_job.specs.declared.form.PictureForm.{PictureForm}
 use Rattle.dvg_picture.specs.Texts.{picture_text}
 use Rattle.dvg_dump.specs.declared.dump.TheConstants.{LARGE_DUMP_BYTES}
 
 -- the input is a dump, whose run ends so, and this holds of that end and of the text that is shown
 -- of the run
-pub record ShowsRun (form : RunForm) (input : List ℕ) (Holds : End → List ℕ → Type 0) : Type 0 where
+pub record ShowsRun (form : PictureForm) (input : List ℕ) (Holds : End → List ℕ → Type 0) : Type 0 where
   pub size : HasDumpSize input
   pub visits : List Visit
   pub end : End
@@ -37,7 +37,7 @@ HasDumpFault input _ = ⊥
 
 -- what `picture` answers of an input, and what went out: the text, or at `Writer` a beginning of it
 -- (that nothing went out at the other faults is a part of `Serves`)
-abbrev pub Pictures : RunForm → Result Outcome ToolFault → (input : List ℕ) → Option (List ℕ) → Option (List ℕ)
+abbrev pub Pictures : PictureForm → Result Outcome ToolFault → (input : List ℕ) → Option (List ℕ) → Option (List ℕ)
     → Type 0
 Pictures form (Ok outcome) input old new = ShowsRun form input
     (λ end text. (outcome ≡ outcome_of end) × Appends old new text)

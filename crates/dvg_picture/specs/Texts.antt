@@ -11,7 +11,7 @@ use Rattle.dvg_dump.specs.declared.ran.Ran.{Ran}
 use Rattle.dvg_dump.specs.Ends.{End, Complete, Broken, Endless}
 use Rattle.dvg_dump.specs.Traces.{trace}
 use Rattle.dvg_dump.specs.Units.{moves_ahead, moves_in, setting_out}
-use Rattle.dvg_picture.specs.declared.form.RunForm.{RunForm}
+use Rattle.dvg_job.specs.declared.form.PictureForm.{PictureForm}
 
 -- the line of an instruction that was run, and that of its stroke, if it drew one
 abbrev pub ran_text : Ran → List ℕ
@@ -28,21 +28,21 @@ end_text units moves (Broken address fault) = broke_line address fault
 end_text units moves Endless = endless_line
 
 -- the instructions that were run, or their moves, where these are asked for, and then how the run ends
-abbrev pub run_text : RunForm → List Ran → List Move → End → List ℕ
+abbrev pub run_text : PictureForm → List Ran → List Move → End → List ℕ
 run_text form ran moves end = flat_map ran_text (cond form.all ran [])
     ++ flat_map move_line (cond form.moves moves [])
     ++ end_text form.units moves end
 
 -- what is written of a run over a memory
-abbrev pub picture_text : RunForm → (ℕ → Option ℕ) → List Visit → End → List ℕ
+abbrev pub picture_text : PictureForm → (ℕ → Option ℕ) → List Visit → End → List ℕ
 picture_text form memory visits end = run_text form (trace memory visits) (moves_in form.units visits) end
 
 -- instructions have to be recorded for this form (for a private contract)
-abbrev pub traces : RunForm → Bool
+abbrev pub traces : PictureForm → Bool
 traces form = form.all || form.moves || form.units
 
 -- what is written of recorded instructions (for a private contract)
-abbrev pub recorded_text : RunForm → List Ran → End → List ℕ
+abbrev pub recorded_text : PictureForm → List Ran → End → List ℕ
 recorded_text form ran end = run_text form ran (moves_ahead (setting_out form.units) ran) end
 
 -- the line of a move, or with `as_strokes` that of its stroke, if it is seen (for a private contract)

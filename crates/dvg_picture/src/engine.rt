@@ -1,5 +1,5 @@
 //! The engine `picture`.
-ghost use Rattle.std.specs.Prelude.{IfErr, IfOk};
+ghost use Rattle.std.specs.Prelude.{◌≡◌, IfErr, IfOk};
 ghost use Rattle.dvg_dump.specs.Endings.{end_of};
 ghost use Rattle.dvg_dump.specs.Memory.{HasDumpSize};
 ghost use Rattle.dvg_io.specs.Faults.{ComesBeforeText};
@@ -8,10 +8,10 @@ ghost use Rattle.dvg_picture.specs.Pictures.{HasDumpFault, IsDumpFault, IsRunOf,
 ghost use Rattle.dvg_picture.specs.Texts.{recorded_text, traces};
 ghost use Rattle.dvg_dump.specs.declared.dump.TheConstants.{LARGE_DUMP_BYTES};
 
-use crate::form::RunForm;
 use crate::writes::write_run;
 use dvg_dump::{Dump, DumpFault, LARGE_DUMP_BYTES, Outcome, Traced};
 use dvg_io::{Engine, StreamFailed, ToolFault, Watched, serve};
+use dvg_job::PictureForm;
 use dvg_read::{TextFault, Unread};
 use std::alloc::Allocator;
 use std::io::{Read, Write};
@@ -49,10 +49,17 @@ pub(crate) fn run_dump<A: Allocator + Copy>(
     Ok(run)
 }
 
+// Whether `form` wants the instructions that are run.
+fn traces(form: PictureForm) -> bool
+    ensures { result ≡ traces form }
+{
+    form.all || form.moves || form.units
+}
+
 // The engine that finds how the run over a dump ends.
 #[derive(Drop)]
 struct PictureEngine {
-    form: RunForm,
+    form: PictureForm,
 }
 
 impl<A: Allocator + Copy> Engine<A> for PictureEngine {
@@ -70,7 +77,7 @@ impl<A: Allocator + Copy> Engine<A> for PictureEngine {
     ghost text = { λ engine run. recorded_text engine.form run.ran.items (end_of run.ending) };
 
     fn find(&self, alloc: A, read: &[u8]) -> Result<Traced<A>, Unread> {
-        run_dump(alloc, read, self.form.traces())
+        run_dump(alloc, read, traces(self.form))
     }
 
     fn write<W: Write>(
@@ -109,7 +116,7 @@ pub fn picture<A: Allocator + Copy, R: Read, W: Write>(
     alloc: A,
     reader: &mut Watched<R>,
     writer: &mut Watched<W>,
-    form: RunForm,
+    form: PictureForm,
 ) -> Result<Outcome, ToolFault>
     requires fresh { AreFresh reader.old writer.old }
     ensures { Serves R.remaining W.contents LARGE_DUMP_BYTES ComesBeforeText (Pictures form)

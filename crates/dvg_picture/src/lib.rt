@@ -3,7 +3,6 @@
 #![tactic(auto)]
 
 mod engine;
-mod form;
 mod moves;
 mod svg;
 mod undrawn;
@@ -11,6 +10,5 @@ mod writes;
 
 pub use dvg_dump::Outcome;
 pub use engine::picture;
-pub use form::RunForm;
 pub use svg::picture_svg;
 pub use undrawn::Undrawn;

@@ -8,11 +8,11 @@ ghost use Rattle.dvg_print.specs.Shows.{stroke_line};
 ghost use Rattle.dvg_dump.specs.Units.{moves_ahead, setting_out};
 ghost use Rattle.dvg_picture.specs.Texts.{end_text, ran_text, recorded_text};
 
-use crate::form::RunForm;
 use crate::moves::write_moves;
 use dvg_dump::{Ending, Ran, Traced};
 use dvg_gen::Stroke;
 use dvg_io::{StreamFailed, Watched, write_strokes, write_strokes_in, write_whole};
+use dvg_job::PictureForm;
 use dvg_print::{InstrLine, Line, StrokeLines};
 use std::alloc::Allocator;
 use std::io::Write;
@@ -133,7 +133,7 @@ fn if_asked(asked: bool, ran: &[Ran]) -> &[Ran]
 /// Writes what `form` asks for of `run`, and how it ends, to `writer`.
 pub(crate) fn write_run<A: Allocator, W: Write>(
     run: &Traced<A>,
-    form: RunForm,
+    form: PictureForm,
     writer: &mut Watched<W>,
 ) -> Result<(), StreamFailed>
     ensures { Writes W.contents (recorded_text form run.now.ran.items (end_of run.now.ending))

@@ -3,7 +3,7 @@ use Rattle.std.specs.Prelude.{ℕ, zero, suc, ◌-◌, ◌*◌, ◌/◌, List, [
 use Rattle.std.specs.Prelude.{codes, decimal, Option, Some, None}
 use Rattle.dvg_gen.specs.declared.stroke.Stroke.{Stroke}
 use Rattle.dvg_print.specs.Svg.{path_line}
-use Rattle.dvg_svg.specs.declared.show.Show.{Show}
+use Rattle.dvg_job.specs.declared.form.Show.{Show}
 
 -- the side of a picture in pixels, by its size in percent
 abbrev pub side : ℕ → ℕ

@@ -6,7 +6,5 @@
 
 mod parts;
 mod pictures;
-mod show;
 
 pub use pictures::{write_svg, write_svgs};
-pub use show::Show;

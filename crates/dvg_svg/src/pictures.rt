@@ -7,9 +7,9 @@ ghost use Rattle.dvg_svg.specs.Svg.{stroke_lines, strokes_of, svg_text, svgs_tex
 ghost use Rattle.dvg_svg.specs.Svg.{first_turn, later_turn, turn_lines};
 
 use crate::parts::write_parts;
-use crate::show::Show;
 use dvg_gen::Stroke;
 use dvg_io::{StreamFailed, Watched, write_whole};
+use dvg_job::Show;
 use dvg_print::Line;
 use itoa::Buffer;
 use std::alloc::Allocator;

@@ -5,29 +5,28 @@ use Rattle.dvg_lay.specs.Checks.{ChecksSketch, IsGoodVerdict}
 use Rattle.dvg_lay.specs.DrawnSketches.{Draws}
 use Rattle.dvg_lay.specs.declared.drawn.Drawn.{Drawn}
 use Rattle.dvg_lay.specs.declared.verdicts.Said.{Said}
-use Rattle.dvg_svg.specs.declared.show.Show.{Show}
+use Rattle.dvg_job.specs.declared.form.Show.{Show}
 use Rattle.dvg_lay.specs.Sketches.{Lays}
-use Rattle.dvg_lay.specs.declared.form.Form.{Form}
 use Rattle.dvg_lay.specs.declared.form.Laid.{Laid}
 use Rattle.dvg_print.specs.declared.moment_verdict.MomentVerdict.{MomentVerdict}
 use Rattle.dvg_io.specs.declared.fault.ToolFault.{ToolFault}
 use Rattle.dvg_logs.specs.AllTears.{AllTears}
-use Rattle.dvg_args.specs.declared.task.Job.TheVariants.{Render, RenderCheck, Lay, Torn}
-use Rattle.dvg_args.specs.declared.task.LogRule.TheVariants.{AllMoments}
-use Rattle.dvg_args.specs.declared.task.LayForm.{LayForm}
-use Rattle.dvg_tool.specs.Jobs.{Performs, answered, answered_drawn, form_of}
+use Rattle.dvg_job.specs.declared.task.Job.TheVariants.{Render, RenderCheck, Lay, Torn}
+use Rattle.dvg_job.specs.declared.form.LogRule.TheVariants.{AllMoments}
+use Rattle.dvg_job.specs.declared.form.LayForm.{LayForm}
+use Rattle.dvg_tool.specs.Jobs.{Performs, answered, answered_drawn}
 use Rattle.dvg_tool.specs.declared.outcome.Done.{Done}
 use Rattle.dvg_tool.specs.declared.outcome.Done.TheVariants.{CheckedFrames, SearchedMoments}
 
 -- what is answered of a sketch that was laid out, or that is refused
-pub laid_answered : {A : Type 0} (form : LayForm) (asked : Form) (laid : Laid A) (done : Done A) (known old new : Option (List ℕ)) → asked ≡ form_of form → done ≡ answered laid
-    → IfSome known (λ input. Lays asked (Ok laid) input old new) → IfSome known (λ input. Performs (Lay form) (Ok done) input old new)
-laid_answered form asked laid done None old new same is h = tt
-laid_answered form asked laid done (Some input) old new same is h = (laid, is, subst (λ f. Lays f (Ok laid) input old new) same h)
+pub laid_answered : {A : Type 0} (form : LayForm) (laid : Laid A) (done : Done A) (known old new : Option (List ℕ)) → done ≡ answered laid
+    → IfSome known (λ input. Lays form (Ok laid) input old new) → IfSome known (λ input. Performs (Lay form) (Ok done) input old new)
+laid_answered form laid done None old new is h = tt
+laid_answered form laid done (Some input) old new is h = (laid, is, h)
 
 -- and of one that was drawn
 pub drawn_answered : {A : Type 0} (show : Show) (drawn : Drawn A) (done : Done A) (known old new : Option (List ℕ)) → done ≡ answered_drawn drawn
-    → IfSome known (λ input. Draws show (Ok drawn) input old new) → IfSome known (λ input. Performs (Render show.percent show.rate) (Ok done) input old new)
+    → IfSome known (λ input. Draws show (Ok drawn) input old new) → IfSome known (λ input. Performs (Render show) (Ok done) input old new)
 drawn_answered show drawn done None old new is h = tt
 drawn_answered show drawn done (Some input) old new is h = (drawn, is, h)
 

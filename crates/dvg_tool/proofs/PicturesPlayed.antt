@@ -14,7 +14,7 @@ use Rattle.dvg_io.specs.declared.fault.ToolFault.{ToolFault}
 use Rattle.dvg_io.specs.declared.fault.ToolFault.TheVariants.{Text, Reader, Writer, Memory}
 use Rattle.dvg_io.specs.Serving.{Answers, IsFinding, OfInput}
 use Rattle.dvg_io.proofs.Inputs.{whole}
-use Rattle.dvg_svg.specs.declared.show.Show.{Show}
+use Rattle.dvg_job.specs.declared.form.Show.{Show}
 use Rattle.dvg_svg.specs.Svg.{strokes_of, svgs_text}
 use Rattle.dvg_tool.specs.Plays.{zeros}
 use Rattle.dvg_tool.specs.PlaysSvg.{PlaysSvg, ShowsPictures}

@@ -1,6 +1,5 @@
 -- What is done for a job.
 use Rattle.std.specs.Prelude.{◌≡◌, ◌↔◌, ◌+◌, All, IsTrue, ℕ, List, Option, Result, Ok, Err, IfSome}
-use Rattle.std.specs.Prelude.{false, true}
 use Rattle.dvg_io.specs.Faults.{ComesBeforeText, StopsBeforeWriting}
 use Rattle.dvg_io.specs.Watching.{TakesAtMost}
 use Rattle.dvg_io.specs.declared.fault.ToolFault.{ToolFault}
@@ -10,55 +9,30 @@ use Rattle.dvg_lay.specs.declared.drawn.Drawn.{Drawn}
 use Rattle.dvg_lay.specs.declared.drawn.Drawn.TheVariants as drawns
 use Rattle.dvg_lay.specs.declared.verdicts.Said.{Said}
 use Rattle.dvg_lay.specs.Sketches.{Lays}
-use Rattle.dvg_lay.specs.declared.form.Form.{Form}
-use Rattle.dvg_lay.specs.declared.form.Form.TheVariants.{Bytes, Tables, RomBytes, RomNames, Drafts}
 use Rattle.dvg_lay.specs.declared.form.Laid.{Laid}
 use Rattle.dvg_lay.specs.declared.form.Laid.TheVariants as laids
-use Rattle.dvg_mem.specs.declared.half.Half.TheVariants.{H0, H1}
 use Rattle.dvg_logs.specs.AllTears.{AllTakes, AllTears}
 use Rattle.dvg_logs.specs.MomentTears.{MomentTakes, MomentTears}
 use Rattle.dvg_logs.specs.Tears.{Takes, Tears}
 use Rattle.dvg_picture.specs.Pictures.{Pictures}
-use Rattle.dvg_picture.specs.declared.form.RunForm.{RunForm}
 use Rattle.dvg_picture.specs.Svgs.{DrawsSvg}
 use Rattle.dvg_tool.specs.Lists.{Lists, ListsAt}
 use Rattle.dvg_tool.specs.Roms.{WritesRom}
-use Rattle.dvg_tool.specs.Checks.{Checks, ChecksBound}
+use Rattle.dvg_tool.specs.Checks.{ChecksBy}
 use Rattle.dvg_tool.specs.Plays.{Plays, StopsBeforeShowing}
 use Rattle.dvg_tool.specs.PlaysSvg.{PlaysSvg}
-use Rattle.dvg_svg.specs.declared.show.Show.{Show}
 use Rattle.dvg_tool.specs.declared.outcome.Done.{Done}
-use Rattle.dvg_tool.specs.declared.outcome.Done.TheVariants.{Written, Judged, Bounded, Drew, DrewSvg, Searched}
+use Rattle.dvg_tool.specs.declared.outcome.Done.TheVariants.{Written, Drew, DrewSvg, Searched}
 use Rattle.dvg_tool.specs.declared.outcome.Done.TheVariants.{SearchedMoments}
 use Rattle.dvg_tool.specs.declared.outcome.Done.TheVariants.{Refused, CheckedFrames}
-use Rattle.dvg_args.specs.declared.task.Job.{Job}
-use Rattle.dvg_args.specs.declared.task.Job.TheVariants.{List as list_job, ListAt, Rom, Picture, PictureSvg, Check}
-use Rattle.dvg_args.specs.declared.task.Job.TheVariants.{Play, PlaySvg, Torn, Render, RenderCheck, Lay}
-use Rattle.dvg_args.specs.declared.task.LogRule.TheVariants.{Halves, Moments, AllMoments}
-use Rattle.dvg_args.specs.declared.task.LayForm.{LayForm}
-use Rattle.dvg_args.specs.declared.task.PictureForm.{PictureForm}
-use Rattle.dvg_args.specs.declared.task.LayForm.TheVariants as asked
+use Rattle.dvg_job.specs.declared.task.Job.{Job}
+use Rattle.dvg_job.specs.declared.task.Job.TheVariants.{List as list_job, ListAt, Rom, Picture, PictureSvg, Check}
+use Rattle.dvg_job.specs.declared.task.Job.TheVariants.{Play, PlaySvg, Torn, Render, RenderCheck, Lay}
+use Rattle.dvg_job.specs.declared.form.LogRule.TheVariants.{Halves, Moments, AllMoments}
 use Rattle.dvg_read.specs.declared.draft_text.TheConstants.{MOST_TEXT_BYTES}
 use Rattle.dvg_tool.specs.declared.lists.TheConstants.{MOST_LIST_BYTES}
 use Rattle.dvg_dump.specs.declared.dump.TheConstants.{LARGE_DUMP_BYTES}
 use Rattle.dvg_mem.specs.declared.TheConstants.{LARGE_ROM_BYTES}
-
--- how pictures of this size and rate are shown
-abbrev pub show_of : (percent rate : ℕ) → Show
-show_of percent rate = record { percent = percent; rate = rate }
-
--- what is written of a run over a dump, as `dvg_picture` has it
-abbrev pub run_form : PictureForm → RunForm
-run_form form = record { all = form.all; moves = form.moves; units = form.units }
-
--- the form that is asked for, as `dvg_lay` has it
-abbrev pub form_of : LayForm → Form
-form_of asked.Half0 = Bytes H0
-form_of asked.Half1 = Bytes H1
-form_of asked.Table = Tables
-form_of asked.Rom = RomBytes
-form_of asked.Equates = RomNames
-form_of asked.Draft = Drafts
 
 -- what is said of a sketch that was laid out: why a frame is refused
 abbrev pub answered : {A : Type 0} → Laid A → Done A
@@ -81,20 +55,17 @@ Performs {A} (ListAt address) (Ok Written) input old new = ListsAt {T = Done A} 
 Performs {A} (ListAt address) (Err fault) input old new = ListsAt {T = Done A} address (Err fault) input old new
 Performs {A} Rom (Ok Written) input old new = WritesRom {T = Done A} (Ok Written) input old new
 Performs {A} Rom (Err fault) input old new = WritesRom {T = Done A} (Err fault) input old new
-Performs (Picture form) (Ok (Drew outcome)) input old new = Pictures (run_form form) (Ok outcome) input old new
-Performs (Picture form) (Err fault) input old new = Pictures (run_form form) (Err fault) input old new
+Performs (Picture form) (Ok (Drew outcome)) input old new = Pictures form (Ok outcome) input old new
+Performs (Picture form) (Err fault) input old new = Pictures form (Err fault) input old new
 Performs (PictureSvg percent) (Ok (DrewSvg undrawn)) input old new = DrawsSvg percent (Ok undrawn) input old new
 Performs (PictureSvg percent) (Err fault) input old new = DrawsSvg percent (Err fault) input old new
-Performs (Check false) (Ok (Judged verdict)) input old new = Checks (Ok verdict) input old new
-Performs (Check false) (Err fault) input old new = Checks (Err fault) input old new
-Performs (Check true) (Ok (Bounded verdict)) input old new = ChecksBound (Ok verdict) input old new
-Performs (Check true) (Err fault) input old new = ChecksBound (Err fault) input old new
+Performs (Check bound) answer input old new = ChecksBy bound answer input old new
 Performs {A} (Play all banked) (Ok Written) input old new = Plays {T = Done A} all (Ok Written) input old new
 Performs {A} (Play all banked) (Err fault) input old new = Plays {T = Done A} all (Err fault) input old new
-Performs {A} (PlaySvg banked percent rate) (Ok Written) input old new =
-    PlaysSvg {T = Done A} (show_of percent rate) (Ok Written) input old new
-Performs {A} (PlaySvg banked percent rate) (Err fault) input old new =
-    PlaysSvg {T = Done A} (show_of percent rate) (Err fault) input old new
+Performs {A} (PlaySvg banked show) (Ok Written) input old new =
+    PlaysSvg {T = Done A} show (Ok Written) input old new
+Performs {A} (PlaySvg banked show) (Err fault) input old new =
+    PlaysSvg {T = Done A} show (Err fault) input old new
 Performs (Torn Halves base) (Ok (Searched verdict)) input old new = Tears base (Ok verdict) input old new
 Performs (Torn Halves base) (Err fault) input old new = Tears base (Err fault) input old new
 Performs (Torn Moments base) (Ok (SearchedMoments verdict)) input old new = MomentTears base (Ok verdict) input old new
@@ -102,12 +73,12 @@ Performs (Torn Moments base) (Err fault) input old new = MomentTears base (Err f
 Performs (Torn AllMoments base) (Ok (SearchedMoments verdict)) input old new = AllTears base (Ok verdict) input old new
 Performs (Torn AllMoments base) (Err fault) input old new = AllTears base (Err fault) input old new
 Performs {A} (Lay form) (Ok done) input old new =
-    (laid : Laid A) × (done ≡ answered laid) × Lays (form_of form) (Ok laid) input old new
-Performs {A} (Lay form) (Err fault) input old new = Lays {A = A} (form_of form) (Err fault) input old new
-Performs {A} (Render percent rate) (Ok done) input old new =
-    (drawn : Drawn A) × (done ≡ answered_drawn drawn) × Draws (show_of percent rate) (Ok drawn) input old new
-Performs {A} (Render percent rate) (Err fault) input old new =
-    Draws {A = A} (show_of percent rate) (Err fault) input old new
+    (laid : Laid A) × (done ≡ answered laid) × Lays form (Ok laid) input old new
+Performs {A} (Lay form) (Err fault) input old new = Lays {A = A} form (Err fault) input old new
+Performs {A} (Render show) (Ok done) input old new =
+    (drawn : Drawn A) × (done ≡ answered_drawn drawn) × Draws show (Ok drawn) input old new
+Performs {A} (Render show) (Err fault) input old new =
+    Draws {A = A} show (Err fault) input old new
 Performs {A} RenderCheck (Ok (CheckedFrames good)) input old new = (said : Said A)
     × (IsTrue good ↔ All IsGoodVerdict said.verdicts.items) × ChecksSketch (Ok said) input old new
 Performs {A} RenderCheck (Err fault) input old new = ChecksSketch {A = A} (Err fault) input old new
@@ -133,8 +104,8 @@ TakesBy (Picture form) answer old new = TakesAtMost (LARGE_DUMP_BYTES + 1) old n
 TakesBy (PictureSvg percent) answer old new = TakesAtMost (LARGE_DUMP_BYTES + 1) old new
 TakesBy (Check bound) answer old new = TakesAtMost (MOST_TEXT_BYTES + 1) old new
 TakesBy (Play all banked) answer old new = TakesAtMost (MOST_TEXT_BYTES + 1) old new
-TakesBy (PlaySvg banked percent rate) answer old new = TakesAtMost (MOST_TEXT_BYTES + 1) old new
-TakesBy (Render percent rate) answer old new = TakesAtMost (MOST_TEXT_BYTES + 1) old new
+TakesBy (PlaySvg banked show) answer old new = TakesAtMost (MOST_TEXT_BYTES + 1) old new
+TakesBy (Render show) answer old new = TakesAtMost (MOST_TEXT_BYTES + 1) old new
 TakesBy RenderCheck answer old new = TakesAtMost (MOST_TEXT_BYTES + 1) old new
 TakesBy (Lay form) answer old new = TakesAtMost (MOST_TEXT_BYTES + 1) old new
 TakesBy (Torn Halves base) (Ok (Searched verdict)) old new =

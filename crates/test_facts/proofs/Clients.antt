@@ -25,8 +25,8 @@ use Rattle.dvg_tool.specs.Plays.{IsPlayed, log_text, event_of, zeros}
 use Rattle.dvg_read.proofs.OneTrace.{one_trace_meaning, no_fault_beside_trace}
 use Rattle.clap.specs.Words.{Row, Text as WordText}
 use Rattle.dvg_args.specs.Arguments.{IsJob}
-use Rattle.dvg_args.specs.declared.task.Job.{Job}
-use Rattle.dvg_args.specs.declared.task.Job.TheVariants.{List as list_job, ListAt, Rom, Picture, PictureSvg, Check, Play, PlaySvg, Torn, Render, RenderCheck, Lay}
+use Rattle.dvg_job.specs.declared.task.Job.{Job}
+use Rattle.dvg_job.specs.declared.task.Job.TheVariants.{List as list_job, ListAt, Rom, Picture, PictureSvg, Check, Play, PlaySvg, Torn, Render, RenderCheck, Lay}
 use Rattle.dvg_driver.specs.declared.action.Action.{Action}
 use Rattle.dvg_driver.specs.declared.action.Action.TheVariants.{Peek, Wrote, Read}
 use Rattle.dvg_driver.specs.Script.{Item, Did, Offered, IsLife, IsWhole}
@@ -179,13 +179,13 @@ play_only (Check bound) None x y = absurd (cc)
 play_only (Check bound) (Some p) x y = absurd (begins_so p.0 (codes "check") (ap (λ q. q.0) (same_Some _ _ x)) (ap (λ q. q.0) (same_Some _ _ y)) (λ (d : 99 ≡ 112). omega arith))
 play_only (Play all banked) None x y = absurd (cc)
 play_only (Play all banked) (Some p) x y = ap (λ q. Play q.2 q.3) (sym (same_Some _ _ x) ∙ same_Some _ _ y)
-play_only (PlaySvg banked percent rate) None x y = absurd (cc)
-play_only (PlaySvg banked percent rate) (Some p) x y =
+play_only (PlaySvg banked show) None x y = absurd (cc)
+play_only (PlaySvg banked show) (Some p) x y =
     absurd (true≢false (sym (ap (λ q. q.1) (same_Some _ _ x)) ∙ ap (λ q. q.1) (same_Some _ _ y)))
 play_only (Torn rule base) None x y = absurd (cc)
 play_only (Torn rule base) (Some p) x y = absurd (begins_so p.0 (codes "torn") (ap (λ q. q.0) (same_Some _ _ x)) (ap (λ q. q.0) (same_Some _ _ y)) (λ (d : 116 ≡ 112). omega arith))
-play_only (Render percent rate) None x y = absurd (cc)
-play_only (Render percent rate) (Some p) x y = absurd (begins_so p.0 (codes "render") (ap (λ q. q.0) (same_Some _ _ x)) (ap (λ q. q.0) (same_Some _ _ y)) (λ (d : 114 ≡ 112). omega arith))
+play_only (Render show) None x y = absurd (cc)
+play_only (Render show) (Some p) x y = absurd (begins_so p.0 (codes "render") (ap (λ q. q.0) (same_Some _ _ x)) (ap (λ q. q.0) (same_Some _ _ y)) (λ (d : 114 ≡ 112). omega arith))
 play_only RenderCheck None x y = absurd (cc)
 play_only RenderCheck (Some p) x y = absurd (begins_so p.0 (codes "render") (ap (λ q. q.0) (same_Some _ _ x)) (ap (λ q. q.0) (same_Some _ _ y)) (λ (d : 114 ≡ 112). omega arith))
 play_only (Lay form) None x y = absurd (cc)

@@ -2,8 +2,9 @@
 ghost use Rattle.std.specs.Prelude.{◌≡◌, IfOk, true, false};
 
 use clap::Error;
+use dvg_args::job;
 use dvg_args::laws::text_job_arguments;
-use dvg_args::{Job, job};
+use dvg_job::Job;
 use std::alloc::Global;
 
 /// The arguments `dvg play --all` ask for `play` of each entry, over a flat store.

@@ -1,7 +1,8 @@
 //! The engine `play`: what it writes before memory is refused.
 use crate::answers::{Answer, Report, answered};
+use crate::tasks::playing;
 use crate::traces::{FIRST_PICTURE, joined, played};
-use dvg_tool::{Job, ToolFault, Watched, perform};
+use dvg_tool::{ToolFault, Watched, perform};
 use linked_list_allocator::LocalHeap;
 use std::alloc::Global;
 use std::test::Fail;
@@ -23,10 +24,7 @@ fn played_in(alloc: Global, wanted: Wanted, bytes: usize) -> Result<(Vec<u8>, An
     let heap = LocalHeap::new(alloc, bytes)?;
     let mut reader = Watched::new(wanted.trace.as_bytes());
     let mut writer = Watched::new(Vec::new(alloc));
-    let job = Job::Play {
-        all: wanted.all,
-        banked: wanted.banked,
-    };
+    let job = playing(wanted.all, wanted.banked);
     let answer = answered(&perform(&heap, job, &mut reader, &mut writer));
     Ok((writer.into_inner(), answer))
 }

@@ -1,17 +1,14 @@
 //! Memory that an engine is refused, and that none asks for once it has begun to write.
 use crate::answers::{Report, answered};
-use crate::tasks::{RETURN, Task, moving_dump, tasks, written};
+use crate::tasks::{MOST_SLOTS, RETURN, Refusals, Task, moving_dump, refusals_of, tasks, written};
 use bumpalo::Bump;
 use dvg_mem::MEMORY_BYTES;
-use dvg_tool::{Job, ToolFault, Watched, perform};
+use dvg_tool::{ToolFault, Watched, perform};
 use linked_list_allocator::LocalHeap;
 use std::alloc::Global;
 use std::io;
 use std::io::Write;
 use std::test::Fail;
-
-/// The most times 16 bytes of a heap.
-const MOST_SLOTS: usize = 1024;
 
 /// Returns in how many heaps of rising sizes `task` is refused memory. Then nothing is written, and
 /// else all.
@@ -36,26 +33,20 @@ fn refusals(alloc: Global, task: Task) -> Result<usize, Fail> {
     Ok(refused)
 }
 
-/// A heap refuses what doesn't fit it, so each size of heap refuses some allocation, or none. All
-/// but `list` and `torn` need room for a ROM, which is 128 times 16 bytes, and `picture` for a
-/// dump. `torn` needs none. What `play` does is shown by tests of its own.
+/// A heap refuses what doesn't fit it, so each size of heap refuses some allocation, or none.
 #[test]
 fn each_growth_is_refused_in_turn(rt: HostRuntime) -> Result<(), Fail> {
     let rom = vec![in rt.alloc(); 0xD0u8; MEMORY_BYTES]?;
     let dump = moving_dump(rt.alloc(), RETURN)?;
     for task in tasks(rom.as_slice(), dump.as_slice()) {
-        let (least, most) = match task.job {
-            Job::List | Job::ListAt { .. } => (0, 64),
-            Job::Rom => (128, MOST_SLOTS),
-            Job::Picture { .. } => (256, MOST_SLOTS),
-            Job::Check { .. } => (128, 192),
-            Job::Play { .. } | Job::PlaySvg { .. } | Job::PictureSvg { .. } => continue,
-            // A checker alone is greater than these heaps.
-            Job::Render { .. } | Job::RenderCheck | Job::Lay { .. } => {
+        let (least, most) = match refusals_of(task.job) {
+            Refusals::Between(least, most) => (least, most),
+            Refusals::Elsewhere => continue,
+            Refusals::Always => {
                 assert_eq!(rt; refusals(rt.alloc(), task)?, MOST_SLOTS);
                 continue;
             }
-            Job::Torn { .. } => {
+            Refusals::Never => {
                 assert_eq!(rt; refusals(rt.alloc(), task)?, 0);
                 continue;
             }

@@ -2,10 +2,11 @@
 use crate::answers::{Report, answered};
 use crate::scripts::Step::{Fetch, Tick};
 use crate::scripts::{events, image, rom};
+use crate::tasks::playing;
 use crate::traces::FIRST_PICTURE;
 use dvg_code::OutOfMemory;
 use dvg_mem::{Flat, Image, Store};
-use dvg_tool::{Job, ToolFault, Watched, perform, play_in};
+use dvg_tool::{ToolFault, Watched, perform, play_in};
 use dvg_world::run;
 use linked_list_allocator::LocalHeap;
 use std::alloc::Global;
@@ -96,7 +97,7 @@ fn smallest_heap(alloc: Global, banked: bool) -> Result<usize, Fail> {
             wall: None,
         });
         let mut writer = Watched::new(Vec::new(alloc));
-        let job = Job::Play { all: true, banked };
+        let job = playing(true, banked);
         if answered(&perform(&heap, job, &mut reader, &mut writer)) == Ok(Report::Written) {
             return Ok(size);
         }

@@ -1,11 +1,12 @@
-//! A task for each job, and what comes of it where nothing fails.
+//! A task for each job, what comes of it where nothing fails, and what is known of each: how long an
+//! input may be, and how often memory is refused.
 use crate::answers::{Answer, Report, answered};
 use crate::traces::FIRST_PICTURE;
 use dvg_frame::{FrameFault, Place};
 use dvg_mem::MEMORY_BYTES;
 use dvg_tool::{
     BoundedVerdict, Job, LayForm, LogCounts, LogFinding, LogRule, LogVerdict, MomentVerdict,
-    Outcome, PictureForm, TextFault, ToolFault, Verdict, Watched, perform,
+    Outcome, PictureForm, Show, TextFault, ToolFault, Verdict, Watched, perform,
 };
 use std::alloc::Global;
 use std::test::Fail;
@@ -31,29 +32,49 @@ pub const BANKED_ENTRIES: Job = Job::Play {
     banked: true,
 };
 
+/// Returns the job that plays a trace, `all` of its entries or its pictures, with the RAM `banked`
+/// or not.
+pub fn playing(all: bool, banked: bool) -> Job {
+    Job::Play { all, banked }
+}
+
+/// To check a draft, also with its bound.
+pub const CHECK: Job = Job::Check { bound: false };
+
+pub const CHECK_BOUND: Job = Job::Check { bound: true };
+
 /// To show what a dump draws: alone, with its instructions, and with its moves in whole units.
 pub const PICTURE: Job = Job::Picture {
-    form: PictureForm {
-        all: false,
-        moves: false,
-        units: false,
-    },
+    form: PictureForm::PLAIN,
 };
 
 pub const INSTRUCTIONS: Job = Job::Picture {
     form: PictureForm {
         all: true,
-        moves: false,
-        units: false,
+        ..PictureForm::PLAIN
     },
 };
 
 pub const MOVES: Job = Job::Picture {
     form: PictureForm {
-        all: false,
         moves: true,
         units: true,
+        ..PictureForm::PLAIN
     },
+};
+
+/// To draw the pictures of a trace as SVG, and the frames of a sketch.
+pub const PICTURES_SVG: Job = Job::PlaySvg {
+    banked: false,
+    show: SHOW,
+};
+
+pub const FRAMES_SVG: Job = Job::Render { show: SHOW };
+
+/// How pictures are shown without options.
+const SHOW: Show = Show {
+    percent: 100,
+    rate: 30,
 };
 
 /// The first bytes of a dump: a LABS, a vector that isn't seen, one that is, and the low byte of the
@@ -155,18 +176,8 @@ pub fn tasks<'a>(rom: &'a [u8], dump: &'a [u8]) -> [Task<'a>; 19] {
         task(PICTURE, dump, 64, Ok(Report::Drew(Outcome::Broke))),
         task(INSTRUCTIONS, dump, 64, Ok(Report::Drew(Outcome::Broke))),
         task(MOVES, dump, 64, Ok(Report::Drew(Outcome::Broke))),
-        task(
-            Job::Check { bound: false },
-            REFUSED.as_bytes(),
-            1,
-            Ok(Report::Judged(OUT_OF_ROM)),
-        ),
-        task(
-            Job::Check { bound: true },
-            GOOD.as_bytes(),
-            1,
-            Ok(Report::Bounded(SHORT)),
-        ),
+        task(CHECK, REFUSED.as_bytes(), 1, Ok(Report::Judged(OUT_OF_ROM))),
+        task(CHECK_BOUND, GOOD.as_bytes(), 1, Ok(Report::Bounded(SHORT))),
         task(PICTURES, picture, 1, Ok(Report::Written)),
         task(ENTRIES, picture, 64, Ok(Report::Written)),
         task(BANKED_PICTURES, picture, 1, Ok(Report::Written)),
@@ -204,21 +215,9 @@ pub fn tasks<'a>(rom: &'a [u8], dump: &'a [u8]) -> [Task<'a>; 19] {
             1,
             Err(ToolFault::Text(TextFault::Cut(3))),
         ),
+        task(PICTURES_SVG, picture, 1, Ok(Report::Written)),
         task(
-            Job::PlaySvg {
-                banked: false,
-                percent: 100,
-                rate: 30,
-            },
-            picture,
-            1,
-            Ok(Report::Written),
-        ),
-        task(
-            Job::Render {
-                percent: 100,
-                rate: 30,
-            },
+            FRAMES_SVG,
             REFUSED_SKETCH.as_bytes(),
             1,
             Ok(Report::Refused),
@@ -238,6 +237,58 @@ pub fn tasks<'a>(rom: &'a [u8], dump: &'a [u8]) -> [Task<'a>; 19] {
             Ok(Report::Written),
         ),
     ]
+}
+
+/// Each job, the most bytes of its input, and the fault of a longer one.
+pub const LIMITS: [(Job, usize, TextFault); 14] = [
+    (Job::List, 8192, TextFault::TooLong),
+    (Job::ListAt { address: 0 }, 8192, TextFault::TooLong),
+    (Job::Rom, 4096, TextFault::RomSize),
+    (INSTRUCTIONS, 6144, TextFault::LongDump),
+    (Job::PictureSvg { percent: 100 }, 6144, TextFault::LongDump),
+    (CHECK, 1_048_576, TextFault::TooLong),
+    (CHECK_BOUND, 1_048_576, TextFault::TooLong),
+    (PICTURES, 1_048_576, TextFault::TooLong),
+    (ENTRIES, 1_048_576, TextFault::TooLong),
+    (BANKED_ENTRIES, 1_048_576, TextFault::TooLong),
+    (PICTURES_SVG, 1_048_576, TextFault::TooLong),
+    (FRAMES_SVG, 1_048_576, TextFault::TooLong),
+    (Job::RenderCheck, 1_048_576, TextFault::TooLong),
+    (
+        Job::Lay { form: LayForm::Rom },
+        1_048_576,
+        TextFault::TooLong,
+    ),
+];
+
+/// How often a job is refused memory, in heaps of rising sizes.
+#[derive(Clone, Copy)]
+pub enum Refusals {
+    /// More often than this, and less often than that.
+    Between(usize, usize),
+    /// Never: it asks for none.
+    Never,
+    /// In each of them: a checker alone is greater.
+    Always,
+    /// This is shown by tests of its own.
+    Elsewhere,
+}
+
+/// The most times 16 bytes of such a heap.
+pub const MOST_SLOTS: usize = 1024;
+
+/// Returns how often `job` is refused memory. All but `list` and `torn` need room for a ROM, which
+/// is 128 times 16 bytes, and `picture` for a dump. `torn` needs none.
+pub fn refusals_of(job: Job) -> Refusals {
+    match job {
+        Job::List | Job::ListAt { .. } => Refusals::Between(0, 64),
+        Job::Rom => Refusals::Between(128, MOST_SLOTS),
+        Job::Picture { .. } => Refusals::Between(256, MOST_SLOTS),
+        Job::Check { .. } => Refusals::Between(128, 192),
+        Job::Play { .. } | Job::PlaySvg { .. } | Job::PictureSvg { .. } => Refusals::Elsewhere,
+        Job::Render { .. } | Job::RenderCheck | Job::Lay { .. } => Refusals::Always,
+        Job::Torn { .. } => Refusals::Never,
+    }
 }
 
 /// Returns what is written of `task` where nothing fails, which the cases of the program show.

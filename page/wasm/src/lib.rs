@@ -5,7 +5,7 @@
 //! no more once `dvg_free` got it.
 use dvg_device::Device;
 use dvg_tool::{
-    Done, Job, LayForm, LogRule, PictureForm, ToolFault, Watched, finish, perform, status,
+    Done, Job, LayForm, LogRule, PictureForm, Show, ToolFault, Watched, finish, perform, status,
 };
 use plain_std::alloc::Global;
 use std::cell::RefCell;
@@ -25,8 +25,10 @@ mod forms;
 mod places;
 
 /// How a moving picture is shown: in percent of a pixel for each unit, and pictures a second.
-const PERCENT: u16 = 100;
-const RATE: u16 = 30;
+const SHOW: Show = Show {
+    percent: 100,
+    rate: 30,
+};
 
 /// What the page hands in, and what the newest command wrote.
 #[derive(Default)]
@@ -84,8 +86,7 @@ fn job_of(number: u32) -> Option<Job> {
         (2, all) => Some(Job::Picture {
             form: PictureForm {
                 all,
-                moves: false,
-                units: false,
+                ..PictureForm::PLAIN
             },
         }),
         (3, bound) => Some(Job::Check { bound }),
@@ -98,10 +99,7 @@ fn job_of(number: u32) -> Option<Job> {
             };
             Some(Job::Torn { rule, base: None })
         }
-        (6, false) => Some(Job::Render {
-            percent: PERCENT,
-            rate: RATE,
-        }),
+        (6, false) => Some(Job::Render { show: SHOW }),
         (6, true) => Some(Job::RenderCheck),
         (7, false) => Some(Job::Lay { form: LayForm::Rom }),
         (7, true) => Some(Job::Lay {

@@ -1,9 +1,9 @@
 //! What the options of `list`, `picture`, `play` and `render` ask for. That some exclude each
 //! other, and which values they take, is this project's own choice.
-use crate::options::{Shown, hex_in, is_given, is_set, read_shown};
-use crate::task::{Job, PictureForm};
+use crate::options::{hex_in, is_given, is_set, read_show};
 use clap::ArgMatches;
 use clap::error::ErrorKind;
+use dvg_job::{Job, PictureForm, Show};
 
 /// Returns what the option of `list` in `found` asks for. A value that isn't three hexadecimal
 /// digits is refused (`InvalidValue`).
@@ -20,7 +20,7 @@ pub(crate) fn list_job(found: &ArgMatches) -> Result<Job, ErrorKind> {
 // Returns the size and the rate that the options in `found` give, or the defaults. Refused are two
 // options that `clash` (`ArgumentConflict`), a size or a rate without `--svg`
 // (`MissingRequiredArgument`), and a number out of range (`InvalidValue`).
-fn svg_shown(found: &ArgMatches, clash: bool) -> Result<Shown, ErrorKind> {
+fn svg_show(found: &ArgMatches, clash: bool) -> Result<Show, ErrorKind> {
     let svg = is_set(found, "svg");
     let scale = is_given(found, "scale");
     let rate = is_given(found, "rate");
@@ -30,8 +30,8 @@ fn svg_shown(found: &ArgMatches, clash: bool) -> Result<Shown, ErrorKind> {
     if !svg && (scale || rate) {
         return Err(ErrorKind::MissingRequiredArgument);
     }
-    match read_shown(found) {
-        Some(shown) => Ok(shown),
+    match read_show(found) {
+        Some(show) => Ok(show),
         None => Err(ErrorKind::InvalidValue),
     }
 }
@@ -45,13 +45,13 @@ pub(crate) fn picture_job(found: &ArgMatches) -> Result<Job, ErrorKind> {
     let moves = is_set(found, "moves");
     let units = is_set(found, "units");
     let clash = (svg && all) || ((svg || all) && (moves || units));
-    let shown = match svg_shown(found, clash) {
-        Ok(shown) => shown,
+    let show = match svg_show(found, clash) {
+        Ok(show) => show,
         Err(kind) => return Err(kind),
     };
     if svg {
         return Ok(Job::PictureSvg {
-            percent: shown.percent,
+            percent: show.percent,
         });
     }
     Ok(Job::Picture {
@@ -65,17 +65,13 @@ pub(crate) fn picture_job(found: &ArgMatches) -> Result<Job, ErrorKind> {
 pub(crate) fn play_job(found: &ArgMatches) -> Result<Job, ErrorKind> {
     let svg = is_set(found, "svg");
     let all = is_set(found, "all");
-    let shown = match svg_shown(found, svg && all) {
-        Ok(shown) => shown,
+    let show = match svg_show(found, svg && all) {
+        Ok(show) => show,
         Err(kind) => return Err(kind),
     };
     let banked = is_set(found, "banked");
     if svg {
-        return Ok(Job::PlaySvg {
-            banked,
-            percent: shown.percent,
-            rate: shown.rate,
-        });
+        return Ok(Job::PlaySvg { banked, show });
     }
     Ok(Job::Play { all, banked })
 }
@@ -83,14 +79,11 @@ pub(crate) fn play_job(found: &ArgMatches) -> Result<Job, ErrorKind> {
 /// Returns what the options of `render` in `found` ask for. A size or a rate that is out of range
 /// is refused (`InvalidValue`), even with `--check`, which they don't concern.
 pub(crate) fn render_job(found: &ArgMatches) -> Result<Job, ErrorKind> {
-    let Some(shown) = read_shown(found) else {
+    let Some(show) = read_show(found) else {
         return Err(ErrorKind::InvalidValue);
     };
     if is_set(found, "check") {
         return Ok(Job::RenderCheck);
     }
-    Ok(Job::Render {
-        percent: shown.percent,
-        rate: shown.rate,
-    })
+    Ok(Job::Render { show })
 }

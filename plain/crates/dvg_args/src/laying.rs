@@ -1,8 +1,9 @@
 //! What the options of `lay` ask for. They exclude each other, which is this project's own choice.
 use crate::options::is_set;
-use crate::task::{Job, LayForm};
 use clap::ArgMatches;
 use clap::error::ErrorKind;
+use dvg_job::{Job, LayForm};
+use dvg_mem::Half;
 
 // Returns how many of `half`, `table`, `rom`, `equates` and `draft` are given.
 fn given_count(half: bool, table: bool, rom: bool, equates: bool, draft: bool) -> u8 {
@@ -12,9 +13,9 @@ fn given_count(half: bool, table: bool, rom: bool, equates: bool, draft: bool) -
 // Returns the form for the half that `number` names, `0` or `1`. Returns `None` for any other text.
 fn half_form(number: &str) -> Option<LayForm> {
     if number == "0" {
-        Some(LayForm::Half0)
+        Some(LayForm::Bytes(Half::H0))
     } else if number == "1" {
-        Some(LayForm::Half1)
+        Some(LayForm::Bytes(Half::H1))
     } else {
         None
     }
@@ -44,7 +45,7 @@ fn form_by(
     }
     match half {
         Some(number) => half_form(number),
-        None => Some(LayForm::Half0),
+        None => Some(LayForm::Bytes(Half::H0)),
     }
 }
 

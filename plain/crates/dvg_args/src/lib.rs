@@ -1,5 +1,5 @@
 //! The arguments of the program `dvg`: its subcommands and options, their help texts, and what the
-//! arguments ask for.
+//! arguments ask for, which is a job of `dvg_job`.
 //!
 //! The arguments are read by `clap`, with a command that `specs/Arguments.antt` shows whole. A job
 //! is returned only where clap's own matching gives it, and an error only of a kind that the
@@ -19,8 +19,6 @@ mod logging;
 mod misuse;
 mod options;
 mod refusal;
-mod task;
 
 pub use arguments::job;
 pub use refusal::arguments_status;
-pub use task::{Job, LayForm, LogRule, PictureForm};

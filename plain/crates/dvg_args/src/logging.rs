@@ -1,8 +1,8 @@
 //! What the options of `torn` ask for.
 use crate::options::{hex_in, is_set};
-use crate::task::{Job, LogRule};
 use clap::ArgMatches;
 use clap::error::ErrorKind;
+use dvg_job::{Job, LogRule};
 
 // Returns the rule that the flags `--moments` and `--all` ask for.
 fn rule_of(moments: bool, all: bool) -> LogRule {

@@ -1,12 +1,6 @@
 //! What the options of a subcommand say.
 use clap::ArgMatches;
-
-/// How large pictures are shown, in percent, and how many of them a second.
-#[derive(Clone, Copy)]
-pub(crate) struct Shown {
-    pub(crate) percent: u16,
-    pub(crate) rate: u16,
-}
+use dvg_job::Show;
 
 /// Whether `found` sets the flag `id`.
 pub(crate) fn is_set(found: &ArgMatches, id: &str) -> bool {
@@ -43,14 +37,14 @@ fn number_of(found: &ArgMatches, id: &str, least: u16, most: u16, default: u16) 
 
 /// Returns the size and the rate that `found` gives, 100 percent and 30 by default. Returns `None`
 /// where the size isn't a number from 10 to 400, or the rate isn't one from 1 to 60.
-pub(crate) fn read_shown(found: &ArgMatches) -> Option<Shown> {
+pub(crate) fn read_show(found: &ArgMatches) -> Option<Show> {
     let Some(percent) = number_of(found, "scale", 10, 400, 100) else {
         return None;
     };
     let Some(rate) = number_of(found, "rate", 1, 60, 30) else {
         return None;
     };
-    Some(Shown { percent, rate })
+    Some(Show { percent, rate })
 }
 
 /// Returns the number that `text` writes, if it is so many hexadecimal `digits` of either case, 1

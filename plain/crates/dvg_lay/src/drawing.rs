@@ -5,9 +5,10 @@ use crate::drawn::Drawn;
 use crate::frames::draw_frames;
 use crate::refusal::Unlaid;
 use dvg_io::{Engine, StreamFailed, ToolFault, Watched, serve};
+use dvg_job::Show;
 use dvg_named::{Sketch, read_sketch};
 use dvg_read::{MOST_TEXT_BYTES, Unread};
-use dvg_svg::{Show, write_svgs};
+use dvg_svg::write_svgs;
 use std::alloc::Allocator;
 use std::io::{Read, Write};
 

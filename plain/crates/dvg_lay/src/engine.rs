@@ -1,8 +1,9 @@
 //! The engine `lay`.
 use std::prelude::*;
 
-use crate::form::{Form, Laid, lay};
+use crate::form::{Laid, lay};
 use dvg_io::{Engine, StreamFailed, ToolFault, Watched, serve, write_lines, write_whole};
+use dvg_job::LayForm;
 use dvg_mem::Rom;
 use dvg_named::{Sketch, read_sketch};
 use dvg_read::{MOST_TEXT_BYTES, Unread};
@@ -13,7 +14,7 @@ use std::io::{Read, Write};
 fn lay_read<A: Allocator + Copy>(
     alloc: A,
     sketch: &Sketch<'_, A>,
-    form: Form,
+    form: LayForm,
 ) -> Result<Laid<A>, Unread> {
     let Ok(rom) = Rom::new(alloc, sketch.rom.as_slice()) else {
         return Err(Unread::Memory);
@@ -35,7 +36,7 @@ fn lay_read<A: Allocator + Copy>(
 
 // The engine that finds what comes of laying out the sketch of a text.
 struct LayEngine {
-    form: Form,
+    form: LayForm,
 }
 
 impl<A: Allocator + Copy> Engine<A> for LayEngine {
@@ -55,8 +56,11 @@ impl<A: Allocator + Copy> Engine<A> for LayEngine {
 
     fn write<W: Write>(&self, laid: &Laid<A>, writer: &mut Watched<W>) -> Result<(), StreamFailed> {
         match self.form {
-            Form::Bytes(_) | Form::RomBytes => write_whole(writer, laid.as_bytes()),
-            Form::Tables | Form::RomNames | Form::Drafts => write_lines(writer, laid.as_bytes()),
+            LayForm::Bytes(_) | LayForm::Rom => write_whole(writer, laid.as_bytes()),
+            LayForm::Table | LayForm::Equates | LayForm::Draft => write_lines(
+                writer,
+                laid.as_bytes(),
+            ),
         }
     }
 }
@@ -78,7 +82,7 @@ pub fn lay_sketch<A: Allocator + Copy, R: Read, W: Write>(
     alloc: A,
     reader: &mut Watched<R>,
     writer: &mut Watched<W>,
-    form: Form,
+    form: LayForm,
 ) -> Result<Laid<A>, ToolFault> {
     serve(&LayEngine { form }, alloc, reader, writer)
 }

@@ -31,7 +31,7 @@ mod verdicts;
 pub use drawing::draw_sketch;
 pub use drawn::Drawn;
 pub use engine::lay_sketch;
-pub use form::{Form, Laid};
+pub use form::Laid;
 pub use laying::lay_tables;
 pub use refusal::{Blamed, Reason, Refusal, Unlaid};
 pub use time::PictureTime;

@@ -1,8 +1,8 @@
 //! The engine `picture`.
-use crate::form::RunForm;
 use crate::writes::write_run;
 use dvg_dump::{Dump, DumpFault, LARGE_DUMP_BYTES, Outcome, Traced};
 use dvg_io::{Engine, StreamFailed, ToolFault, Watched, serve};
+use dvg_job::PictureForm;
 use dvg_read::{TextFault, Unread};
 use std::alloc::Allocator;
 use std::io::{Read, Write};
@@ -34,9 +34,14 @@ pub(crate) fn run_dump<A: Allocator + Copy>(
     Ok(run)
 }
 
+// Whether `form` wants the instructions that are run.
+fn traces(form: PictureForm) -> bool {
+    form.all || form.moves || form.units
+}
+
 // The engine that finds how the run over a dump ends.
 struct PictureEngine {
-    form: RunForm,
+    form: PictureForm,
 }
 
 impl<A: Allocator + Copy> Engine<A> for PictureEngine {
@@ -45,7 +50,7 @@ impl<A: Allocator + Copy> Engine<A> for PictureEngine {
     const MOST: u32 = LARGE_DUMP_BYTES as u32;
 
     fn find(&self, alloc: A, read: &[u8]) -> Result<Traced<A>, Unread> {
-        run_dump(alloc, read, self.form.traces())
+        run_dump(alloc, read, traces(self.form))
     }
 
     fn write<W: Write>(
@@ -84,7 +89,7 @@ pub fn picture<A: Allocator + Copy, R: Read, W: Write>(
     alloc: A,
     reader: &mut Watched<R>,
     writer: &mut Watched<W>,
-    form: RunForm,
+    form: PictureForm,
 ) -> Result<Outcome, ToolFault> {
     let run = serve(&PictureEngine { form }, alloc, reader, writer)?;
     Ok(run.ending.outcome())

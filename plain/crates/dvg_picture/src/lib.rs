@@ -5,7 +5,6 @@
 extern crate plain_std as std;
 
 mod engine;
-mod form;
 mod moves;
 mod svg;
 mod undrawn;
@@ -13,6 +12,5 @@ mod writes;
 
 pub use dvg_dump::Outcome;
 pub use engine::picture;
-pub use form::RunForm;
 pub use svg::picture_svg;
 pub use undrawn::Undrawn;

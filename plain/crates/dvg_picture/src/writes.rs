@@ -1,9 +1,9 @@
 //! What is written of a run.
-use crate::form::RunForm;
 use crate::moves::write_moves;
 use dvg_dump::{Ending, Ran, Traced};
 use dvg_gen::Stroke;
 use dvg_io::{StreamFailed, Watched, write_strokes, write_strokes_in, write_whole};
+use dvg_job::PictureForm;
 use dvg_print::{InstrLine, Line, StrokeLines};
 use std::alloc::Allocator;
 use std::io::Write;
@@ -103,7 +103,7 @@ fn if_asked(asked: bool, ran: &[Ran]) -> &[Ran] {
 /// Writes what `form` asks for of `run`, and how it ends, to `writer`.
 pub(crate) fn write_run<A: Allocator, W: Write>(
     run: &Traced<A>,
-    form: RunForm,
+    form: PictureForm,
     writer: &mut Watched<W>,
 ) -> Result<(), StreamFailed> {
     let mut line = Line::new();

@@ -8,7 +8,5 @@ extern crate plain_std as std;
 
 mod parts;
 mod pictures;
-mod show;
 
 pub use pictures::{write_svg, write_svgs};
-pub use show::Show;

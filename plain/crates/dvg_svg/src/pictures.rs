@@ -2,9 +2,9 @@
 use std::prelude::*;
 
 use crate::parts::write_parts;
-use crate::show::Show;
 use dvg_gen::Stroke;
 use dvg_io::{StreamFailed, Watched, write_whole};
+use dvg_job::Show;
 use dvg_print::Line;
 use itoa::Buffer;
 use std::alloc::Allocator;

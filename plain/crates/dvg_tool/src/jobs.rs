@@ -1,32 +1,21 @@
 //! Which engine does which job.
-use crate::checks::{check_bound, check_text};
+use crate::checks::check_job;
 use crate::lists::list;
 use crate::lists_at::list_at;
 use crate::outcome::Done;
-use crate::plays::{play, play_in};
-use crate::plays_svg::{play_svg, play_svg_in};
+use crate::plays::play_job;
+use crate::plays_svg::play_svg_job;
 use crate::roms::rom_text;
-use dvg_args::{Job, LayForm, LogRule, PictureForm};
 use dvg_io::{ToolFault, Watched};
-use dvg_lay::{Drawn, Form, Laid, check_sketch, draw_sketch, lay_sketch};
+use dvg_job::{Job, LayForm, LogRule, Show};
+use dvg_lay::{Drawn, Laid, check_sketch, draw_sketch, lay_sketch};
 use dvg_logs::{torn, torn_all, torn_moments};
-use dvg_mem::{Banked, Half};
-use dvg_picture::{RunForm, picture, picture_svg};
-use dvg_svg::Show;
+use dvg_picture::{picture, picture_svg};
 use std::alloc::Allocator;
 use std::io::{Read, Write};
 
-// Returns `form`, which is asked for, as `dvg_picture` has it.
-fn run_form(form: PictureForm) -> RunForm {
-    RunForm {
-        all: form.all,
-        moves: form.moves,
-        units: form.units,
-    }
-}
-
 // Does the job `picture --svg`, from `reader` to `writer`, in the size `percent`.
-fn picture_shown<A: Allocator + Copy, R: Read, W: Write>(
+fn picture_svg_job<A: Allocator + Copy, R: Read, W: Write>(
     alloc: A,
     reader: &mut Watched<R>,
     writer: &mut Watched<W>,
@@ -35,34 +24,6 @@ fn picture_shown<A: Allocator + Copy, R: Read, W: Write>(
     match picture_svg(alloc, reader, writer, percent) {
         Ok(undrawn) => Ok(Done::DrewSvg(undrawn)),
         Err(fault) => Err(fault),
-    }
-}
-
-// Does the job `play --svg`, from `reader` to `writer`, in the size and at the rate of `show`. With
-// `banked` the RAM is kept in banks.
-fn play_shown<A: Allocator + Copy, R: Read, W: Write>(
-    alloc: A,
-    reader: &mut Watched<R>,
-    writer: &mut Watched<W>,
-    banked: bool,
-    show: Show,
-) -> Result<(), ToolFault> {
-    if banked {
-        play_svg_in::<Banked<A>, R, W>(alloc, reader, writer, show)
-    } else {
-        play_svg(alloc, reader, writer, show)
-    }
-}
-
-// Returns `form`, which is asked for, as `dvg_lay` has it.
-fn form_of(form: LayForm) -> Form {
-    match form {
-        LayForm::Half0 => Form::Bytes(Half::H0),
-        LayForm::Half1 => Form::Bytes(Half::H1),
-        LayForm::Table => Form::Tables,
-        LayForm::Rom => Form::RomBytes,
-        LayForm::Equates => Form::RomNames,
-        LayForm::Draft => Form::Drafts,
     }
 }
 
@@ -75,13 +36,13 @@ fn answered<A: Allocator>(laid: Laid<A>) -> Done<A> {
 }
 
 // Does the job `lay`, from `reader` to `writer`, in this `form`.
-fn lay_answered<A: Allocator + Copy, R: Read, W: Write>(
+fn lay_job<A: Allocator + Copy, R: Read, W: Write>(
     alloc: A,
     reader: &mut Watched<R>,
     writer: &mut Watched<W>,
     form: LayForm,
 ) -> Result<Done<A>, ToolFault> {
-    match lay_sketch(alloc, reader, writer, form_of(form)) {
+    match lay_sketch(alloc, reader, writer, form) {
         Ok(laid) => Ok(answered(laid)),
         Err(fault) => Err(fault),
     }
@@ -96,7 +57,7 @@ fn answered_drawn<A: Allocator>(drawn: Drawn<A>) -> Done<A> {
 }
 
 // Does the job `render`, from `reader` to `writer`, in the size and at the rate of `show`.
-fn draw_answered<A: Allocator + Copy, R: Read, W: Write>(
+fn render_job<A: Allocator + Copy, R: Read, W: Write>(
     alloc: A,
     reader: &mut Watched<R>,
     writer: &mut Watched<W>,
@@ -109,7 +70,7 @@ fn draw_answered<A: Allocator + Copy, R: Read, W: Write>(
 }
 
 // Does the job `render --check`, from `reader` to `writer`.
-fn check_answered<A: Allocator + Copy, R: Read, W: Write>(
+fn render_check_job<A: Allocator + Copy, R: Read, W: Write>(
     alloc: A,
     reader: &mut Watched<R>,
     writer: &mut Watched<W>,
@@ -136,29 +97,15 @@ pub fn perform<A: Allocator + Copy, R: Read, W: Write>(
         }
         Job::Rom => rom_text(alloc, reader, writer).map(|()| Done::Written),
         Job::Picture { form } => {
-            let form = run_form(form);
             picture(alloc, reader, writer, form).map(|outcome| Done::Drew(outcome))
         }
-        Job::PictureSvg { percent } => picture_shown(alloc, reader, writer, percent),
-        Job::Check { bound: false } => check_text(alloc, reader, writer).map(|verdict| Done::Judged(
-            verdict,
-        )),
-        Job::Check { bound: true } => check_bound(alloc, reader, writer).map(
-            |verdict| Done::Bounded(verdict),
-        ),
-        Job::Play { all, banked: false } => play(alloc, reader, writer, all).map(
-            |()| Done::Written,
-        ),
-        Job::Play { all, banked: true } => {
-            play_in::<Banked<A>, R, W>(alloc, reader, writer, all).map(|()| Done::Written)
+        Job::PictureSvg { percent } => picture_svg_job(alloc, reader, writer, percent),
+        Job::Check { bound } => check_job(alloc, reader, writer, bound),
+        Job::Play { all, banked } => {
+            play_job(alloc, reader, writer, all, banked).map(|()| Done::Written)
         }
-        Job::PlaySvg {
-            banked,
-            percent,
-            rate,
-        } => {
-            let show = Show { percent, rate };
-            play_shown(alloc, reader, writer, banked, show).map(|()| Done::Written)
+        Job::PlaySvg { banked, show } => {
+            play_svg_job(alloc, reader, writer, banked, show).map(|()| Done::Written)
         }
         Job::Torn {
             rule: LogRule::Halves,
@@ -172,10 +119,8 @@ pub fn perform<A: Allocator + Copy, R: Read, W: Write>(
             rule: LogRule::AllMoments,
             base,
         } => torn_all(reader, writer, base).map(|verdict| Done::SearchedMoments(verdict)),
-        Job::Render { percent, rate } => {
-            draw_answered(alloc, reader, writer, Show { percent, rate })
-        }
-        Job::RenderCheck => check_answered(alloc, reader, writer),
-        Job::Lay { form } => lay_answered(alloc, reader, writer, form),
+        Job::Render { show } => render_job(alloc, reader, writer, show),
+        Job::RenderCheck => render_check_job(alloc, reader, writer),
+        Job::Lay { form } => lay_job(alloc, reader, writer, form),
     }
 }

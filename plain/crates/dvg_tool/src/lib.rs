@@ -1,6 +1,6 @@
 //! The engines of the program `dvg` but `picture`, `torn`, `render` and `lay`, over any watched
-//! reader and writer; and the jobs that its arguments ask for, which are those of `dvg_args`. What
-//! it reads are the texts of `dvg_read`, and what it writes the lines of `dvg_print`.
+//! reader and writer; and each job of `dvg_job` by its engine. What it reads are the texts of
+//! `dvg_read`, and what it writes the lines of `dvg_print`.
 //!
 //! An engine reads its whole input before it writes, and takes no memory after its first write: its
 //! lines are made in an array of fixed size. That no allocator reaches what writes is seen by
@@ -20,12 +20,13 @@ mod plays_svg;
 mod roms;
 mod shows;
 
-pub use dvg_args::{Job, LayForm, LogRule, PictureForm, arguments_status, job};
+pub use dvg_args::{arguments_status, job};
 pub use dvg_io::{ToolFault, Watched};
+pub use dvg_job::{Job, LayForm, LogRule, PictureForm, Show};
 pub use dvg_logs::{
     LogCounts, LogFinding, LogVerdict, MomentVerdict, Reading, torn, torn_all, torn_moments,
 };
-pub use dvg_picture::{Outcome, RunForm, Undrawn, picture};
+pub use dvg_picture::{Outcome, Undrawn, picture};
 pub use dvg_print::{BoundedVerdict, Verdict};
 pub use dvg_read::{MOST_TEXT_BYTES, TextFault};
 pub use jobs::perform;

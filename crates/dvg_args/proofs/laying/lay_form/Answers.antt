@@ -5,7 +5,7 @@ use Rattle.clap.specs.Words.{Text, first_value, found_of, rows_of}
 use Rattle.clap.specs.declared.parser.matches.Found.{Found}
 use Rattle.clap.proofs.WalkLemmas.{first_value-rows}
 use Rattle.dvg_args.specs.Options.{form_by, form_of, forms_given, given_count, sets}
-use Rattle.dvg_args.specs.declared.task.LayForm.{LayForm}
+use Rattle.dvg_job.specs.declared.form.LayForm.{LayForm}
 use Rattle.dvg_args.proofs.Refused.{mapped_some, none_refused, same_count, same_form, taken, two_refused}
 use Rattle.dvg_args.proofs.laying.lay_form.Goals as goal
 

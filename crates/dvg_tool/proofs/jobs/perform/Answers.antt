@@ -1,7 +1,7 @@
 use Rattle.std.proofs.Common.{rules, ◌≡◌, Ok, Err}
 use Rattle.std.specs.Prelude.{MatchResult}
-use Rattle.dvg_args.specs.declared.task.Job.TheVariants.{Torn}
-use Rattle.dvg_args.specs.declared.task.LogRule.TheVariants.{AllMoments}
+use Rattle.dvg_job.specs.declared.task.Job.TheVariants.{Torn}
+use Rattle.dvg_job.specs.declared.form.LogRule.TheVariants.{AllMoments}
 use Rattle.dvg_tool.specs.declared.outcome.Done.TheVariants.{SearchedMoments}
 use Rattle.dvg_tool.proofs.JobsDone.{all_answered}
 use Rattle.dvg_tool.proofs.jobs.perform.Goals as goal

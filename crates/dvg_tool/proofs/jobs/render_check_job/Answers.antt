@@ -1,6 +1,6 @@
 use Rattle.std.proofs.Common.{rules}
 use Rattle.dvg_tool.proofs.JobsDone.{said_answered}
-use Rattle.dvg_tool.proofs.jobs.check_answered.Goals as goal
+use Rattle.dvg_tool.proofs.jobs.render_check_job.Goals as goal
 
 pub returns-in-Ok : goal.returns-in-Ok
 returns-in-Ok g c = record {
