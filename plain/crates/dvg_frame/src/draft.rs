@@ -4,7 +4,7 @@ use arrayvec::ArrayVec;
 use thiserror::Error;
 
 /// The most operations that a draft holds. One word each is as much as a half of the RAM has.
-pub(crate) const MAX_OPS: usize = 511;
+pub const MAX_OPS: usize = 511;
 
 /// There is no room: a draft has at most 511 operations.
 #[derive(Clone, Copy, Debug, PartialEq, Eq, Error, Hash)]

@@ -25,7 +25,7 @@ mod place;
 pub use checked::Checked;
 pub use checking::{Checker, check};
 pub use cursor::Cursor;
-pub use draft::{Draft, DraftFull};
+pub use draft::{Draft, DraftFull, MAX_OPS};
 pub use fault::FrameFault;
 pub use frame::Frame;
 pub use op::{Op, OpKind};

@@ -1,6 +1,7 @@
 //! The generator.
 use std::prelude::*;
 
+use crate::STACK_DEPTH;
 use crate::beam::Beam;
 use crate::moving::Move;
 use crate::state::GeneratorState;
@@ -29,7 +30,7 @@ pub struct Generator<A: Allocator> {
     held: Option<u16>,
     // The low byte of the next word, where `has_low`.
     low: u8,
-    stack: ArrayVec<u16, 4>,
+    stack: ArrayVec<u16, STACK_DEPTH>,
     beam: Beam,
     strokes: Vec<Stroke, A>,
     // The strokes of the newest run that came to a HALT, until they are taken. At a HALT the two
@@ -336,7 +337,7 @@ fn after(address: u16) -> u16 {
 }
 
 // Returns a copy of `addresses`.
-fn copied(addresses: &ArrayVec<u16, 4>) -> ArrayVec<u16, 4> {
+fn copied(addresses: &ArrayVec<u16, STACK_DEPTH>) -> ArrayVec<u16, STACK_DEPTH> {
     let mut copies = ArrayVec::new();
     match copies.try_extend_from_slice(addresses.as_slice()) {
         Ok(()) => copies,

@@ -30,6 +30,9 @@ pub use stroke::Stroke;
 pub use taken::{GenFault, Step, Taken};
 pub use wrapping::WrappingGenerator;
 
+/// The most return addresses that are kept: Atari's stack has four registers.
+pub const STACK_DEPTH: usize = 4;
+
 #[path = "../rust.rs"]
 mod rust;
 pub use rust::*;

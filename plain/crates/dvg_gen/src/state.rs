@@ -1,4 +1,5 @@
 //! A generator's state as a plain value.
+use crate::STACK_DEPTH;
 use arrayvec::ArrayVec;
 
 /// All that a generator keeps but its strokes, as a value that can be stored anywhere. Its fields
@@ -14,7 +15,7 @@ pub struct GeneratorState {
     /// The low byte of the next word, if it was fetched. `None` where no run is open.
     pub low: Option<u8>,
     /// The return addresses, the newest last, below 4,096 each.
-    pub return_addresses: ArrayVec<u16, 4>,
+    pub return_addresses: ArrayVec<u16, STACK_DEPTH>,
     /// The beam's position along x, in 1/512 of a screen unit, below 2,097,152.
     pub x: u32,
     /// The beam's position along y, below 2,097,152.

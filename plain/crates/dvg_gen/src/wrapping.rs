@@ -1,6 +1,7 @@
 //! A generator whose stack wraps.
 use std::prelude::*;
 
+use crate::STACK_DEPTH;
 use crate::generator::Generator;
 use crate::stroke::Stroke;
 use crate::taken::Step;
@@ -18,7 +19,7 @@ use std::alloc::Allocator;
 pub struct WrappingGenerator<A: Allocator> {
     generator: Generator<A>,
     // The newest first.
-    registers: [u16; 4],
+    registers: [u16; STACK_DEPTH],
 }
 
 impl<A: Allocator + Copy> WrappingGenerator<A> {
@@ -27,7 +28,7 @@ impl<A: Allocator + Copy> WrappingGenerator<A> {
     pub fn new(alloc: A) -> WrappingGenerator<A> {
         WrappingGenerator {
             generator: Generator::new(alloc),
-            registers: [0; 4],
+            registers: [0; STACK_DEPTH],
         }
     }
 
@@ -52,7 +53,7 @@ impl<A: Allocator + Copy> WrappingGenerator<A> {
     }
 
     /// Returns the registers, the newest return address first.
-    pub fn registers(&self) -> &[u16; 4] {
+    pub fn registers(&self) -> &[u16; STACK_DEPTH] {
         &self.registers
     }
 

@@ -6,12 +6,9 @@ use crate::names::put_names;
 use crate::refusal::Unlaid;
 use crate::table::{put_laid, put_table};
 use dvg_frame::Checker;
-use dvg_mem::{Half, LAST_ROM_WORD, Rom};
+use dvg_mem::{Half, ROM_END, Rom};
 use dvg_named::{NamedFrame, RomName};
 use std::alloc::{AllocError, Allocator};
-
-/// The word address after a ROM's last word.
-const ROM_END: u16 = LAST_ROM_WORD + 1;
 
 /// Returns the bytes of `frames` in order, each as it lies in `half`, the low byte of each word
 /// first. `names` are the names of `rom`.

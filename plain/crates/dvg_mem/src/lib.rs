@@ -60,8 +60,8 @@ pub const FIRST_ROM_WORD: u16 = 0x800;
 /// The word address of the larger ROM's first word.
 pub const FIRST_LARGE_ROM_WORD: u16 = 0x400;
 
-/// The word address of a ROM's last word.
-pub const LAST_ROM_WORD: u16 = 0xBFF;
+/// The word address after a ROM's last word.
+pub const ROM_END: u16 = 0xC00;
 
 #[path = "../rust.rs"]
 mod rust;

@@ -1,7 +1,7 @@
 //! The area of an address.
 use crate::areas::Area;
 use crate::half::Half;
-use crate::{FIRST_ROM_WORD, LAST_ROM_WORD};
+use crate::{FIRST_ROM_WORD, ROM_END};
 
 /// Returns the area of the word address `w`, which has 12 bits, with a ROM of 2,048 bytes.
 /// `Rom::area` returns it for any ROM.
@@ -17,7 +17,7 @@ pub(crate) fn area_in_map(first: u16, w: u16) -> Area {
         0x001..=0x1FF => Area::Frame(Half::H0),
         0x200 => Area::Unused,
         0x201..=0x3FF => Area::Frame(Half::H1),
-        _ if first <= w && w <= LAST_ROM_WORD => Area::Rom,
+        _ if first <= w && w < ROM_END => Area::Rom,
         _ => Area::Hole,
     }
 }

@@ -11,7 +11,7 @@ use crate::stated_rom::StatedRom;
 use crate::unknown::first_unknown;
 use arrayvec::ArrayVec;
 use dvg_code::OutOfMemory;
-use dvg_frame::OpKind;
+use dvg_frame::{MAX_OPS, OpKind};
 use dvg_mem::LARGE_ROM_BYTES;
 use dvg_read::LineFault;
 use dvg_rows::{
@@ -19,9 +19,6 @@ use dvg_rows::{
 };
 use std::alloc::Allocator;
 use std::mem;
-
-/// The most operations of a frame, as of a draft.
-const MAX_OPS: usize = 511;
 
 /// What the lines spell that were read. After a fault no more is read.
 pub(crate) struct Reading<'a, A: Allocator + Copy> {

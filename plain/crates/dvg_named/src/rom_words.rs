@@ -2,7 +2,8 @@
 use crate::laid::{LaidNames, LaidRows, address_of};
 use dvg_code::{Code, Instr, encode};
 use dvg_frame::OpKind;
-use dvg_rows::{Doing, ROM_END};
+use dvg_mem::ROM_END;
+use dvg_rows::Doing;
 use std::alloc::Allocator;
 
 /// Puts the canonical words of the laid `sections` into `rom`, the 2,048 or 4,096 bytes of a ROM.
@@ -14,7 +15,7 @@ pub(crate) fn put_sections<A: Allocator + Copy>(
     rom: &mut [u8],
     sections: &LaidNames<'_, '_, '_, A>,
 ) -> Option<()> {
-    let first = ROM_END - rom.len() / 2;
+    let first = usize::from(ROM_END) - rom.len() / 2;
     for section in sections.sections() {
         let Some(()) = put_section(rom, first, sections, section) else {
             return None;

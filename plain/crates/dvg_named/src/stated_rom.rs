@@ -1,7 +1,7 @@
 //! What the first lines of a sketch say of its ROM.
 use crate::laid::free_with;
 use arrayvec::ArrayVec;
-use dvg_mem::{FIRST_LARGE_ROM_WORD, FIRST_ROM_WORD, LARGE_ROM_BYTES, LAST_ROM_WORD};
+use dvg_mem::{FIRST_LARGE_ROM_WORD, FIRST_ROM_WORD, LARGE_ROM_BYTES, ROM_END};
 use dvg_read::{read_rom_parts, ungiven_rom};
 
 /// The ROM that the lines describe which were read so far.
@@ -59,7 +59,7 @@ impl StatedRom {
 
     /// Returns the word address of the ROM's first word. The last one is at BFF.
     pub fn first(&self) -> u16 {
-        LAST_ROM_WORD + 1 - (self.bytes.as_slice().len() / 2) as u16
+        ROM_END - (self.bytes.as_slice().len() / 2) as u16
     }
 }
 

@@ -2,7 +2,7 @@
 use crate::line_parts::parts_of;
 use crate::number::hex;
 use arrayvec::ArrayVec;
-use dvg_mem::LAST_ROM_WORD;
+use dvg_mem::ROM_END;
 
 /// The most words that a line gives.
 const MAX_WORDS: usize = 8;
@@ -35,7 +35,7 @@ pub fn read_rom_parts(first: u16, cut: &[&[u8]]) -> Option<RomWords> {
     if words.is_empty() || address < first {
         return None;
     }
-    if usize::from(address) + words.len() > usize::from(LAST_ROM_WORD) + 1 {
+    if usize::from(address) + words.len() > usize::from(ROM_END) {
         return None;
     }
     Some(RomWords { address, words })

@@ -1,7 +1,7 @@
 //! The lines of a text that describe a ROM.
 use crate::rom_line::read_rom_line;
 use arrayvec::ArrayVec;
-use dvg_mem::{FIRST_LARGE_ROM_WORD, FIRST_ROM_WORD, LARGE_ROM_BYTES, LAST_ROM_WORD};
+use dvg_mem::{FIRST_LARGE_ROM_WORD, FIRST_ROM_WORD, LARGE_ROM_BYTES, ROM_END};
 
 /// A word that no line gives, an RTSL, its low byte first (this project's own choice).
 const UNGIVEN: [u8; 2] = [0x00, 0xD0];
@@ -44,7 +44,7 @@ impl RomReading {
 
     // Returns the word address of the ROM's first word. The last one is at BFF.
     fn first(&self) -> u16 {
-        LAST_ROM_WORD + 1 - (self.bytes.as_slice().len() / 2) as u16
+        ROM_END - (self.bytes.as_slice().len() / 2) as u16
     }
 
     /// Returns the bytes of the ROM.
@@ -71,7 +71,7 @@ fn read_map_line(line: &[u8]) -> Option<u16> {
 #[inline(never)]
 pub fn ungiven_rom(first: u16) -> ArrayVec<u8, LARGE_ROM_BYTES> {
     let mut bytes = ArrayVec::new();
-    for _word in 0..LAST_ROM_WORD + 1 - first {
+    for _word in 0..ROM_END - first {
         bytes.try_extend_from_slice(&UNGIVEN).unwrap();
     }
     bytes

@@ -21,7 +21,7 @@ pub use line_tokens::{MAX_TOKENS, find_tokens, tokens_of};
 pub use name_table::NameTable;
 pub use number::{NamedRows, number_of};
 pub use part::Part;
-pub use rom_area::{ROM_END, RomArea};
+pub use rom_area::RomArea;
 pub use row::{Doing, Head, Row, read_head, read_row};
 pub use sizes::{size, words_of_row};
 pub use source::Source;

@@ -1,9 +1,6 @@
 //! Which words of the ROM the sections take that were laid.
-use dvg_mem::{FIRST_ROM_WORD, LAST_ROM_WORD};
+use dvg_mem::{FIRST_ROM_WORD, ROM_END};
 use dvg_read::LineFault;
-
-/// The word address after the ROM's last word.
-pub const ROM_END: usize = LAST_ROM_WORD as usize + 1;
 
 /// The words that laid sections take, and where the next word is laid.
 pub struct RomArea {
@@ -12,7 +9,7 @@ pub struct RomArea {
     /// The first word address after all words that were given before.
     pub free: u16,
     /// For each word address whether a section lies on it.
-    pub is_taken: [bool; ROM_END],
+    pub is_taken: [bool; ROM_END as usize],
 }
 
 impl RomArea {
@@ -21,7 +18,7 @@ impl RomArea {
         RomArea {
             next: 0,
             free: FIRST_ROM_WORD,
-            is_taken: [false; ROM_END],
+            is_taken: [false; ROM_END as usize],
         }
     }
 
@@ -37,7 +34,7 @@ impl RomArea {
             Some(given) => given,
             None => self.free,
         };
-        if start < first || usize::from(start) > ROM_END {
+        if start < first || start > ROM_END {
             return Err(LineFault::OutOfRom);
         }
         self.next = start;
@@ -50,7 +47,7 @@ impl RomArea {
     pub fn take(&mut self, words: usize) -> Result<(), LineFault> {
         let first = usize::from(self.next);
         let end = first + words;
-        if end > ROM_END {
+        if end > usize::from(ROM_END) {
             return Err(LineFault::OutOfRom);
         }
         if !is_free(&self.is_taken, first, end) {

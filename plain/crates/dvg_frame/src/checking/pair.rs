@@ -1,15 +1,14 @@
 //! Pairs of a place and a depth.
 use crate::draft::MAX_OPS;
 use crate::place::Place;
-use dvg_mem::{FIRST_LARGE_ROM_WORD, LAST_ROM_WORD};
+use dvg_gen::STACK_DEPTH;
+use dvg_mem::{FIRST_LARGE_ROM_WORD, ROM_END};
 
 /// The most calls that are open at once: the generator's return stack holds four addresses.
-pub(crate) const DEEPEST: u8 = 4;
+pub(crate) const DEEPEST: u8 = STACK_DEPTH as u8;
 
-/// The word address of the first word that a ROM can have, and that after its last.
+/// The word address of the first word that a ROM can have.
 pub(crate) const ROM_FIRST: u16 = FIRST_LARGE_ROM_WORD;
-
-pub(crate) const ROM_END: u16 = LAST_ROM_WORD + 1;
 
 /// The most words that a ROM can have.
 pub(crate) const ROM_WORDS: usize = (ROM_END - ROM_FIRST) as usize;

@@ -1,9 +1,8 @@
 //! How what stands at a place leads on.
-use crate::checking::pair::ROM_END;
 use crate::draft::words_of;
 use crate::op::{Op, OpKind};
 use crate::place::Place;
-use dvg_mem::Rom;
+use dvg_mem::{ROM_END, Rom};
 use std::alloc::Allocator;
 
 /// Where the instruction at a place leads on: its successors.
