@@ -1,5 +1,5 @@
 -- What `check_text` and `check_bound` answer and write.
-use Rattle.std.specs.Prelude.{ℕ, Bool, false, true, List, Option, Result, Ok, Err}
+use Rattle.std.specs.Prelude.{ℕ, List}
 use Rattle.dvg_frame.specs.declared.op.OpKind.{OpKind}
 use Rattle.dvg_read.specs.declared.fault.Unread.{Unread}
 use Rattle.dvg_read.specs.declared.fault.Unread.TheVariants.{Text, Memory}
@@ -9,9 +9,6 @@ use Rattle.dvg_read.specs.DraftReading.{Gives}
 use Rattle.dvg_read.specs.DraftTexts.{HasDraftFault}
 use Rattle.dvg_print.specs.Verdicts.{IsBoundedVerdict, IsVerdict, bounded_line, verdict_line}
 use Rattle.dvg_io.specs.Serving.{Answers, Meaning}
-use Rattle.dvg_io.specs.declared.fault.ToolFault.{ToolFault}
-use Rattle.dvg_tool.specs.declared.outcome.Done.{Done}
-use Rattle.dvg_tool.specs.declared.outcome.Done.TheVariants.{Judged, Bounded}
 
 -- the text denotes a draft and a ROM, over which the check says this of the draft
 pub record JudgesBy {V : Type 0} (IsSaid : List OpKind → List ℕ → V → Type 0)
@@ -42,12 +39,3 @@ Checks = Answers Judges HasDraftFault verdict_line
 -- what `check_bound` does: the line of the verdict with its bound
 abbrev pub ChecksBound : Meaning BoundedVerdict
 ChecksBound = Answers JudgesBound HasDraftFault bounded_line
-
--- what the job `check` answers, and what went out: its verdict, with the bound or without
-abbrev pub ChecksBy : {A : Type 0} → (bound : Bool) → Result (Done A) ToolFault → (input : List ℕ) → Option (List ℕ)
-    → Option (List ℕ) → Type 0
-ChecksBy false (Ok (Judged verdict)) input old new = Checks (Ok verdict) input old new
-ChecksBy false (Err fault) input old new = Checks (Err fault) input old new
-ChecksBy true (Ok (Bounded verdict)) input old new = ChecksBound (Ok verdict) input old new
-ChecksBy true (Err fault) input old new = ChecksBound (Err fault) input old new
-ChecksBy bound (Ok _) input old new = ⊥

@@ -1,5 +1,6 @@
 -- What is done for a job.
 use Rattle.std.specs.Prelude.{◌≡◌, ◌↔◌, ◌+◌, All, IsTrue, ℕ, List, Option, Result, Ok, Err, IfSome}
+use Rattle.std.specs.Prelude.{false, true}
 use Rattle.dvg_io.specs.Faults.{ComesBeforeText, StopsBeforeWriting}
 use Rattle.dvg_io.specs.Watching.{TakesAtMost}
 use Rattle.dvg_io.specs.declared.fault.ToolFault.{ToolFault}
@@ -18,11 +19,11 @@ use Rattle.dvg_picture.specs.Pictures.{Pictures}
 use Rattle.dvg_picture.specs.Svgs.{DrawsSvg}
 use Rattle.dvg_tool.specs.Lists.{Lists, ListsAt}
 use Rattle.dvg_tool.specs.Roms.{WritesRom}
-use Rattle.dvg_tool.specs.Checks.{ChecksBy}
+use Rattle.dvg_tool.specs.Checks.{Checks, ChecksBound}
 use Rattle.dvg_tool.specs.Plays.{Plays, StopsBeforeShowing}
 use Rattle.dvg_tool.specs.PlaysSvg.{PlaysSvg}
 use Rattle.dvg_tool.specs.declared.outcome.Done.{Done}
-use Rattle.dvg_tool.specs.declared.outcome.Done.TheVariants.{Written, Drew, DrewSvg, Searched}
+use Rattle.dvg_tool.specs.declared.outcome.Done.TheVariants.{Written, Judged, Bounded, Drew, DrewSvg, Searched}
 use Rattle.dvg_tool.specs.declared.outcome.Done.TheVariants.{SearchedMoments}
 use Rattle.dvg_tool.specs.declared.outcome.Done.TheVariants.{Refused, CheckedFrames}
 use Rattle.dvg_job.specs.declared.task.Job.{Job}
@@ -59,7 +60,10 @@ Performs (Picture form) (Ok (Drew outcome)) input old new = Pictures form (Ok ou
 Performs (Picture form) (Err fault) input old new = Pictures form (Err fault) input old new
 Performs (PictureSvg percent) (Ok (DrewSvg undrawn)) input old new = DrawsSvg percent (Ok undrawn) input old new
 Performs (PictureSvg percent) (Err fault) input old new = DrawsSvg percent (Err fault) input old new
-Performs (Check bound) answer input old new = ChecksBy bound answer input old new
+Performs (Check false) (Ok (Judged verdict)) input old new = Checks (Ok verdict) input old new
+Performs (Check false) (Err fault) input old new = Checks (Err fault) input old new
+Performs (Check true) (Ok (Bounded verdict)) input old new = ChecksBound (Ok verdict) input old new
+Performs (Check true) (Err fault) input old new = ChecksBound (Err fault) input old new
 Performs {A} (Play all banked) (Ok Written) input old new = Plays {T = Done A} all (Ok Written) input old new
 Performs {A} (Play all banked) (Err fault) input old new = Plays {T = Done A} all (Err fault) input old new
 Performs {A} (PlaySvg banked show) (Ok Written) input old new =

@@ -7,17 +7,18 @@ ghost use Rattle.dvg_io.specs.Watching.{failures_of, stream_of};
 ghost use Rattle.dvg_read.specs.declared.draft_text.TheConstants.{MOST_TEXT_BYTES};
 ghost use Rattle.dvg_dump.specs.declared.dump.TheConstants.{LARGE_DUMP_BYTES};
 
-use crate::checks::check_job;
+use crate::checks::{check_bound, check_text};
 use crate::lists::list;
 use crate::lists_at::list_at;
 use crate::outcome::Done;
-use crate::plays::play_job;
+use crate::plays::{play, play_in};
 use crate::plays_svg::play_svg_job;
 use crate::roms::rom_text;
 use dvg_io::{ToolFault, Watched};
 use dvg_job::{Job, LayForm, LogRule, Show};
 use dvg_lay::{Drawn, Laid, check_sketch, draw_sketch, lay_sketch};
 use dvg_logs::{torn, torn_all, torn_moments};
+use dvg_mem::Banked;
 use dvg_picture::{picture, picture_svg};
 use std::alloc::Allocator;
 use std::io::{Read, Write};
@@ -148,9 +149,17 @@ pub fn perform<A: Allocator + Copy, R: Read, W: Write>(
             picture(alloc, reader, writer, form).map(|outcome| Done::Drew(outcome))
         }
         Job::PictureSvg { percent } => picture_svg_job(alloc, reader, writer, percent),
-        Job::Check { bound } => check_job(alloc, reader, writer, bound),
-        Job::Play { all, banked } => {
-            play_job(alloc, reader, writer, all, banked).map(|()| Done::Written)
+        Job::Check { bound: false } => check_text(alloc, reader, writer).map(|verdict| Done::Judged(
+            verdict,
+        )),
+        Job::Check { bound: true } => check_bound(alloc, reader, writer).map(
+            |verdict| Done::Bounded(verdict),
+        ),
+        Job::Play { all, banked: false } => play(alloc, reader, writer, all).map(
+            |()| Done::Written,
+        ),
+        Job::Play { all, banked: true } => {
+            play_in::<Banked<A>, R, W>(alloc, reader, writer, all).map(|()| Done::Written)
         }
         Job::PlaySvg { banked, show } => {
             play_svg_job(alloc, reader, writer, banked, show).map(|()| Done::Written)

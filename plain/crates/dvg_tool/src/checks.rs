@@ -1,5 +1,4 @@
 //! The engines `check_text` and `check_bound`.
-use crate::outcome::Done;
 use dvg_frame::check;
 use dvg_io::{Engine, StreamFailed, ToolFault, Watched, serve, write_whole};
 use dvg_mem::Rom;
@@ -74,21 +73,21 @@ impl<A: Allocator + Copy> Engine<A> for BoundEngine {
     }
 }
 
-// Reads a draft as text from `reader`, with the lines of a memory map and of a ROM before it.
-// Writes what the check says of the draft over that ROM to `writer`, in one line: `ok` and its
-// number of words, or `fault` and the fault's number, name and place (the texts are this project's
-// own choice). Returns what it wrote.
-//
-// - `TooLong`: the text has more than 1,048,576 bytes, of which no more than 1,048,577 are taken.
-//   This is decided before all others.
-// - `Syntax`, `Full`: this line is the first at fault. It spells nothing that may stand at its
-//   place, or it spells operation number 511.
-// - `Reader`, `Writer`: that stream failed. After `Writer` a beginning of the line went out.
-// - `Memory`: an allocation failed.
-//
-// Where it stops before it writes, which is at any fault but `Writer`, the writer is as it was.
+/// Reads a draft as text from `reader`, with the lines of a memory map and of a ROM before it.
+/// Writes what the check says of the draft over that ROM to `writer`, in one line: `ok` and its
+/// number of words, or `fault` and the fault's number, name and place (the texts are this project's
+/// own choice). Returns what it wrote.
+///
+/// - `TooLong`: the text has more than 1,048,576 bytes, of which no more than 1,048,577 are taken.
+///   This is decided before all others.
+/// - `Syntax`, `Full`: this line is the first at fault. It spells nothing that may stand at its
+///   place, or it spells operation number 511.
+/// - `Reader`, `Writer`: that stream failed. After `Writer` a beginning of the line went out.
+/// - `Memory`: an allocation failed.
+///
+/// Where it stops before it writes, which is at any fault but `Writer`, the writer is as it was.
 #[inline(never)]
-fn check_text<A: Allocator, R: Read, W: Write>(
+pub(crate) fn check_text<A: Allocator, R: Read, W: Write>(
     alloc: A,
     reader: &mut Watched<R>,
     writer: &mut Watched<W>,
@@ -96,35 +95,14 @@ fn check_text<A: Allocator, R: Read, W: Write>(
     serve(&CheckEngine, &alloc, reader, writer)
 }
 
-// Reads a draft from `reader` and writes what the check says of it to `writer`, like `check_text`,
-// but the line of a good draft gives its bound, too: `ok`, its number of words, and how many words
-// the generator fetches in its whole run, word zero included.
+/// Reads a draft from `reader` and writes what the check says of it to `writer`, like `check_text`,
+/// but the line of a good draft gives its bound, too: `ok`, its number of words, and how many words
+/// the generator fetches in its whole run, word zero included.
 #[inline(never)]
-fn check_bound<A: Allocator, R: Read, W: Write>(
+pub(crate) fn check_bound<A: Allocator, R: Read, W: Write>(
     alloc: A,
     reader: &mut Watched<R>,
     writer: &mut Watched<W>,
 ) -> Result<BoundedVerdict, ToolFault> {
     serve(&BoundEngine, &alloc, reader, writer)
-}
-
-/// Does the job `check`, from `reader` to `writer`, with the `bound` of a good draft or without, and
-/// returns what is reported.
-pub(crate) fn check_job<A: Allocator + Copy, R: Read, W: Write>(
-    alloc: A,
-    reader: &mut Watched<R>,
-    writer: &mut Watched<W>,
-    bound: bool,
-) -> Result<Done<A>, ToolFault> {
-    if bound {
-        match check_bound(alloc, reader, writer) {
-            Ok(verdict) => Ok(Done::Bounded(verdict)),
-            Err(fault) => Err(fault),
-        }
-    } else {
-        match check_text(alloc, reader, writer) {
-            Ok(verdict) => Ok(Done::Judged(verdict)),
-            Err(fault) => Err(fault),
-        }
-    }
 }

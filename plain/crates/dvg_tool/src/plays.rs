@@ -2,7 +2,7 @@
 use crate::plays_pictures::play_pictures;
 use crate::shows::write_entries;
 use dvg_io::{Engine, StreamFailed, ToolFault, Watched, serve};
-use dvg_mem::{Banked, Flat, Image, MEMORY_BYTES, Rom, Store};
+use dvg_mem::{Flat, Image, MEMORY_BYTES, Rom, Store};
 use dvg_read::{MOST_TEXT_BYTES, TraceText, Unread, read_trace};
 use dvg_world::{Logged, log_trace};
 use std::alloc::Allocator;
@@ -117,20 +117,4 @@ pub fn play<A: Allocator + Copy, R: Read, W: Write>(
     all: bool,
 ) -> Result<(), ToolFault> {
     play_in::<Flat<A>, R, W>(alloc, reader, writer, all)
-}
-
-/// Does the job `play`, from `reader` to `writer`: `all` entries are written, or finished runs alone.
-/// With `banked` the RAM is kept in banks.
-pub(crate) fn play_job<A: Allocator + Copy, R: Read, W: Write>(
-    alloc: A,
-    reader: &mut Watched<R>,
-    writer: &mut Watched<W>,
-    all: bool,
-    banked: bool,
-) -> Result<(), ToolFault> {
-    if banked {
-        play_in::<Banked<A>, R, W>(alloc, reader, writer, all)
-    } else {
-        play(alloc, reader, writer, all)
-    }
 }
