@@ -646,7 +646,8 @@ static inline dvg_answer dvg_driver_tick(dvg *device, bool halted, uint8_t byte1
 /* Of a world or a generator: a start strobe arrives. DVG_STARTED, also amid a run, which is
  * abandoned with its strokes; of a world also DVG_NO_STROBE. A generator alone says with it, and with
  * the answer to each byte, which byte it wants next, so a run takes one turn a byte. This runs over
- * the 8,192 bytes at `memory` until it halts or breaks, or memory is refused:
+ * the 8,192 bytes at `memory` until it halts or breaks, or memory is refused; count the bytes where
+ * a list may have no end:
  *
  *     dvg_answer answer = dvg_strobe(device);
  *     while (answer.next >= 0) {
@@ -964,11 +965,13 @@ static inline dvg_stroke dvg_stroke_at(dvg *device, uint64_t number)
 
 /* --- A memory, drawn once --- */
 
-/* Of a generator: it is handed the byte at a byte address of the memory that
- * dvg_generator_fetch_from has, or that no memory answers. */
-static inline dvg_answer dvg_hand_from(dvg *device, size_t byte, const uint8_t *ram,
+/* Of a generator: it is handed the byte at `next`, as an answer tells that, of a RAM of 2,048 bytes
+ * and a ROM of 2,048 or 4,096, as dvg_generator_fetch_from has them; or a hole, where no memory
+ * answers. */
+static inline dvg_answer dvg_hand_from(dvg *device, int32_t next, const uint8_t *ram,
                                        const uint8_t *rom, size_t rom_length)
 {
+    size_t byte = (size_t)next;
     if (byte < DVG_RAM_BYTES) {
         return dvg_generator_fetch(device, ram[byte]);
     }
@@ -994,7 +997,7 @@ static inline dvg_answer dvg_generator_fetch_from(dvg *device, const uint8_t *ra
     if (wanted.kind != DVG_WANTED) {
         return wanted;
     }
-    return dvg_hand_from(device, 2 * (size_t)wanted.address + wanted.value, ram, rom, rom_length);
+    return dvg_hand_from(device, 2 * wanted.address + wanted.value, ram, rom, rom_length);
 }
 
 /* How dvg_draw ended. */
@@ -1040,7 +1043,7 @@ static inline dvg_drawn dvg_draw(dvg *device, const uint8_t *ram, const uint8_t 
     dvg_open_generator(device);
     drawn.last = dvg_strobe(device);
     while (drawn.words < most_words && drawn.last.next >= 0) {
-        drawn.last = dvg_hand_from(device, (size_t)drawn.last.next, ram, rom, rom_length);
+        drawn.last = dvg_hand_from(device, drawn.last.next, ram, rom, rom_length);
         if (drawn.last.kind == DVG_FETCHED || drawn.last.kind == DVG_DONE) {
             drawn.words++;
         }

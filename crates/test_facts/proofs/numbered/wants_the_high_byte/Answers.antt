@@ -37,8 +37,7 @@ never_still : (machine later : Machine) (reply : Reply) → HasTaken machine (St
     → StaysStill machine later reply → ⊥
 never_still machine later reply after still =
     let closed = still.halted (Start ∷ []) None after in
-    let open = is_open after.run after.leaves in
-    let both : true ≡ false = sym open ∙ closed in
+    let both : true ≡ false = sym (is_open after.run after.leaves) ∙ closed in
     cc
 
 pub returns : goal.returns
