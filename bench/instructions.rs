@@ -3,6 +3,7 @@
 
 use crate::rows::{Against, Row, START_UP, Unit};
 use crate::runs::Contender;
+use std::collections::HashMap;
 use std::fs;
 use std::io;
 use std::path::{Path, PathBuf};
@@ -51,22 +52,39 @@ fn taken(contender: &Contender, folder: &Path) -> io::Result<Taken> {
     })
 }
 
-/// Prints the functions of a program that took most of the instructions that were counted last, and
-/// how many a unit: those that callgrind knows by a name, of the program's own.
-fn print_functions(program: &Path, unit: &Unit, folder: &Path) -> io::Result<()> {
+/// The instructions of each function, of those that were counted last: of the program and of the C
+/// library.
+fn functions_of(folder: &Path) -> io::Result<HashMap<String, f64>> {
     let text = Command::new("callgrind_annotate")
+        .arg("--threshold=100")
         .arg(counts_of(folder))
         .output()?
         .stdout;
-    let object = format!("[{}]", fs::canonicalize(program)?.display());
     let text = String::from_utf8_lossy(&text);
-    let own = text.lines().filter(|line| line.ends_with(&object));
-    for line in own.take(FUNCTIONS) {
-        let count: String = line.chars().take_while(|c| *c != '(').collect();
-        let count: f64 = count.replace([',', ' '], "").parse().unwrap_or(0.0);
-        let name = line.split_once("???:").map_or(line, |(_, name)| name);
-        let name = name.trim_end_matches(&object);
-        println!("    {:>10.2}  {name}", count / unit.count as f64);
+    let counted = text.lines().filter_map(|line| {
+        let (count, name) = line.split_once('(')?;
+        let (name, _) = name.split_once(':')?.1.rsplit_once(" [")?;
+        Some((
+            name.trim().to_owned(),
+            count.replace([',', ' '], "").parse().ok()?,
+        ))
+    });
+    Ok(counted.collect())
+}
+
+/// Prints the functions of a program that took most of the instructions that were counted last,
+/// without those of a start, and how many a unit.
+fn print_functions(unit: &Unit, folder: &Path, start: &HashMap<String, f64>) -> io::Result<()> {
+    let mut all: Vec<(String, f64)> = functions_of(folder)?
+        .into_iter()
+        .map(|(name, count)| {
+            let beyond = count - start.get(&name).unwrap_or(&0.0);
+            (name, beyond / unit.count as f64)
+        })
+        .collect();
+    all.sort_by(|one, other| other.1.total_cmp(&one.1));
+    for (name, each) in all.iter().take(FUNCTIONS) {
+        println!("    {each:>10.2}  {name}");
     }
     Ok(())
 }
@@ -139,6 +157,10 @@ pub fn count(
     } else {
         count_all(&START_UP, &[], programs, folder)?
     };
+    let start = match functions {
+        true => functions_of(folder)?,
+        false => HashMap::new(),
+    };
     let start_up: Vec<f64> = starts.iter().map(|start| start.instructions).collect();
     println!(
         "Instructions in all of a start, {start_up:.0?}, are taken off, then a unit of each;\n\
@@ -154,7 +176,7 @@ pub fn count(
         let all = count_all(row, &input, programs_of(row, programs), folder)?;
         print_row(row, unit, &all, &starts);
         if functions {
-            print_functions(programs[0], unit, folder)?;
+            print_functions(unit, folder, &start)?;
         }
     }
     Ok(())

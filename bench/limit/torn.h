@@ -236,31 +236,6 @@ INLINE const u8 *take_other(const u8 *line, u32 *draws, struct seen *counts)
     return NULL;
 }
 
-static void judge(const u8 *lines, const u8 *end);
-
-/* Judges a line that has capitals or a CR at its end as the same line without these, and answers
- * the place after it. One that has neither says nothing that a line may say. */
-RARE const u8 *judge_unusual(const u8 *lines, const u8 *line)
-{
-    static u8 usual[2 * LONGEST_LINE];
-    u64 before = lines_before;
-    u32 length = 0, others = 0;
-    lines_before += count_lines(lines, line);
-    for (; length < LONGEST_LINE && line[length] != '\n'; length++) {
-        u32 byte = line[length], is_capital = byte - 'A' < 26;
-        usual[length] = (u8)(byte + ('a' - 'A') * is_capital);
-        others += is_capital;
-    }
-    u32 is_cr = length > 0 && usual[length - 1] == '\r';
-    if (line[length] != '\n' || others + is_cr == 0) {
-        fail_at("syntax at line ", lines_before + 1);
-    }
-    usual[length - is_cr] = '\n';
-    judge(usual, usual + length - is_cr + 1);
-    lines_before = before;
-    return line + length + 1;
-}
-
 /* Judges lines up to one that has capitals or a CR, or says nothing that a line may say, and answers
  * the place where it stops. The lines that are counted begin before. */
 APART const u8 *judge_usual(const u8 *lines, const u8 *line, const u8 *end)
@@ -293,6 +268,28 @@ APART const u8 *judge_usual(const u8 *lines, const u8 *line, const u8 *end)
     drawn = draws;
     seen = counts;
     return line;
+}
+
+/* Judges a line that has capitals or a CR at its end as the same line without these, and answers the
+ * place after it. Ends the program where that says nothing that a line may say. */
+RARE const u8 *judge_unusual(const u8 *lines, const u8 *line)
+{
+    static u8 usual[2 * LONGEST_LINE];
+    u64 before = lines_before;
+    u32 length = 0;
+    lines_before += count_lines(lines, line);
+    for (; length < LONGEST_LINE && line[length] != '\n'; length++) {
+        u32 byte = line[length];
+        usual[length] = (u8)(byte - 'A' < 26 ? byte + 'a' - 'A' : byte);
+    }
+    u32 is_cr = length > 0 && usual[length - 1] == '\r';
+    const u8 *end = usual + length - is_cr + 1;
+    usual[length - is_cr] = '\n';
+    if (line[length] != '\n' || judge_usual(usual, usual, end) < end) {
+        fail_at("syntax at line ", lines_before + 1);
+    }
+    lines_before = before;
+    return line + length + 1;
 }
 
 /* Judges whole lines. */
