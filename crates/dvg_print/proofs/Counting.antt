@@ -67,6 +67,51 @@ nine_at_end n d front small is high =
     let nine : 57 ≡ d = omega (arith, last, high) in
     (omega (arith, last, high), ap (λ x. front ++ x ∷ []) nine ∙ is)
 
+-- the number before one that doesn't end with a zero
+fewer_at_end : (n d : ℕ) (front : List ℕ) → n < 2 ^ 64 → front ++ d ∷ [] ≡ decimal n → 48 < d
+    → decimal (n - 1) ≡ front ++ (d - 1) ∷ []
+fewer_at_end n d front small is high = ⊎_elim short long (cases_lt n 10)
+  where
+    last : d ≡ 48 + n % 10
+    last = last_digit n d front small (sym is)
+
+    short : n < 10 → decimal (n - 1) ≡ front ++ (d - 1) ∷ []
+    short few =
+        let same = same_from_push [] front (48 + n) d (sym (decimal_digit n few) ∙ sym is) in
+        let less : 48 + (n - 1) ≡ d - 1 = omega (arith, last, high, few) in
+        decimal_digit (n - 1) (omega (arith, few))
+        ∙ ap (λ xs. xs ++ (48 + (n - 1)) ∷ []) same.0 ∙ ap (λ x. front ++ x ∷ []) less
+
+    long : 10 ≤ n → decimal (n - 1) ≡ front ++ (d - 1) ∷ []
+    long many =
+        let same = same_from_push (decimal (n / 10)) front (48 + n % 10) d
+        (sym (decimal_step n many small) ∙ sym is) in
+        let tens : (n - 1) / 10 ≡ n / 10 = omega (arith, last, high) in
+        let less : 48 + (n - 1) % 10 ≡ d - 1 = omega (arith, last, high) in
+        decimal_step (n - 1) (omega (arith, last, high, many)) (omega (arith, small))
+        ∙ ap (λ k. decimal k ++ (48 + (n - 1) % 10) ∷ []) tens
+        ∙ ap (λ xs. xs ++ (48 + (n - 1) % 10) ∷ []) same.0 ∙ ap (λ x. front ++ x ∷ []) less
+
+-- a line that begins with the number before begins with the number itself, once its last digit is put in
+pub digit_put : (n d k : ℕ) (front rest line : List ℕ) → n < 2 ^ 64 → front ++ d ∷ [] ≡ decimal n → 48 < d
+    → length front ≡ k → line ≡ decimal (n - 1) ++ rest
+    → (k < length line) × (set line k d ≡ decimal n ++ rest)
+digit_put n d k front rest line small is high here begins =
+    let whole : line ≡ front ++ (d - 1) ∷ rest =
+    begins ∙ ap (λ l. l ++ rest) (fewer_at_end n d front small is high) ∙ append_assoc front ((d - 1) ∷ []) rest in
+    let size = ap length whole ∙ length-append front ((d - 1) ∷ rest) in (
+      omega (arith, size, here),
+      ap (λ l. set l k d) whole ∙ set_at front (d - 1) rest d k here ∙ sym (append_assoc front (d ∷ []) rest)
+          ∙ ap (λ l. l ++ rest) is,
+    )
+
+-- an item that is put into the front of a list
+pub take_set : (n : ℕ) (xs : List ℕ) (i y : ℕ) → take n (set xs i y) ≡ set (take n xs) i y
+take_set zero xs i y = refl
+take_set (suc n) [] i y = refl
+take_set (suc n) (x ∷ xs) zero y = refl
+take_set (suc n) (x ∷ xs) (suc i) y = ap (λ l. x ∷ l) (take_set n xs i y)
+
 -- some items before k of one kind, and one more at the end
 pushed : (front : List ℕ) (d x k : ℕ) → front ++ d ∷ replicate (suc k) x ≡ (front ++ d ∷ replicate k x) ++ x ∷ []
 pushed front d x k =

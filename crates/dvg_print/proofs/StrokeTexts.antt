@@ -1,7 +1,7 @@
--- The texts of a stroke's line, put before one another, and lines before one another.
-use Rattle.std.proofs.Common.{◌≡◌, ℕ, ◌+◌, ◌-◌, ◌≤◌, ◌<◌, List, [], ◌∷◌, ◌++◌, length, take, drop, get_or, ap, ◌∙◌, sym}
-use Rattle.std.proofs.Common.{arith, append_assoc, append-nil, decimal, flat_map}
-use Rattle.std.proofs.lemmas.List.{drop-drop, drop_at, drop_more, drop-append-le, length-take-le}
+-- The texts of a stroke's line, put before one another.
+use Rattle.std.proofs.Common.{◌≡◌, ℕ, ◌+◌, ◌-◌, ◌≤◌, List, [], ◌∷◌, ◌++◌, length, take, drop, ap, ◌∙◌, sym}
+use Rattle.std.proofs.Common.{arith, append_assoc, append-nil, decimal}
+use Rattle.std.proofs.lemmas.List.{drop-drop, drop_at, drop-append-le, length-take-le}
 use borrow.Rule.Slice.PartMut.{put_mid}
 use Rattle.dvg_gen.specs.declared.stroke.Stroke.{Stroke}
 use Rattle.dvg_print.specs.Lines.{spaced}
@@ -43,11 +43,3 @@ stroke_put stroke rest l1 l2 l3 l4 e1 e2 e3 e4 =
 -- the stroke that stands for one after the end of a list
 abbrev pub no_stroke : Stroke
 no_stroke = record { x0 = 0; y0 = 0; x1 = 0; y1 = 0; z = 0 }
-
--- a stroke's line before those of the strokes after it
-pub line_before : (strokes : List Stroke) (i : ℕ) (all rest : List ℕ) → i < length strokes
-    → all ≡ stroke_line (get_or strokes i no_stroke) ++ rest → rest ≡ flat_map stroke_line (drop (i + 1) strokes)
-    → all ≡ flat_map stroke_line (drop i strokes)
-line_before strokes i all rest low is later =
-    is ∙ ap (λ l. stroke_line (get_or strokes i no_stroke) ++ l) later
-    ∙ sym (ap (flat_map stroke_line) (drop_more strokes i no_stroke low))

@@ -1,5 +1,6 @@
 //! Lines of entries, which are numbered.
-ghost use Rattle.std.specs.Prelude.{◌≡◌, ◌+◌, ◌%◌, ◌^◌, ◌<◌, ◌≤◌, ◌++◌, ◌∷◌, [], decimal, take};
+ghost use Rattle.std.specs.Prelude.{◌≡◌, ◌+◌, ◌-◌, ◌%◌, ◌^◌, ◌<◌, ◌≤◌, ◌++◌, ◌∷◌, []};
+ghost use Rattle.std.specs.Prelude.{decimal, take};
 ghost use Rattle.dvg_log.specs.Entries.{map_entry};
 ghost use Rattle.dvg_print.specs.Shows.{entry_line};
 
@@ -97,6 +98,24 @@ impl EntryLines {
         self.line.entry(entry, drew);
         self.line.text(b"\n");
         self.count_on();
+    }
+
+    /// Becomes the line of `entry`, the next entry, as `become_next` does. The line is that of an
+    /// equal entry before it, so nine times in ten only the last digit changes.
+    #[inline(always)]
+    pub fn become_again<S>(&mut self, entry: &Entry<S>, drew: usize)
+        requires next { self.old.next + 1 < 2 ^ 64 }
+        requires equal { self.old.text
+            ≡ entry_line (self.old.next - 1) (map_entry (λ _. drew) entry.now) }
+        ensures text { self.new.text ≡ entry_line self.old.next (map_entry (λ _. drew) entry.now) }
+        ensures next { self.new.next ≡ self.old.next + 1 }
+    {
+        if self.ones > b'0' {
+            self.line.put(self.count, self.ones);
+            self.count_on();
+            return;
+        }
+        self.become_next(entry, drew);
     }
 
     // Goes on to the next number. Nine times in ten only the last digit changes.

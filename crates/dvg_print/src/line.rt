@@ -1,6 +1,6 @@
 //! Lines of output, made without taking memory.
 ghost use Rattle.std.specs.Prelude.{◌≡◌, ◌≤◌, ◌<◌, ◌+◌, ◌++◌, ◌∷◌, [], length, codes};
-ghost use Rattle.std.specs.Prelude.{decimal, take, true};
+ghost use Rattle.std.specs.Prelude.{decimal, set, take, true};
 ghost use Rattle.std.specs.Fmt.{digit_glyph};
 ghost use Rattle.dvg_print.specs.Lines.{hex_2, hex_3, hex_4, rom_line, spaced};
 ghost use Rattle.dvg_print.specs.Verdicts.{bounded_line, fault_parts, place_parts, verdict_line};
@@ -97,6 +97,15 @@ impl Line {
     {
         self.bytes[self.count..self.count + NUMBER_BYTES].copy_from_slice(text);
         self.count += count;
+    }
+
+    // Puts `byte` in the place of the one at `at`.
+    #[inline(always)]
+    pub(crate) fn put(&mut self, at: usize, byte: u8)
+        requires { at < length self.old }
+        ensures { self.new ≡ set self.old at byte }
+    {
+        self.bytes[at] = byte;
     }
 
     // Appends `text`.

@@ -1,6 +1,6 @@
 -- What is shown of entries, one after the other.
-use Rattle.std.proofs.Common.{◌≡◌, ℕ, zero, suc, ◌+◌, ◌-◌, ◌<◌, List, ◌++◌, length, flat_map, replicate, Bool}
-use Rattle.std.proofs.Common.{true, refl, sym, ap, ◌∙◌, add-one, append_assoc, arith}
+use Rattle.std.proofs.Common.{◌≡◌, ℕ, zero, suc, ◌+◌, ◌-◌, ◌<◌, ◌≤◌, List, ◌++◌, length, flat_map, replicate, Bool}
+use Rattle.std.proofs.Common.{true, refl, sym, ap, ◌∙◌, add-one, append-nil, append_assoc, arith}
 use Rattle.dvg_gen.specs.declared.stroke.Stroke.{Stroke}
 use Rattle.dvg_log.specs.declared.entry.Entry.{Entry}
 use Rattle.dvg_log.specs.declared.entry.Entry.TheVariants.{Done}
@@ -26,6 +26,19 @@ next_alike all n done times entry inside =
     ap (λ k. shown all n (replicate k entry))
     (let k : times - done ≡ suc (times - (done + 1)) = omega (arith, inside) in k)
     ∙ ap (λ m. shown_entry all n entry ++ shown all m (replicate (times - (done + 1)) entry)) (sym (add-one n))
+
+-- the first of equal entries, and then the others
+pub first_alike : (all : Bool) (n times : ℕ) (entry : Shown) → 1 ≤ times
+    → shown all n (replicate times entry) ≡ shown_entry all n entry ++ shown all (n + 1) (replicate (times - 1) entry)
+first_alike all n times entry some =
+    ap (λ k. shown all n (replicate k entry)) (let k : times ≡ times - 0 = omega arith in k)
+    ∙ next_alike all n 0 times entry (omega (arith, some))
+
+-- one entry alone
+pub one_alike : (all : Bool) (n times : ℕ) (entry : Shown) → times ≡ 1
+    → shown all n (replicate times entry) ≡ shown_entry all n entry
+one_alike all n times entry one =
+    ap (λ k. shown all n (replicate k entry)) one ∙ append-nil (shown_entry all n entry)
 
 -- equal entries, and then the later ones
 pub shown_run : (all : Bool) (n times : ℕ) (entry : Shown) (later : List Shown)

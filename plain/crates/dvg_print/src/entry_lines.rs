@@ -64,6 +64,18 @@ impl EntryLines {
         self.count_on();
     }
 
+    /// Becomes the line of `entry`, the next entry, as `become_next` does. The line is that of an
+    /// equal entry before it, so nine times in ten only the last digit changes.
+    #[inline(always)]
+    pub fn become_again<S>(&mut self, entry: &Entry<S>, drew: usize) {
+        if self.ones > b'0' {
+            self.line.put(self.count, self.ones);
+            self.count_on();
+            return;
+        }
+        self.become_next(entry, drew);
+    }
+
     // Goes on to the next number. Nine times in ten only the last digit changes.
     #[inline(always)]
     fn count_on(&mut self) {

@@ -64,6 +64,12 @@ impl Line {
         self.count += count;
     }
 
+    // Puts `byte` in the place of the one at `at`.
+    #[inline(always)]
+    pub(crate) fn put(&mut self, at: usize, byte: u8) {
+        self.bytes[at] = byte;
+    }
+
     // Appends `text`.
     #[inline(always)]
     pub(crate) fn text(&mut self, text: &[u8]) {

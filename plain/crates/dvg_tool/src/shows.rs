@@ -7,20 +7,47 @@ use dvg_world::{Entries, EntryRun};
 use std::alloc::Allocator;
 use std::io::Write;
 
+// Makes the line of the next entry, `entry`, in `lines`. `drew` is how many strokes the run drew, if
+// `entry` finished one. With `again` the line there is that of an equal entry before it.
+#[inline(always)]
+fn make_line(lines: &mut EntryLines, entry: &Entry<()>, drew: usize, again: bool) {
+    if again {
+        lines.become_again(entry, drew);
+    } else {
+        lines.become_next(entry, drew);
+    }
+}
+
 // Writes what is shown of the next entry, `entry`, to `writer`. `strokes` are what its run drew, if
-// it finished. The line is made in `lines`.
+// it finished. The line is made in `lines`, where with `again` that of an equal entry before it is.
+#[inline(always)]
 fn write_next<W: Write>(
     lines: &mut EntryLines,
     entry: &Entry<()>,
     strokes: &[Stroke],
+    again: bool,
     writer: &mut Watched<W>,
 ) -> Result<(), StreamFailed> {
-    lines.become_next(entry, strokes.len());
+    make_line(lines, entry, strokes.len(), again);
     write_whole(writer, lines.as_bytes())?;
     if strokes.is_empty() {
         return Ok(());
     }
     write_strokes(strokes, writer)
+}
+
+// Writes what is shown of the entries of `run` but the first one, whose line is in `lines`, to
+// `writer`. It isn't inlined, as what writes other entries is faster without it.
+#[inline(never)]
+fn write_others<W: Write>(
+    lines: &mut EntryLines,
+    run: EntryRun<'_>,
+    writer: &mut Watched<W>,
+) -> Result<(), StreamFailed> {
+    for _again in 1..run.times {
+        write_next(lines, run.entry, run.strokes, true, writer)?;
+    }
+    Ok(())
 }
 
 // Writes what is shown of the next entries, which are `run`, equal ones in a row, to `writer`.
@@ -30,10 +57,11 @@ fn write_run<W: Write>(
     run: EntryRun<'_>,
     writer: &mut Watched<W>,
 ) -> Result<(), StreamFailed> {
-    for _again in 0..run.times {
-        write_next(lines, run.entry, run.strokes, writer)?;
+    write_next(lines, run.entry, run.strokes, false, writer)?;
+    if run.times == 1 {
+        return Ok(());
     }
-    Ok(())
+    write_others(lines, run, writer)
 }
 
 /// Writes what is shown of each of `entries` to `writer`. The first of them is that of event 0.

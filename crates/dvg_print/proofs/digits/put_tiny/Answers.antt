@@ -1,4 +1,4 @@
-use Rattle.std.proofs.Common.{◌≡◌, ◌-◌, ◌++◌, length, drop, decimal, ap, ◌∙◌, sym, arith}
+use Rattle.std.proofs.Common.{◌-◌, drop, ap, ◌∙◌, sym, arith}
 use Rattle.itoa.proofs.Decimal.{length_one, length_two}
 use Rattle.dvg_print.proofs.PutDigits.{tiny_put}
 use Rattle.dvg_print.proofs.digits.put_tiny.Goals as goal
