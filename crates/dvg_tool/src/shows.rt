@@ -1,5 +1,6 @@
 //! What is written of entries.
-ghost use Rattle.std.specs.Prelude.{◌≡◌, ◌+◌, ◌-◌, ◌^◌, ◌<◌, ◌≤◌, length, replicate, true, IsTrue, OnOk};
+ghost use Rattle.std.specs.Prelude.{◌≡◌, ◌+◌, ◌-◌, ◌^◌, ◌<◌, ◌≤◌, length, replicate, true};
+ghost use Rattle.std.specs.Prelude.{IsTrue, OnOk};
 ghost use Rattle.dvg_log.specs.Entries.{map_entry};
 ghost use Rattle.dvg_print.specs.Shows.{entry_line, shown, shown_entry};
 ghost use Rattle.dvg_io.specs.Watching.{Writes};
@@ -13,8 +14,8 @@ use dvg_world::{Entries, EntryRun};
 use std::alloc::Allocator;
 use std::io::Write;
 
-// Makes the line of the next entry, `entry`, in `lines`. `drew` is how many strokes the run drew, if
-// `entry` finished one. With `again` the line there is that of an equal entry before it.
+// Makes the line of the next entry, `entry`, in `lines`. `drew` is how many strokes the run drew,
+// if `entry` finished one. With `again` the line there is that of an equal entry before it.
 #[inline(always)]
 fn make_line(lines: &mut EntryLines, entry: &Entry<()>, drew: usize, again: bool)
     requires next { lines.old.next + 1 < 2 ^ 64 }

@@ -2,35 +2,34 @@
 use crate::areas::Area;
 use crate::rom::Rom;
 use crate::store::Store;
+use crate::{FIRST_LARGE_ROM_WORD, LAST_ROM_WORD};
 use std::alloc::Allocator;
 
 /// Returns a byte of the word at the word address `w`, which has 12 bits: the high byte where
 /// `high` is true, otherwise the low one. The word lies in `store`, the RAM, or in `rom`. Returns
 /// `None` exactly for a hole.
 pub fn fetch_byte<S: Store, A: Allocator>(store: &S, rom: &Rom<A>, w: u16, high: bool) -> Option<u8> {
-    match rom.area(w) {
-        Area::Zero | Area::Frame(_) | Area::Unused => {
-            let place = if high { 2 * w + 1 } else { 2 * w };
-            Some(store.read(place))
-        }
-        Area::Rom => {
-            let [low_byte, high_byte] = rom.word(w).to_le_bytes();
-            Some(if high { high_byte } else { low_byte })
-        }
-        Area::Hole => None,
+    if w < FIRST_LARGE_ROM_WORD {
+        let place = if high { 2 * w + 1 } else { 2 * w };
+        return Some(store.read(place));
     }
+    if rom.first() <= w && w <= LAST_ROM_WORD {
+        let [low_byte, high_byte] = rom.word(w).to_le_bytes();
+        return Some(if high { high_byte } else { low_byte });
+    }
+    None
 }
 
 /// Returns the word at the word address `w`, which has 12 bits, in `store`, the RAM, or in `rom`.
 /// Returns `None` exactly for a hole.
 pub fn fetch<S: Store, A: Allocator>(store: &S, rom: &Rom<A>, w: u16) -> Option<u16> {
-    match rom.area(w) {
-        Area::Zero | Area::Frame(_) | Area::Unused => {
-            let low = store.read(2 * w);
-            let high = store.read(2 * w + 1);
-            Some(u16::from_le_bytes([low, high]))
-        }
-        Area::Rom => Some(rom.word(w)),
-        Area::Hole => None,
+    if w < FIRST_LARGE_ROM_WORD {
+        let low = store.read(2 * w);
+        let high = store.read(2 * w + 1);
+        return Some(u16::from_le_bytes([low, high]));
     }
+    if rom.first() <= w && w <= LAST_ROM_WORD {
+        return Some(rom.word(w));
+    }
+    None
 }

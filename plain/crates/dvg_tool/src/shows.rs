@@ -7,8 +7,8 @@ use dvg_world::{Entries, EntryRun};
 use std::alloc::Allocator;
 use std::io::Write;
 
-// Makes the line of the next entry, `entry`, in `lines`. `drew` is how many strokes the run drew, if
-// `entry` finished one. With `again` the line there is that of an equal entry before it.
+// Makes the line of the next entry, `entry`, in `lines`. `drew` is how many strokes the run drew,
+// if `entry` finished one. With `again` the line there is that of an equal entry before it.
 #[inline(always)]
 fn make_line(lines: &mut EntryLines, entry: &Entry<()>, drew: usize, again: bool) {
     if again {
