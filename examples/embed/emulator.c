@@ -17,37 +17,34 @@ struct machine {
     uint8_t rom[DVG_ROM_BYTES];
     dvg *driver;
     dvg *generator;
+    int32_t next; /* the byte that the generator wants next, or -1 where it is halted */
 };
 
 /* Word 800, the first of the ROM, and what stands there: a subroutine of three vectors. */
 #define SHAPE 0x800
 static const uint16_t shape_words[] = {0xF9F3, 0xFDF8, 0xF8F7, 0xD000};
 
-/* Whether the generator is halted. */
-static bool is_halted(struct machine *machine)
-{
-    return dvg_wants(machine->generator).kind == DVG_STILL;
-}
-
 /* The driver does one action. */
 static dvg_answer tick(struct machine *machine)
 {
-    dvg_answer did = dvg_driver_tick(machine->driver, is_halted(machine), machine->ram[1]);
+    dvg_answer did = dvg_driver_tick(machine->driver, machine->next < 0, machine->ram[1]);
     if (did.kind == DVG_WROTE) {
         /* The address is below 2,048, whatever happens. */
         machine->ram[did.address] = (uint8_t)did.value;
     } else if (did.kind == DVG_SENT) {
-        dvg_strobe(machine->generator);
+        machine->next = dvg_strobe(machine->generator).next;
     }
     return did;
 }
 
-/* The generator fetches one byte. An emulator with another map of memory asks dvg_wants which byte
- * is wanted, and hands it over by dvg_generator_fetch, or says dvg_generator_hole. */
+/* The generator fetches one byte. An emulator with another map of memory hands over the byte at
+ * `next` by dvg_generator_fetch, or says dvg_generator_hole. */
 static dvg_answer fetch(struct machine *machine)
 {
-    return dvg_generator_fetch_from(machine->generator, machine->ram, machine->rom,
-                                    sizeof machine->rom);
+    dvg_answer did = dvg_hand_from(machine->generator, machine->next, machine->ram, machine->rom,
+                                   sizeof machine->rom);
+    machine->next = did.next;
+    return did;
 }
 
 /* Offers a frame of the shape at a place. Whether the driver took it. */
@@ -120,6 +117,7 @@ int main(void)
 {
     static struct machine machine;
     bool drawn;
+    machine.next = -1;
     fill_rom(machine.rom);
     if (dvg_new(&machine.driver) != 0) {
         return 2;
