@@ -6,7 +6,7 @@ ghost use Rattle.dvg_mem.specs.Memory.{fetched, fetched_byte, first_word};
 use crate::areas::Area;
 use crate::rom::Rom;
 use crate::store::Store;
-use crate::{FIRST_LARGE_ROM_WORD, LAST_ROM_WORD};
+use crate::{FIRST_LARGE_ROM_WORD, ROM_END};
 use std::alloc::Allocator;
 
 /// Returns a byte of the word at the word address `w`, which has 12 bits: the high byte where
@@ -21,7 +21,7 @@ pub fn fetch_byte<S: Store, A: Allocator>(store: &S, rom: &Rom<A>, w: u16, high:
         let place = if high { 2 * w + 1 } else { 2 * w };
         return Some(store.read(place));
     }
-    if rom.first() <= w && w <= LAST_ROM_WORD {
+    if rom.first() <= w && w < ROM_END {
         let [low_byte, high_byte] = rom.word(w).to_le_bytes();
         return Some(if high { high_byte } else { low_byte });
     }
@@ -40,7 +40,7 @@ pub fn fetch<S: Store, A: Allocator>(store: &S, rom: &Rom<A>, w: u16) -> Option<
         let high = store.read(2 * w + 1);
         return Some(u16::from_le_bytes([low, high]));
     }
-    if rom.first() <= w && w <= LAST_ROM_WORD {
+    if rom.first() <= w && w < ROM_END {
         return Some(rom.word(w));
     }
     None
