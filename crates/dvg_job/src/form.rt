@@ -9,8 +9,8 @@ pub struct PictureForm {
     pub all: bool,
     /// Whether each move is told, also one that isn't seen.
     pub moves: bool,
-    /// Whether moves, and the strokes of a picture, are in whole units, as the counters of `dvg_gen`
-    /// have them, and not in 1/512.
+    /// Whether moves, and the strokes of a picture, are in whole units, as the counters of
+    /// `dvg_gen` have them, and not in 1/512.
     pub units: bool,
 }
 

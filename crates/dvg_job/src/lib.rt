@@ -1,6 +1,6 @@
 //! What the program `dvg` can be asked to do: a job for each of its commands, and the form in which
-//! the command writes. `dvg_args` finds in the arguments which job it is, and `dvg_tool` does it. The
-//! engines take these forms as they are.
+//! the command writes. `dvg_args` finds in the arguments which job it is, and `dvg_tool` does it.
+//! The engines take these forms as they are.
 #![tactic(auto)]
 
 mod form;

@@ -123,8 +123,8 @@ fn play_svg_in<S: Store, R: Read, W: Write>(
     Ok(())
 }
 
-/// Does the job `play --svg`, from `reader` to `writer`, in the size and at the rate of `show`. With
-/// `banked` the RAM is kept in banks.
+/// Does the job `play --svg`, from `reader` to `writer`, in the size and at the rate of `show`.
+/// With `banked` the RAM is kept in banks.
 pub(crate) fn play_svg_job<A: Allocator + Copy, R: Read, W: Write>(
     alloc: A,
     reader: &mut Watched<R>,

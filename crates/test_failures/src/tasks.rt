@@ -1,5 +1,5 @@
-//! A task for each job, what comes of it where nothing fails, and what is known of each: how long an
-//! input may be, and how often memory is refused.
+//! A task for each job, what comes of it where nothing fails, and what is known of each: how long
+//! an input may be, and how often memory is refused.
 use crate::answers::{Answer, Report, answered};
 use crate::traces::FIRST_PICTURE;
 use dvg_frame::{FrameFault, Place};
