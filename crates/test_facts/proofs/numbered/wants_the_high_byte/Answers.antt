@@ -1,5 +1,4 @@
-use Rattle.std.proofs.Common.{◌≡◌, ◌⊎◌, ℕ, ◌+◌, ◌^◌, [], ◌∷◌, Option, Some, None, true, false, refl, sym, ap, ◌∙◌, subst, inl, inr}
-use Rattle.dvg_gen.specs.declared.taken.Step.{Step}
+use Rattle.std.proofs.Common.{◌≡◌, ◌⊎◌, ℕ, ◌+◌, ◌^◌, [], ◌∷◌, Option, Some, None, true, false, sym, ap, ◌∙◌, subst, inl, inr}
 use Rattle.dvg_gen.specs.Bytes.{met}
 use Rattle.dvg_gen.specs.Machine.{Machine, HasTaken}
 use Rattle.dvg_gen.specs.Told.{Start, wants}
