@@ -20,7 +20,7 @@ MODULES_WITHOUT_CODE = {"laws", "tests"}
 NO_STD = "#![no_std]"
 EXTERN = "extern crate plain_std as std;"
 PRELUDE = "use std::prelude::*;"
-MACROS = re.compile(r"use std::(println|\{eprint, eprintln\}|\{eprintln, println\});")
+MACROS = re.compile(r"use std::(eprint|println|\{eprint, eprintln\}|\{eprintln, println\});")
 RUNTIME = re.compile(r"let \w+ = HostRuntime::new\(\);")
 
 

@@ -20,11 +20,11 @@ low_taken machine later reply after fetches =
     let zero = some_same (sym (fetches.wanted (Start ∷ []) None after) ∙ wants_zero after.run after.leaves) in
     let now = (fetches.answers (Start ∷ []) None after).0 in
     let entry = fetches.came (Start ∷ []) None after
-        ∙ ap (λ address. entry_by address (met None (Some 0)) fetches.step tt) zero in
+    ∙ ap (λ address. entry_by address (met None (Some 0)) fetches.step tt) zero in
     let told = fetches.answered (Start ∷ []) (Some 0) now in
     ap number_of (told ∙ ap (λ entry. onward entry (wants now.run) (Some 0)) entry
-        ∙ ap (λ address. onward (entry_by 0 (met None (Some 0)) fetches.step tt) address (Some 0))
-        (wants_zero now.run now.leaves))
+    ∙ ap (λ address. onward (entry_by 0 (met None (Some 0)) fetches.step tt) address (Some 0))
+    (wants_zero now.run now.leaves))
 
 -- there is room for it
 never_lacks : (machine later : Machine) (reply : Reply) → HasTaken machine (Start ∷ []) None
