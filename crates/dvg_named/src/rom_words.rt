@@ -43,7 +43,7 @@ pub(crate) fn put_sections<A: Allocator + Copy>(
         → TellsSections (laid_sections sections.now) (laid_sections sections.now) stated rom.new) }
     ensures unknown { IfNone result (¬ KnowsRom (laid_sections sections.now)) }
 {
-    let first = usize::from(ROM_END) - rom.len() / 2;
+    let first = ROM_END as usize - rom.len() / 2;
     for section in sections.sections() {
         let Some(()) = put_section(rom, first, sections, section) else {
             return None;

@@ -15,7 +15,7 @@ pub(crate) fn put_sections<A: Allocator + Copy>(
     rom: &mut [u8],
     sections: &LaidNames<'_, '_, '_, A>,
 ) -> Option<()> {
-    let first = usize::from(ROM_END) - rom.len() / 2;
+    let first = ROM_END as usize - rom.len() / 2;
     for section in sections.sections() {
         let Some(()) = put_section(rom, first, sections, section) else {
             return None;
