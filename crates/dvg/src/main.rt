@@ -71,8 +71,8 @@ fn answer_arguments(rt: &HostRuntime, error: &Error) -> u8 {
     arguments_status(error)
 }
 
-/// Returns whether it may be told how far `job` is: not where it writes lines on a terminal before
-/// it has read all.
+/// Returns whether standard error may tell how far `job` is. It may not where the job writes lines
+/// on a terminal while it still reads.
 fn may_tell(rt: &HostRuntime, job: Job) -> bool {
     match job {
         Job::Torn {

@@ -6,23 +6,22 @@ ghost use Rattle.std.specs.Io.KnownBytes.{ReadConsumes};
 use std::io::{IsTerminal, Read, Result};
 use std::time::Instant;
 
-/// After so many bytes it is looked whether there is something to tell.
+/// The bytes after which the clock is looked at, so a slow input is told less often.
 const MEGABYTE: u64 = 1_000_000;
 
-/// The seconds that a line stays before it is written anew.
+/// The least number of seconds between one line and the next.
 const STAYS_SECONDS: u64 = 1;
 
 /// What clears a line, whatever it tells.
 const CLEARING: &str = "\r                           \r";
 
 /// A reader that tells on standard error how much of another one was read, if that is a terminal:
-/// in one line, which is written anew each second. It gives what the other one gives.
+/// in one line, which is written anew at most once a second. It gives what the other one gives.
 #[derive(Drop)]
 pub struct Told<'a, R> {
     rt: &'a HostRuntime,
     stream: R,
-    // Whether something may be told.
-    may: bool,
+    may_tell: bool,
     // How many bytes were read, and how many at the last look.
     read: u64,
     looked_at: u64,
@@ -33,14 +32,15 @@ pub struct Told<'a, R> {
 }
 
 impl<'a, R> Told<'a, R> {
-    /// Returns a reader that gives what `stream` gives. It tells nothing, unless it `may`.
-    pub fn new(rt: &'a HostRuntime, stream: R, may: bool) -> Told<'a, R>
+    /// Returns a reader that gives what `stream` gives. It tells nothing unless
+    /// `may_tell` is set.
+    pub fn new(rt: &'a HostRuntime, stream: R, may_tell: bool) -> Told<'a, R>
         ensures { result.stream ≡ stream }
     {
         Told {
             rt,
             stream,
-            may,
+            may_tell,
             read: 0,
             looked_at: 0,
             since: None,
@@ -53,7 +53,7 @@ impl<'a, R> Told<'a, R> {
         ensures { self.new.stream ≡ self.old.stream }
     {
         self.looked_at = self.read;
-        if !self.may || !self.rt.stderr().is_terminal() {
+        if !self.may_tell || !self.rt.stderr().is_terminal() {
             return;
         }
         let Ok(now) = Instant::now(self.rt) else {
