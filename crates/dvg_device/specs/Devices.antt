@@ -111,7 +111,7 @@ abbrev pub unopened : Request → Reply
 unopened requests.Unknown = replies.Unknown
 unopened asked = replies.Closed
 
--- a number is that of a reply of which this holds
+-- some reply meets this condition, and has this number
 abbrev pub Numbered : (Reply → Type 0) → ℕ → Type 0
 Numbered P answer = (answered : Reply) × P answered × (answer ≡ number_of answered)
 

@@ -34,13 +34,13 @@ abbrev pub wanting : Option ℕ → Option ℕ → Reply
 wanting None low = Came Still
 wanting (Some address) low = Wants address (is_some low)
 
--- what came of it, and which byte is wanted then, if any
+-- what came of it, and which byte is wanted next, if any
 abbrev pub onward : Entry (Unit {0}) → Option ℕ → Option ℕ → Reply
 onward entry None low = Came entry
 onward entry (Some address) low = Onward entry address (is_some low)
 
 -- a byte or a hole is fetched: at the address that is wanted, and the answer is that of the entry that such a fetch has
--- in a log, with the byte that is wanted after it. Where it finishes the run, the picture is of its strokes, and else it
+-- in a log, with the byte that is wanted next. Where it finishes the run, the picture is of its strokes, and else it
 -- stays
 pub record Fetches (byte : Option ℕ) (machine later : Machine) (reply : Reply) : Type 0 where
   pub address : ℕ

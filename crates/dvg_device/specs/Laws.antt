@@ -1,10 +1,10 @@
 -- Laws of the numbers of replies, and of saved states.
-use Rattle.std.specs.Prelude.{◌≡◌, ◌<◌, ◌/◌, ◌%◌, ℕ, List, [], ◌∷◌, map, Option, Some, IfSome}
+use Rattle.std.specs.Prelude.{◌≡◌, ◌<◌, ◌+◌, ◌*◌, ◌/◌, ◌%◌, ◌^◌, ℕ, Bool, List, [], ◌∷◌, map, Option, Some, IfSome}
 use Rattle.dvg_gen.specs.Machine.{Machine, HasTaken}
 use Rattle.dvg_gen.specs.Told.{Told}
 use Rattle.dvg_log.specs.declared.entry.Entry.TheVariants.{Cleared}
 use Rattle.dvg_device.specs.Devices.{Answered, Generator, Held}
-use Rattle.dvg_device.specs.Replies.{number_of, packed}
+use Rattle.dvg_device.specs.Replies.{bit, next, number_of, packed}
 use Rattle.dvg_device.specs.Requests.{request_of}
 use Rattle.dvg_device.specs.States.{CanBeSaved, Suits, drawn_so_far, part_in, parts_of, told, unbegun, word_of}
 use Rattle.dvg_device.specs.declared.reply.Reply.{Reply}
@@ -18,6 +18,15 @@ abbrev pub TakenApart : Type 0
 TakenApart = (kind address value : ℕ) → kind < 0x100 → address < 0x1_0000
     → (packed kind address value % 0x100 ≡ kind) × (packed kind address value / 0x100 % 0x1_0000 ≡ address)
     × (packed kind address value / 0x100_0000 ≡ value)
+
+-- an onward number: 16 bits of value, then the address of the byte wanted next, and 1 in bit 60
+abbrev pub OnwardTakenApart : Type 0
+OnwardTakenApart = (number kind address value word : ℕ) (high : Bool) → kind < 0x100
+    → address < 0x1_0000 → value < 0x1_0000 → word < 0x8000
+    → number ≡ packed kind address value + next word high
+    → (number % 0x100 ≡ kind) × (number / 0x100 % 0x1_0000 ≡ address)
+    × (number / 0x100_0000 % 0x1_0000 ≡ value)
+    × (number / 2 ^ 40 % 0x1_0000 ≡ 2 * word + bit high) × (number / 2 ^ 60 % 2 ≡ 1)
 
 -- the fields of a part fit into the bits that they have in its word
 abbrev pub Fits : StatePart → Type 0

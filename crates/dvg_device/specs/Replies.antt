@@ -73,7 +73,7 @@ abbrev pub bit : Bool → ℕ
 bit true = 1
 bit false = 0
 
--- which byte is taken next, in bits from bit 40 on: its address, and bit 60, which says that there is one
+-- which byte is wanted next: its byte address from bit 40 on, and 1 in bit 60
 abbrev pub next : ℕ → Bool → ℕ
 next address high = 2 ^ 60 + 2 ^ 40 * (2 * address + bit high)
 

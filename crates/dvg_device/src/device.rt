@@ -92,8 +92,8 @@ impl Device {
     pub fn turn(&mut self, request: u64) -> u64
         ensures turned { Turned self.old request self.new result }
     {
-        // The most frequent ones go their own way, so that what they bring stays in registers. What
-        // takes more than a few steps stands apart, so that the others save no registers for it.
+        // The most frequent requests have a branch each, so what they bring stays in registers.
+        // Longer work is never inlined here, so a short branch saves no registers for it.
         match Request::of(request) {
             Request::Tick { halted, byte1 } => self.turn_tick(halted, byte1),
             Request::Fetch(byte) => self.turn_fetch(byte),
@@ -423,7 +423,7 @@ impl Device {
         }
     }
 
-    // Returns the reply that says which byte what is open takes next.
+    // Returns the reply that says which byte is wanted next.
     #[inline(always)]
     fn wants(&self) -> Reply
         ensures { PartAnswers self.now.open_part Request.Wants self.now self.now result }

@@ -1,11 +1,17 @@
 //! Laws of the definitions alone. Each is the contract of a function that does nothing.
 ghost use Rattle.dvg_device.specs.Laws.{GoesOn, IsNeverRefused, IsPassedOn, IsReadAgain};
-ghost use Rattle.dvg_device.specs.Laws.{IsRestored, TakenApart};
+ghost use Rattle.dvg_device.specs.Laws.{IsRestored, OnwardTakenApart, TakenApart};
 
-/// The number of a reply gives back its kind, address and value: by the lowest byte, the next 16
-/// bits, and the rest.
+/// The number of a reply that has a kind, and isn't `Onward`, gives back the kind by its lowest
+/// byte, the address by the next 16 bits, and the value by what stands above.
 pub fn taken_apart()
     ensures { TakenApart }
+{}
+
+/// The number of an `Onward` reply gives back its kind, its address and its value, the address of
+/// the byte that is wanted next, and 1 in bit 60.
+pub fn onward_taken_apart()
+    ensures { OnwardTakenApart }
 {}
 
 /// A part of a state whose fields fit into its word is read in it again, and the number of the

@@ -8,7 +8,7 @@
 //! - a *world*: both ends, over a RAM and a ROM that it holds;
 //! - a *driver* alone: it is handed the HALT flag and byte 001 of a RAM, and returns what is to be
 //!   written there;
-//! - a *generator* alone: it says which byte it takes next, is handed that byte, and returns the
+//! - a *generator* alone: it says which byte is wanted next, is handed it, and returns the
 //!   strokes of a whole run. Its state is told in parts, and another one begins in it. There is one
 //!   whose stack wraps, too;
 //! - a *judge* of moments: it is told the log of any system, a line at a time, and says of each run

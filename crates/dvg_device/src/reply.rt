@@ -22,10 +22,13 @@ pub enum RunState {
     Torn,
 }
 
-/// What a device replies. As a number, its lowest byte is the kind, which stands first here, an
-/// address stands in bits 8 to 23, and a value in bits 24 to 39. The bits above are 0, but where the
-/// run of a generator alone goes on (`Onward`). The reply to a question about strokes, and that of a
-/// place, is what was asked for, and nothing else; a part of a state has the kind below it.
+/// What a device replies. The lowest byte of a reply's number is its kind, which stands first here.
+/// Bits 8 to 23 are an address, bits 24 to 39 are a value, and the bits above are 0. Some replies
+/// differ:
+///
+/// - `Count`, `Point` and `Intensity` have no kind: the number is what was asked for;
+/// - `State` has a word above its kind;
+/// - `Onward` has the byte that is wanted next above its value.
 #[derive(Clone, Copy, Debug, PartialEq, Eq)]
 pub enum Reply {
     /// 0 to 17: what came of it, as a log shows it; the strokes of a run that came to a HALT can be
@@ -51,10 +54,9 @@ pub enum Reply {
     /// - 17, `Cleared`: a reset was done, the draft or the staged bytes were cleared, or a part of
     ///   a state was taken.
     Came(Entry<()>),
-    /// 10, 12 and 13 of a generator alone: the same, and its run goes on. It takes a byte of the
-    /// word at this address next, the high one (`true`) or the low one. Which byte that is stands
-    /// above the number of what came: in bits 40 to 55 twice the address, and 1 more for the high
-    /// one; and 1 in bit 60.
+    /// 10, 12 or 13 from a generator alone: the same as in `Came`, and the run goes on. The byte
+    /// that is wanted next is the high byte (`true`) or the low byte of the word at this address.
+    /// Bits 40 to 55 are its byte address: twice the word's, plus 1 for the high byte. Bit 60 is 1.
     Onward(Entry<()>, u16, bool),
     /// 18: the operation has this number in the draft.
     Pushed(u16),
@@ -71,8 +73,8 @@ pub enum Reply {
     WrongSize,
     /// 24: nothing is open, or not any more.
     Closed,
-    /// 25: a generator takes a byte of the word at this address next, the high one (1) or the low
-    /// one (0).
+    /// 25: the byte that is wanted next is the high byte (1) or the low byte (0) of the word at
+    /// this address.
     Wants(u16, bool),
     /// This many strokes.
     Count(u64),
@@ -157,12 +159,12 @@ fn move_bits(z: u8, placed: bool) -> u16
     u16::from(z) + 0x100 * bit(placed)
 }
 
-// Returns the bits that say which byte is taken next: one of the word at `address`, the high one
-// where `high`.
+// Returns the bits that say which byte is wanted next: the high byte of the word at `address` where
+// `high`, else the low one.
 #[inline(always)]
 fn next(address: u16, high: bool) -> u64
     ensures value { result ≡ next address high }
-    ensures small { result ≤ 0x1FFF_FF00_0000_0000 }
+    ensures small { result ≤ 0x11FF_FF00_0000_0000 }
 {
     0x1000_0000_0000_0000 + 0x100_0000_0000 * (2 * u64::from(address) + u64::from(bit(high)))
 }

@@ -33,7 +33,7 @@ pub(crate) fn ask_wrapping(generator: &mut WrappingGenerator<Global>, request: R
     }
 }
 
-// Returns the reply that says which byte `generator` takes next.
+// Returns the reply of `generator` that says which byte is wanted next.
 #[inline(always)]
 pub(crate) fn wanted_wrapping(generator: &WrappingGenerator<Global>) -> Reply
     ensures { OfWraps generator.now (λ history low run. result ≡ wanting (wants run) low) }

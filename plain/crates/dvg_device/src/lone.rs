@@ -37,7 +37,7 @@ pub(crate) fn tell(generator: &Generator<Global>, question: Question) -> Reply {
     }
 }
 
-// Returns the reply that says which byte `generator` takes next.
+// Returns the reply of `generator` that says which byte is wanted next.
 pub(crate) fn wanted(generator: &Generator<Global>) -> Reply {
     match generator.wants() {
         Some(address) => Reply::Wants(address, generator.wants_high()),
@@ -173,7 +173,7 @@ pub(crate) fn fetch(generator: &mut Generator<Global>, byte: Option<u8>) -> Repl
     }
 }
 
-// Returns the reply that `entry` came, and which byte `generator` takes next, if any.
+// Returns the reply that `entry` came of `generator`, and which byte is wanted next, if any.
 #[inline(always)]
 pub(crate) fn onward(entry: Entry<()>, generator: &Generator<Global>) -> Reply {
     match generator.wants() {

@@ -76,7 +76,7 @@ pub enum Request {
     /// 15: what is open ends, and its memory is given back, with that of the staged bytes and of
     /// the strokes. The draft is empty again.
     Close,
-    /// 16: which byte does a generator alone take next?
+    /// 16: of a generator alone, which byte is wanted next?
     Wants,
     /// 17: how many strokes did the newest run draw that came to a HALT?
     CountStrokes,
