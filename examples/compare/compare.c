@@ -11,8 +11,8 @@
  * Without --moves strokes are compared after a HALT. So each run gets one: after some words the kit
  * hands both sides B000 in place of the memory's words. A fifth call, a return without a call and
  * a word without memory break a run of the port, where hardware goes on: the comparison of that
- * run stops there, and its strokes up to there are compared. With --wrap no call and no return breaks
- * a run. A first difference is shrunk.
+ * run stops there, and its strokes up to there are compared. With --wrap no call and no return
+ * breaks a run. A first difference is shrunk.
  *
  * In whole units the rate multipliers round each move along an axis, a half away from zero, also of
  * a vector that isn't drawn, and a LABS sets the place.
