@@ -11,15 +11,15 @@
  * Without --moves strokes are compared after a HALT. So each run gets one: after some words the kit
  * hands both sides B000 in place of the memory's words. A fifth call, a return without a call and
  * a word without memory break a run of the port, where hardware goes on: the comparison of that
- * run stops there, and its strokes up to there are compared. With --wrap no call and no return breaks
- * a run. A first difference is shrunk.
+ * run stops there, and its strokes up to there are compared. With --wrap no call and no return
+ * breaks a run. A first difference is shrunk.
  *
  * In whole units the rate multipliers round each move along an axis, a half away from zero, also of
  * a vector that isn't drawn, and a LABS sets the place.
  *
  * Status 0: no difference; 1: a difference; 2: memory or a file failed; 64: arguments. */
-#include "dvg.h"
 #include "mine.h"
+#include <dvg.h>
 #include <stdio.h>
 #include <stdlib.h>
 #include <string.h>
@@ -400,14 +400,25 @@ static unsigned length_of(const struct test *test)
     return length;
 }
 
+/* Takes the shortest first run with which it still differs, or none at all. */
+static bool shrink_first_run(struct test *test)
+{
+    struct test candidate = *test;
+    unsigned bytes;
+    for (bytes = 0; bytes < test->interrupted; bytes++) {
+        candidate.interrupted = bytes;
+        if (take(test, &candidate)) {
+            return true;
+        }
+    }
+    return false;
+}
+
 /* One pass of smaller tests. Returns whether one was taken. */
 static bool shrink_once(struct test *test)
 {
-    struct test candidate = *test;
-    bool taken = false;
+    bool taken = shrink_first_run(test);
     unsigned place = 0;
-    candidate.interrupted = 0;
-    taken |= test->interrupted != 0 && take(test, &candidate);
     while (place < length_of(test)) {
         if (shrink_word(test, place)) {
             taken = true;
@@ -491,7 +502,7 @@ static void make_random(struct test *test)
     if (number_below(8) == 0) {
         test->words[0] = (int32_t)(0xE000 | (0xFF0 + number_below(16)));
     }
-    test->interrupted = number_below(2) && !in_units ? 1 + number_below(60) : 0;
+    test->interrupted = number_below(2) ? 1 + number_below(60) : 0;
     test->most = 1 + number_below(MOST_RUN);
 }
 
@@ -571,6 +582,12 @@ static bool is_option(const char *word)
     return units || moves || wrap;
 }
 
+/* The number that this word of the command line is, in digits alone; of any other word 0. */
+static uint64_t number_of(const char *word)
+{
+    return word[strspn(word, "0123456789")] == '\0' ? strtoull(word, NULL, 10) : 0;
+}
+
 int main(int count, char **arguments)
 {
     static struct test test;
@@ -580,9 +597,9 @@ int main(int count, char **arguments)
     for (; count > 1 && is_option(arguments[1]); count--) {
         arguments++;
     }
-    bytes = count > 1 ? strtoul(arguments[1], NULL, 10) : 1000000;
+    bytes = count > 1 ? (unsigned long)number_of(arguments[1]) : 1000000;
     images = count > 2 && strcmp(arguments[1], "--image") == 0;
-    random_state = count > 2 ? strtoull(arguments[2], NULL, 10) : 1;
+    random_state = count > 2 ? number_of(arguments[2]) : 1;
     if (!images && (count > 3 || bytes == 0 || random_state == 0)) {
         fputs("compare [--units] [--moves] [--wrap] [BYTES [SEED]], both above 0, or .. --image"
               " FILE..\n", stderr);

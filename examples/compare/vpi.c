@@ -1,6 +1,6 @@
 /* $dvg_turn(request, answer) for bench.sv in Icarus Verilog: dvg_turn of dvg.h. Both are 64 bits,
  * and there is one device. Verilator needs none of this. Tested, not proved. */
-#include "dvg.h"
+#include <dvg.h>
 #include <vpi_user.h>
 
 static dvg *device;
