@@ -146,6 +146,7 @@ pub const DVG_ROWS: &[Row] = &[
     row("torn, 100 MB of comments", &["torn"], || {
         comments(100_000_000)
     })
+    .refused()
     .each_of("line", 50_000, || comments(3_200_000)),
 ];
 
