@@ -56,7 +56,7 @@ const MACROS: [&str; 3] = ["eprint", "eprintln", "println"];
 
 /// The types that Rust's users copy and print, where the sources don't: what users hold, and what
 /// that is made of.
-const COPIED: [&str; 35] = [
+const COPIED: [&str; 38] = [
     "struct Alike",
     "struct Banked",
     "struct Checked",
@@ -75,6 +75,7 @@ const COPIED: [&str; 35] = [
     "struct Found",
     "struct Frame",
     "struct Generator",
+    "struct GeneratorState",
     "struct Judge",
     "struct Listing",
     "struct Logged",
@@ -90,8 +91,10 @@ const COPIED: [&str; 35] = [
     "struct Table",
     "enum Taken",
     "struct Traced",
+    "struct WordBytes",
     "struct Worklist",
     "struct World",
+    "struct WrappingGenerator",
 ];
 
 /// What serde has of a type of `KEPT`, where its user asks for that.

@@ -6,8 +6,8 @@ use std::error::Error;
 use gerbilargent::{
     Action, AllocError, AllocFailed, BadCode, BadOp, Code, CodeFault, Draft, DraftFull, Driver,
     DriverFault, Entry, Flat, FrameFault, GenFault, Generator, Global, Image, Instr, Judge,
-    MemFault, MomentJudge, Op, OpKind, OutOfMemory, Rom, Stopped, Stroke, Vec, World, dump, read,
-    sketch,
+    MemFault, MomentJudge, Op, OpKind, OutOfMemory, Rom, Stopped, Stroke, Vec, World,
+    WrappingGenerator, dump, read, sketch,
 };
 
 /// A frame of one vector. None where a field is out of its range, or the draft is full.
@@ -45,6 +45,36 @@ fn drawn_by(world: &mut World<Flat>) -> Result<std::vec::Vec<Stroke>, Box<dyn Er
             return Ok(world.picture().iter().copied().collect());
         }
     }
+}
+
+/// A generator, its state, and a generator whose stack wraps are copied. The copies go on as they
+/// do.
+fn copy() -> Result<(), Box<dyn Error>> {
+    let mut generator = Generator::new(Global);
+    let mut wrapping = WrappingGenerator::new(Global);
+    generator.start();
+    wrapping.start();
+    for byte in [0x90, 0xA1, 0x00] {
+        generator.feed(Some(byte))?;
+        wrapping.feed(Some(byte))?;
+    }
+    let state = generator.state();
+    let mut resumed = Generator::new(Global);
+    assert!(resumed.resume(&state.clone(), Vec::new(Global)));
+    assert_eq!(format!("{state:?}"), format!("{:?}", resumed.state()));
+    let mut copies = (generator.clone(), wrapping.clone());
+    for byte in [0x02, 0x64, 0x90, 0x64, 0x74, 0x00, 0xB0] {
+        let step = generator.feed(Some(byte))?;
+        assert_eq!(step, resumed.feed(Some(byte))?);
+        assert_eq!(step, copies.0.feed(Some(byte))?);
+        assert_eq!(step, wrapping.feed(Some(byte))?);
+        assert_eq!(step, copies.1.feed(Some(byte))?);
+    }
+    for other in [&resumed, &copies.0, copies.1.generator()] {
+        assert_eq!(generator.picture(), other.picture());
+    }
+    assert_eq!(generator.picture().len(), 1);
+    Ok(())
 }
 
 /// What vectors of the crate have of std's.
@@ -104,6 +134,7 @@ fn convert() -> Result<(), Box<dyn Error>> {
 
 fn main() -> Result<(), Box<dyn Error>> {
     convert()?;
+    copy()?;
     println!("{:?} {}", draw()?, count()?);
     Ok(())
 }

@@ -43,9 +43,10 @@ COPIED = """
     struct Alike, struct Banked, struct Checked, struct Checker, struct Counted, struct Cursor,
     struct Desk, struct Drawn, struct Driver, struct Dump, enum Ending, struct Entries,
     struct EntryRun, struct EntryRuns, struct Flat, struct Found, struct Frame,
-    struct Generator, struct Judge, struct Listing, struct Logged, struct Note, struct Pair,
-    struct PairList, enum Phase, struct Picture, struct Rom, struct Run, struct Runs,
-    struct Stopped, struct Table, enum Taken, struct Traced, struct Worklist, struct World
+    struct Generator, struct GeneratorState, struct Judge, struct Listing, struct Logged,
+    struct Note, struct Pair, struct PairList, enum Phase, struct Picture, struct Rom,
+    struct Run, struct Runs, struct Stopped, struct Table, enum Taken, struct Traced,
+    struct WordBytes, struct Worklist, struct World, struct WrappingGenerator
 """
 COPIED = {tuple(item.split()) for item in COPIED.split(",")}
 # The types that serde writes and reads, some by another type, which is checked.

@@ -94,6 +94,21 @@ static void forget_places(struct checker *checker)
     memset(checker->state, UNKNOWN, sizeof checker->state);
 }
 
+/* How many words a draft has up to its first HALT, the HALT among them. 0 where something other
+ * than vectors and LABS stands before it, or where there is no HALT. */
+INLINE u32 straight_words(const struct draft *draft)
+{
+    u32 words = 0;
+    for (u32 i = 0; i < draft->count; i++) {
+        u32 operation = draft->operations[i], word = first_word(operation);
+        if (unlikely(word - 0xB000 < 0x4000)) {
+            return word >> 12 == 0xB && !names_operation(operation) ? words + 1 : 0;
+        }
+        words += words_of(operation);
+    }
+    return 0;
+}
+
 /* Checks a draft over the ROM of a memory. Where it is accepted, fetches[0] is the number of its
  * run's words but for word zero. */
 APART u32 check(struct checker *checker, const struct draft *draft, const struct memory *memory)
@@ -111,6 +126,11 @@ APART u32 check(struct checker *checker, const struct draft *draft, const struct
     }
     if (draft->targets > draft->count) {
         return target_fault(draft);
+    }
+    u32 straight = straight_words(draft);
+    if (straight) {
+        checker->fetches[0] = straight;
+        return NO_FAULT;
     }
     for (u32 i = 0; i < draft->count; i += 16) {
         memset(checker->state + i, UNKNOWN, 16);

@@ -1,22 +1,21 @@
 -- Where each part of a state stands.
 use Rattle.std.proofs.Common.{◌≡◌, ℕ, zero, suc, ◌≤◌, ◌<◌, ◌+◌, ◌*◌, ◌-◌, ◌/◌, ◌%◌, List, [], ◌∷◌, ◌++◌, length, map, reverse, get_or}
 use Rattle.std.proofs.Common.{◌≢◌, ◌⊎◌, inl, inr, refl, sym, ap, ◌∙◌, subst, arith, Bool, true, false, Option, Some, None, slice_get, slice_index_or}
-use Rattle.std.specs.Prelude.{All, IfSome, IsSome, ◌==◌}
+use Rattle.std.specs.Prelude.{All, IfSome, ◌==◌}
 use Rattle.std.specs.Option.{option_map}
 use Rattle.std.proofs.lemmas.List.{get_or-reverse, length-map, length-reverse, reverse-reverse}
 use Rattle.std.proofs.lemmas.List.Elements.{All-nil}
 use Rattle.std.proofs.lemmas.Option.{slice_get-get_or, slice_get-map}
-use Rattle.dvg_code.specs.Spelling.{IsFirst}
 use Rattle.dvg_gen.proofs.Inside.{run_in_range}
 use Rattle.dvg_gen.specs.declared.state.GeneratorState.{GeneratorState}
 use Rattle.dvg_gen.specs.declared.stroke.Stroke.{Stroke}
-use Rattle.dvg_gen.specs.Machine.{Machine, HasTaken, IsKept}
+use Rattle.dvg_gen.specs.Machine.{Machine, HasTaken}
 use Rattle.dvg_gen.specs.Position.{IsStroke}
 use Rattle.dvg_gen.specs.Saved.{IsState, machine_of}
 use Rattle.dvg_gen.specs.Told.{Told}
 use Rattle.dvg_device.specs.States.{CanBeSaved, CanStand, drawing_parts, drawn_so_far, part_of_stroke, parts_of, stroke_parts}
 use Rattle.dvg_device.specs.declared.state.StatePart.{StatePart}
-use Rattle.dvg_device.specs.declared.state.StatePart.TheVariants.{Fields, ReturnAddress, Place, Line}
+use Rattle.dvg_device.specs.declared.state.StatePart.TheVariants.{ReturnAddress, Place}
 
 -- what holds of each item of a list holds of each where it is turned round
 pub all_reversed : (P : ℕ → Type 0) (ns : List ℕ) → All P ns → All P (reverse ns)

@@ -1,13 +1,12 @@
 -- A state that is told in parts is the one that was saved.
-use Rattle.std.proofs.Common.{◌≡◌, ℕ, ◌≤◌, ◌<◌, ◌+◌, ◌-◌, List, [], ◌∷◌, ◌++◌, length, map, reverse, refl, sym, ap, ◌∙◌, subst, arith}
-use Rattle.std.proofs.Common.{Bool, true, false, Option, Some, None}
-use Rattle.std.specs.Prelude.{All, IfSome, IsSome}
+use Rattle.std.proofs.Common.{◌≡◌, ℕ, ◌≤◌, ◌<◌, ◌+◌, List, [], ◌∷◌, ◌++◌, length, map, reverse, refl, sym, ap, ◌∙◌, subst, arith}
+use Rattle.std.proofs.Common.{true, false, Option, Some, None}
+use Rattle.std.specs.Prelude.{IfSome}
 use Rattle.std.specs.List.{AllByRecursion}
-use Rattle.std.proofs.lemmas.Bool.{false≢true}
 use Rattle.std.proofs.lemmas.List.{append-nil, append_assoc, length-reverse, reverse-append, reverse-reverse}
 use Rattle.std.proofs.lemmas.List.Elements.{recursion_from_All}
 use Rattle.dvg_gen.specs.declared.stroke.Stroke.{Stroke}
-use Rattle.dvg_gen.specs.Machine.{Machine, HasTaken, IsAtRun, IsInRun}
+use Rattle.dvg_gen.specs.Machine.{Machine, HasTaken, IsInRun}
 use Rattle.dvg_gen.specs.Position.{IsStroke}
 use Rattle.dvg_gen.specs.Told.{Told, Newest}
 use Rattle.dvg_log.specs.declared.entry.Entry.TheVariants.{Cleared}
@@ -16,7 +15,7 @@ use Rattle.dvg_device.specs.Devices.{Answered, Generator, Held, ResumeAnswers}
 use Rattle.dvg_device.proofs.Parted.{all_reversed}
 use Rattle.dvg_device.proofs.Worded.{read_again}
 use Rattle.dvg_device.specs.Laws.{AllSuit, ToldInTurn, restored}
-use Rattle.dvg_device.specs.States.{CanBeSaved, CanStand, Suits, TakesPart, drawing_parts, drawn_so_far, part_in, part_of_stroke}
+use Rattle.dvg_device.specs.States.{CanBeSaved, CanStand, TakesPart, drawing_parts, drawn_so_far, part_in, part_of_stroke}
 use Rattle.dvg_device.specs.States.{parts_of, stroke_parts, told, unbegun, word_of}
 use Rattle.dvg_device.specs.declared.reply.Reply.{Reply}
 use Rattle.dvg_device.specs.declared.reply.Reply.TheVariants.{Came, NoState, Opened}

@@ -13,11 +13,12 @@ use Rattle.dvg_device.specs.declared.request.Request.TheVariants.{Resume, TellSt
 use Rattle.dvg_device.specs.declared.state.StatePart.{StatePart}
 use Rattle.dvg_device.specs.declared.state.StatePart.TheVariants.{Fields, ReturnAddress, Place, Line}
 
--- a packed number is taken apart by its lowest byte, the 16 bits above it, and what stands above those
+-- a packed number is taken apart by its lowest byte, the 16 bits above it, and what stands above those; a value of 16
+-- bits ends below bit 40
 abbrev pub TakenApart : Type 0
 TakenApart = (kind address value : ℕ) → kind < 0x100 → address < 0x1_0000
     → (packed kind address value % 0x100 ≡ kind) × (packed kind address value / 0x100 % 0x1_0000 ≡ address)
-    × (packed kind address value / 0x100_0000 ≡ value)
+    × (packed kind address value / 0x100_0000 ≡ value) × (value < 0x1_0000 → packed kind address value < 2 ^ 40)
 
 -- an onward number: 16 bits of value, then the address of the byte wanted next, and 1 in bit 60
 abbrev pub OnwardTakenApart : Type 0

@@ -42,8 +42,8 @@ pub(crate) enum Part {
 
 /// A device, in which a world, a driver alone, a generator alone or a judge may be open. It has a
 /// draft, which requests make and an offer hands to the driver; bytes that are staged for what is
-/// opened, and for a reset of the whole system; and the state of a generator alone, so far as it was
-/// told, in which one may begin.
+/// opened, and for a reset of the whole system; and the state of a generator alone, as far as it
+/// was told, in which one may begin.
 #[derive(Drop)]
 pub struct Device {
     alloc: Global,
@@ -92,18 +92,18 @@ impl Device {
     pub fn turn(&mut self, request: u64) -> u64
         ensures turned { Turned self.old request self.new result }
     {
-        // The most frequent requests have a branch each, so what they bring stays in registers.
-        // Longer work is never inlined here, so a short branch saves no registers for it.
+        // The most frequent requests have branches of their own. Each of these functions takes the
+        // number, and reads there what the request brings. So nothing passes through memory here.
         match Request::of(request) {
-            Request::Tick { halted, byte1 } => self.turn_tick(halted, byte1),
-            Request::Fetch(byte) => self.turn_fetch(byte),
+            Request::Tick { .. } => self.turn_tick(request),
+            Request::Fetch(_) => self.turn_fetch(request),
             Request::Wants => self.wants().number(),
-            Request::Ask(question) => self.told(question),
-            Request::Push(operation) => self.turn_push(operation),
-            Request::Stage { byte, count } => self.turn_stage(byte, count),
-            Request::StrokeFrom(i) => self.stroke_from(i).number(),
-            Request::StrokeTo(i) => self.stroke_to(i).number(),
-            Request::StrokeIntensity(i) => self.stroke_intensity(i).number(),
+            Request::Ask(_) => self.turn_ask(request),
+            Request::Push(_) => self.turn_push(request),
+            Request::Stage { .. } => self.turn_stage(request),
+            Request::StrokeFrom(_) | Request::StrokeTo(_) | Request::StrokeIntensity(_) => {
+                self.turn_stroke(request)
+            }
             _ => self.turn_seldom(request),
         }
     }
@@ -116,24 +116,77 @@ impl Device {
         self.answer(Request::of(request)).number()
     }
 
-    // Adds `operation` to the draft. Returns the number of the reply.
+    // Does `request` as `turn` does. It is made for ticks: others go to `turn_seldom`.
     #[inline(never)]
-    fn turn_push(&mut self, operation: Operation) -> u64
-        ensures { Numbered (PushAnswers operation self.old self.new) result }
+    fn turn_tick(&mut self, request: u64) -> u64
+        ensures { Turned self.old request self.new result }
     {
+        let Request::Tick { halted, byte1 } = Request::of(request) else {
+            return self.turn_seldom(request);
+        };
+        self.tick(halted, byte1)
+    }
+
+    // Does `request` as `turn` does. It is made for fetches: others go to `turn_seldom`.
+    #[inline(never)]
+    fn turn_fetch(&mut self, request: u64) -> u64
+        ensures { Turned self.old request self.new result }
+    {
+        let Request::Fetch(byte) = Request::of(request) else {
+            return self.turn_seldom(request);
+        };
+        self.fetch(byte)
+    }
+
+    // Does `request` as `turn` does. It is made for operations that are pushed: others go to
+    // `turn_seldom`.
+    #[inline(never)]
+    fn turn_push(&mut self, request: u64) -> u64
+        ensures { Turned self.old request self.new result }
+    {
+        let Request::Push(operation) = Request::of(request) else {
+            return self.turn_seldom(request);
+        };
         self.push(operation).number()
     }
 
-    // Stages `byte` `count` times. Returns the number of the reply.
+    // Does `request` as `turn` does. It is made for bytes that are staged: others go to
+    // `turn_seldom`.
     #[inline(never)]
-    fn turn_stage(&mut self, byte: u8, count: u16) -> u64
-        ensures { Numbered (StageAnswers byte count self.old self.new) result }
+    fn turn_stage(&mut self, request: u64) -> u64
+        ensures { Turned self.old request self.new result }
     {
+        let Request::Stage { byte, count } = Request::of(request) else {
+            return self.turn_seldom(request);
+        };
         self.stage(byte, count).number()
     }
 
-    // Returns the number of the reply to `question`.
+    // Does `request` as `turn` does. It is made for parts of strokes: others go to `turn_seldom`.
     #[inline(never)]
+    fn turn_stroke(&mut self, request: u64) -> u64
+        ensures { Turned self.old request self.new result }
+    {
+        match Request::of(request) {
+            Request::StrokeFrom(i) => self.stroke_from(i).number(),
+            Request::StrokeTo(i) => self.stroke_to(i).number(),
+            Request::StrokeIntensity(i) => self.stroke_intensity(i).number(),
+            _ => self.turn_seldom(request),
+        }
+    }
+
+    // Does `request` as `turn` does. It is made for questions: others go to `turn_seldom`.
+    #[inline(never)]
+    fn turn_ask(&mut self, request: u64) -> u64
+        ensures { Turned self.old request self.new result }
+    {
+        let Request::Ask(question) = Request::of(request) else {
+            return self.turn_seldom(request);
+        };
+        self.told(question)
+    }
+
+    // Returns the number of the reply to `question`.
     fn told(&mut self, question: Question) -> u64
         ensures same { self.new ≡ self.old }
         ensures told { ToldBy question self.old.open_part result }
@@ -391,8 +444,8 @@ impl Device {
 
     // Lets what is open do a tick. A driver alone reads `halted`, the HALT flag, and `byte1`, byte
     // 001 of a RAM. Returns the number of the reply.
-    #[inline(never)]
-    fn turn_tick(&mut self, halted: bool, byte1: u8) -> u64
+    #[inline(always)]
+    fn tick(&mut self, halted: bool, byte1: u8) -> u64
         ensures { Numbered (PartAnswers self.old.open_part (Request.Tick halted byte1) self.old
             self.new) result }
     {
@@ -408,8 +461,8 @@ impl Device {
 
     // Lets what is open fetch a byte. A generator alone is handed `byte`, where `None` is a hole.
     // Returns the number of the reply.
-    #[inline(never)]
-    fn turn_fetch(&mut self, byte: Option<u8>) -> u64
+    #[inline(always)]
+    fn fetch(&mut self, byte: Option<u8>) -> u64
         ensures { Numbered (PartAnswers self.old.open_part (Request.Fetch byte) self.old self.new)
             result }
     {

@@ -3,7 +3,8 @@ ghost use Rattle.dvg_device.specs.Laws.{GoesOn, IsNeverRefused, IsPassedOn, IsRe
 ghost use Rattle.dvg_device.specs.Laws.{IsRestored, OnwardTakenApart, TakenApart};
 
 /// The number of a reply that has a kind, and isn't `Onward`, gives back the kind by its lowest
-/// byte, the address by the next 16 bits, and the value by what stands above.
+/// byte, the address by the next 16 bits, and the value by what stands above. Where the value has
+/// 16 bits, bits 40 to 63 are 0. So bit 60 is 0 there, and no byte is wanted next.
 pub fn taken_apart()
     ensures { TakenApart }
 {}

@@ -24,8 +24,8 @@ pub enum Question {
 
 /// What a device is asked for. As a number, its lowest byte is the code, which stands first here,
 /// and what it brings stands above: a flag in bit 8, a byte in bits 16 to 23, a count in bits 24 to
-/// 39, and the number of a stroke, a return address or a part of a state from bit 8 on. Bits that mean nothing may
-/// have any value.
+/// 39, and the number of a stroke, a return address or a part of a state from bit 8 on. Bits that
+/// mean nothing may have any value.
 #[derive(Clone, Copy, Debug, PartialEq, Eq)]
 pub enum Request {
     /// 0: the driver is handed the draft.

@@ -237,8 +237,19 @@ fn begin(cursor: &mut Option<Cursor>, checked: &Checked, half: Half)
 {
     match cursor {
         Some(cursor) => cursor.restart(checked, half),
-        None => *cursor = Some(Cursor::new(checked, half)),
+        None => begin_first(cursor, checked, half),
     }
+}
+
+// Does what `begin` does, for a `cursor` that is `None`. It isn't inlined: otherwise the room for a
+// new cursor would be cleared for each frame.
+#[inline(never)]
+fn begin_first(cursor: &mut Option<Cursor>, checked: &Checked, half: Half)
+    ensures items { items_of cursor.new
+        ≡ addressed (2 * base half) (bytes (laid half checked.now.operations)) }
+    ensures in_ram { All IsBehindWordZero (items_of cursor.new) }
+{
+    *cursor = Some(Cursor::new(checked, half));
 }
 
 // Returns the next byte of `cursor`, with its address before it, if one is still to come.

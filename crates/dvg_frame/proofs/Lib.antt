@@ -17,6 +17,7 @@ pub mod Turns
 pub mod Tabled
 pub mod Notes
 pub mod Settled
+pub mod Straight
 pub mod Numbered
 pub mod Looked
 pub mod Reaching

@@ -1,5 +1,5 @@
 -- What a cursor over a frame's bytes has still to give, and what it keeps.
-use Rattle.std.specs.Prelude.{◌≡◌, ℕ, ◌+◌, ◌*◌, ◌≤◌, List, ◌++◌, drop, flat_map, length}
+use Rattle.std.specs.Prelude.{◌≡◌, ℕ, ◌-◌, ◌≤◌, List, ◌++◌, drop, flat_map, length}
 use Rattle.dvg_code.specs.Spelling.{canon}
 use Rattle.dvg_mem.specs.declared.half.Half.{Half}
 use Rattle.dvg_frame.specs.declared.op.OpKind.{OpKind}
@@ -13,23 +13,23 @@ use Rattle.dvg_frame.specs.Steps.{Begins}
 abbrev pub laid_ops : Half → (F ops : List OpKind) → List ℕ
 laid_ops half F ops = flat_map (λ op. canon (op_code half F op)) ops
 
--- the bytes of these words but for this many at the front, and those of the operations from this number on
-abbrev pub bytes_from : Half → List OpKind → List ℕ → ℕ → ℕ → List ℕ
-bytes_from half F words given op = drop given (bytes words) ++ bytes (laid_ops half F (drop op F))
+-- the bytes at hand, and those of the operations from this number on
+abbrev pub bytes_from : Half → List OpKind → List ℕ → ℕ → List ℕ
+bytes_from half F at_hand op = at_hand ++ bytes (laid_ops half F (drop op F))
 
 -- the bytes that are still to come
 abbrev pub bytes_left : Inside → List ℕ
-bytes_left cursor = bytes_from cursor.half cursor.draft cursor.words.items cursor.given cursor.op
+bytes_left cursor = bytes_from cursor.half cursor.draft cursor.at_hand cursor.op
 
 -- each with its address
 abbrev pub items_left : Inside → List (ℕ × ℕ)
-items_left cursor = addressed cursor.address (bytes_left cursor)
+items_left cursor = addressed (cursor.end - cursor.left) (bytes_left cursor)
 
--- the draft has none of the faults 1 to 4, the words before each operation are counted, no more bytes of the words at
--- hand were given than they have, the number of the bytes to come is known, and their addresses lie in the RAM
+-- the draft has none of the faults 1 to 4, the words before each operation are counted, the number of the bytes to come
+-- is known, and their addresses lie in the RAM
 pub record IsCursor (cursor : Inside) : Type 0 where
   pub begins : Begins cursor.draft
   pub counted : IsCounted cursor.draft cursor.words_before.items
-  pub given : cursor.given ≤ 2 * length cursor.words.items
   pub left : cursor.left ≡ length (bytes_left cursor)
-  pub in_ram : cursor.address + cursor.left ≤ 0x800
+  pub fits : cursor.left ≤ cursor.end
+  pub in_ram : cursor.end ≤ 0x800

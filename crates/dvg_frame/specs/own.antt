@@ -3,7 +3,9 @@ pub mod Counting
 pub mod Firsts
 pub mod Frames
 pub mod Growth
+pub mod LowBytes
 pub mod Pairs
+pub mod Straight
 pub mod Sweeps
 pub mod Tables
 pub mod Ways

@@ -1,6 +1,6 @@
 //! Drafts with the places of their operations.
 ghost use Rattle.std.specs.Prelude.{◌≡◌, ◌≤◌, ◌<◌, List, Some, length, slice_get, take};
-ghost use Rattle.dvg_frame.specs.own.Counting.{IsCounted, counts_from};
+ghost use Rattle.dvg_frame.specs.own.Counting.{IsCounted};
 ghost use Rattle.dvg_frame.specs.Layout.{size};
 ghost use Rattle.dvg_frame.specs.Ops.{IsDraft};
 ghost use Rattle.dvg_frame.specs.declared.op.OpKind.{OpKind};
@@ -75,11 +75,21 @@ pub(crate) fn words_before_each(ops: &[Op]) -> ArrayVec<u16, COUNTS>
     ensures { IsCounted ops.now result.items }
 {
     let mut words_before = ArrayVec::new();
+    put_words_before(&mut words_before, ops);
+    words_before
+}
+
+// Makes `words_before` the list that `words_before_each` returns of `ops`. It is made where it
+// lies, so no room is zeroed and nothing is copied.
+pub(crate) fn put_words_before(words_before: &mut ArrayVec<u16, COUNTS>, ops: &[Op])
+    requires { IsDraft ops.now }
+    ensures { IsCounted ops.now words_before.new.items }
+{
     let mut words = 0;
+    words_before.clear();
     words_before.push(words);
     for op in ops {
         words += words_of(op.kind());
         words_before.push(words);
     }
-    words_before
 }

@@ -1,10 +1,15 @@
 //! Cursors: the bytes of a frame, one after the other.
+ghost use Rattle.std.specs.Prelude.{◌<◌, length};
+ghost use Rattle.dvg_frame.specs.Steps.{Begins};
+ghost use Rattle.dvg_frame.specs.own.Counting.{IsCounted};
+ghost use Rattle.dvg_frame.specs.own.Frames.{AreBytesOf};
+
 use crate::checked::Checked;
-use crate::counted::{COUNTS, Counted};
+use crate::counted::{COUNTS, Counted, put_words_before};
 use crate::draft::Draft;
-use crate::frame::{byte_of, spelling};
+use crate::frame::spelling;
+use crate::word_bytes::WordBytes;
 use arrayvec::ArrayVec;
-use dvg_code::Words;
 use dvg_mem::Half;
 use std::iter::FusedIterator;
 use std::marker::Model;
@@ -21,14 +26,12 @@ pub struct Cursor {
     /// words.
     words_before: ArrayVec<u16, COUNTS>,
     half: Half,
-    /// The words at hand: those of the operation before number `op`.
-    words: Words,
-    /// The number of bytes of the words at hand that were given.
-    given: u16,
-    /// The number of the operation that comes after the words at hand.
+    /// The bytes at hand: those still to come of the operation before number `op`.
+    at_hand: WordBytes,
+    /// The number of the operation that comes after the bytes at hand.
     op: u16,
-    /// The address of the next byte.
-    address: u16,
+    /// The address after the last byte.
+    end: u16,
     /// The number of bytes that are still to come.
     left: u16,
 }
@@ -59,15 +62,15 @@ impl Cursor {
             ≡ addressed (2 * base half) (bytes (laid half checked.now.operations)) }
         ensures in_ram { All IsBehindWordZero result }
     {
+        let left = 2 * checked.len_words();
         Cursor {
             draft: checked.to_draft(),
             words_before: checked.words_before_each(),
             half,
-            words: Words::new(),
-            given: 0,
+            at_hand: WordBytes::new(),
             op: 0,
-            address: 2 * half.base(),
-            left: 2 * checked.len_words(),
+            end: 2 * half.base() + left,
+            left,
         }
     }
 
@@ -80,13 +83,12 @@ impl Cursor {
     {
         self.draft.clear();
         self.draft.try_extend_from_slice(checked.ops()).unwrap();
-        self.words_before = checked.words_before_each();
+        put_words_before(&mut self.words_before, checked.ops());
         self.half = half;
-        self.words = Words::new();
-        self.given = 0;
+        self.at_hand = WordBytes::new();
         self.op = 0;
-        self.address = 2 * half.base();
         self.left = 2 * checked.len_words();
+        self.end = 2 * half.base() + self.left;
     }
 
     /// Returns the number of items that are still to come.
@@ -111,19 +113,27 @@ impl Iterator for Cursor {
         if self.left == 0 {
             return None;
         }
-        if usize::from(self.given) == 2 * self.words.len() {
-            let counted = Counted::of(self.draft.ops(), self.words_before.as_slice());
-            self.words = spelling(&counted, self.half, usize::from(self.op));
-            self.given = 0;
+        if self.at_hand.is_empty() {
+            self.at_hand = bytes_of(&self.draft, &self.words_before, self.half, self.op);
             self.op += 1;
         }
-        let word = self.words[usize::from(self.given / 2)];
-        let item = (self.address, byte_of(word, self.given));
-        self.given += 1;
-        self.address += 1;
+        let address = self.end - self.left;
         self.left -= 1;
-        Some(item)
+        Some((address, self.at_hand.take()))
     }
 }
 
 impl FusedIterator for Cursor {}
+
+// Returns the bytes of operation `op` of `draft`, laid out for `half`. In `words_before` stands how
+// many words come before each operation. It isn't inlined: most ticks find a byte at hand.
+#[inline(never)]
+fn bytes_of(draft: &Draft, words_before: &ArrayVec<u16, COUNTS>, half: Half, op: u16) -> WordBytes
+    requires begins { Begins draft.now }
+    requires counted { IsCounted draft.now words_before.now.items }
+    requires within { op < length draft.now }
+    ensures { AreBytesOf half draft.now op result }
+{
+    let counted = Counted::of(draft.ops(), words_before.as_slice());
+    WordBytes::of(spelling(&counted, half, usize::from(op)).as_slice())
+}

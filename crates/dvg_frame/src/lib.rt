@@ -20,6 +20,7 @@ mod frame;
 pub mod laws;
 mod op;
 mod place;
+mod word_bytes;
 
 pub use checked::Checked;
 pub use checking::{Checker, check};

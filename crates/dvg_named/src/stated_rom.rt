@@ -10,7 +10,7 @@ ghost use Rattle.dvg_named.specs.StatedRoms.{HoldsStated, TellsStated};
 use crate::laid::free_with;
 use arrayvec::ArrayVec;
 use dvg_mem::{FIRST_LARGE_ROM_WORD, FIRST_ROM_WORD, LARGE_ROM_BYTES, ROM_END};
-use dvg_read::{read_rom_parts, ungiven_rom};
+use dvg_read::{fill_with_returns, read_rom_parts};
 
 /// The ROM that the lines describe which were read so far.
 #[derive(Drop)]
@@ -27,9 +27,11 @@ impl StatedRom {
     pub fn new() -> StatedRom
         ensures { HoldsStated unstated result }
     {
+        let mut bytes = ArrayVec::new();
+        fill_with_returns(&mut bytes, FIRST_ROM_WORD);
         StatedRom {
             is_stated: false,
-            bytes: ungiven_rom(FIRST_ROM_WORD),
+            bytes,
             free: FIRST_ROM_WORD,
         }
     }
@@ -49,7 +51,7 @@ impl StatedRom {
                 return false;
             }
             self.is_stated = true;
-            self.bytes = ungiven_rom(first);
+            fill_with_returns(&mut self.bytes, first);
             self.free = first;
             return true;
         }

@@ -1,10 +1,10 @@
 -- Lines of events at the head of a text.
-use Rattle.std.proofs.Common.{◌≡◌, ◌<◌, ◌≤◌, ◌+◌, ◌*◌, ℕ, zero, suc, List, [], ◌∷◌, ◌++◌, length, get_or, take, drop, min, replicate, refl, sym, ap, subst, ◌∙◌, arith, All, true, false, eqb, append_assoc, append-nil, length-append, codes, Result, Ok, Err, IfOk, OnOk, OnErr, Option, Some, None, IfSome, MatchOption, lit<}
+use Rattle.std.proofs.Common.{◌≡◌, ◌<◌, ◌≤◌, ◌+◌, ◌*◌, ℕ, zero, suc, List, [], ◌∷◌, ◌++◌, length, get_or, take, min, replicate, refl, sym, ap, subst, ◌∙◌, arith, All, false, eqb, append_assoc, append-nil, length-append, codes, Result, Ok, Err, IfOk, OnOk, OnErr, Option, Some, None, IfSome, lit<}
 use Rattle.std.specs.Borrow.{Bor}
 use Rattle.std.specs.List.{AllZip}
 use Rattle.std.specs.Char.{digit_value}
-use Rattle.std.specs.Cmp.Lexicographic.{pointwise}
-use Rattle.std.proofs.lemmas.List.{length-replicate, replicate-append-replicate}
+use Rattle.std.specs.Int.{to_le_bytes, w32}
+use Rattle.std.proofs.lemmas.List.{length-replicate, replicate-append-replicate, take_more}
 use Rattle.std.proofs.lemmas.List.Elements.{All-append, All-from_recursion, All-nil}
 use Rattle.dvg_frame.specs.declared.op.OpKind.{OpKind}
 use Rattle.dvg_log.specs.Events.{Happening}
@@ -15,18 +15,23 @@ use Rattle.dvg_read.specs.TraceEvents.{AddsEvents, BeginsWithEvent, HasEvents, I
 use Rattle.dvg_read.specs.TraceTexts.{EventParts, FitsDraft, FitsTrace}
 use Rattle.dvg_read.proofs.EventRows.{named_made, resetall_made}
 use Rattle.dvg_read.proofs.FirstBytes.{HasNone, behind}
-use Rattle.dvg_read.proofs.Heads.{HasParts, IsPart, after_name, halves, last_part, next_part}
+use Rattle.dvg_read.proofs.Heads.{HasParts, IsPart, halves, last_part, next_part}
 use Rattle.dvg_read.proofs.LineEnds.{line_at}
 use Rattle.dvg_read.proofs.TraceMoves.{fine_events}
 
 -- ---- names
 
--- what stands after two parts of a name
-pub after_both : (text letters ending : List ℕ) (first : Bor (List ℕ)) (second : Option (Bor (List ℕ))) → text ≡ letters ++ first.now
-    → MatchOption second (pointwise eqb (take (length ending) first.now) ending ≡ false) (λ rest. (pointwise eqb (take (length ending) first.now) ending ≡ true) × (rest.now ≡ drop (length ending) first.now) × (length rest.now + length ending ≡ length first.now))
-    → IfSome second (λ rest. text ≡ letters ++ ending ++ rest.now)
-after_both text letters ending first None begins cases = tt
-after_both text letters ending first (Some rest) begins cases = begins ∙ ap (λ more. letters ++ more) (after_name first.now ending rest cases) ∙ sym (append_assoc letters ending rest.now)
+-- one byte more of those that a text begins with
+pub byte_after : (text bytes rest more : List ℕ) (k : ℕ) → k < length bytes → text ≡ take k bytes ++ rest → rest ≡ get_or bytes k 0 ∷ more → text ≡ take (k + 1) bytes ++ more
+byte_after text bytes rest more k inside is first =
+    is ∙ ap (λ rest. take k bytes ++ rest) first ∙ sym (append_assoc (take k bytes) (get_or bytes k 0 ∷ []) more) ∙ sym (ap (λ front. front ++ more) (take_more bytes k 0 inside))
+
+-- what stands after the letters and the ending of a name
+pub after_both : (text then ending : List ℕ) (letters same : ℕ) (answer : Option (Bor (List ℕ))) → text ≡ to_le_bytes w32 letters ++ then → letters ≡ same
+    → IfSome answer (λ rest. then ≡ ending ++ rest.now) → IfSome answer (λ rest. text ≡ to_le_bytes w32 same ++ ending ++ rest.now)
+after_both text then ending letters same None begins is ends = tt
+after_both text then ending letters same (Some rest) begins is ends =
+    begins ∙ ap (λ n. to_le_bytes w32 n ++ then) is ∙ ap (λ more. to_le_bytes w32 same ++ more) ends ∙ sym (append_assoc (to_le_bytes w32 same) ending rest.now)
 
 -- no name has a line end
 one_line : (event : Happening) (name : List ℕ) → IsNamed event name → HasNone 10 name
@@ -62,9 +67,9 @@ events_after left then rest first more h k = record {
 }
 
 -- the name of an event at a text's head
-pub name_event : (text letters ending rest : List ℕ) (event : Happening) → IsNameLine event (letters ++ ending) → text ≡ letters ++ ending ++ rest → HasEvents (lines text) (event ∷ []) (lines rest)
-name_event text letters ending rest event h is =
-    let cut : text ≡ h.name ++ 10 ∷ rest = is ∙ ap (λ bytes. bytes ++ rest) h.ended ∙ append_assoc h.name (10 ∷ []) rest in
+pub name_event : (text bytes rest : List ℕ) (event : Happening) → IsNameLine event bytes → text ≡ bytes ++ rest → HasEvents (lines text) (event ∷ []) (lines rest)
+name_event text bytes rest event h is =
+    let cut : text ≡ h.name ++ 10 ∷ rest = is ∙ ap (λ front. front ++ rest) h.ended ∙ append_assoc h.name (10 ∷ []) rest in
     one_event (lines text) (lines rest) event h.name (ap lines cut ∙ line_at h.name 10 rest (one_line event h.name h.named) refl) (named_made event h.name h.named)
 
 -- one more of the same

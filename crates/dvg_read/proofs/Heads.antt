@@ -1,14 +1,10 @@
 -- Lines at the head of a text, by their parts.
-use Rattle.std.proofs.Common.{◌≡◌, ◌<◌, ◌≤◌, ◌+◌, ◌*◌, ◌/◌, ◌%◌, ℕ, zero, suc, ℤ, pos, negsuc, List, [], ◌∷◌, ◌++◌, length, get_or, take, drop, decimal, unsigned_abs, refl, sym, ap, subst, ◌∙◌, arith, All, true, false, eqb, append_assoc, codes, lit<, add-one, Some}
-use Rattle.std.specs.Borrow.{Bor}
+use Rattle.std.proofs.Common.{◌≡◌, ◌<◌, ◌≤◌, ◌+◌, ◌*◌, ◌/◌, ◌%◌, ℕ, zero, suc, ℤ, pos, negsuc, List, [], ◌∷◌, ◌++◌, length, get_or, take, decimal, unsigned_abs, refl, sym, ap, subst, ◌∙◌, arith, All, false, eqb, append_assoc, codes, lit<, add-one}
 use Rattle.std.specs.List.{onto_first, join_with_byte, AllByRecursion}
 use Rattle.std.specs.Fmt.{signed_decimal}
 use Rattle.std.specs.Int.{from_le_bytes, to_le_bytes, w32}
 use Rattle.std.proofs.lemmas.Nat.{le_bytes_4}
-use Rattle.std.specs.Cmp.Lexicographic.{pointwise}
 use Rattle.std.proofs.Math.Seq.{split_at}
-use Rattle.std.proofs.lemmas.Bool.Decides.{Decides-eqb}
-use Rattle.std.proofs.lemmas.Slice.Eq.{strip_prefix_is}
 use Rattle.std.proofs.lemmas.Bool.{false_from_ne_true, eqb-true}
 use Rattle.std.proofs.lemmas.Fmt.{decimal_digit, decimal_step}
 use Rattle.std.proofs.lemmas.List.{get_or_default, take_rest}
@@ -57,10 +53,6 @@ four_bytes (x ∷ y ∷ z ∷ w ∷ text) n fits bytes is =
     below (suc (suc zero)) = bytes 2
     below (suc (suc (suc zero))) = bytes 3
     below (suc (suc (suc (suc i)))) = omega arith
-
--- what stands after a name
-pub after_name : (text name : List ℕ) (rest : Bor (List ℕ)) → (pointwise eqb (take (length name) text) name ≡ true) × (rest.now ≡ drop (length name) text) × (length rest.now + length name ≡ length text) → text ≡ name ++ rest.now
-after_name text name rest cases = strip_prefix_is {A = ℕ} {E = eqb} Decides-eqb text name (Some rest) cases
 
 -- ---- numbers
 

@@ -1,10 +1,16 @@
 -- Lines of events that are taken many at once (for private contracts).
 use Rattle.std.specs.Prelude.{◌≡◌, ℕ, List, [], ◌∷◌, ◌++◌, length}
 use Rattle.std.specs.List.{AllZip}
+use Rattle.std.specs.Int.{to_le_bytes, w32}
 use Rattle.dvg_log.specs.Events.{Happening}
+use Rattle.dvg_read.specs.declared.event_head.Name.{Name}
 use Rattle.dvg_read.specs.EventLines.{IsNamed}
 use Rattle.dvg_read.specs.Texts.{parts}
 use Rattle.dvg_read.specs.TraceTexts.{EventParts}
+
+-- the bytes of a name
+abbrev pub name_bytes : Name → List ℕ
+name_bytes name = to_le_bytes w32 name.letters ++ name.ending.now
 
 -- these bytes are the name of this event and a line's end; 10 is LF
 pub record IsNameLine (event : Happening) (bytes : List ℕ) : Type 0 where

@@ -1,8 +1,8 @@
 //! Operations at the head of a text, each read in one pass with the end of its line.
-ghost use Rattle.std.specs.Prelude.{◌≡◌, ◌∷◌, ◌++◌, codes, IfSome};
-ghost use Rattle.std.specs.Int.{to_le_bytes, w32};
+ghost use Rattle.std.specs.Prelude.{◌++◌, codes, IfSome};
 ghost use Rattle.dvg_read.specs.TextLines.{HasOp};
 
+use crate::letters::letters_at_head;
 use crate::number::{
     after_byte, digit_before, integer_before_space, natural_before, nibble_before,
     tiny_before_space,
@@ -38,7 +38,7 @@ const HALT_LETTERS: u32 = 0x746C_6168;
 pub(crate) fn op_at_head(text: &[u8]) -> Option<(Op, &[u8])>
     ensures { IfSome result (λ head. HasOp text.now head.0 head.1.now) }
 {
-    let (letters, rest) = letters_at_head(text)?;
+    let (letters, rest) = letters_at_head(text, HEAD)?;
     match letters {
         SVEC_LETTERS => svec(after_byte(rest, b' ')?),
         VCTR_LETTERS => vctr(after_byte(rest, b' ')?),
@@ -48,19 +48,6 @@ pub(crate) fn op_at_head(text: &[u8]) -> Option<(Op, &[u8])>
         HALT_LETTERS => halt(rest),
         _ => None,
     }
-}
-
-// Returns the first four bytes of `text` as a number, the first of them the lowest, and what stands
-// after them. Returns `None` where `text` has fewer than 24 bytes.
-#[inline(always)]
-fn letters_at_head(text: &[u8]) -> Option<(u32, &[u8])>
-    ensures { IfSome result (λ head. text.now ≡ to_le_bytes w32 head.0 ++ head.1.now) }
-{
-    if text.len() < HEAD {
-        return None;
-    }
-    let letters = u32::from_le_bytes([text[0], text[1], text[2], text[3]]);
-    Some((letters, &text[4..]))
 }
 
 // Reads the rest of the line of an SVEC from `text`, after its name and a space. Returns the

@@ -4,8 +4,9 @@ ghost use Rattle.dvg_read.specs.Texts.{is_passed};
 ghost use Rattle.memchr.specs.Find.{IsFirstByte, is_byte};
 ghost use Rattle.dvg_frame.specs.declared.draft.TheConstants.{MAX_OPS};
 
-use crate::event_head::{HEAD, after_name, letters_at_head, reset_at_head};
+use crate::event_head::{HEAD, Name, after_name, reset_at_head};
 use crate::event_line::SpelledEvent;
+use crate::letters::letters_at_head;
 use crate::op_head::op_at_head;
 use dvg_frame::{Draft, Op};
 use memchr::memchr;
@@ -21,12 +22,12 @@ pub struct TextLines<'a> {
 }
 
 impl<'a> TextLines<'a> {
-    ghost use Rattle.std.specs.Prelude.{◌≡◌, ◌≤◌, ◌∷◌, ◌++◌, [], IfNone, IfSome, length};
+    ghost use Rattle.std.specs.Prelude.{◌≡◌, ◌≤◌, ◌∷◌, [], IfNone, IfSome, length};
     ghost use Rattle.std.specs.Prelude.{replicate};
     ghost use Rattle.dvg_log.specs.Events.{Happening};
     ghost use Rattle.dvg_read.specs.EventLines.{spelled_as};
     ghost use Rattle.dvg_read.specs.TextLines.{AddsOps, HasOp, lines_left};
-    ghost use Rattle.dvg_read.specs.TraceEvents.{HasEvents, IsNameLine};
+    ghost use Rattle.dvg_read.specs.TraceEvents.{HasEvents, IsNameLine, name_bytes};
     ghost use Rattle.dvg_read.specs.Texts.{lines};
 
     /// Returns the lines of `text`.
@@ -39,23 +40,24 @@ impl<'a> TextLines<'a> {
     /// Returns the first four bytes that are left, as a number, if at least 12 are left.
     #[inline(always)]
     pub(crate) fn letters(&self) -> Option<u32> {
-        letters_at_head(self.rest)
+        let (letters, _) = letters_at_head(self.rest, HEAD)?;
+        Some(letters)
     }
 
-    /// Takes the next lines as long as each is `letters` and `ending`, which has the line's end
-    /// too. It takes at most `most`, and returns how many it took.
+    /// Takes the next lines as long as each is `name`, which has the line's end too. It takes at
+    /// most `most`, and returns how many it took.
     #[inline(always)]
-    pub(crate) fn take_names(&mut self, letters: &[u8], ending: &[u8], most: u16) -> u16
-        ensures taken { (event : Happening) → IsNameLine event (letters.now ++ ending.now)
+    pub(crate) fn take_names(&mut self, name: Name, most: u16) -> u16
+        ensures taken { (event : Happening) → IsNameLine event (name_bytes name)
             → HasEvents (lines_left self.old) (replicate result event) (lines_left self.new) }
         ensures most { result ≤ most }
     {
         let mut rest = self.rest;
         let mut count = 0;
-        while count < most && rest.len() >= HEAD {
-            let Some(after) = after_name(rest, letters, ending) else {
+        while let Some(after) = after_name(rest, name) {
+            if count == most {
                 break;
-            };
+            }
             rest = after;
             count += 1;
         }

@@ -2,13 +2,10 @@
 ghost use Rattle.std.specs.Prelude.{◌≡◌, ◌+◌, ◌<◌, ◌≤◌, ◌++◌, length, replicate, IfOk, OnErr, OnOk};
 ghost use Rattle.dvg_read.specs.EventLines.{spelled_as};
 ghost use Rattle.dvg_read.specs.TextLines.{lines_left};
-ghost use Rattle.dvg_read.specs.TraceEvents.{AddsEvents, BeginsWithEvent, IsNameLine};
+ghost use Rattle.dvg_read.specs.TraceEvents.{AddsEvents, BeginsWithEvent, IsNameLine, name_bytes};
 ghost use Rattle.dvg_log.specs.declared.trace.TheConstants.{MOST_EVENTS};
 
-use crate::event_head::{
-    FETCH, FETCH_LETTERS, Name, REDRAW, REDRAW_LETTERS, RESET_LETTERS, RESETCPU, RESETGEN, STROBE,
-    STROBE_LETTERS, TICK, TICK_LETTERS,
-};
+use crate::event_head::{FETCH, Name, REDRAW, RESETALL, RESETCPU, RESETGEN, STROBE, TICK};
 use crate::event_line::SpelledEvent;
 use crate::text_lines::TextLines;
 use dvg_code::OutOfMemory;
@@ -62,13 +59,18 @@ fn take_run<A: Allocator + Copy>(
     let Some(letters) = lines.letters() else {
         return Ok(0);
     };
-    match letters {
-        TICK_LETTERS => take_names(alloc, Event::Tick, TICK, most, lines, events),
-        FETCH_LETTERS => take_names(alloc, Event::Fetch, FETCH, most, lines, events),
-        STROBE_LETTERS => take_names(alloc, Event::Strobe, STROBE, most, lines, events),
-        REDRAW_LETTERS => take_names(alloc, Event::Redraw, REDRAW, most, lines, events),
-        RESET_LETTERS => take_resets(alloc, most, lines, events),
-        _ => Ok(0),
+    if letters == TICK.letters {
+        take_names(alloc, Event::Tick, TICK, most, lines, events)
+    } else if letters == FETCH.letters {
+        take_names(alloc, Event::Fetch, FETCH, most, lines, events)
+    } else if letters == STROBE.letters {
+        take_names(alloc, Event::Strobe, STROBE, most, lines, events)
+    } else if letters == REDRAW.letters {
+        take_names(alloc, Event::Redraw, REDRAW, most, lines, events)
+    } else if letters == RESETALL.letters {
+        take_resets(alloc, most, lines, events)
+    } else {
+        Ok(0)
     }
 }
 
@@ -108,14 +110,14 @@ fn take_names<A: Allocator>(
     lines: &mut TextLines,
     events: &mut Trace<A>,
 ) -> Result<u16, OutOfMemory>
-    requires named { IsNameLine (spelled_as event) (name.0.now ++ name.1.now) }
+    requires named { IsNameLine (spelled_as event) (name_bytes name) }
     requires room { length events.old + most ≤ MOST_EVENTS }
     ensures taken { IfOk result (λ count. AddsEvents (lines_left lines.old) events.old count
         (lines_left lines.new) events.new) }
     ensures most { IfOk result (λ count. count ≤ most) }
     ensures fault { OnErr result (BeginsWithEvent (lines_left lines.old)) }
 {
-    let count = lines.take_names(name.0, name.1, most);
+    let count = lines.take_names(name, most);
     if count > 0 {
         add_times(alloc, event, count, events)?;
     }

@@ -1,12 +1,9 @@
 //! Tests of what crosses crates and can't be shown by the texts of a case (tests/cases): streams
-//! that fail, memory that is refused or counted, and calls of the library. The crate exports
-//! nothing.
+//! that fail, and memory that is refused or counted. The crate exports nothing.
 #![tactic(auto)]
 
 #[cfg(test)]
 mod answers;
-#[cfg(test)]
-mod hostile;
 #[cfg(test)]
 mod limits;
 #[cfg(test)]
@@ -16,13 +13,7 @@ mod mishaps;
 #[cfg(test)]
 mod plays_mishaps;
 #[cfg(test)]
-mod refusals;
-#[cfg(test)]
 mod requests;
-#[cfg(test)]
-mod runs;
-#[cfg(test)]
-mod scripts;
 #[cfg(test)]
 mod stores;
 #[cfg(test)]

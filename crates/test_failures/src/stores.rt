@@ -1,13 +1,11 @@
 //! A store that has no room, and the room of a banked one.
 use crate::answers::{Report, answered};
-use crate::scripts::Step::{Fetch, Tick};
-use crate::scripts::{events, image, rom};
 use crate::tasks::playing;
 use crate::traces::FIRST_PICTURE;
 use dvg_code::OutOfMemory;
-use dvg_mem::{Flat, Image, Store};
+use dvg_mem::{Flat, Image, MEMORY_BYTES, Rom, Store};
 use dvg_tool::{ToolFault, Watched, perform, play_in};
-use dvg_world::run;
+use dvg_world::{OwnEvent, run};
 use linked_list_allocator::LocalHeap;
 use std::alloc::Global;
 use std::io;
@@ -44,10 +42,10 @@ impl Store for Roomless {
 
 #[test]
 fn a_run_without_a_store_stops_at_once(rt: HostRuntime) -> Result<(), Fail> {
-    let rom = rom(rt.alloc(), rt.alloc(), &[])?;
-    let image = image(rt.alloc(), rt.alloc(), 0)?;
-    let events = events(rt.alloc(), rt.alloc(), &[Tick(2), Fetch(1)])?;
-    match run::<Roomless>(rt.alloc(), rom, &image, events.as_slice()) {
+    let rom = Rom::new(rt.alloc(), &[0; MEMORY_BYTES])?;
+    let image = Image::new(rt.alloc(), &[0; MEMORY_BYTES])?;
+    let events = [OwnEvent::Tick, OwnEvent::Fetch];
+    match run::<Roomless>(rt.alloc(), rom, &image, &events) {
         Ok(_) => Err("a run without a store".into()),
         Err(stopped) => {
             assert_eq!(rt; stopped.event, 0);

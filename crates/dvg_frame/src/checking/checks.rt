@@ -12,6 +12,7 @@ ghost use Rattle.dvg_frame.specs.own.Tables.{BoundOrFault, HasNone};
 use crate::checked::Checked;
 use crate::checking::bounds::bound_of;
 use crate::checking::chain::Chain;
+use crate::checking::straight::straight_words;
 use crate::checking::sweep::sweep;
 use crate::checking::table::Table;
 use crate::checking::worklist::Worklist;
@@ -174,6 +175,10 @@ impl Checker {
         requires begins { Begins draft.now }
         ensures { BoundOrFault draft.now rom.now result }
     {
+        // Such a draft has no fault. Its run fetches word zero, too.
+        if let Some(words) = straight_words(draft) {
+            return Ok(words + 1);
+        }
         let bound = bound_of(draft, rom, &mut self.table, &mut self.chain);
         self.table.clear();
         match bound {

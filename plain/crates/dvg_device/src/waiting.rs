@@ -93,8 +93,8 @@ impl Waiting {
         }
     }
 
-    // Returns a generator in this state, and forgets the state, where a generator can be in it. Else
-    // returns `None`, and nothing has changed.
+    // Returns a generator in this state, and forgets the state, where a generator can be in it.
+    // Otherwise it returns `None`, and nothing has changed.
     pub(crate) fn generator(&mut self, alloc: Global) -> Option<Generator<Global>> {
         if !self.state.is_valid() {
             return None;

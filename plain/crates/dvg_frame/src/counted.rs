@@ -43,11 +43,18 @@ impl<'a> Counted<'a> {
 // number of all words.
 pub(crate) fn words_before_each(ops: &[Op]) -> ArrayVec<u16, COUNTS> {
     let mut words_before = ArrayVec::new();
+    put_words_before(&mut words_before, ops);
+    words_before
+}
+
+// Makes `words_before` the list that `words_before_each` returns of `ops`. It is made where it
+// lies, so no room is zeroed and nothing is copied.
+pub(crate) fn put_words_before(words_before: &mut ArrayVec<u16, COUNTS>, ops: &[Op]) {
     let mut words = 0;
+    words_before.clear();
     words_before.push(words);
     for op in ops {
         words += words_of(op.kind());
         words_before.push(words);
     }
-    words_before
 }

@@ -21,6 +21,7 @@ mod fault;
 mod frame;
 mod op;
 mod place;
+mod word_bytes;
 
 pub use checked::Checked;
 pub use checking::{Checker, check};

@@ -5,6 +5,7 @@ use arrayvec::ArrayVec;
 /// All that a generator keeps but its strokes, as a value that can be stored anywhere. Its fields
 /// may hold anything: `is_valid` tells whether a generator can be in it.
 #[derive(Debug)]
+#[derive(Clone)]
 pub struct GeneratorState {
     /// Whether a run is open.
     pub is_open: bool,

@@ -16,6 +16,7 @@ use std::alloc::Allocator;
 /// the address of the next word into the oldest one, and a return goes to the newest one, which is
 /// the oldest then. That the stack wraps silently is how a common arcade emulator has it; that the
 /// registers are 0 at first, and stay at a start and at a reset, is this project's own choice.
+#[derive(Clone, Debug)]
 pub struct WrappingGenerator<A: Allocator> {
     generator: Generator<A>,
     // The newest first.

@@ -1,5 +1,5 @@
-//! Lines of logs that have numbers, as most do, and comments. Each is taken from the head of a text,
-//! one that has numbers with no search for its end.
+//! Lines of logs that have numbers, as most do, and comments. Each is taken from the head of a
+//! text, one that has numbers with no search for its end.
 use crate::line_judge::LineJudge;
 use crate::log_line::{LogLine, MOST_LINE_BYTES, RAM_END};
 use crate::log_reading::JudgedLines;
@@ -129,9 +129,9 @@ impl<J: LineJudge> JudgedLines<J> {
         }
     }
 
-    /// Takes lines that have numbers, or begin with `#`, from the head of `text`, up to the first one
-    /// that is another, that decides or that doesn't end. It stops, too, where fewer bytes are left
-    /// than the longest line with numbers has. Returns what comes after the lines.
+    /// Takes lines that have numbers, or begin with `#`, from the head of `text`. It stops before
+    /// the first line that is of another kind, that decides or that doesn't end, and where fewer
+    /// bytes are left than the longest line with numbers has. Returns what comes after the lines.
     #[inline(never)]
     pub fn take_usual_lines<'a>(&mut self, text: &'a [u8]) -> &'a [u8] {
         let mut rest = text;

@@ -2,7 +2,7 @@
 use crate::laid::free_with;
 use arrayvec::ArrayVec;
 use dvg_mem::{FIRST_LARGE_ROM_WORD, FIRST_ROM_WORD, LARGE_ROM_BYTES, ROM_END};
-use dvg_read::{read_rom_parts, ungiven_rom};
+use dvg_read::{fill_with_returns, read_rom_parts};
 
 /// The ROM that the lines describe which were read so far.
 pub(crate) struct StatedRom {
@@ -16,9 +16,11 @@ pub(crate) struct StatedRom {
 impl StatedRom {
     /// Returns the ROM before the first line.
     pub fn new() -> StatedRom {
+        let mut bytes = ArrayVec::new();
+        fill_with_returns(&mut bytes, FIRST_ROM_WORD);
         StatedRom {
             is_stated: false,
-            bytes: ungiven_rom(FIRST_ROM_WORD),
+            bytes,
             free: FIRST_ROM_WORD,
         }
     }
@@ -31,7 +33,7 @@ impl StatedRom {
                 return false;
             }
             self.is_stated = true;
-            self.bytes = ungiven_rom(first);
+            fill_with_returns(&mut self.bytes, first);
             self.free = first;
             return true;
         }

@@ -16,9 +16,11 @@ pub struct RomReading {
 impl RomReading {
     /// Returns the ROM before the first line.
     pub fn new() -> RomReading {
+        let mut bytes = ArrayVec::new();
+        fill_with_returns(&mut bytes, FIRST_ROM_WORD);
         RomReading {
             is_stated: false,
-            bytes: ungiven_rom(FIRST_ROM_WORD),
+            bytes,
         }
     }
 
@@ -30,7 +32,7 @@ impl RomReading {
                 return false;
             }
             self.is_stated = true;
-            self.bytes = ungiven_rom(first);
+            fill_with_returns(&mut self.bytes, first);
             return true;
         }
         let first = self.first();
@@ -65,14 +67,12 @@ fn read_map_line(line: &[u8]) -> Option<u16> {
     }
 }
 
-/// Returns the bytes of a ROM of which no line gives a word. `first` is the word address of its
-/// first word, 400 or 800. It isn't inlined: else a ROM's room is cleared for each line that is
-/// read.
-#[inline(never)]
-pub fn ungiven_rom(first: u16) -> ArrayVec<u8, LARGE_ROM_BYTES> {
-    let mut bytes = ArrayVec::new();
+/// Makes `bytes` the bytes of a ROM of which no line gives a word. `first` is the word address of
+/// its first word, 400 or 800. They are made where they lie: if a new list were returned, its room
+/// would be zeroed for each line that is read.
+pub fn fill_with_returns(bytes: &mut ArrayVec<u8, LARGE_ROM_BYTES>, first: u16) {
+    bytes.clear();
     for _word in 0..ROM_END - first {
         bytes.try_extend_from_slice(&UNGIVEN).unwrap();
     }
-    bytes
 }

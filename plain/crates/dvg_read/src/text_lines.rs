@@ -1,6 +1,7 @@
 //! The lines of a text.
-use crate::event_head::{HEAD, after_name, letters_at_head, reset_at_head};
+use crate::event_head::{HEAD, Name, after_name, reset_at_head};
 use crate::event_line::SpelledEvent;
+use crate::letters::letters_at_head;
 use crate::op_head::op_at_head;
 use dvg_frame::{Draft, Op};
 use memchr::memchr;
@@ -23,19 +24,20 @@ impl<'a> TextLines<'a> {
     /// Returns the first four bytes that are left, as a number, if at least 12 are left.
     #[inline(always)]
     pub(crate) fn letters(&self) -> Option<u32> {
-        letters_at_head(self.rest)
+        let (letters, _) = letters_at_head(self.rest, HEAD)?;
+        Some(letters)
     }
 
-    /// Takes the next lines as long as each is `letters` and `ending`, which has the line's end
-    /// too. It takes at most `most`, and returns how many it took.
+    /// Takes the next lines as long as each is `name`, which has the line's end too. It takes at
+    /// most `most`, and returns how many it took.
     #[inline(always)]
-    pub(crate) fn take_names(&mut self, letters: &[u8], ending: &[u8], most: u16) -> u16 {
+    pub(crate) fn take_names(&mut self, name: Name, most: u16) -> u16 {
         let mut rest = self.rest;
         let mut count = 0;
-        while count < most && rest.len() >= HEAD {
-            let Some(after) = after_name(rest, letters, ending) else {
+        while let Some(after) = after_name(rest, name) {
+            if count == most {
                 break;
-            };
+            }
             rest = after;
             count += 1;
         }

@@ -1,8 +1,5 @@
 //! Events at the head of a trace's text, of which many lines are taken at once.
-use crate::event_head::{
-    FETCH, FETCH_LETTERS, Name, REDRAW, REDRAW_LETTERS, RESET_LETTERS, RESETCPU, RESETGEN, STROBE,
-    STROBE_LETTERS, TICK, TICK_LETTERS,
-};
+use crate::event_head::{FETCH, Name, REDRAW, RESETALL, RESETCPU, RESETGEN, STROBE, TICK};
 use crate::event_line::SpelledEvent;
 use crate::text_lines::TextLines;
 use dvg_code::OutOfMemory;
@@ -42,13 +39,18 @@ fn take_run<A: Allocator + Copy>(
     let Some(letters) = lines.letters() else {
         return Ok(0);
     };
-    match letters {
-        TICK_LETTERS => take_names(alloc, Event::Tick, TICK, most, lines, events),
-        FETCH_LETTERS => take_names(alloc, Event::Fetch, FETCH, most, lines, events),
-        STROBE_LETTERS => take_names(alloc, Event::Strobe, STROBE, most, lines, events),
-        REDRAW_LETTERS => take_names(alloc, Event::Redraw, REDRAW, most, lines, events),
-        RESET_LETTERS => take_resets(alloc, most, lines, events),
-        _ => Ok(0),
+    if letters == TICK.letters {
+        take_names(alloc, Event::Tick, TICK, most, lines, events)
+    } else if letters == FETCH.letters {
+        take_names(alloc, Event::Fetch, FETCH, most, lines, events)
+    } else if letters == STROBE.letters {
+        take_names(alloc, Event::Strobe, STROBE, most, lines, events)
+    } else if letters == REDRAW.letters {
+        take_names(alloc, Event::Redraw, REDRAW, most, lines, events)
+    } else if letters == RESETALL.letters {
+        take_resets(alloc, most, lines, events)
+    } else {
+        Ok(0)
     }
 }
 
@@ -81,7 +83,7 @@ fn take_names<A: Allocator>(
     lines: &mut TextLines,
     events: &mut Trace<A>,
 ) -> Result<u16, OutOfMemory> {
-    let count = lines.take_names(name.0, name.1, most);
+    let count = lines.take_names(name, most);
     if count > 0 {
         add_times(alloc, event, count, events)?;
     }

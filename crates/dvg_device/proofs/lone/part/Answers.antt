@@ -1,4 +1,4 @@
-use Rattle.std.proofs.Common.{◌≡◌, ◌≤◌, ◌<◌, ℕ, List, length, reverse, sym, ap, ◌∙◌, subst, arith}
+use Rattle.std.proofs.Common.{◌≤◌, ℕ, List, length, reverse, sym, ap, ◌∙◌, subst, arith}
 use Rattle.dvg_device.proofs.Parted.{can_be_saved, later_part}
 use Rattle.dvg_device.proofs.lone.part.Goals as goal
 

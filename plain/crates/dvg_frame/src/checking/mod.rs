@@ -6,6 +6,7 @@ mod checks;
 mod look;
 mod pair;
 mod pair_list;
+mod straight;
 mod sweep;
 mod table;
 mod way;

@@ -9,8 +9,8 @@ use Rattle.dvg_named.proofs.stated_rom.StatedRom.take.Goals as goal
 pub returns-in-Some-clause-took : goal.returns-in-Some-clause-took
 returns-in-Some-clause-took c is rom holds =
     map_taken rom (line_of (bytes_of c.args.tokens.now)) c.args.self.now
-    (record { is_stated = true; bytes = c.ungiven_rom-self.result; free = c.in-Some.first }) c.in-Some.first holds (search rules)
-    c.in-Some.ensures.found refl c.ungiven_rom-self.ensures refl
+    (record { is_stated = true; bytes = c.fill_with_returns.new.bytes; free = c.in-Some.first }) c.in-Some.first holds (search rules)
+    c.in-Some.ensures.found refl c.fill_with_returns.ensures refl
 
 pub returns-in_default-read_rom_parts-clause-refused : goal.returns-in_default-read_rom_parts-clause-refused
 returns-in_default-read_rom_parts-clause-refused c is rom now holds =

@@ -4,7 +4,7 @@ use Rattle.dvg_read.proofs.HeldRom.{map_stated, nothing_stated, words_stated}
 use Rattle.dvg_read.proofs.rom_text.RomReading.take.Goals as goal
 
 pub returns-in-Some-clause-took : goal.returns-in-Some-clause-took
-returns-in-Some-clause-took c stated rom holds = map_stated rom c.args.line.now c.args.self.now _ c.in-Some.first holds (search rules) (search rules) refl c.ungiven_rom-self.ensures
+returns-in-Some-clause-took c stated rom holds = map_stated rom c.args.line.now c.args.self.now _ c.in-Some.first holds (search rules) (search rules) refl c.fill_with_returns.ensures
 
 pub returns-in_default-read_rom_line-clause-refused : goal.returns-in_default-read_rom_line-clause-refused
 returns-in_default-read_rom_line-clause-refused c stated rom now holds =

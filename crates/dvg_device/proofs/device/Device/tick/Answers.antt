@@ -4,8 +4,8 @@ use Rattle.dvg_world.specs.Desks.{TickAnswers}
 use Rattle.dvg_device.specs.Drivers.{OfAction}
 use Rattle.dvg_device.specs.Worlds.{Happens}
 use Rattle.dvg_device.specs.declared.reply.Reply.TheVariants.{Closed, Unknown}
-use Rattle.dvg_device.proofs.device.Device.turn_tick.Goals.{in-Nothing, in-World, in-Driver, in-Generator, in-Wrapping, in-Judge}
-use Rattle.dvg_device.proofs.device.Device.turn_tick.Goals as goal
+use Rattle.dvg_device.proofs.device.Device.tick.Goals.{in-Nothing, in-World, in-Driver, in-Generator, in-Wrapping, in-Judge}
+use Rattle.dvg_device.proofs.device.Device.tick.Goals as goal
 
 pub returns : goal.returns
 returns c = elim c.match-self.branch [

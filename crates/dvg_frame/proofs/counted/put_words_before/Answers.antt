@@ -1,7 +1,7 @@
 use Rattle.std.proofs.Common.{arith}
 use Rattle.dvg_frame.proofs.Counts.{counted_all, counts_item, counts-length_take, size_bound}
 use Rattle.dvg_frame.proofs.Sizes.{size_item, size-take_le}
-use Rattle.dvg_frame.proofs.counted.words_before_each.Goals as goal
+use Rattle.dvg_frame.proofs.counted.put_words_before.Goals as goal
 
 pub push-requires-in-loop-op : goal.push-requires-in-loop-op
 push-requires-in-loop-op c =

@@ -1,5 +1,5 @@
 use Rattle.dvg_mem.specs.Grown.{AreReturns}
-use Rattle.dvg_read.proofs.rom_text.ungiven_rom.Given as goal
+use Rattle.dvg_read.proofs.rom_text.fill_with_returns.Given as goal
 
 abbrev pub invariant-loop-word : goal.invariant-loop-word
 invariant-loop-word l = record { returns : AreReturns l.bytes.items l._word }

@@ -1,6 +1,6 @@
 use Rattle.std.proofs.Common.{arith}
 use Rattle.dvg_read.proofs.Heads.{four_bytes}
-use Rattle.dvg_read.proofs.op_head.letters_at_head.Goals as goal
+use Rattle.dvg_read.proofs.letters.letters_at_head.Goals as goal
 
 pub returns : goal.returns
 returns c = four_bytes c.args.text.now c.from_le_bytes-letters.result (omega arith)

@@ -2,8 +2,8 @@ use Rattle.std.proofs.Common.{◌⊎◌, refl, sym, subst}
 use Rattle.dvg_log.specs.declared.event.Event.TheVariants.{Fetch}
 use Rattle.dvg_device.specs.Worlds.{Happens, Lacks}
 use Rattle.dvg_device.specs.declared.reply.Reply.TheVariants.{Closed, Unknown}
-use Rattle.dvg_device.proofs.device.Device.turn_fetch.Goals.{in-Nothing, in-World, in-Driver, in-Generator, in-Wrapping, in-Judge}
-use Rattle.dvg_device.proofs.device.Device.turn_fetch.Goals as goal
+use Rattle.dvg_device.proofs.device.Device.fetch.Goals.{in-Nothing, in-World, in-Driver, in-Generator, in-Wrapping, in-Judge}
+use Rattle.dvg_device.proofs.device.Device.fetch.Goals as goal
 
 pub returns : goal.returns
 returns c = elim c.match-self.branch [
