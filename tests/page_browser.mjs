@@ -662,7 +662,8 @@ async function testLongLog() {
   })()`);
   console.log(`browser: ${movesText(moves)}; of the main thread each takes ${task.toFixed(1)} ms `
     + `on average, with layout and paint; a step back ${walk.toFixed(1)} ms`);
-  expect('a wheel moves the rows', true, moves.moved);
+  expect('a wheel moves the rows', true, moves.moved > 1000);
+  expect('and they are drawn anew', true, moves.drawn);
   for (const name of ['drag', 'wheel', 'key']) {
     expect(`a frame by ${name} takes less than ten times 17 ms`, true, moves[name][59] <= 170);
   }

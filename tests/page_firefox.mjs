@@ -139,7 +139,7 @@ async function testPage(browser) {
     await browser.until('document.getElementById("judged").textContent.startsWith("not torn")'));
   const moves = await browser.later(MOVE_OVER_IT);
   console.log(`firefox: ${movesText(moves)}`);
-  expect('a wheel moves the rows', true, moves.moved);
+  expect('a wheel moves the rows', true, moves.moved > 1000);
   for (const name of ['drag', 'wheel', 'key']) {
     expect(`a frame by ${name} takes less than ten times 17 ms`, true, moves[name][59] <= 170);
   }

@@ -20,8 +20,10 @@ export const DROP_LONG_LOG = `(() => {
   return lines.length;
 })()`;
 
-// How long it is from one frame to the next, in milliseconds, sorted: while the rows are dragged,
-// while a wheel turns over them, and while an arrow key is held; and whether the wheel moved them.
+// How long it is from one frame to the next, in milliseconds, sorted: while the rows are dragged
+// back from their end, while a wheel turns on, and while an arrow key is held. And what the wheel
+// did: by how many events a click at one place shows an earlier moment, and whether another picture
+// of the rows was drawn.
 export const MOVE_OVER_IT = `(async () => {
   const rows = document.getElementById('rows'), { x, y } = rows.getBoundingClientRect();
   const frames = async (act) => {
@@ -39,15 +41,20 @@ export const MOVE_OVER_IT = `(async () => {
   rows.setPointerCapture = () => {};
   for (let k = 0; k < 6; k++) document.getElementById('zoom-in').click();
   point('pointerdown', 600);
-  const drag = await frames((k) => point('pointermove', 600 - 9 * k));
+  const drag = await frames((k) => point('pointermove', 600 + 9 * k));
   point('pointerup', 0);
-  const before = rows.toDataURL();
+  const clicked = () => {
+    point('pointerdown', 100);
+    point('pointerup', 100);
+    return Number(rows.getAttribute('aria-valuenow'));
+  };
+  const moment = clicked(), picture = rows.toDataURL();
   const wheel = await frames(() => rows.dispatchEvent(new WheelEvent('wheel',
-    { deltaX: 40, cancelable: true, bubbles: true })));
-  const moved = before !== rows.toDataURL();
+    { deltaX: -40, cancelable: true, bubbles: true })));
+  const drawn = picture !== rows.toDataURL(), moved = moment - clicked();
   const key = await frames(() => rows.dispatchEvent(new KeyboardEvent('keydown',
     { key: 'ArrowLeft', cancelable: true, bubbles: true })));
-  return { drag, wheel, key, moved };
+  return { drag, wheel, key, moved, drawn };
 })()`;
 
 // What was measured, in words.
