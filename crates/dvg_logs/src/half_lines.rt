@@ -68,14 +68,13 @@ fn begins(before: bool, after: bool) -> bool
     after && !before
 }
 
-// Returns `counts` with one line more, which says `logged`. With `draws` a run begins to draw a
-// half by it. None of the numbers is greater than that of the lines, so none wraps.
+// Counts one line more in `counts`, which says `logged`. With `draws` a run begins to draw a half
+// by it. None of the numbers is greater than that of the lines, so none wraps.
 #[inline(always)]
-fn counted(counts: LogCounts, logged: LogLine, draws: bool) -> LogCounts
-    ensures { (log : Log) → counts ≡ counts_of log → length log < 2 ^ 64 - 1
-        → draws ≡ draws_from (line_of logged) log → result ≡ counts_of (line_of logged ∷ log) }
+fn count(counts: &mut LogCounts, logged: LogLine, draws: bool)
+    ensures { (log : Log) → counts.old ≡ counts_of log → length log < 2 ^ 64 - 1
+        → draws ≡ draws_from (line_of logged) log → counts.new ≡ counts_of (line_of logged ∷ log) }
 {
-    let mut counts = counts;
     if draws {
         counts.drew = counts.drew.wrapping_add(1);
     }
@@ -85,7 +84,6 @@ fn counted(counts: LogCounts, logged: LogLine, draws: bool) -> LogCounts
         LogLine::Halted => counts.halted = counts.halted.wrapping_add(1),
         _ => {}
     }
-    counts
 }
 
 impl HalfLines {
@@ -112,23 +110,23 @@ impl HalfLines {
         }
     }
 
-    // Returns what is known with one line more, which says `logged`, and the byte address and the
-    // byte of the write, if it tears a picture.
+    // Takes one line more, which says `logged`. Returns the byte address and the byte of the write,
+    // if it tears a picture.
     #[inline(always)]
-    fn with(self, logged: LogLine) -> (HalfLines, Option<(u16, u8)>)
-        ensures stands { (log : Log) → StandsSo self log → length log < 2 ^ 64 - 1
-            → StandsSo result.0 (line_of logged ∷ log) }
-        ensures torn { (log : Log) → StandsSo self log
-            → IfSome result.1 (λ wrote. (line_of logged ≡ Tick ⟼ Acted (Wrote wrote.0 wrote.1))
+    fn hear(&mut self, logged: LogLine) -> Option<(u16, u8)>
+        ensures stands { (log : Log) → StandsSo self.old log → length log < 2 ^ 64 - 1
+            → StandsSo self.new (line_of logged ∷ log) }
+        ensures torn { (log : Log) → StandsSo self.old log
+            → IfSome result (λ wrote. (line_of logged ≡ Tick ⟼ Acted (Wrote wrote.0 wrote.1))
             × IsTornLine log (line_of logged)) }
-        ensures untorn { (log : Log) → StandsSo self log → IsNone result.1
+        ensures untorn { (log : Log) → StandsSo self.old log → IsNone result
             → ¬ IsTornLine log (line_of logged) }
     {
-        let mut judge = self.judge;
-        let torn = tell(&mut judge, logged);
-        let draws = begins(self.judge.is_drawing(), judge.is_drawing());
-        let counts = counted(self.counts, logged, draws);
-        (HalfLines { judge, counts }, torn)
+        let drew = self.judge.is_drawing();
+        let torn = tell(&mut self.judge, logged);
+        let draws = begins(drew, self.judge.is_drawing());
+        count(&mut self.counts, logged, draws);
+        torn
     }
 }
 
@@ -147,8 +145,8 @@ impl LineJudge for HalfLines {
 
     #[inline(always)]
     fn find(&self, number: usize, logged: LogLine) -> Option<LogVerdict> {
-        let (lines, torn) = self.with(logged);
-        match torn {
+        let mut lines = *self;
+        match lines.hear(logged) {
             Some((address, byte)) => Some(LogVerdict {
                 finding: LogFinding::Torn {
                     line: number,
@@ -163,7 +161,7 @@ impl LineJudge for HalfLines {
 
     #[inline(always)]
     fn take(&mut self, _number: usize, logged: LogLine) {
-        *self = self.with(logged).0;
+        self.hear(logged);
     }
 
     fn at_end(&self) -> LogVerdict {

@@ -78,6 +78,7 @@ impl EntryLines {
     }
 
     /// Returns the bytes of the line.
+    #[inline(always)]
     pub fn as_bytes(&self) -> &[u8]
         ensures { result.now ≡ self.now.text }
     {

@@ -4,6 +4,7 @@ ghost use Rattle.std.specs.Prelude.{decimal, set, take, true};
 ghost use Rattle.std.specs.Fmt.{digit_glyph};
 ghost use Rattle.dvg_print.specs.Lines.{hex_2, hex_3, hex_4, rom_line, spaced};
 ghost use Rattle.dvg_print.specs.Verdicts.{bounded_line, fault_parts, place_parts, verdict_line};
+ghost use Rattle.dvg_print.specs.declared.line.TheConstants.{MOST_BYTES};
 
 use crate::digits::NUMBER_BYTES;
 use crate::verdict::{BoundedVerdict, Verdict};
@@ -11,8 +12,8 @@ use dvg_frame::{FrameFault, Place};
 use itoa::{Buffer, Integer};
 use std::marker::Model;
 
-/// The most bytes of a line, or of lines that are written together.
-pub(crate) const MOST_BYTES: usize = 4096;
+/// The most bytes of a line, or of two lines that are one text.
+pub(crate) const MOST_BYTES: usize = 256;
 
 /// The two hexadecimal digits of each byte.
 static PAIRS: [u8; 512] =
@@ -42,7 +43,7 @@ pub(crate) fn pair(byte: u8) -> (u8, u8)
     (PAIRS[from], PAIRS[from + 1])
 }
 
-/// A line of output, or lines that are written together, of at most 4,096 bytes.
+/// A line of output, of at most 256 bytes. The verdict on a torn log is two lines in one.
 #[derive(Drop)]
 pub struct Line {
     // The bytes of the line, and after them those of earlier lines, which are never cleared.
@@ -53,12 +54,13 @@ pub struct Line {
 /// Contracts see the bytes.
 impl Model for Line {
     ghost use Rattle.std.specs.Prelude.{◌≤◌, List, ℕ, take};
+    ghost use Rattle.dvg_print.specs.declared.line.TheConstants.{MOST_BYTES};
 
     ghost Value = { List ℕ };
 
     ghost view = { λ line. take line.count line.bytes };
 
-    ghost invariant = { λ line. line.count ≤ 4096 };
+    ghost invariant = { λ line. line.count ≤ MOST_BYTES };
 }
 
 impl Line {
@@ -73,6 +75,7 @@ impl Line {
     }
 
     /// Returns the bytes of the line.
+    #[inline(always)]
     pub fn as_bytes(&self) -> &[u8]
         ensures { result.now ≡ self.now }
     {
@@ -90,7 +93,7 @@ impl Line {
     // Appends the first `count` bytes of `text`. All 24 are copied, as that takes less time.
     #[inline(always)]
     pub(crate) fn front(&mut self, text: &[u8; NUMBER_BYTES], count: usize)
-        requires room { length self.old + 24 ≤ 4096 }
+        requires room { length self.old + 24 ≤ MOST_BYTES }
         requires inside { count ≤ 24 }
         ensures text { self.new ≡ self.old ++ take count text.now }
         ensures grew { length self.new ≡ length self.old + count }
@@ -111,7 +114,7 @@ impl Line {
     // Appends `text`.
     #[inline(always)]
     pub(crate) fn text(&mut self, text: &[u8])
-        requires { length self.old + length text.now ≤ 4096 }
+        requires { length self.old + length text.now ≤ MOST_BYTES }
         ensures text { self.new ≡ self.old ++ text.now }
         ensures grew { length self.new ≡ length self.old + length text.now }
     {
@@ -123,7 +126,7 @@ impl Line {
     // Appends a space and `part`.
     #[inline(always)]
     pub(crate) fn part(&mut self, part: &[u8])
-        requires { length self.old + length part.now < 4096 }
+        requires { length self.old + length part.now < MOST_BYTES }
         ensures text { self.new ≡ self.old ++ spaced (part.now ∷ []) }
         ensures grew { length self.new ≡ length self.old + length part.now + 1 }
     {
@@ -133,7 +136,7 @@ impl Line {
 
     // Appends a space and `n` in decimal.
     pub(crate) fn number<I: Integer>(&mut self, n: I)
-        requires { length self.old + I.MAX_STR_LEN < 4096 }
+        requires { length self.old + I.MAX_STR_LEN < MOST_BYTES }
         ensures text { self.new ≡ self.old ++ spaced (I.text n ∷ []) }
         ensures grew { length self.new ≤ length self.old + I.MAX_STR_LEN + 1 }
     {
@@ -143,7 +146,7 @@ impl Line {
     // Appends a space and the two hexadecimal digits of `byte`.
     #[inline(always)]
     pub(crate) fn hex_2(&mut self, byte: u8)
-        requires { length self.old + 3 ≤ 4096 }
+        requires { length self.old + 3 ≤ MOST_BYTES }
         ensures text { self.new ≡ self.old ++ spaced (hex_2 byte ∷ []) }
         ensures grew { length self.new ≡ length self.old + 3 }
     {
@@ -154,7 +157,7 @@ impl Line {
     // Appends the last three hexadecimal digits of `n`.
     #[inline(always)]
     pub(crate) fn hex_3(&mut self, n: usize)
-        requires { length self.old + 3 ≤ 4096 }
+        requires { length self.old + 3 ≤ MOST_BYTES }
         ensures text { self.new ≡ self.old ++ hex_3 n }
         ensures grew { length self.new ≡ length self.old + 3 }
     {
@@ -164,7 +167,7 @@ impl Line {
     // Appends a space and the three hexadecimal digits of the word address `address`.
     #[inline(always)]
     fn address(&mut self, address: u16)
-        requires { length self.old + 4 ≤ 4096 }
+        requires { length self.old + 4 ≤ MOST_BYTES }
         ensures text { self.new ≡ self.old ++ spaced (hex_3 address ∷ []) }
         ensures grew { length self.new ≡ length self.old + 4 }
     {
@@ -176,7 +179,7 @@ impl Line {
     // Appends a space and the four hexadecimal digits of `word`.
     #[inline(always)]
     pub(crate) fn hex_4(&mut self, word: u16)
-        requires { length self.old + 5 ≤ 4096 }
+        requires { length self.old + 5 ≤ MOST_BYTES }
         ensures text { self.new ≡ self.old ++ spaced (hex_4 word ∷ []) }
         ensures grew { length self.new ≡ length self.old + 5 }
     {
@@ -188,7 +191,7 @@ impl Line {
     // Appends `name`, the name of an instruction, and the word address `address`.
     #[inline(always)]
     pub(crate) fn with_address(&mut self, name: &[u8], address: u16)
-        requires { length self.old + length name.now + 5 ≤ 4096 }
+        requires { length self.old + length name.now + 5 ≤ MOST_BYTES }
         ensures text { self.new ≡ self.old ++ spaced (name.now ∷ hex_3 address ∷ []) }
         ensures grew { length self.new ≡ length self.old + length name.now + 5 }
     {
@@ -198,7 +201,7 @@ impl Line {
 
     // Appends `place`: an operation's number, or a ROM word's address.
     fn place(&mut self, place: Place)
-        requires { length self.old + 9 ≤ 4096 }
+        requires { length self.old + 9 ≤ MOST_BYTES }
         ensures text { self.new ≡ self.old ++ spaced (place_parts place) }
         ensures grew { length self.new ≤ length self.old + 9 }
     {
@@ -213,7 +216,7 @@ impl Line {
 
     // Appends `name`, which is a fault's number and name, and `place`.
     fn fault_at(&mut self, name: &[u8], place: Place)
-        requires { length self.old + length name.now + 10 ≤ 4096 }
+        requires { length self.old + length name.now + 10 ≤ MOST_BYTES }
         ensures text { self.new ≡ self.old ++ spaced (name.now ∷ place_parts place) }
         ensures grew { length self.new ≤ length self.old + length name.now + 10 }
     {
@@ -223,7 +226,7 @@ impl Line {
 
     // Appends `name`, which is a fault's number and name, and `i`, the number of an operation.
     fn fault_of(&mut self, name: &[u8], i: u16)
-        requires { length self.old + length name.now + 7 ≤ 4096 }
+        requires { length self.old + length name.now + 7 ≤ MOST_BYTES }
         ensures text { self.new ≡ self.old ++ spaced (name.now ∷ decimal i ∷ []) }
         ensures grew { length self.new ≤ length self.old + length name.now + 7 }
     {
@@ -233,7 +236,7 @@ impl Line {
 
     // Appends the parts of the text of `fault`.
     pub(crate) fn fault(&mut self, fault: FrameFault)
-        requires { length self.old + 22 ≤ 4096 }
+        requires { length self.old + 22 ≤ MOST_BYTES }
         ensures text { self.new ≡ self.old ++ spaced (fault_parts fault) }
         ensures grew { length self.new ≤ length self.old + 22 }
     {

@@ -3,6 +3,7 @@ ghost use Rattle.std.specs.Prelude.{◌≡◌, ◌≤◌, ◌+◌, ◌++◌, ◌
 ghost use Rattle.dvg_log.specs.Entries.{map_entry};
 ghost use Rattle.dvg_print.specs.Lines.{hex_3, hex_4, spaced};
 ghost use Rattle.dvg_print.specs.Shows.{action_parts, entry_parts};
+ghost use Rattle.dvg_print.specs.declared.line.TheConstants.{MOST_BYTES};
 
 use crate::line::Line;
 use dvg_driver::Action;
@@ -12,7 +13,7 @@ impl Line {
     // Appends what `action` did.
     #[inline(always)]
     pub(crate) fn action(&mut self, action: Action)
-        requires { length self.old + 13 ≤ 4096 }
+        requires { length self.old + 13 ≤ MOST_BYTES }
         ensures text { self.new ≡ self.old ++ spaced (action_parts action) }
         ensures grew { length self.new ≤ length self.old + 13 }
     {
@@ -33,7 +34,7 @@ impl Line {
     // there.
     #[inline(always)]
     pub(crate) fn fetched(&mut self, name: &[u8], address: u16, word: u16)
-        requires { length self.old + length name.now + 10 ≤ 4096 }
+        requires { length self.old + length name.now + 10 ≤ MOST_BYTES }
         ensures text { self.new ≡ self.old ++ spaced (name.now ∷ hex_3 address ∷ hex_4 word ∷ []) }
         ensures grew { length self.new ≡ length self.old + length name.now + 10 }
     {
@@ -45,7 +46,7 @@ impl Line {
     // finished one.
     #[inline(always)]
     pub(crate) fn entry<S>(&mut self, entry: &Entry<S>, drew: usize)
-        requires { length self.old + 36 ≤ 4096 }
+        requires { length self.old + 36 ≤ MOST_BYTES }
         ensures text { self.new
             ≡ self.old ++ spaced (entry_parts (map_entry (λ _. drew) entry.now)) }
         ensures grew { length self.new ≤ length self.old + 36 }

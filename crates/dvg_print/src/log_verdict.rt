@@ -1,6 +1,7 @@
 //! What `torn` says of a log.
 ghost use Rattle.std.specs.Prelude.{◌≡◌, ◌≤◌, ◌+◌, ◌++◌, length};
 ghost use Rattle.dvg_print.specs.LogVerdicts.{finding_text, halts_text, log_verdict_text, runs_text};
+ghost use Rattle.dvg_print.specs.declared.line.TheConstants.{MOST_BYTES};
 
 use crate::line::Line;
 use dvg_driver::Action;
@@ -52,7 +53,7 @@ impl Line {
 
     // Appends `finding`, what was found in a log.
     fn finding(&mut self, finding: LogFinding)
-        requires { length self.old + 64 ≤ 4096 }
+        requires { length self.old + 64 ≤ MOST_BYTES }
         ensures text { self.new ≡ self.old ++ finding_text finding }
         ensures grew { length self.new ≤ length self.old + 64 }
     {
@@ -75,7 +76,7 @@ impl Line {
 
     // Appends, from `counts`, how many runs began and how many of them drew a half.
     fn runs(&mut self, counts: LogCounts)
-        requires { length self.old + 64 ≤ 4096 }
+        requires { length self.old + 64 ≤ MOST_BYTES }
         ensures text { self.new ≡ self.old ++ runs_text counts }
         ensures grew { length self.new ≤ length self.old + 64 }
     {
@@ -88,7 +89,7 @@ impl Line {
     // Appends, from `counts`, how many lines say `halted` and how many bytes were written, and the
     // line's end.
     fn halts(&mut self, counts: LogCounts)
-        requires { length self.old + 64 ≤ 4096 }
+        requires { length self.old + 64 ≤ MOST_BYTES }
         ensures text { self.new ≡ self.old ++ halts_text counts }
     {
         self.number(counts.halted);

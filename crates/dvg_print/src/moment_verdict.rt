@@ -3,6 +3,7 @@ ghost use Rattle.std.specs.Prelude.{◌≡◌, ◌≤◌, ◌+◌, ◌++◌, len
 ghost use Rattle.dvg_print.specs.MomentVerdicts.{moment_verdict_text, reading_parts};
 ghost use Rattle.dvg_print.specs.MomentVerdicts.{runs_halted_text, runs_torn_text};
 ghost use Rattle.dvg_print.specs.Lines.{spaced};
+ghost use Rattle.dvg_print.specs.declared.line.TheConstants.{MOST_BYTES};
 
 use crate::line::Line;
 
@@ -88,7 +89,7 @@ impl Line {
 
     // Appends that so many runs began and so many came to their HALT, and the line's end.
     fn runs_halted(&mut self, runs: usize, halted: usize)
-        requires { length self.old + 64 ≤ 4096 }
+        requires { length self.old + 64 ≤ MOST_BYTES }
         ensures { self.new ≡ self.old ++ runs_halted_text runs halted }
     {
         self.number(runs);
@@ -100,7 +101,7 @@ impl Line {
     // Appends that so many runs began, so many came to their HALT and so many of these are torn,
     // and the line's end.
     fn runs_torn(&mut self, runs: usize, halted: usize, torn: usize)
-        requires { length self.old + 128 ≤ 4096 }
+        requires { length self.old + 128 ≤ MOST_BYTES }
         ensures { self.new ≡ self.old ++ runs_torn_text runs halted torn }
     {
         self.number(runs);
@@ -113,7 +114,7 @@ impl Line {
 
     // Appends what a fetch brought, `reading`, as a log says it.
     fn reading(&mut self, reading: Reading)
-        requires { length self.old + 64 ≤ 4096 }
+        requires { length self.old + 64 ≤ MOST_BYTES }
         ensures text { self.new ≡ self.old ++ spaced (reading_parts reading) }
         ensures grew { length self.new ≤ length self.old + 17 }
     {

@@ -4,6 +4,7 @@ ghost use Rattle.std.specs.Fmt.{signed_decimal};
 ghost use Rattle.std.specs.Int.Signed.{mag};
 ghost use Rattle.dvg_print.specs.Svg as spec;
 ghost use Rattle.dvg_print.specs.Svg.{pair_text, path_line};
+ghost use Rattle.dvg_print.specs.declared.line.TheConstants.{MOST_BYTES};
 
 use crate::line::Line;
 use dvg_gen::Stroke;
@@ -37,7 +38,7 @@ impl Line {
     // Appends `n`, a place or a way along an axis, in decimal.
     fn signed(&mut self, n: i32)
         requires small { mag n ≤ 1048576 }
-        requires room { length self.old + 8 ≤ 4096 }
+        requires room { length self.old + 8 ≤ MOST_BYTES }
         ensures text { self.new ≡ self.old ++ signed_decimal n }
         ensures grew { length self.new ≤ length self.old + 8 }
     {
@@ -48,7 +49,7 @@ impl Line {
     fn pair(&mut self, x: i32, y: i32)
         requires x { mag x ≤ 1048576 }
         requires y { mag y ≤ 1048576 }
-        requires room { length self.old + 17 ≤ 4096 }
+        requires room { length self.old + 17 ≤ MOST_BYTES }
         ensures text { self.new ≡ self.old ++ pair_text x y }
         ensures grew { length self.new ≤ length self.old + 17 }
     {
@@ -59,7 +60,7 @@ impl Line {
 
     // Appends the opacity for the intensity `z`.
     fn opacity(&mut self, z: u8)
-        requires { length self.old + 3 ≤ 4096 }
+        requires { length self.old + 3 ≤ MOST_BYTES }
         ensures text { self.new ≡ self.old ++ spec.opacity z }
         ensures grew { length self.new ≡ length self.old + 3 }
     {

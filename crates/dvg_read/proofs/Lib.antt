@@ -25,3 +25,4 @@ pub mod HexDigits
 pub mod Heads
 pub mod EventHeads
 pub mod OpsAhead
+mod Returns

@@ -9,8 +9,13 @@ use crate::rom_line::read_rom_line;
 use arrayvec::ArrayVec;
 use dvg_mem::{FIRST_LARGE_ROM_WORD, FIRST_ROM_WORD, LARGE_ROM_BYTES, ROM_END};
 
-/// A word that no line gives, an RTSL, its low byte first (this project's own choice).
-const UNGIVEN: [u8; 2] = [0x00, 0xD0];
+/// How many words are given at once that no line gives.
+const ROW_WORDS: u16 = 8;
+
+/// So many of them: each is an RTSL, its low byte first (this project's own choice).
+const UNGIVEN_ROW: [u8; 16] = [
+    0x00, 0xD0, 0x00, 0xD0, 0x00, 0xD0, 0x00, 0xD0, 0x00, 0xD0, 0x00, 0xD0, 0x00, 0xD0, 0x00, 0xD0,
+];
 
 /// The ROM that the lines describe which were read so far.
 #[derive(Drop)]
@@ -97,7 +102,7 @@ pub fn fill_with_returns(bytes: &mut ArrayVec<u8, LARGE_ROM_BYTES>, first: u16)
     ensures { AreReturns bytes.new.items (0xC00 - first) }
 {
     bytes.clear();
-    for _word in 0..ROM_END - first {
-        bytes.try_extend_from_slice(&UNGIVEN).unwrap();
+    for _row in 0..(ROM_END - first) / ROW_WORDS {
+        bytes.try_extend_from_slice(&UNGIVEN_ROW).unwrap();
     }
 }

@@ -31,7 +31,7 @@ impl<A: Allocator> Model for Desk<A> {
 }
 
 impl<A: Allocator> Desk<A> {
-    /// Returns a driver that was just reset, over `rom`. It takes some 105 KB from `alloc`, for the
+    /// Returns a driver that was just reset, over `rom`. It takes some 67 KB from `alloc`, for the
     /// tables of the check. Returns `OutOfMemory` where an allocation fails.
     pub fn new(alloc: A, rom: Rom<A>) -> Result<Desk<A>, OutOfMemory>
         ensures { IfOk result (IsFresh rom) }

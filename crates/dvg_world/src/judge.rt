@@ -146,6 +146,7 @@ impl Judge {
 
     /// Notes that a fetch completed the word `word` at the word address `address`, and the run goes
     /// on.
+    #[inline(always)]
     pub fn fetched(&mut self, address: u16, word: u16)
         ensures { (log : Log) → StandsAfter self.old log
             → StandsAfter self.new ((Fetch ⟼ Fetched address word) ∷ log) }

@@ -68,7 +68,7 @@ impl<S: Store> World<S> {
     /// Returns a world at its beginning, over `rom`: the RAM holds `image`, the generator is halted
     /// with the beam at 0, 0 and scale 0, the driver boots, and no strobe is under way.
     ///
-    /// The world takes its memory from `alloc`: that of its store, and then some 105 KB for the
+    /// The world takes its memory from `alloc`: that of its store, and then some 67 KB for the
     /// tables of the check. Returns `OutOfMemory` where an allocation fails. A fetch takes memory
     /// later on, for the list of a run's strokes, and nothing else does.
     pub fn new(

@@ -52,17 +52,6 @@ impl Worklist {
         self.pairs.at(i)
     }
 
-    // Removes all pairs. Only their own marks are taken back, so the time is linear in their
-    // number.
-    pub(crate) fn clear(&mut self)
-        ensures { self.new ≡ [] }
-    {
-        while self.pairs.len() > 0 {
-            let pair = self.pairs.pop();
-            self.marks[index_of(pair)] = false;
-        }
-    }
-
     // Adds `pair` at the end, unless it is there.
     pub(crate) fn add(&mut self, pair: Pair)
         requires { IsPair pair }

@@ -45,11 +45,10 @@ fn begins(before: bool, after: bool) -> bool {
     after && !before
 }
 
-// Returns `counts` with one line more, which says `logged`. With `draws` a run begins to draw a
-// half by it. None of the numbers is greater than that of the lines, so none wraps.
+// Counts one line more in `counts`, which says `logged`. With `draws` a run begins to draw a half
+// by it. None of the numbers is greater than that of the lines, so none wraps.
 #[inline(always)]
-fn counted(counts: LogCounts, logged: LogLine, draws: bool) -> LogCounts {
-    let mut counts = counts;
+fn count(counts: &mut LogCounts, logged: LogLine, draws: bool) {
     if draws {
         counts.drew = counts.drew.wrapping_add(1);
     }
@@ -59,7 +58,6 @@ fn counted(counts: LogCounts, logged: LogLine, draws: bool) -> LogCounts {
         LogLine::Halted => counts.halted = counts.halted.wrapping_add(1),
         _ => {}
     }
-    counts
 }
 
 impl HalfLines {
@@ -76,15 +74,15 @@ impl HalfLines {
         }
     }
 
-    // Returns what is known with one line more, which says `logged`, and the byte address and the
-    // byte of the write, if it tears a picture.
+    // Takes one line more, which says `logged`. Returns the byte address and the byte of the write,
+    // if it tears a picture.
     #[inline(always)]
-    fn with(self, logged: LogLine) -> (HalfLines, Option<(u16, u8)>) {
-        let mut judge = self.judge;
-        let torn = tell(&mut judge, logged);
-        let draws = begins(self.judge.is_drawing(), judge.is_drawing());
-        let counts = counted(self.counts, logged, draws);
-        (HalfLines { judge, counts }, torn)
+    fn hear(&mut self, logged: LogLine) -> Option<(u16, u8)> {
+        let drew = self.judge.is_drawing();
+        let torn = tell(&mut self.judge, logged);
+        let draws = begins(drew, self.judge.is_drawing());
+        count(&mut self.counts, logged, draws);
+        torn
     }
 }
 
@@ -93,8 +91,8 @@ impl LineJudge for HalfLines {
 
     #[inline(always)]
     fn find(&self, number: usize, logged: LogLine) -> Option<LogVerdict> {
-        let (lines, torn) = self.with(logged);
-        match torn {
+        let mut lines = *self;
+        match lines.hear(logged) {
             Some((address, byte)) => Some(LogVerdict {
                 finding: LogFinding::Torn {
                     line: number,
@@ -109,7 +107,7 @@ impl LineJudge for HalfLines {
 
     #[inline(always)]
     fn take(&mut self, _number: usize, logged: LogLine) {
-        *self = self.with(logged).0;
+        self.hear(logged);
     }
 
     fn at_end(&self) -> LogVerdict {

@@ -48,6 +48,7 @@ impl EntryLines {
     }
 
     /// Returns the bytes of the line.
+    #[inline(always)]
     pub fn as_bytes(&self) -> &[u8] {
         self.line.as_bytes()
     }

@@ -169,6 +169,7 @@ impl InstrLine {
     }
 
     /// Returns the bytes of the line.
+    #[inline(always)]
     pub fn as_bytes(&self) -> &[u8] {
         &self.bytes[self.start..]
     }

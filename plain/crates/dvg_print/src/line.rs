@@ -4,8 +4,8 @@ use crate::verdict::{BoundedVerdict, Verdict};
 use dvg_frame::{FrameFault, Place};
 use itoa::{Buffer, Integer};
 
-/// The most bytes of a line, or of lines that are written together.
-pub(crate) const MOST_BYTES: usize = 4096;
+/// The most bytes of a line, or of two lines that are one text.
+pub(crate) const MOST_BYTES: usize = 256;
 
 /// The two hexadecimal digits of each byte.
 static PAIRS: [u8; 512] =
@@ -30,7 +30,7 @@ pub(crate) fn pair(byte: u8) -> (u8, u8) {
     (PAIRS[from], PAIRS[from + 1])
 }
 
-/// A line of output, or lines that are written together, of at most 4,096 bytes.
+/// A line of output, of at most 256 bytes. The verdict on a torn log is two lines in one.
 pub struct Line {
     // The bytes of the line, and after them those of earlier lines, which are never cleared.
     bytes: [u8; MOST_BYTES],
@@ -47,6 +47,7 @@ impl Line {
     }
 
     /// Returns the bytes of the line.
+    #[inline(always)]
     pub fn as_bytes(&self) -> &[u8] {
         &self.bytes[..self.count]
     }

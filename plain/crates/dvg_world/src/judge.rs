@@ -100,6 +100,7 @@ impl Judge {
 
     /// Notes that a fetch completed the word `word` at the word address `address`, and the run goes
     /// on.
+    #[inline(always)]
     pub fn fetched(&mut self, address: u16, word: u16) {
         self.drawing = self.drawing.after_fetch(address, word);
     }
