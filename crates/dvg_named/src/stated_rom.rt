@@ -1,5 +1,5 @@
 //! What the first lines of a sketch say of its ROM.
-ghost use Rattle.std.specs.Prelude.{◌≡◌, ◌+◌, ◌/◌, ◌∷◌, [], ℕ, List, length, IfSome};
+ghost use Rattle.std.specs.Prelude.{◌≡◌, ◌+◌, ◌/◌, ◌∷◌, [], ℕ, length, IfSome};
 ghost use Rattle.std.specs.Prelude.{IsFalse, IsTrue, Some};
 ghost use Rattle.dvg_read.specs.LineParts.{bytes_of};
 ghost use Rattle.dvg_read.specs.RomReading.{TellsRom, unstated};

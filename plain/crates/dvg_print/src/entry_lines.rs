@@ -74,6 +74,13 @@ impl EntryLines {
             self.count_on();
             return;
         }
+        self.become_tenth(entry, drew);
+    }
+
+    // Becomes the line of `entry`, the next entry, as `become_next` does. It isn't inlined, as it
+    // is wanted for one equal entry in ten.
+    #[inline(never)]
+    fn become_tenth<S>(&mut self, entry: &Entry<S>, drew: usize) {
         self.become_next(entry, drew);
     }
 
