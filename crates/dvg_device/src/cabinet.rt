@@ -1,9 +1,10 @@
 //! A world, beside the image that it is reset to.
 ghost use Rattle.std.specs.Prelude.{◌≡◌, ◌⊎◌, length, IfSome, MatchBool};
 ghost use Rattle.dvg_log.specs.declared.event.Event.TheVariants.{Tick, Fetch};
+ghost use Rattle.dvg_device.specs.Devices.{Numbered};
 ghost use Rattle.dvg_device.specs.Worlds.{Happens, IsBegun, Lacks, WorldAnswers};
 
-use crate::happening::{ask_world, fetch_in_world, tick_world};
+use crate::happening::{ask_world, fetch_high, fetch_number, tick_world};
 use crate::reply::Reply;
 use crate::request::Request;
 use dvg_frame::Draft;
@@ -69,12 +70,23 @@ impl Cabinet {
         tick_world(&mut self.world)
     }
 
-    // Lets the generator of the world fetch one byte. Returns the reply.
+    // Lets the generator of the world fetch one byte. Returns the number of the reply.
     #[inline(always)]
-    pub(crate) fn fetch(&mut self) -> Reply
-        ensures { Happens Fetch self.old self.new result ⊎ Lacks Fetch self.old self.new result }
+    pub(crate) fn fetch(&mut self) -> u64
+        ensures { Numbered (λ answer. Happens Fetch self.old self.new answer
+            ⊎ Lacks Fetch self.old self.new answer) result }
     {
-        fetch_in_world(&mut self.world)
+        fetch_number(&mut self.world)
+    }
+
+    // Lets the generator of the world fetch one byte, as `fetch` does, but takes little room where
+    // it is called. Returns the number of the reply.
+    #[inline(always)]
+    pub(crate) fn fetch_apart(&mut self) -> u64
+        ensures { Numbered (λ answer. Happens Fetch self.old self.new answer
+            ⊎ Lacks Fetch self.old self.new answer) result }
+    {
+        fetch_high(&mut self.world)
     }
 
     // Lets the world do `request`, with `draft` and the staged bytes `staged`. Returns the reply.

@@ -10,7 +10,7 @@ ghost use Rattle.dvg_device.specs.Worlds.{IsBegun};
 use crate::cabinet::Cabinet;
 use crate::desk::{ask_driver, tick_driver};
 use crate::judging::ask_judge;
-use crate::lone::{ask_generator, fetch, tell, wanted};
+use crate::lone::{ask_generator, fetch_high, fetch_number, tell, wanted};
 use crate::operation::Operation;
 use crate::reply::Reply;
 use crate::request::{Question, Request};
@@ -460,17 +460,43 @@ impl Device {
     }
 
     // Lets what is open fetch a byte. A generator alone is handed `byte`, where `None` is a hole.
-    // Returns the number of the reply.
+    // Returns the number of the reply. It is made for worlds: others go to `fetch_alone`, which
+    // alone looks at `byte`.
     #[inline(always)]
     fn fetch(&mut self, byte: Option<u8>) -> u64
         ensures { Numbered (PartAnswers self.old.open_part (Request.Fetch byte) self.old self.new)
             result }
     {
         match &mut self.part {
+            Part::World(world) => world.fetch(),
+            _ => self.fetch_alone(byte),
+        }
+    }
+
+    // Lets what is open fetch a byte, as `fetch` does. It is made for generators alone: others go
+    // to `fetch_seldom`.
+    #[inline(never)]
+    fn fetch_alone(&mut self, byte: Option<u8>) -> u64
+        ensures { Numbered (PartAnswers self.old.open_part (Request.Fetch byte) self.old self.new)
+            result }
+    {
+        match &mut self.part {
+            Part::Generator(generator) => fetch_number(generator, byte),
+            _ => self.fetch_seldom(byte),
+        }
+    }
+
+    // Lets what is open fetch a byte, as `fetch` does.
+    #[inline(never)]
+    fn fetch_seldom(&mut self, byte: Option<u8>) -> u64
+        ensures { Numbered (PartAnswers self.old.open_part (Request.Fetch byte) self.old self.new)
+            result }
+    {
+        match &mut self.part {
             Part::Nothing => Reply::Closed.number(),
-            Part::World(world) => world.fetch().number(),
+            Part::World(world) => world.fetch_apart(),
             Part::Driver(_) => Reply::Unknown.number(),
-            Part::Generator(generator) => fetch(generator, byte).number(),
+            Part::Generator(generator) => fetch_high(generator, byte),
             Part::Wrapping(generator) => fetch_wrapping(generator, byte).number(),
             Part::Judge(_) => Reply::Unknown.number(),
         }

@@ -1,6 +1,7 @@
 //! What happens in a world.
 ghost use Rattle.std.specs.Prelude.{◌⊎◌, []};
 ghost use Rattle.dvg_log.specs.declared.event.Event.TheVariants.{Tick, Fetch};
+ghost use Rattle.dvg_device.specs.Devices.{Numbered};
 ghost use Rattle.dvg_device.specs.Worlds.{Happens, Lacks, WorldAnswers};
 
 use crate::reply::Reply;
@@ -52,6 +53,29 @@ pub(crate) fn fetch_in_world(world: &mut World<Flat>) -> Reply
         Ok(entry) => Reply::Came(entry),
         Err(_) => Reply::NoMemory,
     }
+}
+
+// Lets the generator of `world` fetch one byte. Returns the number of the reply. A low byte is only
+// kept, which needs few registers; a high byte takes more, and goes to `fetch_high`.
+#[inline(always)]
+pub(crate) fn fetch_number(world: &mut World<Flat>) -> u64
+    ensures { Numbered (λ answer. Happens Fetch world.old world.new answer
+        ⊎ Lacks Fetch world.old world.new answer) result }
+{
+    if world.wants_high() {
+        return fetch_high(world);
+    }
+    fetch_in_world(world).number()
+}
+
+// Lets the generator of `world` fetch one byte. Returns the number of the reply. It is made for
+// high bytes.
+#[inline(never)]
+pub(crate) fn fetch_high(world: &mut World<Flat>) -> u64
+    ensures { Numbered (λ answer. Happens Fetch world.old world.new answer
+        ⊎ Lacks Fetch world.old world.new answer) result }
+{
+    fetch_in_world(world).number()
 }
 
 // Resets the whole system of `world`, where the bytes `staged` are those of an image, which is made

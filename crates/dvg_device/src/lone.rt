@@ -1,6 +1,7 @@
 //! A generator alone.
 ghost use Rattle.std.specs.Prelude.{◌≡◌, ◌⊎◌, ◌<◌, ◌≤◌, slice_get, IfSome};
 ghost use Rattle.dvg_gen.specs.Told.{wants};
+ghost use Rattle.dvg_device.specs.Devices.{Numbered};
 ghost use Rattle.dvg_device.specs.Generators.{Fetches, GeneratorAnswers, LacksRoom, OfHistories};
 ghost use Rattle.dvg_device.specs.Generators.{StaysStill, Tells, told_end, told_held, told_move};
 ghost use Rattle.dvg_device.specs.States.{CanBeSaved, drawing_parts, drawn_so_far, part_of_stroke};
@@ -218,6 +219,27 @@ pub(crate) fn fetch(generator: &mut Generator<Global>, byte: Option<u8>) -> Repl
         Ok(step) => onward(Entry::of_fetch(address, low, byte, step, ()), generator),
         Err(_) => Reply::NoMemory,
     }
+}
+
+// Hands `byte` to `generator`, as `fetch` does. Returns the number of the reply. A low byte is only
+// kept, which needs few registers; a high byte takes more, and goes to `fetch_high`.
+#[inline(always)]
+pub(crate) fn fetch_number(generator: &mut Generator<Global>, byte: Option<u8>) -> u64
+    ensures { Numbered (GeneratorAnswers (Request.Fetch byte) generator.old generator.new) result }
+{
+    if generator.wants_high() {
+        return fetch_high(generator, byte);
+    }
+    fetch(generator, byte).number()
+}
+
+// Hands `byte` to `generator`, as `fetch` does. Returns the number of the reply. It is made for
+// high bytes.
+#[inline(never)]
+pub(crate) fn fetch_high(generator: &mut Generator<Global>, byte: Option<u8>) -> u64
+    ensures { Numbered (GeneratorAnswers (Request.Fetch byte) generator.old generator.new) result }
+{
+    fetch(generator, byte).number()
 }
 
 // Returns the reply that `entry` came of `generator`, and which byte is wanted next, if any.

@@ -1,6 +1,6 @@
 //! The world: both ends of the vector RAM, one event at a time.
 ghost use Rattle.std.specs.Prelude.{◌≡◌, ◌≢◌, ◌↔◌, ℕ, List, [], length, IfOk};
-ghost use Rattle.std.specs.Prelude.{IsErrOf, IsOk, IsTrue, None, OnErr, OnOk};
+ghost use Rattle.std.specs.Prelude.{IsErrOf, IsOk, IsSome, IsTrue, None, OnErr, OnOk};
 ghost use Rattle.dvg_driver.specs.Script.{IsWhole};
 ghost use Rattle.dvg_driver.specs.Stands.{IsInRam};
 ghost use Rattle.dvg_frame.specs.Ops.{IsDraft};
@@ -322,6 +322,15 @@ impl<S: Store> World<S> {
         let byte = fetch_byte(&self.store, self.desk.rom(), address, low.is_some());
         let step = self.generator.feed(byte)?;
         Ok(Entry::of_fetch(address, low, byte, step, ()))
+    }
+
+    /// Returns whether the next byte that the generator fetches is the high one of its word: the
+    /// last fetch of the open run was of the low byte.
+    #[inline(always)]
+    pub fn wants_high(&self) -> bool
+        ensures { IsTrue result ↔ IsSome self.now.machine.low }
+    {
+        self.generator.low_byte().is_some()
     }
 
     /// Returns the picture: the strokes of the newest run that came to a HALT, in the order drawn.

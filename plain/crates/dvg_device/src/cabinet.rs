@@ -1,5 +1,5 @@
 //! A world, beside the image that it is reset to.
-use crate::happening::{ask_world, fetch_in_world, tick_world};
+use crate::happening::{ask_world, fetch_high, fetch_number, tick_world};
 use crate::reply::Reply;
 use crate::request::Request;
 use dvg_frame::Draft;
@@ -45,10 +45,17 @@ impl Cabinet {
         tick_world(&mut self.world)
     }
 
-    // Lets the generator of the world fetch one byte. Returns the reply.
+    // Lets the generator of the world fetch one byte. Returns the number of the reply.
     #[inline(always)]
-    pub(crate) fn fetch(&mut self) -> Reply {
-        fetch_in_world(&mut self.world)
+    pub(crate) fn fetch(&mut self) -> u64 {
+        fetch_number(&mut self.world)
+    }
+
+    // Lets the generator of the world fetch one byte, as `fetch` does, but takes little room where
+    // it is called. Returns the number of the reply.
+    #[inline(always)]
+    pub(crate) fn fetch_apart(&mut self) -> u64 {
+        fetch_high(&mut self.world)
     }
 
     // Lets the world do `request`, with `draft` and the staged bytes `staged`. Returns the reply.

@@ -44,6 +44,23 @@ pub(crate) fn fetch_in_world(world: &mut World<Flat>) -> Reply {
     }
 }
 
+// Lets the generator of `world` fetch one byte. Returns the number of the reply. A low byte is only
+// kept, which needs few registers; a high byte takes more, and goes to `fetch_high`.
+#[inline(always)]
+pub(crate) fn fetch_number(world: &mut World<Flat>) -> u64 {
+    if world.wants_high() {
+        return fetch_high(world);
+    }
+    fetch_in_world(world).number()
+}
+
+// Lets the generator of `world` fetch one byte. Returns the number of the reply. It is made for
+// high bytes.
+#[inline(never)]
+pub(crate) fn fetch_high(world: &mut World<Flat>) -> u64 {
+    fetch_in_world(world).number()
+}
+
 // Resets the whole system of `world`, where the bytes `staged` are those of an image, which is made
 // in `image`. Returns the reply.
 fn reset_all(world: &mut World<Flat>, image: &mut Image, staged: &[u8]) -> Reply {

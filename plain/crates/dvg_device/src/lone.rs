@@ -173,6 +173,23 @@ pub(crate) fn fetch(generator: &mut Generator<Global>, byte: Option<u8>) -> Repl
     }
 }
 
+// Hands `byte` to `generator`, as `fetch` does. Returns the number of the reply. A low byte is only
+// kept, which needs few registers; a high byte takes more, and goes to `fetch_high`.
+#[inline(always)]
+pub(crate) fn fetch_number(generator: &mut Generator<Global>, byte: Option<u8>) -> u64 {
+    if generator.wants_high() {
+        return fetch_high(generator, byte);
+    }
+    fetch(generator, byte).number()
+}
+
+// Hands `byte` to `generator`, as `fetch` does. Returns the number of the reply. It is made for
+// high bytes.
+#[inline(never)]
+pub(crate) fn fetch_high(generator: &mut Generator<Global>, byte: Option<u8>) -> u64 {
+    fetch(generator, byte).number()
+}
+
 // Returns the reply that `entry` came of `generator`, and which byte is wanted next, if any.
 #[inline(always)]
 pub(crate) fn onward(entry: Entry<()>, generator: &Generator<Global>) -> Reply {

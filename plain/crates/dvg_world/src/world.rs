@@ -206,6 +206,13 @@ impl<S: Store> World<S> {
         Ok(Entry::of_fetch(address, low, byte, step, ()))
     }
 
+    /// Returns whether the next byte that the generator fetches is the high one of its word: the
+    /// last fetch of the open run was of the low byte.
+    #[inline(always)]
+    pub fn wants_high(&self) -> bool {
+        self.generator.low_byte().is_some()
+    }
+
     /// Returns the picture: the strokes of the newest run that came to a HALT, in the order drawn.
     /// There are none before the first HALT, and after the picture was taken.
     pub fn picture(&self) -> &[Stroke] {
