@@ -125,7 +125,7 @@ fn a_refusal_leaves_no_picture(rt: HostRuntime) -> Result<(), Fail> {
         };
         let silent_heaps = silent_heaps(rt.alloc(), wanted)?;
         let (silent, begun) = refusals(rt.alloc(), wanted, silent_heaps)?;
-        assert!(rt; silent_heaps > 100 && silent > 0 && begun == 0);
+        assert!(rt; silent_heaps > 60 && silent > 0 && begun == 0);
     }
     Ok(())
 }
@@ -158,7 +158,7 @@ fn a_refusal_amid_a_picture_leaves_the_log_before(rt: HostRuntime) -> Result<(),
         };
         let silent_heaps = silent_heaps(rt.alloc(), wanted)?;
         let (silent, begun) = refusals(rt.alloc(), wanted, silent_heaps)?;
-        assert!(rt; silent_heaps > 100 && silent > 0 && begun > 0);
+        assert!(rt; silent_heaps > 60 && silent > 0 && begun > 0);
     }
     Ok(())
 }

@@ -86,7 +86,7 @@ impl Read for Parting<'_> {
 /// Returns the size in bytes, in steps of 64, of the smallest parted heap that the first picture is
 /// played on. `banked` says which store is played over.
 fn smallest_heap(alloc: Global, banked: bool) -> Result<usize, Fail> {
-    for units in 1_700..4_096usize {
+    for units in 1_000..4_096usize {
         let size = units.saturating_mul(64);
         let heap = LocalHeap::new(alloc, size)?;
         let mut reader = Watched::new(Parting {
