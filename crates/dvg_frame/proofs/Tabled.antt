@@ -10,7 +10,6 @@ use Rattle.dvg_code.specs.declared.instr.Instr.{Instr}
 use Rattle.dvg_mem.proofs.Roms.{none_there}
 use Rattle.dvg_frame.specs.declared.op.OpKind.{OpKind}
 use Rattle.dvg_frame.specs.declared.checking.pair.TheConstants.{PLACES}
-use Rattle.dvg_frame.specs.declared.checking.pair.Pair.{Pair}
 use Rattle.dvg_frame.specs.declared.place.Place.{Place}
 use Rattle.dvg_frame.specs.declared.place.Place.TheVariants.{InFrame, InRom}
 use Rattle.dvg_frame.specs.declared.checking.table.Drawn.{Drawn}
@@ -27,7 +26,7 @@ use Rattle.dvg_frame.specs.Picture.{End, AtHalt, AtReturn}
 use Rattle.dvg_frame.specs.Loops.{Walks, none, more, HasLoop}
 use Rattle.dvg_frame.specs.own.Ways.{way, span, StandsSo, IsPlaceOf, EndsWithin}
 use Rattle.dvg_frame.specs.own.Tables.{AllFine, Knows, known_at, KeepsKnown, end_of, FitsAt, IsDrawnFrom, IsKnown}
-use Rattle.dvg_frame.specs.own.Tables.{IsTable, Next, StepsOn, IsGood, IsReady, Linked, HasChain, onward, IsLonger}
+use Rattle.dvg_frame.specs.own.Tables.{IsTable, Next, StepsOn, IsGood, IsReady, Linked, HasChain, onward, last_drawn, IsLonger}
 use Rattle.dvg_frame.specs.own.Tables.{IsCalled, places}
 use Rattle.dvg_frame.proofs.Judged.{same_standing}
 use Rattle.dvg_frame.proofs.Marks.{same_place}
@@ -235,20 +234,15 @@ module _ (F : List OpKind) (R : List ℕ) (begins : Begins F) (table : List (Opt
   }
 
   -- what is drawn where a way leads nowhere
-  pub ending_known : (seen : Way) (drawn : Drawn) → StandsSo F R p seen → onward seen ≡ Err drawn
-      → IsKnown F R table p drawn
-  ending_known seen drawn so nowhere = by_way seen (stands_as F R p seen so) nowhere
+  pub ending_known : (seen : Way) → StandsSo F R p seen → onward seen ≡ None → IsKnown F R table p (last_drawn seen)
+  ending_known seen so nowhere = by_way seen (stands_as F R p seen so) nowhere
     where
-      by_way : (seen : Way) → StandsAs F R p seen → onward seen ≡ Err drawn → IsKnown F R table p drawn
+      by_way : (seen : Way) → StandsAs F R p seen → onward seen ≡ None → IsKnown F R table p (last_drawn seen)
       by_way (Move after words) it never = absurd cc
       by_way (Jump to) it never = absurd cc
       by_way (Call to after) it never = absurd cc
-      by_way Return it ends =
-          let same : record { words = 1; end = Returns; returns = true; calls = 0 } ≡ drawn = cc in
-          subst (IsKnown F R table p) same (known_return it.0 it.1)
-      by_way Halt it ends =
-          let same : record { words = 1; end = Halts; returns = false; calls = 0 } ≡ drawn = cc in
-          subst (IsKnown F R table p) same (known_halt it.0 it.1)
+      by_way Return it nowhere = known_return it.0 it.1
+      by_way Halt it nowhere = known_halt it.0 it.1
 
 module _ (F : List OpKind) (R : List ℕ) (table : List (Option Drawn)) (p : Place) (d : ℕ) (rest : Drawn)
     (ready : IsReady F R table p d rest) where
@@ -449,10 +443,10 @@ module _ (table new : List (Option Drawn)) (p : Place) (drawn : Drawn) (inside :
 
 -- where a way leads on
 pub onward_goes : (F : List OpKind) (R : List ℕ) (p next : Place) (seen : Way) → StandsSo F R p seen
-    → onward seen ≡ Ok next → StepsOn F R p next
+    → onward seen ≡ Some next → StepsOn F R p next
 onward_goes F R p next seen so goes = by_way seen (stands_as F R p seen so) goes
   where
-    by_way : (seen : Way) → StandsAs F R p seen → onward seen ≡ Ok next → StepsOn F R p next
+    by_way : (seen : Way) → StandsAs F R p seen → onward seen ≡ Some next → StepsOn F R p next
     by_way (Move after words) it goes = let same : after ≡ next = cc in subst (StepsOn F R p) same (goes_move F R it.1)
     by_way (Jump to) it goes = let same : to ≡ next = cc in subst (StepsOn F R p) same (goes_jump F R it.1)
     by_way (Call to after) it goes = let same : after ≡ next = cc in subst (StepsOn F R p) same (goes_call F R it)
@@ -498,68 +492,65 @@ module _ (F : List OpKind) (R : List ℕ) (begins : Begins F) (d : ℕ) where
       let one : suc d ≡ d + 1 = omega arith in
       subst (Reached F R to) one (step (good.reached all) good.fine (call stands))
 
-  linked_walk : (start end : Place) (pairs : List Pair) → Linked F R d start pairs end
-      → Walks F R d start (length pairs) end
+  linked_walk : (start end : Place) (passed : List Place) → Linked F R d start passed end
+      → Walks F R d start (length passed) end
   linked_walk start end [] linked = subst (λ x. Walks F R d start 0 x) linked none
-  linked_walk start end (pair ∷ pairs) linked =
+  linked_walk start end (place ∷ passed) linked =
       let rest = linked.2 in
-      let walk = linked_walk rest.0 end pairs rest.2 in
-      subst (λ x. Walks F R d x (suc (length pairs)) end) (sym linked.0)
-      (more (leads_from F R pair.place rest.0 d rest.1) walk)
+      let walk = linked_walk rest.0 end passed rest.2 in
+      subst (λ x. Walks F R d x (suc (length passed)) end) (sym linked.0)
+      (more (leads_from F R place rest.0 d rest.1) walk)
 
-  pub linked_push : (start end next : Place) (pairs : List Pair) (pair : Pair) → pair.place ≡ end
-      → Linked F R d start pairs end → IsGood F R d end → StepsOn F R end next
-      → Linked F R d start (pairs ++ pair ∷ []) next
-  linked_push start end next [] pair same linked good goes =
-      let goes_on = subst (λ x. StepsOn F R x next) (sym same) goes in
-      (linked ∙ sym same, subst (IsGood F R d) (sym same) good, (next, goes_on, refl))
-  linked_push start end next (first ∷ pairs) pair same linked good goes =
+  pub linked_push : (start end next : Place) (passed : List Place) → Linked F R d start passed end → IsGood F R d end
+      → StepsOn F R end next → Linked F R d start (passed ++ end ∷ []) next
+  linked_push start end next [] linked good goes = (linked, good, (next, goes, refl))
+  linked_push start end next (first ∷ passed) linked good goes =
       let rest = linked.2 in
-      (linked.0, linked.1, (rest.0, rest.1, linked_push rest.0 end next pairs pair same rest.2 good goes))
+      (linked.0, linked.1, (rest.0, rest.1, linked_push rest.0 end next passed rest.2 good goes))
 
-  pub linked_loops : (start end : Place) (pairs : List Pair) → (AllFine F R → Reached F R start d)
-      → Linked F R d start pairs end → length pairs ≡ 1 + places F R → AllFine F R → HasLoop F R
-  linked_loops start end pairs reached linked count all =
-      let walk = subst (λ k. Walks F R d start k end) count (linked_walk start end pairs linked) in
+  pub linked_loops : (start end : Place) (passed : List Place) → (AllFine F R → Reached F R start d)
+      → Linked F R d start passed end → length passed ≡ 1 + places F R → AllFine F R → HasLoop F R
+  linked_loops start end passed reached linked count all =
+      let walk = subst (λ k. Walks F R d start k end) count (linked_walk start end passed linked) in
       record { place = start; depth = d; end = end; reached = reached all; walk = walk }
 
-  -- the last of such pairs leads to where they lead
-  pub linked_pop : (start end : Place) (pairs : List Pair) (pair : Pair) → Linked F R d start (pairs ++ pair ∷ []) end
-      → Linked F R d start pairs pair.place × IsGood F R d pair.place × StepsOn F R pair.place end
-  linked_pop start end [] pair linked =
+  -- the last of such places leads to where they lead
+  pub linked_pop : (start end : Place) (passed : List Place) (place : Place)
+      → Linked F R d start (passed ++ place ∷ []) end
+      → Linked F R d start passed place × IsGood F R d place × StepsOn F R place end
+  linked_pop start end [] place linked =
       let rest = linked.2 in
-      (linked.0, linked.1, subst (StepsOn F R pair.place) rest.2 rest.1)
-  linked_pop start end (first ∷ pairs) pair linked =
+      (linked.0, linked.1, subst (StepsOn F R place) rest.2 rest.1)
+  linked_pop start end (first ∷ passed) place linked =
       let rest = linked.2 in
-      let last = linked_pop rest.0 end pairs pair rest.2 in
+      let last = linked_pop rest.0 end passed place rest.2 in
       ((linked.0, linked.1, (rest.0, rest.1, last.0)), last.1, last.2)
 
   -- a chain after what was there before
-  pub has_linked_more : (start end next : Place) (before old new pairs : List Pair) (pair : Pair) → pair.place ≡ end
-      → old ≡ before ++ pairs → Linked F R d start pairs end → IsGood F R d end → new ≡ old ++ pair ∷ []
-      → StepsOn F R end next
-      → (new ≡ before ++ (pairs ++ pair ∷ [])) × Linked F R d start (pairs ++ pair ∷ []) next
-  has_linked_more start end next before old new pairs pair same old_is linked good new_is goes =
-      let is = new_is ∙ ap (λ xs. xs ++ pair ∷ []) old_is ∙ append_assoc before pairs (pair ∷ []) in
-      (is, linked_push start end next pairs pair same linked good goes)
+  pub has_linked_more : (start end next : Place) (before old new passed : List Place) → old ≡ before ++ passed
+      → Linked F R d start passed end → IsGood F R d end → new ≡ old ++ end ∷ [] → StepsOn F R end next
+      → (new ≡ before ++ (passed ++ end ∷ [])) × Linked F R d start (passed ++ end ∷ []) next
+  has_linked_more start end next before old new passed old_is linked good new_is goes =
+      let is = new_is ∙ ap (λ xs. xs ++ end ∷ []) old_is ∙ append_assoc before passed (end ∷ []) in
+      (is, linked_push start end next passed linked good goes)
 
--- the last pair of a list that is longer than what was there before
-pub record Split (before pairs rest : List Pair) (pair : Pair) : Type 0 where
-  pub front : List Pair
-  pub is : pairs ≡ front ++ pair ∷ []
+-- the last place of a list that is longer than what was there before
+pub record Split (before passed rest : List Place) (place : Place) : Type 0 where
+  pub front : List Place
+  pub is : passed ≡ front ++ place ∷ []
   pub left : rest ≡ before ++ front
 
-pub split : (before pairs rest : List Pair) (pair : Pair) → before ++ pairs ≡ rest ++ pair ∷ []
-    → length before < length (before ++ pairs) → Split before pairs rest pair
-split [] pairs rest pair is longer = record { front = rest; is = is; left = refl }
-split (first ∷ before) pairs [] pair is longer =
-    let none_left : before ++ pairs ≡ [] = cc in
+pub split : (before passed rest : List Place) (place : Place) → before ++ passed ≡ rest ++ place ∷ []
+    → length before < length (before ++ passed) → Split before passed rest place
+split [] passed rest place is longer = record { front = rest; is = is; left = refl }
+split (first ∷ before) passed [] place is longer =
+    let none_left : before ++ passed ≡ [] = cc in
     let count = ap length none_left in
     absurd (omega arith)
-split (first ∷ before) pairs (other ∷ rest) pair is longer =
-    let below : before ++ pairs ≡ rest ++ pair ∷ [] = cc in
+split (first ∷ before) passed (other ∷ rest) place is longer =
+    let below : before ++ passed ≡ rest ++ place ∷ [] = cc in
     let same : first ≡ other = cc in
-    let it = split before pairs rest pair below (omega arith) in
+    let it = split before passed rest place below (omega arith) in
     record { front = it.front; is = it.is; left = ap (λ x. x ∷ rest) (sym same) ∙ ap (λ xs. first ∷ xs) it.left }
 
 -- a place stays ready in a table that keeps what it had
@@ -575,22 +566,22 @@ ready_keeps F R old new p d rest ready keeps entries = record {
 }
 
 module _ (F : List OpKind) (R : List ℕ) (begins : Begins F) (d : ℕ) where
-  -- what a chain is once its last pair is taken out
+  -- what a chain is once its last place is taken out
   pub record Popped (table : List (Option Drawn)) (old : Drawn) (start : Place)
-      (before rest : List Pair) (p : Place) : Type 0 where
-    pub front : List Pair
+      (before rest : List Place) (p : Place) : Type 0 where
+    pub front : List Place
     pub left : rest ≡ before ++ front
     pub linked : Linked F R d start front p
     pub ready : IsReady F R table p d old
 
-  pub popped : (table : List (Option Drawn)) (old : Drawn) (start : Place) (before all rest : List Pair) (pair : Pair)
-      → IsTable F R table → HasChain F R table d start old before all → all ≡ rest ++ pair ∷ []
-      → length before < length all → Popped table old start before rest pair.place
-  popped table old start before all rest pair entries has is longer =
+  pub popped : (table : List (Option Drawn)) (old : Drawn) (start : Place) (before all rest : List Place) (place : Place)
+      → IsTable F R table → HasChain F R table d start old before all → all ≡ rest ++ place ∷ []
+      → length before < length all → Popped table old start before rest place
+  popped table old start before all rest place entries has is longer =
       let count = ap length has.is in
-      let it = split before has.pairs rest pair (sym has.is ∙ is) (omega arith) in
-      let linked = subst (λ pairs. Linked F R d start pairs has.last) it.is has.linked in
-      let last = linked_pop F R begins d start has.last it.front pair linked in
+      let it = split before has.passed rest place (sym has.is ∙ is) (omega arith) in
+      let linked = subst (λ passed. Linked F R d start passed has.last) it.is has.linked in
+      let last = linked_pop F R begins d start has.last it.front place linked in
       record {
         front = it.front;
         left = it.left;
@@ -606,10 +597,10 @@ module _ (F : List OpKind) (R : List ℕ) (begins : Begins F) (d : ℕ) where
       }
 
   pub left_chain : (table new : List (Option Drawn)) (old drawn : Drawn) (start : Place)
-      (before rest now : List Pair) (p : Place) → Popped table old start before rest p → now ≡ rest
+      (before rest now : List Place) (p : Place) → Popped table old start before rest p → now ≡ rest
       → Knows new p drawn → HasChain F R new d start drawn before now
   left_chain table new old drawn start before rest now p out same here =
-      record { pairs = out.front; is = same ∙ out.left; last = p; linked = out.linked; knows = here }
+      record { passed = out.front; is = same ∙ out.left; last = p; linked = out.linked; knows = here }
 
   -- this is drawn from the place that was taken out, by a table that keeps what it had
   pub record IsTurn (old new : List (Option Drawn)) (p : Place) (drawn : Drawn) : Type 0 where

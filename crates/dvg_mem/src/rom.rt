@@ -9,7 +9,7 @@ ghost use Rattle.dvg_mem.specs.declared.TheConstants.{LARGE_ROM_BYTES, MEMORY_BY
 use crate::areas::Area;
 use crate::image::MemFault;
 use crate::lookup::area_in_map;
-use crate::{FIRST_LARGE_ROM_WORD, FIRST_ROM_WORD, LARGE_ROM_BYTES, MEMORY_BYTES};
+use crate::{FIRST_LARGE_ROM_WORD, FIRST_ROM_WORD, LARGE_ROM_BYTES, MEMORY_BYTES, ROM_END};
 use dvg_code::word_at;
 use std::alloc::{AllocError, Allocator, Global};
 use std::marker::Model;
@@ -107,7 +107,9 @@ impl<A: Allocator> Rom<A> {
         requires last { a ≤ 0xBFF }
         ensures { rom_word self.now a ≡ Some result }
     {
-        word_at(self.bytes.as_slice(), usize::from(a - self.first()))
+        // Counted back from the end: the last word stands at BFF, whichever size the ROM has.
+        let after = usize::from(ROM_END - a);
+        word_at(self.bytes.as_slice(), self.bytes.len() / 2 - after)
     }
 
     /// Returns the ROM of 4,096 bytes that has this one's words from 800 on, and D000, a return, at

@@ -1,12 +1,11 @@
 -- What is known of each place, and the table of it. Only the check's own functions cite this.
 use Rattle.std.specs.Prelude.{◌≡◌, ℕ, ◌+◌, ◌/◌, ◌<◌, ◌≤◌, ◌^◌, List, [], ◌∷◌, ◌++◌, length, Option, Some}
-use Rattle.std.specs.Prelude.{None, slice_index_or, ◌==◌, if◌then◌else◌, All, Result, Ok, Err, MatchResult, true, false}
+use Rattle.std.specs.Prelude.{None, slice_index_or, ◌==◌, if◌then◌else◌, All, Result, MatchResult, true, false}
 use Rattle.dvg_code.specs.Acts.{Act, Moves, Jumps, Calls, Returns as GoesBack, Halts as Stops}
 use Rattle.dvg_gen.specs.declared.beam.Beam.{Beam}
 use Rattle.dvg_gen.specs.declared.stroke.Stroke.{Stroke}
 use Rattle.dvg_frame.specs.declared.op.OpKind.{OpKind}
 use Rattle.dvg_frame.specs.declared.place.Place.{Place}
-use Rattle.dvg_frame.specs.declared.checking.pair.Pair.{Pair}
 use Rattle.dvg_frame.specs.declared.checking.pair.TheConstants.{DEEPEST, PLACES}
 use Rattle.dvg_frame.specs.declared.checking.table.Drawn.{Drawn}
 use Rattle.dvg_frame.specs.declared.checking.table.Note.{Note}
@@ -134,27 +133,32 @@ pub record IsReady (F : List OpKind) (R : List ℕ) (table : List (Option Drawn)
   pub goes : StepsOn F R p next
   pub knows : Knows table next rest
 
--- where a way leads on at its own depth, or else what is drawn there
-abbrev pub onward : Way → Result Place Drawn
-onward (Move after words) = Ok after
-onward (Jump to) = Ok to
-onward (Call to after) = Ok after
-onward Return = Err (record { words = 1; end = Returns; returns = true; calls = 0 })
-onward Halt = Err (record { words = 1; end = Halts; returns = false; calls = 0 })
+-- where a way leads on at its own depth
+abbrev pub onward : Way → Option Place
+onward (Move after words) = Some after
+onward (Jump to) = Some to
+onward (Call to after) = Some after
+onward Return = None
+onward Halt = None
 
--- steps at one depth lead through the places of these pairs, one after the other, and then to a place
-abbrev pub Linked : List OpKind → List ℕ → ℕ → Place → List Pair → Place → Type 0
+-- what is drawn from an instruction whose way leads nowhere: a return goes back, and all else halts
+abbrev pub last_drawn : Way → Drawn
+last_drawn Return = record { words = 1; end = Returns; returns = true; calls = 0 }
+last_drawn _ = record { words = 1; end = Halts; returns = false; calls = 0 }
+
+-- steps at one depth lead through these places, one after the other, and then to the last one
+abbrev pub Linked : List OpKind → List ℕ → ℕ → Place → List Place → Place → Type 0
 Linked F R d start [] last = start ≡ last
-Linked F R d start (pair ∷ pairs) last = (start ≡ pair.place) × IsGood F R d pair.place
-    × ((next : Place) × StepsOn F R pair.place next × Linked F R d next pairs last)
+Linked F R d start (place ∷ passed) last = (start ≡ place) × IsGood F R d place
+    × ((next : Place) × StepsOn F R place next × Linked F R d next passed last)
 
--- a list has such pairs after what was there before, and the table has this of the last place
+-- a list has such places after what was there before, and the table has this of the last one
 pub record HasChain (F : List OpKind) (R : List ℕ) (table : List (Option Drawn)) (d : ℕ) (start : Place)
-    (rest : Drawn) (before all : List Pair) : Type 0 where
-  pub pairs : List Pair
-  pub is : all ≡ before ++ pairs
+    (rest : Drawn) (before all : List Place) : Type 0 where
+  pub passed : List Place
+  pub is : all ≡ before ++ passed
   pub last : Place
-  pub linked : Linked F R d start pairs last
+  pub linked : Linked F R d start passed last
   pub knows : Knows table last rest
 
 -- the same is drawn, with this many more words

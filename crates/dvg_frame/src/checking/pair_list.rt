@@ -3,19 +3,19 @@ ghost use Rattle.std.specs.Prelude.{◌≡◌, ◌<◌, ◌≤◌, List, [], ◌
 ghost use Rattle.dvg_frame.specs.own.Pairs.{IsPair};
 ghost use Rattle.dvg_frame.specs.declared.checking.pair.Pair.{Pair};
 
-use crate::checking::pair::{Pair, index_of, pair_of};
+use crate::checking::pair::{PAIRS, Pair, index_of, pair_of};
 use arrayvec::ArrayVec;
 use std::marker::Model;
 
-/// A list of at most `MOST` pairs. Each takes two bytes: its number in the order in which faults
+/// A list of at most `PAIRS` pairs. Each takes two bytes: its number in the order in which faults
 /// are picked.
 #[derive(Drop)]
-pub(crate) struct PairList<const MOST: usize> {
-    numbers: ArrayVec<u16, MOST>,
+pub(crate) struct PairList {
+    numbers: ArrayVec<u16, PAIRS>,
 }
 
 /// Contracts see the list of the pairs.
-impl<const MOST: usize> Model for PairList<MOST> {
+impl Model for PairList {
     ghost use Rattle.std.specs.Prelude.{All, List, map};
     ghost use Rattle.dvg_frame.specs.own.Pairs.{IsPair, pair_at};
     ghost use Rattle.dvg_frame.specs.declared.checking.pair.Pair.{Pair};
@@ -27,9 +27,9 @@ impl<const MOST: usize> Model for PairList<MOST> {
     ghost invariant = { λ list. All IsPair (map pair_at list.numbers.items) };
 }
 
-impl<const MOST: usize> PairList<MOST> {
+impl PairList {
     // Returns a list with no pair.
-    pub(crate) fn new() -> PairList<MOST>
+    pub(crate) fn new() -> PairList
         ensures { result ≡ [] }
     {
         PairList {
@@ -37,10 +37,10 @@ impl<const MOST: usize> PairList<MOST> {
         }
     }
 
-    // Returns the number of pairs, at most `MOST`.
+    // Returns the number of pairs, at most `PAIRS`.
     pub(crate) fn len(&self) -> usize
         ensures value { result ≡ length self.now }
-        ensures bound { result ≤ MOST }
+        ensures bound { result ≤ PAIRS }
     {
         self.numbers.len()
     }
@@ -54,28 +54,12 @@ impl<const MOST: usize> PairList<MOST> {
         pair_of(self.numbers[i])
     }
 
-    // Removes all pairs.
-    pub(crate) fn clear(&mut self)
-        ensures { self.new ≡ [] }
-    {
-        self.numbers.clear();
-    }
-
     // Adds `pair` at the end. There must be room for it.
     pub(crate) fn push(&mut self, pair: Pair)
-        requires room { length self.old < MOST }
+        requires room { length self.old < PAIRS }
         requires valid { IsPair pair }
         ensures { self.new ≡ self.old ++ pair ∷ [] }
     {
         self.numbers.push(index_of(pair) as u16);
-    }
-
-    // Removes the last pair and returns it. The list must not be empty.
-    pub(crate) fn pop(&mut self) -> Pair
-        requires { 0 < length self.old }
-        ensures value { self.old ≡ self.new ++ result ∷ [] }
-        ensures valid { IsPair result }
-    {
-        pair_of(self.numbers.pop().unwrap())
     }
 }

@@ -7,8 +7,7 @@ ghost use Rattle.dvg_frame.specs.declared.checking.pair.TheConstants.{PLACES};
 ghost use Rattle.dvg_frame.specs.declared.place.Place.{Place};
 ghost use Rattle.dvg_frame.specs.declared.checking.table.Drawn.{Drawn};
 
-use crate::checking::pair::{PLACES, ROM_FIRST};
-use crate::draft::MAX_OPS;
+use crate::checking::pair::{PLACES, number_of};
 use crate::place::Place;
 use std::marker::Model;
 
@@ -124,17 +123,5 @@ impl Table {
             return;
         }
         self.round += 1;
-    }
-}
-
-// Returns the number of `place`, counted in the order of the places.
-fn number_of(place: Place) -> usize
-    requires { IsPlace place }
-    ensures value { result ≡ place_index place }
-    ensures bound { result < PLACES }
-{
-    match place {
-        Place::InFrame(i) => usize::from(i),
-        Place::InRom(a) => MAX_OPS + usize::from(a) - usize::from(ROM_FIRST),
     }
 }

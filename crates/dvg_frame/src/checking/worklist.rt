@@ -12,7 +12,7 @@ use std::marker::Model;
 #[derive(Drop)]
 pub(crate) struct Worklist {
     marks: [bool; PAIRS],
-    pairs: PairList<PAIRS>,
+    pairs: PairList,
 }
 
 /// Contracts see the list of the pairs.

@@ -69,8 +69,8 @@ settle-requires g t c κs within =
       ),
     )
 
-pub put_drawn-rest-requires : goal.put_drawn-rest-requires
-put_drawn-rest-requires g t c =
+pub put_drawn-requires : goal.put_drawn-requires
+put_drawn-requires g t c =
     let base = c.len-base.ensures.value in
     let now = c.len.ensures.value in
     let i = c.loop-start.invariant in
@@ -100,12 +100,12 @@ loop-start-preserved g t c =
     let out = popped _ _ c.requires.begins _ _ _ _ _ _ _ _ i.entries i.left c.pop-place.ensures.value (omega arith) in
     let found = c.in-Some.ensures in
     let both : IsTurn c.args.draft.now c.args.rom.now c.requires.begins c.args.start.depth c.loop-start.table
-    c.match-span.table c.pop-place.result.place c.match-span.drawn × (c.match-span.chain ≡ c.pop-place.new.self) =
+    c.match-span.table c.pop-place.result c.match-span.rest × (c.match-span.chain ≡ c.pop-place.new.self) =
     elim c.match-span.branch [
       | in-Over w ↦
           let turn = turn_over _ _ c.requires.begins _ _ _ _ out.ready _ found.1 _ _ (sym found.2 ∙ w.in-Over.is)
-          w.longer-drawn.ensures in
-          (turn_is _ _ c.requires.begins _ _ _ _ _ _ _ w.table-is w.drawn-is turn, w.chain-is)
+          w.lengthen.ensures in
+          (turn_is _ _ c.requires.begins _ _ _ _ _ _ _ w.table-is w.rest-is turn, w.chain-is)
       | in-Into w ↦
           let into = sym found.2 ∙ w.in-Into.is in
           elim w.match-at.branch [
@@ -114,25 +114,25 @@ loop-start-preserved g t c =
                 let known : Knows c.loop-start.table w.in-Into.to w.match-at.known =
                 (inside, w.at.ensures ∙ w'.in-Some-at.is ∙ ap Some (sym w'.known-is)) in
                 let turn = turn_into _ _ c.requires.begins _ _ _ _ out.ready _ found.1 _ _ _ _ into (keeps_same _)
-                i.entries known w.called-drawn.ensures in (
-                  turn_is _ _ c.requires.begins _ _ _ _ _ _ _ (w.table-is ∙ w'.table-is) w.drawn-is turn,
+                i.entries known w.called-rest.ensures in (
+                  turn_is _ _ c.requires.begins _ _ _ _ _ _ _ (w.table-is ∙ w'.table-is) w.rest-is turn,
                   w.chain-is ∙ w'.chain-is,
                 )
             | in-None+in_ok-known-in-None w' ↦
                 let settled = w'.in_ok-known-in-None.ensures in
                 let known = subst (Knows _ _) (sym w'.known-is) settled.settled.0 in
                 let turn = turn_into _ _ c.requires.begins _ _ _ _ out.ready _ found.1 _ _ _ _ into settled.kept
-                settled.entries known w.called-drawn.ensures in (
-                  turn_is _ _ c.requires.begins _ _ _ _ _ _ _ (w.table-is ∙ w'.table-is) w.drawn-is turn,
+                settled.entries known w.called-rest.ensures in (
+                  turn_is _ _ c.requires.begins _ _ _ _ _ _ _ (w.table-is ∙ w'.table-is) w.rest-is turn,
                   w.chain-is ∙ w'.chain-is ∙ settled.settled.1,
                 )
           ]
     ] in
     let turn = both.0 in
     record {
-      entries = c.put_drawn-rest.ensures.entries _ _ turn.entries turn.known;
-      kept = keeps_both _ _ _ i.kept (keeps_both _ _ _ turn.keeps c.put_drawn-rest.ensures.kept);
-      left = left_chain _ _ c.requires.begins _ _ _ _ _ _ _ _ _ _ out both.1 c.put_drawn-rest.ensures.has;
+      entries = c.put_drawn.ensures.entries _ _ turn.entries turn.known;
+      kept = keeps_both _ _ _ i.kept (keeps_both _ _ _ turn.keeps c.put_drawn.ensures.kept);
+      left = left_chain _ _ c.requires.begins _ _ _ _ _ _ _ _ _ _ out both.1 c.put_drawn.ensures.has;
       room =
           let room = i.room in
           let taken = ap length c.pop-place.ensures.value in

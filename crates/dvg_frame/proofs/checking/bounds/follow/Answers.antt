@@ -1,8 +1,9 @@
 use Rattle.std.proofs.Common.{◌≡◌, ◌∙◌, ◌⊎◌, inl, inr, ℕ, ◌+◌, ◌-◌, ◌*◌, ◌<◌, ◌≤◌, Fits, w64, sym, ap, arith, refl}
-use Rattle.std.proofs.Common.{List, [], ◌++◌, length, append-nil, length-append, lit<}
+use Rattle.std.proofs.Common.{List, [], ◌++◌, length, append-nil, length-append, subst}
 use Rattle.dvg_mem.specs.Memory.{IsRom}
 use Rattle.dvg_frame.specs.declared.op.OpKind.{OpKind}
-use Rattle.dvg_frame.specs.declared.checking.pair.Pair.{Pair}
+use Rattle.dvg_frame.specs.own.Tables.{IsKnown}
+use Rattle.dvg_frame.specs.declared.place.Place.{Place}
 use Rattle.dvg_frame.specs.declared.checking.chain.TheConstants.{LONGEST, ROOM}
 use Rattle.dvg_frame.proofs.Swept.{few_ops, in_place}
 use Rattle.dvg_frame.proofs.Tabled.{good_by, goes_in, goes_good, linked_loops, has_linked_more}
@@ -29,10 +30,10 @@ fits n few = omega arith
 closer : (step end : ℕ) → step < end → end - (step + 1) < end - step
 closer step end low = omega arith
 
--- the room for the pairs of one depth
-module _ (old new pairs : List Pair) (step end : ℕ) (is : new ≡ old ++ pairs) (count : length pairs ≡ step) where
+-- the room for the places of one depth
+module _ (old new passed : List Place) (step end : ℕ) (is : new ≡ old ++ passed) (count : length passed ≡ step) where
   long : length new ≡ length old + step
-  long = ap length is ∙ (length-append old pairs ∙ ap (λ n. length old + n) count)
+  long = ap length is ∙ (length-append old passed ∙ ap (λ n. length old + n) count)
 
   in_room : step ≤ end → end ≤ LONGEST → length new ≤ length old + LONGEST
   in_room low few = let sum = long in omega arith
@@ -44,7 +45,7 @@ pub loop-step-init : goal.loop-step-init
 loop-step-init g c = record {
   entries = c.requires.entries;
   kept = keeps_same _;
-  pairs = [];
+  passed = [];
   is = sym (append-nil _);
   linked = refl;
   count = refl;
@@ -56,7 +57,7 @@ pub returns-in-Some-clause-followed : goal.returns-in-Some-clause-followed
 returns-in-Some-clause-followed g c =
     let i = c.loop-step.invariant in
     record {
-      pairs = i.pairs;
+      passed = i.passed;
       is = i.is;
       last = _;
       linked = i.linked;
@@ -66,35 +67,36 @@ returns-in-Some-clause-followed g c =
 pub put_drawn-requires : goal.put_drawn-requires
 put_drawn-requires g c = in_place _ _ _ c.loop-step.invariant.inside
 
-pub returns-in-Err-clause-entries : goal.returns-in-Err-clause-entries
-returns-in-Err-clause-entries g c =
+pub returns-in-None-clause-entries : goal.returns-in-None-clause-entries
+returns-in-None-clause-entries g c =
     let i = c.loop-step.invariant in
     let good = good_by _ _ _ _ i.inside c.in-Ok.ensures.0 i.reached in
     c.put_drawn.ensures.entries _ _ i.entries
-    (ending_known _ _ c.requires.begins _ _ _ good _ _ c.in-Ok.ensures.1 (sym c.onward.ensures ∙ c.in-Err.is))
+    (subst (IsKnown _ _ _ _) (sym c.last_drawn-drawn.ensures)
+    (ending_known _ _ c.requires.begins _ _ _ good _ c.in-Ok.ensures.1 (sym c.onward.ensures ∙ c.in-None.is)))
 
-pub returns-in-Err-clause-kept : goal.returns-in-Err-clause-kept
-returns-in-Err-clause-kept g c = keeps_both _ _ _ c.loop-step.invariant.kept c.put_drawn.ensures.kept
+pub returns-in-None-clause-kept : goal.returns-in-None-clause-kept
+returns-in-None-clause-kept g c = keeps_both _ _ _ c.loop-step.invariant.kept c.put_drawn.ensures.kept
 
-pub returns-in-Err-clause-followed : goal.returns-in-Err-clause-followed
-returns-in-Err-clause-followed g c =
+pub returns-in-None-clause-followed : goal.returns-in-None-clause-followed
+returns-in-None-clause-followed g c =
     let i = c.loop-step.invariant in
-    record { pairs = i.pairs; is = i.is; last = _; linked = i.linked; knows = c.put_drawn.ensures.has }
+    record { passed = i.passed; is = i.is; last = _; linked = i.linked; knows = c.put_drawn.ensures.has }
 
 pub loop-step-preserved : goal.loop-step-preserved
 loop-step-preserved g c =
     let i = c.loop-step.invariant in
     let good = good_by _ _ _ _ i.inside c.in-Ok.ensures.0 i.reached in
-    let goes = onward_goes _ _ _ _ _ c.in-Ok.ensures.1 (sym c.onward.ensures ∙ c.in-Ok-onward.is) in
+    let goes = onward_goes _ _ _ _ _ c.in-Ok.ensures.1 (sym c.onward.ensures ∙ c.in-Some-onward.is) in
     let both =
-    has_linked_more _ _ c.requires.begins _ _ _ _ _ _ _ i.pairs _ refl i.is i.linked good c.push.ensures goes in
+    has_linked_more _ _ c.requires.begins _ _ _ _ _ _ _ i.passed i.is i.linked good c.push.ensures goes in
     record {
       entries = i.entries;
       kept = i.kept;
-      pairs = _;
+      passed = _;
       is = both.0;
       linked = both.1;
-      count = length-append i.pairs _ ∙ ap (λ n. n + 1) i.count;
+      count = length-append i.passed _ ∙ ap (λ n. n + 1) i.count;
       inside = goes_in _ _ c.requires.begins _ _ _ c.in-Ok.ensures.0 goes;
       reached = goes_good _ _ c.requires.begins _ _ _ good goes;
     }
@@ -104,7 +106,7 @@ returns-clause-followed g c =
     let i = c.loop-step.invariant in
     let words = c.len_words.ensures.count in
     let count = i.count in
-    linked_loops _ _ c.requires.begins _ _ _ i.pairs c.requires.reached i.linked (omega arith)
+    linked_loops _ _ c.requires.begins _ _ _ i.passed c.requires.reached i.linked (omega arith)
 
 pub overflow_add-step-end : goal.overflow_add-step-end
 overflow_add-step-end g c =
@@ -142,16 +144,14 @@ pub push-requires : goal.push-requires
 push-requires g c =
     let i = c.loop-step.invariant in
     let most = few_ops _ c.requires.begins in
-    let few = few_steps c.args.draft.now _ _ _ _ most c.requires.rom refl c.len_words.ensures.count c.from.ensures in (
-      lit< tt,
-      (
-        room_left _ _ _ _ _ i.is i.count c.loop-step-test.true few _ c.requires.depth c.requires.room,
-        record { place = in_place _ _ _ i.inside; depth = c.requires.depth },
-      ),
-    )
+    let few = few_steps c.args.draft.now _ _ _ _ most c.requires.rom refl c.len_words.ensures.count c.from.ensures in
+    record {
+      room = room_left _ _ _ _ _ i.is i.count c.loop-step-test.true few _ c.requires.depth c.requires.room;
+      valid = in_place _ _ _ i.inside;
+    }
 
-pub returns-in-Err-clause-room : goal.returns-in-Err-clause-room
-returns-in-Err-clause-room g c =
+pub returns-in-None-clause-room : goal.returns-in-None-clause-room
+returns-in-None-clause-room g c =
     let i = c.loop-step.invariant in
     let most = few_ops _ c.requires.begins in
     let few = few_steps c.args.draft.now _ _ _ _ most c.requires.rom refl c.len_words.ensures.count c.from.ensures in

@@ -1,5 +1,5 @@
 use Rattle.std.proofs.Common.{◌≡◌, ◌++◌, List, length}
-use Rattle.dvg_frame.specs.declared.checking.pair.Pair.{Pair}
+use Rattle.dvg_frame.specs.declared.place.Place.{Place}
 use Rattle.dvg_frame.specs.Steps.{Reached}
 use Rattle.dvg_frame.specs.own.Ways.{IsPlaceOf}
 use Rattle.dvg_frame.specs.own.Tables.{AllFine, IsTable, KeepsKnown, Linked}
@@ -9,10 +9,10 @@ abbrev pub invariant-loop-step : goal.invariant-loop-step
 invariant-loop-step g l = record {
   entries : IsTable l.draft l.rom l.table;
   kept : KeepsKnown l.fn.table l.table;
-  pairs : List Pair;
-  is : l.chain ≡ l.fn.chain ++ pairs;
-  linked : Linked l.draft l.rom l.fn.start.depth l.fn.start.place pairs l.place;
-  count : length pairs ≡ l.step;
+  passed : List Place;
+  is : l.chain ≡ l.fn.chain ++ passed;
+  linked : Linked l.draft l.rom l.fn.start.depth l.fn.start.place passed l.place;
+  count : length passed ≡ l.step;
   inside : IsPlaceOf l.draft l.rom l.place;
   reached : AllFine l.draft l.rom → Reached l.draft l.rom l.place l.fn.start.depth;
 }
