@@ -1,6 +1,6 @@
 -- How a driver goes on standing after its life.
-use Rattle.std.proofs.Common.{◌≡◌, ℕ, ◌≤◌, Bool, true, false, not, List, [], ◌∷◌, ◌++◌, refl, sym, ◌∙◌, ap, subst, Option, Some, nat_eq, arith, inl, inr, eq-eqb}
-use Rattle.std.specs.Prelude.{All, option_and_then}
+use Rattle.std.proofs.Common.{◌≡◌, ℕ, ◌≤◌, Bool, true, false, not, List, [], ◌∷◌, ◌++◌, refl, sym, ◌∙◌, ap, subst, Option, Some, None, nat_eq, arith, inl, inr, eq-eqb}
+use Rattle.std.specs.Prelude.{All, IsSome, IsSomeAnd, option_and_then}
 use Rattle.std.proofs.lemmas.List.Elements.{All-head, All-nil, All-tail}
 use Rattle.std.proofs.lemmas.Bool.Decides.{eqb_tells}
 use Rattle.dvg_mem.specs.declared.half.Half.{Half}
@@ -70,9 +70,26 @@ in_phase inside v peeked life phase_is stands =
     let P : Phase → Type 0 = λ u. StandsAfter (record { place = place_in u inside.cursor inside.half inside.flipped; half = inside.half; flipped = inside.flipped }) peeked life in
     subst P (sym phase_is) stands
 
+-- a frame that is there, and where its bytes go
+all_of : (cursor : Option (List (ℕ × ℕ))) → IsSomeAnd cursor (All IsBehindWordZero) → All IsBehindWordZero (items_of cursor)
+all_of None none = absurd none
+all_of (Some items) all = all
+
+some_of : (cursor : Option (List (ℕ × ℕ))) → IsSome cursor → All IsBehindWordZero (items_of cursor) → IsSomeAnd cursor (All IsBehindWordZero)
+some_of None none all = absurd (cc)
+some_of (Some items) is all = all
+
+-- a driver that writes, of a frame that is there, such bytes
+pub keeps_writing : (inside : Inside) → inside.phase ≡ phase.Writing → IsSome inside.cursor → All IsBehindWordZero (items_of inside.cursor)
+    → KeepsPhase inside.phase inside.cursor inside.flipped
+keeps_writing inside phase_is some all =
+    subst (λ v. KeepsPhase v inside.cursor inside.flipped) (sym phase_is) (some_of inside.cursor some all)
+
 -- a driver that writes has no byte of a frame left
-pub none_left : (inside : Inside) → inside.phase ≡ phase.Writing → items_of inside.cursor ≡ [] → KeepsPhase inside.phase inside.cursor inside.flipped
-none_left inside phase_is none = subst (λ v. KeepsPhase v inside.cursor inside.flipped) (sym phase_is) (subst (λ list. All IsBehindWordZero list) (sym none) (All-nil IsBehindWordZero))
+pub none_left : (inside : Inside) → inside.phase ≡ phase.Writing → IsSome inside.cursor → items_of inside.cursor ≡ []
+    → KeepsPhase inside.phase inside.cursor inside.flipped
+none_left inside phase_is some none =
+    keeps_writing inside phase_is some (subst (λ list. All IsBehindWordZero list) (sym none) (All-nil IsBehindWordZero))
 
 pub flips_next : (inside : Inside) → inside.phase ≡ phase.Writing → items_of inside.cursor ≡ [] → inside.flipped ≡ true → (stage_of inside).place ≡ Writing (word_zero (other inside.half) false)
 flips_next inside phase_is none flipped =
@@ -83,6 +100,6 @@ flips_next inside phase_is none flipped =
 pub behind_word_zero : (at : Phase) (cursor : Option (List (ℕ × ℕ))) (flipped : Bool) (more : List (ℕ × ℕ)) (item : ℕ × ℕ) → KeepsPhase at cursor flipped → at ≡ phase.Writing → items_of cursor ≡ item ∷ more
     → IsBehindWordZero item × All IsBehindWordZero more
 behind_word_zero at cursor flipped more item keeps at_is items_is =
-    let old : All IsBehindWordZero (items_of cursor) = subst (λ v. KeepsPhase v cursor flipped) at_is keeps in
+    let old = all_of cursor (subst (λ v. KeepsPhase v cursor flipped) at_is keeps) in
     let all : All IsBehindWordZero (item ∷ more) = subst (λ list. All IsBehindWordZero list) items_is old in
     (All-head IsBehindWordZero item more all, All-tail IsBehindWordZero item more all)

@@ -1,5 +1,5 @@
 -- What the fields of a driver mean. Only the driver's own model cites this.
-use Rattle.std.specs.Prelude.{All, Bool, false, not, ℕ, List, [], ◌++◌, ◌≡◌, Option, Some, None}
+use Rattle.std.specs.Prelude.{All, Bool, false, not, ℕ, List, [], ◌++◌, ◌≡◌, Option, Some, None, IsSomeAnd}
 use Rattle.dvg_mem.specs.declared.half.Half.{Half}
 use Rattle.dvg_mem.specs.Areas.{other}
 use Rattle.dvg_frame.specs.Bytes.{IsBehindWordZero}
@@ -33,12 +33,12 @@ stage_of driver = record {
   flipped = driver.flipped;
 }
 
--- what a phase keeps: before its first frame part a driver has not flipped, and the bytes of a frame go to no place of
--- word zero
+-- what a phase keeps: before its first frame part a driver has not flipped, and while it writes there is a frame, whose
+-- bytes go to no place of word zero
 abbrev pub KeepsPhase : Phase → Option (List (ℕ × ℕ)) → Bool → Type 0
 KeepsPhase phase.Start cursor flipped = flipped ≡ false
 KeepsPhase phase.Booting cursor flipped = flipped ≡ false
-KeepsPhase phase.Writing cursor flipped = All IsBehindWordZero (items_of cursor)
+KeepsPhase phase.Writing cursor flipped = IsSomeAnd cursor (All IsBehindWordZero)
 KeepsPhase _ cursor flipped = Unit {0}
 
 -- what a driver keeps

@@ -1,6 +1,6 @@
 //! The driver.
 ghost use Rattle.std.specs.Prelude.{◌≡◌, ◌↔◌, ℕ, ◌*◌, true, false, All, List, [], ◌∷◌, IfErr};
-ghost use Rattle.std.specs.Prelude.{IfNone, IfSome, IsOk, IsTrue, OnErr, OnOk};
+ghost use Rattle.std.specs.Prelude.{IfNone, IfSome, IsOk, IsSome, IsSomeAnd, IsTrue, OnErr, OnOk};
 ghost use Rattle.dvg_frame.specs.Bytes.{IsBehindWordZero, addressed, bytes};
 ghost use Rattle.dvg_frame.specs.Layout.{laid};
 ghost use Rattle.dvg_mem.specs.Areas.{base, half_of_high, high, other};
@@ -233,7 +233,7 @@ impl Driver {
 fn begin(cursor: &mut Option<Cursor>, checked: &Checked, half: Half)
     ensures items { items_of cursor.new
         ≡ addressed (2 * base half) (bytes (laid half checked.now.operations)) }
-    ensures in_ram { All IsBehindWordZero (items_of cursor.new) }
+    ensures in_ram { IsSomeAnd cursor.new (All IsBehindWordZero) }
 {
     match cursor {
         Some(cursor) => cursor.restart(checked, half),
@@ -247,19 +247,22 @@ fn begin(cursor: &mut Option<Cursor>, checked: &Checked, half: Half)
 fn begin_first(cursor: &mut Option<Cursor>, checked: &Checked, half: Half)
     ensures items { items_of cursor.new
         ≡ addressed (2 * base half) (bytes (laid half checked.now.operations)) }
-    ensures in_ram { All IsBehindWordZero (items_of cursor.new) }
+    ensures in_ram { IsSomeAnd cursor.new (All IsBehindWordZero) }
 {
     *cursor = Some(Cursor::new(checked, half));
 }
 
-// Returns the next byte of `cursor`, with its address before it, if one is still to come.
+// Returns the next byte of `cursor`, which there must be, with its address before it, if one is
+// still to come.
 #[inline(always)]
 fn next_of(cursor: &mut Option<Cursor>) -> Option<(u16, u8)>
+    requires { IsSome cursor.old }
     ensures given { IfSome result (λ item. items_of cursor.old ≡ item ∷ items_of cursor.new) }
     ensures ended { IfNone result ((items_of cursor.old ≡ []) × (items_of cursor.new ≡ [])) }
+    ensures kept { IsSome cursor.new }
 {
     match cursor {
         Some(cursor) => cursor.next(),
-        None => None,
+        None => unreachable!(), // While the driver writes there is a frame.
     }
 }

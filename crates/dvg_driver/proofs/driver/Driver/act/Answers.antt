@@ -1,14 +1,12 @@
-use Rattle.std.proofs.Common.{subst, sym}
 use Rattle.dvg_driver.specs.declared.driver.Phase.TheVariants as phase
-use Rattle.dvg_driver.specs.Phases.{KeepsPhase}
-use Rattle.dvg_driver.proofs.Standing.{at_phase, in_phase, behind_word_zero, writes_on, none_left, flips_next}
+use Rattle.dvg_driver.proofs.Standing.{at_phase, in_phase, behind_word_zero, keeps_writing, writes_on, none_left, flips_next}
 use Rattle.dvg_driver.proofs.driver.Driver.act.Goals as goal
 
 pub invariant_of-self-in-Some : goal.invariant_of-self-in-Some
 invariant_of-self-in-Some c =
     let driver = c.self.inside in
     let rest = (behind_word_zero _ _ driver.flipped _ (c.in-Some.address, c.in-Some.byte) c.self.invariant c.in-Writing.is c.in-Some.ensures.given).1 in
-    subst (λ v. KeepsPhase v c.next_of.new.cursor driver.flipped) (sym c.in-Writing.is) rest
+    keeps_writing (record driver { cursor = c.next_of.new.cursor }) c.in-Writing.is c.in-Some.ensures.kept rest
 
 pub returns-in-Some-clause-stands : goal.returns-in-Some-clause-stands
 returns-in-Some-clause-stands c peeked life stands =
@@ -22,7 +20,7 @@ pub returns-in-Some-clause-in_ram : goal.returns-in-Some-clause-in_ram
 returns-in-Some-clause-in_ram c = (behind_word_zero _ _ c.self.inside.flipped _ (c.in-Some.address, c.in-Some.byte) c.self.invariant c.in-Writing.is c.in-Some.ensures.given).0.1
 
 pub invariant_of-self-in-None : goal.invariant_of-self-in-None
-invariant_of-self-in-None c = none_left (record c.self.inside { cursor = c.next_of.new.cursor }) c.in-Writing.is c.in-None.ensures.ended.1
+invariant_of-self-in-None c = none_left (record c.self.inside { cursor = c.next_of.new.cursor }) c.in-Writing.is c.in-None.ensures.kept c.in-None.ensures.ended.1
 
 pub flip-requires : goal.flip-requires
 flip-requires c = flips_next (record c.self.inside { cursor = c.next_of.new.cursor }) c.in-Writing.is c.in-None.ensures.ended.1 c.if-self.true
