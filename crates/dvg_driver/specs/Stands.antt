@@ -1,11 +1,11 @@
 -- After which lives a driver stands.
-use Rattle.std.specs.Prelude.{ℕ, Bool, List, [], ◌∷◌, ◌≡◌, ◌<◌, Some, nat_eq, if◌then◌else◌}
+use Rattle.std.specs.Prelude.{ℕ, Bool, not, List, [], ◌∷◌, ◌≡◌, ◌<◌, ◌≤◌, Some, length, nat_eq, if◌then◌else◌}
 use Rattle.dvg_mem.specs.declared.half.Half.{Half}
-use Rattle.dvg_mem.specs.Areas.{half_of_high}
+use Rattle.dvg_mem.specs.Areas.{half_of_high, other}
 use Rattle.dvg_driver.specs.declared.action.Action.{Action}
 use Rattle.dvg_driver.specs.declared.action.Action.TheVariants.{Peek, Wrote, Read}
-use Rattle.dvg_driver.specs.Script.{Item, Did, has_flip}
-use Rattle.dvg_driver.specs.Place.{Place, Start, place_of_life}
+use Rattle.dvg_driver.specs.Script.{Item, Did, has_flip, word_zero}
+use Rattle.dvg_driver.specs.Place.{Place, Start, Writing, place_of_life, with_left}
 
 -- what contracts see of a driver: its place in the script, the current half, and whether it has flipped since its reset
 pub record Stage : Type 0 where
@@ -45,3 +45,18 @@ Tells action halted = Unit {0}
 abbrev pub IsInRam : Action → Type 0
 IsInRam (Wrote a byte) = a < 0x800
 IsInRam action = Unit {0}
+
+-- the first of the writes that are to come is done now, and nothing else changes
+abbrev pub WritesNext : (old new : Stage) → ℕ × ℕ → Type 0
+WritesNext old new write = (more : List (ℕ × ℕ)) × (old.place ≡ Writing (write ∷ more))
+    × (new ≡ record { place = with_left more; half = old.half; flipped = old.flipped })
+
+-- no byte of a frame comes next: there are no more writes to come than those of word zero
+abbrev pub WritesNoByte : Stage → Type 0
+WritesNoByte stage = (writes : List (ℕ × ℕ)) → stage.place ≡ Writing writes
+    → length writes ≤ length (word_zero (other stage.half) (not stage.flipped))
+
+-- it is a write of word zero
+abbrev pub WritesWordZero : Action → Type 0
+WritesWordZero (Wrote a byte) = a < 2
+WritesWordZero action = ⊥

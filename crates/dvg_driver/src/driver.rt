@@ -1,5 +1,5 @@
 //! The driver.
-ghost use Rattle.std.specs.Prelude.{◌≡◌, ◌↔◌, ℕ, ◌*◌, true, false, All, List, [], ◌∷◌, IfErr};
+ghost use Rattle.std.specs.Prelude.{◌≡◌, ◌↔◌, ℕ, ◌*◌, true, false, not, All, List, [], ◌∷◌, IfErr};
 ghost use Rattle.std.specs.Prelude.{IfNone, IfSome, IsOk, IsSome, IsSomeAnd, IsTrue, OnErr, OnOk};
 ghost use Rattle.dvg_frame.specs.Bytes.{IsBehindWordZero, addressed, bytes};
 ghost use Rattle.dvg_frame.specs.Layout.{laid};
@@ -8,7 +8,8 @@ ghost use Rattle.dvg_driver.specs.Phases.{items_of};
 ghost use Rattle.dvg_driver.specs.Place.{Waiting, Writing};
 ghost use Rattle.dvg_driver.specs.Script.{Item, Offered, Asked, Did, IsLife, IsWhole, has_flip};
 ghost use Rattle.dvg_driver.specs.Script.{word_zero};
-ghost use Rattle.dvg_driver.specs.Stands.{IsInRam, StandsAfter, Tells, byte1_of, peeked_after};
+ghost use Rattle.dvg_driver.specs.Stands.{IsInRam, StandsAfter, Tells, WritesNext, WritesNoByte};
+ghost use Rattle.dvg_driver.specs.Stands.{WritesWordZero, byte1_of, peeked_after};
 
 use crate::action::Action;
 use crate::fault::DriverFault;
@@ -168,12 +169,31 @@ impl Driver {
         ensures in_ram { IsInRam result }
         ensures idle { result ≡ Action.Idle → self.new ≡ self.old }
     {
-        self.act(halted, byte1)
+        match self.next_byte() {
+            Some((address, byte)) => Action::Wrote(address, byte),
+            None => self.act(halted, byte1),
+        }
     }
 
-    // Does the next action, and returns it. `halted` and `byte1` are those of `tick`.
+    // Returns the next byte of a frame that the driver writes, with its address before it: it is
+    // written now. Returns `None` where no byte of a frame comes next, and then nothing has changed.
     #[inline(always)]
+    fn next_byte(&mut self) -> Option<(u16, u8)>
+        ensures given { IfSome result (WritesNext self.old self.new) }
+        ensures in_ram { IfSome result IsBehindWordZero }
+        ensures none { IfNone result ((self.new ≡ self.old) × WritesNoByte self.old) }
+    {
+        match self.phase {
+            Phase::Writing => next_of(&mut self.cursor),
+            _ => None,
+        }
+    }
+
+    // Does the next action where no byte of a frame comes next, and returns it. `halted` and
+    // `byte1` are those of `tick`. It isn't inlined, as most ticks write such a byte.
+    #[inline(never)]
     fn act(&mut self, halted: bool, byte1: u8) -> Action
+        requires { WritesNoByte self.old }
         ensures stands { (peeked : ℕ) (life : List Item) → StandsAfter self.old peeked life →
             StandsAfter self.new (peeked_after result byte1 peeked) (Did result ∷ life) }
         ensures told { Tells result halted }
@@ -193,14 +213,7 @@ impl Driver {
                 Action::Read(halted)
             }
             Phase::Resting => Action::Idle,
-            Phase::Writing => match next_of(&mut self.cursor) {
-                Some((address, byte)) => Action::Wrote(address, byte),
-                None if self.flipped => self.flip(),
-                None => {
-                    self.phase = Phase::Flipping;
-                    Action::Wrote(0, 0x01)
-                }
-            },
+            Phase::Writing => self.end_frame(),
             Phase::Flipping => self.flip(),
             Phase::Waiting => {
                 if halted {
@@ -213,6 +226,21 @@ impl Driver {
                 Action::Sent
             }
         }
+    }
+
+    // Goes on after the last byte of a frame, and returns what it did: it writes byte 000 where it
+    // hasn't flipped since its reset, and otherwise it flips.
+    fn end_frame(&mut self) -> Action
+        requires { self.old.place ≡ Writing (word_zero (other self.old.half) (not self.old.flipped)) }
+        ensures stands { (peeked : ℕ) (life : List Item) → StandsAfter self.old peeked life →
+            StandsAfter self.new peeked (Did result ∷ life) }
+        ensures wrote { WritesWordZero result }
+    {
+        if self.flipped {
+            return self.flip();
+        }
+        self.phase = Phase::Flipping;
+        Action::Wrote(0, 0x01)
     }
 
     // Publishes the frame in the free half, which is the current one from now on.
