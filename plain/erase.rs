@@ -9,13 +9,14 @@
 //!
 //! 1. It takes away: `ghost` items, fields and uses; the clauses `requires` and `ensures`; `impl
 //!    Model` and the use of `Model`; `tactic` attributes; `Drop` among derives; `derive_where` with
-//!    a parameter; the module `laws`, also that of another crate; the `use` of one law of another
-//!    crate, and its calls, each a statement; and modules of tests. A comment right before one of
-//!    these items goes with it.
+//!    a parameter; the module `laws`, also that of another crate, and those of `FOR_LAWS`; the `use`
+//!    of one law of another crate, and its calls, each a statement; modules of tests; and names that
+//!    are imported for contracts alone. A comment right before one of these items goes with it.
 //! 2. It writes otherwise: `derive_where(X)` as `derive(X)`; `rattlefmt::skip` as `rustfmt::skip`;
 //!    the signature of `Display::fmt`, and of functions that a `Formatter<W>` is handed to; `main`,
-//!    which gets its runtime by a line of its own; and `to_ascii_lowercase` with an allocator, which
-//!    Rust's slices have without one, as `to_ascii_lowercase_in`.
+//!    which gets its runtime by a line of its own; `to_ascii_lowercase` with an allocator, which
+//!    Rust's slices have without one, as `to_ascii_lowercase_in`; and `step` as `_step`, where a
+//!    loop's number has this name, or any other, for its proof alone.
 //! 3. It puts in: the lines of `HEAD` at the head of a crate; `PRELUDE` in a file that names one of
 //!    its words; a `use` of the `MACROS` that a file calls; `Clone` and `Debug` at each type of
 //!    `COPIED` that derives them not, as Rattle has no copy that takes memory without a refusal;
@@ -129,7 +130,10 @@ const KEPT: [(&str, &str); 22] = [
 ];
 
 /// What stands at the end of a library with a file `rust.rs` beside its sources.
-const BESIDE: &str = "\n#[path = \"../rust.rs\"]\nmod rust;\npub use rust::*;\n";
+const BESIDE: &str = "\n#[path = \"../rust.rs\"]\nmod rust;\n";
+
+/// What stands below that, where the file has a public item.
+const USE_OF_BESIDE: &str = "pub use rust::*;\n";
 
 /// The attributes that stay as they are.
 const KEPT_ATTRIBUTES: [&str; 6] = ["error", "from", "inline", "must_use", "repr", "unsafe"];
@@ -139,6 +143,12 @@ const RATTLE_WORDS: [&str; 5] = ["Model", "decreases", "invariant", "proof", "ta
 
 /// The modules that have no code, each in a file of its own.
 const ERASED_MODULES: [&str; 2] = ["laws", "tests"];
+
+/// The private modules of code that laws alone call, each in a file of its own:
+///
+/// - `trace_following` of dvg_read: a reader of traces that takes no memory, by which a law says
+///   that each trace has one meaning or one fault.
+const FOR_LAWS: [&str; 1] = ["trace_following"];
 
 /// Why a source is refused, and at which byte.
 #[derive(Debug, PartialEq, Eq)]
@@ -452,7 +462,10 @@ impl<'a> Eraser<'a> {
         let mut lines = self.text[self.at..].split_inclusive(|byte| *byte == b';');
         let line = lines.next().unwrap_or_default();
         let is_theirs = line.starts_with(b"pub use ") && line.ends_with(b"::laws;");
-        if is_theirs || line == b"pub mod laws;" || line == b"mod laws;" {
+        let is_for_laws = FOR_LAWS
+            .iter()
+            .any(|name| line == format!("mod {name};").as_bytes());
+        if is_theirs || is_for_laws || line == b"pub mod laws;" || line == b"mod laws;" {
             self.drop_line(self.at + line.len());
         } else {
             self.copy_word(end);
@@ -666,6 +679,145 @@ impl<'a> Eraser<'a> {
     }
 }
 
+// --- What contracts alone name ---
+
+/// The words of a text, in comments and in quotes, too.
+fn all_words(text: &str) -> Vec<&str> {
+    text.split(|letter: char| !letter.is_alphanumeric() && letter != '_')
+        .filter(|word| !word.is_empty())
+        .collect()
+}
+
+/// The words of the code of a text, and where each stands: those in quotes, too, as `{step}` asks
+/// for a variable, where the quote stands.
+fn words_of_code(text: &str) -> Result<Vec<(usize, &str)>, Refused> {
+    let mut words = Vec::new();
+    let mut at = 0;
+    while at < text.len() {
+        let (kind, end) = token(text.as_bytes(), at)?;
+        match kind {
+            Kind::Word => words.push((at, &text[at..end])),
+            Kind::Literal => words.extend(all_words(&text[at..end]).iter().map(|word| (at, *word))),
+            Kind::Comment | Kind::Mark => {}
+        }
+        at = end;
+    }
+    Ok(words)
+}
+
+/// How many of these words are this one.
+fn count_of(word: &str, words: &[&str]) -> usize {
+    words.iter().filter(|other| **other == word).count()
+}
+
+/// What is left of a source, with the words of its code and its imports: where the text after `use`
+/// begins, and its end.
+struct Left<'a> {
+    source: Vec<&'a str>,
+    text: &'a str,
+    words: Vec<&'a str>,
+    code: Vec<(usize, &'a str)>,
+    imports: Vec<(usize, usize)>,
+}
+
+impl<'a> Left<'a> {
+    fn new(source: &'a str, text: &'a str) -> Result<Left<'a>, Refused> {
+        let code = words_of_code(text)?;
+        let begins_line = |at: usize| {
+            text[..at]
+                .rsplit('\n')
+                .next()
+                .is_some_and(|l| l.trim() == "")
+        };
+        let uses = code
+            .iter()
+            .filter(|(at, word)| *word == "use" && begins_line(*at));
+        let imports = uses.filter_map(|(at, _)| Some((at + 4, at + text[*at..].find(';')?)));
+        Ok(Left {
+            source: all_words(source),
+            text,
+            words: all_words(text),
+            imports: imports.collect(),
+            code,
+        })
+    }
+
+    /// In how many places a name stands in the code, but for its imports.
+    fn places(&self, name: &str) -> usize {
+        let is_import = |at| {
+            self.imports
+                .iter()
+                .any(|(from, end)| (*from..*end).contains(&at))
+        };
+        let named = self.code.iter().filter(|(_, word)| *word == name);
+        named.filter(|(at, _)| !is_import(*at)).count()
+    }
+
+    /// Whether a name, the last one of a path, stands in the code, or in no contract either: so the
+    /// name of a trait stays, of which the code has the calls alone.
+    fn is_kept(&self, path: &str) -> bool {
+        let name = path.rsplit([':', ' ']).next().unwrap_or("");
+        self.places(name) > 0 || count_of(name, &self.source) <= count_of(name, &self.words)
+    }
+
+    /// What is left of an import, which is `a::B` or `a::{B, C}`. None if that is nothing.
+    fn import(&self, names: &str) -> Option<String> {
+        let Some((path, rest)) = names.split_once('{') else {
+            return self.is_kept(names).then(|| names.to_owned());
+        };
+        let listed = rest.trim_end_matches('}').split(',').map(str::trim);
+        let listed: Vec<&str> = listed.filter(|name| !name.is_empty()).collect();
+        if rest.contains('{') || listed.iter().all(|name| self.is_kept(name)) {
+            return Some(names.to_owned());
+        }
+        let kept: Vec<&str> = listed
+            .into_iter()
+            .filter(|name| self.is_kept(name))
+            .collect();
+        match kept.as_slice() {
+            [] => None,
+            [one] => Some(format!("{path}{one}")),
+            some => Some(format!("{path}{{{}}}", some.join(", "))),
+        }
+    }
+
+    /// The text without the imports for contracts alone.
+    fn with_imports(&self) -> String {
+        let mut text = String::new();
+        let mut at = 0;
+        for (from, end) in &self.imports {
+            match self.import(&self.text[*from..*end]) {
+                Some(names) => {
+                    text += &self.text[at..*from];
+                    text += &names;
+                    at = *end;
+                }
+                None => {
+                    text += &self.text[at..from - "use ".len()];
+                    at = end + ";\n".len();
+                }
+            }
+        }
+        text + &self.text[at..]
+    }
+
+    /// The text without what contracts alone name. The number of a loop, by `for step in`, gets
+    /// another name where the loop's code doesn't ask for it.
+    fn without_names(&self) -> String {
+        let mut text = self.with_imports();
+        for words in self.code.windows(3) {
+            let [(_, "for"), (at, name), (_, "in")] = words else {
+                continue;
+            };
+            let is_code = self.text[*at..].starts_with(name);
+            if is_code && !name.starts_with('_') && self.places(name) == 1 {
+                text = text.replacen(&format!("for {name} in "), &format!("for _{name} in "), 1);
+            }
+        }
+        text
+    }
+}
+
 // --- What is put in ---
 
 /// What a file is to its crate.
@@ -735,6 +887,7 @@ fn use_of_macros(words: &BTreeSet<&str>) -> String {
 /// What is left of a source. Lines are put in after the comments of the file itself.
 fn erased(text: &str, role: Role) -> Result<String, Refused> {
     let (body, words) = Eraser::new(text).run()?;
+    let body = Left::new(text, &body)?.without_names();
     let about: usize = body
         .lines()
         .take_while(|line| line.starts_with("//!"))
@@ -796,13 +949,19 @@ fn stem_of(file: &Path) -> Result<&str, String> {
     }
 }
 
-/// The files that a crate's sources become: the name of each, and its text. `has_beside` is whether
-/// a file `rust.rs` lies beside them.
-fn erased_crate(folder: &Path, has_beside: bool) -> Result<Vec<(String, String)>, String> {
+/// What stands at the end of a library, beside whose sources this file lies.
+fn end_by(beside: &str) -> String {
+    let has_public = beside.lines().any(|line| line.starts_with("pub "));
+    format!("{BESIDE}{}", if has_public { USE_OF_BESIDE } else { "" })
+}
+
+/// The files that a crate's sources become: the name of each, and its text. `beside` is the file
+/// `rust.rs` that lies beside them, if there is one.
+fn erased_crate(folder: &Path, beside: Option<&str>) -> Result<Vec<(String, String)>, String> {
     let mut made = Vec::new();
     for file in files_of(folder)? {
         let stem = stem_of(&file)?;
-        if ERASED_MODULES.contains(&stem) {
+        if ERASED_MODULES.contains(&stem) || FOR_LAWS.contains(&stem) {
             continue;
         }
         let text = fs::read_to_string(&file).map_err(|e| format!("{}: {e}", file.display()))?;
@@ -814,8 +973,8 @@ fn erased_crate(folder: &Path, has_beside: bool) -> Result<Vec<(String, String)>
                 refused.why
             )
         })?;
-        if has_beside && stem == "lib" {
-            plain.push_str(BESIDE);
+        if let (Some(beside), "lib") = (beside, stem) {
+            plain.push_str(&end_by(beside));
         }
         made.push((name_within(&file, folder, "rs")?, plain));
     }
@@ -880,8 +1039,8 @@ fn run(words: &[String]) -> Result<bool, String> {
     for name in crates {
         let plain = Path::new(to).join(name);
         let folder = plain.join("src");
-        let has_beside = plain.join("rust.rs").exists();
-        let made = erased_crate(&Path::new(from).join(name).join("src"), has_beside)?;
+        let beside = fs::read_to_string(plain.join("rust.rs")).ok();
+        let made = erased_crate(&Path::new(from).join(name).join("src"), beside.as_deref())?;
         if checks {
             is_right &= !differs(&folder, &made);
         } else {
@@ -905,7 +1064,7 @@ fn main() -> ExitCode {
 
 #[cfg(test)]
 mod tests {
-    use super::{Role, SERDE, erased};
+    use super::{Role, SERDE, end_by, erased};
 
     /// What is left of a module's source is this.
     #[track_caller]
@@ -1006,6 +1165,7 @@ mod tests {
     #[test]
     fn laws_and_tests_go() {
         leaves("mod a;\npub mod laws;\nmod b;\n", "mod a;\nmod b;\n");
+        leaves("mod a;\nmod trace_following;\nmod b;\n", "mod a;\nmod b;\n");
         leaves("pub use a::B;\npub use b::laws;\n", "pub use a::B;\n");
         stays("pub use a::laws::B;\npub use a::outlaws;\n");
         leaves("mod a;\n\n#[cfg(test)]\nmod tests;\n", "mod a;\n");
@@ -1121,6 +1281,35 @@ mod tests {
         leaves("struct Code;\n", &format!("{SERDE}{by}struct Code;\n"));
         stays("#[derive(Eq, Hash)]\nstruct Codes;\n");
         stays("enum World {}\nstruct Worlds {}\n");
+    }
+
+    #[test]
+    fn names_for_contracts_go() {
+        leaves(
+            "use a::{B, C};\nuse a::D;\n\nfn f(b: B)\n    requires { C × D }\n{\n}\n",
+            "use a::B;\n\nfn f(b: B) {\n}\n",
+        );
+        leaves(
+            "use a::{B, C, d as e};\nfn f(b: B) -> C\n    ensures { e }\n{\n}\n",
+            "use a::{B, C};\nfn f(b: B) -> C {\n}\n",
+        );
+        stays("use a::{B, C};\npub use a::D;\nfn f() {}\n");
+        leaves(
+            "pub use a::D;\nfn f()\n    ensures { D }\n{\n}\n",
+            "pub use a::D;\nfn f() {\n}\n",
+        );
+        leaves(
+            "fn f() {\n    for i in 0..2 {}\n    for j in 0..2 { g(j) }\n}\n",
+            "fn f() {\n    for _i in 0..2 {}\n    for j in 0..2 { g(j) }\n}\n",
+        );
+        stays("fn f() {\n    for _i in 0..2 {}\n    g(\"for i in 2\")\n}\nimpl T for U {}\n");
+        stays("fn f() {\n    for i in 0..2 { g(\"{i}\") }\n}\n");
+    }
+
+    #[test]
+    fn what_lies_beside() {
+        assert!(end_by("mod a;\npub fn f() {}\n").ends_with("mod rust;\npub use rust::*;\n"));
+        assert!(end_by("impl A {\n    pub fn f() {}\n}\n").ends_with("mod rust;\n"));
     }
 
     #[test]

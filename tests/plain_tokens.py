@@ -16,7 +16,9 @@ import sys
 from pathlib import Path
 
 TOKEN = re.compile(r"""//[^\n]*|"(?:[^"\\]|\\.)*"|'(?:[^'\\]|\\[^\n]*?)'|\w+|[^\w\s]""", re.DOTALL)
-MODULES_WITHOUT_CODE = {"laws", "tests"}
+# The private modules of code that laws alone call.
+FOR_LAWS = ["trace_following"]
+MODULES_WITHOUT_CODE = {"laws", "tests", *FOR_LAWS}
 NO_STD = "#![no_std]"
 EXTERN = "extern crate plain_std as std;"
 PRELUDE = "use std::prelude::*;"
@@ -61,7 +63,8 @@ KEPT = """
 """
 KEPT = {tuple(item.split()) for item in KEPT.split(",")} | CHECKED.keys()
 # What stands at the end of a library with a file by hand beside its sources.
-BESIDE = ['#[path = "../rust.rs"]', "mod rust;", "pub use rust::*;", ""]
+BESIDE = ['#[path = "../rust.rs"]', "mod rust;", ""]
+BESIDE_WITH_ITEMS = ['#[path = "../rust.rs"]', "mod rust;", "pub use rust::*;", ""]
 
 
 class Source:
@@ -124,6 +127,7 @@ class Source:
     def skipped_line(self):
         """A line that goes whole, or nothing."""
         lines = ["use std::marker::Model;", "pub mod laws;", "mod laws;"]
+        lines += [f"mod {name};" for name in FOR_LAWS]
         if self.next_is("pub", "use"):
             crate = self.tokens[self.at + 2]
             lines.append(f"pub use {crate}::laws;")
@@ -188,16 +192,62 @@ class Source:
     def code(self):
         while self.at < len(self.tokens):
             self.step()
+        for name in self.idle_numbers():
+            self.left[self.left.index(name)] = f"_{name}"
+        self.drop_imports()
         return self.left
 
+    def imports(self):
+        """Where imports begin and end that no other crate sees, each with its semicolon."""
+        before = zip([";", *self.left], self.left)
+        found = [at for at, (mark, token) in enumerate(before) if token == "use" and mark in ";}]{"]
+        return [(at, self.left.index(";", at) + 1) for at in found]
 
-def without_added_lines(text, stem, has_beside):
+    def outside_of_imports(self):
+        """What is left but for imports."""
+        inside = {k for at, end in self.imports() for k in range(at, end)}
+        code = [token for k, token in enumerate(self.left) if k not in inside]
+        quoted = [re.findall(r"\w+", token) for token in code if token[0] == '"']
+        return code + [word for text in quoted for word in text]
+
+    def idle_numbers(self):
+        """The numbers of loops that nothing asks for."""
+        code = self.outside_of_imports()
+        heads = zip(code, code[1:], code[2:])
+        names = [name for before, name, after in heads if (before, after) == ("for", "in")]
+        return [name for name in names if name[0] != "_" and code.count(name) == 1]
+
+    def drop_imports(self):
+        """Takes the names away that are imported, but stand in contracts alone."""
+        code = set(self.outside_of_imports())
+        for at, end in reversed(self.imports()):
+            names = self.left[at:end]
+            inside = names[names.index("{") + 1 : -2] if "{" in names else None
+            paths = " ".join(inside if inside is not None else names[1:-1]).split(" , ")
+            paths = [path.removesuffix(" ,") for path in paths]
+            kept = [path for path in paths if self.is_kept(path.split()[-1], code)]
+            if "{" in (inside or []) or kept == paths:
+                continue
+            listed = " , ".join(kept)
+            head = names[: names.index("{")] if inside is not None else names[:1]
+            if len(kept) > 1:
+                listed = f"{{ {listed} }}"
+            self.left[at:end] = [*head, *listed.split(), ";"] if kept else []
+
+    def is_kept(self, name, code):
+        """Whether a name that is imported stands in code, or in no contract either."""
+        return name in code or self.tokens.count(name) <= self.left.count(name)
+
+
+def without_added_lines(text, stem, beside):
     """A plain file without the lines that are put in, and what is wrong with these."""
     lines = text.split("\n")
-    if has_beside:
-        if lines[-len(BESIDE) :] != BESIDE:
+    if beside.exists():
+        items = re.search("^pub ", beside.read_text(encoding="utf-8"), re.MULTILINE)
+        wanted = BESIDE_WITH_ITEMS if items else BESIDE
+        if lines[-len(wanted) :] != wanted:
             return text, "it doesn't end with what names the file beside it"
-        del lines[-len(BESIDE) :]
+        del lines[-len(wanted) :]
     head = {"lib": [NO_STD, EXTERN], "main": [EXTERN]}.get(stem, [])
     found = [line for line in lines if line in (NO_STD, EXTERN)]
     wrong = None if found == head else f"the head is {found}, not {head}"
@@ -229,8 +279,8 @@ def stray_comment(comments, of_source):
 
 def fault_of(source, plain):
     """What is wrong with a plain file, or nothing."""
-    has_beside = plain.name == "lib.rs" and plain.parent.with_name("rust.rs").exists()
-    text, wrong = without_added_lines(plain.read_text(encoding="utf-8"), plain.stem, has_beside)
+    beside = plain.parent.with_name("rust.rs" if plain.name == "lib.rs" else "no such file")
+    text, wrong = without_added_lines(plain.read_text(encoding="utf-8"), plain.stem, beside)
     if wrong:
         return wrong
     tokens, comments = cut(text)

@@ -25,4 +25,3 @@ pub use fault::DriverFault;
 
 #[path = "../rust.rs"]
 mod rust;
-pub use rust::*;

@@ -35,4 +35,3 @@ pub const STACK_DEPTH: usize = 4;
 
 #[path = "../rust.rs"]
 mod rust;
-pub use rust::*;

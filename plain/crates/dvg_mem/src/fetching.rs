@@ -1,5 +1,4 @@
 //! What the generator finds at an address.
-use crate::areas::Area;
 use crate::rom::Rom;
 use crate::store::Store;
 use crate::{FIRST_LARGE_ROM_WORD, ROM_END};

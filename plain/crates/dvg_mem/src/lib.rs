@@ -65,4 +65,3 @@ pub const ROM_END: u16 = 0xC00;
 
 #[path = "../rust.rs"]
 mod rust;
-pub use rust::*;

@@ -10,4 +10,3 @@ pub use judge::MomentJudge;
 
 #[path = "../rust.rs"]
 mod rust;
-pub use rust::*;

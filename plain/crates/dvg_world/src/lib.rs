@@ -32,4 +32,3 @@ pub use world::World;
 
 #[path = "../rust.rs"]
 mod rust;
-pub use rust::*;

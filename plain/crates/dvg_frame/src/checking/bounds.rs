@@ -85,7 +85,7 @@ fn follow<A: Allocator>(
     start: Pair,
 ) -> Option<Drawn> {
     let mut place = start.place;
-    for step in 0..draft.len() + usize::from(rom.len_words()) + 1 {
+    for _step in 0..draft.len() + usize::from(rom.len_words()) + 1 {
         if let Some(known) = table.at(place) {
             return Some(known);
         }

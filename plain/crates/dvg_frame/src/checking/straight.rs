@@ -1,5 +1,4 @@
 //! Drafts whose run goes straight to a HALT.
-use crate::draft::MAX_OPS;
 use crate::op::{Op, OpKind};
 
 /// Returns how many words `draft` has up to its first HALT, the HALT among them. Returns `None`

@@ -1,6 +1,6 @@
 //! The sweep over all pairs that a draft's run can come to.
 use crate::checking::look::look;
-use crate::checking::pair::{DEEPEST, FIRST, Pair, index_of};
+use crate::checking::pair::{FIRST, Pair, index_of};
 use crate::checking::way::Way;
 use crate::checking::worklist::Worklist;
 use crate::fault::FrameFault;
