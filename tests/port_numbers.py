@@ -2,14 +2,14 @@
 
 The requests and the kinds of replies of crates/dvg_device, with the faults of drafts and of runs
 and the limits, decide. include/dvg.h must name all of them; the module for Python and the page name
-those that they use.
+those that they use. The page has limits of its own, of a trace and of dumps.
 """
 
 import re
 
 # Where a name of the port isn't that of the Rust sources.
-OTHER_NAMES = {"CLEAR_DRAFT": "CLEAR", "CLOSE": "SHUT", "COUNT_STROKES": "STROKES", "WANTS": "WANTED",
-               "TELLING": "TELL"}
+OTHER_NAMES = {"CLEAR_DRAFT": "CLEAR", "CLOSE": "SHUT", "COUNT_STROKES": "STROKES",
+               "WANTS": "WANTED", "TELLING": "TELL"}
 LIMITS = {
     "RAM_BYTES": ("dvg_mem/src/lib.rt", "MEMORY_BYTES"),
     "ROM_BYTES": ("dvg_mem/src/lib.rt", "MEMORY_BYTES"),
@@ -18,10 +18,14 @@ LIMITS = {
     "MOST_OPERATIONS": ("dvg_frame/src/draft.rt", "MAX_OPS"),
     "MOST_WORDS": ("dvg_dump/src/runs.rt", "MOST_WORDS"),
 }
+# The limits that stand in the page, and not in the header.
+EVENTS = ("dvg_log/src/trace.rt", "MOST_EVENTS")
 FILES = {
     "header": "include/dvg.h",
     "python": "python/gerbilargent.py",
     "page": "page/src/engine.mjs",
+    "board": "page/src/board.mjs",
+    "dropped": "page/src/files.mjs",
     "requests": "crates/dvg_device/src/request.rt",
     "replies": "crates/dvg_device/src/reply.rt",
     "faults": "crates/dvg_frame/src/fault.rt",
@@ -38,7 +42,8 @@ def in_capitals(name):
 def pairs(pattern, text, number_first=False):
     """The names that a pattern finds in a text, with their numbers."""
     found = re.findall(pattern, text)
-    return {name: int(number) for name, number in ((it[::-1] if number_first else it) for it in found)}
+    named = ((it[::-1] if number_first else it) for it in found)
+    return {name: int(number) for name, number in named}
 
 
 def of_rust(texts):
@@ -53,7 +58,12 @@ def of_rust(texts):
         "fault": faults_in(texts["faults"]),
         "break": faults_in(texts["breaks"]),
     }
-    numbers["limit"] = {name: limit(texts[path], constant) for name, (path, constant) in LIMITS.items()}
+    limits = {name: limit(texts[path], constant) for name, (path, constant) in LIMITS.items()}
+    numbers["limit"] = limits
+    ram, roms = limits["RAM_BYTES"], {it: limits[it] for it in ("ROM_BYTES", "LARGE_ROM_BYTES")}
+    numbers["page's limit"] = {
+        "RAM_BYTES": ram, **roms, "MOST_EVENTS": limit(texts[EVENTS[0]], EVENTS[1]),
+        **{it.replace("ROM", "DUMP"): ram + rom for it, rom in roms.items()}}
     return numbers
 
 
@@ -83,8 +93,8 @@ def of_header(text):
 def of_python(text):
     """The numbers of the module for Python."""
     def members(name):
-        body = re.search(rf"^class {name}\(enum.IntEnum\):\n(.*?)^(?=\S)", text, re.S | re.M).group(1)
-        return pairs(r"(?m)^    ([A-Z_0-9]+) = (\d+)$", body)
+        body = re.search(rf"^class {name}\(enum.IntEnum\):\n(.*?)^(?=\S)", text, re.S | re.M)
+        return pairs(r"(?m)^    ([A-Z_0-9]+) = (\d+)$", body.group(1))
     limits = pairs(r"(?m)^([A-Z_]+) = (\d+)$", text)
     requests = {**members("_Request"), **members("Event")}
     return {"request": requests, "kind": members("Kind"), "fault": members("Fault"),
@@ -94,29 +104,43 @@ def of_python(text):
 def of_page(text):
     """The numbers of the page."""
     def members(name):
-        return pairs(r"(\w+): (\d+)", re.search(rf"const {name} = \{{(.*?)\}};", text, re.S).group(1))
-    return {"request": members("REQUEST"), "kind": members("KIND")}
+        body = re.search(rf"const {name} = \{{(.*?)\}};", text, re.S)
+        return pairs(r"(\w+): (\d+)", body.group(1))
+    return {"request": members("REQUEST"), "kind": members("KIND"), **limits_of_page(text)}
+
+
+def limits_of_page(text):
+    """The limits that a file of the page has."""
+    names = "RAM_BYTES|ROM_BYTES|LARGE_ROM_BYTES|MOST_EVENTS"
+    limits = pairs(rf"\b({names}) = (\d+)[,;]", text)
+    for small, large in re.findall(r"DUMP_BYTES = \[(\d+), (\d+)\];", text):
+        limits.update(DUMP_BYTES=int(small), LARGE_DUMP_BYTES=int(large))
+    return {"page's limit": limits}
 
 
 def differences(texts):
     """What isn't the same in the files of these texts, a line each, and how many were compared."""
     rust, lines, compared = of_rust(texts), [], 0
     ports = {"header": of_header(texts["header"]), "python": of_python(texts["python"]),
-             "page": of_page(texts["page"])}
+             "page": of_page(texts["page"]), "board": limits_of_page(texts["board"]),
+             "dropped": limits_of_page(texts["dropped"])}
     for port, kinds in ports.items():
         for kind, numbers in kinds.items():
             compared += len(numbers)
             lines += [f"{FILES[port]}: {kind} {name} is {number}, not {rust[kind].get(name)}"
                       for name, number in numbers.items() if rust[kind].get(name) != number]
+    of_all = {**ports["header"], "page's limit": {}}
+    for port in "page", "board", "dropped":
+        of_all["page's limit"].update(ports[port]["page's limit"])
     for kind, numbers in rust.items():
-        missing = sorted(numbers.keys() - ports["header"][kind].keys())
-        lines += [f"{FILES['header']} lacks the {kind} {name}" for name in missing]
+        missing = sorted(numbers.keys() - of_all[kind].keys())
+        lines += [f"nothing has the {kind} {name}" for name in missing]
     return lines, compared
 
 
 def read_files(top):
     """The texts that are compared, of the repository in this folder."""
-    paths = {**FILES, **{path: f"crates/{path}" for path, _ in LIMITS.values()}}
+    paths = {**FILES, **{path: f"crates/{path}" for path, _ in [*LIMITS.values(), EVENTS]}}
     return {name: open(f"{top}/{path}", encoding="utf-8").read() for name, path in paths.items()}
 
 
@@ -125,6 +149,9 @@ MISTAKES = {
     "header": ("DVG_BUSY = 2,", "DVG_BUSY = 4,"),
     "python": ("    TOO_DEEP = 7", "    TOO_DEEP = 8"),
     "page": ("FETCH: 4,", "FETCH: 5,"),
+    "board": ("MOST_EVENTS = 65536;", "MOST_EVENTS = 65535;"),
+    "dropped": ("DUMP_BYTES = [4096, 6144];", "DUMP_BYTES = [4096, 8192];"),
+    "dvg_log/src/trace.rt": ("MOST_EVENTS: usize = 65_536;", "MOST_EVENTS: usize = 131_072;"),
     "requests": ("16 => Request::Wants,", "21 => Request::Wants,"),
     "replies": ("Entry::Still => packed(16,", "Entry::Still => packed(17,"),
     "dvg_device/src/device.rt": ("MOST_STAGED: usize = 6144", "MOST_STAGED: usize = 8192"),
