@@ -72,14 +72,16 @@ export class Board {
     return this.append(event, shown);
   }
 
-  append(event, { text, row = ROW.NONE, area = 0, sign = SIGN.NONE, ...more }) {
+  /* Keeps what came of an event: its entry, where it is drawn in the rows, and the lines `torn` of
+   * the log that `dvg torn` reads. */
+  append(event, { text, row = ROW.NONE, area = 0, sign = SIGN.NONE, torn = [], ...more }) {
     const at = this.length;
     const entry = { event, text, run: this.open?.at ?? -1, picture: this.picture, ...more };
     this.entries.push(entry);
     this.rows[at] = row;
     this.areas[at] = area;
     this.signs[at] = sign;
-    this.tornLog.add(at, event, text);
+    for (const line of torn) this.tornLog.add(at, line);
     if (this.length % KEPT_EVERY === 0) this.kept.push(this.ram.slice());
     return entry;
   }
@@ -124,8 +126,9 @@ export class Board {
     const early = this.runs.write(this.length, address, value, this.ram[address] !== value);
     this.ram[address] = value;
     const flip = address === 1 ? SIGN.FLIP : SIGN.NONE;
+    const text = `wrote ${hex(address, 3)} ${hex(value, 2)}`;
     return {
-      text: `wrote ${hex(address, 3)} ${hex(value, 2)}`, row: ROW.DRIVER,
+      text, torn: [text], row: ROW.DRIVER,
       area: areaOf(address >> 1), sign: early ? SIGN.EARLY : flip, wrote: address, value, early,
     };
   }
@@ -136,7 +139,7 @@ export class Board {
     const sign = this.open === null ? SIGN.START : SIGN.ANEW;
     this.abandon();
     this.runs.begin(this.length);
-    return { text: 'started', row: ROW.GENERATOR, sign };
+    return { text: 'started', torn: ['started'], row: ROW.GENERATOR, sign };
   }
 
   /* The open run, if there is one, is abandoned: the event is kept that ends it. */
@@ -162,16 +165,19 @@ export class Board {
     const place = hex(got.address, 3);
     if (got.kind === KIND.LOW) {
       this.runs.low(this.length, got.address, got.value);
-      return { ...shown, text: `low ${place} ${hex(got.value, 2)}` };
+      const text = `low ${place} ${hex(got.value, 2)}`;
+      return { ...shown, text, torn: [text] };
     }
     if (got.kind === KIND.BROKE) {
       this.runs.stop(this.length);
-      return { ...shown, text: `broke ${place} ${got.value & 3}`, sign: SIGN.BROKE };
+      const text = `broke ${place} ${got.value & 3}`;
+      return { ...shown, text, torn: ['halted'], sign: SIGN.BROKE };
     }
     this.runs.fetched(this.length, got.address, got.value, got.kind);
     shown.word = got.value;
     if (got.kind === KIND.DONE) return this.finish(place, got.value, shown);
-    return { ...shown, text: `fetched ${place} ${hex(got.value, 4)}` };
+    const text = `fetched ${place} ${hex(got.value, 4)}`;
+    return { ...shown, text, torn: [text] };
   }
 
   finish(place, word, shown) {
@@ -179,15 +185,16 @@ export class Board {
     const picture = { at: this.length, strokes, ...resultOf(this.runs.end()) };
     this.picture = this.length;
     this.pictures.push(picture);
-    const text = `done ${place} ${hex(word, 4)} ${strokes.length}`;
-    return { ...shown, text, strokes, sign: signOfPicture(picture) };
+    const last = `${place} ${hex(word, 4)}`, text = `done ${last} ${strokes.length}`;
+    const torn = [`fetched ${last}`, 'halted'];
+    return { ...shown, text, torn, strokes, sign: signOfPicture(picture) };
   }
 
   resetgen() {
     this.generator.resetGenerator();
     this.abandon();
     this.runs.reset(false);
-    return { text: 'cleared', row: ROW.GENERATOR, sign: SIGN.RESET };
+    return { text: 'cleared', torn: ['reset'], row: ROW.GENERATOR, sign: SIGN.RESET };
   }
 
   resetcpu() {
@@ -202,7 +209,7 @@ export class Board {
     this.runs.reset(true);
     this.sent = false;
     this.ram.fill(byte);
-    return { text: 'cleared', row: ROW.GENERATOR, sign: SIGN.RESET, filled: byte };
+    return { text: 'cleared', torn: ['reset'], row: ROW.GENERATOR, sign: SIGN.RESET, filled: byte };
   }
 
   /* The lines that `play --all` writes for an entry. */
@@ -232,16 +239,7 @@ class LogForTorn {
     this.eventOf = [];
   }
 
-  add(at, event, text) {
-    if (/^(started|low|fetched|wrote)/.test(text)) this.line(at, text);
-    else if (text.startsWith('done')) {
-      this.line(at, `fetched ${text.slice(5, 13)}`);
-      this.line(at, 'halted');
-    } else if (text.startsWith('broke')) this.line(at, 'halted');
-    else if (event.name === 'resetgen' || event.name === 'resetall') this.line(at, 'reset');
-  }
-
-  line(at, text) {
+  add(at, text) {
     if (this.used + text.length + 1 > this.bytes.length) {
       const larger = new Uint8Array(2 * this.bytes.length);
       larger.set(this.bytes);

@@ -8,8 +8,9 @@ function linesOfText(text) {
   return text.split('\n').slice(0, -1);
 }
 
-/* The drafts among these lines, each between `offer` and `end`. */
+/* The drafts among these lines: each between `offer` and `end`, or one alone. */
 function draftsOf(lines) {
+  if (lines[0] !== 'offer') return [lines];
   const drafts = [];
   for (const line of lines) {
     if (line === 'offer') drafts.push([]);
@@ -24,10 +25,11 @@ function plainFault(text) {
 }
 
 /* The ROM that a text brings, as lines of a text, and the drafts of its frames. Of a text with a
- * fault there are none. */
+ * fault, or without a frame, there is one draft without operations. */
 function readDrafts(engine, text) {
-  const lines = linesOfText(engine.drafts(text));
-  const first = lines.indexOf('offer'), count = first < 0 ? lines.length : first;
+  const lines = linesOfText(engine.run(COMMAND.layTable + OPTION, text).output);
+  const first = lines.findIndex((line) => !/^(map|rom) /.test(line));
+  const count = first < 0 ? lines.length : first;
   const rom = lines.slice(0, count).map((line) => `${line}\n`).join('');
   return { rom, drafts: draftsOf(lines.slice(count)) };
 }

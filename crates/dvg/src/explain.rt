@@ -1,7 +1,7 @@
 //! What was expected of the line at fault in a sketch. This module, and those that it uses of this
 //! crate, are tested: nothing is proved of them but that they can't panic, and come to an end.
 
-use crate::explained::{Expected, Explained, Found};
+use crate::explained::{Expected, Explained, Found, LineText};
 use crate::forms::{
     BY_NUMBER, COLON, FULL, NAME, OVERLAP, PAST_END, SEMICOLON, TWO_NAMES, form_of, is_operation,
 };
@@ -230,7 +230,9 @@ pub fn explain<'t, 'a>(
     };
     match expected_of(fault, small, number) {
         Some(expected) => Some(Explained {
-            line: line_at(text, number),
+            line: LineText {
+                bytes: line_at(text, number),
+            },
             expected,
         }),
         None => None,

@@ -38,11 +38,18 @@ pub enum Expected<'a> {
     Known(&'static str, &'a [u8], Found),
 }
 
-/// What is printed of a fault of a sketch: the text of the line, and what was expected of it.
+/// The text of a line, as it is shown: without blanks at its ends, and at most 60 bytes of it.
+#[derive(Clone, Copy)]
+pub struct LineText<'t> {
+    /// The bytes of the line.
+    pub bytes: &'t [u8],
+}
+
+/// What is printed of a fault of a sketch beside its name.
 #[derive(Clone, Copy)]
 pub struct Explained<'t, 'a> {
     /// The line.
-    pub line: &'t [u8],
+    pub line: LineText<'t>,
     /// What was expected of it.
     pub expected: Expected<'a>,
 }
@@ -154,10 +161,8 @@ fn write_line<W: fmt::Write>(f: &mut fmt::Formatter<W>, line: &[u8]) -> fmt::Res
     Ok(())
 }
 
-/// Two lines, of which the first goes on after the fault.
-impl fmt::Display for Explained<'_, '_> {
+impl fmt::Display for LineText<'_> {
     fn fmt<W: fmt::Write>(&self, f: &mut fmt::Formatter<W>) -> fmt::Result {
-        write_line(f, self.line)?;
-        write!(f, "\ndvg: expected {}", self.expected)
+        write_line(f, self.bytes)
     }
 }

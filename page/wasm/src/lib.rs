@@ -1,5 +1,5 @@
 //! What a page calls: the device, as `include/dvg.h` has it, each command of `dvg` over bytes, the
-//! drafts of a sketch, the map of the memory, and the judge of halves.
+//! map of the memory, and the judge of halves.
 //!
 //! The page owes what C owes: a device comes from `dvg_new`, and is used by one call at a time, and
 //! no more once `dvg_free` got it.
@@ -7,10 +7,10 @@ use dvg_device::Device;
 use dvg_tool::{
     Done, Job, LayForm, LogRule, PictureForm, Show, ToolFault, Watched, finish, perform, status,
 };
+use explained::Explained;
 use plain_std::alloc::Global;
 use std::cell::RefCell;
 
-mod drafts;
 mod halves;
 mod map;
 
@@ -77,7 +77,7 @@ pub extern "C" fn dvg_input(length: usize) -> *mut u8 {
 
 /// The command of a number: 0 list, 1 rom, 2 picture, 3 check, 4 play, 5 torn, 6 the SVG of a
 /// sketch, 7 the ROM of a sketch, 16 its frames as a table. With 8 more it has its option: `--all`,
-/// `--bound`, `--moments`, `--check`, and of the ROM `--equates`.
+/// `--bound`, `--moments`, `--check`, of the ROM `--equates`, and of the frames `--draft`.
 fn job_of(number: u32) -> Option<Job> {
     let option = number & 8 != 0;
     match (number & !8, option) {
@@ -108,6 +108,9 @@ fn job_of(number: u32) -> Option<Job> {
         (16, false) => Some(Job::Lay {
             form: LayForm::Table,
         }),
+        (16, true) => Some(Job::Lay {
+            form: LayForm::Draft,
+        }),
         _ => None,
     }
 }
@@ -126,7 +129,9 @@ fn said(answer: &Result<Done<Global>, ToolFault>, sketch: bool, input: &[u8]) ->
         Err(ToolFault::Text(fault)) if sketch => {
             let small = input.to_ascii_lowercase();
             match explain::explain(*fault, input, &small) {
-                Some(explained) => format!("dvg: {fault}: {explained}\n"),
+                Some(Explained { line, expected }) => {
+                    format!("dvg: {fault}: {line}\ndvg: expected {expected}\n")
+                }
                 None => format!("dvg: {fault}\n"),
             }
         }
@@ -153,16 +158,6 @@ pub extern "C" fn dvg_run(number: u32) -> u32 {
         texts.error = said(&answer, reads_sketch(job), &texts.input);
         u32::from(status(&answer))
     })
-}
-
-/// Writes the frames of the sketch that the input is as drafts without names: first the lines of
-/// its ROM, and then each between `offer` and `end`. Nothing is written of a text with a fault.
-#[unsafe(no_mangle)]
-pub extern "C" fn dvg_drafts() {
-    TEXTS.with_borrow_mut(|texts| {
-        texts.output = drafts::drafts_of(&texts.input);
-        texts.error.clear();
-    });
 }
 
 /// Looks at what the newest command wrote on standard output, or on standard error.

@@ -19,6 +19,7 @@ use dvg_tool::{
     job, perform, status,
 };
 use explain::explain;
+use explained::Explained;
 use std::alloc::Global;
 use std::io::{BufWriter, IsTerminal, Read, Write};
 use std::process::ExitCode;
@@ -104,8 +105,8 @@ fn run<R: Read + Drop>(rt: &HostRuntime, job: Job, input: R) -> Result<Done<Glob
 /// and what was expected there.
 fn complain_of_sketch(rt: &HostRuntime, text: &[u8], fault: TextFault) {
     if let Ok(small) = text.to_ascii_lowercase_in(rt.alloc()) {
-        if let Some(explained) = explain(fault, text, small.as_slice()) {
-            let _ = eprintln!(rt; "dvg: {fault}: {explained}");
+        if let Some(Explained { line, expected }) = explain(fault, text, small.as_slice()) {
+            let _ = eprintln!(rt; "dvg: {fault}: {line}\ndvg: expected {expected}");
             return;
         }
     }
