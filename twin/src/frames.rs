@@ -1,12 +1,13 @@
 //! Drafts and their check in plain Rust, for the plain twins.
 
+use crate::memory;
 use std::fmt;
 
 /// The most operations of a draft, and the most words of a frame.
 pub const MOST: usize = 511;
 
 /// The word address after a ROM's last word.
-const ROM_END: u16 = 0xC00;
+const ROM_END: u16 = memory::ROM_END as u16;
 
 /// A ROM.
 #[derive(Clone)]

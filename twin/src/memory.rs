@@ -3,6 +3,9 @@
 /// The bytes of a RAM.
 pub const BYTES: usize = 2048;
 
+/// The word address after a ROM's last word.
+pub const ROM_END: usize = 0xC00;
+
 /// The bytes of a half: words 001 to 1FF, or 201 to 3FF.
 const HALF_BYTES: usize = 1022;
 

@@ -4,6 +4,7 @@
 use crate::counters::Counters;
 use crate::generator::{Beam, GenFault, Generator, Stroke, Taken};
 use crate::lines::Line;
+use crate::memory::ROM_END;
 use crate::shows::write_strokes;
 use crate::svg::write_svg;
 use std::io::{self, Write};
@@ -13,9 +14,6 @@ const RAM_BYTES: usize = 2048;
 
 /// The most words that are fetched.
 const MOST_WORDS: u32 = 65_536;
-
-/// The word address after a ROM's last word.
-const ROM_END: usize = 0xC00;
 
 /// An instruction that was run: its address, its words, the beam before and after it, and its
 /// stroke.

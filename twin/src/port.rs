@@ -7,7 +7,7 @@
 use crate::driver::{Action, Driver};
 use crate::frames::{FrameFault, Instr, MOST, Op, Place, Rom, check};
 use crate::generator::{Beam, GenFault, Generator, Move, State, Stroke, Taken};
-use crate::memory::{BYTES, Flat};
+use crate::memory::{BYTES, Flat, ROM_END};
 use crate::moments::{Line, Moments, Standing};
 use crate::world::{Entry, World};
 
@@ -17,9 +17,6 @@ const MOST_STAGED: usize = 6144;
 /// The numbers of requests: the greatest one but the last, and that one, by which a state is told.
 const LAST_REQUEST: u8 = 30;
 const TELL_STATE: u8 = 35;
-
-/// The word address after a ROM's last word.
-const ROM_END: usize = 0xC00;
 
 /// A driver alone, with the ROM over which its drafts are checked.
 struct Desk {

@@ -3,13 +3,11 @@
 
 use crate::driver::encode;
 use crate::frames::{MOST, Op, Rom};
+use crate::memory::ROM_END;
 use crate::rows::{Doing, Goes, RowLine, read_row, said, tokens_of};
 use crate::texts::{MOST_TEXT_BYTES, RomText};
 use std::collections::{HashMap, HashSet};
 use std::fmt;
-
-/// The word address after a ROM's last word.
-const ROM_END: usize = 0xC00;
 
 /// Why a text denotes nothing.
 #[derive(Clone, Copy, Debug, PartialEq)]

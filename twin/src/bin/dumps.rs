@@ -9,14 +9,11 @@ use std::ops::AddAssign;
 use std::path::Path;
 use std::process::ExitCode;
 use std::sync::{Mutex, PoisonError};
-use twin::storm::drafts::Random;
+use twin::storm::drafts::{ROM_END, Random};
 use twin::storm::programs::{Answer, Report, ask, for_each_seed};
 
 /// The words of the RAM.
 const RAM_WORDS: usize = 0x400;
-
-/// The word address after a ROM's last word.
-const ROM_END: usize = 0xC00;
 
 /// A random image: words at the addresses 000 to BFF, of which the ROM has the last.
 struct Image {

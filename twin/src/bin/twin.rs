@@ -17,7 +17,7 @@ use twin::frames::check;
 use twin::lines::Line;
 use twin::listing::{ListFault, write_list};
 use twin::made::Made;
-use twin::memory::{BYTES, Banked, Flat};
+use twin::memory::{BYTES, Banked, Flat, ROM_END};
 use twin::options::Options;
 use twin::picture::{Form, is_image, write_picture, write_picture_svg};
 use twin::shows::write_entries;
@@ -40,9 +40,6 @@ const LARGE_ROM_BYTES: usize = 4096;
 /// The bytes of an image of vector memory with the larger ROM, the most that `picture` takes as its
 /// input.
 const MOST_IMAGE_BYTES: usize = 6144;
-
-/// The word address after a ROM's last word.
-const ROM_END: usize = 0xC00;
 
 /// How many bytes of a ROM stand in a line.
 const ROM_LINE_BYTES: usize = 16;

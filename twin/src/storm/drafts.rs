@@ -103,7 +103,7 @@ const MOST_OPS: usize = 511;
 const MOST_CALLS: usize = 4;
 
 /// The word address after a ROM's last word.
-const ROM_END: u16 = 0xC00;
+pub const ROM_END: usize = 0xC00;
 
 /// More words than all routines of a ROM take, with the gaps between them.
 const ROUTINES_ROOM: usize = 200;
@@ -143,7 +143,7 @@ impl Rom {
         };
         let mut rom = Rom {
             first,
-            words: vec![UNGIVEN; usize::from(ROM_END - first)],
+            words: vec![UNGIVEN; ROM_END - usize::from(first)],
             routines: Vec::new(),
             text: map.to_owned(),
         };

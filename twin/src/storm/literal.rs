@@ -3,10 +3,7 @@
 //! be fast.
 
 use crate::sketch::SketchFault;
-use crate::storm::drafts::Op;
-
-/// The word address after a ROM's last word.
-const ROM_END: usize = 0xC00;
+use crate::storm::drafts::{Op, ROM_END};
 
 /// The most operations of a frame.
 const MOST_OPS: usize = 511;

@@ -1,10 +1,7 @@
 //! Random sketches, and mistakes in them.
 
-use crate::storm::drafts::{Op, Random, Rom, drawing, labs, random_draft};
+use crate::storm::drafts::{Op, ROM_END, Random, Rom, drawing, labs, random_draft};
 use std::collections::HashSet;
-
-/// The word address after a ROM's last word.
-const ROM_END: usize = 0xC00;
 
 /// The most bytes of a text.
 const MOST_TEXT_BYTES: usize = 1_048_576;

@@ -7,7 +7,7 @@ use crate::listing::write_list;
 use crate::memory::{BYTES, Flat};
 use crate::shows::write_entries;
 use crate::sketch::{Sketch, read_sketch};
-use crate::storm::drafts::Op;
+use crate::storm::drafts::{Op, ROM_END};
 use crate::storm::literal::{Denoted, Frame, denoted, has_fault};
 use crate::storm::sketches::Made;
 use crate::storm::spent::time;
@@ -17,9 +17,6 @@ use crate::traces::read_trace;
 use crate::world::run;
 use std::fmt;
 use std::ops::AddAssign;
-
-/// The word address after a ROM's last word.
-const ROM_END: usize = 0xC00;
 
 /// The most fetches of bytes of a frame that is played.
 const MOST_FETCHES: usize = 60_000;
