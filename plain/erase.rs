@@ -57,9 +57,10 @@ const MACROS: [&str; 3] = ["eprint", "eprintln", "println"];
 
 /// The types that Rust's users copy and print, where the sources don't: what users hold, and what
 /// that is made of.
-const COPIED: [&str; 38] = [
+const COPIED: [&str; 39] = [
     "struct Alike",
     "struct Banked",
+    "struct Chain",
     "struct Checked",
     "struct Checker",
     "struct Counted",

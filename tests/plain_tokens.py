@@ -42,9 +42,9 @@ FORMATTER, PLAIN_FORMATTER = words("fmt::Formatter<W>"), words("fmt::Formatter<'
 LOWERCASE = words(".to_ascii_lowercase(")
 # The types that derive Clone and Debug, too.
 COPIED = """
-    struct Alike, struct Banked, struct Checked, struct Checker, struct Counted, struct Cursor,
-    struct Desk, struct Drawn, struct Driver, struct Dump, enum Ending, struct Entries,
-    struct EntryRun, struct EntryRuns, struct Flat, struct Found, struct Frame,
+    struct Alike, struct Banked, struct Chain, struct Checked, struct Checker, struct Counted,
+    struct Cursor, struct Desk, struct Drawn, struct Driver, struct Dump, enum Ending,
+    struct Entries, struct EntryRun, struct EntryRuns, struct Flat, struct Found, struct Frame,
     struct Generator, struct GeneratorState, struct Judge, struct Listing, struct Logged,
     struct Note, struct Pair, struct PairList, enum Phase, struct Picture, struct Rom,
     struct Run, struct Runs, struct Stopped, struct Table, enum Taken, struct Traced,

@@ -170,11 +170,12 @@ fn begin_first(cursor: &mut Option<Cursor>, checked: &Checked, half: Half) {
     *cursor = Some(Cursor::new(checked, half));
 }
 
-// Returns the next byte of `cursor`, with its address before it, if one is still to come.
+// Returns the next byte of `cursor`, which there must be, with its address before it, if one is
+// still to come.
 #[inline(always)]
 fn next_of(cursor: &mut Option<Cursor>) -> Option<(u16, u8)> {
     match cursor {
         Some(cursor) => cursor.next(),
-        None => None,
+        None => unreachable!(), // While the driver writes there is a frame.
     }
 }

@@ -4,7 +4,7 @@ use std::prelude::*;
 use crate::areas::Area;
 use crate::image::MemFault;
 use crate::lookup::area_in_map;
-use crate::{FIRST_LARGE_ROM_WORD, FIRST_ROM_WORD, LARGE_ROM_BYTES, MEMORY_BYTES};
+use crate::{FIRST_LARGE_ROM_WORD, FIRST_ROM_WORD, LARGE_ROM_BYTES, MEMORY_BYTES, ROM_END};
 use dvg_code::word_at;
 use std::alloc::{AllocError, Allocator, Global};
 
@@ -66,7 +66,9 @@ impl<A: Allocator> Rom<A> {
 
     /// Returns the word at the word address `a`, which is `first` to BFF.
     pub fn word(&self, a: u16) -> u16 {
-        word_at(self.bytes.as_slice(), usize::from(a - self.first()))
+        // Counted back from the end: the last word stands at BFF, whichever size the ROM has.
+        let after = usize::from(ROM_END - a);
+        word_at(self.bytes.as_slice(), self.bytes.len() / 2 - after)
     }
 
     /// Returns the ROM of 4,096 bytes that has this one's words from 800 on, and D000, a return, at

@@ -10,33 +10,37 @@ use crate::place::Place;
 use dvg_mem::Rom;
 use std::alloc::Allocator;
 
-// Returns where `way` leads on at its own depth, or what is drawn where it leads nowhere.
-fn onward(way: Way) -> Result<Place, Drawn> {
+// Returns the place that `way` leads on to at its own depth, or `None` where it leads nowhere.
+fn onward(way: Way) -> Option<Place> {
     match way {
-        Way::Move(next, _) | Way::Jump(next) | Way::Call(_, next) => Ok(next),
-        Way::Return => Err(Drawn {
+        Way::Move(next, _) | Way::Jump(next) | Way::Call(_, next) => Some(next),
+        Way::Return | Way::Halt => None,
+    }
+}
+
+// Returns what is drawn from an instruction with the way `way`, which leads nowhere at its own
+// depth.
+fn last_drawn(way: Way) -> Drawn {
+    match way {
+        Way::Return => Drawn {
             words: 1,
             end: Ending::Returns,
             returns: true,
             calls: 0,
-        }),
-        Way::Halt => Err(Drawn {
+        },
+        _ => Drawn {
             words: 1,
             end: Ending::Halts,
             returns: false,
             calls: 0,
-        }),
+        },
     }
 }
 
-// Returns `rest` with `more` added to its words.
-fn longer(rest: Drawn, more: u64) -> Drawn {
-    Drawn {
-        words: rest.words.saturating_add(more),
-        end: rest.end,
-        returns: rest.returns,
-        calls: rest.calls,
-    }
+// Adds `more` to the words of `rest`. What is drawn is changed where it lies: a copy of it would
+// move its padding, too.
+fn lengthen(rest: &mut Drawn, more: u64) {
+    rest.words = rest.words.saturating_add(more);
 }
 
 // Returns what is drawn from a call, where `inside` is drawn from its target, and `rest` from the
@@ -60,21 +64,18 @@ fn called(inside: Drawn, rest: Drawn) -> Drawn {
     }
 }
 
-// Notes `drawn` as what is drawn from `place`, unless `table` has an entry for it. Returns what the
-// table has then.
+// Notes `drawn` as what is drawn from `place`, unless `table` has an entry for it, which `drawn`
+// becomes then.
 #[inline(always)]
-fn put_drawn(table: &mut Table, place: Place, drawn: Drawn) -> Drawn {
+fn put_drawn(table: &mut Table, place: Place, drawn: &mut Drawn) {
     match table.at(place) {
-        Some(known) => known,
-        None => {
-            table.put(place, drawn);
-            drawn
-        }
+        Some(known) => *drawn = known,
+        None => table.put(place, *drawn),
     }
 }
 
 // Follows the steps at one depth from `start`, up to a place that `table` has an entry for, or from
-// which nothing leads on: that one is noted. `chain` gets the pairs before it. Returns what is
+// which nothing leads on: that one is noted. `chain` gets the places before it. Returns what is
 // drawn from that place, or `None` where a pair has a fault, or the steps come to no end.
 #[inline(always)]
 fn follow<A: Allocator>(
@@ -97,11 +98,15 @@ fn follow<A: Allocator>(
             return None;
         };
         match onward(way) {
-            Ok(next) => {
-                chain.push(pair);
+            Some(next) => {
+                chain.push(place);
                 place = next;
             }
-            Err(drawn) => return Some(put_drawn(table, place, drawn)),
+            None => {
+                let mut drawn = last_drawn(way);
+                put_drawn(table, place, &mut drawn);
+                return Some(drawn);
+            }
         }
     }
     None // They come to no end.
@@ -109,7 +114,7 @@ fn follow<A: Allocator>(
 
 // Finds what is drawn from the place of `start`, and from each place on the way from it. Notes it
 // in `table`, and returns that of `start`. Returns `None` where a pair has a fault, or steps at one
-// depth come to no end. The pairs of other depths stay in `chain`.
+// depth come to no end. The places of other depths stay in `chain`.
 fn settle<A: Allocator>(
     draft: &[Op],
     rom: &Rom<A>,
@@ -120,12 +125,12 @@ fn settle<A: Allocator>(
     let base = chain.len();
     let mut rest = follow(draft, rom, table, chain, start)?;
     while chain.len() > base {
-        let place = chain.pop().place;
+        let place = chain.pop();
         let Some(span) = span_at(draft, rom, place) else {
             unreachable!() // It has no fault.
         };
-        let drawn = match span {
-            Span::Over(words) => longer(rest, words),
+        match span {
+            Span::Over(words) => lengthen(&mut rest, words),
             Span::Into(to) => {
                 let inside = Pair {
                     place: to,
@@ -135,10 +140,10 @@ fn settle<A: Allocator>(
                     Some(known) => known,
                     None => settle(draft, rom, table, chain, inside)?,
                 };
-                called(known, rest)
+                rest = called(known, rest);
             }
-        };
-        rest = put_drawn(table, place, drawn);
+        }
+        put_drawn(table, place, &mut rest);
     }
     Some(rest)
 }

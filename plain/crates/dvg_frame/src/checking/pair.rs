@@ -1,4 +1,4 @@
-//! Pairs of a place and a depth.
+//! Places, and pairs of a place and a depth, each by its number.
 use crate::draft::MAX_OPS;
 use crate::place::Place;
 use dvg_gen::STACK_DEPTH;
@@ -36,24 +36,33 @@ pub(crate) const FIRST: Pair = Pair {
     depth: 0,
 };
 
+// Returns the number of `place`, counted in the order of the places: operations, then ROM words.
+pub(crate) fn number_of(place: Place) -> usize {
+    match place {
+        Place::InFrame(i) => usize::from(i),
+        Place::InRom(a) => MAX_OPS + usize::from(a) - usize::from(ROM_FIRST),
+    }
+}
+
+// Returns the place of the number `number`, which has 14 bits, as `number_of` counts them.
+pub(crate) fn place_of(number: u16) -> Place {
+    let ops = MAX_OPS as u16;
+    if number < ops {
+        Place::InFrame(number)
+    } else {
+        Place::InRom(ROM_FIRST + (number - ops))
+    }
+}
+
 // Returns the number of `pair`, counted in the order in which faults are picked.
 pub(crate) fn index_of(pair: Pair) -> usize {
-    let place = match pair.place {
-        Place::InFrame(i) => usize::from(i),
-        Place::InRom(a) => MAX_OPS + usize::from(a - ROM_FIRST),
-    };
-    (usize::from(DEEPEST) + 1) * place + usize::from(pair.depth)
+    (usize::from(DEEPEST) + 1) * number_of(pair.place) + usize::from(pair.depth)
 }
 
 // Returns the pair of the number `number`, as `index_of` counts them.
 pub(crate) fn pair_of(number: u16) -> Pair {
-    let place = number / DEPTHS;
-    let depth = (number % DEPTHS) as u8;
-    let ops = MAX_OPS as u16;
-    let place = if place < ops {
-        Place::InFrame(place)
-    } else {
-        Place::InRom(ROM_FIRST + (place - ops))
-    };
-    Pair { place, depth }
+    Pair {
+        place: place_of(number / DEPTHS),
+        depth: (number % DEPTHS) as u8,
+    }
 }

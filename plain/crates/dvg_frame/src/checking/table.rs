@@ -1,6 +1,5 @@
 //! What is known of each place: what is drawn from it, and at which depths no run from it breaks.
-use crate::checking::pair::{PLACES, ROM_FIRST};
-use crate::draft::MAX_OPS;
+use crate::checking::pair::{PLACES, number_of};
 use crate::place::Place;
 
 /// How what is drawn from a place ends.
@@ -98,13 +97,5 @@ impl Table {
             return;
         }
         self.round += 1;
-    }
-}
-
-// Returns the number of `place`, counted in the order of the places.
-fn number_of(place: Place) -> usize {
-    match place {
-        Place::InFrame(i) => usize::from(i),
-        Place::InRom(a) => MAX_OPS + usize::from(a) - usize::from(ROM_FIRST),
     }
 }

@@ -6,7 +6,7 @@ use crate::checking::pair_list::PairList;
 #[derive(Clone, Debug)]
 pub(crate) struct Worklist {
     marks: [bool; PAIRS],
-    pairs: PairList<PAIRS>,
+    pairs: PairList,
 }
 
 impl Worklist {
