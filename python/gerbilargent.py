@@ -710,7 +710,7 @@ class _Device:
         return entry
 
     def _ask_all(self, requests: "array[int]") -> Entry:
-        """Asks these requests, and answers the entry of the last; what is refused is raised."""
+        """Asks these requests, and returns the entry of the last; what is refused is raised."""
         answers = array("Q", requests)
         return self._entry(answers[self._turns(answers) - 1])
 
@@ -745,11 +745,11 @@ class _Device:
         """These strokes as a table of numbers of 32 bits, in rows: x0, y0, x1, y1, z and 0.
 
         What reads the buffer protocol takes it without a copy: `numpy.asarray(world.stroke_table)`.
-        Where there is no stroke, it is empty and has no rows. It wants a machine with the low byte
+        Where there is no stroke, it is empty and has no rows. It needs a machine with the low byte
         first.
         """
         if sys.byteorder != "little":
-            raise Error("a table of strokes wants a machine with the low byte first")
+            raise Error("a table of strokes needs a machine with the low byte first")
         numbers = memoryview(self._stroke_numbers()).cast("B")
         return numbers.cast("I", (len(numbers) // 24, 6)) if numbers else numbers.cast("I")
 
@@ -809,7 +809,7 @@ _FIELDS = {"dx": "x", "dy": "y", "operation": "x", "address": "x"}
 
 
 class Draft:
-    """The operations of a frame, numbered from 0. Each call adds one, and answers the draft.
+    """The operations of a frame, numbered from 0. Each call adds one, and returns the draft.
 
     A field out of its range is a BadOperation, one that isn't whole a NoInteger, and a 512th
     operation a DraftFull: the draft is then as it was. Whether the whole may be drawn an offer
@@ -1104,7 +1104,7 @@ class World(_Device):
     Where none is named, the ROM is RETURNS and the RAM holds zeros.
 
     Each call of `offer`, `redraw`, `tick`, `strobe`, `fetch` and the resets is an event, as a line
-    of a trace is, and answers its Entry. `events` is how many there were, with those that were
+    of a trace is, and returns its Entry. `events` is how many there were, with those that were
     refused: a refused draft, Busy, NothingPublished, NoStrobe and Halted.
     """
 
@@ -1121,7 +1121,7 @@ class World(_Device):
         return svg(self.strokes)
 
     def run(self, events: "Iterable[Union[Event, Draft]]") -> "list[Entry]":
-        """Lets many events happen, and answers their entries, in order: some millions a second.
+        """Lets many events happen, and returns their entries, in order: some millions a second.
 
         A Draft is offered. What is refused is an entry here, and isn't raised: its kind is REFUSED,
         BUSY, NOTHING_PUBLISHED, NO_STROBE or STILL. Where memory is refused, NO_MEMORY is the last
@@ -1191,7 +1191,7 @@ class World(_Device):
         return entry
 
     def draw(self, draft: Draft) -> "list[Stroke]":
-        """Has a draft drawn, by as many events as that takes, and answers its strokes.
+        """Has a draft drawn, by as many events as that takes, and returns its strokes.
 
         What the driver and the generator are at is brought to its end first; a frame that was
         offered before may not be drawn. DraftRefused, OutOfMemory.
@@ -1213,7 +1213,7 @@ class World(_Device):
         return self.strokes
 
     def _let_happen(self, event: _Request, count: int) -> Entry:
-        """Lets an event happen this many times, or up to a DONE, and answers the last entry."""
+        """Lets an event happen this many times, or up to a DONE, and returns the last entry."""
         numbers = array("Q", [event]) * count
         asked = self._turns(numbers)
         last = numbers[asked - 1]
@@ -1240,7 +1240,7 @@ class MomentJudge(_Device):
     between that moment and its reading. A byte changes where one is written that isn't what the log
     told of it last; of a byte that nothing was told of, each write is a change.
 
-    Each call tells one line, and answers an Entry, whose kind says how the newest run stands then:
+    Each call tells one line, and returns an Entry, whose kind says how the newest run stands then:
 
         NO_RUN       no run is open
         ONE_MOMENT   the open run is of one moment so far
