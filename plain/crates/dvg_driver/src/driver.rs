@@ -105,11 +105,25 @@ impl Driver {
     /// `Wrote`, and sends the strobe of a `Sent`.
     #[inline(always)]
     pub fn tick(&mut self, halted: bool, byte1: u8) -> Action {
-        self.act(halted, byte1)
+        match self.next_byte() {
+            Some((address, byte)) => Action::Wrote(address, byte),
+            None => self.act(halted, byte1),
+        }
     }
 
-    // Does the next action, and returns it. `halted` and `byte1` are those of `tick`.
+    // Returns the next byte of a frame that the driver writes, with its address before it: it is
+    // written now. Returns `None` where no byte of a frame comes next, and then nothing has changed.
     #[inline(always)]
+    fn next_byte(&mut self) -> Option<(u16, u8)> {
+        match self.phase {
+            Phase::Writing => next_of(&mut self.cursor),
+            _ => None,
+        }
+    }
+
+    // Does the next action where no byte of a frame comes next, and returns it. `halted` and
+    // `byte1` are those of `tick`. It isn't inlined, as most ticks write such a byte.
+    #[inline(never)]
     fn act(&mut self, halted: bool, byte1: u8) -> Action {
         match self.phase {
             Phase::Start => {
@@ -124,14 +138,7 @@ impl Driver {
                 Action::Read(halted)
             }
             Phase::Resting => Action::Idle,
-            Phase::Writing => match next_of(&mut self.cursor) {
-                Some((address, byte)) => Action::Wrote(address, byte),
-                None if self.flipped => self.flip(),
-                None => {
-                    self.phase = Phase::Flipping;
-                    Action::Wrote(0, 0x01)
-                }
-            },
+            Phase::Writing => self.end_frame(),
             Phase::Flipping => self.flip(),
             Phase::Waiting => {
                 if halted {
@@ -144,6 +151,16 @@ impl Driver {
                 Action::Sent
             }
         }
+    }
+
+    // Goes on after the last byte of a frame, and returns what it did: it writes byte 000 where it
+    // hasn't flipped since its reset, and otherwise it flips.
+    fn end_frame(&mut self) -> Action {
+        if self.flipped {
+            return self.flip();
+        }
+        self.phase = Phase::Flipping;
+        Action::Wrote(0, 0x01)
     }
 
     // Publishes the frame in the free half, which is the current one from now on.
