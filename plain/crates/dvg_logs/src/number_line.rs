@@ -65,7 +65,10 @@ impl<J: LineJudge> JudgedLines<J> {
         if self.base.is_some() {
             return None;
         }
-        let (address, byte, rest) = address_and_byte(text.strip_prefix(b"e ")?)?;
+        let [b'e', b' ', numbers @ ..] = text else {
+            return None;
+        };
+        let (address, byte, rest) = address_and_byte(numbers)?;
         if address < RAM_END && self.take_logged(LogLine::Wrote(address, byte)) {
             Some(rest)
         } else {
