@@ -1,6 +1,7 @@
 -- The draft of a sketch.
 use Rattle.std.specs.Prelude.{◌≡◌, ◌<◌, ◌≤◌, ℕ, List, filter, slice_get, Some, take}
 use Rattle.std.specs.List.{AllZip}
+use Rattle.dvg_frame.specs.declared.draft.TheConstants.{MAX_OPS}
 use Rattle.dvg_frame.specs.declared.op.OpKind.{OpKind}
 use Rattle.dvg_frame.specs.declared.op.OpKind.TheVariants as kinds
 use Rattle.dvg_sketch.specs.declared.fault.SketchFault.{SketchFault}
@@ -40,7 +41,7 @@ IsFirst P place = P place × ((earlier : ℕ) → earlier < place → ¬ P earli
 -- the fault of a sketch: too many operations, else the first name that is given again, else the first that is wanted
 -- and not given
 abbrev pub HasFault : List Step → SketchFault → Type 0
-HasFault steps Full = 511 < op_count steps
-HasFault steps (Twice place) = (op_count steps ≤ 511) × IsFirst (GivesAgain steps) place
-HasFault steps (Unknown place) = (op_count steps ≤ 511) × ((again : ℕ) → ¬ GivesAgain steps again)
+HasFault steps Full = MAX_OPS < op_count steps
+HasFault steps (Twice place) = (op_count steps ≤ MAX_OPS) × IsFirst (GivesAgain steps) place
+HasFault steps (Unknown place) = (op_count steps ≤ MAX_OPS) × ((again : ℕ) → ¬ GivesAgain steps again)
     × IsFirst (IsUnknown steps) place

@@ -1,20 +1,18 @@
 //! The draft of a sketch.
 ghost use Rattle.std.specs.Prelude.{◌≡◌, ◌≤◌, ℕ, IfErr, IfOk, IsOk, MatchOption, true};
+ghost use Rattle.dvg_frame.specs.declared.draft.TheConstants.{MAX_OPS};
 ghost use Rattle.dvg_sketch.specs.Sketches.{GivesAgain, HasFault, IsDraftOf, IsDrafted, IsFirst};
 ghost use Rattle.dvg_sketch.specs.Sketches.{WantsUnknown};
 ghost use Rattle.dvg_sketch.specs.Steps.{IsNumberOf, is_operation, op_count};
 
 use crate::fault::SketchFault;
 use crate::step::Step;
-use dvg_frame::{Draft, Op, OpKind};
-
-/// The most operations of a draft.
-const MOST_OPS: usize = 511;
+use dvg_frame::{Draft, MAX_OPS, Op, OpKind};
 
 // Returns the number of the operation that `steps` give the name `name`, or `None` where they give
 // it to none.
 fn number_of(steps: &[Step], name: &str) -> Option<u16>
-    requires { op_count steps.now ≤ 511 }
+    requires { op_count steps.now ≤ MAX_OPS }
     ensures { MatchOption result ((n : ℕ) → ¬ IsNumberOf steps.now name.now n)
         (IsNumberOf steps.now name.now) }
 {
@@ -32,7 +30,7 @@ fn number_of(steps: &[Step], name: &str) -> Option<u16>
 
 // Returns the place of the first of `steps` that gives a name which an earlier one gives.
 fn given_again(steps: &[Step]) -> Option<usize>
-    requires { op_count steps.now ≤ 511 }
+    requires { op_count steps.now ≤ MAX_OPS }
     ensures { MatchOption result ((place : ℕ) → ¬ GivesAgain steps.now place)
         (IsFirst (GivesAgain steps.now)) }
 {
@@ -48,7 +46,7 @@ fn given_again(steps: &[Step]) -> Option<usize>
 
 // Returns the operation that `step` is, or `None` where it uses a name that none of `steps` gives.
 fn operation(steps: &[Step], step: &Step) -> Option<Op>
-    requires few { op_count steps.now ≤ 511 }
+    requires few { op_count steps.now ≤ MAX_OPS }
     requires is { is_operation step.now ≡ true }
     ensures { MatchOption result (WantsUnknown steps.now step.now) (IsDrafted steps.now step.now) }
 {
@@ -81,7 +79,7 @@ pub fn draft_of(steps: &[Step]) -> Result<Draft, SketchFault>
     ensures once { IsOk result → (place : ℕ) → ¬ GivesAgain steps.now place }
     ensures fault { IfErr result (HasFault steps.now) }
 {
-    if steps.iter().filter(|step| step.is_operation()).count() > MOST_OPS {
+    if steps.iter().filter(|step| step.is_operation()).count() > MAX_OPS {
         return Err(SketchFault::Full);
     }
     if let Some(place) = given_again(steps) {

@@ -1,6 +1,7 @@
 //! A driver at its desk.
 ghost use Rattle.std.specs.Prelude.{◌≡◌, ◌≢◌, ◌↔◌, length, IfOk, IsErrOf, IsOk, IsTrue, OnErr};
 ghost use Rattle.std.specs.Prelude.{OnOk};
+ghost use Rattle.dvg_mem.specs.declared.TheConstants.{LARGE_ROM_BYTES, MEMORY_BYTES};
 ghost use Rattle.dvg_driver.specs.Script.{IsWhole};
 ghost use Rattle.dvg_world.specs.Desks.{IsFresh, OfferAnswers, OfLives, RedrawAnswers, TickAnswers};
 
@@ -49,7 +50,7 @@ impl<A: Allocator> Desk<A> {
     pub fn begin_anew(&mut self, alloc: A, rom: &[u8]) -> Result<(), MemFault>
         ensures fresh { OnOk result (IsFresh rom.now self.new) }
         ensures size { IsErrOf result MemFault.Size
-            ↔ ((length rom.now ≢ 2048) × (length rom.now ≢ 4096)) }
+            ↔ ((length rom.now ≢ MEMORY_BYTES) × (length rom.now ≢ LARGE_ROM_BYTES)) }
         ensures room { length rom.now ≡ length self.old.rom → IsOk result }
         ensures refused { OnErr result (self.new ≡ self.old) }
     {

@@ -1,5 +1,6 @@
 //! The entries of events, in little room.
 ghost use Rattle.std.specs.Prelude.{◌≡◌, ◌≤◌, length};
+ghost use Rattle.dvg_log.specs.declared.trace.TheConstants.{MOST_EVENTS};
 
 use dvg_gen::Stroke;
 use dvg_log::Entry;
@@ -41,7 +42,7 @@ impl<A: Allocator> Entries<A> {
     /// trace has events, or fewer.
     pub fn runs(&self) -> EntryRuns<'_, A>
         ensures entries { result ≡ self.now }
-        ensures most { length result ≤ 65536 }
+        ensures most { length result ≤ MOST_EVENTS }
     {
         EntryRuns {
             kept: self.kept.as_slice(),

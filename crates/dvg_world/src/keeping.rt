@@ -5,6 +5,7 @@ ghost use Rattle.dvg_gen.specs.declared.stroke.Stroke.{Stroke};
 ghost use Rattle.dvg_log.specs.Entries.{drew_in, map_entry};
 ghost use Rattle.dvg_log.specs.Events.{Happening};
 ghost use Rattle.dvg_log.specs.Log.{Log, ◌⟼◌};
+ghost use Rattle.dvg_log.specs.declared.trace.TheConstants.{MOST_EVENTS};
 ghost use Rattle.dvg_log.specs.Traces.{BringsDraft, seen_as};
 ghost use Rattle.dvg_world.specs.Keeping.{Happened};
 ghost use Rattle.dvg_world.specs.Standing.{ChangesNothing, KeepsLogs, WorldAfter, shown_in};
@@ -139,7 +140,7 @@ pub(crate) fn happen_all<S: Store, K: Keeper<S>>(
     keeper: &mut K,
     world: &mut World<S>,
 ) -> bool
-    requires most { length trace.now ≤ 65536 }
+    requires most { length trace.now ≤ MOST_EVENTS }
     requires room { length trace.now ≤ K.room keeper.old }
     ensures { (R image : List ℕ) → WorldAfter R image [] world.old → K.IsKept keeper.old []
         → Happened R image trace.now result (K.IsKept keeper.new) }

@@ -1,6 +1,7 @@
 //! The world: both ends of the vector RAM, one event at a time.
 ghost use Rattle.std.specs.Prelude.{◌≡◌, ◌≢◌, ◌↔◌, ℕ, List, [], length, IfOk};
 ghost use Rattle.std.specs.Prelude.{IsErrOf, IsOk, IsSome, IsTrue, None, OnErr, OnOk};
+ghost use Rattle.dvg_mem.specs.declared.TheConstants.{LARGE_ROM_BYTES, MEMORY_BYTES};
 ghost use Rattle.dvg_driver.specs.Script.{IsWhole};
 ghost use Rattle.dvg_driver.specs.Stands.{IsInRam};
 ghost use Rattle.dvg_frame.specs.Ops.{IsDraft};
@@ -108,7 +109,7 @@ impl<S: Store> World<S> {
         ensures stands { OnOk result (WorldAfter rom.now image.now [] self.new) }
         ensures picture { OnOk result (self.new.machine.picture ≡ []) }
         ensures size { IsErrOf result MemFault.Size
-            ↔ ((length rom.now ≢ 2048) × (length rom.now ≢ 4096)) }
+            ↔ ((length rom.now ≢ MEMORY_BYTES) × (length rom.now ≢ LARGE_ROM_BYTES)) }
         ensures room { length rom.now ≡ length self.old.rom → IsOk result }
         ensures refused { OnErr result (self.new ≡ self.old) }
     {

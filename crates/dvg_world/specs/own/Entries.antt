@@ -3,6 +3,7 @@ use Rattle.std.specs.Prelude.{◌≡◌, ◌≤◌, ℕ, suc, List}
 use Rattle.std.specs.List.{sum_by}
 use Rattle.dvg_log.specs.declared.entry.Entry.{Entry}
 use Rattle.dvg_log.specs.declared.entry.Entry.TheVariants.{Done}
+use Rattle.dvg_log.specs.declared.trace.TheConstants.{MOST_EVENTS}
 use Rattle.dvg_world.specs.declared.entries.Alike.{Alike}
 
 -- how many entries are kept
@@ -20,5 +21,5 @@ finished_count kept = sum_by (λ alike. finished_in alike.entry) kept
 
 -- these are kept of a trace, and so many pictures: one for each entry that finished a run
 pub record AreEntries (kept : List Alike) (pictures : ℕ) : Type 0 where
-  pub count : entry_count kept ≤ 65536
+  pub count : entry_count kept ≤ MOST_EVENTS
   pub pictured : finished_count kept ≡ pictures

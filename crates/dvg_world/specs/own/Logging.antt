@@ -1,6 +1,7 @@
 -- What is kept where all entries are.
 use Rattle.std.specs.Prelude.{◌≡◌, ◌-◌, ◌++◌, ℕ, length, map, min, replicate}
 use Rattle.std.specs.Prelude.{vec_capacity, vec_len}
+use Rattle.dvg_log.specs.declared.trace.TheConstants.{MOST_EVENTS}
 use Rattle.dvg_log.specs.Entries.{Shown}
 use Rattle.dvg_log.specs.Events.{Happening}
 use Rattle.dvg_log.specs.Log.{Log, ◌⟼◌}
@@ -16,8 +17,8 @@ AreKept entries log = AreEntries entries.kept.items (length entries.drawn.items)
 
 -- for how many entries more there is room
 abbrev pub room_left : {A : Type 0} → EntriesKept A → ℕ
-room_left entries = min (min (vec_capacity entries.kept) 65536 - entry_count entries.kept.items)
-    (min (vec_capacity entries.drawn) 65536 - vec_len entries.drawn)
+room_left entries = min (min (vec_capacity entries.kept) MOST_EVENTS - entry_count entries.kept.items)
+    (min (vec_capacity entries.drawn) MOST_EVENTS - vec_len entries.drawn)
 
 -- so many equal entries more are kept: those of the next lines of a log, all of one event
 abbrev pub KeepsAlike : {A : Type 0} → EntriesKept A → Shown → (times : ℕ) → EntriesKept A → Type 0

@@ -1,10 +1,7 @@
 //! The draft of a sketch.
 use crate::fault::SketchFault;
 use crate::step::Step;
-use dvg_frame::{Draft, Op, OpKind};
-
-/// The most operations of a draft.
-const MOST_OPS: usize = 511;
+use dvg_frame::{Draft, MAX_OPS, Op, OpKind};
 
 // Returns the number of the operation that `steps` give the name `name`, or `None` where they give
 // it to none.
@@ -60,7 +57,7 @@ fn operation(steps: &[Step], step: &Step) -> Option<Op> {
 /// A name after the last operation names one that doesn't exist. The check of a draft refuses that
 /// where it is used.
 pub fn draft_of(steps: &[Step]) -> Result<Draft, SketchFault> {
-    if steps.iter().filter(|step| step.is_operation()).count() > MOST_OPS {
+    if steps.iter().filter(|step| step.is_operation()).count() > MAX_OPS {
         return Err(SketchFault::Full);
     }
     if let Some(place) = given_again(steps) {

@@ -1,4 +1,4 @@
-use Rattle.std.proofs.Common.{◌≡◌, ◌∙◌, ◌++◌, [], ◌∷◌, below_more, length, length-append, refl, rules, sym, ap, arith}
+use Rattle.std.proofs.Common.{◌≡◌, ◌∙◌, ◌++◌, [], ◌∷◌, below_more, length, length-append, refl, rules, sym, ap}
 use Rattle.std.proofs.lemmas.Option.{slice_get_read}
 use Rattle.dvg_sketch.proofs.Places.{count_more, count_same, drafted_more, drafted_same, not_unknown, wants_known, wants_none}
 use Rattle.dvg_sketch.proofs.sketch.draft_of.Goals as goal
