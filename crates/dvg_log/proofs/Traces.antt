@@ -8,11 +8,14 @@ use Rattle.std.proofs.lemmas.List.Sums.{sum_by-append, sum_by-cons}
 use Rattle.std.proofs.lemmas.Option.{get_or_from_slice_get, none-some, same_Some, slice_get_within}
 use Rattle.std.proofs.Math.Seq.{drop-append_seam, get_or-append_seam, take-length}
 use Rattle.std.specs.List.{sum_by}
+use Rattle.dvg_mem.specs.declared.TheConstants.{MEMORY_BYTES}
+use Rattle.dvg_frame.specs.declared.draft.TheConstants.{MAX_OPS}
 use Rattle.dvg_frame.specs.declared.op.OpKind.{OpKind}
 use Rattle.dvg_frame.specs.Ops.{IsDraft, IsOp}
 use Rattle.dvg_log.specs.Events.{Happening}
 use Rattle.dvg_log.specs.declared.event.Event.TheVariants.{Offer, Redraw, Tick, Strobe, Fetch, ResetGen, ResetCpu, ResetAll}
 use Rattle.dvg_log.specs.declared.runs.Run.{Run}
+use Rattle.dvg_log.specs.declared.trace.TheConstants.{MOST_EVENTS}
 use Rattle.dvg_log.specs.Traces.{Step, all_events, ops_in, run_events, step_event}
 use Rattle.dvg_log.specs.own.Kept.{AreFilled, AreRuns, IsLonger, IsOfferIn, IsRunIn, IsTrace, IsWithin}
 
@@ -114,7 +117,7 @@ wider offers images more others le also runs within = λ k d low. let run = with
 
 -- one run more, of offers and images that are there
 pub keeps_run : {count : ℕ} {runs : List Run} {offers : List (ℕ × ℕ)} {ops : List OpKind} {images : List (List ℕ)} {numbers : List (Option ℕ)} (step : Step) (times : ℕ) → IsTrace count runs offers ops images numbers
-    → 1 ≤ times → count + times ≤ 65536 → IsWithin (length offers) (length images) step → IsTrace (count + times) (runs ++ record { step = step; times = times } ∷ []) offers ops images numbers
+    → 1 ≤ times → count + times ≤ MOST_EVENTS → IsWithin (length offers) (length images) step → IsTrace (count + times) (runs ++ record { step = step; times = times } ∷ []) offers ops images numbers
 keeps_run {count = count} {runs = runs} {offers = offers} {ops = ops} {images = images} step times trace some room within =
     let run : Run = record { step = step; times = times } in
     let size = length-append runs (run ∷ []) in
@@ -159,11 +162,11 @@ none_filled images = record { found = λ byte n at. absurd (none-some n (sym (no
 
 -- more images change none before them
 filled_on : (numbers : List (Option ℕ)) (images more : List (List ℕ)) → AreFilled numbers images → AreFilled numbers (images ++ more)
-filled_on numbers images more filled = record { found = λ byte n at. get_front images more n (replicate 2048 byte) (filled.found byte n at) }
+filled_on numbers images more filled = record { found = λ byte n at. get_front images more n (replicate MEMORY_BYTES byte) (filled.found byte n at) }
 
 -- offers more, with one draft after all others
 pub keeps_offer : {count : ℕ} {runs : List Run} {offers : List (ℕ × ℕ)} {ops : List OpKind} {images : List (List ℕ)} {numbers : List (Option ℕ)} (F : List OpKind) (first size number times : ℕ) → IsTrace count runs offers ops images numbers
-    → 1 ≤ times → count + times ≤ 65536 → first ≡ length ops → size ≡ length F → IsDraft F → number ≡ length offers
+    → 1 ≤ times → count + times ≤ MOST_EVENTS → first ≡ length ops → size ≡ length F → IsDraft F → number ≡ length offers
     → IsTrace (count + times) (runs ++ record { step = Offer number; times = times } ∷ []) (offers ++ (first, size) ∷ []) (ops ++ F) images numbers
 keeps_offer {count = count} {runs = runs} {offers = offers} {ops = ops} {images = images} F first size number times trace some room begins counts draft last =
     let short = draft.count in
@@ -196,7 +199,7 @@ keeps_offer {count = count} {runs = runs} {offers = offers} {ops = ops} {images 
 
 -- resets more, with one image after all others
 pub keeps_image : {count : ℕ} {runs : List Run} {offers : List (ℕ × ℕ)} {ops : List OpKind} {images : List (List ℕ)} {numbers : List (Option ℕ)} (image : List ℕ) (number times : ℕ) → IsTrace count runs offers ops images numbers
-    → 1 ≤ times → count + times ≤ 65536 → number ≡ length images
+    → 1 ≤ times → count + times ≤ MOST_EVENTS → number ≡ length images
     → IsTrace (count + times) (runs ++ record { step = ResetAll number; times = times } ∷ []) offers ops (images ++ image ∷ []) numbers
 keeps_image {count = count} {runs = runs} {offers = offers} {ops = ops} {images = images} {numbers = numbers} image number times trace some room last =
     let run : Run = record { step = ResetAll number; times = times } in
@@ -226,25 +229,25 @@ keeps_image {count = count} {runs = runs} {offers = offers} {ops = ops} {images 
     }
 
 -- the last image has this byte everywhere, and is noted
-filled_last : (numbers : List (Option ℕ)) (images : List (List ℕ)) (byte n : ℕ) → byte < length numbers → n ≡ length images → AreFilled numbers (images ++ replicate 2048 byte ∷ []) → AreFilled (set numbers byte (Some n)) (images ++ replicate 2048 byte ∷ [])
+filled_last : (numbers : List (Option ℕ)) (images : List (List ℕ)) (byte n : ℕ) → byte < length numbers → n ≡ length images → AreFilled numbers (images ++ replicate MEMORY_BYTES byte ∷ []) → AreFilled (set numbers byte (Some n)) (images ++ replicate MEMORY_BYTES byte ∷ [])
 filled_last numbers images byte n low last filled = record { found = λ other m at. ⊎_elim (λ h. this other m h.1 at) (λ h. another other m h.1 at) (eqb_tells other byte) }
   where
     new : List (List ℕ)
-    new = images ++ replicate 2048 byte ∷ []
+    new = images ++ replicate MEMORY_BYTES byte ∷ []
 
-    this : (other m : ℕ) → other ≡ byte → get_or (set numbers byte (Some n)) other None ≡ Some m → slice_get new m ≡ Some (replicate 2048 other)
+    this : (other m : ℕ) → other ≡ byte → get_or (set numbers byte (Some n)) other None ≡ Some m → slice_get new m ≡ Some (replicate MEMORY_BYTES other)
     this other m same at =
         let number : m ≡ length images = sym (same_Some n m (sym (get_or-set_at numbers byte other (Some n) None same low) ∙ at)) ∙ last in
-        ap (slice_get new) number ∙ (get_last images (replicate 2048 byte) ∙ ap (λ b. Some (replicate 2048 b)) (sym same))
+        ap (slice_get new) number ∙ (get_last images (replicate MEMORY_BYTES byte) ∙ ap (λ b. Some (replicate MEMORY_BYTES b)) (sym same))
 
-    another : (other m : ℕ) → other ≢ byte → get_or (set numbers byte (Some n)) other None ≡ Some m → slice_get new m ≡ Some (replicate 2048 other)
+    another : (other m : ℕ) → other ≢ byte → get_or (set numbers byte (Some n)) other None ≡ Some m → slice_get new m ≡ Some (replicate MEMORY_BYTES other)
     another other m apart at = filled.found other m (sym (get_or-set_other numbers byte other (Some n) None apart) ∙ at)
 
 pub keeps_filled : {count : ℕ} {runs : List Run} {offers : List (ℕ × ℕ)} {ops : List OpKind} {images : List (List ℕ)} {numbers : List (Option ℕ)} (byte number times : ℕ) → IsTrace count runs offers ops images numbers
-    → 1 ≤ times → count + times ≤ 65536 → number ≡ length images → byte < length numbers
-    → IsTrace (count + times) (runs ++ record { step = ResetAll number; times = times } ∷ []) offers ops (images ++ replicate 2048 byte ∷ []) (set numbers byte (Some number))
+    → 1 ≤ times → count + times ≤ MOST_EVENTS → number ≡ length images → byte < length numbers
+    → IsTrace (count + times) (runs ++ record { step = ResetAll number; times = times } ∷ []) offers ops (images ++ replicate MEMORY_BYTES byte ∷ []) (set numbers byte (Some number))
 keeps_filled {images = images} {numbers = numbers} byte number times trace some room last low =
-    let kept = keeps_image (replicate 2048 byte) number times trace some room last in
+    let kept = keeps_image (replicate MEMORY_BYTES byte) number times trace some room last in
     record {
       are = kept.are;
       total = kept.total;
@@ -291,14 +294,14 @@ none_kept runs offers ops images numbers no_runs no_offers no_ops no_images no_n
 
 -- resets more with an image that is there
 pub filled_more : (runs : List Run) (offers : List (List OpKind)) (images : List (List ℕ)) (numbers : List (Option ℕ)) (byte number times : ℕ) → AreFilled numbers images → get_or numbers byte None ≡ Some number
-    → all_events (runs ++ record { step = ResetAll number; times = times } ∷ []) offers images ≡ all_events runs offers images ++ replicate times (ResetAll (replicate 2048 byte))
+    → all_events (runs ++ record { step = ResetAll number; times = times } ∷ []) offers images ≡ all_events runs offers images ++ replicate times (ResetAll (replicate MEMORY_BYTES byte))
 filled_more runs offers images numbers byte number times filled at =
     one_run_more runs (record { step = ResetAll number; times = times }) offers images
-    ∙ ap (λ bytes. all_events runs offers images ++ replicate times (ResetAll bytes)) (get_or_from_slice_get images number (replicate 2048 byte) [] (filled.found byte number at))
+    ∙ ap (λ bytes. all_events runs offers images ++ replicate times (ResetAll bytes)) (get_or_from_slice_get images number (replicate MEMORY_BYTES byte) [] (filled.found byte number at))
 
 -- and it is among them
 pub filled_within : (images : List (List ℕ)) (numbers : List (Option ℕ)) (byte number : ℕ) → AreFilled numbers images → get_or numbers byte None ≡ Some number → number < length images
-filled_within images numbers byte number filled at = slice_get_within images number (replicate 2048 byte) (filled.found byte number at)
+filled_within images numbers byte number filled at = slice_get_within images number (replicate MEMORY_BYTES byte) (filled.found byte number at)
 
 -- the last of a list, and another in its place
 pub last_of : {X : Type 0} (xs : List X) (n : ℕ) (x y d : X) → length xs ≡ n + 1 → x ≡ get_or xs n d → (xs ≡ take n xs ++ x ∷ []) × (set xs n y ≡ take n xs ++ y ∷ [])
@@ -323,7 +326,7 @@ longer_more old new step times offers images longer within =
 
 -- and the trace is kept
 pub keeps_longer : {count : ℕ} {offers : List (ℕ × ℕ)} {ops : List OpKind} {images : List (List ℕ)} {numbers : List (Option ℕ)} (old new : List Run) (step : Step) (times : ℕ) → IsTrace count old offers ops images numbers
-    → count + times ≤ 65536 → IsLonger old new step times → IsTrace (count + times) new offers ops images numbers
+    → count + times ≤ MOST_EVENTS → IsLonger old new step times → IsTrace (count + times) new offers ops images numbers
 keeps_longer {offers = offers} {images = images} old new step times trace room longer =
     let last : Run = record { step = step; times = longer.before } in
     let run : Run = record { step = step; times = longer.before + times } in
@@ -357,7 +360,7 @@ keeps_longer {offers = offers} {images = images} old new step times trace room l
 pub draft_of : (ops : List OpKind) (range : ℕ × ℕ) (F : List OpKind) → All IsOp ops → IsOfferIn ops range → F ≡ ops_in ops range → IsDraft F
 draft_of ops (first, count) F valid within is =
     let count_is : first + count - first ≡ count = omega arith in
-    let few : length (take (first + count - first) (drop first ops)) ≤ 511 =
+    let few : length (take (first + count - first) (drop first ops)) ≤ MAX_OPS =
     (let front = length-take (first + count - first) (drop first ops) in omega (arith, within.1)) in
     subst IsDraft (sym is) (record {
       count = few;

@@ -1,5 +1,7 @@
 -- Events, wherever their drafts and images lie in memory.
-use Rattle.std.specs.Prelude.{ℕ, List, Box}
+use Rattle.std.specs.Prelude.{ℕ, List, [], Box, replicate}
+use Rattle.std.specs.declared.convert.Infallible.{Infallible}
+use Rattle.dvg_mem.specs.declared.TheConstants.{MEMORY_BYTES}
 use Rattle.dvg_mem.specs.Memory.{IsImage}
 use Rattle.dvg_frame.specs.declared.op.OpKind.{OpKind}
 use Rattle.dvg_frame.specs.Ops.{IsDraft}
@@ -25,6 +27,10 @@ Happening = Event (List OpKind) (List ℕ)
 -- an event of the code, with its draft and its image as lists
 abbrev pub happening_of : {A : Type 0} → Event (Box (List OpKind) A) (List ℕ) → Happening
 happening_of event = map_event (λ draft. draft.value) (λ image. image) event
+
+-- an event that a line of text spells: no offer is among them, and an image has this byte everywhere
+abbrev pub spelled_as : Event Infallible ℕ → Happening
+spelled_as event = map_event (λ none. []) (λ byte. replicate MEMORY_BYTES byte) event
 
 -- what an event brings is a draft, or an image
 abbrev pub IsEvent : Happening → Type 0

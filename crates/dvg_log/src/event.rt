@@ -6,6 +6,7 @@ ghost use Rattle.dvg_log.specs.Traces.{BringsDraft, seen_as};
 use dvg_frame::{Draft, Op};
 use dvg_mem::Image;
 use std::alloc::{Allocator, Global};
+use std::convert::Infallible;
 
 /// One thing that happens. Events come in any order and number: a strobe that is sent and never
 /// given as an event is a lost one, and one that is given again is a repeated one.
@@ -37,6 +38,10 @@ pub enum Event<D = Box<Draft>, I = Image> {
 
 /// An event that owns what it brings.
 pub type OwnEvent<A = Global> = Event<Box<Draft, A>, Image<A>>;
+
+/// An event that a line of text spells by itself. It isn't an offer. A reset of the whole system
+/// has the value that each byte of the RAM has after it.
+pub type SpelledEvent = Event<Infallible, u8>;
 
 /// An event whose operations and bytes lie elsewhere.
 pub type TraceEvent<'a, A = Global> = Event<&'a [Op], &'a Image<A>>;

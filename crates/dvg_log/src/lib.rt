@@ -10,6 +10,6 @@ mod runs;
 mod trace;
 
 pub use entry::{Entry, OwnEntry};
-pub use event::{Event, OwnEvent, TraceEvent};
+pub use event::{Event, OwnEvent, SpelledEvent, TraceEvent};
 pub use runs::Runs;
 pub use trace::{MOST_EVENTS, Trace};

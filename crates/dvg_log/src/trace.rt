@@ -1,12 +1,15 @@
 //! Lists of events that take little room.
 ghost use Rattle.std.specs.Prelude.{◌≡◌, ◌+◌, ◌<◌, ◌≤◌, ◌↔◌, ◌++◌, ◌∷◌, [], length, replicate};
-ghost use Rattle.std.specs.Prelude.{IfOk, IsFalse, IsTrue, OnErr, OnOk};
-ghost use Rattle.dvg_log.specs.Events.{happening_of};
+ghost use Rattle.std.specs.Prelude.{ℕ, List, IfOk, IsFalse, IsTrue, OnErr, OnOk};
+ghost use Rattle.dvg_log.specs.Events.{happening_of, map_event, spelled_as};
+ghost use Rattle.dvg_frame.specs.declared.op.OpKind.{OpKind};
 ghost use Rattle.dvg_log.specs.declared.event.Event.TheVariants.{Offer, ResetAll};
 ghost use Rattle.dvg_log.specs.Traces.{step_event};
-ghost use Rattle.dvg_log.specs.own.Kept.{IsLonger, IsWithin};
+ghost use Rattle.dvg_log.specs.declared.trace.TheConstants.{MOST_EVENTS};
+ghost use Rattle.dvg_log.specs.own.Kept.{BringsNothing, IsLonger, IsWithin};
+ghost use Rattle.dvg_mem.specs.declared.TheConstants.{MEMORY_BYTES};
 
-use crate::event::{Event, OwnEvent};
+use crate::event::{Event, OwnEvent, SpelledEvent};
 use crate::runs::{Run, Runs, Step};
 use dvg_code::OutOfMemory;
 use dvg_frame::{Draft, Op};
@@ -66,13 +69,54 @@ impl<A: Allocator + Copy> Trace<A> {
             filled: [None; 256],
         }
     }
+
+    /// Adds `event` at the end, `times` times in a row. `times` is at least 1, and the trace must
+    /// have room for them. Of equal resets of the whole system the image is made only once. Returns
+    /// `OutOfMemory` where an allocation fails, and then nothing has changed.
+    #[inline(always)]
+    pub fn push_times(&mut self, event: SpelledEvent, times: u16) -> Result<(), OutOfMemory>
+        requires some { 1 ≤ times }
+        requires room { length self.old + times ≤ MOST_EVENTS }
+        ensures pushed { OnOk result (self.new ≡ self.old ++ replicate times (spelled_as event)) }
+        ensures refused { OnErr result (self.new ≡ self.old) }
+    {
+        match event {
+            Event::ResetAll(byte) => self.push_filled(byte, times),
+            _ => self.push_step(step_of(&event), times),
+        }
+    }
+
+    // Adds a reset of the whole system, after which each byte is `byte`, `times` times. The image
+    // is made only for the first such reset.
+    fn push_filled(&mut self, byte: u8, times: u16) -> Result<(), OutOfMemory>
+        requires some { 1 ≤ times }
+        requires room { length self.old + times ≤ MOST_EVENTS }
+        ensures pushed { OnOk result (self.new
+            ≡ self.old ++ replicate times (ResetAll (replicate MEMORY_BYTES byte))) }
+        ensures refused { OnErr result (self.new ≡ self.old) }
+    {
+        if let Some(number) = self.filled[usize::from(byte)] {
+            let step = Step::ResetAll(number);
+            self.runs.push(Run { step, times })?;
+            self.count += usize::from(times);
+            return Ok(());
+        }
+        let alloc = *self.images.allocator();
+        let Ok(image) = Image::new(alloc, &[byte; MEMORY_BYTES]) else {
+            return Err(OutOfMemory);
+        };
+        let number = add_image(&mut self.images, &mut self.runs, image, times)?;
+        self.count += usize::from(times);
+        self.filled[usize::from(byte)] = Some(number);
+        Ok(())
+    }
 }
 
 impl<A: Allocator> Trace<A> {
     /// Returns the number of events, at most 65,536.
     pub fn len(&self) -> usize
         ensures value { result ≡ length self.now }
-        ensures most { result ≤ 65536 }
+        ensures most { result ≤ MOST_EVENTS }
     {
         self.count
     }
@@ -99,68 +143,35 @@ impl<A: Allocator> Trace<A> {
     /// Adds `event` at the end. There must be fewer than 65,536 events. Returns `OutOfMemory` where
     /// an allocation fails, and then nothing has changed.
     pub fn push(&mut self, event: OwnEvent<A>) -> Result<(), OutOfMemory>
-        requires { length self.old < 65536 }
+        requires { length self.old < MOST_EVENTS }
         ensures pushed { OnOk result (self.new ≡ self.old ++ happening_of event ∷ []) }
         ensures refused { OnErr result (self.new ≡ self.old) }
     {
-        self.push_times(event, 1)
-    }
-
-    /// Adds `event` at the end, `times` times in a row. `times` is at least 1, and the trace must
-    /// have room for them. Returns `OutOfMemory` where an allocation fails, and then nothing has
-    /// changed.
-    #[inline(always)]
-    pub fn push_times(&mut self, event: OwnEvent<A>, times: u16) -> Result<(), OutOfMemory>
-        requires some { 1 ≤ times }
-        requires room { length self.old + times ≤ 65536 }
-        ensures pushed { OnOk result (self.new ≡ self.old ++ replicate times (happening_of event)) }
-        ensures refused { OnErr result (self.new ≡ self.old) }
-    {
         match event {
-            Event::Offer(draft) => self.push_draft(&draft, times),
-            Event::Redraw => self.push_step(Step::Redraw, times),
-            Event::Tick => self.push_step(Step::Tick, times),
-            Event::Strobe => self.push_step(Step::Strobe, times),
-            Event::Fetch => self.push_step(Step::Fetch, times),
-            Event::ResetGen => self.push_step(Step::ResetGen, times),
-            Event::ResetCpu => self.push_step(Step::ResetCpu, times),
-            Event::ResetAll(image) => self.push_image(image, times),
+            Event::Offer(draft) => self.push_offer(&draft),
+            Event::ResetAll(image) => self.push_image(image),
+            _ => self.push_step(step_of(&event), 1),
         }
     }
 
     /// Adds an offer of `draft`, which is copied, at the end. There must be fewer than 65,536
     /// events. Returns `OutOfMemory` where an allocation fails, and then nothing has changed.
     pub fn push_offer(&mut self, draft: &Draft) -> Result<(), OutOfMemory>
-        requires { length self.old < 65536 }
+        requires { length self.old < MOST_EVENTS }
         ensures pushed { OnOk result (self.new ≡ self.old ++ Offer draft.now ∷ []) }
         ensures refused { OnErr result (self.new ≡ self.old) }
     {
-        self.push_draft(draft, 1)
-    }
-
-    /// Adds a reset of the whole system, after which each byte is `byte`, `times` times in a row.
-    /// `times` is at least 1, and the trace must have room for them. The image is made only for the
-    /// first such reset, in memory of `alloc`. Returns `OutOfMemory` where an allocation fails, and
-    /// then nothing has changed.
-    pub fn push_filled(&mut self, alloc: A, byte: u8, times: u16) -> Result<(), OutOfMemory>
-        requires some { 1 ≤ times }
-        requires room { length self.old + times ≤ 65536 }
-        ensures pushed { OnOk result (self.new
-            ≡ self.old ++ replicate times (ResetAll (replicate 2048 byte))) }
-        ensures refused { OnErr result (self.new ≡ self.old) }
-    {
-        if let Some(number) = self.filled[usize::from(byte)] {
-            let step = Step::ResetAll(number);
-            self.runs.push(Run { step, times })?;
-            self.count += usize::from(times);
-            return Ok(());
-        }
-        let Ok(image) = Image::new(alloc, &[byte; MEMORY_BYTES]) else {
-            return Err(OutOfMemory);
-        };
-        let number = add_image(&mut self.images, &mut self.runs, image, times)?;
-        self.count += usize::from(times);
-        self.filled[usize::from(byte)] = Some(number);
+        let first = self.ops.len() as u32;
+        let count = draft.len();
+        let number = self.offers.len() as u16;
+        self.ops.reserve(count)?;
+        self.offers.reserve(1)?;
+        self.runs.reserve(1)?;
+        self.ops.extend_from_slice(draft.ops()).unwrap();
+        self.offers.push_reserved((first, count as u16));
+        let step = Step::Offer(number);
+        self.runs.push_reserved(Run { step, times: 1 });
+        self.count += 1;
         Ok(())
     }
 
@@ -169,7 +180,7 @@ impl<A: Allocator> Trace<A> {
     #[inline(always)]
     fn push_step(&mut self, step: Step, times: u16) -> Result<(), OutOfMemory>
         requires some { 1 ≤ times }
-        requires room { length self.old + times ≤ 65536 }
+        requires room { length self.old + times ≤ MOST_EVENTS }
         requires simple { IsWithin 0 0 step }
         ensures pushed { OnOk result (self.new
             ≡ self.old ++ replicate times (step_event [] [] step)) }
@@ -184,37 +195,34 @@ impl<A: Allocator> Trace<A> {
         Ok(())
     }
 
-    // Adds an offer of `draft`, which is copied once, `times` times.
-    fn push_draft(&mut self, draft: &Draft, times: u16) -> Result<(), OutOfMemory>
-        requires some { 1 ≤ times }
-        requires room { length self.old + times ≤ 65536 }
-        ensures pushed { OnOk result (self.new ≡ self.old ++ replicate times (Offer draft.now)) }
+    // Adds a reset of the whole system to `image`, which is kept.
+    fn push_image(&mut self, image: Image<A>) -> Result<(), OutOfMemory>
+        requires { length self.old < MOST_EVENTS }
+        ensures pushed { OnOk result (self.new ≡ self.old ++ ResetAll image ∷ []) }
         ensures refused { OnErr result (self.new ≡ self.old) }
     {
-        let first = self.ops.len() as u32;
-        let count = draft.len();
-        let number = self.offers.len() as u16;
-        self.ops.reserve(count)?;
-        self.offers.reserve(1)?;
-        self.runs.reserve(1)?;
-        self.ops.extend_from_slice(draft.ops()).unwrap();
-        self.offers.push_reserved((first, count as u16));
-        let step = Step::Offer(number);
-        self.runs.push_reserved(Run { step, times });
-        self.count += usize::from(times);
+        add_image(&mut self.images, &mut self.runs, image, 1)?;
+        self.count += 1;
         Ok(())
     }
+}
 
-    // Adds a reset of the whole system to `image`, which is kept, `times` times.
-    fn push_image(&mut self, image: Image<A>, times: u16) -> Result<(), OutOfMemory>
-        requires some { 1 ≤ times }
-        requires room { length self.old + times ≤ 65536 }
-        ensures pushed { OnOk result (self.new ≡ self.old ++ replicate times (ResetAll image)) }
-        ensures refused { OnErr result (self.new ≡ self.old) }
-    {
-        add_image(&mut self.images, &mut self.runs, image, times)?;
-        self.count += usize::from(times);
-        Ok(())
+// Returns the step of `event`, which brings neither a draft nor an image.
+#[inline(always)]
+fn step_of<D, I>(event: &Event<D, I>) -> Step
+    requires { BringsNothing event.now }
+    ensures simple { IsWithin 0 0 result }
+    ensures value { (draft_of : D → List OpKind) (image_of : I → List ℕ)
+        → step_event [] [] result ≡ map_event draft_of image_of event.now }
+{
+    match event {
+        Event::Redraw => Step::Redraw,
+        Event::Tick => Step::Tick,
+        Event::Strobe => Step::Strobe,
+        Event::Fetch => Step::Fetch,
+        Event::ResetGen => Step::ResetGen,
+        Event::ResetCpu => Step::ResetCpu,
+        Event::Offer(_) | Event::ResetAll(_) => unreachable!(),
     }
 }
 
@@ -226,7 +234,7 @@ fn add_image<A: Allocator>(
     image: Image<A>,
     times: u16,
 ) -> Result<u16, OutOfMemory>
-    requires { length images.old.items < 65536 }
+    requires { length images.old.items < MOST_EVENTS }
     ensures number { IfOk result (λ number. number ≡ length images.old.items) }
     ensures images { OnOk result (images.new.items ≡ images.old.items ++ image ∷ []) }
     ensures runs { IfOk result (λ number. runs.new.items

@@ -1,8 +1,6 @@
 -- The events of a line, as a reader has them.
-use Rattle.std.specs.Prelude.{◌≡◌, ℕ, List, [], replicate, codes}
-use Rattle.std.specs.declared.convert.Infallible.{Infallible}
-use Rattle.dvg_log.specs.declared.event.Event.{Event}
-use Rattle.dvg_log.specs.Events.{Happening, map_event}
+use Rattle.std.specs.Prelude.{◌≡◌, ℕ, List, replicate, codes}
+use Rattle.dvg_log.specs.Events.{Happening, spelled_as}
 use Rattle.dvg_log.specs.declared.event.Event.TheVariants.{Redraw, Tick, Strobe, Fetch, ResetGen, ResetCpu}
 use Rattle.dvg_read.specs.declared.event_line.EventLine.{EventLine}
 
@@ -22,10 +20,6 @@ TakesCount Tick = Unit {0}
 TakesCount Strobe = Unit {0}
 TakesCount Fetch = Unit {0}
 TakesCount event = ⊥
-
--- an event of a line: no offer is among them, and an image has this byte everywhere
-abbrev pub spelled_as : Event Infallible ℕ → Happening
-spelled_as event = map_event (λ none. []) (λ byte. replicate 2048 byte) event
 
 -- the events of a line
 abbrev pub happenings : EventLine → List Happening

@@ -1,13 +1,12 @@
 //! Events at the head of a text, each read in one pass with the end of its line.
 ghost use Rattle.std.specs.Prelude.{◌≡◌, ◌∷◌, ◌++◌, [], IfSome};
-ghost use Rattle.dvg_read.specs.EventLines.{spelled_as};
+ghost use Rattle.dvg_log.specs.Events.{spelled_as};
 ghost use Rattle.dvg_read.specs.Texts.{lines};
 ghost use Rattle.dvg_read.specs.TraceEvents.{HasEvents, name_bytes};
 
-use crate::event_line::SpelledEvent;
 use crate::letters::letters_at_head;
 use crate::number::{after_byte, digit_of};
-use dvg_log::Event;
+use dvg_log::{Event, SpelledEvent};
 
 /// How many bytes the longest line that is read here has, with its end. A shorter text is read
 /// otherwise.

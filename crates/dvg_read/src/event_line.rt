@@ -1,22 +1,17 @@
 //! Lines that spell events by themselves.
 ghost use Rattle.std.specs.Prelude.{◌≡◌, ◌↔◌, ℕ, ◌≤◌, List, [], ◌∷◌, decimal, length, IfSome};
 ghost use Rattle.std.specs.Prelude.{IsSomeAnd, IsTrue, Some};
-ghost use Rattle.dvg_log.specs.Events.{Happening};
+ghost use Rattle.dvg_log.specs.Events.{Happening, spelled_as};
 ghost use Rattle.dvg_read.specs.Texts.{IsHex, parts};
-ghost use Rattle.dvg_read.specs.EventLines.{TakesCount, IsNamed, happenings, spelled_as};
+ghost use Rattle.dvg_read.specs.EventLines.{TakesCount, IsNamed, happenings};
 ghost use Rattle.dvg_read.specs.TraceTexts.{EventParts};
 
 use crate::number::{hex, natural};
-use dvg_log::Event;
+use dvg_log::{Event, SpelledEvent};
 use memchr::memchr;
-use std::convert::Infallible;
 
 /// The most events of one line.
 const MAX_TIMES: u16 = 9999;
-
-/// An event that a line spells by itself. It isn't an offer. A reset of the whole system has the
-/// value that each byte of the RAM has after it.
-pub(crate) type SpelledEvent = Event<Infallible, u8>;
 
 /// The events of a line: `event`, `count` times in a row.
 #[derive(Clone, Copy)]

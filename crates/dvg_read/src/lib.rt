@@ -24,7 +24,7 @@ pub use dvg_log::MOST_EVENTS;
 pub use fault::{LineFault, TextFault, Unread};
 pub use number::{digit_of, hex};
 pub use op_line::read_op_parts;
-pub use rom_line::{RomWords, read_rom_parts};
+pub use rom_line::{RomWords, put_word, read_rom_parts};
 pub use rom_text::fill_with_returns;
 pub use text_lines::{TextLines, is_passed};
 pub use trace_text::{TraceText, read_trace};

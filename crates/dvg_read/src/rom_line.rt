@@ -27,13 +27,14 @@ pub struct RomWords {
 /// Contracts see the address and the list of the words.
 impl Model for RomWords {
     ghost use Rattle.std.specs.Prelude.{◌+◌, ◌≤◌, length};
+    ghost use Rattle.dvg_mem.specs.declared.TheConstants.{ROM_END};
     ghost use Rattle.dvg_read.specs.RomTexts.{RomLine};
 
     ghost Value = { RomLine };
 
     ghost view = { λ given. record { address = given.address; words = given.words.items } };
 
-    ghost invariant = { λ given. given.address + length given.words.items ≤ 0xC00 };
+    ghost invariant = { λ given. given.address + length given.words.items ≤ ROM_END };
 }
 
 /// Returns the words that `line` gives, or `None` exactly where it isn't a line of the ROM. `first`
@@ -111,8 +112,8 @@ impl RomWords {
     }
 }
 
-// Puts `word` at the place `k`, counted in words from 0, of `bytes`, the low byte first.
-fn put_word(bytes: &mut [u8], k: usize, word: u16)
+/// Puts `word` at the place `k`, counted in words from 0, of `bytes`, the low byte first.
+pub fn put_word(bytes: &mut [u8], k: usize, word: u16)
     requires { 2 * k + 1 < length bytes.old }
     ensures word { word_in bytes.new k ≡ word }
     ensures others { (j : ℕ) → j ≢ k → word_in bytes.new j ≡ word_in bytes.old j }

@@ -1,6 +1,7 @@
 //! The lines of a text that describe a ROM.
 ghost use Rattle.std.specs.Prelude.{◌≡◌, ◌⊎◌, ◌+◌, ◌-◌, ◌/◌, ℕ, length, IfSome, IsFalse, IsTrue};
 ghost use Rattle.std.specs.Prelude.{Some};
+ghost use Rattle.dvg_mem.specs.declared.TheConstants.{ROM_END};
 ghost use Rattle.dvg_mem.specs.Grown.{AreReturns};
 ghost use Rattle.dvg_read.specs.RomReading.{HoldsRom, TellsMore, TellsRom, unstated};
 ghost use Rattle.dvg_read.specs.RomTexts.{IsMapLine, RomText};
@@ -66,7 +67,7 @@ impl RomReading {
 
     // Returns the word address of the ROM's first word. The last one is at BFF.
     fn first(&self) -> u16
-        ensures { result + length self.now.bytes.items / 2 ≡ 0xC00 }
+        ensures { result + length self.now.bytes.items / 2 ≡ ROM_END }
     {
         ROM_END - (self.bytes.as_slice().len() / 2) as u16
     }
@@ -99,7 +100,7 @@ fn read_map_line(line: &[u8]) -> Option<u16>
 /// would be zeroed for each line that is read.
 pub fn fill_with_returns(bytes: &mut ArrayVec<u8, LARGE_ROM_BYTES>, first: u16)
     requires { (first ≡ 0x800) ⊎ (first ≡ 0x400) }
-    ensures { AreReturns bytes.new.items (0xC00 - first) }
+    ensures { AreReturns bytes.new.items (ROM_END - first) }
 {
     bytes.clear();
     for _row in 0..(ROM_END - first) / ROW_WORDS {

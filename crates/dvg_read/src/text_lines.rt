@@ -5,10 +5,10 @@ ghost use Rattle.memchr.specs.Find.{IsFirstByte, is_byte};
 ghost use Rattle.dvg_frame.specs.declared.draft.TheConstants.{MAX_OPS};
 
 use crate::event_head::{HEAD, Name, after_name, reset_at_head};
-use crate::event_line::SpelledEvent;
 use crate::letters::letters_at_head;
 use crate::op_head::op_at_head;
 use dvg_frame::{Draft, Op};
+use dvg_log::SpelledEvent;
 use memchr::memchr;
 
 /// How many bytes are looked at one by one for the end of a line.
@@ -25,7 +25,7 @@ impl<'a> TextLines<'a> {
     ghost use Rattle.std.specs.Prelude.{◌≡◌, ◌≤◌, ◌∷◌, [], IfNone, IfSome, length};
     ghost use Rattle.std.specs.Prelude.{replicate};
     ghost use Rattle.dvg_log.specs.Events.{Happening};
-    ghost use Rattle.dvg_read.specs.EventLines.{spelled_as};
+    ghost use Rattle.dvg_log.specs.Events.{spelled_as};
     ghost use Rattle.dvg_read.specs.TextLines.{AddsOps, HasOp, lines_left};
     ghost use Rattle.dvg_read.specs.TraceEvents.{HasEvents, IsNameLine, name_bytes};
     ghost use Rattle.dvg_read.specs.Texts.{lines};

@@ -20,7 +20,7 @@ use crate::fault::{LineFault, TextFault, Unread};
 use crate::op_line::read_op;
 use crate::rom_text::RomReading;
 use crate::text_lines::{TextLines, is_passed};
-use crate::trace_events::{add_times, take_events};
+use crate::trace_events::take_events;
 use arrayvec::ArrayVec;
 use dvg_code::OutOfMemory;
 use dvg_frame::{Draft, Op};
@@ -74,7 +74,6 @@ fn read_lines<A: Allocator + Copy>(alloc: A, text: &[u8]) -> Result<Reading<A>, 
     ensures fault { IfErr result (λ fault. StopsReading fault text.now) }
 {
     let mut reading = Reading {
-        alloc,
         rom: RomReading::new(),
         events: Trace::new(alloc),
         draft: Draft::new(),
@@ -103,7 +102,6 @@ fn read_lines<A: Allocator + Copy>(alloc: A, text: &[u8]) -> Result<Reading<A>, 
 // What was read of a trace's text. After a fault it is read no further.
 #[derive(Drop)]
 struct Reading<A: Allocator> {
-    alloc: A,
     rom: RomReading,
     events: Trace<A>,
     // The draft of the newest offer.
@@ -126,7 +124,7 @@ impl<A: Allocator + Copy> Reading<A> {
         if self.is_open {
             return Ok(lines.take_ops(&mut self.draft));
         }
-        take_events(self.alloc, lines, &mut self.events)
+        take_events(lines, &mut self.events)
     }
 
     // Reads one more line, `line`, which isn't passed over.
@@ -161,7 +159,7 @@ impl<A: Allocator + Copy> Reading<A> {
             return Ok(());
         }
         if let Some(repeated) = read_event_line(line) {
-            return add_events(self.alloc, repeated, &mut self.events);
+            return add_events(repeated, &mut self.events);
         }
         if self.events.is_empty() && self.rom.take(line) {
             return Ok(());
@@ -228,8 +226,7 @@ fn push_op(draft: &mut Draft, op: Op) -> Result<(), LineFault>
 // Adds the events of a line, `repeated`, to `events`. Returns `Many` where there would be more than
 // 65,536, and `Memory` where an allocation fails.
 #[inline(always)]
-fn add_events<A: Allocator>(
-    alloc: A,
+fn add_events<A: Allocator + Copy>(
     repeated: EventLine,
     events: &mut Trace<A>,
 ) -> Result<(), LineFault>
@@ -241,7 +238,7 @@ fn add_events<A: Allocator>(
     if events.len() + count(&repeated) > MOST_EVENTS {
         return Err(LineFault::Many);
     }
-    if add_times(alloc, repeated.event, repeated.count, events).is_err() {
+    if events.push_times(repeated.event, repeated.count).is_err() {
         return Err(LineFault::Memory);
     }
     Ok(())

@@ -50,8 +50,8 @@ fn pushed(alloc: Global) -> Result<Trace, Fail> {
     trace.push(offer(alloc)?)?;
     trace.push(Event::ResetAll(image(alloc, 0x0F)?))?;
     trace.push_times(Event::Strobe, 3)?;
-    trace.push_filled(alloc, 0x7F, 2)?;
-    trace.push_filled(alloc, 0x7F, 1)?;
+    trace.push_times(Event::ResetAll(0x7F), 2)?;
+    trace.push_times(Event::ResetAll(0x7F), 1)?;
     trace.push(offer(alloc)?)?;
     Ok(trace)
 }

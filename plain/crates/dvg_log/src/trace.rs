@@ -1,7 +1,7 @@
 //! Lists of events that take little room.
 use std::prelude::*;
 
-use crate::event::{Event, OwnEvent};
+use crate::event::{Event, OwnEvent, SpelledEvent};
 use crate::runs::{Run, Runs, Step};
 use dvg_code::OutOfMemory;
 use dvg_frame::{Draft, Op};
@@ -41,6 +41,36 @@ impl<A: Allocator + Copy> Trace<A> {
             filled: [None; 256],
         }
     }
+
+    /// Adds `event` at the end, `times` times in a row. `times` is at least 1, and the trace must
+    /// have room for them. Of equal resets of the whole system the image is made only once. Returns
+    /// `OutOfMemory` where an allocation fails, and then nothing has changed.
+    #[inline(always)]
+    pub fn push_times(&mut self, event: SpelledEvent, times: u16) -> Result<(), OutOfMemory> {
+        match event {
+            Event::ResetAll(byte) => self.push_filled(byte, times),
+            _ => self.push_step(step_of(&event), times),
+        }
+    }
+
+    // Adds a reset of the whole system, after which each byte is `byte`, `times` times. The image
+    // is made only for the first such reset.
+    fn push_filled(&mut self, byte: u8, times: u16) -> Result<(), OutOfMemory> {
+        if let Some(number) = self.filled[usize::from(byte)] {
+            let step = Step::ResetAll(number);
+            self.runs.push(Run { step, times })?;
+            self.count += usize::from(times);
+            return Ok(());
+        }
+        let alloc = *self.images.allocator();
+        let Ok(image) = Image::new(alloc, &[byte; MEMORY_BYTES]) else {
+            return Err(OutOfMemory);
+        };
+        let number = add_image(&mut self.images, &mut self.runs, image, times)?;
+        self.count += usize::from(times);
+        self.filled[usize::from(byte)] = Some(number);
+        Ok(())
+    }
 }
 
 impl<A: Allocator> Trace<A> {
@@ -67,49 +97,27 @@ impl<A: Allocator> Trace<A> {
     /// Adds `event` at the end. There must be fewer than 65,536 events. Returns `OutOfMemory` where
     /// an allocation fails, and then nothing has changed.
     pub fn push(&mut self, event: OwnEvent<A>) -> Result<(), OutOfMemory> {
-        self.push_times(event, 1)
-    }
-
-    /// Adds `event` at the end, `times` times in a row. `times` is at least 1, and the trace must
-    /// have room for them. Returns `OutOfMemory` where an allocation fails, and then nothing has
-    /// changed.
-    #[inline(always)]
-    pub fn push_times(&mut self, event: OwnEvent<A>, times: u16) -> Result<(), OutOfMemory> {
         match event {
-            Event::Offer(draft) => self.push_draft(&draft, times),
-            Event::Redraw => self.push_step(Step::Redraw, times),
-            Event::Tick => self.push_step(Step::Tick, times),
-            Event::Strobe => self.push_step(Step::Strobe, times),
-            Event::Fetch => self.push_step(Step::Fetch, times),
-            Event::ResetGen => self.push_step(Step::ResetGen, times),
-            Event::ResetCpu => self.push_step(Step::ResetCpu, times),
-            Event::ResetAll(image) => self.push_image(image, times),
+            Event::Offer(draft) => self.push_offer(&draft),
+            Event::ResetAll(image) => self.push_image(image),
+            _ => self.push_step(step_of(&event), 1),
         }
     }
 
     /// Adds an offer of `draft`, which is copied, at the end. There must be fewer than 65,536
     /// events. Returns `OutOfMemory` where an allocation fails, and then nothing has changed.
     pub fn push_offer(&mut self, draft: &Draft) -> Result<(), OutOfMemory> {
-        self.push_draft(draft, 1)
-    }
-
-    /// Adds a reset of the whole system, after which each byte is `byte`, `times` times in a row.
-    /// `times` is at least 1, and the trace must have room for them. The image is made only for the
-    /// first such reset, in memory of `alloc`. Returns `OutOfMemory` where an allocation fails, and
-    /// then nothing has changed.
-    pub fn push_filled(&mut self, alloc: A, byte: u8, times: u16) -> Result<(), OutOfMemory> {
-        if let Some(number) = self.filled[usize::from(byte)] {
-            let step = Step::ResetAll(number);
-            self.runs.push(Run { step, times })?;
-            self.count += usize::from(times);
-            return Ok(());
-        }
-        let Ok(image) = Image::new(alloc, &[byte; MEMORY_BYTES]) else {
-            return Err(OutOfMemory);
-        };
-        let number = add_image(&mut self.images, &mut self.runs, image, times)?;
-        self.count += usize::from(times);
-        self.filled[usize::from(byte)] = Some(number);
+        let first = self.ops.len() as u32;
+        let count = draft.len();
+        let number = self.offers.len() as u16;
+        self.ops.reserve(count)?;
+        self.offers.reserve(1)?;
+        self.runs.reserve(1)?;
+        self.ops.extend_from_slice(draft.ops()).unwrap();
+        self.offers.push_reserved((first, count as u16));
+        let step = Step::Offer(number);
+        self.runs.push_reserved(Run { step, times: 1 });
+        self.count += 1;
         Ok(())
     }
 
@@ -126,27 +134,25 @@ impl<A: Allocator> Trace<A> {
         Ok(())
     }
 
-    // Adds an offer of `draft`, which is copied once, `times` times.
-    fn push_draft(&mut self, draft: &Draft, times: u16) -> Result<(), OutOfMemory> {
-        let first = self.ops.len() as u32;
-        let count = draft.len();
-        let number = self.offers.len() as u16;
-        self.ops.reserve(count)?;
-        self.offers.reserve(1)?;
-        self.runs.reserve(1)?;
-        self.ops.extend_from_slice(draft.ops()).unwrap();
-        self.offers.push_reserved((first, count as u16));
-        let step = Step::Offer(number);
-        self.runs.push_reserved(Run { step, times });
-        self.count += usize::from(times);
+    // Adds a reset of the whole system to `image`, which is kept.
+    fn push_image(&mut self, image: Image<A>) -> Result<(), OutOfMemory> {
+        add_image(&mut self.images, &mut self.runs, image, 1)?;
+        self.count += 1;
         Ok(())
     }
+}
 
-    // Adds a reset of the whole system to `image`, which is kept, `times` times.
-    fn push_image(&mut self, image: Image<A>, times: u16) -> Result<(), OutOfMemory> {
-        add_image(&mut self.images, &mut self.runs, image, times)?;
-        self.count += usize::from(times);
-        Ok(())
+// Returns the step of `event`, which brings neither a draft nor an image.
+#[inline(always)]
+fn step_of<D, I>(event: &Event<D, I>) -> Step {
+    match event {
+        Event::Redraw => Step::Redraw,
+        Event::Tick => Step::Tick,
+        Event::Strobe => Step::Strobe,
+        Event::Fetch => Step::Fetch,
+        Event::ResetGen => Step::ResetGen,
+        Event::ResetCpu => Step::ResetCpu,
+        Event::Offer(_) | Event::ResetAll(_) => unreachable!(),
     }
 }
 

@@ -1,8 +1,7 @@
 //! Events at the head of a text, each read in one pass with the end of its line.
-use crate::event_line::SpelledEvent;
 use crate::letters::letters_at_head;
 use crate::number::{after_byte, digit_of};
-use dvg_log::Event;
+use dvg_log::{Event, SpelledEvent};
 
 /// How many bytes the longest line that is read here has, with its end. A shorter text is read
 /// otherwise.

@@ -69,8 +69,8 @@ impl RomWords {
     }
 }
 
-// Puts `word` at the place `k`, counted in words from 0, of `bytes`, the low byte first.
-fn put_word(bytes: &mut [u8], k: usize, word: u16) {
+/// Puts `word` at the place `k`, counted in words from 0, of `bytes`, the low byte first.
+pub fn put_word(bytes: &mut [u8], k: usize, word: u16) {
     bytes[2 * k] = (word % 256) as u8;
     bytes[2 * k + 1] = (word / 256) as u8;
 }

@@ -1,9 +1,9 @@
 //! The lines of a text.
 use crate::event_head::{HEAD, Name, after_name, reset_at_head};
-use crate::event_line::SpelledEvent;
 use crate::letters::letters_at_head;
 use crate::op_head::op_at_head;
 use dvg_frame::{Draft, Op};
+use dvg_log::SpelledEvent;
 use memchr::memchr;
 
 /// How many bytes are looked at one by one for the end of a line.

@@ -5,7 +5,7 @@ use crate::fault::{LineFault, TextFault, Unread};
 use crate::op_line::read_op;
 use crate::rom_text::RomReading;
 use crate::text_lines::{TextLines, is_passed};
-use crate::trace_events::{add_times, take_events};
+use crate::trace_events::take_events;
 use arrayvec::ArrayVec;
 use dvg_code::OutOfMemory;
 use dvg_frame::{Draft, Op};
@@ -51,7 +51,6 @@ pub fn read_trace<A: Allocator + Copy>(alloc: A, text: &[u8]) -> Result<TraceTex
 #[inline(always)]
 fn read_lines<A: Allocator + Copy>(alloc: A, text: &[u8]) -> Result<Reading<A>, Unread> {
     let mut reading = Reading {
-        alloc,
         rom: RomReading::new(),
         events: Trace::new(alloc),
         draft: Draft::new(),
@@ -79,7 +78,6 @@ fn read_lines<A: Allocator + Copy>(alloc: A, text: &[u8]) -> Result<Reading<A>, 
 
 // What was read of a trace's text. After a fault it is read no further.
 struct Reading<A: Allocator> {
-    alloc: A,
     rom: RomReading,
     events: Trace<A>,
     // The draft of the newest offer.
@@ -96,7 +94,7 @@ impl<A: Allocator + Copy> Reading<A> {
         if self.is_open {
             return Ok(lines.take_ops(&mut self.draft));
         }
-        take_events(self.alloc, lines, &mut self.events)
+        take_events(lines, &mut self.events)
     }
 
     // Reads one more line, `line`, which isn't passed over.
@@ -118,7 +116,7 @@ impl<A: Allocator + Copy> Reading<A> {
             return Ok(());
         }
         if let Some(repeated) = read_event_line(line) {
-            return add_events(self.alloc, repeated, &mut self.events);
+            return add_events(repeated, &mut self.events);
         }
         if self.events.is_empty() && self.rom.take(line) {
             return Ok(());
@@ -166,15 +164,14 @@ fn push_op(draft: &mut Draft, op: Op) -> Result<(), LineFault> {
 // Adds the events of a line, `repeated`, to `events`. Returns `Many` where there would be more than
 // 65,536, and `Memory` where an allocation fails.
 #[inline(always)]
-fn add_events<A: Allocator>(
-    alloc: A,
+fn add_events<A: Allocator + Copy>(
     repeated: EventLine,
     events: &mut Trace<A>,
 ) -> Result<(), LineFault> {
     if events.len() + count(&repeated) > MOST_EVENTS {
         return Err(LineFault::Many);
     }
-    if add_times(alloc, repeated.event, repeated.count, events).is_err() {
+    if events.push_times(repeated.event, repeated.count).is_err() {
         return Err(LineFault::Memory);
     }
     Ok(())

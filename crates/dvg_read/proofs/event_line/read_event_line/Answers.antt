@@ -1,4 +1,4 @@
-use Rattle.dvg_read.specs.EventLines.{spelled_as}
+use Rattle.dvg_log.specs.Events.{spelled_as}
 use Rattle.dvg_read.proofs.EventRows.{alone_row, named_made, named_only}
 use Rattle.dvg_read.proofs.FirstBytes.{IsCutAt, cut_at_first}
 use Rattle.dvg_read.proofs.Spaces.{found_whole, one_operand, part_ended, part_unended}

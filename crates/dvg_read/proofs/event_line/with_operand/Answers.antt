@@ -1,5 +1,6 @@
 use Rattle.std.proofs.Common.{◌≡◌, codes, rules, ⊎_elim}
-use Rattle.dvg_read.specs.EventLines.{TakesCount, spelled_as}
+use Rattle.dvg_log.specs.Events.{spelled_as}
+use Rattle.dvg_read.specs.EventLines.{TakesCount}
 use Rattle.dvg_read.proofs.EventRows.{operand_row, resetall_made, resetall_only, times_made}
 use Rattle.dvg_read.proofs.event_line.with_operand.Goals as goal
 

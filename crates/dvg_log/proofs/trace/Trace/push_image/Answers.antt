@@ -1,5 +1,6 @@
 use Rattle.std.proofs.Common.{◌+◌, ◌≤◌, ◌∷◌, ◌++◌, [], length, map, replicate, All, ap, sym, ◌∙◌, subst, arith}
 use Rattle.std.proofs.lemmas.List.{length-map}
+use Rattle.dvg_log.specs.declared.trace.TheConstants.{MOST_EVENTS}
 use Rattle.dvg_log.specs.declared.event.Event.TheVariants.{ResetAll}
 use Rattle.dvg_log.specs.Traces.{all_events, ops_in}
 use Rattle.dvg_log.specs.own.Kept.{IsRunIn}
@@ -12,15 +13,15 @@ add_image-requires g c =
     let count = count_of trace c.args.self.now c.self.view_is in
     let reset = trace.reset in
     let some = trace.some in
-    omega (arith, reset, some, count, c.requires.room, c.requires.some)
+    omega (arith, reset, some, count, c.requires)
 
 pub invariant_of-self-2 : goal.invariant_of-self-2
 invariant_of-self-2 g c =
     let kept = c.self.inside in
     let number = c.in_ok-add_image.field-0 in
     let count = count_of c.self.invariant c.args.self.now c.self.view_is in
-    let room : kept.count + c.args.times ≤ 65536 = omega (arith, count, c.requires.room) in
-    rw (c.in_ok-add_image.ensures.runs, c.in_ok-add_image.ensures.images, c.from.ensures) (keeps_image c.args.image number c.args.times c.self.invariant c.requires.some room c.in_ok-add_image.ensures.number)
+    let room : kept.count + 1 ≤ MOST_EVENTS = omega (arith, count, c.requires) in
+    rw (c.in_ok-add_image.ensures.runs, c.in_ok-add_image.ensures.images) (keeps_image c.args.image number 1 c.self.invariant (omega arith) room c.in_ok-add_image.ensures.number)
 
 pub returns-clause-pushed : goal.returns-clause-pushed
 returns-clause-pushed g c =
@@ -29,6 +30,6 @@ returns-clause-pushed g c =
     let offers = map (ops_in kept.ops.items) kept.offers.items in
     let within = subst (λ n. All (IsRunIn n (length kept.images.items)) kept.runs.items) (sym (length-map kept.offers.items (ops_in kept.ops.items))) c.self.invariant.are.within in
     ap (λ runs. all_events runs offers c.add_image.new.images.items) c.in_ok-add_image.ensures.runs
-    ∙ ap (λ images. all_events (kept.runs.items ++ record { step = ResetAll number; times = c.args.times } ∷ []) offers images) c.in_ok-add_image.ensures.images
-    ∙ one_reset_more kept.runs.items offers kept.images.items c.args.image number c.args.times within c.in_ok-add_image.ensures.number
-    ∙ ap (λ events. events ++ replicate c.args.times (ResetAll c.args.image)) c.self.view_is
+    ∙ ap (λ images. all_events (kept.runs.items ++ record { step = ResetAll number; times = 1 } ∷ []) offers images) c.in_ok-add_image.ensures.images
+    ∙ one_reset_more kept.runs.items offers kept.images.items c.args.image number 1 within c.in_ok-add_image.ensures.number
+    ∙ ap (λ events. events ++ replicate 1 (ResetAll c.args.image)) c.self.view_is
