@@ -1,5 +1,5 @@
 -- Where each name that a section wants is given, no row of the ROM wants one that isn't.
-use Rattle.std.proofs.Common.{◌≡◌, ◌+◌, ℕ, List, [], ◌∷◌, sym, subst, All, Option, max, unwrap_or}
+use Rattle.std.proofs.Common.{◌+◌, ℕ, List, [], ◌∷◌, sym, subst, All, Option, max, unwrap_or}
 use Rattle.std.proofs.lemmas.List.Elements.{All-cons, All-head, All-nil, All-tail}
 use Rattle.std.specs.List.{cons_option, filter_map}
 use Rattle.dvg_named.specs.declared.laid.LaidRows as held_laid

@@ -1,12 +1,11 @@
 -- The words of a section that were put so far.
-use Rattle.std.proofs.Common.{◌≡◌, ◌<◌, ◌≤◌, ◌+◌, ◌-◌, ◌/◌, ℕ, zero, suc, List, [], ◌∷◌, ◌++◌, length, get_or, map, take, refl, sym, ap}
-use Rattle.std.proofs.Common.{subst, ◌∙◌, arith, IfSome, None, Some, All, slice_get, slice_index, inl, inr, ◌⊎◌}
+use Rattle.std.proofs.Common.{◌≡◌, ◌<◌, ◌≤◌, ◌+◌, ◌-◌, ◌/◌, ℕ, List, [], ◌∷◌, ◌++◌, length, get_or, map, take, refl, sym, ap}
+use Rattle.std.proofs.Common.{subst, ◌∙◌, arith, IfSome, None, Some, All, slice_index, inl, inr, ◌⊎◌}
 use Rattle.std.specs.Prelude.{◌≢◌, ◌==◌, if◌then◌else◌}
 use Rattle.std.proofs.lemmas.Bool.{cases_lt}
 use Rattle.std.proofs.lemmas.List.{append-nil, append_assoc, get_or-append_right, get_or-map, get_or_append_left, length-append}
 use Rattle.std.proofs.lemmas.List.{length-map}
 use Rattle.std.proofs.lemmas.List.Sums.{sum_by-cons, sum_by_push}
-use Rattle.std.proofs.lemmas.Option.{slice_get_read}
 use Rattle.std.specs.List.{AllZip, concat, sum_by}
 use Rattle.dvg_code.specs.declared.instr.Instr.{Instr}
 use Rattle.dvg_code.specs.declared.instr.Instr.TheVariants.{Vctr, Labs, Halt, Jsrl, Rtsl, Jmpl, Svec}
@@ -29,8 +28,8 @@ use Rattle.dvg_rows.specs.RowPlaces.{doings, size, words_taken}
 use Rattle.dvg_named.specs.RomBytes.{ArePut, IsPut, MayStandInRom, TellsSections}
 use Rattle.dvg_rows.specs.RowValues.{doing_of, doing_of_some, row_of}
 use Rattle.dvg_rows.specs.Rows.{Doing, Row, plainly, calls, jumps, calls_rom, jumps_rom, rom}
-use Rattle.dvg_named.specs.Sections.{MayStand, Section}
-use Rattle.dvg_named.specs.Ungiven.{WantsAt, in_rom}
+use Rattle.dvg_named.specs.Sections.{MayStand}
+use Rattle.dvg_named.specs.Ungiven.{in_rom}
 use Rattle.dvg_named.proofs.DraftRows.{one_doing}
 use Rattle.dvg_rows.proofs.RowSizes.{size_front}
 

@@ -9,6 +9,7 @@ use Rattle.dvg_rows.specs.declared.row.Row as held_row
 use Rattle.dvg_rows.specs.RowValues.{row_of}
 use Rattle.dvg_rows.specs.Rows.{IsRowLine, Row}
 use Rattle.dvg_named.specs.Sections.{Spelled, SpellsSketch}
+use Rattle.dvg_named.specs.SourcedRows.{AreSourced}
 
 -- a row, the number of its section, counted from 0, and that of its line, counted from 1
 pub record Entry : Type 0 where
@@ -59,6 +60,10 @@ pub record AddsEntry {A : Type 0} (old : Reading A) (row : Row) (number : ℕ) (
   pub top : head_at_top new ≡ head_at_top old
   pub entries : entries_in new
       ≡ entries_in old ++ record { section = length new.closed.items; row = row; number = number } ∷ []
+
+-- with the line of this number the row is held, where the lines before it were read
+abbrev pub EntersRow : {A : Type 0} → Row → (number : ℕ) → (old new : Reading A) → Type 0
+EntersRow row number old new = (small : List ℕ) (next : ℕ) → AreSourced small next old → AddsEntry old row number new
 
 -- the line of this number was read: the row is held that it spells, if it spells one
 pub data Numbers {A : Type 0} (old : Reading A) (line : List ℕ) (number : ℕ) (new : Reading A) : Type 0 where

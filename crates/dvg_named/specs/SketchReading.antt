@@ -75,6 +75,16 @@ StopsSketch Overlap sketch line =
 StopsSketch Memory sketch line = Unit {0}
 StopsSketch _ sketch line = ⊥
 
+-- with one line more, of which this holds, what is spelled goes on, within the limits
+abbrev pub AddsLine : {A : Type 0} → (IsLine : List ℕ → Type 0) → (old new : Reading A) → Type 0
+AddsLine IsLine old new = (stated : RomText) (line : List ℕ) → Reads stated old → IsLine line
+    → ReadsMore stated old line new
+
+-- why one line more, of which this holds, isn't taken
+abbrev pub StopsLine : {A : Type 0} → (IsLine : List ℕ → Type 0) → Reading A → LineFault → Type 0
+StopsLine IsLine reading fault = (stated : RomText) (line : List ℕ) → Reads stated reading → IsLine line
+    → StopsSketch fault (spelled_in stated reading) line
+
 -- no row was read, and no section begun
 abbrev pub IsBare : {A : Type 0} → Reading A → Type 0
 IsBare reading = (closed_in reading ≡ []) × ((section_in reading.last).rows ≡ [])

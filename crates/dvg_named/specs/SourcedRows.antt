@@ -83,3 +83,8 @@ pub record AreSourced {A : Type 0} (small : List ℕ) (next : ℕ) (reading : Re
   pub before : All (StandsBefore next) reading.closed.items
   pub last_before : StandsBefore next reading.last
   pub none : NoneBegins small reading.last.begin.number next
+
+-- with this line more, in which this stands, each section and each row stands in its line
+abbrev pub SourcesLine : {A : Type 0} → (IsAt : List ℕ → Source → Type 0) → Source → (old new : Reading A) → Type 0
+SourcesLine IsAt source old new = (small : List ℕ) → AreSourced small source.number old → IsAt small source
+    → AreSourced small (source.number + 1) new

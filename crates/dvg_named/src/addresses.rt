@@ -1,6 +1,7 @@
 //! The names of the ROM, and their word addresses.
 ghost use Rattle.std.specs.Prelude.{◌≡◌, ◌≤◌, ◌++◌, All, IfOk, IfSome, List, OnOk};
 ghost use Rattle.std.specs.Option.{option_to_list};
+ghost use Rattle.dvg_mem.specs.declared.TheConstants.{ROM_END};
 ghost use Rattle.dvg_rows.specs.HeldRows.{rows_of};
 ghost use Rattle.dvg_named.specs.LaidValues.{AreLow, laid_section, laid_sections, rows_laid};
 ghost use Rattle.dvg_rows.specs.RowPlaces.{names_of};
@@ -39,7 +40,7 @@ fn push_names<'a, A: Allocator>(
     found: &mut Vec<RomName<'a>, A>,
     section: &LaidRows<'_, 'a>,
 ) -> Result<(), OutOfMemory>
-    requires { laid_end (laid_section section.now) ≤ 0xC00 }
+    requires { laid_end (laid_section section.now) ≤ ROM_END }
     ensures names { OnOk result (names_listed found.new.items
         ≡ names_listed found.old.items ++ names_of (rows_of section.now.rows.now)) }
     ensures addresses { OnOk result ((laid : List Laid) → StandsIn laid (laid_section section.now)

@@ -1,6 +1,7 @@
 //! Where sections of the ROM are laid.
 ghost use Rattle.std.specs.Prelude.{◌≡◌, ◌≤◌, ◌<◌, ◌+◌, ◌^◌, ℕ, List, [], ◌∷◌, ◌++◌, length, max};
 ghost use Rattle.std.specs.Prelude.{unwrap_or, IfNone, IfOk, IfSome, Some};
+ghost use Rattle.dvg_mem.specs.declared.TheConstants.{ROM_END};
 ghost use Rattle.dvg_read.specs.RomTexts.{RomLine};
 ghost use Rattle.dvg_rows.specs.NameTables.{Tells};
 ghost use Rattle.dvg_named.specs.RomNames.{IsListed};
@@ -162,7 +163,7 @@ pub(crate) fn address_of<A: Allocator + Copy>(
 ) -> Option<u16>
     requires { AreLow (laid_sections sections.now) }
     ensures found { IfSome result (IsAddress (laid_sections sections.now) name.now) }
-    ensures low { IfSome result (λ address. address ≤ 0xC00) }
+    ensures low { IfSome result (λ address. address ≤ ROM_END) }
     ensures none { IfNone result (NoneNames sections.now name.now) }
     ensures only { AreDistinct (names_of (rows_laid (laid_sections sections.now))) → (address : ℕ)
         → IsAddress (laid_sections sections.now) name.now address → result ≡ Some address }

@@ -56,7 +56,8 @@ impl<'a, A: Allocator + Copy> Reading<'a, A> {
     ghost use Rattle.dvg_rows.specs.Rows.{Head as SpelledHead, IsHeadLine, IsRowLine};
     ghost use Rattle.dvg_rows.specs.Rows.{Row as SpelledRow, frame, rom};
     ghost use Rattle.dvg_named.specs.RowMoves.{IsFrameHead, IsRomHead};
-    ghost use Rattle.dvg_named.specs.SketchReading.{IsBare, Opens, Reads, ReadsMore, StopsSketch};
+    ghost use Rattle.dvg_named.specs.SketchReading.{AddsLine, IsBare, Opens, Reads, ReadsMore};
+    ghost use Rattle.dvg_named.specs.SketchReading.{StopsLine, StopsSketch};
     ghost use Rattle.dvg_named.specs.SketchReading.{head_in, spelled_in};
     ghost use Rattle.dvg_named.specs.GivenRoms.{GivesRom, IsLaidText};
     ghost use Rattle.dvg_named.specs.LaidValues.{laid_sections};
@@ -65,8 +66,8 @@ impl<'a, A: Allocator + Copy> Reading<'a, A> {
     ghost use Rattle.dvg_named.specs.TextReading.{ReadsText};
     ghost use Rattle.dvg_named.specs.SketchSteps.{AreParts, line_of};
     ghost use Rattle.dvg_named.specs.SourcedRows.{AreSourced, BeginsFrame, BeginsIn, IsHeadAt, IsLineAt};
-    ghost use Rattle.dvg_named.specs.SourcedRows.{IsRowAt};
-    ghost use Rattle.dvg_named.specs.LineNumbers.{AddsEntry, KeepsEntries, Numbers, entries_in};
+    ghost use Rattle.dvg_named.specs.SourcedRows.{IsRowAt, SourcesLine};
+    ghost use Rattle.dvg_named.specs.LineNumbers.{EntersRow, KeepsEntries, Numbers, entries_in};
     ghost use Rattle.dvg_named.specs.LineNumbers.{head_at_top};
     ghost use Rattle.std.specs.Prelude.{None, IfNone, IfSome, map};
     ghost use Rattle.std.specs.Char.{to_ascii_lowercase};
@@ -163,16 +164,10 @@ impl<'a, A: Allocator + Copy> Reading<'a, A> {
 
     // Begins a section with `head`, in the line `source`.
     fn begin_section(&mut self, head: Head<'a>, source: Source<'a>) -> Result<(), LineFault>
-        ensures added { OnOk result ((stated : RomText) (line : List ℕ) → Reads stated self.old
-            → IsHeadLine (head_of head.entry) line → ReadsMore stated self.old line self.new) }
-        ensures fault { IfErr result (λ fault. (stated : RomText) (line : List ℕ)
-            → Reads stated self.old
-            → IsHeadLine (head_of head.entry) line
-            → StopsSketch fault (spelled_in stated self.old) line) }
-        ensures sources { OnOk result ((small : List ℕ)
-            → AreSourced small source.entry.number self.old
-            → IsHeadAt small head.entry source.entry
-            → AreSourced small (source.entry.number + 1) self.new) }
+        ensures added { OnOk result (AddsLine (IsHeadLine (head_of head.entry)) self.old self.new) }
+        ensures fault { IfErr result (StopsLine (IsHeadLine (head_of head.entry)) self.old) }
+        ensures sources { OnOk result (SourcesLine (λ small. IsHeadAt small head.entry)
+            source.entry self.old self.new) }
         ensures entries { OnOk result (KeepsEntries self.old self.new) }
     {
         match head {
@@ -183,17 +178,12 @@ impl<'a, A: Allocator + Copy> Reading<'a, A> {
 
     // Begins a frame with `name`, if there is one, in the line `source`.
     fn begin_frame(&mut self, name: Option<&'a [u8]>, source: Source<'a>) -> Result<(), LineFault>
-        ensures added { OnOk result ((stated : RomText) (line : List ℕ) → Reads stated self.old
-            → IsHeadLine (frame (name_of name.entry)) line
-            → ReadsMore stated self.old line self.new) }
-        ensures fault { IfErr result (λ fault. (stated : RomText) (line : List ℕ)
-            → Reads stated self.old
-            → IsHeadLine (frame (name_of name.entry)) line
-            → StopsSketch fault (spelled_in stated self.old) line) }
-        ensures sources { OnOk result ((small : List ℕ)
-            → AreSourced small source.entry.number self.old
-            → IsHeadAt small (Head.Frame name.entry) source.entry
-            → AreSourced small (source.entry.number + 1) self.new) }
+        ensures added { OnOk result (AddsLine (IsHeadLine (frame (name_of name.entry)))
+            self.old self.new) }
+        ensures fault { IfErr result (StopsLine (IsHeadLine (frame (name_of name.entry)))
+            self.old) }
+        ensures sources { OnOk result (SourcesLine (λ small. IsHeadAt small (Head.Frame name.entry))
+            source.entry self.old self.new) }
         ensures entries { OnOk result (KeepsEntries self.old self.new) }
     {
         if let Err(fault) = self.frame_names.give(name) {
@@ -205,16 +195,10 @@ impl<'a, A: Allocator + Copy> Reading<'a, A> {
     // Begins a section of the ROM in the line `source`, at the word address `address`, or else at
     // the first free word.
     fn begin_rom(&mut self, address: Option<u16>, source: Source<'a>) -> Result<(), LineFault>
-        ensures added { OnOk result ((stated : RomText) (line : List ℕ) → Reads stated self.old
-            → IsHeadLine (rom address) line → ReadsMore stated self.old line self.new) }
-        ensures fault { IfErr result (λ fault. (stated : RomText) (line : List ℕ)
-            → Reads stated self.old
-            → IsHeadLine (rom address) line
-            → StopsSketch fault (spelled_in stated self.old) line) }
-        ensures sources { OnOk result ((small : List ℕ)
-            → AreSourced small source.entry.number self.old
-            → IsHeadAt small (Head.Rom address) source.entry
-            → AreSourced small (source.entry.number + 1) self.new) }
+        ensures added { OnOk result (AddsLine (IsHeadLine (rom address)) self.old self.new) }
+        ensures fault { IfErr result (StopsLine (IsHeadLine (rom address)) self.old) }
+        ensures sources { OnOk result (SourcesLine (λ small. IsHeadAt small (Head.Rom address))
+            source.entry self.old self.new) }
         ensures entries { OnOk result (KeepsEntries self.old self.new) }
     {
         let first = self.rom.first();
@@ -228,10 +212,8 @@ impl<'a, A: Allocator + Copy> Reading<'a, A> {
     // `Memory` where an allocation fails.
     fn open_part(&mut self, head: Head<'a>, source: Source<'a>) -> Result<(), LineFault>
         ensures opened { OnOk result (Opens self.old (head_of head.entry) self.new) }
-        ensures sources { OnOk result ((small : List ℕ)
-            → AreSourced small source.entry.number self.old
-            → IsHeadAt small head.entry source.entry
-            → AreSourced small (source.entry.number + 1) self.new) }
+        ensures sources { OnOk result (SourcesLine (λ small. IsHeadAt small head.entry)
+            source.entry self.old self.new) }
         ensures fault { IfErr result (λ fault. fault ≡ LineFault.Memory) }
         ensures entries { OnOk result (KeepsEntries self.old self.new) }
     {
@@ -248,18 +230,12 @@ impl<'a, A: Allocator + Copy> Reading<'a, A> {
 
     // Adds `row`, which stands in the line `source`, to the last section.
     fn add_row(&mut self, row: &Row<'a>, source: Source<'a>) -> Result<(), LineFault>
-        ensures added { OnOk result ((stated : RomText) (line : List ℕ) → Reads stated self.old
-            → IsRowLine (row_of row.now) line → ReadsMore stated self.old line self.new) }
-        ensures fault { IfErr result (λ fault. (stated : RomText) (line : List ℕ)
-            → Reads stated self.old
-            → IsRowLine (row_of row.now) line
-            → StopsSketch fault (spelled_in stated self.old) line) }
-        ensures sources { OnOk result ((small : List ℕ)
-            → AreSourced small source.entry.number self.old
-            → IsRowAt small row.now source.entry
-            → AreSourced small (source.entry.number + 1) self.new) }
-        ensures entries { OnOk result ((small : List ℕ) (next : ℕ) → AreSourced small next self.old
-            → AddsEntry self.old (row_of row.now) source.entry.number self.new) }
+        ensures added { OnOk result (AddsLine (IsRowLine (row_of row.now)) self.old self.new) }
+        ensures fault { IfErr result (StopsLine (IsRowLine (row_of row.now)) self.old) }
+        ensures sources { OnOk result (SourcesLine (λ small. IsRowAt small row.now)
+            source.entry self.old self.new) }
+        ensures entries { OnOk result (EntersRow (row_of row.now) source.entry.number
+            self.old self.new) }
     {
         match self.last.head {
             Some(Head::Rom(_)) => self.add_rom_row(row, source),
@@ -270,18 +246,12 @@ impl<'a, A: Allocator + Copy> Reading<'a, A> {
     // Adds `row`, which stands in the line `source`, to the last section, which is a frame.
     fn add_frame_row(&mut self, row: &Row<'a>, source: Source<'a>) -> Result<(), LineFault>
         requires { IsFrameHead (head_in self.old.last.head) }
-        ensures added { OnOk result ((stated : RomText) (line : List ℕ) → Reads stated self.old
-            → IsRowLine (row_of row.now) line → ReadsMore stated self.old line self.new) }
-        ensures fault { IfErr result (λ fault. (stated : RomText) (line : List ℕ)
-            → Reads stated self.old
-            → IsRowLine (row_of row.now) line
-            → StopsSketch fault (spelled_in stated self.old) line) }
-        ensures sources { OnOk result ((small : List ℕ)
-            → AreSourced small source.entry.number self.old
-            → IsRowAt small row.now source.entry
-            → AreSourced small (source.entry.number + 1) self.new) }
-        ensures entries { OnOk result ((small : List ℕ) (next : ℕ) → AreSourced small next self.old
-            → AddsEntry self.old (row_of row.now) source.entry.number self.new) }
+        ensures added { OnOk result (AddsLine (IsRowLine (row_of row.now)) self.old self.new) }
+        ensures fault { IfErr result (StopsLine (IsRowLine (row_of row.now)) self.old) }
+        ensures sources { OnOk result (SourcesLine (λ small. IsRowAt small row.now)
+            source.entry self.old self.new) }
+        ensures entries { OnOk result (EntersRow (row_of row.now) source.entry.number
+            self.old self.new) }
     {
         if let Err(fault) = self.names.give(row.name) {
             return Err(fault);
@@ -296,18 +266,12 @@ impl<'a, A: Allocator + Copy> Reading<'a, A> {
     // Adds `row`, which stands in the line `source`, to the last section, which is of the ROM.
     fn add_rom_row(&mut self, row: &Row<'a>, source: Source<'a>) -> Result<(), LineFault>
         requires { IsRomHead (head_in self.old.last.head) }
-        ensures added { OnOk result ((stated : RomText) (line : List ℕ) → Reads stated self.old
-            → IsRowLine (row_of row.now) line → ReadsMore stated self.old line self.new) }
-        ensures fault { IfErr result (λ fault. (stated : RomText) (line : List ℕ)
-            → Reads stated self.old
-            → IsRowLine (row_of row.now) line
-            → StopsSketch fault (spelled_in stated self.old) line) }
-        ensures sources { OnOk result ((small : List ℕ)
-            → AreSourced small source.entry.number self.old
-            → IsRowAt small row.now source.entry
-            → AreSourced small (source.entry.number + 1) self.new) }
-        ensures entries { OnOk result ((small : List ℕ) (next : ℕ) → AreSourced small next self.old
-            → AddsEntry self.old (row_of row.now) source.entry.number self.new) }
+        ensures added { OnOk result (AddsLine (IsRowLine (row_of row.now)) self.old self.new) }
+        ensures fault { IfErr result (StopsLine (IsRowLine (row_of row.now)) self.old) }
+        ensures sources { OnOk result (SourcesLine (λ small. IsRowAt small row.now)
+            source.entry self.old self.new) }
+        ensures entries { OnOk result (EntersRow (row_of row.now) source.entry.number
+            self.old self.new) }
     {
         if !may_stand_in_rom(row) {
             return Err(LineFault::Syntax);

@@ -1,9 +1,9 @@
 //! The words of the ROM's sections, in the bytes of a ROM.
-ghost use Rattle.std.specs.Prelude.{◌≡◌, ◌≢◌, ◌⊎◌, ◌+◌, ◌-◌, ◌*◌, ◌/◌, ◌<◌, ◌≤◌, ℕ, List, [], All};
-ghost use Rattle.std.specs.Prelude.{get_or, length, IfNone, IfSome, OnSome};
+ghost use Rattle.std.specs.Prelude.{◌≡◌, ◌⊎◌, ◌+◌, ◌-◌, ◌*◌, ◌/◌, ◌<◌, ◌≤◌, ℕ, List, [], All};
+ghost use Rattle.std.specs.Prelude.{length, IfNone, IfSome, OnSome};
+ghost use Rattle.dvg_mem.specs.declared.TheConstants.{LARGE_ROM_BYTES, MEMORY_BYTES, ROM_END};
 ghost use Rattle.dvg_code.specs.declared.instr.Instr.TheVariants.{Jmpl, Jsrl};
 ghost use Rattle.dvg_code.specs.Spelling.{canon};
-ghost use Rattle.dvg_code.specs.Words.{word_in};
 ghost use Rattle.dvg_frame.specs.declared.op.OpKind.TheVariants.{Call, Jump};
 ghost use Rattle.dvg_frame.specs.Ops.{IsOp};
 ghost use Rattle.dvg_read.specs.RomTexts.{IsRomOf, RomText};
@@ -24,6 +24,7 @@ use crate::laid::{LaidNames, LaidRows, address_of};
 use dvg_code::{Code, Instr, encode};
 use dvg_frame::OpKind;
 use dvg_mem::ROM_END;
+use dvg_read::put_word;
 use dvg_rows::Doing;
 use std::alloc::Allocator;
 
@@ -36,8 +37,8 @@ pub(crate) fn put_sections<A: Allocator + Copy>(
     rom: &mut [u8],
     sections: &LaidNames<'_, '_, '_, A>,
 ) -> Option<()>
-    requires size { (length rom.old ≡ 2048) ⊎ (length rom.old ≡ 4096) }
-    requires lie { LieInRom (0xC00 - length rom.old / 2) (laid_sections sections.now) }
+    requires size { (length rom.old ≡ MEMORY_BYTES) ⊎ (length rom.old ≡ LARGE_ROM_BYTES) }
+    requires lie { LieInRom (ROM_END - length rom.old / 2) (laid_sections sections.now) }
     requires may { All (λ section. MayStandInRom section.rows) (laid_sections sections.now) }
     ensures stated { OnSome result ((stated : RomText) → IsRomOf stated rom.old
         → TellsSections (laid_sections sections.now) (laid_sections sections.now) stated rom.new) }
@@ -62,7 +63,7 @@ fn put_section<A: Allocator + Copy>(
 ) -> Option<()>
     requires low { AreLow (laid_sections sections.now) }
     requires start { first ≤ section.now.start }
-    requires end { laid_end (laid_section section.now) ≤ 0xC00 }
+    requires end { laid_end (laid_section section.now) ≤ ROM_END }
     requires whole { 0x1800 ≤ length rom.old + 2 * first }
     requires may { MayStandInRom (rows_of section.now.rows.now) }
     ensures put { OnSome result (PutsSection sections.now section.now first rom.old rom.new) }
@@ -96,18 +97,6 @@ fn put_code(rom: &mut [u8], place: usize, code: Code) -> usize
         next += 1;
     }
     next
-}
-
-// Puts `word` at `place` in `rom`, counted in words, the low byte first.
-fn put_word(rom: &mut [u8], place: usize, word: u16)
-    requires { 2 * place + 1 < length rom.old }
-    ensures word { word_in rom.new place ≡ word }
-    ensures others { (j : ℕ) → j ≢ place → word_in rom.new j ≡ word_in rom.old j }
-    ensures count { length rom.new ≡ length rom.old }
-    ensures fits { (i : ℕ) → get_or rom.new i 0 < 256 }
-{
-    rom[2 * place] = (word % 256) as u8;
-    rom[2 * place + 1] = (word / 256) as u8;
 }
 
 // Returns the instruction of `doing`, which a row of the ROM does. Returns `None` where it needs a

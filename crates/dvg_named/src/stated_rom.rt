@@ -1,6 +1,7 @@
 //! What the first lines of a sketch say of its ROM.
 ghost use Rattle.std.specs.Prelude.{◌≡◌, ◌+◌, ◌/◌, ◌∷◌, [], ℕ, length, IfSome};
 ghost use Rattle.std.specs.Prelude.{IsFalse, IsTrue, Some};
+ghost use Rattle.dvg_mem.specs.declared.TheConstants.{ROM_END};
 ghost use Rattle.dvg_read.specs.LineParts.{bytes_of};
 ghost use Rattle.dvg_read.specs.RomReading.{TellsRom, unstated};
 ghost use Rattle.dvg_read.specs.RomTexts.{IsMapLine, RomText};
@@ -83,7 +84,7 @@ impl StatedRom {
 
     /// Returns the word address of the ROM's first word. The last one is at BFF.
     pub fn first(&self) -> u16
-        ensures { result + length self.now.bytes.items / 2 ≡ 0xC00 }
+        ensures { result + length self.now.bytes.items / 2 ≡ ROM_END }
     {
         ROM_END - (self.bytes.as_slice().len() / 2) as u16
     }

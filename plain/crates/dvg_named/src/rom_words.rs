@@ -3,6 +3,7 @@ use crate::laid::{LaidNames, LaidRows, address_of};
 use dvg_code::{Code, Instr, encode};
 use dvg_frame::OpKind;
 use dvg_mem::ROM_END;
+use dvg_read::put_word;
 use dvg_rows::Doing;
 use std::alloc::Allocator;
 
@@ -55,12 +56,6 @@ fn put_code(rom: &mut [u8], place: usize, code: Code) -> usize {
         next += 1;
     }
     next
-}
-
-// Puts `word` at `place` in `rom`, counted in words, the low byte first.
-fn put_word(rom: &mut [u8], place: usize, word: u16) {
-    rom[2 * place] = (word % 256) as u8;
-    rom[2 * place + 1] = (word / 256) as u8;
 }
 
 // Returns the instruction of `doing`, which a row of the ROM does. Returns `None` where it needs a
