@@ -1,9 +1,11 @@
 -- What a device answers to a request.
-use Rattle.std.specs.Prelude.{◌≡◌, ◌+◌, ◌<◌, ◌≤◌, ◌⊎◌, ℕ, List, [], ◌∷◌, ◌++◌, length, take, drop, replicate, slice_get}
+use Rattle.std.specs.Prelude.{◌≡◌, ◌+◌, ◌*◌, ◌<◌, ◌≤◌, ◌⊎◌, ℕ, List, [], ◌∷◌, ◌++◌, length, take, drop, replicate, slice_get}
 use Rattle.std.specs.Prelude.{None}
 use Rattle.dvg_gen.specs.declared.stroke.Stroke.{Stroke}
 use Rattle.dvg_gen.specs.Machine.{Machine, HasTaken}
 use Rattle.dvg_gen.specs.Wrapping.{Wrapped, HasWrapped}
+use Rattle.dvg_mem.specs.declared.TheConstants.{LARGE_ROM_BYTES, MEMORY_BYTES}
+use Rattle.dvg_frame.specs.declared.draft.TheConstants.{MAX_OPS}
 use Rattle.dvg_frame.specs.declared.op.OpKind.{OpKind}
 use Rattle.dvg_world.specs.Standing.{State}
 use Rattle.dvg_device.specs.Operations.{Names}
@@ -18,6 +20,7 @@ use Rattle.dvg_device.specs.States.{CanStand, TakesPart, part_in, unbegun}
 use Rattle.dvg_moment.specs.declared.judge.MomentJudge.{MomentJudge}
 use Rattle.dvg_moment.specs.Judging.{StandsAfter}
 use Rattle.dvg_device.specs.Judges.{JudgeAnswers}
+use Rattle.dvg_device.specs.declared.device.TheConstants.{MOST_STAGED}
 use Rattle.dvg_device.specs.declared.operation.Operation.{Operation}
 use Rattle.dvg_log.specs.declared.entry.Entry.TheVariants.{Cleared}
 use Rattle.dvg_device.specs.declared.reply.Reply.{Reply}
@@ -55,20 +58,20 @@ abbrev pub closed : Held
 closed = record { staged = []; draft = []; waiting = unbegun; open_part = Nothing }
 
 -- an operation is pushed: it stands at the end of the draft, under that number; or the numbers name none; or there are
--- 511
+-- as many as a draft holds
 abbrev pub PushAnswers : Operation → Held → Held → Reply → Type 0
 PushAnswers numbers old new (replies.Pushed i) = (op : OpKind) × Names numbers op × (i ≡ length old.draft)
-    × (length old.draft < 511) × (new ≡ record old { draft = old.draft ++ op ∷ [] })
+    × (length old.draft < MAX_OPS) × (new ≡ record old { draft = old.draft ++ op ∷ [] })
 PushAnswers numbers old new replies.NoOperation = ((op : OpKind) → ¬ Names numbers op) × (new ≡ old)
-PushAnswers numbers old new replies.Full = (op : OpKind) × Names numbers op × (511 ≤ length old.draft) × (new ≡ old)
+PushAnswers numbers old new replies.Full = (op : OpKind) × Names numbers op × (MAX_OPS ≤ length old.draft) × (new ≡ old)
 PushAnswers numbers old new _ = ⊥
 
 -- a byte is staged this many times, after the bytes that are; there are 6,144 at most in all
 abbrev pub StageAnswers : ℕ → ℕ → Held → Held → Reply → Type 0
-StageAnswers byte count old new (replies.Staged n) = (n ≡ length old.staged + count) × (n ≤ 6144)
+StageAnswers byte count old new (replies.Staged n) = (n ≡ length old.staged + count) × (n ≤ MOST_STAGED)
     × (new ≡ record old { staged = old.staged ++ replicate count byte })
-StageAnswers byte count old new replies.Full = (6144 < length old.staged + count) × (new ≡ old)
-StageAnswers byte count old new replies.NoMemory = (length old.staged + count ≤ 6144) × (new ≡ old)
+StageAnswers byte count old new replies.Full = (MOST_STAGED < length old.staged + count) × (new ≡ old)
+StageAnswers byte count old new replies.NoMemory = (length old.staged + count ≤ MOST_STAGED) × (new ≡ old)
 StageAnswers byte count old new _ = ⊥
 
 -- a number is one of two
@@ -86,7 +89,7 @@ OpenAnswers Fits P old new _ = ⊥
 -- a world over the ROM of the bytes after the first 2,048, with those as the first image of its RAM, that stands after
 -- the empty log
 abbrev pub IsNewWorld : List ℕ → Open → Type 0
-IsNewWorld staged (World world) = IsBegun (drop 2048 staged) (take 2048 staged) world
+IsNewWorld staged (World world) = IsBegun (drop MEMORY_BYTES staged) (take MEMORY_BYTES staged) world
 IsNewWorld staged part = ⊥
 
 -- a driver over the ROM of these bytes that stands after the empty life
@@ -142,10 +145,10 @@ Answered (requests.Push numbers) old new answer = PushAnswers numbers old new an
 Answered requests.ClearDraft old new answer = (new ≡ record old { draft = [] }) × (answer ≡ replies.Came Cleared)
 Answered (requests.Stage byte count) old new answer = StageAnswers byte count old new answer
 Answered requests.Unstage old new answer = (new ≡ record old { staged = [] }) × (answer ≡ replies.Came Cleared)
-Answered requests.OpenWorld old new answer = OpenAnswers (IsOneOf (length old.staged) 4096 6144)
-    (IsNewWorld old.staged) old new answer
-Answered requests.OpenDriver old new answer = OpenAnswers (IsOneOf (length old.staged) 2048 4096)
-    (IsNewDriver old.staged) old new answer
+Answered requests.OpenWorld old new answer = OpenAnswers (IsOneOf (length old.staged) (2 * MEMORY_BYTES)
+    MOST_STAGED) (IsNewWorld old.staged) old new answer
+Answered requests.OpenDriver old new answer = OpenAnswers (IsOneOf (length old.staged) MEMORY_BYTES
+    LARGE_ROM_BYTES) (IsNewDriver old.staged) old new answer
 Answered requests.OpenGenerator old new answer = (machine : Machine) × HasTaken machine [] None
     × (machine.picture ≡ []) × (new ≡ record old { open_part = Generator machine }) × (answer ≡ replies.Opened)
 Answered requests.OpenWrapping old new answer = (wrapped : Wrapped) × HasWrapped wrapped [] None

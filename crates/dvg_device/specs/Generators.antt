@@ -1,6 +1,6 @@
 -- What a generator alone answers to a request.
-use Rattle.std.specs.Prelude.{◌≡◌, ◌⊎◌, ◌+◌, ◌*◌, ℕ, true, false, List, ◌∷◌, length, slice_get, Option}
-use Rattle.std.specs.Prelude.{Some, None, is_some, option_to_list}
+use Rattle.std.specs.Prelude.{◌≡◌, ◌⊎◌, ◌↔◌, ◌+◌, ◌*◌, ℕ, true, false, List, ◌∷◌, length, slice_get, Option}
+use Rattle.std.specs.Prelude.{Some, None, IsNone, is_some, option_to_list}
 use Rattle.dvg_gen.specs.declared.beam.Beam.{Beam}
 use Rattle.dvg_gen.specs.declared.moving.Move.{Move}
 use Rattle.dvg_gen.specs.declared.taken.Step.{Step}
@@ -39,9 +39,15 @@ abbrev pub onward : Entry (Unit {0}) → Option ℕ → Option ℕ → Reply
 onward entry None low = Came entry
 onward entry (Some address) low = Onward entry address (is_some low)
 
+-- the same of any state, after a history or not: a byte of a word at some address is wanted exactly where a run is
+-- open, the high one where a low one is kept
+abbrev pub GoesOn : Entry (Unit {0}) → Machine → Reply → Type 0
+GoesOn entry machine reply = (wanted : Option ℕ) × (IsNone wanted ↔ (machine.is_open ≡ false))
+    × (reply ≡ onward entry wanted machine.low)
+
 -- a byte or a hole is fetched: at the address that is wanted, and the answer is that of the entry that such a fetch has
 -- in a log, with the byte that is wanted next. Where it finishes the run, the picture is of its strokes, and else it
--- stays
+-- stays. The last two facts hold of any state
 pub record Fetches (byte : Option ℕ) (machine later : Machine) (reply : Reply) : Type 0 where
   pub address : ℕ
   pub step : Step
@@ -52,6 +58,8 @@ pub record Fetches (byte : Option ℕ) (machine later : Machine) (reply : Reply)
   pub entry : Entry (Unit {0})
   pub came : OfHistories machine (λ history low run. entry ≡ entry_by address (met low byte) step tt)
   pub answered : OfHistories later (λ history low run. reply ≡ onward entry (wants run) low)
+  pub read : entry ≡ entry_by address (met machine.low byte) step tt
+  pub goes_on : GoesOn entry later reply
 
 -- there was no memory for the stroke of a vector that the byte completes, and nothing has changed
 pub record LacksRoom (byte : Option ℕ) (machine later : Machine) (reply : Reply) : Type 0 where

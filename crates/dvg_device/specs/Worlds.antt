@@ -1,5 +1,6 @@
 -- What a world answers to a request.
 use Rattle.std.specs.Prelude.{◌≡◌, ◌⊎◌, ◌==◌, ℕ, List, [], length, if◌then◌else◌, Option, Some, None}
+use Rattle.dvg_mem.specs.declared.TheConstants.{MEMORY_BYTES}
 use Rattle.dvg_frame.specs.declared.op.OpKind.{OpKind}
 use Rattle.dvg_log.specs.declared.entry.Entry.{Entry}
 use Rattle.dvg_log.specs.Entries.{drew_in}
@@ -26,7 +27,7 @@ event_of F staged Strobe = Some events.Strobe
 event_of F staged (Fetch byte) = Some events.Fetch
 event_of F staged ResetGenerator = Some events.ResetGen
 event_of F staged ResetProcessor = Some events.ResetCpu
-event_of F staged ResetAll = if length staged == 2048 then Some (events.ResetAll staged) else None
+event_of F staged ResetAll = if length staged == MEMORY_BYTES then Some (events.ResetAll staged) else None
 event_of F staged request = None
 
 -- the event happens: over each log that the world stands after, it adds a line, which keeps the headline; the reply is

@@ -1,5 +1,6 @@
 -- What a generator alone whose stack wraps answers to a request.
 use Rattle.std.specs.Prelude.{◌≡◌, ◌⊎◌, ℕ, false, ◌∷◌, slice_get, List, Option, Some, None}
+use Rattle.dvg_gen.specs.declared.TheConstants.{STACK_DEPTH}
 use Rattle.dvg_gen.specs.declared.taken.Step.{Step}
 use Rattle.dvg_gen.specs.Bytes.{met}
 use Rattle.dvg_gen.specs.Completing.{DrawsNothing}
@@ -9,7 +10,7 @@ use Rattle.dvg_gen.specs.Wrapping.{Wrapped, HasWrapped, AnswersWrapped}
 use Rattle.dvg_log.specs.Entries.{entry_by}
 use Rattle.dvg_log.specs.declared.entry.Entry.{Entry}
 use Rattle.dvg_log.specs.declared.entry.Entry.TheVariants.{Started, Cleared, Still}
-use Rattle.dvg_device.specs.Generators.{Tells, onward, told_held, told_return, wanting}
+use Rattle.dvg_device.specs.Generators.{GoesOn, Tells, onward, told_held, told_return, wanting}
 use Rattle.dvg_device.specs.declared.reply.Reply.{Reply}
 use Rattle.dvg_device.specs.declared.reply.Reply.TheVariants.{Came, Onward, Unknown, NoMemory}
 use Rattle.dvg_device.specs.declared.request.Request.{Request}
@@ -23,7 +24,7 @@ abbrev pub OfWraps : Wrapped → (List Told → Option ℕ → Newest → Type 0
 OfWraps wrapped P = (history : List Told) (low : Option ℕ) (stands : HasWrapped wrapped history low)
     → P history low stands.after.run
 
--- a byte or a hole is fetched, as a generator alone does
+-- a byte or a hole is fetched, as a generator alone does. The last two facts hold of any state
 pub record FetchesWrapped (byte : Option ℕ) (wrapped later : Wrapped) (reply : Reply) : Type 0 where
   pub address : ℕ
   pub step : Step
@@ -34,6 +35,8 @@ pub record FetchesWrapped (byte : Option ℕ) (wrapped later : Wrapped) (reply :
   pub entry : Entry (Unit {0})
   pub came : OfWraps wrapped (λ history low run. entry ≡ entry_by address (met low byte) step tt)
   pub answered : OfWraps later (λ history low run. reply ≡ onward entry (wants run) low)
+  pub read : entry ≡ entry_by address (met wrapped.machine.low byte) step tt
+  pub goes_on : GoesOn entry later.machine reply
 
 -- there was no memory for the stroke of a vector that the byte completes, and nothing has changed
 pub record LacksRoomWrapped (byte : Option ℕ) (wrapped later : Wrapped) (reply : Reply) : Type 0 where
@@ -50,7 +53,7 @@ pub record StaysStillWrapped (wrapped later : Wrapped) (reply : Reply) : Type 0 
 -- the answer to a question, which changes nothing: that of the generator in it, but the return addresses are the four
 -- registers, the newest first. A state of it isn't saved
 abbrev pub TellsWrapped : Question → Wrapped → Reply → Type 0
-TellsWrapped questions.Holds wrapped reply = reply ≡ told_held wrapped.machine 4
+TellsWrapped questions.Holds wrapped reply = reply ≡ told_held wrapped.machine STACK_DEPTH
 TellsWrapped (questions.ReturnTo n) wrapped reply = reply ≡ told_return (slice_get wrapped.registers n)
 TellsWrapped (questions.State n) wrapped reply = reply ≡ Unknown
 TellsWrapped question wrapped reply = Tells question wrapped.machine reply

@@ -1,34 +1,18 @@
 //! A world, beside the image that it is reset to.
-ghost use Rattle.std.specs.Prelude.{◌≡◌, ◌⊎◌, length, IfSome, MatchBool};
-ghost use Rattle.dvg_log.specs.declared.event.Event.TheVariants.{Tick, Fetch};
-ghost use Rattle.dvg_device.specs.Devices.{Numbered};
-ghost use Rattle.dvg_device.specs.Worlds.{Happens, IsBegun, Lacks, WorldAnswers};
+ghost use Rattle.std.specs.Prelude.{◌≡◌, length, IfSome, MatchBool};
+ghost use Rattle.dvg_mem.specs.declared.TheConstants.{MEMORY_BYTES};
+ghost use Rattle.dvg_device.specs.Worlds.{IsBegun};
 
-use crate::happening::{ask_world, fetch_high, fetch_number, tick_world};
-use crate::reply::Reply;
-use crate::request::Request;
-use dvg_frame::Draft;
-use dvg_gen::Stroke;
 use dvg_mem::{Flat, Image, Rom};
 use dvg_world::World;
 use std::alloc::Global;
-use std::marker::Model;
 
 /// A world, and room for the image of a reset of the whole system, so that no such reset takes
 /// memory.
 #[derive(Drop)]
 pub(crate) struct Cabinet {
-    world: World<Flat>,
-    image: Image,
-}
-
-/// Contracts see the world.
-impl Model for Cabinet {
-    ghost use Rattle.dvg_world.specs.Standing.{State};
-
-    ghost Value = { State };
-
-    ghost view = { λ cabinet. cabinet.world };
+    pub(crate) world: World<Flat>,
+    pub(crate) image: Image,
 }
 
 impl Cabinet {
@@ -36,7 +20,7 @@ impl Cabinet {
     // Memory is taken from `alloc`. Returns `None` where an allocation fails, or `image` or `rom`
     // has a wrong length.
     pub(crate) fn new(alloc: Global, image: &[u8], rom: &[u8]) -> Option<Cabinet>
-        ensures { IfSome result (IsBegun rom.now image.now) }
+        ensures { IfSome result (λ cabinet. IsBegun rom.now image.now cabinet.world) }
     {
         let image = Image::new(alloc, image).ok()?;
         let rom = Rom::new(alloc, rom).ok()?;
@@ -48,52 +32,10 @@ impl Cabinet {
     // whose length must be 2,048. Memory is taken, from `alloc`, only for a ROM of another size.
     // Returns `false` where an allocation fails, or `rom` has a wrong length.
     pub(crate) fn begin_anew(&mut self, alloc: Global, image: &[u8], rom: &[u8]) -> bool
-        requires { length image.now ≡ 2048 }
-        ensures { MatchBool result (IsBegun rom.now image.now self.new) (Unit {0}) }
+        requires { length image.now ≡ MEMORY_BYTES }
+        ensures { MatchBool result (IsBegun rom.now image.now self.new.world) (Unit {0}) }
     {
         self.image.copy_from(image);
         self.world.begin_anew(alloc, rom, &self.image).is_ok()
-    }
-
-    // Returns the strokes of the newest run of the world that came to a HALT.
-    pub(crate) fn picture(&self) -> &[Stroke]
-        ensures { result.now ≡ self.now.machine.picture }
-    {
-        self.world.picture()
-    }
-
-    // Lets the driver of the world do one action. Returns the reply.
-    #[inline(always)]
-    pub(crate) fn tick(&mut self) -> Reply
-        ensures { Happens Tick self.old self.new result }
-    {
-        tick_world(&mut self.world)
-    }
-
-    // Lets the generator of the world fetch one byte. Returns the number of the reply.
-    #[inline(always)]
-    pub(crate) fn fetch(&mut self) -> u64
-        ensures { Numbered (λ answer. Happens Fetch self.old self.new answer
-            ⊎ Lacks Fetch self.old self.new answer) result }
-    {
-        fetch_number(&mut self.world)
-    }
-
-    // Lets the generator of the world fetch one byte, as `fetch` does, but takes little room where
-    // it is called. Returns the number of the reply.
-    #[inline(always)]
-    pub(crate) fn fetch_apart(&mut self) -> u64
-        ensures { Numbered (λ answer. Happens Fetch self.old self.new answer
-            ⊎ Lacks Fetch self.old self.new answer) result }
-    {
-        fetch_high(&mut self.world)
-    }
-
-    // Lets the world do `request`, with `draft` and the staged bytes `staged`. Returns the reply.
-    #[inline(always)]
-    pub(crate) fn ask(&mut self, request: Request, draft: &Draft, staged: &[u8]) -> Reply
-        ensures { WorldAnswers draft.now staged.now request self.old self.new result }
-    {
-        ask_world(&mut self.world, &mut self.image, request, draft, staged)
     }
 }

@@ -1,5 +1,6 @@
 //! The device.
 ghost use Rattle.std.specs.Prelude.{◌≡◌, ◌↔◌, [], length, drop, take, slice_get, IfSome, IsTrue};
+ghost use Rattle.dvg_mem.specs.declared.TheConstants.{MEMORY_BYTES};
 ghost use Rattle.dvg_device.specs.Devices.{Answered, Driver, IsNewDriver, IsOneOf, Numbered};
 ghost use Rattle.dvg_device.specs.Devices.{PartAnswers, PushAnswers, StageAnswers, ToldBy, Turned};
 ghost use Rattle.dvg_device.specs.Devices.{closed, picture_in, unopened};
@@ -9,6 +10,7 @@ ghost use Rattle.dvg_device.specs.Worlds.{IsBegun};
 
 use crate::cabinet::Cabinet;
 use crate::desk::{ask_driver, tick_driver};
+use crate::happening::{ask_world, fetch_world, fetch_world_high, tick_world};
 use crate::judging::ask_judge;
 use crate::lone::{ask_generator, fetch_high, fetch_number, tell, wanted};
 use crate::operation::Operation;
@@ -19,7 +21,7 @@ use crate::wrapping::{ask_wrapping, fetch_wrapping, tell_wrapping, wanted_wrappi
 use dvg_frame::Draft;
 use dvg_gen::{Generator, Stroke, WrappingGenerator};
 use dvg_log::Entry;
-use dvg_mem::{MEMORY_BYTES, Rom};
+use dvg_mem::{LARGE_ROM_BYTES, MEMORY_BYTES, Rom};
 use dvg_moment::MomentJudge;
 use dvg_world::Desk;
 use std::alloc::Global;
@@ -27,7 +29,7 @@ use std::marker::Model;
 use std::mem;
 
 /// The most bytes that are staged: those of a RAM, and of the larger ROM.
-const MOST_STAGED: usize = 6144;
+const MOST_STAGED: usize = MEMORY_BYTES + LARGE_ROM_BYTES;
 
 /// What is open.
 #[derive(Drop)]
@@ -287,12 +289,12 @@ impl Device {
     fn open_world(&mut self) -> Reply
         ensures { Answered Request.OpenWorld self.old self.new result }
     {
-        if !is_one_of(self.staged.len(), 4096, 6144) {
+        if !is_one_of(self.staged.len(), 2 * MEMORY_BYTES, MOST_STAGED) {
             return Reply::WrongSize;
         }
         let spare = self.take_spare_world();
         match new_world(self.alloc, self.staged.as_slice(), spare) {
-            Some(world) => self.open(Part::World(world)),
+            Some(cabinet) => self.open(Part::World(cabinet)),
             None => Reply::NoMemory,
         }
     }
@@ -302,7 +304,7 @@ impl Device {
     fn open_driver(&mut self) -> Reply
         ensures { Answered Request.OpenDriver self.old self.new result }
     {
-        if !is_one_of(self.staged.len(), 2048, 4096) {
+        if !is_one_of(self.staged.len(), MEMORY_BYTES, LARGE_ROM_BYTES) {
             return Reply::WrongSize;
         }
         let spare = self.take_spare_desk();
@@ -372,7 +374,7 @@ impl Device {
         ensures { self.new ≡ self.old }
     {
         match before {
-            Part::World(world) => self.spare_world = Some(world),
+            Part::World(cabinet) => self.spare_world = Some(cabinet),
             Part::Driver(desk) => self.spare_desk = Some(desk),
             Part::Nothing | Part::Generator(_) | Part::Wrapping(_) | Part::Judge(_) => {}
         }
@@ -393,7 +395,7 @@ impl Device {
         ensures { result.now ≡ picture_in self.now.open_part }
     {
         match &self.part {
-            Part::World(world) => world.picture(),
+            Part::World(cabinet) => cabinet.world.picture(),
             Part::Generator(generator) => generator.picture(),
             Part::Wrapping(generator) => generator.generator().picture(),
             Part::Nothing | Part::Driver(_) | Part::Judge(_) => &[],
@@ -451,7 +453,7 @@ impl Device {
     {
         match &mut self.part {
             Part::Nothing => Reply::Closed.number(),
-            Part::World(world) => world.tick().number(),
+            Part::World(cabinet) => tick_world(&mut cabinet.world).number(),
             Part::Driver(desk) => tick_driver(desk, halted, byte1).number(),
             Part::Generator(_) => Reply::Unknown.number(),
             Part::Wrapping(_) => Reply::Unknown.number(),
@@ -468,7 +470,7 @@ impl Device {
             result }
     {
         match &mut self.part {
-            Part::World(world) => world.fetch(),
+            Part::World(cabinet) => fetch_world(&mut cabinet.world),
             _ => self.fetch_alone(byte),
         }
     }
@@ -494,7 +496,7 @@ impl Device {
     {
         match &mut self.part {
             Part::Nothing => Reply::Closed.number(),
-            Part::World(world) => world.fetch_apart(),
+            Part::World(cabinet) => fetch_world_high(&mut cabinet.world),
             Part::Driver(_) => Reply::Unknown.number(),
             Part::Generator(generator) => fetch_high(generator, byte),
             Part::Wrapping(generator) => fetch_wrapping(generator, byte).number(),
@@ -524,7 +526,10 @@ impl Device {
     {
         match &mut self.part {
             Part::Nothing => unopened(request),
-            Part::World(world) => world.ask(request, &self.draft, self.staged.as_slice()),
+            Part::World(cabinet) => {
+                let Cabinet { world, image } = &mut **cabinet;
+                ask_world(world, image, request, &self.draft, self.staged.as_slice())
+            }
             Part::Driver(desk) => ask_driver(desk, request, &self.draft),
             Part::Generator(generator) => ask_generator(generator, request),
             Part::Wrapping(generator) => ask_wrapping(generator, request),
@@ -554,15 +559,15 @@ fn is_one_of(n: usize, small: usize, large: usize) -> bool
 // lies in the memory of `spare` where there is some, otherwise in memory of `alloc`. Returns `None`
 // where an allocation fails, or `staged` has a wrong length.
 fn new_world(alloc: Global, staged: &[u8], spare: Option<Box<Cabinet>>) -> Option<Box<Cabinet>>
-    ensures { IfSome result (λ world. IsBegun (drop 2048 staged.now) (take 2048 staged.now)
-        world.value) }
+    ensures { IfSome result (λ cabinet. IsBegun (drop MEMORY_BYTES staged.now)
+        (take MEMORY_BYTES staged.now) cabinet.value.world) }
 {
     let (image, rom) = staged.split_at_checked(MEMORY_BYTES)?;
-    let Some(mut world) = spare else {
+    let Some(mut cabinet) = spare else {
         return Box::new(alloc, Cabinet::new(alloc, image, rom)?).ok();
     };
-    if world.begin_anew(alloc, image, rom) {
-        Some(world)
+    if cabinet.begin_anew(alloc, image, rom) {
+        Some(cabinet)
     } else {
         None
     }

@@ -1,8 +1,10 @@
 //! A generator alone.
 ghost use Rattle.std.specs.Prelude.{◌≡◌, ◌⊎◌, ◌<◌, ◌≤◌, slice_get, IfSome};
 ghost use Rattle.dvg_gen.specs.Told.{wants};
+ghost use Rattle.dvg_gen.specs.declared.TheConstants.{STACK_DEPTH};
 ghost use Rattle.dvg_device.specs.Devices.{Numbered};
-ghost use Rattle.dvg_device.specs.Generators.{Fetches, GeneratorAnswers, LacksRoom, OfHistories};
+ghost use Rattle.dvg_device.specs.Generators.{Fetches, GeneratorAnswers, GoesOn, LacksRoom};
+ghost use Rattle.dvg_device.specs.Generators.{OfHistories};
 ghost use Rattle.dvg_device.specs.Generators.{StaysStill, Tells, told_end, told_held, told_move};
 ghost use Rattle.dvg_device.specs.States.{CanBeSaved, drawing_parts, drawn_so_far, part_of_stroke};
 ghost use Rattle.dvg_device.specs.States.{parts_of, told_part};
@@ -91,7 +93,7 @@ fn place_of(generator: &Generator<Global>) -> Reply
 
 // Returns the reply that says what else `generator` holds, with `returns` return addresses.
 pub(crate) fn held(generator: &Generator<Global>, returns: u16) -> Reply
-    requires { returns ≤ 4 }
+    requires { returns ≤ STACK_DEPTH }
     ensures { result ≡ told_held generator.now returns }
 {
     let first = generator.first_word();
@@ -245,10 +247,12 @@ pub(crate) fn fetch_high(generator: &mut Generator<Global>, byte: Option<u8>) ->
 // Returns the reply that `entry` came of `generator`, and which byte is wanted next, if any.
 #[inline(always)]
 pub(crate) fn onward(entry: Entry<()>, generator: &Generator<Global>) -> Reply
-    ensures { OfHistories generator.now (λ history low run. result ≡ onward entry (wants run) low) }
+    ensures histories { OfHistories generator.now
+        (λ history low run. result ≡ onward entry (wants run) low) }
+    ensures any_state { GoesOn entry generator.now result }
 {
     match generator.wants() {
-        Some(address) => Reply::Onward(entry, address, generator.wants_high()),
+        Some(address) => Reply::Onward(entry, address, generator.low_byte().is_some()),
         None => Reply::Came(entry),
     }
 }

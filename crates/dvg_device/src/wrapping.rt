@@ -8,7 +8,7 @@ ghost use Rattle.dvg_device.specs.Wrappings.{StaysStillWrapped, TellsWrapped, Wr
 use crate::lone::{held, onward, tell, wanted};
 use crate::reply::Reply;
 use crate::request::{Question, Request};
-use dvg_gen::WrappingGenerator;
+use dvg_gen::{STACK_DEPTH, WrappingGenerator};
 use dvg_log::Entry;
 use std::alloc::Global;
 
@@ -46,7 +46,7 @@ pub(crate) fn tell_wrapping(generator: &WrappingGenerator<Global>, question: Que
     ensures { TellsWrapped question generator.now result }
 {
     match question {
-        Question::Holds => held(generator.generator(), 4),
+        Question::Holds => held(generator.generator(), STACK_DEPTH as u16),
         Question::ReturnTo(i) => register(generator, i),
         Question::State(_) => Reply::Unknown,
         question => tell(generator.generator(), question),

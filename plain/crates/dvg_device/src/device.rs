@@ -3,6 +3,7 @@ use std::prelude::*;
 
 use crate::cabinet::Cabinet;
 use crate::desk::{ask_driver, tick_driver};
+use crate::happening::{ask_world, fetch_world, fetch_world_high, tick_world};
 use crate::judging::ask_judge;
 use crate::lone::{ask_generator, fetch_high, fetch_number, tell, wanted};
 use crate::operation::Operation;
@@ -13,14 +14,14 @@ use crate::wrapping::{ask_wrapping, fetch_wrapping, tell_wrapping, wanted_wrappi
 use dvg_frame::Draft;
 use dvg_gen::{Generator, Stroke, WrappingGenerator};
 use dvg_log::Entry;
-use dvg_mem::{MEMORY_BYTES, Rom};
+use dvg_mem::{LARGE_ROM_BYTES, MEMORY_BYTES, Rom};
 use dvg_moment::MomentJudge;
 use dvg_world::Desk;
 use std::alloc::Global;
 use std::mem;
 
 /// The most bytes that are staged: those of a RAM, and of the larger ROM.
-const MOST_STAGED: usize = 6144;
+const MOST_STAGED: usize = MEMORY_BYTES + LARGE_ROM_BYTES;
 
 /// What is open.
 pub(crate) enum Part {
@@ -226,12 +227,12 @@ impl Device {
     // Opens a world over the staged bytes.
     #[inline(never)]
     fn open_world(&mut self) -> Reply {
-        if !is_one_of(self.staged.len(), 4096, 6144) {
+        if !is_one_of(self.staged.len(), 2 * MEMORY_BYTES, MOST_STAGED) {
             return Reply::WrongSize;
         }
         let spare = self.take_spare_world();
         match new_world(self.alloc, self.staged.as_slice(), spare) {
-            Some(world) => self.open(Part::World(world)),
+            Some(cabinet) => self.open(Part::World(cabinet)),
             None => Reply::NoMemory,
         }
     }
@@ -239,7 +240,7 @@ impl Device {
     // Opens a driver over the staged bytes.
     #[inline(never)]
     fn open_driver(&mut self) -> Reply {
-        if !is_one_of(self.staged.len(), 2048, 4096) {
+        if !is_one_of(self.staged.len(), MEMORY_BYTES, LARGE_ROM_BYTES) {
             return Reply::WrongSize;
         }
         let spare = self.take_spare_desk();
@@ -294,7 +295,7 @@ impl Device {
     // Keeps the memory of `before`, which was open.
     fn keep(&mut self, before: Part) {
         match before {
-            Part::World(world) => self.spare_world = Some(world),
+            Part::World(cabinet) => self.spare_world = Some(cabinet),
             Part::Driver(desk) => self.spare_desk = Some(desk),
             Part::Nothing | Part::Generator(_) | Part::Wrapping(_) | Part::Judge(_) => {}
         }
@@ -311,7 +312,7 @@ impl Device {
     #[inline(always)]
     fn picture(&self) -> &[Stroke] {
         match &self.part {
-            Part::World(world) => world.picture(),
+            Part::World(cabinet) => cabinet.world.picture(),
             Part::Generator(generator) => generator.picture(),
             Part::Wrapping(generator) => generator.generator().picture(),
             Part::Nothing | Part::Driver(_) | Part::Judge(_) => &[],
@@ -358,7 +359,7 @@ impl Device {
     fn tick(&mut self, halted: bool, byte1: u8) -> u64 {
         match &mut self.part {
             Part::Nothing => Reply::Closed.number(),
-            Part::World(world) => world.tick().number(),
+            Part::World(cabinet) => tick_world(&mut cabinet.world).number(),
             Part::Driver(desk) => tick_driver(desk, halted, byte1).number(),
             Part::Generator(_) => Reply::Unknown.number(),
             Part::Wrapping(_) => Reply::Unknown.number(),
@@ -372,7 +373,7 @@ impl Device {
     #[inline(always)]
     fn fetch(&mut self, byte: Option<u8>) -> u64 {
         match &mut self.part {
-            Part::World(world) => world.fetch(),
+            Part::World(cabinet) => fetch_world(&mut cabinet.world),
             _ => self.fetch_alone(byte),
         }
     }
@@ -392,7 +393,7 @@ impl Device {
     fn fetch_seldom(&mut self, byte: Option<u8>) -> u64 {
         match &mut self.part {
             Part::Nothing => Reply::Closed.number(),
-            Part::World(world) => world.fetch_apart(),
+            Part::World(cabinet) => fetch_world_high(&mut cabinet.world),
             Part::Driver(_) => Reply::Unknown.number(),
             Part::Generator(generator) => fetch_high(generator, byte),
             Part::Wrapping(generator) => fetch_wrapping(generator, byte).number(),
@@ -418,7 +419,10 @@ impl Device {
     fn ask(&mut self, request: Request) -> Reply {
         match &mut self.part {
             Part::Nothing => unopened(request),
-            Part::World(world) => world.ask(request, &self.draft, self.staged.as_slice()),
+            Part::World(cabinet) => {
+                let Cabinet { world, image } = &mut **cabinet;
+                ask_world(world, image, request, &self.draft, self.staged.as_slice())
+            }
             Part::Driver(desk) => ask_driver(desk, request, &self.draft),
             Part::Generator(generator) => ask_generator(generator, request),
             Part::Wrapping(generator) => ask_wrapping(generator, request),
@@ -445,11 +449,11 @@ fn is_one_of(n: usize, small: usize, large: usize) -> bool {
 // where an allocation fails, or `staged` has a wrong length.
 fn new_world(alloc: Global, staged: &[u8], spare: Option<Box<Cabinet>>) -> Option<Box<Cabinet>> {
     let (image, rom) = staged.split_at_checked(MEMORY_BYTES)?;
-    let Some(mut world) = spare else {
+    let Some(mut cabinet) = spare else {
         return Box::new(alloc, Cabinet::new(alloc, image, rom)?).ok();
     };
-    if world.begin_anew(alloc, image, rom) {
-        Some(world)
+    if cabinet.begin_anew(alloc, image, rom) {
+        Some(cabinet)
     } else {
         None
     }

@@ -45,11 +45,11 @@ pub(crate) fn fetch_in_world(world: &mut World<Flat>) -> Reply {
 }
 
 // Lets the generator of `world` fetch one byte. Returns the number of the reply. A low byte is only
-// kept, which needs few registers; a high byte takes more, and goes to `fetch_high`.
+// kept, which needs few registers; a high byte takes more, and goes to `fetch_world_high`.
 #[inline(always)]
-pub(crate) fn fetch_number(world: &mut World<Flat>) -> u64 {
+pub(crate) fn fetch_world(world: &mut World<Flat>) -> u64 {
     if world.wants_high() {
-        return fetch_high(world);
+        return fetch_world_high(world);
     }
     fetch_in_world(world).number()
 }
@@ -57,7 +57,7 @@ pub(crate) fn fetch_number(world: &mut World<Flat>) -> u64 {
 // Lets the generator of `world` fetch one byte. Returns the number of the reply. It is made for
 // high bytes.
 #[inline(never)]
-pub(crate) fn fetch_high(world: &mut World<Flat>) -> u64 {
+pub(crate) fn fetch_world_high(world: &mut World<Flat>) -> u64 {
     fetch_in_world(world).number()
 }
 

@@ -194,7 +194,7 @@ pub(crate) fn fetch_high(generator: &mut Generator<Global>, byte: Option<u8>) ->
 #[inline(always)]
 pub(crate) fn onward(entry: Entry<()>, generator: &Generator<Global>) -> Reply {
     match generator.wants() {
-        Some(address) => Reply::Onward(entry, address, generator.wants_high()),
+        Some(address) => Reply::Onward(entry, address, generator.low_byte().is_some()),
         None => Reply::Came(entry),
     }
 }

@@ -2,7 +2,7 @@
 use crate::lone::{held, onward, tell, wanted};
 use crate::reply::Reply;
 use crate::request::{Question, Request};
-use dvg_gen::WrappingGenerator;
+use dvg_gen::{STACK_DEPTH, WrappingGenerator};
 use dvg_log::Entry;
 use std::alloc::Global;
 
@@ -34,7 +34,7 @@ pub(crate) fn wanted_wrapping(generator: &WrappingGenerator<Global>) -> Reply {
 // Returns the reply of `generator` to `question`.
 pub(crate) fn tell_wrapping(generator: &WrappingGenerator<Global>, question: Question) -> Reply {
     match question {
-        Question::Holds => held(generator.generator(), 4),
+        Question::Holds => held(generator.generator(), STACK_DEPTH as u16),
         Question::ReturnTo(i) => register(generator, i),
         Question::State(_) => Reply::Unknown,
         question => tell(generator.generator(), question),

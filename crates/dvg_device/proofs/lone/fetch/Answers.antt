@@ -16,5 +16,7 @@ returns-in-Ok c =
       entry = c.of_fetch.result;
       came = λ history low after. c.of_fetch.ensures
           ∙ ap (λ waits. entry_by address (met waits c.args.byte) step tt) (c.low_byte-low.ensures ∙ after.low);
-      answered = c.onward.ensures;
+      answered = c.onward.ensures.histories;
+      read = c.of_fetch.ensures ∙ ap (λ waits. entry_by address (met waits c.args.byte) step tt) c.low_byte-low.ensures;
+      goes_on = c.onward.ensures.any_state;
     })

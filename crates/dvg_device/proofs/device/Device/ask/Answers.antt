@@ -1,6 +1,7 @@
 use Rattle.std.proofs.Common.{rules, refl, sym, ap, ◌∙◌, subst}
 use Rattle.dvg_device.specs.Drivers.{DriverAnswers}
 use Rattle.dvg_device.specs.Worlds.{WorldAnswers}
+use Rattle.dvg_device.specs.declared.cabinet.Cabinet.{Cabinet}
 use Rattle.dvg_device.proofs.device.Device.ask.Goals.{in-Nothing, in-World, in-Driver, in-Generator, in-Wrapping, in-Judge}
 use Rattle.dvg_device.proofs.device.Device.ask.Goals as goal
 
@@ -11,11 +12,11 @@ returns c =
     elim c.match-self.branch [
       | in-Nothing w ↦ rw (w.result-is, w.self-inside-is, sym c.self.view_is, w.in-Nothing.is) (search rules)
       | in-World w ↦ rw (w.result-is, w.self-inside-is, sym c.self.view_is, w.in-World.is) (
-        w.ask.new.self,
+        w.ask_world.new.world,
         refl,
-        subst (λ staged. WorldAnswers draft staged request w.in-World.world.value w.ask.new.self w.ask.result) w.as_slice.ensures.value
-            (subst (λ world. WorldAnswers draft w.as_slice.result.now request world w.ask.new.self w.ask.result)
-            w.deref_mut.ensures.value w.ask.ensures),
+        subst (λ staged. WorldAnswers draft staged request w.in-World.cabinet.value.world w.ask_world.new.world w.ask_world.result) w.as_slice.ensures.value
+            (subst (λ (cabinet : Cabinet). WorldAnswers draft w.as_slice.result.now request cabinet.world w.ask_world.new.world w.ask_world.result)
+            w.deref_mut.ensures.value w.ask_world.ensures),
       )
       | in-Driver w ↦ rw (w.result-is, w.self-inside-is, sym c.self.view_is, w.in-Driver.is) (
           let driven = w.deref_mut-in-Driver.ensures.value in (

@@ -2,6 +2,7 @@ use Rattle.std.proofs.Common.{◌⊎◌, refl, sym, subst}
 use Rattle.dvg_log.specs.declared.event.Event.TheVariants.{Fetch}
 use Rattle.dvg_device.specs.Worlds.{Happens, Lacks}
 use Rattle.dvg_device.specs.declared.reply.Reply.TheVariants.{Closed, Unknown}
+use Rattle.dvg_device.specs.declared.cabinet.Cabinet.{Cabinet}
 use Rattle.dvg_device.proofs.device.Device.fetch_seldom.Goals.{in-Nothing, in-World, in-Driver, in-Generator, in-Wrapping, in-Judge}
 use Rattle.dvg_device.proofs.device.Device.fetch_seldom.Goals as goal
 
@@ -10,13 +11,13 @@ returns c = elim c.match-self.branch [
   | in-Nothing w ↦ rw (w.result-is, w.self-inside-is, sym c.self.view_is, w.in-Nothing.is)
       (Closed, (refl, refl), w.number.ensures)
   | in-World w ↦ rw (w.result-is, w.self-inside-is, sym c.self.view_is, w.in-World.is) (
-    w.fetch_apart.ensures.0,
+    w.fetch_world_high.ensures.0,
     (
-      w.fetch_apart.new.self,
+      w.fetch_world_high.new.world,
       refl,
-      subst (λ world. Happens Fetch world w.fetch_apart.new.self w.fetch_apart.ensures.0 ⊎ Lacks Fetch world w.fetch_apart.new.self w.fetch_apart.ensures.0) w.deref_mut.ensures.value w.fetch_apart.ensures.1,
+      subst (λ (cabinet : Cabinet). Happens Fetch cabinet.world w.fetch_world_high.new.world w.fetch_world_high.ensures.0 ⊎ Lacks Fetch cabinet.world w.fetch_world_high.new.world w.fetch_world_high.ensures.0) w.deref_mut.ensures.value w.fetch_world_high.ensures.1,
     ),
-    w.fetch_apart.ensures.2,
+    w.fetch_world_high.ensures.2,
   )
   | in-Driver w ↦ rw (w.result-is, w.self-inside-is, sym c.self.view_is, w.in-Driver.is)
       (Unknown, (w.in-Driver.field-0.value, refl, refl, (refl, refl)), w.number-in-Driver.ensures)

@@ -4,6 +4,7 @@ use Rattle.dvg_world.specs.Desks.{TickAnswers}
 use Rattle.dvg_device.specs.Drivers.{OfAction}
 use Rattle.dvg_device.specs.Worlds.{Happens}
 use Rattle.dvg_device.specs.declared.reply.Reply.TheVariants.{Closed, Unknown}
+use Rattle.dvg_device.specs.declared.cabinet.Cabinet.{Cabinet}
 use Rattle.dvg_device.proofs.device.Device.tick.Goals.{in-Nothing, in-World, in-Driver, in-Generator, in-Wrapping, in-Judge}
 use Rattle.dvg_device.proofs.device.Device.tick.Goals as goal
 
@@ -12,11 +13,11 @@ returns c = elim c.match-self.branch [
   | in-Nothing w ↦ rw (sym c.self.view_is, w.self-inside-is, w.result-is, w.in-Nothing.is)
       (Closed, (refl, refl), w.number.ensures)
   | in-World w ↦ rw (sym c.self.view_is, w.self-inside-is, w.result-is, w.in-World.is) (
-    w.tick.result,
+    w.tick_world.result,
     (
-      w.tick.new.self,
+      w.tick_world.new.world,
       refl,
-      inl (subst (λ world. Happens Tick world w.tick.new.self w.tick.result) w.deref_mut.ensures.value w.tick.ensures),
+      inl (subst (λ (cabinet : Cabinet). Happens Tick cabinet.world w.tick_world.new.world w.tick_world.result) w.deref_mut.ensures.value w.tick_world.ensures),
     ),
     w.number-in-World.ensures,
   )
