@@ -4,7 +4,7 @@ ghost use Rattle.std.specs.Prelude.{decimal, set, take, true};
 ghost use Rattle.std.specs.Fmt.{digit_glyph};
 ghost use Rattle.dvg_print.specs.Lines.{hex_2, hex_3, hex_4, rom_line, spaced};
 ghost use Rattle.dvg_print.specs.Verdicts.{bounded_line, fault_parts, place_parts, verdict_line};
-ghost use Rattle.dvg_print.specs.declared.line.TheConstants.{MOST_BYTES};
+ghost use Rattle.dvg_print.specs.declared.line.TheConstants.{LINE_WORDS, MOST_BYTES};
 
 use crate::digits::NUMBER_BYTES;
 use crate::verdict::{BoundedVerdict, Verdict};
@@ -14,6 +14,9 @@ use std::marker::Model;
 
 /// The most bytes of a line, or of two lines that are one text.
 pub(crate) const MOST_BYTES: usize = 256;
+
+/// The number of words in a line of a ROM.
+pub const LINE_WORDS: usize = 8;
 
 /// The two hexadecimal digits of each byte.
 static PAIRS: [u8; 512] =
@@ -255,7 +258,7 @@ impl Line {
 
     /// Becomes the ROM line of `words`, which are eight, from the word address `address` on.
     pub fn become_rom(&mut self, address: usize, words: &[u16])
-        requires { length words.now ≡ 8 }
+        requires { length words.now ≡ LINE_WORDS }
         ensures { self.new ≡ rom_line address words.now }
     {
         self.clear();

@@ -7,6 +7,9 @@ use itoa::{Buffer, Integer};
 /// The most bytes of a line, or of two lines that are one text.
 pub(crate) const MOST_BYTES: usize = 256;
 
+/// The number of words in a line of a ROM.
+pub const LINE_WORDS: usize = 8;
+
 /// The two hexadecimal digits of each byte.
 static PAIRS: [u8; 512] =
     *b"000102030405060708090A0B0C0D0E0F101112131415161718191A1B1C1D1E1F2021222324252627\
