@@ -58,11 +58,11 @@ def of_rust(texts):
         "fault": faults_in(texts["faults"]),
         "break": faults_in(texts["breaks"]),
     }
-    limits = {name: limit(texts[path], constant) for name, (path, constant) in LIMITS.items()}
+    limits = {name: limit(texts, path, constant) for name, (path, constant) in LIMITS.items()}
     numbers["limit"] = limits
     ram, roms = limits["RAM_BYTES"], {it: limits[it] for it in ("ROM_BYTES", "LARGE_ROM_BYTES")}
     numbers["page's limit"] = {
-        "RAM_BYTES": ram, **roms, "MOST_EVENTS": limit(texts[EVENTS[0]], EVENTS[1]),
+        "RAM_BYTES": ram, **roms, "MOST_EVENTS": limit(texts, *EVENTS),
         **{it.replace("ROM", "DUMP"): ram + rom for it, rom in roms.items()}}
     return numbers
 
@@ -73,9 +73,11 @@ def faults_in(text):
             for name, number in pairs(r"\w+::(\w+)(?:\(.*?\))? => (\d+),", text).items()}
 
 
-def limit(text, constant):
-    """The value of a constant of a Rust source."""
-    return int(re.search(rf"const {constant}: \w+ = ([\d_]+);", text).group(1).replace("_", ""))
+def limit(texts, path, constant):
+    """The value of a constant of a Rust source: a number, or a sum of constants of dvg_mem."""
+    value = re.search(rf"const {constant}: \w+ = ([\w +]+);", texts[path]).group(1)
+    return sum(int(it.replace("_", "")) if it[0].isdigit() else limit(texts, "dvg_mem/src/lib.rt", it)
+               for it in value.split(" + "))
 
 
 def of_header(text):
@@ -154,7 +156,7 @@ MISTAKES = {
     "dvg_log/src/trace.rt": ("MOST_EVENTS: usize = 65_536;", "MOST_EVENTS: usize = 131_072;"),
     "requests": ("16 => Request::Wants,", "21 => Request::Wants,"),
     "replies": ("Entry::Still => packed(16,", "Entry::Still => packed(17,"),
-    "dvg_device/src/device.rt": ("MOST_STAGED: usize = 6144", "MOST_STAGED: usize = 8192"),
+    "dvg_device/src/device.rt": ("= MEMORY_BYTES + LARGE_ROM_BYTES;", "= LARGE_ROM_BYTES + LARGE_ROM_BYTES;"),
 }
 
 
