@@ -246,7 +246,7 @@ async function testTyping() {
     ['labs 0 0 0\nhalt\ncall rock', 'unknown name at line 3: call rock\n'
       + 'expected a name of this frame: no line gives rock', '3'],
     ['rock: labs 0 0 0\njump rock # for ever', 'line 1: labs 0 0 0: fault 9 loops', '1'],
-    ['', 'line 1: : fault 1 empty', '1'],
+    ['', 'line 1: fault 1 empty', '1'],
     ['halt', 'line 1: halt: fault 2 no labs', '1'],
     ['labs 0 0 0\nreturn', 'line 2: return: fault 8 no caller op 1', '2'],
     ['.frame one\nlabs 5 5 0\nvctr 9 10 0 7\nhalt\n.frame two\nlabs 5 5 0\nhalt',

@@ -35,6 +35,7 @@ pub struct Refusal<'a> {
 impl fmt::Display for Refusal<'_> {
     fn fmt(&self, f: &mut fmt::Formatter) -> fmt::Result {
         match &self.blamed {
+            Blamed::Line(number, said) if said.is_empty() => write!(f, "line {number}: ")?,
             Blamed::Line(number, said) => write!(f, "line {number}: {said}: ")?,
             Blamed::Word(Some(name), word) => write!(f, "rom {name} word {word:03X}: ")?,
             Blamed::Word(None, word) => write!(f, "word {word:03X}: ")?,

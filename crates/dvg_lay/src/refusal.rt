@@ -75,7 +75,11 @@ impl<A: Allocator> fmt::Display for Blamed<A> {
     fn fmt<W: fmt::Write>(&self, f: &mut fmt::Formatter<W>) -> fmt::Result {
         match self {
             Blamed::Line { number, said } => {
-                write!(f, "line {number}: ")?;
+                write!(f, "line {number}")?;
+                if said.is_empty() {
+                    return Ok(());
+                }
+                write!(f, ": ")?;
                 write_text(f, said.as_slice())
             }
             Blamed::Word { name, address } => {

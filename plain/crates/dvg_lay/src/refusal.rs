@@ -72,7 +72,11 @@ impl<A: Allocator> fmt::Display for Blamed<A> {
     fn fmt(&self, f: &mut fmt::Formatter<'_>) -> fmt::Result {
         match self {
             Blamed::Line { number, said } => {
-                write!(f, "line {number}: ")?;
+                write!(f, "line {number}")?;
+                if said.is_empty() {
+                    return Ok(());
+                }
+                write!(f, ": ")?;
                 write_text(f, said.as_slice())
             }
             Blamed::Word { name, address } => {
