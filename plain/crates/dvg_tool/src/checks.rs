@@ -76,7 +76,7 @@ impl<A: Allocator + Copy> Engine<A> for BoundEngine {
 /// Reads a draft as text from `reader`, with the lines of a memory map and of a ROM before it.
 /// Writes what the check says of the draft over that ROM to `writer`, in one line: `ok` and its
 /// number of words, or `fault` and the fault's number, name and place (the texts are this project's
-/// own choice). Returns what it wrote.
+/// own choice). Its memory comes from `alloc`. Returns what it wrote.
 ///
 /// - `TooLong`: the text has more than 1,048,576 bytes, of which no more than 1,048,577 are taken.
 ///   This is decided before all others.
@@ -87,7 +87,7 @@ impl<A: Allocator + Copy> Engine<A> for BoundEngine {
 ///
 /// Where it stops before it writes, which is at any fault but `Writer`, the writer is as it was.
 #[inline(never)]
-pub(crate) fn check_text<A: Allocator, R: Read, W: Write>(
+pub fn check_text<A: Allocator, R: Read, W: Write>(
     alloc: A,
     reader: &mut Watched<R>,
     writer: &mut Watched<W>,
@@ -97,9 +97,9 @@ pub(crate) fn check_text<A: Allocator, R: Read, W: Write>(
 
 /// Reads a draft from `reader` and writes what the check says of it to `writer`, like `check_text`,
 /// but the line of a good draft gives its bound, too: `ok`, its number of words, and how many words
-/// the generator fetches in its whole run, word zero included.
+/// the generator fetches in its whole run, word zero included. Its memory comes from `alloc`.
 #[inline(never)]
-pub(crate) fn check_bound<A: Allocator, R: Read, W: Write>(
+pub fn check_bound<A: Allocator, R: Read, W: Write>(
     alloc: A,
     reader: &mut Watched<R>,
     writer: &mut Watched<W>,

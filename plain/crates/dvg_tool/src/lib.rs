@@ -20,6 +20,7 @@ mod plays_svg;
 mod roms;
 mod shows;
 
+pub use checks::{check_bound, check_text};
 pub use dvg_args::{arguments_status, job};
 pub use dvg_io::{ToolFault, Watched};
 pub use dvg_job::{Job, LayForm, LogRule, PictureForm, Show};
@@ -33,3 +34,4 @@ pub use jobs::perform;
 pub use lists::list;
 pub use outcome::{Done, finish, status};
 pub use plays::{play, play_in};
+pub use roms::rom_text;

@@ -85,13 +85,14 @@ impl<A: Allocator + Copy> Engine<A> for RomEngine {
 /// Reads the bytes of a ROM from `reader`, 2,048 or 4,096, and writes them to `writer` as ROM lines
 /// of eight words each: of 2,048 bytes 128 lines, from word address 800 on, and of 4,096 bytes the
 /// line `map 4096` and 256 lines, from word address 400 on (the text is this project's own choice).
+/// Its memory comes from `alloc`.
 ///
 /// - `RomSize`: the input has another number of bytes; no more than 4,097 are taken.
 /// - `Reader`, `Writer`: that stream failed. After `Writer` a beginning of the text went out.
 /// - `Memory`: an allocation failed.
 ///
 /// Where it stops before it writes, which is at any fault but `Writer`, the writer is as it was.
-pub(crate) fn rom_text<A: Allocator, R: Read, W: Write>(
+pub fn rom_text<A: Allocator, R: Read, W: Write>(
     alloc: A,
     reader: &mut Watched<R>,
     writer: &mut Watched<W>,
