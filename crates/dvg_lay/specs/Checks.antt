@@ -1,17 +1,15 @@
 -- What is said of the frames of a sketch.
 use Rattle.std.specs.Prelude.{◌≡◌, ◌<◌, ◌≤◌, ◌-◌, ℕ, List, [], ◌∷◌, ◌++◌, Option, Some, None}
-use Rattle.std.specs.Prelude.{length, map, take}
+use Rattle.std.specs.Prelude.{length, take}
 use Rattle.std.specs.Borrow.{Bor}
 use Rattle.std.specs.List.{AllZip}
 use Rattle.dvg_frame.specs.declared.op.OpKind.{OpKind}
-use Rattle.dvg_io.specs.Serving.{Answers, Meaning}
+use Rattle.dvg_io.specs.Serving.{Meaning}
 use Rattle.dvg_print.specs.declared.verdict.BoundedVerdict.{BoundedVerdict}
 use Rattle.dvg_print.specs.declared.verdict.BoundedVerdict.TheVariants.{Good, Refused}
 use Rattle.dvg_print.specs.Verdicts.{IsBoundedVerdict, bounded_line}
 use Rattle.dvg_named.specs.declared.meaning.NamedFrame.{NamedFrame}
-use Rattle.dvg_named.specs.declared.meaning.RomName.{RomName}
-use Rattle.dvg_named.specs.ReadSketches.{IsSketchOf, lent_of}
-use Rattle.dvg_named.specs.SketchFaults.{HasSketchFault}
+use Rattle.dvg_lay.specs.Sketches.{Makes}
 use Rattle.dvg_lay.specs.Times.{IsTimeOf, time_text}
 use Rattle.dvg_lay.specs.declared.time.PictureTime.{PictureTime}
 use Rattle.dvg_lay.specs.declared.verdicts.FrameVerdict.{FrameVerdict}
@@ -66,14 +64,6 @@ pub record ChecksFrames {A : Type 0} (R : List ℕ) (frames : List NamedFrame) (
   pub verdicts : AllZip (IsVerdictOn R) frames said.verdicts.items
   pub text : said.text.items ≡ said_lines frames said.verdicts.items
 
--- the text denotes frames over a ROM with names, and this is said of them
-pub record ChecksOut {A : Type 0} (text : List ℕ) (said : Said A) : Type 0 where
-  pub R : List ℕ
-  pub names : List RomName
-  pub frames : List NamedFrame
-  pub is : IsSketchOf text R names (map lent_of frames)
-  pub checks : ChecksFrames R frames said
-
 -- what is answered of an input, and what went out
 abbrev pub ChecksSketch : {A : Type 0} → Meaning (Said A)
-ChecksSketch = Answers ChecksOut HasSketchFault (λ said. said.text.items)
+ChecksSketch = Makes (λ R names. ChecksFrames R) (λ said. said.text.items)

@@ -1,11 +1,9 @@
 -- What is laid out of a sketch in each form.
-use Rattle.std.specs.Prelude.{◌≡◌, ◌⊎◌, ℕ, List, [], All}
+use Rattle.std.specs.Prelude.{◌≡◌, ◌⊎◌, ℕ, List, [], All, Vec, Result, Ok, Err}
 use Rattle.dvg_named.specs.declared.meaning.NamedFrame.{NamedFrame}
 use Rattle.dvg_named.specs.declared.meaning.RomName.{RomName}
 use Rattle.dvg_job.specs.declared.form.LayForm.{LayForm}
 use Rattle.dvg_job.specs.declared.form.LayForm.TheVariants.{Bytes, Table, Rom as RomBytes, Equates, Draft}
-use Rattle.dvg_lay.specs.declared.form.Laid.{Laid}
-use Rattle.dvg_lay.specs.declared.form.Laid.TheVariants as laids
 use Rattle.dvg_lay.specs.declared.refusal.Refusal.{Refusal}
 use Rattle.dvg_lay.specs.Refusals.{IsFault, IsGood, IsLow, NamesHighRom}
 use Rattle.dvg_lay.specs.Texts.{frames_bytes, name_lines, tables}
@@ -32,14 +30,18 @@ IsRefusal Table R names frames refusal = IsFault R names frames refusal ⊎ IsLo
 IsRefusal Draft R names frames refusal = ⊥
 IsRefusal _ R names frames refusal = IsFault R names frames refusal
 
--- what came of it: the text, or a refusal
+-- what comes of laying out: the text, or a refusal
+abbrev pub Laid : Type 0 → Type 0
+Laid A = Result (Vec ℕ A) (Refusal A)
+
+-- what came of it
 abbrev pub IsLaid : {A : Type 0} → LayForm → (R : List ℕ) → List RomName → List NamedFrame → Laid A
     → Type 0
-IsLaid form R names frames (laids.Text text) =
+IsLaid form R names frames (Ok text) =
     MayLay form R frames × (text.items ≡ form_text form R names frames)
-IsLaid form R names frames (laids.Refused refusal) = IsRefusal form R names frames refusal
+IsLaid form R names frames (Err refusal) = IsRefusal form R names frames refusal
 
 -- the text that is written of it: none of a refusal
 abbrev pub shown : {A : Type 0} → Laid A → List ℕ
-shown (laids.Text text) = text.items
-shown (laids.Refused refusal) = []
+shown (Ok text) = text.items
+shown (Err refusal) = []

@@ -1,74 +1,66 @@
 //! The engine `render`.
-ghost use Rattle.std.specs.Prelude.{◌≡◌, ℕ, List, IfErr, IfOk};
+ghost use Rattle.std.specs.Prelude.{All, IfOk};
 ghost use Rattle.dvg_io.specs.Faults.{ComesBeforeText};
 ghost use Rattle.dvg_io.specs.Serving.{AreFresh, Serves};
-ghost use Rattle.dvg_io.specs.Watching.{Writes};
-ghost use Rattle.dvg_named.specs.ReadSketches.{AreInside, IsReadOf};
-ghost use Rattle.dvg_named.specs.SketchFaults.{HasSketchFault};
-ghost use Rattle.dvg_lay.specs.DrawnSketches.{Draws, DrawsOut, shown};
+ghost use Rattle.dvg_lay.specs.DrawnSketches.{Draws, IsDrawn, shown};
+ghost use Rattle.dvg_lay.specs.Refusals.{IsLent};
 ghost use Rattle.dvg_read.specs.declared.draft_text.TheConstants.{MOST_TEXT_BYTES};
 
-use crate::drawn::Drawn;
 use crate::frames::draw_frames;
-use crate::refusal::Unlaid;
-use dvg_io::{Engine, StreamFailed, ToolFault, Watched, serve};
+use crate::making::{Making, SketchEngine};
+use crate::refusal::{Refusal, Unlaid};
+use dvg_code::OutOfMemory;
+use dvg_gen::Stroke;
+use dvg_io::{StreamFailed, ToolFault, Watched, serve};
 use dvg_job::Show;
-use dvg_named::{Sketch, read_sketch};
-use dvg_read::{MOST_TEXT_BYTES, Unread};
+use dvg_named::{NamedFrame, RomName};
 use dvg_svg::write_svgs;
 use std::alloc::Allocator;
 use std::io::{Read, Write};
 
-// Draws `sketch`, which was read. Returns `Memory` where an allocation fails.
-fn draw_read<A: Allocator + Copy>(alloc: A, sketch: &Sketch<'_, A>) -> Result<Drawn<A>, Unread>
-    requires inside { AreInside sketch.now }
-    requires read { (text : List ℕ) × IsReadOf text sketch.now }
-    ensures drawn { IfOk result (λ drawn. (text : List ℕ) → IsReadOf text sketch.now
-        → DrawsOut text drawn) }
-    ensures fault { IfErr result (λ fault. fault ≡ Unread.Memory) }
+/// What came of drawing a sketch: the pictures of its frames, in order, as the strokes of each, in
+/// the order drawn. Or why a frame is refused.
+pub type Drawn<A> = Result<Vec<Vec<Stroke, A>, A>, Refusal<A>>;
+
+// Draws `frames` over the ROM of `bytes`, whose names are `names`, or returns why a frame is
+// refused. Returns `OutOfMemory` where an allocation fails.
+fn draw<A: Allocator + Copy>(
+    alloc: A,
+    bytes: &[u8],
+    names: &[RomName],
+    frames: &[NamedFrame],
+) -> Result<Drawn<A>, OutOfMemory>
+    requires { All IsLent frames.now }
+    ensures { IfOk result (IsDrawn bytes.now names.now frames.now) }
 {
-    let Ok(frames) = sketch.frames(alloc) else {
-        return Err(Unread::Memory);
-    };
-    match draw_frames(
-        alloc,
-        sketch.rom.as_slice(),
-        sketch.names.as_slice(),
-        frames.as_slice(),
-    ) {
-        Ok(pictures) => Ok(Drawn::Pictures(pictures)),
-        Err(Unlaid::Refused(refusal)) => Ok(Drawn::Refused(refusal)),
-        Err(Unlaid::Memory) => Err(Unread::Memory),
+    match draw_frames(alloc, bytes, names, frames) {
+        Ok(pictures) => Ok(Ok(pictures)),
+        Err(Unlaid::Refused(refusal)) => Ok(Err(refusal)),
+        Err(Unlaid::Memory) => Err(OutOfMemory),
     }
 }
 
-// The engine that finds what comes of drawing the sketch of a text.
+// What comes of drawing frames, and how that is shown.
 #[derive(Drop)]
-struct DrawEngine {
+struct Drawing {
     show: Show,
 }
 
-impl<A: Allocator + Copy> Engine<A> for DrawEngine {
-    type Found = Drawn<A>;
+impl<A: Allocator + Copy> Making<A> for Drawing {
+    type Made = Drawn<A>;
 
-    const MOST: u32 = MOST_TEXT_BYTES as u32;
+    ghost Comes = { λ drawing. IsDrawn };
 
-    ghost MOST = { MOST_TEXT_BYTES };
+    ghost text = { λ drawing. shown drawing.show };
 
-    ghost Finds = { λ engine. DrawsOut };
-
-    ghost HasFault = { λ engine. HasSketchFault };
-
-    ghost text = { λ engine. shown engine.show };
-
-    fn find(&self, alloc: A, read: &[u8]) -> Result<Drawn<A>, Unread> {
-        let Ok(small) = read.to_ascii_lowercase(alloc) else {
-            return Err(Unread::Memory);
-        };
-        match read_sketch(alloc, small.as_slice()) {
-            Ok(sketch) => draw_read(alloc, &sketch),
-            Err(stop) => Err(stop),
-        }
+    fn make(
+        &self,
+        alloc: A,
+        bytes: &[u8],
+        names: &[RomName],
+        frames: &[NamedFrame],
+    ) -> Result<Drawn<A>, OutOfMemory> {
+        draw(alloc, bytes, names, frames)
     }
 
     fn write<W: Write>(
@@ -77,8 +69,8 @@ impl<A: Allocator + Copy> Engine<A> for DrawEngine {
         writer: &mut Watched<W>,
     ) -> Result<(), StreamFailed> {
         match drawn {
-            Drawn::Pictures(pictures) => write_svgs(self.show, pictures.as_slice(), writer),
-            Drawn::Refused(_) => Ok(()),
+            Ok(pictures) => write_svgs(self.show, pictures.as_slice(), writer),
+            Err(_) => Ok(()),
         }
     }
 }
@@ -106,5 +98,8 @@ pub fn draw_sketch<A: Allocator + Copy, R: Read, W: Write>(
     ensures { Serves R.remaining W.contents MOST_TEXT_BYTES ComesBeforeText (Draws show)
         result reader.old reader.new writer.old writer.new }
 {
-    serve(&DrawEngine { show }, alloc, reader, writer)
+    let engine = SketchEngine {
+        making: Drawing { show },
+    };
+    serve(&engine, alloc, reader, writer)
 }

@@ -1,87 +1,49 @@
 //! The engine `lay`.
-ghost use Rattle.std.specs.Prelude.{◌≡◌, ℕ, List, IfErr, IfOk, map};
 ghost use Rattle.dvg_io.specs.Faults.{ComesBeforeText};
-ghost use Rattle.dvg_io.specs.Serving.{AreFresh, IsFinding, OfInput, Serves};
-ghost use Rattle.dvg_named.specs.ReadSketches.{AreInside, IsReadOf};
-ghost use Rattle.dvg_lay.specs.Forms.{shown};
-ghost use Rattle.dvg_lay.specs.Sketches.{Lays, LaysOut};
-ghost use Rattle.dvg_named.specs.SketchFaults.{HasSketchFault};
+ghost use Rattle.dvg_io.specs.Serving.{AreFresh, Serves};
+ghost use Rattle.dvg_lay.specs.Forms.{IsLaid, shown};
+ghost use Rattle.dvg_lay.specs.Sketches.{Lays};
 ghost use Rattle.dvg_read.specs.declared.draft_text.TheConstants.{MOST_TEXT_BYTES};
 
 use crate::form::{Laid, lay};
-use dvg_io::{Engine, StreamFailed, ToolFault, Watched, serve, write_lines, write_whole};
+use crate::making::{Making, SketchEngine};
+use dvg_code::OutOfMemory;
+use dvg_io::{StreamFailed, ToolFault, Watched, serve, write_lines, write_whole};
 use dvg_job::LayForm;
-use dvg_mem::Rom;
-use dvg_named::{Sketch, read_sketch};
-use dvg_read::{MOST_TEXT_BYTES, Unread};
+use dvg_named::{NamedFrame, RomName};
 use std::alloc::Allocator;
 use std::io::{Read, Write};
 
-// Lays out `sketch`, which was read, in this `form`. Returns `Memory` where an allocation fails.
-fn lay_read<A: Allocator + Copy>(
-    alloc: A,
-    sketch: &Sketch<'_, A>,
-    form: LayForm,
-) -> Result<Laid<A>, Unread>
-    requires inside { AreInside sketch.now }
-    requires read { (text : List ℕ) × IsReadOf text sketch.now }
-    ensures laid { IfOk result (λ laid. (text : List ℕ) → IsReadOf text sketch.now
-        → LaysOut form text laid) }
-    ensures fault { IfErr result (λ fault. fault ≡ Unread.Memory) }
-{
-    let Ok(rom) = Rom::new(alloc, sketch.rom.as_slice()) else {
-        return Err(Unread::Memory);
-    };
-    let Ok(frames) = sketch.frames(alloc) else {
-        return Err(Unread::Memory);
-    };
-    match lay(
-        alloc,
-        &rom,
-        sketch.names.as_slice(),
-        frames.as_slice(),
-        form,
-    ) {
-        Ok(laid) => Ok(laid),
-        Err(_) => Err(Unread::Memory),
-    }
-}
-
-// The engine that finds what comes of laying out the sketch of a text.
+// What comes of laying frames out in a form.
 #[derive(Drop)]
-struct LayEngine {
+struct Laying {
     form: LayForm,
 }
 
-impl<A: Allocator + Copy> Engine<A> for LayEngine {
-    type Found = Laid<A>;
+impl<A: Allocator + Copy> Making<A> for Laying {
+    type Made = Laid<A>;
 
-    const MOST: u32 = MOST_TEXT_BYTES as u32;
+    ghost Comes = { λ laying. IsLaid laying.form };
 
-    ghost MOST = { MOST_TEXT_BYTES };
+    ghost text = { λ laying. shown };
 
-    ghost Finds = { λ engine. LaysOut engine.form };
-
-    ghost HasFault = { λ engine. HasSketchFault };
-
-    ghost text = { λ engine. shown };
-
-    fn find(&self, alloc: A, read: &[u8]) -> Result<Laid<A>, Unread> {
-        let Ok(small) = read.to_ascii_lowercase(alloc) else {
-            return Err(Unread::Memory);
-        };
-        match read_sketch(alloc, small.as_slice()) {
-            Ok(sketch) => lay_read(alloc, &sketch, self.form),
-            Err(stop) => Err(stop),
-        }
+    fn make(
+        &self,
+        alloc: A,
+        bytes: &[u8],
+        names: &[RomName],
+        frames: &[NamedFrame],
+    ) -> Result<Laid<A>, OutOfMemory> {
+        lay(alloc, bytes, names, frames, self.form)
     }
 
     fn write<W: Write>(&self, laid: &Laid<A>, writer: &mut Watched<W>) -> Result<(), StreamFailed> {
+        let Ok(text) = laid else { return Ok(()) };
         match self.form {
-            LayForm::Bytes(_) | LayForm::Rom => write_whole(writer, laid.as_bytes()),
+            LayForm::Bytes(_) | LayForm::Rom => write_whole(writer, text.as_slice()),
             LayForm::Table | LayForm::Equates | LayForm::Draft => write_lines(
                 writer,
-                laid.as_bytes(),
+                text.as_slice(),
             ),
         }
     }
@@ -110,5 +72,8 @@ pub fn lay_sketch<A: Allocator + Copy, R: Read, W: Write>(
     ensures { Serves R.remaining W.contents MOST_TEXT_BYTES ComesBeforeText (Lays form)
         result reader.old reader.new writer.old writer.new }
 {
-    serve(&LayEngine { form }, alloc, reader, writer)
+    let engine = SketchEngine {
+        making: Laying { form },
+    };
+    serve(&engine, alloc, reader, writer)
 }

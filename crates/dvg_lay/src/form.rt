@@ -1,6 +1,6 @@
 //! The forms in which a sketch is laid out.
 ghost use Rattle.std.specs.Prelude.{◌≡◌, All, IfErr, IfOk, OnOk};
-ghost use Rattle.dvg_lay.specs.Forms.{IsLaid, IsRefusal, MayLay, form_text, shown};
+ghost use Rattle.dvg_lay.specs.Forms.{IsLaid, IsRefusal, MayLay, form_text};
 ghost use Rattle.dvg_lay.specs.Refusals.{IsLent, IsUnlaid};
 
 use crate::drafts::lay_drafts;
@@ -10,28 +10,10 @@ use dvg_code::OutOfMemory;
 use dvg_job::LayForm;
 use dvg_mem::Rom;
 use dvg_named::{NamedFrame, RomName};
-use std::alloc::{Allocator, Global};
+use std::alloc::Allocator;
 
-/// What came of laying a sketch out.
-#[derive(Debug, Drop)]
-pub enum Laid<A: Allocator = Global> {
-    /// What was laid out.
-    Text(Vec<u8, A>),
-    /// A frame is refused.
-    Refused(Refusal<A>),
-}
-
-impl<A: Allocator> Laid<A> {
-    /// Returns the text that is written of it: nothing where a frame is refused.
-    pub fn as_bytes(&self) -> &[u8]
-        ensures { result.now ≡ shown self.now }
-    {
-        match self {
-            Laid::Text(text) => text.as_slice(),
-            Laid::Refused(_) => &[],
-        }
-    }
-}
+/// What came of laying a sketch out: the text, or why a frame is refused.
+pub type Laid<A> = Result<Vec<u8, A>, Refusal<A>>;
 
 // Lays `frames` out in this `form`, over `rom`, whose names are `names`.
 fn lay_text<A: Allocator + Copy>(
@@ -59,21 +41,24 @@ fn lay_text<A: Allocator + Copy>(
     }
 }
 
-/// Lays `frames` out in this `form`, over `rom`, whose names are `names`, or returns why a frame is
-/// refused. Returns `OutOfMemory` where an allocation fails.
+/// Lays `frames` out in this `form`, over the ROM of `bytes`, whose names are `names`, or returns
+/// why a frame is refused. Returns `OutOfMemory` where an allocation fails.
 pub(crate) fn lay<A: Allocator + Copy>(
     alloc: A,
-    rom: &Rom<A>,
+    bytes: &[u8],
     names: &[RomName],
     frames: &[NamedFrame],
     form: LayForm,
 ) -> Result<Laid<A>, OutOfMemory>
     requires { All IsLent frames.now }
-    ensures { IfOk result (IsLaid form rom.now names.now frames.now) }
+    ensures { IfOk result (IsLaid form bytes.now names.now frames.now) }
 {
-    match lay_text(alloc, rom, names, frames, form) {
-        Ok(text) => Ok(Laid::Text(text)),
-        Err(Unlaid::Refused(refusal)) => Ok(Laid::Refused(refusal)),
+    let Ok(rom) = Rom::new(alloc, bytes) else {
+        return Err(OutOfMemory);
+    };
+    match lay_text(alloc, &rom, names, frames, form) {
+        Ok(text) => Ok(Ok(text)),
+        Err(Unlaid::Refused(refusal)) => Ok(Err(refusal)),
         Err(Unlaid::Memory) => Err(OutOfMemory),
     }
 }

@@ -11,12 +11,12 @@
 mod checking;
 mod drafts;
 mod drawing;
-mod drawn;
 mod engine;
 mod form;
 mod frames;
 pub mod laws;
 mod laying;
+mod making;
 mod memory;
 mod names;
 mod picture;
@@ -27,8 +27,7 @@ mod text;
 mod time;
 mod verdicts;
 
-pub use drawing::draw_sketch;
-pub use drawn::Drawn;
+pub use drawing::{Drawn, draw_sketch};
 pub use engine::lay_sketch;
 pub use form::Laid;
 pub use laying::lay_tables;

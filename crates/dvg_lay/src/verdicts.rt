@@ -1,26 +1,24 @@
 //! What the check says of the frames of a sketch: the engine `check_sketch`.
-ghost use Rattle.std.specs.Prelude.{◌≡◌, ◌↔◌, ◌++◌, ℕ, List, All, IfErr, IfOk, IsTrue, OnOk};
+ghost use Rattle.std.specs.Prelude.{◌≡◌, ◌↔◌, ◌++◌, All, IfOk, IsTrue, OnOk};
 ghost use Rattle.dvg_frame.specs.Faults.{IsChecked};
 ghost use Rattle.dvg_io.specs.Faults.{ComesBeforeText};
 ghost use Rattle.dvg_io.specs.Serving.{AreFresh, Serves};
-ghost use Rattle.dvg_named.specs.ReadSketches.{AreInside, IsReadOf};
 ghost use Rattle.dvg_lay.specs.Refusals.{IsLent};
-ghost use Rattle.dvg_named.specs.SketchFaults.{HasSketchFault};
-ghost use Rattle.dvg_lay.specs.Checks.{ChecksFrames, ChecksOut, ChecksSketch};
+ghost use Rattle.dvg_lay.specs.Checks.{ChecksFrames, ChecksSketch};
 ghost use Rattle.dvg_lay.specs.Checks.{IsGoodVerdict, IsVerdictOn, said_line};
 ghost use Rattle.dvg_read.specs.declared.draft_text.TheConstants.{MOST_TEXT_BYTES};
 
+use crate::making::{Making, SketchEngine};
 use crate::picture::time_of;
 use crate::text::put;
 use crate::time::{PictureTime, put_time};
 use dvg_code::OutOfMemory;
 use dvg_dump::MOST_WORDS;
 use dvg_frame::Checker;
-use dvg_io::{Engine, StreamFailed, ToolFault, Watched, serve, write_lines};
+use dvg_io::{StreamFailed, ToolFault, Watched, serve, write_lines};
 use dvg_mem::Rom;
-use dvg_named::{NamedFrame, Sketch, read_sketch};
+use dvg_named::{NamedFrame, RomName};
 use dvg_print::{BoundedVerdict, Line};
-use dvg_read::{MOST_TEXT_BYTES, Unread};
 use std::alloc::{AllocError, Allocator, Global};
 use std::io::{Read, Write};
 
@@ -135,48 +133,25 @@ fn check_frames<A: Allocator + Copy>(
     Ok(Said { verdicts, text })
 }
 
-// Checks the frames of `sketch`, which was read. Returns `Memory` where an allocation fails.
-fn check_read<A: Allocator + Copy>(alloc: A, sketch: &Sketch<'_, A>) -> Result<Said<A>, Unread>
-    requires inside { AreInside sketch.now }
-    requires read { (text : List ℕ) × IsReadOf text sketch.now }
-    ensures said { IfOk result (λ said. (text : List ℕ) → IsReadOf text sketch.now
-        → ChecksOut text said) }
-    ensures fault { IfErr result (λ fault. fault ≡ Unread.Memory) }
-{
-    let Ok(frames) = sketch.frames(alloc) else {
-        return Err(Unread::Memory);
-    };
-    match check_frames(alloc, sketch.rom.as_slice(), frames.as_slice()) {
-        Ok(said) => Ok(said),
-        Err(_) => Err(Unread::Memory),
-    }
-}
-
-// The engine that finds what the check says of the frames of a sketch.
+// What the check says of frames.
 #[derive(Drop)]
-struct CheckEngine;
+struct Checking;
 
-impl<A: Allocator + Copy> Engine<A> for CheckEngine {
-    type Found = Said<A>;
+impl<A: Allocator + Copy> Making<A> for Checking {
+    type Made = Said<A>;
 
-    const MOST: u32 = MOST_TEXT_BYTES as u32;
+    ghost Comes = { λ checking R names. ChecksFrames R };
 
-    ghost MOST = { MOST_TEXT_BYTES };
+    ghost text = { λ checking said. said.text.items };
 
-    ghost Finds = { λ engine. ChecksOut };
-
-    ghost HasFault = { λ engine. HasSketchFault };
-
-    ghost text = { λ engine said. said.text.items };
-
-    fn find(&self, alloc: A, read: &[u8]) -> Result<Said<A>, Unread> {
-        let Ok(small) = read.to_ascii_lowercase(alloc) else {
-            return Err(Unread::Memory);
-        };
-        match read_sketch(alloc, small.as_slice()) {
-            Ok(sketch) => check_read(alloc, &sketch),
-            Err(stop) => Err(stop),
-        }
+    fn make(
+        &self,
+        alloc: A,
+        bytes: &[u8],
+        _names: &[RomName],
+        frames: &[NamedFrame],
+    ) -> Result<Said<A>, OutOfMemory> {
+        check_frames(alloc, bytes, frames)
     }
 
     fn write<W: Write>(&self, said: &Said<A>, writer: &mut Watched<W>) -> Result<(), StreamFailed> {
@@ -208,5 +183,5 @@ pub fn check_sketch<A: Allocator + Copy, R: Read, W: Write>(
     ensures { Serves R.remaining W.contents MOST_TEXT_BYTES ComesBeforeText ChecksSketch
         result reader.old reader.new writer.old writer.new }
 {
-    serve(&CheckEngine, alloc, reader, writer)
+    serve(&SketchEngine { making: Checking }, alloc, reader, writer)
 }

@@ -1,65 +1,38 @@
 //! The engine `lay`.
-use std::prelude::*;
-
 use crate::form::{Laid, lay};
-use dvg_io::{Engine, StreamFailed, ToolFault, Watched, serve, write_lines, write_whole};
+use crate::making::{Making, SketchEngine};
+use dvg_code::OutOfMemory;
+use dvg_io::{StreamFailed, ToolFault, Watched, serve, write_lines, write_whole};
 use dvg_job::LayForm;
-use dvg_mem::Rom;
-use dvg_named::{Sketch, read_sketch};
-use dvg_read::{MOST_TEXT_BYTES, Unread};
+use dvg_named::{NamedFrame, RomName};
 use std::alloc::Allocator;
 use std::io::{Read, Write};
 
-// Lays out `sketch`, which was read, in this `form`. Returns `Memory` where an allocation fails.
-fn lay_read<A: Allocator + Copy>(
-    alloc: A,
-    sketch: &Sketch<'_, A>,
-    form: LayForm,
-) -> Result<Laid<A>, Unread> {
-    let Ok(rom) = Rom::new(alloc, sketch.rom.as_slice()) else {
-        return Err(Unread::Memory);
-    };
-    let Ok(frames) = sketch.frames(alloc) else {
-        return Err(Unread::Memory);
-    };
-    match lay(
-        alloc,
-        &rom,
-        sketch.names.as_slice(),
-        frames.as_slice(),
-        form,
-    ) {
-        Ok(laid) => Ok(laid),
-        Err(_) => Err(Unread::Memory),
-    }
-}
-
-// The engine that finds what comes of laying out the sketch of a text.
-struct LayEngine {
+// What comes of laying frames out in a form.
+struct Laying {
     form: LayForm,
 }
 
-impl<A: Allocator + Copy> Engine<A> for LayEngine {
-    type Found = Laid<A>;
+impl<A: Allocator + Copy> Making<A> for Laying {
+    type Made = Laid<A>;
 
-    const MOST: u32 = MOST_TEXT_BYTES as u32;
-
-    fn find(&self, alloc: A, read: &[u8]) -> Result<Laid<A>, Unread> {
-        let Ok(small) = read.to_ascii_lowercase_in(alloc) else {
-            return Err(Unread::Memory);
-        };
-        match read_sketch(alloc, small.as_slice()) {
-            Ok(sketch) => lay_read(alloc, &sketch, self.form),
-            Err(stop) => Err(stop),
-        }
+    fn make(
+        &self,
+        alloc: A,
+        bytes: &[u8],
+        names: &[RomName],
+        frames: &[NamedFrame],
+    ) -> Result<Laid<A>, OutOfMemory> {
+        lay(alloc, bytes, names, frames, self.form)
     }
 
     fn write<W: Write>(&self, laid: &Laid<A>, writer: &mut Watched<W>) -> Result<(), StreamFailed> {
+        let Ok(text) = laid else { return Ok(()) };
         match self.form {
-            LayForm::Bytes(_) | LayForm::Rom => write_whole(writer, laid.as_bytes()),
+            LayForm::Bytes(_) | LayForm::Rom => write_whole(writer, text.as_slice()),
             LayForm::Table | LayForm::Equates | LayForm::Draft => write_lines(
                 writer,
-                laid.as_bytes(),
+                text.as_slice(),
             ),
         }
     }
@@ -84,5 +57,8 @@ pub fn lay_sketch<A: Allocator + Copy, R: Read, W: Write>(
     writer: &mut Watched<W>,
     form: LayForm,
 ) -> Result<Laid<A>, ToolFault> {
-    serve(&LayEngine { form }, alloc, reader, writer)
+    let engine = SketchEngine {
+        making: Laying { form },
+    };
+    serve(&engine, alloc, reader, writer)
 }

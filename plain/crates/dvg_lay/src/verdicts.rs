@@ -1,17 +1,17 @@
 //! What the check says of the frames of a sketch: the engine `check_sketch`.
 use std::prelude::*;
 
+use crate::making::{Making, SketchEngine};
 use crate::picture::time_of;
 use crate::text::put;
 use crate::time::{PictureTime, put_time};
 use dvg_code::OutOfMemory;
 use dvg_dump::MOST_WORDS;
 use dvg_frame::Checker;
-use dvg_io::{Engine, StreamFailed, ToolFault, Watched, serve, write_lines};
+use dvg_io::{StreamFailed, ToolFault, Watched, serve, write_lines};
 use dvg_mem::Rom;
-use dvg_named::{NamedFrame, Sketch, read_sketch};
+use dvg_named::{NamedFrame, RomName};
 use dvg_print::{BoundedVerdict, Line};
-use dvg_read::{MOST_TEXT_BYTES, Unread};
 use std::alloc::{AllocError, Allocator, Global};
 use std::io::{Read, Write};
 
@@ -114,33 +114,20 @@ fn check_frames<A: Allocator + Copy>(
     Ok(Said { verdicts, text })
 }
 
-// Checks the frames of `sketch`, which was read. Returns `Memory` where an allocation fails.
-fn check_read<A: Allocator + Copy>(alloc: A, sketch: &Sketch<'_, A>) -> Result<Said<A>, Unread> {
-    let Ok(frames) = sketch.frames(alloc) else {
-        return Err(Unread::Memory);
-    };
-    match check_frames(alloc, sketch.rom.as_slice(), frames.as_slice()) {
-        Ok(said) => Ok(said),
-        Err(_) => Err(Unread::Memory),
-    }
-}
+// What the check says of frames.
+struct Checking;
 
-// The engine that finds what the check says of the frames of a sketch.
-struct CheckEngine;
+impl<A: Allocator + Copy> Making<A> for Checking {
+    type Made = Said<A>;
 
-impl<A: Allocator + Copy> Engine<A> for CheckEngine {
-    type Found = Said<A>;
-
-    const MOST: u32 = MOST_TEXT_BYTES as u32;
-
-    fn find(&self, alloc: A, read: &[u8]) -> Result<Said<A>, Unread> {
-        let Ok(small) = read.to_ascii_lowercase_in(alloc) else {
-            return Err(Unread::Memory);
-        };
-        match read_sketch(alloc, small.as_slice()) {
-            Ok(sketch) => check_read(alloc, &sketch),
-            Err(stop) => Err(stop),
-        }
+    fn make(
+        &self,
+        alloc: A,
+        bytes: &[u8],
+        _names: &[RomName],
+        frames: &[NamedFrame],
+    ) -> Result<Said<A>, OutOfMemory> {
+        check_frames(alloc, bytes, frames)
     }
 
     fn write<W: Write>(&self, said: &Said<A>, writer: &mut Watched<W>) -> Result<(), StreamFailed> {
@@ -168,5 +155,5 @@ pub fn check_sketch<A: Allocator + Copy, R: Read, W: Write>(
     reader: &mut Watched<R>,
     writer: &mut Watched<W>,
 ) -> Result<Said<A>, ToolFault> {
-    serve(&CheckEngine, alloc, reader, writer)
+    serve(&SketchEngine { making: Checking }, alloc, reader, writer)
 }
