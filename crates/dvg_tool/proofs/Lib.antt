@@ -5,6 +5,6 @@ pub mod Shown
 pub mod Played
 pub mod TracesPlayed
 pub mod DrawnPlayed
-pub mod JobsDone
+pub mod Reported
 mod OneVerdict
 pub mod PicturesPlayed

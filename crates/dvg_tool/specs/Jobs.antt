@@ -1,17 +1,13 @@
 -- What is done for a job.
-use Rattle.std.specs.Prelude.{◌≡◌, ◌↔◌, ◌+◌, All, IsTrue, ℕ, List, Option, Result, Ok, Err, IfSome}
+use Rattle.std.specs.Prelude.{◌+◌, ℕ, List, Option, Result, IfSome, IsErrAnd}
 use Rattle.std.specs.Prelude.{false, true}
 use Rattle.dvg_io.specs.Faults.{ComesBeforeText, StopsBeforeWriting}
+use Rattle.dvg_io.specs.Serving.{Meaning}
 use Rattle.dvg_io.specs.Watching.{TakesAtMost}
 use Rattle.dvg_io.specs.declared.fault.ToolFault.{ToolFault}
-use Rattle.dvg_lay.specs.Checks.{ChecksSketch, IsGoodVerdict}
+use Rattle.dvg_lay.specs.Checks.{ChecksSketch}
 use Rattle.dvg_lay.specs.DrawnSketches.{Draws}
-use Rattle.dvg_lay.specs.declared.drawn.Drawn.{Drawn}
-use Rattle.dvg_lay.specs.declared.drawn.Drawn.TheVariants as drawns
-use Rattle.dvg_lay.specs.declared.verdicts.Said.{Said}
 use Rattle.dvg_lay.specs.Sketches.{Lays}
-use Rattle.dvg_lay.specs.declared.form.Laid.{Laid}
-use Rattle.dvg_lay.specs.declared.form.Laid.TheVariants as laids
 use Rattle.dvg_logs.specs.AllTears.{AllTakes, AllTears}
 use Rattle.dvg_logs.specs.MomentTears.{MomentTakes, MomentTears}
 use Rattle.dvg_logs.specs.Tears.{Takes, Tears}
@@ -22,10 +18,9 @@ use Rattle.dvg_tool.specs.Roms.{WritesRom}
 use Rattle.dvg_tool.specs.Checks.{Checks, ChecksBound}
 use Rattle.dvg_tool.specs.Plays.{Plays, StopsBeforeShowing}
 use Rattle.dvg_tool.specs.PlaysSvg.{PlaysSvg}
+use Rattle.dvg_tool.specs.Reports.{Reports, of_bounded, of_frames, of_log, of_made, of_moments, of_outcome}
+use Rattle.dvg_tool.specs.Reports.{of_undrawn, of_verdict, written}
 use Rattle.dvg_tool.specs.declared.outcome.Done.{Done}
-use Rattle.dvg_tool.specs.declared.outcome.Done.TheVariants.{Written, Judged, Bounded, Drew, DrewSvg, Searched}
-use Rattle.dvg_tool.specs.declared.outcome.Done.TheVariants.{SearchedMoments}
-use Rattle.dvg_tool.specs.declared.outcome.Done.TheVariants.{Refused, CheckedFrames}
 use Rattle.dvg_job.specs.declared.task.Job.{Job}
 use Rattle.dvg_job.specs.declared.task.Job.TheVariants.{List as list_job, ListAt, Rom, Picture, PictureSvg, Check}
 use Rattle.dvg_job.specs.declared.task.Job.TheVariants.{Play, PlaySvg, Torn, Render, RenderCheck, Lay}
@@ -35,90 +30,48 @@ use Rattle.dvg_tool.specs.declared.lists.TheConstants.{MOST_LIST_BYTES}
 use Rattle.dvg_dump.specs.declared.dump.TheConstants.{LARGE_DUMP_BYTES}
 use Rattle.dvg_mem.specs.declared.TheConstants.{LARGE_ROM_BYTES}
 
--- what is said of a sketch that was laid out: why a frame is refused
-abbrev pub answered : {A : Type 0} → Laid A → Done A
-answered (laids.Text text) = Written
-answered (laids.Refused refusal) = Refused refusal
+-- what is kept of a job: what is reported and written of an input, what is taken of the reader's bytes, and at which
+-- reports nothing is written
+pub record Task (A : Type 0) : Type 1 where
+  pub Means : Meaning (Done A)
+  pub Takes : Result (Done A) ToolFault → (old new : Option (List ℕ)) → Type 0
+  pub IsEarly : Result (Done A) ToolFault → Type 0
 
--- and of one that was drawn
-abbrev pub answered_drawn : {A : Type 0} → Drawn A → Done A
-answered_drawn (drawns.Pictures pictures) = Written
-answered_drawn (drawns.Refused refusal) = Refused refusal
+-- that of an engine which reads at most so many bytes, and one more to see whether there are more
+abbrev pub served : {A V : Type 0} → (most : ℕ) → (IsEarly : ToolFault → Type 0) → (V → Done A) → Meaning V → Task A
+served most IsEarly done Means = record {
+  Means = Reports done Means;
+  Takes = λ answer old new. TakesAtMost (most + 1) old new;
+  IsEarly = λ answer. IsErrAnd answer IsEarly;
+}
 
--- the answer to an input, and what went out: a check answers its verdict, `picture` what the run
--- came to, or as SVG why it drew no picture, `torn` what is said of the log by its rule, `lay` and `render` why a
--- frame is refused, `render --check` whether all frames are good, and no other job answers anything
-abbrev pub Performs : {A : Type 0} → Job → Result (Done A) ToolFault → (input : List ℕ) → Option (List ℕ)
-    → Option (List ℕ) → Type 0
-Performs {A} list_job (Ok Written) input old new = Lists {T = Done A} (Ok Written) input old new
-Performs {A} list_job (Err fault) input old new = Lists {T = Done A} (Err fault) input old new
-Performs {A} (ListAt address) (Ok Written) input old new = ListsAt {T = Done A} address (Ok Written) input old new
-Performs {A} (ListAt address) (Err fault) input old new = ListsAt {T = Done A} address (Err fault) input old new
-Performs {A} Rom (Ok Written) input old new = WritesRom {T = Done A} (Ok Written) input old new
-Performs {A} Rom (Err fault) input old new = WritesRom {T = Done A} (Err fault) input old new
-Performs (Picture form) (Ok (Drew outcome)) input old new = Pictures form (Ok outcome) input old new
-Performs (Picture form) (Err fault) input old new = Pictures form (Err fault) input old new
-Performs (PictureSvg percent) (Ok (DrewSvg undrawn)) input old new = DrawsSvg percent (Ok undrawn) input old new
-Performs (PictureSvg percent) (Err fault) input old new = DrawsSvg percent (Err fault) input old new
-Performs (Check false) (Ok (Judged verdict)) input old new = Checks (Ok verdict) input old new
-Performs (Check false) (Err fault) input old new = Checks (Err fault) input old new
-Performs (Check true) (Ok (Bounded verdict)) input old new = ChecksBound (Ok verdict) input old new
-Performs (Check true) (Err fault) input old new = ChecksBound (Err fault) input old new
-Performs {A} (Play all banked) (Ok Written) input old new = Plays {T = Done A} all (Ok Written) input old new
-Performs {A} (Play all banked) (Err fault) input old new = Plays {T = Done A} all (Err fault) input old new
-Performs {A} (PlaySvg banked show) (Ok Written) input old new =
-    PlaysSvg {T = Done A} show (Ok Written) input old new
-Performs {A} (PlaySvg banked show) (Err fault) input old new =
-    PlaysSvg {T = Done A} show (Err fault) input old new
-Performs (Torn Halves base) (Ok (Searched verdict)) input old new = Tears base (Ok verdict) input old new
-Performs (Torn Halves base) (Err fault) input old new = Tears base (Err fault) input old new
-Performs (Torn Moments base) (Ok (SearchedMoments verdict)) input old new = MomentTears base (Ok verdict) input old new
-Performs (Torn Moments base) (Err fault) input old new = MomentTears base (Err fault) input old new
-Performs (Torn AllMoments base) (Ok (SearchedMoments verdict)) input old new = AllTears base (Ok verdict) input old new
-Performs (Torn AllMoments base) (Err fault) input old new = AllTears base (Err fault) input old new
-Performs {A} (Lay form) (Ok done) input old new =
-    (laid : Laid A) × (done ≡ answered laid) × Lays form (Ok laid) input old new
-Performs {A} (Lay form) (Err fault) input old new = Lays {A = A} form (Err fault) input old new
-Performs {A} (Render show) (Ok done) input old new =
-    (drawn : Drawn A) × (done ≡ answered_drawn drawn) × Draws show (Ok drawn) input old new
-Performs {A} (Render show) (Err fault) input old new =
-    Draws {A = A} show (Err fault) input old new
-Performs {A} RenderCheck (Ok (CheckedFrames good)) input old new = (said : Said A)
-    × (IsTrue good ↔ All IsGoodVerdict said.verdicts.items) × ChecksSketch (Ok said) input old new
-Performs {A} RenderCheck (Err fault) input old new = ChecksSketch {A = A} (Err fault) input old new
-Performs _ (Ok _) input old new = ⊥
+-- that of one which judges a log, and takes no more than a piece after the line that decides
+abbrev pub judging : {A V : Type 0} → (IsEarly : ToolFault → Type 0) → (V → Done A) → (Means Takes : Meaning V) → Task A
+judging IsEarly done Means Takes = record {
+  Means = Reports done Means;
+  Takes = λ answer old new. IfSome old (λ input. Reports done Takes answer input old new);
+  IsEarly = λ answer. IsErrAnd answer IsEarly;
+}
 
--- the faults before which a job writes nothing
-abbrev pub StaysUnwritten : Job → ToolFault → Type 0
-StaysUnwritten list_job fault = StopsBeforeWriting fault
-StaysUnwritten (ListAt address) fault = StopsBeforeWriting fault
-StaysUnwritten (Play all banked) fault = StopsBeforeShowing fault
-StaysUnwritten (Torn Halves base) fault = StopsBeforeWriting fault
-StaysUnwritten (Torn Moments base) fault = StopsBeforeWriting fault
-StaysUnwritten (Torn AllMoments base) fault = ⊥
-StaysUnwritten _ fault = ComesBeforeText fault
+-- no fault is early: lines are written while the input is read
+abbrev pub NeverEarly : ToolFault → Type 0
+NeverEarly fault = ⊥
 
--- what is taken of the input: at most this many bytes, and of a log no more than a piece after the
--- line that decides
-abbrev pub TakesBy : {A : Type 0} → Job → Result (Done A) ToolFault → Option (List ℕ) → Option (List ℕ) → Type 0
-TakesBy list_job answer old new = TakesAtMost (MOST_LIST_BYTES + 1) old new
-TakesBy (ListAt address) answer old new = TakesAtMost (MOST_LIST_BYTES + 1) old new
-TakesBy Rom answer old new = TakesAtMost (LARGE_ROM_BYTES + 1) old new
-TakesBy (Picture form) answer old new = TakesAtMost (LARGE_DUMP_BYTES + 1) old new
-TakesBy (PictureSvg percent) answer old new = TakesAtMost (LARGE_DUMP_BYTES + 1) old new
-TakesBy (Check bound) answer old new = TakesAtMost (MOST_TEXT_BYTES + 1) old new
-TakesBy (Play all banked) answer old new = TakesAtMost (MOST_TEXT_BYTES + 1) old new
-TakesBy (PlaySvg banked show) answer old new = TakesAtMost (MOST_TEXT_BYTES + 1) old new
-TakesBy (Render show) answer old new = TakesAtMost (MOST_TEXT_BYTES + 1) old new
-TakesBy RenderCheck answer old new = TakesAtMost (MOST_TEXT_BYTES + 1) old new
-TakesBy (Lay form) answer old new = TakesAtMost (MOST_TEXT_BYTES + 1) old new
-TakesBy (Torn Halves base) (Ok (Searched verdict)) old new =
-    IfSome old (λ input. Takes base (Ok verdict) input old new)
-TakesBy (Torn Halves base) (Err fault) old new = IfSome old (λ input. Takes base (Err fault) input old new)
-TakesBy (Torn Moments base) (Ok (SearchedMoments verdict)) old new =
-    IfSome old (λ input. MomentTakes base (Ok verdict) input old new)
-TakesBy (Torn Moments base) (Err fault) old new = IfSome old (λ input. MomentTakes base (Err fault) input old new)
-TakesBy (Torn AllMoments base) (Ok (SearchedMoments verdict)) old new =
-    IfSome old (λ input. AllTakes base (Ok verdict) input old new)
-TakesBy (Torn AllMoments base) (Err fault) old new = IfSome old (λ input. AllTakes base (Err fault) input old new)
-TakesBy (Torn rule base) (Ok _) old new = ⊥
+-- what is kept of each job
+abbrev pub task_of : {A : Type 0} → Job → Task A
+task_of list_job = served MOST_LIST_BYTES StopsBeforeWriting written (Lists {T = Unit {0}})
+task_of (ListAt address) = served MOST_LIST_BYTES StopsBeforeWriting written (ListsAt {T = Unit {0}} address)
+task_of Rom = served LARGE_ROM_BYTES ComesBeforeText written (WritesRom {T = Unit {0}})
+task_of (Picture form) = served LARGE_DUMP_BYTES ComesBeforeText of_outcome (Pictures form)
+task_of (PictureSvg percent) = served LARGE_DUMP_BYTES ComesBeforeText of_undrawn (DrawsSvg percent)
+task_of (Check false) = served MOST_TEXT_BYTES ComesBeforeText of_verdict Checks
+task_of (Check true) = served MOST_TEXT_BYTES ComesBeforeText of_bounded ChecksBound
+task_of (Play all banked) = served MOST_TEXT_BYTES StopsBeforeShowing written (Plays {T = Unit {0}} all)
+task_of (PlaySvg banked show) = served MOST_TEXT_BYTES ComesBeforeText written (PlaysSvg {T = Unit {0}} show)
+task_of (Torn Halves base) = judging StopsBeforeWriting of_log (Tears base) (Takes base)
+task_of (Torn Moments base) = judging StopsBeforeWriting of_moments (MomentTears base) (MomentTakes base)
+task_of (Torn AllMoments base) = judging NeverEarly of_moments (AllTears base) (AllTakes base)
+task_of {A} (Render show) = served MOST_TEXT_BYTES ComesBeforeText of_made (Draws {A = A} show)
+task_of {A} RenderCheck =
+    served MOST_TEXT_BYTES ComesBeforeText (λ said. of_frames said.verdicts.items) (ChecksSketch {A = A})
+task_of {A} (Lay form) = served MOST_TEXT_BYTES ComesBeforeText of_made (Lays {A = A} form)

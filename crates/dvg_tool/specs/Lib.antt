@@ -1,5 +1,6 @@
 pub mod Lists
 pub mod Roms
+pub mod Reports
 pub mod Jobs
 pub mod Outcomes
 pub mod Checks

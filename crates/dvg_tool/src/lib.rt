@@ -16,6 +16,7 @@ mod outcome;
 mod plays;
 mod plays_pictures;
 mod plays_svg;
+mod reports;
 mod roms;
 mod shows;
 

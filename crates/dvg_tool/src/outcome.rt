@@ -6,37 +6,22 @@ ghost use Rattle.dvg_io.specs.Watching.{failures_of, stream_of};
 
 use dvg_io::{ToolFault, Watched};
 use dvg_lay::Refusal;
-use dvg_logs::{LogFinding, LogVerdict, MomentVerdict};
-use dvg_picture::{Outcome, Undrawn};
-use dvg_print::{BoundedVerdict, Verdict};
+use dvg_picture::Undrawn;
 use std::alloc::{Allocator, Global};
 use std::io::Write;
 
-/// What an engine that is done reports.
+/// What a job that is done reports.
 #[derive(Debug, PartialEq, Eq, Drop)]
 pub enum Done<A: Allocator = Global> {
-    /// The text was written.
-    Written,
-    /// This was said of a draft, and the line of it was written.
-    Judged(Verdict),
-    /// This was said of a draft, with the bound of a good one, and the line of it was written.
-    Bounded(BoundedVerdict),
-    /// The run over a dump came to this, and its text was written.
-    Drew(Outcome),
-    /// What the run over a dump drew was written as SVG. If it isn't a picture, this is why.
-    DrewSvg(Option<Undrawn>),
-    /// This was said of a log, and the text of it was written.
-    Searched(LogVerdict),
-    /// This was said of a log by moments, and the line of it was written, after those of its torn
-    /// runs where all were asked for.
-    SearchedMoments(MomentVerdict),
+    /// What was asked for was written, and what was asked about is good: the draft, each frame of
+    /// the sketch, the log, or the run over the dump, which drew a picture.
+    Good,
+    /// What was asked about isn't good, and what was written says why.
+    Bad,
+    /// The run over a dump drew no picture, for this reason. What it drew was written as SVG.
+    Undrawn(Undrawn),
     /// A frame of a sketch is refused, and nothing was written.
     Refused(Refusal<A>),
-    /// What the check says of the frames of a sketch was written, and whether it accepts all.
-    CheckedFrames {
-        /// Whether it does.
-        good: bool,
-    },
 }
 
 /// Flushes `writer` after an engine is done, which returned `answer`. A flush that fails is
@@ -67,42 +52,8 @@ pub fn status<A: Allocator>(answer: &Result<Done<A>, ToolFault>) -> u8
     ensures { result ≡ status_of answer.now }
 {
     match answer {
-        Ok(
-            Done::Written
-            | Done::Judged(Verdict::Good(_))
-            | Done::Bounded(BoundedVerdict::Good { .. })
-            | Done::Drew(Outcome::Picture)
-            | Done::DrewSvg(None)
-            | Done::CheckedFrames { good: true }
-            | Done::Searched(
-                LogVerdict {
-                    finding: LogFinding::NotTorn,
-                    ..
-                },
-            )
-            | Done::SearchedMoments(MomentVerdict::Whole { .. }),
-        ) => 0,
-        Ok(
-            Done::Judged(Verdict::Refused(_))
-            | Done::Bounded(BoundedVerdict::Refused(_))
-            | Done::Drew(Outcome::Broke | Outcome::Endless)
-            | Done::DrewSvg(Some(_))
-            | Done::Searched(
-                LogVerdict {
-                    finding: LogFinding::NoRunDrew | LogFinding::Torn { .. },
-                    ..
-                },
-            )
-            | Done::SearchedMoments(
-                MomentVerdict::NoRun { .. }
-                | MomentVerdict::Torn { .. }
-                | MomentVerdict::Contradicts { .. }
-                | MomentVerdict::SomeTorn { .. },
-            )
-            | Done::Refused(_)
-            | Done::CheckedFrames { good: false },
-        )
-        | Err(ToolFault::Text(_)) => 1,
+        Ok(Done::Good) => 0,
+        Ok(Done::Bad | Done::Undrawn(_) | Done::Refused(_)) | Err(ToolFault::Text(_)) => 1,
         Err(ToolFault::Reader | ToolFault::Writer | ToolFault::Memory) => 2,
     }
 }

@@ -2,12 +2,9 @@
 //! and nothing is tried again.
 use crate::answers::answered;
 use crate::streams::{Failing, Mishap};
-use crate::tasks::{NOT_TORN, RETURN, Task, moving_dump, tasks, written};
-use dvg_frame::FrameFault;
+use crate::tasks::{RETURN, Task, moving_dump, tasks, written};
 use dvg_mem::MEMORY_BYTES;
-use dvg_tool::{
-    BoundedVerdict, Done, Outcome, TextFault, ToolFault, Verdict, Watched, finish, perform,
-};
+use dvg_tool::{Done, TextFault, ToolFault, Undrawn, Watched, finish, perform};
 use std::alloc::Global;
 use std::test::Fail;
 
@@ -193,38 +190,15 @@ fn flush_fails(
 #[test]
 fn a_failing_flush_is_the_writers_fault(rt: HostRuntime) {
     let alloc = rt.alloc();
-    let good = BoundedVerdict::Good { words: 3, bound: 4 };
-    let empty = Verdict::Refused(FrameFault::Empty);
     let cut = ToolFault::Text(TextFault::Cut(4));
-    assert!(rt; flush_fails(alloc, Ok(Done::Written), Ok(Done::Written)));
-    assert!(rt; flush_fails(alloc, Ok(Done::Bounded(good)), Ok(Done::Bounded(good))));
-    assert!(rt; flush_fails(alloc, Ok(Done::Judged(empty)), Ok(Done::Judged(empty))));
+    assert!(rt; flush_fails(alloc, Ok(Done::Good), Ok(Done::Good)));
+    assert!(rt; flush_fails(alloc, Ok(Done::Bad), Ok(Done::Bad)));
+    let endless = Undrawn::Endless;
     assert!(rt;
         flush_fails(
             alloc,
-            Ok(Done::Judged(Verdict::Good(3))),
-            Ok(Done::Judged(Verdict::Good(3)))
-        )
-    );
-    assert!(rt;
-        flush_fails(
-            alloc,
-            Ok(Done::Drew(Outcome::Endless)),
-            Ok(Done::Drew(Outcome::Endless))
-        )
-    );
-    assert!(rt;
-        flush_fails(
-            alloc,
-            Ok(Done::Searched(NOT_TORN)),
-            Ok(Done::Searched(NOT_TORN))
-        )
-    );
-    assert!(rt;
-        flush_fails(
-            alloc,
-            Ok(Done::CheckedFrames { good: false }),
-            Ok(Done::CheckedFrames { good: false })
+            Ok(Done::Undrawn(endless)),
+            Ok(Done::Undrawn(endless))
         )
     );
     assert!(rt; flush_fails(alloc, Err(cut), Err(cut)));

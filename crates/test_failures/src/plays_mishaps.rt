@@ -59,7 +59,7 @@ fn is_log_before(wanted: Wanted, text: &str) -> bool {
 fn led_to(alloc: Global, wanted: Wanted, bytes: usize) -> Result<Led, Fail> {
     let (written, answer) = played_in(alloc, wanted, bytes)?;
     let text = String::from_utf8(written)?;
-    if answer == Ok(Report::Written) && text.as_str() == wanted.shown {
+    if answer == Ok(Report::Good) && text.as_str() == wanted.shown {
         return Ok(Led::Whole);
     }
     if answer != Err(ToolFault::Memory) {

@@ -96,7 +96,7 @@ fn smallest_heap(alloc: Global, banked: bool) -> Result<usize, Fail> {
         });
         let mut writer = Watched::new(Vec::new(alloc));
         let job = playing(true, banked);
-        if answered(&perform(&heap, job, &mut reader, &mut writer)) == Ok(Report::Written) {
+        if answered(&perform(&heap, job, &mut reader, &mut writer)) == Ok(Report::Good) {
             return Ok(size);
         }
     }

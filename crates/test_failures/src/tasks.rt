@@ -2,12 +2,8 @@
 //! an input may be, and how often memory is refused.
 use crate::answers::{Answer, Report, answered};
 use crate::traces::FIRST_PICTURE;
-use dvg_frame::{FrameFault, Place};
 use dvg_mem::MEMORY_BYTES;
-use dvg_tool::{
-    BoundedVerdict, Job, LayForm, LogCounts, LogFinding, LogRule, LogVerdict, MomentVerdict,
-    Outcome, PictureForm, Show, TextFault, ToolFault, Verdict, Watched, perform,
-};
+use dvg_tool::{Job, LayForm, LogRule, PictureForm, Show, TextFault, ToolFault, Watched, perform};
 use std::alloc::Global;
 use std::test::Fail;
 
@@ -103,42 +99,16 @@ pub struct Task<'a> {
 const WORDS: [u8; 10] = [0x64, 0x90, 0x64, 0x74, 0x00, 0x94, 0x00, 0x00, 0x90, 0xA1];
 
 /// A draft after a ROM line, which is refused.
-const REFUSED: &str = "rom 800 E001\nlabs 0 0 0\ncallrom 800\nhalt\n";
+pub const REFUSED: &str = "rom 800 E001\nlabs 0 0 0\ncallrom 800\nhalt\n";
 
-/// The verdict on it.
-const OUT_OF_ROM: Verdict = Verdict::Refused(FrameFault::OutOfRom(Place::InRom(0x800)));
-
-/// A draft that is good, and the verdict on it.
-const GOOD: &str = "labs 0 0 0\nhalt\n";
-
-const SHORT: BoundedVerdict = BoundedVerdict::Good { words: 3, bound: 4 };
+/// A draft that is good.
+pub const GOOD: &str = "labs 0 0 0\nhalt\n";
 
 /// A log that isn't torn, so that it is read to its end.
-const LOG: &str = "started\n\nfetched 000 E201\nhalted\nwrote 402 90\n";
-
-/// The verdict on it.
-pub const NOT_TORN: LogVerdict = LogVerdict {
-    finding: LogFinding::NotTorn,
-    counts: LogCounts {
-        runs: 1,
-        drew: 1,
-        halted: 1,
-        writes: 1,
-    },
-};
-
-/// The verdict on it by moments.
-pub const OF_ONE_MOMENT: MomentVerdict = MomentVerdict::Whole { runs: 1, halted: 1 };
+pub const LOG: &str = "started\n\nfetched 000 E201\nhalted\nwrote 402 90\n";
 
 /// A log with addresses of a processor. Its run is of no moment, which is known at its last line.
-const TORN_LOG: &str = "started\nfetched 001 0101\nwrote 4002 05\nfetched 001 0105\nhalted";
-
-/// The verdict on all its runs.
-pub const ONE_TORN: MomentVerdict = MomentVerdict::SomeTorn {
-    runs: 1,
-    halted: 1,
-    torn: 1,
-};
+pub const TORN_LOG: &str = "started\nfetched 001 0101\nwrote 4002 05\nfetched 001 0105\nhalted";
 
 /// A sketch, and one with a frame that is refused.
 const SKETCH: &str = "labs 0 0 0\nhalt\n.frame b\nlabs 0 0 0\nhalt\n";
@@ -172,16 +142,16 @@ pub fn tasks<'a>(rom: &'a [u8], dump: &'a [u8]) -> [Task<'a>; 19] {
             1,
             Err(ToolFault::Text(TextFault::Cut(4))),
         ),
-        task(Job::Rom, rom, 64, Ok(Report::Written)),
-        task(PICTURE, dump, 64, Ok(Report::Drew(Outcome::Broke))),
-        task(INSTRUCTIONS, dump, 64, Ok(Report::Drew(Outcome::Broke))),
-        task(MOVES, dump, 64, Ok(Report::Drew(Outcome::Broke))),
-        task(CHECK, REFUSED.as_bytes(), 1, Ok(Report::Judged(OUT_OF_ROM))),
-        task(CHECK_BOUND, GOOD.as_bytes(), 1, Ok(Report::Bounded(SHORT))),
-        task(PICTURES, picture, 1, Ok(Report::Written)),
-        task(ENTRIES, picture, 64, Ok(Report::Written)),
-        task(BANKED_PICTURES, picture, 1, Ok(Report::Written)),
-        task(BANKED_ENTRIES, picture, 64, Ok(Report::Written)),
+        task(Job::Rom, rom, 64, Ok(Report::Good)),
+        task(PICTURE, dump, 64, Ok(Report::Bad)),
+        task(INSTRUCTIONS, dump, 64, Ok(Report::Bad)),
+        task(MOVES, dump, 64, Ok(Report::Bad)),
+        task(CHECK, REFUSED.as_bytes(), 1, Ok(Report::Bad)),
+        task(CHECK_BOUND, GOOD.as_bytes(), 1, Ok(Report::Good)),
+        task(PICTURES, picture, 1, Ok(Report::Good)),
+        task(ENTRIES, picture, 64, Ok(Report::Good)),
+        task(BANKED_PICTURES, picture, 1, Ok(Report::Good)),
+        task(BANKED_ENTRIES, picture, 64, Ok(Report::Good)),
         task(
             Job::Torn {
                 rule: LogRule::Halves,
@@ -189,7 +159,7 @@ pub fn tasks<'a>(rom: &'a [u8], dump: &'a [u8]) -> [Task<'a>; 19] {
             },
             LOG.as_bytes(),
             1,
-            Ok(Report::Searched(NOT_TORN)),
+            Ok(Report::Good),
         ),
         task(
             Job::Torn {
@@ -198,7 +168,7 @@ pub fn tasks<'a>(rom: &'a [u8], dump: &'a [u8]) -> [Task<'a>; 19] {
             },
             LOG.as_bytes(),
             1,
-            Ok(Report::SearchedMoments(OF_ONE_MOMENT)),
+            Ok(Report::Good),
         ),
         task(
             Job::Torn {
@@ -207,7 +177,7 @@ pub fn tasks<'a>(rom: &'a [u8], dump: &'a [u8]) -> [Task<'a>; 19] {
             },
             TORN_LOG.as_bytes(),
             1,
-            Ok(Report::SearchedMoments(ONE_TORN)),
+            Ok(Report::Bad),
         ),
         task(
             Job::ListAt { address: 0xFFF },
@@ -215,26 +185,21 @@ pub fn tasks<'a>(rom: &'a [u8], dump: &'a [u8]) -> [Task<'a>; 19] {
             1,
             Err(ToolFault::Text(TextFault::Cut(3))),
         ),
-        task(PICTURES_SVG, picture, 1, Ok(Report::Written)),
+        task(PICTURES_SVG, picture, 1, Ok(Report::Good)),
         task(
             FRAMES_SVG,
             REFUSED_SKETCH.as_bytes(),
             1,
             Ok(Report::Refused),
         ),
-        task(
-            Job::RenderCheck,
-            SKETCH.as_bytes(),
-            1,
-            Ok(Report::Checked(true)),
-        ),
+        task(Job::RenderCheck, SKETCH.as_bytes(), 1, Ok(Report::Good)),
         task(
             Job::Lay {
                 form: LayForm::Table,
             },
             SKETCH.as_bytes(),
             1,
-            Ok(Report::Written),
+            Ok(Report::Good),
         ),
     ]
 }

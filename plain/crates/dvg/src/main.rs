@@ -119,7 +119,7 @@ fn say(rt: &HostRuntime, answer: &Result<Done<Global>, ToolFault>) {
         Ok(Done::Refused(refusal)) => {
             let _ = eprintln!(rt; "dvg: {refusal}");
         }
-        Ok(Done::DrewSvg(Some(undrawn))) => {
+        Ok(Done::Undrawn(undrawn)) => {
             let _ = eprintln!(rt; "dvg: {undrawn}");
         }
         Ok(_) => {}

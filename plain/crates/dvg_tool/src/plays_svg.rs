@@ -5,7 +5,7 @@ use crate::plays_pictures::draw_text;
 use dvg_gen::Stroke;
 use dvg_io::{Engine, StreamFailed, ToolFault, Watched, serve};
 use dvg_job::Show;
-use dvg_mem::{Banked, Flat, Store};
+use dvg_mem::Store;
 use dvg_read::{MOST_TEXT_BYTES, TraceText, Unread, read_trace};
 use dvg_svg::write_svgs;
 use dvg_world::Picture;
@@ -65,20 +65,20 @@ impl<S: Store> Engine<S::Alloc> for SvgEngine<S> {
     }
 }
 
-// Reads a trace as text from `reader` and runs its events as `play` does. Writes the pictures of
-// all runs that finished to `writer` as one SVG, in which they are shown in turn, in the size and
-// at the rate of `show` (the text is this project's own choice).
-//
-// - `TooLong`, `Syntax`, `Full`, `Many`, `Unended`: as `play_in` says.
-// - `Reader`, `Writer`: that stream failed. After `Writer` a beginning of the text went out.
-// - `Memory`: an allocation failed.
-//
-// Where it stops before it writes, which is at any fault but `Writer`, the writer is as it was.
-//
-// The RAM is kept in any store. All of this holds whichever it is, so what is written doesn't
-// depend on it.
+/// Reads a trace as text from `reader` and runs its events as `play` does. Writes the pictures of
+/// all runs that finished to `writer` as one SVG, in which they are shown in turn, in the size and
+/// at the rate of `show` (the text is this project's own choice).
+///
+/// - `TooLong`, `Syntax`, `Full`, `Many`, `Unended`: as `play_in` says.
+/// - `Reader`, `Writer`: that stream failed. After `Writer` a beginning of the text went out.
+/// - `Memory`: an allocation failed.
+///
+/// Where it stops before it writes, which is at any fault but `Writer`, the writer is as it was.
+///
+/// The RAM is kept in any store. All of this holds whichever it is, so what is written doesn't
+/// depend on it.
 #[inline(never)]
-fn play_svg_in<S: Store, R: Read, W: Write>(
+pub(crate) fn play_svg_in<S: Store, R: Read, W: Write>(
     alloc: S::Alloc,
     reader: &mut Watched<R>,
     writer: &mut Watched<W>,
@@ -90,20 +90,4 @@ fn play_svg_in<S: Store, R: Read, W: Write>(
     };
     serve(&engine, alloc, reader, writer)?;
     Ok(())
-}
-
-/// Does the job `play --svg`, from `reader` to `writer`, in the size and at the rate of `show`.
-/// With `banked` the RAM is kept in banks.
-pub(crate) fn play_svg_job<A: Allocator + Copy, R: Read, W: Write>(
-    alloc: A,
-    reader: &mut Watched<R>,
-    writer: &mut Watched<W>,
-    banked: bool,
-    show: Show,
-) -> Result<(), ToolFault> {
-    if banked {
-        play_svg_in::<Banked<A>, R, W>(alloc, reader, writer, show)
-    } else {
-        play_svg_in::<Flat<A>, R, W>(alloc, reader, writer, show)
-    }
 }
