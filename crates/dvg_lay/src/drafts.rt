@@ -12,12 +12,9 @@ use dvg_frame::{Op, OpKind};
 use dvg_io::collect_words;
 use dvg_mem::{MEMORY_BYTES, Rom};
 use dvg_named::NamedFrame;
-use dvg_print::Line;
+use dvg_print::{LINE_WORDS, Line};
 use itoa::{Buffer, Integer};
 use std::alloc::{AllocError, Allocator};
-
-/// How many words stand in a line of a ROM.
-const LINE_WORDS: usize = 8;
 
 /// The word that is there where no line gives one, an RTSL.
 const UNGIVEN: u16 = 0xD000;

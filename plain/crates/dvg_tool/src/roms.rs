@@ -3,13 +3,10 @@ use std::prelude::*;
 
 use dvg_io::{Engine, StreamFailed, ToolFault, Watched, collect_words, serve, write_whole};
 use dvg_mem::{FIRST_LARGE_ROM_WORD, FIRST_ROM_WORD, LARGE_ROM_BYTES, MEMORY_BYTES};
-use dvg_print::Line;
+use dvg_print::{LINE_WORDS, Line};
 use dvg_read::{TextFault, Unread};
 use std::alloc::Allocator;
 use std::io::{Read, Write};
-
-/// How many words stand in a line.
-const LINE_WORDS: usize = 8;
 
 /// The line that gives the map of the larger ROM.
 const LARGE_MAP: &[u8] = b"map 4096\n";
