@@ -1,5 +1,5 @@
 use Rattle.std.proofs.Common.{rules, ◌≡◌}
-use Rattle.std.specs.Prelude.{false, true}
+use Rattle.std.specs.Prelude.{false, true, IfSome}
 use Rattle.dvg_job.specs.declared.task.Job.TheVariants.{List as list_job, ListAt, Rom, Picture, PictureSvg, Check}
 use Rattle.dvg_job.specs.declared.task.Job.TheVariants.{Play, PlaySvg, Torn, Render, RenderCheck, Lay}
 use Rattle.dvg_job.specs.declared.form.LogRule.TheVariants.{Halves, Moments, AllMoments}
@@ -18,7 +18,7 @@ use Rattle.dvg_tool.specs.Checks.{Checks, ChecksBound}
 use Rattle.dvg_tool.specs.Plays.{Plays}
 use Rattle.dvg_tool.specs.PlaysSvg.{PlaysSvg}
 use Rattle.dvg_tool.specs.Reports.{of_frames, of_made, of_bounded, of_log, of_moments, of_outcome, of_undrawn, of_verdict, written}
-use Rattle.dvg_tool.proofs.Reported.{reports}
+use Rattle.dvg_tool.proofs.Reported.{reports, reports_at}
 use Rattle.dvg_tool.proofs.jobs.perform.Goals as goal
 
 pub returns-in-List-clause-performs : goal.returns-in-List-clause-performs
@@ -59,30 +59,38 @@ returns-in-Check-false-clause-performs g c =
 pub returns-in-Play-default-true-clause-performs : goal.returns-in-Play-default-true-clause-performs
 returns-in-Play-default-true-clause-performs g c =
     let asked : c.args.job ≡ Play c.in-Play-default-true.all true = search rules in
-    rw asked (reports written (Plays {T = Unit {0}} c.in-Play-default-true.all) c.play_in.result c.reported-in-Play-default-true.result
-    (g.R.Read.remaining (stream_of c.args.reader.now)) (g.W.Write.contents (stream_of c.args.writer.now))
-    (g.W.Write.contents (stream_of c.play_in.new.writer)) c.reported-in-Play-default-true.ensures c.play_in.ensures.means)
+    let means : IfSome (g.R.Read.remaining (stream_of c.args.reader.now)) (λ input. Plays {T = Unit {0}} c.in-Play-default-true.all c.play_in.result input
+    (g.W.Write.contents (stream_of c.args.writer.now)) (g.W.Write.contents (stream_of c.play_in.new.writer))) =
+    search rules in
+    reports_at c.args.job (Play c.in-Play-default-true.all true) asked written (Plays {T = Unit {0}} c.in-Play-default-true.all) c.play_in.result c.reported-in-Play-default-true.result _ _ _ (λ input it. it)
+    c.reported-in-Play-default-true.ensures means
 
 pub returns-in-Play-default-false-clause-performs : goal.returns-in-Play-default-false-clause-performs
 returns-in-Play-default-false-clause-performs g c =
     let asked : c.args.job ≡ Play c.in-Play-default-false.all false = search rules in
-    rw asked (reports written (Plays {T = Unit {0}} c.in-Play-default-false.all) c.play.result c.reported-in-Play-default-false.result
-    (g.R.Read.remaining (stream_of c.args.reader.now)) (g.W.Write.contents (stream_of c.args.writer.now))
-    (g.W.Write.contents (stream_of c.play.new.writer)) c.reported-in-Play-default-false.ensures c.play.ensures.means)
+    let means : IfSome (g.R.Read.remaining (stream_of c.args.reader.now)) (λ input. Plays {T = Unit {0}} c.in-Play-default-false.all c.play.result input
+    (g.W.Write.contents (stream_of c.args.writer.now)) (g.W.Write.contents (stream_of c.play.new.writer))) =
+    search rules in
+    reports_at c.args.job (Play c.in-Play-default-false.all false) asked written (Plays {T = Unit {0}} c.in-Play-default-false.all) c.play.result c.reported-in-Play-default-false.result _ _ _ (λ input it. it)
+    c.reported-in-Play-default-false.ensures means
 
 pub returns-in-PlaySvg-true-default-clause-performs : goal.returns-in-PlaySvg-true-default-clause-performs
 returns-in-PlaySvg-true-default-clause-performs g c =
     let asked : c.args.job ≡ PlaySvg true c.in-PlaySvg-true-default.show = search rules in
-    rw asked (reports written (PlaysSvg {T = Unit {0}} c.in-PlaySvg-true-default.show) c.play_svg_in.result c.reported-in-PlaySvg-true-default.result
-    (g.R.Read.remaining (stream_of c.args.reader.now)) (g.W.Write.contents (stream_of c.args.writer.now))
-    (g.W.Write.contents (stream_of c.play_svg_in.new.writer)) c.reported-in-PlaySvg-true-default.ensures c.play_svg_in.ensures.means)
+    let means : IfSome (g.R.Read.remaining (stream_of c.args.reader.now)) (λ input. PlaysSvg {T = Unit {0}} c.in-PlaySvg-true-default.show c.play_svg_in.result input
+    (g.W.Write.contents (stream_of c.args.writer.now)) (g.W.Write.contents (stream_of c.play_svg_in.new.writer))) =
+    search rules in
+    reports_at c.args.job (PlaySvg true c.in-PlaySvg-true-default.show) asked written (PlaysSvg {T = Unit {0}} c.in-PlaySvg-true-default.show) c.play_svg_in.result c.reported-in-PlaySvg-true-default.result _ _ _ (λ input it. it)
+    c.reported-in-PlaySvg-true-default.ensures means
 
 pub returns-in-PlaySvg-false-default-clause-performs : goal.returns-in-PlaySvg-false-default-clause-performs
 returns-in-PlaySvg-false-default-clause-performs g c =
     let asked : c.args.job ≡ PlaySvg false c.in-PlaySvg-false-default.show = search rules in
-    rw asked (reports written (PlaysSvg {T = Unit {0}} c.in-PlaySvg-false-default.show) c.play_svg_in-in-PlaySvg-false-default.result c.reported-in-PlaySvg-false-default.result
-    (g.R.Read.remaining (stream_of c.args.reader.now)) (g.W.Write.contents (stream_of c.args.writer.now))
-    (g.W.Write.contents (stream_of c.play_svg_in-in-PlaySvg-false-default.new.writer)) c.reported-in-PlaySvg-false-default.ensures c.play_svg_in-in-PlaySvg-false-default.ensures.means)
+    let means : IfSome (g.R.Read.remaining (stream_of c.args.reader.now)) (λ input. PlaysSvg {T = Unit {0}} c.in-PlaySvg-false-default.show c.play_svg_in-in-PlaySvg-false-default.result input
+    (g.W.Write.contents (stream_of c.args.writer.now)) (g.W.Write.contents (stream_of c.play_svg_in-in-PlaySvg-false-default.new.writer))) =
+    search rules in
+    reports_at c.args.job (PlaySvg false c.in-PlaySvg-false-default.show) asked written (PlaysSvg {T = Unit {0}} c.in-PlaySvg-false-default.show) c.play_svg_in-in-PlaySvg-false-default.result c.reported-in-PlaySvg-false-default.result _ _ _ (λ input it. it)
+    c.reported-in-PlaySvg-false-default.ensures means
 
 pub returns-in-Torn-Halves-default-clause-performs : goal.returns-in-Torn-Halves-default-clause-performs
 returns-in-Torn-Halves-default-clause-performs g c =
