@@ -216,7 +216,10 @@ fn refusal(denoted: &Denoted, frame: &Frame, fault: &str) -> String {
         Some(row) => (row.number, &row.said),
         None => (frame.begin.0, &frame.begin.1),
     };
-    format!("line {number}: {said}: {fault}")
+    match said.is_empty() {
+        true => format!("line {number}: {fault}"),
+        false => format!("line {number}: {said}: {fault}"),
+    }
 }
 
 /// The name at a word of the ROM or before it, of which a later one goes before an earlier one.
