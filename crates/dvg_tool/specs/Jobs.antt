@@ -1,5 +1,5 @@
 -- What is done for a job.
-use Rattle.std.specs.Prelude.{◌+◌, ℕ, List, Option, Result, IfSome, IsErrAnd}
+use Rattle.std.specs.Prelude.{◌+◌, ℕ, List, Option, Result, Ok, Err, IfSome, IsErrAnd}
 use Rattle.std.specs.Prelude.{false, true}
 use Rattle.dvg_io.specs.Faults.{ComesBeforeText, StopsBeforeWriting}
 use Rattle.dvg_io.specs.Serving.{Meaning}
@@ -10,7 +10,9 @@ use Rattle.dvg_lay.specs.DrawnSketches.{Draws}
 use Rattle.dvg_lay.specs.Sketches.{Lays}
 use Rattle.dvg_logs.specs.AllTears.{AllTakes, AllTears}
 use Rattle.dvg_logs.specs.MomentTears.{MomentTakes, MomentTears}
+use Rattle.dvg_logs.specs.LogTexts.{JudgesLog}
 use Rattle.dvg_logs.specs.Tears.{Takes, Tears}
+use Rattle.dvg_print.specs.declared.log_verdict.LogVerdict.{LogVerdict}
 use Rattle.dvg_picture.specs.Pictures.{Pictures}
 use Rattle.dvg_picture.specs.Svgs.{DrawsSvg}
 use Rattle.dvg_tool.specs.Lists.{Lists, ListsAt}
@@ -45,7 +47,7 @@ served most IsEarly done Means = record {
   IsEarly = λ answer. IsErrAnd answer IsEarly;
 }
 
--- that of one which judges a log, and takes no more than a piece after the line that decides
+-- that of one which judges a log: what it takes of the input is said of an answer of which that is reported
 abbrev pub judging : {A V : Type 0} → (IsEarly : ToolFault → Type 0) → (V → Done A) → (Means Takes : Meaning V) → Task A
 judging IsEarly done Means Takes = record {
   Means = Reports done Means;
@@ -56,6 +58,15 @@ judging IsEarly done Means Takes = record {
 -- no fault is early: lines are written while the input is read
 abbrev pub NeverEarly : ToolFault → Type 0
 NeverEarly fault = ⊥
+
+-- what is said of a log is right
+abbrev pub IsJudged : (base : Option ℕ) → Result LogVerdict ToolFault → (input : List ℕ) → Type 0
+IsJudged base (Ok verdict) input = JudgesLog base input verdict
+IsJudged base (Err fault) input = Unit {0}
+
+-- what is taken of a log of which the right thing is said: no more than a piece after the line that decides
+abbrev pub TakesRightly : (base : Option ℕ) → Meaning LogVerdict
+TakesRightly base answer input old new = IsJudged base answer input × Takes base answer input old new
 
 -- what is kept of each job
 abbrev pub task_of : {A : Type 0} → Job → Task A
@@ -68,7 +79,7 @@ task_of (Check false) = served MOST_TEXT_BYTES ComesBeforeText of_verdict Checks
 task_of (Check true) = served MOST_TEXT_BYTES ComesBeforeText of_bounded ChecksBound
 task_of (Play all banked) = served MOST_TEXT_BYTES StopsBeforeShowing written (Plays {T = Unit {0}} all)
 task_of (PlaySvg banked show) = served MOST_TEXT_BYTES ComesBeforeText written (PlaysSvg {T = Unit {0}} show)
-task_of (Torn Halves base) = judging StopsBeforeWriting of_log (Tears base) (Takes base)
+task_of (Torn Halves base) = judging StopsBeforeWriting of_log (Tears base) (TakesRightly base)
 task_of (Torn Moments base) = judging StopsBeforeWriting of_moments (MomentTears base) (MomentTakes base)
 task_of (Torn AllMoments base) = judging NeverEarly of_moments (AllTears base) (AllTakes base)
 task_of {A} (Render show) = served MOST_TEXT_BYTES ComesBeforeText of_made (Draws {A = A} show)

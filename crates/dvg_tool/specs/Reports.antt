@@ -1,4 +1,4 @@
--- What a job reports of what its engine answers.
+-- What a job reports of what its engine returns.
 use Rattle.std.specs.Prelude.{◌≡◌, ℕ, List, [], ◌∷◌, Option, Some, None, Result, Ok, Err, MatchResult}
 use Rattle.dvg_io.specs.declared.fault.ToolFault.{ToolFault}
 use Rattle.dvg_io.specs.Serving.{Meaning}

@@ -20,7 +20,8 @@ use dvg_picture::{picture, picture_svg};
 use std::alloc::Allocator;
 use std::io::{Read, Write};
 
-/// Does `job` by the engine of its name, from `reader` to `writer`, and returns what that reports.
+/// Does `job` by the engine of its name, from `reader` to `writer`, and returns what is reported of
+/// what that returns. Memory is taken from `alloc`.
 pub fn perform<A: Allocator + Copy, R: Read, W: Write>(
     alloc: A,
     job: Job,

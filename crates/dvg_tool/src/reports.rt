@@ -1,4 +1,4 @@
-//! What a job reports of what its engine answers.
+//! What a job reports of what its engine returns.
 ghost use Rattle.std.specs.Prelude.{◌≡◌};
 ghost use Rattle.dvg_tool.specs.Reports.{IsReported, of_bounded, of_frames, of_log, of_made};
 ghost use Rattle.dvg_tool.specs.Reports.{of_moments, of_outcome, of_undrawn, of_verdict, written};
@@ -12,7 +12,7 @@ use dvg_picture::{Outcome, Undrawn};
 use dvg_print::{BoundedVerdict, Verdict};
 use std::alloc::Allocator;
 
-/// What an engine answers, of which something is reported.
+/// What an engine returns, of which something is reported.
 pub(crate) trait Answer<A: Allocator> {
     /// What is reported of it.
     ghost reported: { Self → HeldDone A };

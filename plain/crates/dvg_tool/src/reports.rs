@@ -1,4 +1,4 @@
-//! What a job reports of what its engine answers.
+//! What a job reports of what its engine returns.
 use std::prelude::*;
 
 use crate::outcome::Done;
@@ -9,7 +9,7 @@ use dvg_picture::{Outcome, Undrawn};
 use dvg_print::{BoundedVerdict, Verdict};
 use std::alloc::Allocator;
 
-/// What an engine answers, of which something is reported.
+/// What an engine returns, of which something is reported.
 pub(crate) trait Answer<A: Allocator> {
     /// Returns what is reported of it.
     fn done(self) -> Done<A>;

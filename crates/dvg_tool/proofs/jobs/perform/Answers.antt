@@ -18,7 +18,7 @@ use Rattle.dvg_tool.specs.Checks.{Checks, ChecksBound}
 use Rattle.dvg_tool.specs.Plays.{Plays}
 use Rattle.dvg_tool.specs.PlaysSvg.{PlaysSvg}
 use Rattle.dvg_tool.specs.Reports.{of_frames, of_made, of_bounded, of_log, of_moments, of_outcome, of_undrawn, of_verdict, written}
-use Rattle.dvg_tool.proofs.Reported.{reports, reports_at}
+use Rattle.dvg_tool.proofs.Reported.{reports, reports_at, taken_rightly}
 use Rattle.dvg_tool.proofs.jobs.perform.Goals as goal
 
 pub returns-in-List-clause-performs : goal.returns-in-List-clause-performs
@@ -121,3 +121,9 @@ pub returns-in-Lay-clause-performs : goal.returns-in-Lay-clause-performs
 returns-in-Lay-clause-performs g c =
     let asked : c.args.job ≡ Lay c.in-Lay.form = search rules in
     rw asked (reports of_made (Lays c.in-Lay.form) c.lay_sketch.result c.reported-in-Lay.result _ _ _ c.reported-in-Lay.ensures c.lay_sketch.ensures.means)
+
+pub returns-in-Torn-Halves-default-clause-took : goal.returns-in-Torn-Halves-default-clause-took
+returns-in-Torn-Halves-default-clause-took g c =
+    let asked : c.args.job ≡ Torn Halves c.in-Torn-Halves-default.base = search rules in
+    rw asked (taken_rightly c.in-Torn-Halves-default.base c.torn.result c.reported-in-Torn-Halves-default.result _ _ _ _ _
+    c.reported-in-Torn-Halves-default.ensures c.torn.ensures.tears c.torn.ensures.took)
