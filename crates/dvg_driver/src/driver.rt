@@ -176,7 +176,8 @@ impl Driver {
     }
 
     // Returns the next byte of a frame that the driver writes, with its address before it: it is
-    // written now. Returns `None` where no byte of a frame comes next, and then nothing has changed.
+    // written now. Returns `None` where no byte of a frame comes next, and then nothing has
+    // changed.
     #[inline(always)]
     fn next_byte(&mut self) -> Option<(u16, u8)>
         ensures given { IfSome result (WritesNext self.old self.new) }
@@ -231,7 +232,8 @@ impl Driver {
     // Goes on after the last byte of a frame, and returns what it did: it writes byte 000 where it
     // hasn't flipped since its reset, and otherwise it flips.
     fn end_frame(&mut self) -> Action
-        requires { self.old.place ≡ Writing (word_zero (other self.old.half) (not self.old.flipped)) }
+        requires { self.old.place
+            ≡ Writing (word_zero (other self.old.half) (not self.old.flipped)) }
         ensures stands { (peeked : ℕ) (life : List Item) → StandsAfter self.old peeked life →
             StandsAfter self.new peeked (Did result ∷ life) }
         ensures wrote { WritesWordZero result }
@@ -277,7 +279,7 @@ fn begin_first(cursor: &mut Option<Cursor>, checked: &Checked, half: Half)
         ≡ addressed (2 * base half) (bytes (laid half checked.now.operations)) }
     ensures in_ram { IsSomeAnd cursor.new (All IsBehindWordZero) }
 {
-    *cursor = Some(Cursor::new(checked, half));
+    *cursor = Some(Cursor::of(checked, half));
 }
 
 // Returns the next byte of `cursor`, which there must be, with its address before it, if one is

@@ -7,7 +7,7 @@ ghost use Rattle.dvg_frame.specs.own.Frames.{AreBytesOf};
 use crate::checked::Checked;
 use crate::counted::{COUNTS, Counted, put_words_before};
 use crate::draft::Draft;
-use crate::frame::spelling;
+use crate::frame::{Frame, spelling};
 use crate::word_bytes::WordBytes;
 use arrayvec::ArrayVec;
 use dvg_mem::Half;
@@ -55,9 +55,17 @@ impl Cursor {
     ghost use Rattle.dvg_frame.specs.Bytes.{IsBehindWordZero, addressed, bytes};
     ghost use Rattle.dvg_frame.specs.Layout.{laid};
 
+    /// Returns a cursor over the bytes of `frame`, laid out for `half`.
+    pub fn new(frame: Frame, half: Half) -> Cursor
+        ensures items { result ≡ addressed (2 * base half) (bytes (laid half frame.operations)) }
+        ensures in_ram { All IsBehindWordZero result }
+    {
+        Cursor::of(&frame.as_checked(), half)
+    }
+
     /// Returns a cursor over the bytes of `checked`, laid out for `half`. The operations are
-    /// copied.
-    pub fn new(checked: &Checked, half: Half) -> Cursor
+    /// copied: so a draft that is checked where it lies is copied once, into its cursor.
+    pub fn of(checked: &Checked, half: Half) -> Cursor
         ensures items { result
             ≡ addressed (2 * base half) (bytes (laid half checked.now.operations)) }
         ensures in_ram { All IsBehindWordZero result }

@@ -22,9 +22,10 @@ pub(crate) fn put_laid<A: Allocator>(
     frame: &Checked,
     half: Half,
 ) -> Result<(), AllocError>
-    ensures { OnOk result (text.new.items ≡ text.old.items ++ bytes (laid half frame.now.operations)) }
+    ensures { OnOk result (text.new.items
+        ≡ text.old.items ++ bytes (laid half frame.now.operations)) }
 {
-    for item in Cursor::new(frame, half) {
+    for item in Cursor::of(frame, half) {
         text.push(item.1)?;
     }
     Ok(())

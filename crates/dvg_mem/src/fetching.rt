@@ -7,12 +7,11 @@ use crate::areas::Area;
 use crate::rom::Rom;
 use crate::store::Store;
 use crate::{FIRST_LARGE_ROM_WORD, ROM_END};
-use std::alloc::Allocator;
 
 /// Returns a byte of the word at the word address `w`, which has 12 bits: the high byte where
 /// `high` is true, otherwise the low one. The word lies in `store`, the RAM, or in `rom`. Returns
 /// `None` exactly for a hole.
-pub fn fetch_byte<S: Store, A: Allocator>(store: &S, rom: &Rom<A>, w: u16, high: bool) -> Option<u8>
+pub fn fetch_byte<S: Store>(store: &S, rom: &Rom<S::Alloc>, w: u16, high: bool) -> Option<u8>
     requires { w ≤ 0xFFF }
     ensures byte { result ≡ fetched_byte (S.content store.now) rom.now w high }
     ensures hole { IsNone result ↔ IsInMap (first_word rom.now) Area.Hole w }
@@ -30,7 +29,7 @@ pub fn fetch_byte<S: Store, A: Allocator>(store: &S, rom: &Rom<A>, w: u16, high:
 
 /// Returns the word at the word address `w`, which has 12 bits, in `store`, the RAM, or in `rom`.
 /// Returns `None` exactly for a hole.
-pub fn fetch<S: Store, A: Allocator>(store: &S, rom: &Rom<A>, w: u16) -> Option<u16>
+pub fn fetch<S: Store>(store: &S, rom: &Rom<S::Alloc>, w: u16) -> Option<u16>
     requires { w ≤ 0xFFF }
     ensures word { result ≡ fetched (S.content store.now) rom.now w }
     ensures hole { IsNone result ↔ IsInMap (first_word rom.now) Area.Hole w }

@@ -53,7 +53,7 @@ fn gives(cursor: &mut Cursor, from: u16, bytes: &[u8]) -> bool {
 #[test]
 fn a_cursor_gives_the_bytes_of_a_frame(rt: HostRuntime) -> Result<(), Fail> {
     let rom = rom(rt.alloc(), &[0xD000, 0xB000])?;
-    let mut cursor = Cursor::new(&each_operation(&rom)?.as_checked(), Half::H1);
+    let mut cursor = Cursor::new(each_operation(&rom)?, Half::H1);
     assert!(rt; gives(&mut cursor, 0x402, &BYTES));
     Ok(())
 }
@@ -61,7 +61,7 @@ fn a_cursor_gives_the_bytes_of_a_frame(rt: HostRuntime) -> Result<(), Fail> {
 #[test]
 fn a_cursor_that_begins_anew_gives_the_new_frame(rt: HostRuntime) -> Result<(), Fail> {
     let rom = rom(rt.alloc(), &[0xD000, 0xB000])?;
-    let mut cursor = Cursor::new(&each_operation(&rom)?.as_checked(), Half::H1);
+    let mut cursor = Cursor::of(&each_operation(&rom)?.as_checked(), Half::H1);
     assert_eq!(rt; cursor.next(), Some((0x402, 0x00)));
     let short = behind_labs(0, 0, &[OpKind::Halt])?;
     let mut checker = Checker::new();

@@ -46,7 +46,7 @@ pub fn second_byte(frame: &Checked) -> Option<(u16, u8)>
     requires { frame.now.operations ≡ blank_frame }
     ensures { result ≡ Some (0x403, 0xA1) }
 {
-    let mut cursor = Cursor::new(frame, Half::H1);
+    let mut cursor = Cursor::of(frame, Half::H1);
     let _ = cursor.next();
     cursor.next()
 }
@@ -61,8 +61,8 @@ pub fn byte_of_a_jump(frame: &Frame, half: Half, k: u16) -> u8
 }
 
 /// A cursor over that `frame` in `half` gives all its bytes, each with its address.
-pub fn bytes_of_a_jump(frame: &Checked, half: Half) -> Cursor
-    requires { frame.now.operations ≡ jump_frame }
+pub fn bytes_of_a_jump(frame: Frame, half: Half) -> Cursor
+    requires { frame.operations ≡ jump_frame }
     ensures { result ≡ addressed (2 * base half) (jump_bytes half) }
 {
     Cursor::new(frame, half)
@@ -73,5 +73,5 @@ pub fn left_of_a_jump(frame: &Checked, half: Half) -> u16
     requires { frame.now.operations ≡ jump_frame }
     ensures { result ≡ 8 }
 {
-    Cursor::new(frame, half).left()
+    Cursor::of(frame, half).left()
 }

@@ -1,7 +1,7 @@
 use Rattle.std.proofs.Common.{◌∙◌, ap, length, refl}
 use Rattle.dvg_frame.specs.Layout.{laid}
 use Rattle.dvg_frame.proofs.Cursors.{begun, begun_items, in_ram}
-use Rattle.dvg_frame.proofs.cursor.Cursor.new.Goals as goal
+use Rattle.dvg_frame.proofs.cursor.Cursor.of.Goals as goal
 
 pub invariant_of-result : goal.invariant_of-result
 invariant_of-result c =
