@@ -15,7 +15,7 @@ ghost use Rattle.dvg_gen.specs.Moving.{AddsMoves, CompletesMove, IsMove, begins_
 ghost use Rattle.dvg_gen.specs.Obeyed.{IsLabs, Obeyed};
 ghost use Rattle.dvg_gen.specs.Run as spec;
 ghost use Rattle.dvg_gen.specs.Saved.{IsReturns, IsState, machine_of};
-ghost use Rattle.dvg_gen.specs.Told.{Told, Start, Reset, wants};
+ghost use Rattle.dvg_gen.specs.Told.{Drew, Told, Start, Reset, wants};
 ghost use Rattle.dvg_gen.specs.declared.TheConstants.{STACK_DEPTH};
 ghost use Rattle.dvg_gen.specs.declared.stroke.Stroke.{Stroke};
 
@@ -27,7 +27,7 @@ use crate::stroke::Stroke;
 use crate::taken::{GenFault, Step, Taken};
 use arrayvec::ArrayVec;
 use dvg_code::{Code, Instr, OutOfMemory, decode};
-use std::alloc::Allocator;
+use std::alloc::{Allocator, Global};
 use std::marker::Model;
 use std::mem;
 
@@ -37,7 +37,7 @@ use std::mem;
 /// A new one is halted, with the beam at 0, 0 and the global scale 0. Beam and scale are kept from
 /// run to run (this project's own choice).
 #[derive(Drop)]
-pub struct Generator<A: Allocator> {
+pub struct Generator<A: Allocator = Global> {
     alloc: A,
     is_open: bool,
     // Neither this nor the address lies at a multiple of four bytes. There the processor would have
@@ -79,8 +79,8 @@ impl<A: Allocator> Model for Generator<A> {
 }
 
 impl<A: Allocator + Copy> Generator<A> {
-    /// Returns a new generator, which is halted and has no picture. Its strokes will be in memory of
-    /// `alloc`.
+    /// Returns a new generator, which is halted and has no picture. Its strokes will be in memory
+    /// of `alloc`.
     pub fn new(alloc: A) -> Generator<A>
         ensures stands { HasTaken result [] None }
         ensures halted { result.is_open ≡ false }
@@ -168,8 +168,8 @@ impl<A: Allocator + Copy> Generator<A> {
         self.has_low.then_some(self.low)
     }
 
-    /// Returns the first word of an instruction whose second word comes next. It stays where the
-    /// run breaks there, until the next run.
+    /// Returns the first word of an instruction whose second word comes next, in an open run. Once
+    /// the run is over it means nothing.
     pub fn first_word(&self) -> Option<u16>
         ensures value { result ≡ self.now.held }
         ensures run { (history : List Told) (low : Option ℕ)
@@ -190,8 +190,7 @@ impl<A: Allocator + Copy> Generator<A> {
     }
 
     /// Returns the return addresses, at most four, the newest last. In an open run these are the
-    /// addresses past the calls that are still open. Where a run is over they stay until the next
-    /// one.
+    /// addresses past the calls that are still open. Once the run is over they mean nothing.
     pub fn return_addresses(&self) -> &[u16]
         ensures value { reverse result.now ≡ self.now.stack }
         ensures fits { length result.now ≤ STACK_DEPTH }
@@ -202,7 +201,7 @@ impl<A: Allocator + Copy> Generator<A> {
         self.stack.as_slice()
     }
 
-    /// Returns the strokes that the newest run drew so far, in the order drawn. There are none after
+    /// Returns the strokes that the open run drew so far, in the order drawn. There are none after
     /// a HALT, which makes the picture of them.
     pub fn strokes(&self) -> &[Stroke]
         ensures value { result.now ≡ self.now.strokes }
@@ -299,6 +298,8 @@ impl<A: Allocator + Copy> Generator<A> {
         ensures goes_on { IfOk result (λ taken. (self.new.is_open ≡ true)
             ↔ IsOnward (answer_of taken)) }
         ensures room { DrawsNothing self.old.held (met self.old.low byte) → IsOk result }
+        ensures strokes { IfOk result (λ taken. (strokes : List Stroke)
+            → answer_of taken ≡ Some (Drew strokes) → self.new.strokes ≡ []) }
         ensures refused { OnErr result (self.new ≡ self.old) }
     {
         match self.feed(byte) {
@@ -330,8 +331,8 @@ impl<A: Allocator + Copy> Generator<A> {
     }
 
     /// Brings the generator into `state`, with `strokes` as what its run drew so far, and returns
-    /// `true`. So it goes on as the one whose `state` and `strokes` these were; with no strokes,
-    /// those are missing where the run ends. The picture stays as it was. Returns `false` exactly
+    /// `true`. So it goes on as the one whose `state` and `strokes` these were. Nothing is said of a
+    /// run that goes on with other strokes. The picture stays as it was. Returns `false` exactly
     /// where `state` isn't valid, and then nothing has changed.
     pub fn resume(&mut self, state: &GeneratorState, strokes: Vec<Stroke, A>) -> bool
         ensures taken { IsTrue result ↔ IsState state.now }
