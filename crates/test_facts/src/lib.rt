@@ -13,6 +13,7 @@ pub mod frames;
 pub mod generator;
 pub mod instructions;
 pub mod judges;
+pub mod limits;
 pub mod memories;
 pub mod numbered;
 pub mod sketches;
