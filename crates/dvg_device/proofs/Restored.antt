@@ -14,7 +14,7 @@ use Rattle.dvg_code.specs.Spelling.{IsFirst}
 use Rattle.dvg_device.specs.Devices.{Answered, Generator, Held, ResumeAnswers}
 use Rattle.dvg_device.proofs.Parted.{all_reversed}
 use Rattle.dvg_device.proofs.Worded.{read_again}
-use Rattle.dvg_device.specs.Laws.{AllSuit, ToldInTurn, restored}
+use Rattle.dvg_device.specs.Laws.{AllSuit, Fits, ToldInTurn, restored}
 use Rattle.dvg_device.specs.States.{CanBeSaved, CanStand, TakesPart, drawing_parts, drawn_so_far, part_in, part_of_stroke}
 use Rattle.dvg_device.specs.States.{parts_of, stroke_parts, told, unbegun, word_of}
 use Rattle.dvg_device.specs.declared.reply.Reply.{Reply}
@@ -142,43 +142,44 @@ first_fits : (held : Option ℕ) → IfSome held IsFirst → IfSome held (λ wor
 first_fits None first = first
 first_fits (Some word) first = omega (arith, first)
 
-returns_read : (addresses : List ℕ) (rest : List StatePart) → AllByRecursion (λ address. address < 4096) addresses
-    → AllByRecursion IsRead rest → AllByRecursion IsRead (map ReturnAddress addresses ++ rest)
-returns_read [] rest all others = others
-returns_read (address ∷ addresses) rest all others =
+returns_fit : (addresses : List ℕ) (rest : List StatePart) → AllByRecursion (λ address. address < 4096) addresses
+    → AllByRecursion Fits rest → AllByRecursion Fits (map ReturnAddress addresses ++ rest)
+returns_fit [] rest all others = others
+returns_fit (address ∷ addresses) rest all others =
     let small = all.0 in
-    (read_again (ReturnAddress address) (omega (arith, small)), returns_read addresses rest all.1 others)
+    (omega (arith, small), returns_fit addresses rest all.1 others)
 
-place_read : (x y : ℕ) → x < 2097152 → y < 2097152 → IsRead (Place x y)
-place_read x y a b = read_again (Place x y) (omega (arith, a), omega (arith, b))
+place_fits : (x y : ℕ) → x < 2097152 → y < 2097152 → Fits (Place x y)
+place_fits x y a b = (omega (arith, a), omega (arith, b))
 
-strokes_read : (strokes : List Stroke) (x y : ℕ) → AllByRecursion IsStroke strokes → x < 2097152 → y < 2097152
-    → AllByRecursion IsRead (stroke_parts strokes ++ Place x y ∷ [])
-strokes_read [] x y all a b = (place_read x y a b, tt)
-strokes_read (stroke ∷ strokes) x y all a b =
+strokes_fit : (strokes : List Stroke) (x y : ℕ) → AllByRecursion IsStroke strokes → x < 2097152 → y < 2097152
+    → AllByRecursion Fits (stroke_parts strokes ++ Place x y ∷ [])
+strokes_fit [] x y all a b = (place_fits x y a b, tt)
+strokes_fit (stroke ∷ strokes) x y all a b =
     let x1 = all.0.2 in
     let y1 = all.0.3 in
     let z = all.0.5 in (
-      place_read stroke.x0 stroke.y0 all.0.0 all.0.1,
-      (
-        read_again (Line stroke.x1 stroke.y1 stroke.z) (omega (arith, x1), omega (arith, y1), omega (arith, z)),
-        strokes_read strokes x y all.1 a b,
-      ),
+      place_fits stroke.x0 stroke.y0 all.0.0 all.0.1,
+      ((omega (arith, x1), omega (arith, y1), omega (arith, z)), strokes_fit strokes x y all.1 a b),
     )
 
--- each part of a state that can be saved is read in its word
-all_read : (machine : Machine) → CanBeSaved machine → AllByRecursion IsRead (parts_of machine)
-all_read machine can =
+-- each part of a state that can be saved fits
+pub all_fit : (machine : Machine) → CanBeSaved machine → AllByRecursion Fits (parts_of machine)
+all_fit machine can =
     let kept = can.stands.kept in
     let beam = can.stands.beam in
     let at = kept.at_is_address in
     let addresses = all_reversed (λ address. address < 4096) machine.stack kept.stack_is_addresses in (
-      read_again (Fields machine.is_open machine.at machine.held machine.low machine.beam.scale)
-          (omega (arith, at), first_fits machine.held kept.held_is_first, can.byte, beam.scale_small),
-      returns_read (reverse machine.stack) (drawing_parts machine) (recursion_from_All _ _ addresses)
-          (strokes_read (drawn_so_far machine) machine.beam.x machine.beam.y (drawn_strokes machine can)
+      (omega (arith, at), first_fits machine.held kept.held_is_first, can.byte, beam.scale_small),
+      returns_fit (reverse machine.stack) (drawing_parts machine) (recursion_from_All _ _ addresses)
+          (strokes_fit (drawn_so_far machine) machine.beam.x machine.beam.y (drawn_strokes machine can)
           beam.x_inside beam.y_inside),
     )
+
+-- parts that fit are read in their words
+read_by : (parts : List StatePart) → AllByRecursion Fits parts → AllByRecursion IsRead parts
+read_by [] all = tt
+read_by (part ∷ parts) all = (read_again part all.0, read_by parts all.1)
 
 -- where a generator can stand so, it begins
 opened : (between new : Held) (reply : Reply) → CanStand between.waiting → ResumeAnswers between new reply
@@ -198,7 +199,7 @@ pub resumed : (machine : Machine) (old between new : Held) (reply : Reply) → C
     × (new ≡ record old { waiting = unbegun; open_part = Generator (restored machine) })
 resumed machine old between new reply can in_turn answers =
     let is : between ≡ record old { waiting = restored machine } =
-    told_parts (parts_of machine) old between (all_read machine can) in_turn
+    told_parts (parts_of machine) old between (read_by (parts_of machine) (all_fit machine can)) in_turn
     ∙ ap (λ waiting. record old { waiting = waiting }) (told_machine machine old.waiting) in
     let there = ap (λ held. held.waiting) is in
     let stands = subst CanStand (sym there) (restored_stands machine can.stands) in

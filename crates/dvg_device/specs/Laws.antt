@@ -1,5 +1,6 @@
 -- Laws of the numbers of replies, and of saved states.
-use Rattle.std.specs.Prelude.{◌≡◌, ◌<◌, ◌+◌, ◌*◌, ◌/◌, ◌%◌, ◌^◌, ℕ, Bool, List, [], ◌∷◌, map, Option, Some, IfSome}
+use Rattle.std.specs.Prelude.{◌≡◌, ◌<◌, ◌+◌, ◌*◌, ◌/◌, ◌%◌, ◌^◌, ℕ, Bool, List, [], ◌∷◌, map, All, Option}
+use Rattle.std.specs.Prelude.{Some, IfSome}
 use Rattle.dvg_gen.specs.Machine.{Machine, HasTaken}
 use Rattle.dvg_gen.specs.Told.{Told}
 use Rattle.dvg_log.specs.declared.entry.Entry.TheVariants.{Cleared}
@@ -44,6 +45,10 @@ IsReadAgain = (part : StatePart) → Fits part → part_in (word_of part) ≡ So
 -- the number of the reply that tells a part is the request that tells it
 abbrev pub IsPassedOn : Type 0
 IsPassedOn = (part : StatePart) → Fits part → request_of (number_of (State (word_of part))) ≡ TellState (word_of part)
+
+-- each part of a state that can be saved fits
+abbrev pub AllFit : Type 0
+AllFit = (machine : Machine) → CanBeSaved machine → All Fits (parts_of machine)
 
 -- parts suit, each after those before it
 abbrev pub AllSuit : List StatePart → Machine → Type 0

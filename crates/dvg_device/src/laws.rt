@@ -1,5 +1,5 @@
 //! Laws of the definitions alone. Each is the contract of a function that does nothing.
-ghost use Rattle.dvg_device.specs.Laws.{GoesOn, IsNeverRefused, IsPassedOn, IsReadAgain};
+ghost use Rattle.dvg_device.specs.Laws.{AllFit, GoesOn, IsNeverRefused, IsPassedOn, IsReadAgain};
 ghost use Rattle.dvg_device.specs.Laws.{IsRestored, OnwardTakenApart, TakenApart};
 
 /// The number of a reply that has a kind, and isn't `Onward`, gives back the kind by its lowest
@@ -16,10 +16,12 @@ pub fn onward_taken_apart()
 {}
 
 /// A part of a state whose fields fit into its word is read in it again, and the number of the
-/// reply that tells it is the request by which another device is told it.
+/// reply that tells it is the request by which another device is told it. Each part of a state that
+/// can be saved fits so.
 pub fn parts_are_passed_on()
     ensures read { IsReadAgain }
     ensures passed { IsPassedOn }
+    ensures fit { AllFit }
 {}
 
 /// A device that takes all parts of a generator's state in turn, and resumes, opens a generator
