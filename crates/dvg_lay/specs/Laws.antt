@@ -1,5 +1,5 @@
 -- Laws of what is laid out.
-use Rattle.std.specs.Prelude.{◌≡◌, ℕ, ◌<◌, ◌^◌, List, [], ◌∷◌, All, Some, length, slice_get, take}
+use Rattle.std.specs.Prelude.{◌≡◌, ℕ, ◌<◌, ◌^◌, List, [], ◌∷◌, All, Some, length, map, slice_get, take}
 use Rattle.dvg_code.specs.Cutting.{Cutting, Placed}
 use Rattle.dvg_code.specs.Spelling.{canon}
 use Rattle.dvg_code.specs.Words.{words_of}
@@ -10,9 +10,12 @@ use Rattle.dvg_frame.specs.declared.op.OpKind.TheVariants.{Call, Jump}
 use Rattle.dvg_frame.specs.Bytes.{bytes}
 use Rattle.dvg_frame.specs.Layout.{laid, op_code, size}
 use Rattle.dvg_frame.specs.Ops.{IsDraft}
+use Rattle.dvg_named.specs.ReadSketches.{IsSketchOf, lent_of}
 use Rattle.dvg_named.specs.declared.meaning.NamedFrame.{NamedFrame}
+use Rattle.dvg_named.specs.declared.meaning.RomName.{RomName}
 use Rattle.dvg_read.specs.DraftReading.{Gives}
 use Rattle.dvg_lay.specs.Drafts.{drafts_text}
+use Rattle.dvg_lay.specs.Refusals.{IsLent}
 
 -- an operation of a draft as an instruction at a place, with its canonical words for a half
 abbrev pub op_at : Half → List OpKind → ℕ → OpKind → Placed
@@ -46,3 +49,8 @@ IsNumbered op = Unit {0}
 abbrev pub ReadAsDraft : Type 0
 ReadAsDraft = (R : List ℕ) (frame : NamedFrame) → IsRom R → IsDraft frame.ops.now → All IsNumbered frame.ops.now
     → Gives (drafts_text R (frame ∷ [])) frame.ops.now R
+
+-- the frames of a sketch that was read are as they are to be lent
+abbrev pub AreLent : Type 0
+AreLent = (text R : List ℕ) (names : List RomName) (frames : List NamedFrame)
+    → IsSketchOf text R names (map lent_of frames) → All IsLent frames

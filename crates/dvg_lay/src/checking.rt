@@ -3,8 +3,9 @@ ghost use Rattle.std.specs.Prelude.{◌≡◌, ◌<◌, ◌↔◌, All, IfErr, I
 ghost use Rattle.std.specs.Prelude.{option_map};
 ghost use Rattle.dvg_frame.specs.Picture.{IsBound};
 ghost use Rattle.dvg_lay.specs.Refusals.{Blames, IsFault, IsFirst, IsFirstLow, IsGood, IsLent};
-ghost use Rattle.dvg_lay.specs.Refusals.{IsNameBefore, IsNearer, NamesHighRom, IsUnlaid, NamesBefore};
-ghost use Rattle.dvg_lay.specs.Refusals.{NamesHighWord, TellsFault, TellsLow, line_of, place_of};
+ghost use Rattle.dvg_lay.specs.Refusals.{IsNameBefore, IsNearer, IsUnlaid, NamesBefore};
+ghost use Rattle.dvg_lay.specs.Refusals.{NamesHighRom, NamesHighWord, TellsFault, TellsLow};
+ghost use Rattle.dvg_lay.specs.Refusals.{line_of, place_of};
 
 use crate::refusal::{Blamed, Reason, Refusal, Unlaid};
 use crate::said::said;

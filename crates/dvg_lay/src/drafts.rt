@@ -1,5 +1,6 @@
 //! Frames as drafts without names, and the lines of their ROM.
-ghost use Rattle.std.specs.Prelude.{◌≡◌, ◌<◌, ◌++◌, ◌∷◌, flat_map, IfOk, OnOk, codes, decimal, length};
+ghost use Rattle.std.specs.Prelude.{◌≡◌, ◌<◌, ◌++◌, ◌∷◌, IfOk, OnOk, codes, decimal};
+ghost use Rattle.std.specs.Prelude.{flat_map, length};
 ghost use Rattle.std.specs.Fmt.{signed_decimal};
 ghost use Rattle.dvg_print.specs.Lines.{hex_3, map_text};
 ghost use Rattle.dvg_lay.specs.Drafts.{draft_line, draft_lines, drafts_text, drawing_text};
