@@ -35,7 +35,7 @@ const OTHERS: [(&str, &str); 4] = [
     (".frame", "or .frame NAME"),
     (
         ".rom",
-        "or .rom HHH: HHH 800 to BFF, or 400 to BFF after map 4096",
+        "or .rom HHH: HHH 800 to C00, or 400 to C00 after map 4096",
     ),
     ("map", "2048 or map 4096, before all other lines"),
     (

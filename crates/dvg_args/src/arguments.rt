@@ -3,7 +3,8 @@ ghost use Rattle.std.specs.Prelude.{◌≡◌, IfErr, IfOk, IfSome, IsNone, Some
 ghost use Rattle.dvg_args.specs.Options.{Refuses};
 ghost use Rattle.dvg_args.specs.Arguments.{IsJob, IsJobName, IsPlainName, TakesArguments};
 ghost use Rattle.dvg_args.specs.Arguments.{arguments_fault, dvg_app, options_fault};
-ghost use Rattle.clap.specs.Words.{FailsBy, fault_of, found_of, has_subcommand, kind_of, rows_of, subcommand_name_of, subcommand_of, subcommand_rows_of, takes};
+ghost use Rattle.clap.specs.Words.{FailsBy, fault_of, found_of, has_subcommand, kind_of, rows_of};
+ghost use Rattle.clap.specs.Words.{subcommand_name_of, subcommand_of, subcommand_rows_of, takes};
 
 use crate::command::command;
 use crate::drawing::{list_job, picture_job, play_job, render_job};

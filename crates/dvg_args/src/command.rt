@@ -4,7 +4,8 @@ ghost use Rattle.clap.specs.Words.{app_of, new_app, rule_of, with_rule, with_sub
 ghost use Rattle.clap.specs.declared.builder.command.Command.TheViews.{out-Command as fields_of};
 ghost use Rattle.dvg_args.specs.Arguments as spec;
 ghost use Rattle.dvg_args.specs.Arguments.{check_app, dvg_app, flag, lay_app, list_app};
-ghost use Rattle.dvg_args.specs.Arguments.{picture_app, play_app, program_app, render_app, torn_app, valued};
+ghost use Rattle.dvg_args.specs.Arguments.{picture_app, play_app, program_app, render_app};
+ghost use Rattle.dvg_args.specs.Arguments.{torn_app, valued};
 
 use crate::help;
 use clap::{Arg, ArgAction, Command};

@@ -1,7 +1,8 @@
 //! What the options of `lay` ask for. They exclude each other, which is this project's own choice.
 ghost use Rattle.std.specs.Prelude.{◌≡◌, IfOk, Some, codes, option_map};
 ghost use Rattle.clap.specs.Words.{found_of, rows_of};
-ghost use Rattle.dvg_args.specs.Options.{Refuses, form_by, form_of, given_count, half_form, lay_fault};
+ghost use Rattle.dvg_args.specs.Options.{Refuses, form_by, form_of, given_count, half_form};
+ghost use Rattle.dvg_args.specs.Options.{lay_fault};
 ghost use Rattle.dvg_args.specs.Arguments.{IsJob};
 
 use crate::options::is_set;

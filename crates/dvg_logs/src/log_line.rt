@@ -136,8 +136,8 @@ fn lowered(address: u16, base: u16) -> Option<u16>
     Some(address - base)
 }
 
-// Returns the byte address and the byte that `bytes` spell, at an address of the processor. That has
-// the RAM from `base` on.
+// Returns the byte address and the byte that `bytes` spell, at an address of the processor. That
+// has the RAM from `base` on.
 fn based(bytes: &[u8], base: u16) -> Option<(u16, u16)>
     ensures found { IfSome result (λ w. AreNumbers 4 2 (base + w.0) w.1 bytes.now) }
     ensures only { (address byte : ℕ) → AreNumbers 4 2 (base + address) byte bytes.now

@@ -1,5 +1,6 @@
 //! The frames among the sections of a sketch.
-ghost use Rattle.std.specs.Prelude.{◌≡◌, ◌≢◌, ◌<◌, ◌++◌, ◌∷◌, [], All, AllPairs, IfOk, List, None, OnOk, map, ℕ};
+ghost use Rattle.std.specs.Prelude.{◌≡◌, ◌≢◌, ◌<◌, ◌++◌, ◌∷◌, [], ℕ, All, AllPairs, IfOk, List};
+ghost use Rattle.std.specs.Prelude.{None, OnOk, map};
 ghost use Rattle.std.specs.List.{filter_map};
 ghost use Rattle.dvg_read.specs.RomTexts.{RomText};
 ghost use Rattle.dvg_named.specs.FrameValues.{BeginsBefore, BeginsFirst, IsBegunAt, IsFrameAt};

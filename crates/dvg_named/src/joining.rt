@@ -1,5 +1,6 @@
 //! The drafts of all frames, with their operations in one list.
-ghost use Rattle.std.specs.Prelude.{◌≡◌, ◌≤◌, ◌++◌, ◌-◌, ◌^◌, All, IfErr, IfOk, List, OnOk, length, min};
+ghost use Rattle.std.specs.Prelude.{◌≡◌, ◌≤◌, ◌++◌, ◌-◌, ◌^◌, All, IfErr, IfOk, List, OnOk};
+ghost use Rattle.std.specs.Prelude.{length, min};
 ghost use Rattle.std.specs.List.{AllZip, sum_by};
 ghost use Rattle.dvg_frame.specs.declared.op.OpKind.{OpKind as Kind};
 ghost use Rattle.dvg_named.specs.FlatDrafts.{StopsDraft};

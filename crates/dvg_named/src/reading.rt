@@ -65,8 +65,8 @@ impl<'a, A: Allocator + Copy> Reading<'a, A> {
     ghost use Rattle.dvg_rows.specs.PlainLines.{plain};
     ghost use Rattle.dvg_named.specs.TextReading.{ReadsText};
     ghost use Rattle.dvg_named.specs.SketchSteps.{AreParts, line_of};
-    ghost use Rattle.dvg_named.specs.SourcedRows.{AreSourced, BeginsFrame, BeginsIn, IsHeadAt, IsLineAt};
-    ghost use Rattle.dvg_named.specs.SourcedRows.{IsRowAt, SourcesLine};
+    ghost use Rattle.dvg_named.specs.SourcedRows.{AreSourced, BeginsFrame, BeginsIn, IsHeadAt};
+    ghost use Rattle.dvg_named.specs.SourcedRows.{IsLineAt, IsRowAt, SourcesLine};
     ghost use Rattle.dvg_named.specs.LineNumbers.{EntersRow, KeepsEntries, Numbers, entries_in};
     ghost use Rattle.dvg_named.specs.LineNumbers.{head_at_top};
     ghost use Rattle.std.specs.Prelude.{None, IfNone, IfSome, map};

@@ -1,6 +1,7 @@
 //! What `torn` says of a log.
 ghost use Rattle.std.specs.Prelude.{◌≡◌, ◌≤◌, ◌+◌, ◌++◌, length};
-ghost use Rattle.dvg_print.specs.LogVerdicts.{finding_text, halts_text, log_verdict_text, runs_text};
+ghost use Rattle.dvg_print.specs.LogVerdicts.{finding_text, halts_text, log_verdict_text};
+ghost use Rattle.dvg_print.specs.LogVerdicts.{runs_text};
 ghost use Rattle.dvg_print.specs.declared.line.TheConstants.{MOST_BYTES};
 
 use crate::line::Line;

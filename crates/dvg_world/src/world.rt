@@ -212,7 +212,8 @@ impl<S: Store> World<S> {
     #[inline(always)]
     pub fn offer(&mut self, draft: &Draft) -> Entry<()>
         ensures stands { AddsLine self.old (Offer draft.now) (shown_in self.new result) self.new }
-        ensures headline { KeepsHeadlineAfter self.old (Offer draft.now) (shown_in self.new result) }
+        ensures headline { KeepsHeadlineAfter self.old (Offer draft.now)
+            (shown_in self.new result) }
         ensures picture { self.new.machine.picture ≡ self.old.machine.picture }
         ensures same { ChangesNothing result → self.new ≡ self.old }
     {
@@ -394,7 +395,8 @@ impl<S: Store> World<S> {
     /// the entry.
     #[inline(always)]
     pub fn reset_all(&mut self, image: &Image<S::Alloc>) -> Entry<()>
-        ensures stands { AddsLine self.old (ResetAll image.now) (shown_in self.new result) self.new }
+        ensures stands { AddsLine self.old (ResetAll image.now)
+            (shown_in self.new result) self.new }
         ensures headline { KeepsHeadlineAfter self.old (ResetAll image.now)
             (shown_in self.new result) }
         ensures picture { self.new.machine.picture ≡ self.old.machine.picture }

@@ -73,8 +73,8 @@ const SHOW: Show = Show {
     rate: 30,
 };
 
-/// The first bytes of a dump: a LABS, a vector that isn't seen, one that is, and the low byte of the
-/// word after them.
+/// The first bytes of a dump: a LABS, a vector that isn't seen, one that is, and the low byte of
+/// the word after them.
 const DUMP: [u8; 11] = [
     0x08, 0xA0, 0x08, 0x00, 0x01, 0x80, 0x01, 0x00, 0x1A, 0xF1, 0x00,
 ];
@@ -115,8 +115,8 @@ const SKETCH: &str = "labs 0 0 0\nhalt\n.frame b\nlabs 0 0 0\nhalt\n";
 
 const REFUSED_SKETCH: &str = "labs 0 0 0\na: call a\nhalt\n";
 
-/// Returns a dump whose run makes three moves, the last of which is seen, and then comes to the word
-/// of the high byte `last`.
+/// Returns a dump whose run makes three moves, the last of which is seen, and then comes to the
+/// word of the high byte `last`.
 pub fn moving_dump(alloc: Global, last: u8) -> Result<Vec<u8>, Fail> {
     let mut bytes = Vec::new(alloc);
     bytes.extend_from_slice(DUMP.as_slice())?;
