@@ -54,7 +54,7 @@ pub static FORMS: [Form; 13] = [
     },
     Form {
         token: ".rom",
-        expected: ".rom or .rom HHH: HHH 800 to BFF, or 400 to BFF after map 4096",
+        expected: ".rom or .rom HHH: HHH 800 to C00, or 400 to C00 after map 4096",
     },
     Form {
         token: "map",

@@ -19,7 +19,7 @@ Exit status:
    0  done, or a help text or the version that was asked for
    1  a fault of the input, or what was asked about isn't good: a draft that may
       not be drawn, also in a sketch, a dump that draws no picture, a log with a
-      torn picture, or one that says too little
+      torn picture, one that contradicts itself, or one that says too little
    2  a failing read or write, or out of memory
   64  arguments that ask for nothing the program can do: a file is no argument,
       it is read by `<`

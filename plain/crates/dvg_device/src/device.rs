@@ -21,7 +21,7 @@ use std::alloc::Global;
 use std::mem;
 
 /// The most bytes that are staged: those of a RAM, and of the larger ROM.
-const MOST_STAGED: usize = MEMORY_BYTES + LARGE_ROM_BYTES;
+pub const MOST_STAGED: usize = MEMORY_BYTES + LARGE_ROM_BYTES;
 
 /// What is open.
 pub(crate) enum Part {

@@ -33,7 +33,7 @@ mod state;
 mod waiting;
 mod wrapping;
 
-pub use device::Device;
+pub use device::{Device, MOST_STAGED};
 pub use judging::JudgeLine;
 pub use operation::Operation;
 pub use reply::{Reply, RunState};

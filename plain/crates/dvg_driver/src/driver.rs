@@ -112,7 +112,8 @@ impl Driver {
     }
 
     // Returns the next byte of a frame that the driver writes, with its address before it: it is
-    // written now. Returns `None` where no byte of a frame comes next, and then nothing has changed.
+    // written now. Returns `None` where no byte of a frame comes next, and then nothing has
+    // changed.
     #[inline(always)]
     fn next_byte(&mut self) -> Option<(u16, u8)> {
         match self.phase {
@@ -184,7 +185,7 @@ fn begin(cursor: &mut Option<Cursor>, checked: &Checked, half: Half) {
 // new cursor would be cleared for each frame.
 #[inline(never)]
 fn begin_first(cursor: &mut Option<Cursor>, checked: &Checked, half: Half) {
-    *cursor = Some(Cursor::new(checked, half));
+    *cursor = Some(Cursor::of(checked, half));
 }
 
 // Returns the next byte of `cursor`, which there must be, with its address before it, if one is

@@ -2,7 +2,7 @@
 use crate::checked::Checked;
 use crate::counted::{COUNTS, Counted, put_words_before};
 use crate::draft::Draft;
-use crate::frame::spelling;
+use crate::frame::{Frame, spelling};
 use crate::word_bytes::WordBytes;
 use arrayvec::ArrayVec;
 use dvg_mem::Half;
@@ -31,9 +31,14 @@ pub struct Cursor {
 }
 
 impl Cursor {
+    /// Returns a cursor over the bytes of `frame`, laid out for `half`.
+    pub fn new(frame: Frame, half: Half) -> Cursor {
+        Cursor::of(&frame.as_checked(), half)
+    }
+
     /// Returns a cursor over the bytes of `checked`, laid out for `half`. The operations are
-    /// copied.
-    pub fn new(checked: &Checked, half: Half) -> Cursor {
+    /// copied: so a draft that is checked where it lies is copied once, into its cursor.
+    pub fn of(checked: &Checked, half: Half) -> Cursor {
         let left = 2 * checked.len_words();
         Cursor {
             draft: checked.to_draft(),

@@ -9,7 +9,7 @@ use crate::stroke::Stroke;
 use crate::taken::{GenFault, Step, Taken};
 use arrayvec::ArrayVec;
 use dvg_code::{Code, Instr, OutOfMemory, decode};
-use std::alloc::Allocator;
+use std::alloc::{Allocator, Global};
 use std::mem;
 
 /// The vector generator, which is handed one byte a call: the low byte of a word, and then its high
@@ -18,7 +18,7 @@ use std::mem;
 /// A new one is halted, with the beam at 0, 0 and the global scale 0. Beam and scale are kept from
 /// run to run (this project's own choice).
 #[derive(Clone, Debug)]
-pub struct Generator<A: Allocator> {
+pub struct Generator<A: Allocator = Global> {
     alloc: A,
     is_open: bool,
     // Neither this nor the address lies at a multiple of four bytes. There the processor would have
@@ -39,8 +39,8 @@ pub struct Generator<A: Allocator> {
 }
 
 impl<A: Allocator + Copy> Generator<A> {
-    /// Returns a new generator, which is halted and has no picture. Its strokes will be in memory of
-    /// `alloc`.
+    /// Returns a new generator, which is halted and has no picture. Its strokes will be in memory
+    /// of `alloc`.
     pub fn new(alloc: A) -> Generator<A> {
         Generator {
             alloc,
@@ -97,8 +97,8 @@ impl<A: Allocator + Copy> Generator<A> {
         self.has_low.then_some(self.low)
     }
 
-    /// Returns the first word of an instruction whose second word comes next. It stays where the
-    /// run breaks there, until the next run.
+    /// Returns the first word of an instruction whose second word comes next, in an open run. Once
+    /// the run is over it means nothing.
     pub fn first_word(&self) -> Option<u16> {
         self.held
     }
@@ -109,13 +109,12 @@ impl<A: Allocator + Copy> Generator<A> {
     }
 
     /// Returns the return addresses, at most four, the newest last. In an open run these are the
-    /// addresses past the calls that are still open. Where a run is over they stay until the next
-    /// one.
+    /// addresses past the calls that are still open. Once the run is over they mean nothing.
     pub fn return_addresses(&self) -> &[u16] {
         self.stack.as_slice()
     }
 
-    /// Returns the strokes that the newest run drew so far, in the order drawn. There are none after
+    /// Returns the strokes that the open run drew so far, in the order drawn. There are none after
     /// a HALT, which makes the picture of them.
     pub fn strokes(&self) -> &[Stroke] {
         self.strokes.as_slice()
@@ -197,8 +196,8 @@ impl<A: Allocator + Copy> Generator<A> {
     }
 
     /// Brings the generator into `state`, with `strokes` as what its run drew so far, and returns
-    /// `true`. So it goes on as the one whose `state` and `strokes` these were; with no strokes,
-    /// those are missing where the run ends. The picture stays as it was. Returns `false` exactly
+    /// `true`. So it goes on as the one whose `state` and `strokes` these were. Nothing is said of a
+    /// run that goes on with other strokes. The picture stays as it was. Returns `false` exactly
     /// where `state` isn't valid, and then nothing has changed.
     pub fn resume(&mut self, state: &GeneratorState, strokes: Vec<Stroke, A>) -> bool {
         if !state.is_valid() {

@@ -2,7 +2,7 @@
 use std::prelude::*;
 
 use crate::stroke::Stroke;
-use std::alloc::Allocator;
+use std::alloc::{Allocator, Global};
 use thiserror::Error;
 
 /// Why a run broke. That each of these stops the run is this project's own choice.
@@ -48,7 +48,7 @@ pub enum Step {
 /// What a fetch led to, with the strokes of a finished run.
 #[derive(Debug)]
 #[derive(Clone)]
-pub enum Taken<A: Allocator> {
+pub enum Taken<A: Allocator = Global> {
     /// That was the low byte of a word, whose high byte comes next.
     Low,
     /// The word is complete, and the run goes on.

@@ -6,26 +6,26 @@ use crate::generator::Generator;
 use crate::stroke::Stroke;
 use crate::taken::Step;
 use dvg_code::OutOfMemory;
-use std::alloc::Allocator;
+use std::alloc::{Allocator, Global};
 
 /// A generator whose stack wraps, for whoever compares with hardware or an emulator that goes on: a
 /// fifth call overwrites the oldest return address, and a return without a call goes to whatever a
-/// register holds. Everything else is as with `Generator`, whose rules the rest of this project has.
+/// register holds. All else is as with `Generator`, whose rules the rest of this project has.
 ///
 /// The stack is four registers in a circle, round which a counter of two bits goes. A call writes
 /// the address of the next word into the oldest one, and a return goes to the newest one, which is
 /// the oldest then. That the stack wraps silently is how a common arcade emulator has it; that the
 /// registers are 0 at first, and stay at a start and at a reset, is this project's own choice.
 #[derive(Clone, Debug)]
-pub struct WrappingGenerator<A: Allocator> {
+pub struct WrappingGenerator<A: Allocator = Global> {
     generator: Generator<A>,
     // The newest first.
     registers: [u16; STACK_DEPTH],
 }
 
 impl<A: Allocator + Copy> WrappingGenerator<A> {
-    /// Returns a new generator, which is halted and has no picture. Its strokes will be in memory of
-    /// `alloc`.
+    /// Returns a new generator, which is halted and has no picture. Its strokes will be in memory
+    /// of `alloc`.
     pub fn new(alloc: A) -> WrappingGenerator<A> {
         WrappingGenerator {
             generator: Generator::new(alloc),

@@ -1,11 +1,11 @@
-//! What is made of a sketch. Its frames are laid out: as their bytes in a half of the vector RAM, or
-//! as tables for an assembler; so are the bytes of its ROM, and the names of that. Or its frames are
-//! written as drafts without names, or drawn, as SVG. Or the check tells of each, and its picture's
-//! time (all formats are this project's own choice).
+//! What is made of a sketch. Its frames are laid out: as their bytes in a half of the vector RAM,
+//! or as tables for an assembler; so are the bytes of its ROM, and the names of that. Or its frames
+//! are written as drafts without names, or drawn, as SVG. Or the check tells of each, and its
+//! picture's time (all formats are this project's own choice).
 //!
-//! But for drafts, each frame is checked first. A refused one is named by its line of the sketch, or
-//! by a word of the ROM. What is laid out is made in memory, so that it can be written whole. A frame
-//! is drawn by a run of the generator over a memory that has it.
+//! But for drafts, each frame is checked first. A refused one is named by its line of the sketch,
+//! or by a word of the ROM. What is laid out is made in memory, so that it can be written whole. A
+//! frame is drawn by a run of the generator over a memory that has it.
 #![no_std]
 
 extern crate plain_std as std;

@@ -17,7 +17,7 @@ pub(crate) fn put_laid<A: Allocator>(
     frame: &Checked,
     half: Half,
 ) -> Result<(), AllocError> {
-    for item in Cursor::new(frame, half) {
+    for item in Cursor::of(frame, half) {
         text.push(item.1)?;
     }
     Ok(())

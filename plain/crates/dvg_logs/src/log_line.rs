@@ -105,8 +105,8 @@ fn lowered(address: u16, base: u16) -> Option<u16> {
     Some(address - base)
 }
 
-// Returns the byte address and the byte that `bytes` spell, at an address of the processor. That has
-// the RAM from `base` on.
+// Returns the byte address and the byte that `bytes` spell, at an address of the processor. That
+// has the RAM from `base` on.
 fn based(bytes: &[u8], base: u16) -> Option<(u16, u16)> {
     let (address, byte) = numbers(bytes, 4, 2)?;
     let within = lowered(address, base)?;

@@ -71,10 +71,10 @@ impl<A: Allocator + Copy> Engine<A> for PictureEngine {
 /// - `broke`: with the address of the fetch and the fault's number.
 /// - `endless`: there is neither within 65,536 words.
 ///
-/// Before that it writes what `form` asks for. With `all` these are a line for each instruction that
-/// was run, with the beam after it, and then the line of its stroke. With `moves` it is a line for
-/// each move: the address of its instruction, from where to where it led, and its intensity. Of a
-/// run that is no picture these go up to its last whole instruction. With `units` moves, and the
+/// Before that it writes what `form` asks for. With `all` these are a line for each instruction
+/// that was run, with the beam after it, and then the line of its stroke. With `moves` it is a line
+/// for each move: the address of its instruction, from where to where it led, and its intensity. Of
+/// a run that is no picture these go up to its last whole instruction. With `units` moves, and the
 /// strokes of a picture, are in whole screen units, and else in 1/512. Returns which of the three
 /// it was. The faults:
 ///

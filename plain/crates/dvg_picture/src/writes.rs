@@ -41,8 +41,8 @@ fn write_trace<W: Write>(trace: &[Ran], writer: &mut Watched<W>) -> Result<(), S
     Ok(())
 }
 
-// Writes the lines of `strokes`, which a run drew, to `writer`, or with `units` those of the strokes
-// of `trace`, its instructions, in whole units. These may be made in `line`.
+// Writes the lines of `strokes`, which a run drew, to `writer`, or with `units` those of the
+// strokes of `trace`, its instructions, in whole units. These may be made in `line`.
 fn write_drawn<W: Write>(
     line: &mut Line,
     trace: &[Ran],

@@ -38,15 +38,16 @@ pub enum TextFault {
     /// The line of this number, counted from 1, gives a name that a line before it gave.
     #[error("name given again at line {0}")]
     NameGivenAgain(usize),
-    /// The line of this number, counted from 1, begins a section at no word of the ROM, or lays an
-    /// operation past the ROM's end.
+    /// The line of this number, counted from 1, begins a section before the ROM or past C00, its
+    /// end, or lays an operation past that.
     #[error("out of rom at line {0}")]
     OutOfRom(usize),
     /// The line of this number, counted from 1, lays an operation on a word of another section of
     /// the ROM.
     #[error("overlap at line {0}")]
     Overlap(usize),
-    /// The line of this number, counted from 1, needs a name that no line gives.
+    /// The line of this number, counted from 1, needs a name that isn't given where it is looked
+    /// for: in its own frame, or in the ROM.
     #[error("unknown name at line {0}")]
     UnknownName(usize),
 }
@@ -77,7 +78,7 @@ pub enum LineFault {
     /// It gives a name that was given before.
     #[error("the line gives a name that was given before")]
     NameGivenAgain,
-    /// It begins a section at no word of the ROM, or lays an operation past the ROM's end.
+    /// It begins a section before the ROM or past its end, or lays an operation past that.
     #[error("the line lays nothing at a word of the ROM")]
     OutOfRom,
     /// It lays an operation on a word on which another section lies.

@@ -32,7 +32,7 @@ pub use dvg_picture::{Outcome, Undrawn, picture};
 pub use dvg_print::{BoundedVerdict, Verdict};
 pub use dvg_read::{MOST_TEXT_BYTES, TextFault};
 pub use jobs::perform;
-pub use lists::list;
+pub use lists::{MOST_LIST_BYTES, list};
 pub use outcome::{Done, finish, status};
 pub use plays::{play, play_in};
 pub use roms::rom_text;

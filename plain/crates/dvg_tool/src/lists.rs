@@ -9,7 +9,7 @@ use std::io::{Read, Write};
 
 /// The most bytes that `list` takes as its input: 4,096 words, all that an address of 12 bits names
 /// (this project's own choice).
-pub(crate) const MOST_LIST_BYTES: usize = 8192;
+pub const MOST_LIST_BYTES: usize = 8192;
 
 // Whether `words` begin with `spelled`. An instruction has one word or two: these are compared as
 // words, which takes less time than a comparison of their bytes.

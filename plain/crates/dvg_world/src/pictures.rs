@@ -72,8 +72,8 @@ impl<S: Store> Keeper<S> for PicturesKept<S::Alloc> {
 ///
 /// The list of pictures is grown once, for as many as there are events, before the first happens.
 ///
-/// A draft is checked only where the driver is idle, and at most twice where it is offered many
-/// times in a row. Any other offer is refused, or the driver is busy: nothing changes, and no picture comes.
+/// A draft is checked only where the driver is idle. Where the driver is busy or refuses it, an
+/// offer changes nothing.
 pub fn draw_trace<S: Store>(
     alloc: S::Alloc,
     rom: Rom<S::Alloc>,
