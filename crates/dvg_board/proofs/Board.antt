@@ -22,7 +22,6 @@ use Rattle.dvg_core.specs.Core.{Core, Pins, halted}
 use Rattle.dvg_core.specs.Core as cells
 use Rattle.dvg_core.specs.Refines.{ArePins, byte_of}
 use Rattle.dvg_core.specs.Refines as core
-use Rattle.dvg_core.specs.Shown.{says}
 use Rattle.dvg_core.proofs.Fitting.{Fits}
 use Rattle.dvg_driver.specs.Script.{Did, IsLife}
 use Rattle.dvg_driver.specs.Stands.{Tells}
@@ -32,7 +31,7 @@ use Rattle.dvg_log.specs.Headline.{KeepsHeadline}
 use Rattle.dvg_theorem.proofs.Headline.{headline}
 use Rattle.dvg_board.specs.Memory.{memwr}
 use Rattle.dvg_board.specs.Board.{Board, Bus, pins, clock}
-use Rattle.dvg_board.specs.Fetches.{entry, entry_by, entry_of}
+use Rattle.dvg_board.specs.Fetches.{entry, entry_by, entry_of, says}
 use Rattle.dvg_board.specs.Clocks.{IsBus, after, cores, IsServed, reads, writes, sends, looks, changes}
 use Rattle.dvg_board.specs.Logs.{did, core_line, answered, FitsIf, IsSilent, IsBoard, powers, clocks, acts, FitsScript, OfEachBoard, HoldsRam}
 use Rattle.dvg_board.proofs.System.{Keeps, idle, fetch, reset_line, reset_all, start_line, acted_line, silent_line, keeps_new}

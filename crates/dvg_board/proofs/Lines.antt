@@ -1,9 +1,8 @@
 -- What the lines of a clock, up to the core's, leave of the RAM and of the driver's life.
-use Rattle.std.proofs.Common.{◌≡◌, ℕ, Bool, true, false, List, [], ◌∷◌, Option, Some, None, refl, ap, ◌∙◌}
+use Rattle.std.proofs.Common.{◌≡◌, ℕ, Bool, true, false, List, [], ◌∷◌, Option, Some, None, refl, ◌∙◌}
 use Rattle.std.specs.Prelude.{nat_eq, if◌then◌else◌}
 use Rattle.dvg_gen.specs.Bytes.{Met, Waits, Whole, met}
 use Rattle.dvg_gen.specs.Told.{Reply, More, Drew, Fails}
-use Rattle.dvg_driver.specs.Script.{Item}
 use Rattle.dvg_log.specs.declared.event.Event.TheVariants.{Strobe, Fetch, ResetGen, ResetAll}
 use Rattle.dvg_log.specs.Entries.{Shown}
 use Rattle.dvg_log.specs.declared.entry.Entry.TheVariants.{Started, Low, Still, Cleared}
@@ -11,9 +10,8 @@ use Rattle.dvg_log.specs.Log.{◌⟼◌, Log, ram, low_byte, life}
 use Rattle.dvg_core.specs.Core.{Pins, halted}
 use Rattle.dvg_core.specs.Refines.{byte_of, drew}
 use Rattle.dvg_core.specs.Refines as core
-use Rattle.dvg_core.specs.Shown.{says}
 use Rattle.dvg_board.specs.Board.{Board, Bus, pins}
-use Rattle.dvg_board.specs.Fetches.{entry, entry_by, entry_of}
+use Rattle.dvg_board.specs.Fetches.{entry, entry_by, entry_of, says}
 use Rattle.dvg_board.specs.Clocks.{after, cores, looks}
 use Rattle.dvg_board.specs.Logs.{did, answered}
 use Rattle.dvg_board.proofs.Board.{looks_ram, entry_ram, core_ram}

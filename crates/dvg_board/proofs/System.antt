@@ -4,6 +4,7 @@ use Rattle.std.specs.Prelude.{nat_eq, if◌then◌else◌, is_some, is_none, opt
 use Rattle.dvg_mem.specs.Memory.{IsImage, IsRom, fetched_byte}
 use Rattle.dvg_gen.specs.declared.stroke.Stroke.{Stroke}
 use Rattle.dvg_gen.specs.declared.taken.GenFault.{GenFault}
+use Rattle.dvg_gen.specs.declared.taken.GenFault.TheVariants.{StackOver, StackUnder, Hole}
 use Rattle.dvg_gen.specs.Bytes.{Met, Waits, Whole, met, word_of}
 use Rattle.dvg_gen.specs.Machine.{HasTaken}
 use Rattle.dvg_gen.specs.Run.{Visit, Adds, first, one, two, Fate, Goes, Finished, Breaks, fate, wanted, strokes}
@@ -21,15 +22,15 @@ use Rattle.dvg_log.specs.Entries.{Shown}
 use Rattle.dvg_log.specs.declared.entry.Entry.TheVariants.{Offered, Refused, Busy, Asked, NothingPublished, Acted, Started, Low, Still, Cleared}
 use Rattle.dvg_log.specs.Log.{◌⟼◌, Log, ram, life, strobed, low_byte, open_run, history, meets}
 use Rattle.dvg_log.specs.Legal.{IsLegal, Fits, IsWanted}
-use Rattle.dvg_core.specs.Core.{Pins, halted, zeros}
+use Rattle.dvg_core.specs.Core.{Core, Pins, halted, zeros}
 use Rattle.dvg_core.specs.Cells.{none}
-use Rattle.dvg_core.specs.Shown.{says}
+use Rattle.dvg_core.specs.Shown.{ShowsReply}
 use Rattle.dvg_core.proofs.Machines.{machine_of}
 use Rattle.dvg_core.specs.Refines
 use Rattle.dvg_core.specs.Refines.{ArePins, after, drew, byte_of, Tells as Clocked, Said}
 use Rattle.dvg_core.proofs.Fitting.{Fits as Fitting, Stepped}
 use Rattle.dvg_core.proofs.Whole.{one as stepped}
-use Rattle.dvg_board.specs.Fetches.{entry_of, entry_by, entry}
+use Rattle.dvg_board.specs.Fetches.{entry_of, entry_by, entry, says}
 use Rattle.dvg_board.specs.Logs.{IsSilent, FitsScript}
 
 -- the core stands after the log's history, and the log knows whether a run is open
@@ -95,6 +96,15 @@ not_not false c e = ap not e
 still_is : (closed address : ℕ) (m : Met) (answer : Reply) → nat_eq closed 1 ≡ true → entry_by closed address m answer ≡ Still
 still_is closed address (Waits byte) answer e = ap (λ b. if b then Still else Low address byte) e
 still_is closed address (Whole word) answer e = ap (λ b. if b then Still else entry_of address word answer) e
+
+-- the pins of an answer tell it
+told_is : (answer : Reply) (core : Core) (drew : List Stroke) → ShowsReply answer core drew → says core.done core.fault drew ≡ answer
+told_is More core drew (done, fault) = ap (λ n. says core.done n drew) fault ∙ ap (λ n. says n 0 drew) done
+told_is (Drew strokes) core drew (done, fault, is) =
+    ap (λ n. says core.done n drew) fault ∙ ap (λ n. says n 0 drew) done ∙ ap Drew is
+told_is (Fails StackOver) core drew (done, fault, stroke) = ap (λ n. says core.done n drew) fault
+told_is (Fails StackUnder) core drew (done, fault, stroke) = ap (λ n. says core.done n drew) fault
+told_is (Fails Hole) core drew (done, fault, stroke) = ap (λ n. says core.done n drew) fault
 
 abbrev running : ℕ → Met → Reply → Shown
 running address (Waits byte) answer = Low address byte
@@ -230,10 +240,11 @@ module _ (R image : List ℕ) (log : Log) (clocks : List Pins) (pins : Pins) (k 
         opened = k.opened ∙ ap (λ (r : Newest). not r.is_open) (same_run hist stands.run stands.leaves);
         legal = ((meets_is (Waits byte) e, asks), tt, k.legal);
       }
-      of_met (Whole None) e stands said = of_hole _ e stands said
+      of_met (Whole None) e stands said = of_hole _ e stands (told_is (reply None stands.run) (after now) (drew now) said)
       of_met (Whole (Some word)) e stands said =
-          of_word word _ e stands said
-          (subst (λ r. Opens r stands.run.is_open) (sym said) (word_opens hist word stands.run stands.leaves))
+          let answers = told_is (reply (Some word) stands.run) (after now) (drew now) said in
+          of_word word _ e stands answers
+          (subst (λ r. Opens r stands.run.is_open) (sym answers) (word_opens hist word stands.run stands.leaves))
 
     closed_pin : (b : Bool) → k.stands.run.is_open ≡ b → nat_eq (halted (after clocks)) 1 ≡ not b
     closed_pin b is = pin_of (after clocks).is_open ∙ not_not _ _ (k.stands.stands.is_open ∙ is)

@@ -1,15 +1,23 @@
 -- The line of a log that the core's pins show of a fetch.
-use Rattle.std.specs.Prelude.{ℕ, nat_eq, if◌then◌else◌, List, ◌∷◌, Option, Some, None}
+use Rattle.std.specs.Prelude.{ℕ, zero, suc, nat_eq, if◌then◌else◌, List, ◌∷◌, Option, Some, None}
+use Rattle.dvg_gen.specs.declared.stroke.Stroke.{Stroke}
+use Rattle.dvg_gen.specs.declared.taken.GenFault.TheVariants.{StackOver, StackUnder, Hole}
 use Rattle.dvg_gen.specs.Bytes.{Met, Waits, Whole, met}
 use Rattle.dvg_gen.specs.Told.{Reply, More, Drew, Fails}
 use Rattle.dvg_log.specs.Entries.{Shown}
 use Rattle.dvg_log.specs.declared.entry.Entry.TheVariants.{Low, Fetched, Done, Broke, Still}
 use Rattle.dvg_log.specs.Log.{Log, low_byte}
 use Rattle.dvg_core.specs.Core.{Pins, halted}
-use Rattle.dvg_core.specs.Shown.{says}
 use Rattle.dvg_core.specs.Refines.{after, drew, byte_of}
 
--- the entry of a whole word, or of a hole, at an address, by what `done` and `fault` say of it
+-- the answer to a word or a hole that `done` and `fault` tell, where the run drew these strokes
+abbrev pub says : (done fault : ℕ) → List Stroke → Reply
+says done zero drew = if nat_eq done 0 then More else Drew drew
+says done (suc zero) drew = Fails StackOver
+says done (suc (suc zero)) drew = Fails StackUnder
+says done (suc (suc (suc fault))) drew = Fails Hole
+
+-- the entry of a whole word, or of a hole, at an address, by the answer to it
 abbrev pub entry_of : ℕ → Option ℕ → Reply → Shown
 entry_of address word (Fails fault) = Broke address fault
 entry_of address (Some word) More = Fetched address word

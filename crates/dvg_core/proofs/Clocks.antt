@@ -15,14 +15,13 @@ use Rattle.dvg_gen.specs.Told.{Told, Start, Reset}
 use Rattle.dvg_gen.proofs.Standing.{Claim, stands_start, stands_reset, claim_hole, claim_low, claim_first}
 use Rattle.dvg_core.specs.Cells.{part, joined, add, some}
 use Rattle.dvg_core.specs.Core.{Core, Pins, clock}
-use Rattle.dvg_core.specs.Shown.{line_of}
+use Rattle.dvg_core.specs.Shown.{line_of, ShowsReply}
 use Rattle.dvg_core.proofs.Machines.{machine_of}
 use Rattle.std.proofs.Common.{inl, inr}
 use Rattle.std.specs.Prelude.{◌⊎◌}
 use Rattle.std.proofs.lemmas.Bool.{cases_lt}
 use Rattle.dvg_gen.specs.Completing.{Completes}
 use Rattle.dvg_gen.specs.Told.{Fed, Reply, More, Drew, Fails, reply}
-use Rattle.dvg_core.specs.Shown.{says}
 use Rattle.dvg_core.proofs.Machines.{kept}
 use Rattle.dvg_core.specs.Refines
 use Rattle.dvg_core.specs.Refines.{Tells, fetches}
@@ -310,8 +309,8 @@ module _ (at done fault stroke x0 y0 x y z first low depth s0 s1 s2 s3 scale din
     abbrev now : ℕ → ℕ → Core
     now second depth = clock (core 1 1 second depth) byte
 
-    abbrev tells_now : ℕ → ℕ → Reply
-    tells_now second depth = says (now second depth).done (now second depth).fault (drew ++ line_of (now second depth))
+    abbrev ShowsNow : ℕ → ℕ → Reply → Type 0
+    ShowsNow second depth answer = ShowsReply answer (now second depth) (drew ++ line_of (now second depth))
 
     abbrev Next : ℕ → ℕ → List Told → Type 0
     Next second depth history = Stepped byte (core 1 1 second depth) drew history (Some low)
@@ -321,7 +320,7 @@ module _ (at done fault stroke x0 y0 x y z first low depth s0 s1 s2 s3 scale din
 
     finish : (second depth : ℕ) (history : List Told) (after : Before second depth history)
         (stands : HasTaken (new 1 second depth) (Fed (Some word) ∷ history) None)
-        → tells_now second depth ≡ reply (Some word) stands.run → Fits (now second depth) → Next second depth history
+        → ShowsNow second depth (reply (Some word) stands.run) → Fits (now second depth) → Next second depth history
     finish second depth history after stands said fits = record {
       history' = Fed (Some word) ∷ history;
       low' = None;
@@ -334,31 +333,31 @@ module _ (at done fault stroke x0 y0 x y z first low depth s0 s1 s2 s3 scale din
 
     goes : (second depth : ℕ) (history : List Told) (code : Instr) → Before second depth history
         → Completes (kept second first) word code → Obeyed (old 1 second depth) code (new 1 second depth) Word
-        → tells_now second depth ≡ More → Fits (now second depth) → Next second depth history
+        → ShowsNow second depth More → Fits (now second depth) → Next second depth history
     goes second depth history code after completes obeyed more fits =
         let answers = obeys word (old 1 second depth) (new 1 second depth) code Word refl completes obeyed history (Some low) after in
-        finish second depth history after answers.0 (more ∙ reply_is _ _ answers.1) fits
+        finish second depth history after answers.0 (subst (ShowsNow second depth) (reply_is _ _ answers.1) more) fits
 
     breaks : (second depth : ℕ) (history : List Told) (code : Instr) (fault : GenFault) → Before second depth history
         → Completes (kept second first) word code → Obeyed (old 1 second depth) code (new 1 second depth) (Broke fault)
-        → tells_now second depth ≡ Fails fault → Fits (now second depth) → Next second depth history
+        → ShowsNow second depth (Fails fault) → Fits (now second depth) → Next second depth history
     breaks second depth history code fault after completes obeyed fails fits =
         let answers = obeys word (old 1 second depth) (new 1 second depth) code (Broke fault) refl completes obeyed history (Some low) after in
-        finish second depth history after answers.0 (fails ∙ reply_is _ _ answers.1) fits
+        finish second depth history after answers.0 (subst (ShowsNow second depth) (reply_is _ _ answers.1) fails) fits
 
     -- a first word
-    more_first : (op : ℕ) → op < 11 → part 4 4 din ≡ op → tells_now 0 depth ≡ More
-    more_first zero less e = rw e refl
-    more_first (suc zero) less e = rw e refl
-    more_first (suc (suc zero)) less e = rw e refl
-    more_first (suc (suc (suc zero))) less e = rw e refl
-    more_first (suc (suc (suc (suc zero)))) less e = rw e refl
-    more_first (suc (suc (suc (suc (suc zero))))) less e = rw e refl
-    more_first (suc (suc (suc (suc (suc (suc zero)))))) less e = rw e refl
-    more_first (suc (suc (suc (suc (suc (suc (suc zero))))))) less e = rw e refl
-    more_first (suc (suc (suc (suc (suc (suc (suc (suc zero)))))))) less e = rw e refl
-    more_first (suc (suc (suc (suc (suc (suc (suc (suc (suc zero))))))))) less e = rw e refl
-    more_first (suc (suc (suc (suc (suc (suc (suc (suc (suc (suc zero)))))))))) less e = rw e refl
+    more_first : (op : ℕ) → op < 11 → part 4 4 din ≡ op → ShowsNow 0 depth More
+    more_first zero less e = rw e (refl, refl)
+    more_first (suc zero) less e = rw e (refl, refl)
+    more_first (suc (suc zero)) less e = rw e (refl, refl)
+    more_first (suc (suc (suc zero))) less e = rw e (refl, refl)
+    more_first (suc (suc (suc (suc zero)))) less e = rw e (refl, refl)
+    more_first (suc (suc (suc (suc (suc zero))))) less e = rw e (refl, refl)
+    more_first (suc (suc (suc (suc (suc (suc zero)))))) less e = rw e (refl, refl)
+    more_first (suc (suc (suc (suc (suc (suc (suc zero))))))) less e = rw e (refl, refl)
+    more_first (suc (suc (suc (suc (suc (suc (suc (suc zero)))))))) less e = rw e (refl, refl)
+    more_first (suc (suc (suc (suc (suc (suc (suc (suc (suc zero))))))))) less e = rw e (refl, refl)
+    more_first (suc (suc (suc (suc (suc (suc (suc (suc (suc (suc zero)))))))))) less e = rw e (refl, refl)
     more_first (suc (suc (suc (suc (suc (suc (suc (suc (suc (suc (suc n))))))))))) less e = absurd (omega arith)
 
     fits_first : (op depth : ℕ) → depth ≤ 4 → op < 11 → part 4 4 din ≡ op → Fits (now 0 depth)
@@ -378,7 +377,7 @@ module _ (at done fault stroke x0 y0 x y z first low depth s0 s1 s2 s3 scale din
     step_first : depth ≤ 4 → (history : List Told) → Before 0 depth history → din < 176 → Next 0 depth history
     step_first deep history after less =
         let answers = first_word low_in less history (Some low) after in
-        finish 0 depth history after answers.0 (more_first (part 4 4 din) (omega arith) refl ∙ reply_is _ _ answers.1)
+        finish 0 depth history after answers.0 (subst (ShowsNow 0 depth) (reply_is _ _ answers.1) (more_first (part 4 4 din) (omega arith) refl))
         (fits_first (part 4 4 din) depth deep (omega arith) refl)
 
     -- a HALT
@@ -386,16 +385,16 @@ module _ (at done fault stroke x0 y0 x y z first low depth s0 s1 s2 s3 scale din
     step_halt deep history after e =
         let ended : Halted (new 1 0 depth) history word drew =
         halted_at history (Some low) (old 1 0 depth) (new 1 0 depth) word after refl refl (spells_halt e low_in din_in) (halts e) in
-        let drew_is : tells_now 0 depth ≡ Drew (drew ++ []) = rw e refl in
-        finish 0 depth history after ended.stands (drew_is ∙ ap Drew (append-nil drew) ∙ ended.replies)
+        let shows : ShowsNow 0 depth (Drew drew) = rw e (refl, refl, append-nil drew) in
+        finish 0 depth history after ended.stands (subst (ShowsNow 0 depth) ended.replies shows)
         (rw e (record { opened = omega arith; high = omega arith; second = omega arith; low = low_in; first = λ is. absurd (omega arith); depth = deep; x = x_in; y = y_in; scale = scale_in }))
 
     -- a JSRL
-    more_call : (depth : ℕ) → depth < 4 → part 4 4 din ≡ 12 → (tells_now 0 depth ≡ More) × Fits (now 0 depth)
-    more_call zero less e = (rw e refl, rw e (record { opened = omega arith; high = omega arith; second = omega arith; low = low_in; first = λ is. absurd (omega arith); depth = omega arith; x = x_in; y = y_in; scale = scale_in }))
-    more_call (suc zero) less e = (rw e refl, rw e (record { opened = omega arith; high = omega arith; second = omega arith; low = low_in; first = λ is. absurd (omega arith); depth = omega arith; x = x_in; y = y_in; scale = scale_in }))
-    more_call (suc (suc zero)) less e = (rw e refl, rw e (record { opened = omega arith; high = omega arith; second = omega arith; low = low_in; first = λ is. absurd (omega arith); depth = omega arith; x = x_in; y = y_in; scale = scale_in }))
-    more_call (suc (suc (suc zero))) less e = (rw e refl, rw e (record { opened = omega arith; high = omega arith; second = omega arith; low = low_in; first = λ is. absurd (omega arith); depth = omega arith; x = x_in; y = y_in; scale = scale_in }))
+    more_call : (depth : ℕ) → depth < 4 → part 4 4 din ≡ 12 → ShowsNow 0 depth More × Fits (now 0 depth)
+    more_call zero less e = (rw e (refl, refl), rw e (record { opened = omega arith; high = omega arith; second = omega arith; low = low_in; first = λ is. absurd (omega arith); depth = omega arith; x = x_in; y = y_in; scale = scale_in }))
+    more_call (suc zero) less e = (rw e (refl, refl), rw e (record { opened = omega arith; high = omega arith; second = omega arith; low = low_in; first = λ is. absurd (omega arith); depth = omega arith; x = x_in; y = y_in; scale = scale_in }))
+    more_call (suc (suc zero)) less e = (rw e (refl, refl), rw e (record { opened = omega arith; high = omega arith; second = omega arith; low = low_in; first = λ is. absurd (omega arith); depth = omega arith; x = x_in; y = y_in; scale = scale_in }))
+    more_call (suc (suc (suc zero))) less e = (rw e (refl, refl), rw e (record { opened = omega arith; high = omega arith; second = omega arith; low = low_in; first = λ is. absurd (omega arith); depth = omega arith; x = x_in; y = y_in; scale = scale_in }))
     more_call (suc (suc (suc (suc n)))) less e = absurd (omega arith)
 
     step_call : (depth : ℕ) → depth ≤ 4 → (history : List Told) → Before 0 depth history → part 4 4 din ≡ 12 → Next 0 depth history
@@ -403,7 +402,7 @@ module _ (at done fault stroke x0 y0 x y z first low depth s0 s1 s2 s3 scale din
       where
         full : (d : ℕ) → d ≡ 4 → Before 0 d history → Next 0 d history
         full (suc (suc (suc (suc zero)))) is before =
-            breaks 0 4 history (Jsrl target) StackOver before (spells_call e low_in din_in) (overflows e) (rw e refl) (rw e (record { opened = omega arith; high = omega arith; second = omega arith; low = low_in; first = λ is. absurd (omega arith); depth = omega arith; x = x_in; y = y_in; scale = scale_in }))
+            breaks 0 4 history (Jsrl target) StackOver before (spells_call e low_in din_in) (overflows e) (rw e (refl, refl, refl)) (rw e (record { opened = omega arith; high = omega arith; second = omega arith; low = low_in; first = λ is. absurd (omega arith); depth = omega arith; x = x_in; y = y_in; scale = scale_in }))
         full zero is before = absurd (omega arith)
         full (suc zero) is before = absurd (omega arith)
         full (suc (suc zero)) is before = absurd (omega arith)
@@ -416,17 +415,17 @@ module _ (at done fault stroke x0 y0 x y z first low depth s0 s1 s2 s3 scale din
         by (inr more) = full depth (omega arith) after
 
     -- an RTSL
-    more_return : (depth : ℕ) → 1 ≤ depth → depth ≤ 4 → part 4 4 din ≡ 13 → (tells_now 0 depth ≡ More) × Fits (now 0 depth)
+    more_return : (depth : ℕ) → 1 ≤ depth → depth ≤ 4 → part 4 4 din ≡ 13 → ShowsNow 0 depth More × Fits (now 0 depth)
     more_return zero some less e = absurd (omega arith)
-    more_return (suc zero) some less e = (rw e refl, rw e (record { opened = omega arith; high = omega arith; second = omega arith; low = low_in; first = λ is. absurd (omega arith); depth = omega arith; x = x_in; y = y_in; scale = scale_in }))
-    more_return (suc (suc zero)) some less e = (rw e refl, rw e (record { opened = omega arith; high = omega arith; second = omega arith; low = low_in; first = λ is. absurd (omega arith); depth = omega arith; x = x_in; y = y_in; scale = scale_in }))
-    more_return (suc (suc (suc zero))) some less e = (rw e refl, rw e (record { opened = omega arith; high = omega arith; second = omega arith; low = low_in; first = λ is. absurd (omega arith); depth = omega arith; x = x_in; y = y_in; scale = scale_in }))
-    more_return (suc (suc (suc (suc zero)))) some less e = (rw e refl, rw e (record { opened = omega arith; high = omega arith; second = omega arith; low = low_in; first = λ is. absurd (omega arith); depth = omega arith; x = x_in; y = y_in; scale = scale_in }))
+    more_return (suc zero) some less e = (rw e (refl, refl), rw e (record { opened = omega arith; high = omega arith; second = omega arith; low = low_in; first = λ is. absurd (omega arith); depth = omega arith; x = x_in; y = y_in; scale = scale_in }))
+    more_return (suc (suc zero)) some less e = (rw e (refl, refl), rw e (record { opened = omega arith; high = omega arith; second = omega arith; low = low_in; first = λ is. absurd (omega arith); depth = omega arith; x = x_in; y = y_in; scale = scale_in }))
+    more_return (suc (suc (suc zero))) some less e = (rw e (refl, refl), rw e (record { opened = omega arith; high = omega arith; second = omega arith; low = low_in; first = λ is. absurd (omega arith); depth = omega arith; x = x_in; y = y_in; scale = scale_in }))
+    more_return (suc (suc (suc (suc zero)))) some less e = (rw e (refl, refl), rw e (record { opened = omega arith; high = omega arith; second = omega arith; low = low_in; first = λ is. absurd (omega arith); depth = omega arith; x = x_in; y = y_in; scale = scale_in }))
     more_return (suc (suc (suc (suc (suc n))))) some less e = absurd (omega arith)
 
     step_return : (depth : ℕ) → depth ≤ 4 → (history : List Told) → Before 0 depth history → part 4 4 din ≡ 13 → Next 0 depth history
     step_return zero deep history after e =
-        breaks 0 0 history Rtsl StackUnder after (spells_return e low_in din_in) (underflows e) (rw e refl) (rw e (record { opened = omega arith; high = omega arith; second = omega arith; low = low_in; first = λ is. absurd (omega arith); depth = omega arith; x = x_in; y = y_in; scale = scale_in }))
+        breaks 0 0 history Rtsl StackUnder after (spells_return e low_in din_in) (underflows e) (rw e (refl, refl, refl)) (rw e (record { opened = omega arith; high = omega arith; second = omega arith; low = low_in; first = λ is. absurd (omega arith); depth = omega arith; x = x_in; y = y_in; scale = scale_in }))
     step_return (suc n) deep history after e =
         goes 0 (suc n) history Rtsl after (spells_return e low_in din_in) (returns (suc n) (omega arith) deep e)
         (more_return (suc n) (omega arith) deep e).0 (more_return (suc n) (omega arith) deep e).1
@@ -434,15 +433,12 @@ module _ (at done fault stroke x0 y0 x y z first low depth s0 s1 s2 s3 scale din
     -- a JMPL
     step_jump : depth ≤ 4 → (history : List Told) → Before 0 depth history → part 4 4 din ≡ 14 → Next 0 depth history
     step_jump deep history after e =
-        goes 0 depth history (Jmpl target) after (spells_jump e low_in din_in) (jumps e) (rw e refl) (rw e (record { opened = omega arith; high = omega arith; second = omega arith; low = low_in; first = λ is. absurd (omega arith); depth = omega arith; x = x_in; y = y_in; scale = scale_in }))
+        goes 0 depth history (Jmpl target) after (spells_jump e low_in din_in) (jumps e) (rw e (refl, refl)) (rw e (record { opened = omega arith; high = omega arith; second = omega arith; low = low_in; first = λ is. absurd (omega arith); depth = omega arith; x = x_in; y = y_in; scale = scale_in }))
 
     -- an SVEC
-    more_seen : (to_x to_y z : ℕ) → says 0 0 (drew ++ seen to_x to_y z) ≡ More
-    more_seen to_x to_y z = refl
-
     step_svec : depth ≤ 4 → (history : List Told) → Before 0 depth history → part 4 4 din ≡ 15 → Next 0 depth history
     step_svec deep history after e =
-        goes 0 depth history _ after (spells_svec e) (svec e) (rw e refl)
+        goes 0 depth history _ after (spells_svec e) (svec e) (rw e (refl, refl))
         (rw e (record {
           opened = omega arith;
           high = omega arith;
@@ -458,7 +454,7 @@ module _ (at done fault stroke x0 y0 x y z first low depth s0 s1 s2 s3 scale din
     -- a LABS
     step_labs : depth ≤ 4 → (history : List Told) → Before 1 depth history → first < 65536 → part 12 4 first ≡ 10 → Next 1 depth history
     step_labs deep history after first_in e =
-        goes 1 depth history _ after (spells_labs e first_in) (labs depth e) refl
+        goes 1 depth history _ after (spells_labs e first_in) (labs depth e) (refl, refl)
         (rw e (record {
           opened = omega arith;
           high = omega arith;
@@ -487,7 +483,7 @@ module _ (at done fault stroke x0 y0 x y z first low depth s0 s1 s2 s3 scale din
 
     step_vctr : depth ≤ 4 → (history : List Told) → Before 1 depth history → first < 40960 → Next 1 depth history
     step_vctr deep history after less =
-        goes 1 depth history _ after (spells_vctr (part 12 4 first) (omega arith) refl (omega arith)) (vctr (part 12 4 first) (omega arith) refl) refl
+        goes 1 depth history _ after (spells_vctr (part 12 4 first) (omega arith) refl (omega arith)) (vctr (part 12 4 first) (omega arith) refl) (refl, refl)
         (fits_vctr (part 12 4 first) depth deep (omega arith) refl)
 
     -- a whole word
@@ -599,7 +595,7 @@ module _ (at done fault stroke x0 y0 x y z first low depth s0 s1 s2 s3 scale din
             tells = fetches {run = after.run} refl refl refl after.leaves (sym after.stands.is_open);
             stands = answers.0;
             fits = record { opened = omega arith; high = omega arith; second = second_in; low = low_in; first = is_first; depth = deep; x = x_in; y = y_in; scale = scale_in };
-            said = refl;
+            said = (refl, refl, refl);
           }
 
       step_byte : (h : ℕ) → h < 2 → Goes byte 1 h

@@ -1,8 +1,8 @@
 -- Each history has clocks: a start, a reset, a hole are one each, and a word is two.
-use Rattle.std.proofs.Common.{◌≡◌, true, ℕ, ◌+◌, ◌*◌, ◌/◌, ◌%◌, ◌<◌, List, [], ◌∷◌, Option, Some, None, refl, sym, subst, arith}
+use Rattle.std.proofs.Common.{◌≡◌, true, ℕ, ◌+◌, ◌*◌, ◌/◌, ◌%◌, ◌<◌, List, [], ◌∷◌, Option, Some, None, refl, subst, arith}
 use Rattle.std.proofs.lemmas.List.Elements.{All-cons, All-nil}
 use Rattle.std.specs.Prelude.{All}
-use Rattle.dvg_gen.specs.Bytes.{Met, Waits, Whole}
+use Rattle.dvg_gen.specs.Bytes.{Met, Whole}
 use Rattle.dvg_gen.specs.Told.{Told, Start, Reset, Fed, Newest, Leaves}
 use Rattle.dvg_gen.specs.Told as told
 use Rattle.dvg_core.specs.Core.{Pins}

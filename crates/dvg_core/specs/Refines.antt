@@ -8,7 +8,7 @@ use Rattle.dvg_gen.specs.Run.{wanted, beam_after, strokes}
 use Rattle.dvg_gen.specs.Told.{Told, Start, Reset, Fed, Newest, Leaves, reply}
 use Rattle.dvg_core.specs.Cells.{bit}
 use Rattle.dvg_core.specs.Core.{Core, Pins, zeros, clock, halted}
-use Rattle.dvg_core.specs.Shown.{line_of, says}
+use Rattle.dvg_core.specs.Shown.{line_of, ShowsReply}
 
 -- the pins of a clock are bits and a byte
 pub record ArePins (pins : Pins) : Type 0 where
@@ -73,7 +73,7 @@ IsQuiet core = (core.done ≡ 0) × (core.fault ≡ 0) × (core.stroke ≡ 0)
 
 -- what the pins say of what was met: the definition's answer to a word or a hole, and else nothing
 abbrev pub Said : Option Met → Core → List Stroke → Newest → Type 0
-Said (Some (Whole word)) core drew run = says core.done core.fault drew ≡ reply word run
+Said (Some (Whole word)) core drew run = ShowsReply (reply word run) core drew
 Said (Some (Waits byte)) core drew run = IsQuiet core
 Said None core drew run = IsQuiet core
 

@@ -13,7 +13,7 @@ ghost use Rattle.dvg_core.specs.Refines.{CoreRefines, HasClocks};
 /// `halted` is whether no run is open, `at` and `high` name the byte that the open run wants next,
 /// `x` and `y` are its beam, the strokes shown since the newest start are its strokes, and after
 /// each fetched word or hole `done` and `fault` are the answer that the definition of the generator
-/// gives.
+/// gives. Where that is a fault, `done` and `stroke` are 0; after all else all three are.
 pub fn core_refines()
     ensures { CoreRefines }
 {}
