@@ -19,31 +19,39 @@ FILES = {
 }
 
 HEAD = """-- Steps {does}.
--- tests/board_vectors.py writes this file; Vectors.antt says what its numbers are.
-use Rattle.std.proofs.Common.{{◌≡◌, ℕ, true, List, [], ◌∷◌, refl}}
-use Rattle.dvg_6502.proofs.Vectors.{{all_pass}}
+-- tests/board_vectors.py writes this file; Vectors.antt says what the numbers of a step are.
+use Rattle.std.proofs.Common.{{◌≡◌, [], ◌∷◌, refl}}
+use Rattle.dvg_6502.proofs.Vectors.{{wrong_from, gives}}
 """
 
+# How many steps are proved at once: of some more the prover would not say which one is wrong.
+AT_ONCE = 100
 
-def proof(opcode, rows):
-    """A list of steps of an opcode, and that they all pass."""
-    steps = "".join(f"    ({' ∷ '.join(row[:13])} ∷\n    {' ∷ '.join(row[13:])} ∷ []) ∷\n" for row in rows)
-    return (f"\nabbrev steps_{opcode} : List (List ℕ)\nsteps_{opcode} =\n{steps}    []\n"
-            f"\npub passes_{opcode} : all_pass steps_{opcode} ≡ true\npasses_{opcode} = refl\n")
+
+def line(row):
+    """A step: numbers of its memory, the opcode in hex, the state before and after, and the bytes that it writes."""
+    written = dict.fromkeys([(row[22], row[23]), (row[24], row[25])])
+    writes = "".join(f"({place}, {byte}) ∷ " for place, byte in written if place != "65536")
+    numbers = [row[0], f"0x{int(row[1]):02X}"] + row[2:22]
+    return f"    gives {' '.join(numbers)} {f'({writes}[])' if writes else '[]'} ∷\n"
+
+
+def proof(part, first, rows):
+    """Steps, the first of which stands on this line, and that they all pass."""
+    steps = "".join(line(row) for row in rows)
+    return f"\npub pass_{part} : wrong_from {first} (\n{steps}    []) ≡ []\npass_{part} = refl\n"
 
 
 def write(lines, folder):
     """Both files, with the opcodes in the order in which the steps come."""
-    steps = {}
-    for line in lines:
-        numbers = line.split()
-        steps.setdefault(f"{int(numbers[1]):02x}", []).append(numbers)
+    steps = [text.split() for text in lines]
     for name, does in FILES.items():
+        rows = [row for row in steps if (f"{int(row[1]):02x}" in MOVES) == (name == "MoveVectors")]
+        text = HEAD.format(does=does)
+        for part in range((len(rows) + AT_ONCE - 1) // AT_ONCE):
+            text += proof(part + 1, text.count("\n") + 3, rows[part * AT_ONCE:(part + 1) * AT_ONCE])
         with open(os.path.join(folder, name + ".antt"), "w", encoding="utf-8") as file:
-            file.write(HEAD.format(does=does))
-            for opcode, rows in steps.items():
-                if (opcode in MOVES) == (name == "MoveVectors"):
-                    file.write(proof(opcode, rows))
+            file.write(text)
 
 
 if __name__ == "__main__":

@@ -17,7 +17,7 @@ use Rattle.dvg_6502.specs.Amid.{is_kept, is_code, are_steady, all_in}
 use Rattle.dvg_6502.specs.Holds.{Holds, publish_byte}
 use Rattle.dvg_6502.specs.Routines.{Shows, acted}
 use Rattle.dvg_6502.proofs.Running.{Ends, at}
-use Rattle.dvg_6502.proofs.Memory.{AreSmall, laid, page_of, loaded, put_small, same_out, kept_write, kept_sent}
+use Rattle.dvg_6502.proofs.Memory.{AreSmall, laid, page_of, loaded, put_small, same_out, kept_write, kept_sent, small_page}
 use Rattle.dvg_6502.proofs.ShortTicks as short
 
 -- a table of these bounds is among those that are kept
@@ -96,19 +96,8 @@ module _ (q a x y s : ℕ) (n z c v : Bool) (mem flags : ℕ → ℕ) (log : Lis
   from phase free = at 0x686A a x y s n z c v (laid (page phase free (mem 0x12)) mem) flags log
 
   small : (phase free publish : ℕ) → phase < 256 → free < 256 → publish < 256 → AreSmall (page phase free publish)
-  small phase free publish p f l = (
-    p,
-    (
-      f,
-      (
-        l,
-        (
-          bytes 0x13,
-          (bytes 0x14, (bytes 0x15, (bytes 0x16, (bytes 0x17, (bytes 0x18, (bytes 0x19, (bytes 0x1A, tt))))))),
-        ),
-      ),
-    ),
-  )
+  small phase free publish p f l = small_page p f l (bytes 0x13) (bytes 0x14) (bytes 0x15) (bytes 0x16) (bytes 0x17)
+      (bytes 0x18) (bytes 0x19) (bytes 0x1A)
 
   -- a tick of the script, from its stage
   abbrev after : Place → Action → Type 0

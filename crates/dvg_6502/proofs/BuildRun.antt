@@ -4,7 +4,7 @@ use Rattle.std.proofs.Common.{arith}
 use Rattle.std.specs.Prelude.{nat_eq, nat_le, ◌&&◌, if◌then◌else◌}
 use Rattle.dvg_6502.specs.Processor.{Cpu, Access, Reads, Writes, put}
 use Rattle.dvg_6502.specs.Board.{seen}
-use Rattle.dvg_6502.proofs.Running.{Comes, by, at}
+use Rattle.dvg_6502.proofs.Running.{Comes, by, at, comes}
 use Rattle.dvg_6502.proofs.Memory.{laid, page_of, put_page, put_out, in_page, in_code}
 use Rattle.dvg_6502.proofs.FedByte.{compared}
 use Rattle.dvg_6502.proofs.StoredByte.{carried}
@@ -24,16 +24,7 @@ module _ (q a x y s : ℕ) (n z c v : Bool) (free publish next t0 t1 pages end s
       []
   put_refuses phase small other =
       by q 2 _ (told false) s _ _ _ (ap told (compared phase 7 small (omega arith) ∙ other)) (λ tables is. refl)
-      (record {
-        steps = 2;
-        returns = refl;
-        stack = refl;
-        carry = refl;
-        memory = refl;
-        accesses = refl;
-        steady = λ tables is. refl;
-        there = refl;
-      })
+      (comes 2 refl refl refl refl refl (λ tables is. refl) refl)
     where
       told : Bool → Cpu
       told t = at 0x695B a x phase s (nat_le 128 ((phase + 256 - 7) % 256)) t (nat_le 7 phase) v (laid (page phase) mem)
@@ -100,28 +91,11 @@ module _ (q a x y s : ℕ) (n z c v : Bool) (free publish next t0 t1 pages end s
             ∙ ap (λ (t : Bool). Writes to1 x ∷ (if t then Writes to0 a ∷ seen log else seen log)) high0
 
         rest : (wrap : Bool) → Comes q (told wrap) s false (laid (moved wrap) new) (seen log6) []
-        rest false = record {
-          steps = 1;
-          returns = refl;
-          stack = refl;
-          carry = refl;
-          memory = refl;
-          accesses = refl;
-          steady = λ tables is. refl;
-          there = refl;
-        }
-        rest true = record {
-          steps = 3;
-          returns = refl;
-          stack = refl;
-          carry = refl;
-          memory = ap (put 0x16 ((pages + 1) % 256)) (put_page 5 ((t1 + 1) % 256) there new (omega arith) refl)
-              ∙ put_page 6 ((pages + 1) % 256) (page_of 7 free publish up t0 ((t1 + 1) % 256) pages end second f0 f1) new
-              (omega arith) refl;
-          accesses = refl;
-          steady = λ tables is. refl;
-          there = refl;
-        }
+        rest false = comes 1 refl refl refl refl refl (λ tables is. refl) refl
+        rest true = comes 3 refl refl refl refl refl (λ tables is. refl)
+            (ap (put 0x16 ((pages + 1) % 256)) (put_page 5 ((t1 + 1) % 256) there new (omega arith) refl)
+            ∙ put_page 6 ((pages + 1) % 256) (page_of 7 free publish up t0 ((t1 + 1) % 256) pages end second f0 f1) new
+            (omega arith) refl)
 
     abbrev told_page : Bool → Cpu
     told_page last = at 0x6963 a x next s (nat_le 128 next) (nat_eq next 0) last v (laid (page 7) mem) flags log3
@@ -154,16 +128,7 @@ module _ (q a x y s : ℕ) (n z c v : Bool) (free publish next t0 t1 pages end s
   put_full last late =
       by q 6 _ (told_page true) s true _ _ (ap told_page last) (λ tables is. refl)
       (by q 2 _ (told_place true) s true _ _ (ap told_place late) (λ tables is. refl)
-      (record {
-        steps = 1;
-        returns = refl;
-        stack = refl;
-        carry = refl;
-        memory = refl;
-        accesses = refl;
-        steady = λ tables is. refl;
-        there = refl;
-      }))
+      (comes 1 refl refl refl refl refl (λ tables is. refl) refl))
     where
       told_page : Bool → Cpu
       told_page last = at 0x6963 a x next s (nat_le 128 next) (nat_eq next 0) last v (laid (page 7) mem) flags log3

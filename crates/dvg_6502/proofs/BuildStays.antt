@@ -20,6 +20,7 @@ use Rattle.dvg_6502.proofs.Building.{goal_low, goal_high, place_low, base_low}
 use Rattle.dvg_6502.proofs.Built.{holds_in}
 use Rattle.dvg_6502.proofs.BuildCalls.{not_building}
 use Rattle.dvg_6502.proofs.Programs.{held}
+use Rattle.dvg_6502.proofs.Sessions.{by_reset}
 
 -- at a place, while a frame is being built
 record Here (pc : ℕ) (cpu : Cpu) : Type 0 where
@@ -411,35 +412,15 @@ before_it cpu begin stop None life routine stood is on phase =
 before_it cpu begin stop (Some frame) life routine built is on phase =
     builder_stays cpu built.half built.flipped frame.1 built.loaded built.building routine is on
 
+-- no reset goes on
+goes_after : (r : Routine) (P : Type 0) → goes_on r ≡ true → UnlessReset r P → P
+goes_after r P = by_reset (λ r U S. goes_on r ≡ true → U P → P) (λ on. absurd (cc)) (λ r on is. is) r
+
 pub stays_building : StaysBuilding
-stays_building call [] session on phase open_yet = absurd (no_first call.routine on session.3)
-  where
-    no_first : (routine : Routine) → goes_on routine ≡ true → UnlessReset routine (⊥ × IsSession []) → ⊥
-    no_first Reset on rest = absurd (cc)
-    no_first Tick on rest = rest.0
-    no_first Ticks on rest = rest.0
-    no_first Run on rest = rest.0
-    no_first (Offer F) on rest = rest.0
-    no_first Redraw on rest = rest.0
-    no_first (Open F) on rest = rest.0
-    no_first (Puts part) on rest = rest.0
-    no_first Close on rest = rest.0
+stays_building call [] session on phase open_yet = absurd (goes_after call.routine (⊥ × IsSession []) on session.3).0
 stays_building call (older ∷ olds) session on phase open_yet =
-    let rest = follows_it call.routine on session.3 in
+    let rest = goes_after call.routine (Follows call (older ∷ olds) × IsSession (older ∷ olds)) on session.3 in
     let was = held call older olds session.0 rest.0 rest.1 in
     call_stays 7 call (older ∷ olds) session
     (before_it call.from was.0 was.1.0 (frame_of (older ∷ olds)) was.1.1.0 call.routine was.1.1.1 session.0.entry on phase)
     open_yet
-  where
-    follows_it : (routine : Routine) → goes_on routine ≡ true
-        → UnlessReset routine (Follows call (older ∷ olds) × IsSession (older ∷ olds))
-        → Follows call (older ∷ olds) × IsSession (older ∷ olds)
-    follows_it Reset on rest = absurd (cc)
-    follows_it Tick on rest = rest
-    follows_it Ticks on rest = rest
-    follows_it Run on rest = rest
-    follows_it (Offer F) on rest = rest
-    follows_it Redraw on rest = rest
-    follows_it (Open F) on rest = rest
-    follows_it (Puts part) on rest = rest
-    follows_it Close on rest = rest

@@ -12,7 +12,7 @@ use Rattle.dvg_6502.specs.Board.{IsLoaded, seen, goal_in, is_own, is_ram}
 use Rattle.dvg_6502.specs.Routines.{Enters}
 use Rattle.dvg_6502.specs.Build.{IsBuilding, Builds, PutTakes}
 use Rattle.dvg_6502.proofs.Running.{Comes, at, returned}
-use Rattle.dvg_6502.proofs.Memory.{AreSmall, page_in, laid, page_of, loaded, put_small, in_page, in_code, state_is, known, same_out}
+use Rattle.dvg_6502.proofs.Memory.{AreSmall, page_in, laid, page_of, loaded, put_small, in_page, in_code, state_is, known, same_out, small_page}
 use Rattle.dvg_6502.proofs.StoredByte.{carried}
 use Rattle.dvg_6502.proofs.TableTick.{in_ram, carried_small}
 use Rattle.dvg_6502.proofs.Alike.{alike_if, Keeping}
@@ -164,28 +164,9 @@ module _ (a x y s : ℕ) (n z c v : Bool) (mem flags : ℕ → ℕ) (log : List 
       (let f = building.fits in omega (arith, f)) refl
 
   page_small : AreSmall page
-  page_small = (
-    omega arith,
-    (
-      load.bytes 0x11,
-      (
-        load.bytes 0x12,
-        (
-          omega arith,
-          (
-            load.bytes 0x14,
-            (
-              carried_small wrap 1 (mem 0x15) (load.bytes 0x15),
-              (
-                carried_small wrap 1 (mem 0x16) (load.bytes 0x16),
-                (load.bytes 0x17, (load.bytes 0x18, (load.bytes 0x19, (load.bytes 0x1A, tt)))),
-              ),
-            ),
-          ),
-        ),
-      ),
-    ),
-  )
+  page_small = small_page (omega arith) (load.bytes 0x11) (load.bytes 0x12) (omega arith) (load.bytes 0x14)
+      (carried_small wrap 1 (mem 0x15) (load.bytes 0x15)) (carried_small wrap 1 (mem 0x16) (load.bytes 0x16))
+      (load.bytes 0x17) (load.bytes 0x18) (load.bytes 0x19) (load.bytes 0x1A)
 
   abbrev final : ℕ → ℕ
   final = laid page (put (suc goal) x (put goal a mem))

@@ -10,7 +10,7 @@ use Rattle.dvg_6502.specs.Board.{IsLoaded, seen, is_own, is_hardware, source_in,
 use Rattle.dvg_6502.specs.Feed.{put_for, second_then, second_byte}
 use Rattle.dvg_6502.specs.Holds.{publish_byte}
 use Rattle.dvg_6502.proofs.Running.{at}
-use Rattle.dvg_6502.proofs.Memory.{AreSmall, laid, page_of, page_in, in_page, in_code, known, loaded, put_small}
+use Rattle.dvg_6502.proofs.Memory.{AreSmall, laid, page_of, page_in, in_page, in_code, known, loaded, put_small, small_page}
 use Rattle.dvg_6502.proofs.Memory.{both_true, same_out, kept_write, out_of_page}
 use Rattle.dvg_6502.proofs.StoredByte.{phase_then, carried}
 use Rattle.dvg_6502.proofs.TableTick.{in_ram, not_flag, second_small, put_for_small, carried_small, phase_small}
@@ -216,34 +216,11 @@ module _ (q y : ℕ) (mem : ℕ → ℕ) (begin stop : ℕ) (life : List Item) (
   b1_small = subst (λ b. b < 256) two.reads (one.stood.loaded.bytes (source_in vm1))
 
   page_small : AreSmall page2
-  page_small = (
-    phase_small ends last (publish_byte set) (publish_small set),
-    (
-      load.bytes 0x11,
-      (
-        publish_small set,
-        (
-          load.bytes 0x13,
-          (
-            load.bytes 0x14,
-            (
-              carried_small wrap 1 (mem 0x15) (load.bytes 0x15),
-              (
-                carried_small wrap 255 (mem 0x16) (load.bytes 0x16),
-                (
-                  load.bytes 0x17,
-                  (
-                    second_small (second_then true second b1),
-                    (load.bytes 0x19, (carried_small wrap 1 (mem 0x1A) (load.bytes 0x1A), tt)),
-                  ),
-                ),
-              ),
-            ),
-          ),
-        ),
-      ),
-    ),
-  )
+  page_small = small_page (phase_small ends last (publish_byte set) (publish_small set)) (load.bytes 0x11)
+      (publish_small set) (load.bytes 0x13) (load.bytes 0x14) (carried_small wrap 1 (mem 0x15) (load.bytes 0x15))
+      (carried_small wrap 255 (mem 0x16) (load.bytes 0x16)) (load.bytes 0x17)
+      (second_small (second_then true second b1)) (load.bytes 0x19)
+      (carried_small wrap 1 (mem 0x1A) (load.bytes 0x1A))
 
   pub final_loaded : IsLoaded final
   final_loaded = loaded page2 (put (goal_in vm1) w1 new0) page_small

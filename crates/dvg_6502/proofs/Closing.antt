@@ -16,7 +16,7 @@ use Rattle.dvg_6502.specs.Routines.{Enters}
 use Rattle.dvg_6502.specs.Build.{IsBuilding, Opens, Closes, OpenTakes, PairTakes, LabsTakes, CloseTakes}
 use Rattle.dvg_6502.specs.Build.{Idles, IdleTicks}
 use Rattle.dvg_6502.proofs.Running.{Comes, by, at, returned}
-use Rattle.dvg_6502.proofs.Memory.{AreSmall, page_in, laid, page_of, loaded, put_small, state_is}
+use Rattle.dvg_6502.proofs.Memory.{AreSmall, page_in, laid, page_of, loaded, put_small, state_is, small_page}
 use Rattle.dvg_6502.proofs.StoredByte.{carried}
 use Rattle.dvg_6502.proofs.TableTick.{in_ram, carried_small}
 use Rattle.dvg_6502.proofs.OfferRun.{free_of, high_of}
@@ -173,28 +173,10 @@ module _ (a x y s : ℕ) (n z c v : Bool) (mem flags : ℕ → ℕ) (log : List 
           + ((mem 0x13 + 1) % 256 + 1) % 256) % 65536
 
   page_small : AreSmall page
-  page_small = (
-    omega arith,
-    (
-      load.bytes 0x11,
-      (
-        load.bytes 0x12,
-        (
-          omega arith,
-          (
-            load.bytes 0x14,
-            (
-              carried_small over 1 t1' (carried_small wrap 1 (mem 0x15) (load.bytes 0x15)),
-              (
-                carried_small over 1 p1' (carried_small wrap 1 (mem 0x16) (load.bytes 0x16)),
-                (load.bytes 0x17, (load.bytes 0x18, (load.bytes 0x19, (load.bytes 0x1A, tt)))),
-              ),
-            ),
-          ),
-        ),
-      ),
-    ),
-  )
+  page_small = small_page (omega arith) (load.bytes 0x11) (load.bytes 0x12) (omega arith) (load.bytes 0x14)
+      (carried_small over 1 t1' (carried_small wrap 1 (mem 0x15) (load.bytes 0x15)))
+      (carried_small over 1 p1' (carried_small wrap 1 (mem 0x16) (load.bytes 0x16))) (load.bytes 0x17)
+      (load.bytes 0x18) (load.bytes 0x19) (load.bytes 0x1A)
 
   byte : (b k : ℕ) → mem b ≡ k → k < 256
   byte b k is = subst (λ j. j < 256) is (load.bytes b)
@@ -433,31 +415,8 @@ open_steadily cpu begin stop half flipped first rest enters holds some fits = by
           });
           loaded = subst IsLoaded (sym did.memory)
               (loaded (page_of 7 (free_of h) (cpu.mem 0x12) 2 0 (high_of h) 0 (cpu.mem 0x17) (cpu.mem 0x18) (cpu.mem 0x19)
-              (cpu.mem 0x1A)) cpu.mem (
-                omega arith,
-                (
-                  f_small,
-                  (
-                    bytes 0x12,
-                    (
-                      omega arith,
-                      (
-                        omega arith,
-                        (
-                          small,
-                          (
-                            omega arith,
-                            (
-                              bytes 0x17,
-                              (bytes 0x18, (bytes 0x19, (bytes 0x1A, tt))),
-                            ),
-                          ),
-                        ),
-                      ),
-                    ),
-                  ),
-                ),
-              ) bytes);
+              (cpu.mem 0x1A)) cpu.mem (small_page (omega arith) f_small (bytes 0x12) (omega arith) (omega arith) small
+              (omega arith) (bytes 0x17) (bytes 0x18) (bytes 0x19) (bytes 0x1A)) bytes);
         })
         (record {
           byte1 = ap (λ (m : ℕ → ℕ). m 0x4001) did.memory;
@@ -554,25 +513,9 @@ module _ (a x y s : ℕ) (n z c v : Bool) (mem flags : ℕ → ℕ) (load : IsLo
       holds = λ begin stop. subst (λ (m : ℕ → ℕ). Holds m begin stop
           (record { place = Writing (word_zero (other half) (not flipped)); half = half; flipped = flipped }))
           (sym shuts.memory) (closes_at flipped refl begin stop);
-      loaded = subst IsLoaded (sym shuts.memory) (loaded (shut (mem 0x12)) ended (
-        load.bytes 0x12,
-        (
-          load.bytes 0x11,
-          (
-            load.bytes 0x12,
-            (
-              load.bytes 0x13,
-              (
-                load.bytes 0x14,
-                (
-                  load.bytes 0x15,
-                  (load.bytes 0x16, (load.bytes 0x17, (load.bytes 0x18, (load.bytes 0x19, (load.bytes 0x1A, tt))))),
-                ),
-              ),
-            ),
-          ),
-        ),
-      )
+      loaded = subst IsLoaded (sym shuts.memory) (loaded (shut (mem 0x12)) ended (small_page (load.bytes 0x12)
+          (load.bytes 0x11) (load.bytes 0x12) (load.bytes 0x13) (load.bytes 0x14) (load.bytes 0x15) (load.bytes 0x16)
+          (load.bytes 0x17) (load.bytes 0x18) (load.bytes 0x19) (load.bytes 0x1A))
           (put_small (suc end) 0xB0 (put end 0 mem) (omega arith) (put_small end 0 mem (omega arith) load.bytes)));
     },
     record {

@@ -1,8 +1,8 @@
 -- A boot and an offer, over a memory of zeros with the code and a table.
-use Rattle.std.proofs.Common.{◌≡◌, ℕ, zero, suc, ◌+◌, ◌%◌, ◌<◌, Bool, true, false, eqb-true, List, [], ◌∷◌}
-use Rattle.std.proofs.Common.{◌++◌, length, refl, sym, ap, ◌∙◌, arith, inl, le-leb}
+use Rattle.std.proofs.Common.{◌≡◌, ℕ, ◌+◌, ◌%◌, Bool, true, false, eqb-true, List, [], ◌∷◌}
+use Rattle.std.proofs.Common.{◌++◌, refl, sym, ap, ◌∙◌, arith, inl}
 use Rattle.std.proofs.lemmas.List.Elements.{All-cons, All-nil}
-use Rattle.std.specs.Prelude.{◌||◌, ◌&&◌, nat_eq, nat_lt, if◌then◌else◌, slice_index, pos}
+use Rattle.std.specs.Prelude.{◌||◌, ◌&&◌, nat_eq, not, if◌then◌else◌, slice_index, pos}
 use Rattle.dvg_code.specs.declared.instr.Instr.TheVariants.{Labs, Vctr}
 use Rattle.dvg_mem.specs.declared.half.Half.TheVariants.{H1}
 use Rattle.dvg_frame.specs.declared.op.OpKind.{OpKind}
@@ -11,195 +11,79 @@ use Rattle.dvg_frame.specs.Ops.{IsOp, IsDraft}
 use Rattle.dvg_frame.specs.Faults.{Accepts}
 use Rattle.dvg_driver.specs.declared.action.Action.TheVariants.{Peek, Read, Wrote}
 use Rattle.dvg_driver.specs.Script.{Did, Offered}
-use Rattle.dvg_6502.specs.Processor.{Cpu, put, run}
-use Rattle.dvg_6502.specs.Amid.{AreHarmless, guards, is_kept, is_code}
-use Rattle.dvg_6502.specs.Code.{code}
+use Rattle.dvg_6502.specs.Processor.{Cpu, run}
+use Rattle.dvg_6502.specs.Amid.{AreHarmless, guards, is_kept, is_kept_building}
 use Rattle.dvg_6502.specs.Board.{IsLoaded, is_hardware}
 use Rattle.dvg_6502.specs.Tables.{HasTable, table_of}
 use Rattle.dvg_6502.specs.Routines
 use Rattle.dvg_6502.specs.Routines.{Enters}
+use Rattle.dvg_6502.specs.Whole.{Done, SomeFrame}
 use Rattle.dvg_6502.specs.Calls
-use Rattle.dvg_6502.specs.Calls.{Call, IsUntouched, IsSession, IsLifeOf}
+use Rattle.dvg_6502.specs.Calls.{Call, IsSession, IsLifeOf}
 use Rattle.dvg_6502.specs.Build.{IsPut, put_items}
 use Rattle.dvg_6502.specs.Joined.{stroke, SomeCalls, SomeTicks, SomeBuilding, SomeLogs}
-use Rattle.dvg_6502.proofs.Running.{at}
-use Rattle.dvg_6502.proofs.ExampleFrame as built
-use Rattle.dvg_6502.proofs.ExampleFrame.{world, world_small}
+use Rattle.dvg_6502.proofs.ExampleWorld.{start, start_loaded}
 use Rattle.dvg_6502.proofs.BuiltFrame.{built_accepted}
-use Rattle.dvg_6502.proofs.Interrupted.{still_harmless, once, once_harmless}
-use Rattle.dvg_6502.proofs.Memory.{laid, page_of, put_page, put_small, loaded, AreSmall}
-use Rattle.std.proofs.lemmas.Bool.{ne_eqb}
+use Rattle.dvg_6502.proofs.Memory.{both_true}
+use Rattle.dvg_6502.proofs.Interrupted.{still, still_harmless, once, once_harmless}
+use Rattle.dvg_6502.proofs.Quiet.{entered, enters, quiet, follows, puts, loaded_puts, loaded_as, loaded_after, not_true, at_all}
 
-abbrev page : (phase free publish : ℕ) → List ℕ
-page phase free publish = page_of phase free publish 0 0 0 0 0 0 0 0
-
-abbrev memory : (phase free publish : ℕ) → ℕ → ℕ
-memory phase free publish = laid (page phase free publish) world
-
-abbrev state : (pc x phase free publish : ℕ) → Cpu
-state pc x phase free publish =
-    at pc 0 x 0 0xFF false false false false (memory phase free publish) (λ n. 0) []
-
--- a call that nobody interrupts
-abbrev quiet : Calls.Routine → ℕ → Cpu → Call
-quiet routine steps from =
-    record { routine = routine; from = from; steps = steps; others = λ k. (run from.s k from).mem }
+-- the boot
+abbrev reset_from : Cpu
+reset_from = entered 0x6800 0 0xFF 0 start
 
 abbrev reset : Call
-reset = quiet Calls.Reset 4 (state 0x6800 0 0 0 0)
+reset = quiet Calls.Reset 4 reset_from
+
+abbrev peek_from : Cpu
+peek_from = entered 0x686A 0 0xFF 0 (run 0xFF 4 reset_from).mem
 
 abbrev peek : Call
-peek = quiet Calls.Tick 8 (state 0x686A 0 0 0 3)
+peek = quiet Calls.Tick 8 peek_from
+
+abbrev look_from : Cpu
+look_from = entered 0x686A 0 0xFF 0 (run 0xFF 8 peek_from).mem
 
 abbrev look : Call
-look = quiet Calls.Tick 8 (state 0x686A 0 1 0xE2 3)
+look = quiet Calls.Tick 8 look_from
 
--- an NMI has come: it has counted, and below S stands what it pushed
-abbrev nmi : (ℕ → ℕ) → ℕ → ℕ
-nmi mem = put 0 ((mem 0 + 1) % 256) (put 0x1FD 0x30 (put 0x1FE 0x6E (put 0x1FF 0x68 mem)))
+abbrev booted : ℕ → ℕ
+booted = (run 0xFF 8 look_from).mem
 
-abbrev offer : Call
-offer = record {
-  routine = Calls.Offer stroke;
-  from = state 0x68FE 0x50 2 0xE2 3;
-  steps = 33;
-  others = once 3 nmi 0xFF (state 0x68FE 0x50 2 0xE2 3);
-}
+peek_loaded : IsLoaded peek_from.mem
+peek_loaded = loaded_after 0xFF 4 reset_from _ refl refl refl start_loaded
 
-small : (phase free publish : ℕ) → phase < 256 → free < 256 → publish < 256 → AreSmall (page phase free publish)
-small phase free publish a b c =
-    (a, (b, (c, (omega arith, (omega arith, (omega arith, (omega arith, (omega arith, (omega arith, (omega arith, (omega arith, tt)))))))))))
+look_loaded : IsLoaded look_from.mem
+look_loaded = loaded_after 0xFF 8 peek_from _ refl refl refl peek_loaded
 
-enters : (pc x phase free publish : ℕ) → x < 256 → phase < 256 → free < 256 → publish < 256
-    → Enters (state pc x phase free publish) pc
-enters pc x phase free publish few a b c = record {
-  entry = refl;
-  log = refl;
-  loaded = loaded (page phase free publish) world (small phase free publish a b c)
-      world_small;
-  a = omega arith;
-  x = few;
-  s = omega arith;
-}
-
--- what memory is after a call is what it is before the next one
-untouched : (calls : List Call) (before now : ℕ → ℕ) → before ≡ now → IsUntouched calls before now
-untouched calls before now e = record {
-  own = λ b is. ap (λ (m : ℕ → ℕ). m b) (sym e);
-  ram = λ b is. ap (λ (m : ℕ → ℕ). m b) (sym e);
-  table = λ writing b low high. ap (λ (m : ℕ → ℕ). m b) (sym e);
-}
-
-after_reset : (run 0xFF 4 reset.from).mem ≡ memory 0 0 3
-after_reset = ap (put 0x12 3) (put_page 0 0 (page 0 0 0) world (omega arith) refl)
-    ∙ put_page 2 3 (page 0 0 0) world (omega arith) refl
-
-after_peek : (run 0xFF 8 peek.from).mem ≡ memory 1 0xE2 3
-after_peek = ap (put 0x10 1) (put_page 1 0xE2 (page 0 0 3) world (omega arith) refl)
-    ∙ put_page 0 1 (page 0 0xE2 3) world (omega arith) refl
-
-after_look : (run 0xFF 8 look.from).mem ≡ memory 2 0xE2 3
-after_look = put_page 0 2 (page 1 0xE2 3) world (omega arith) refl
+booted_loaded : IsLoaded booted
+booted_loaded = loaded_after 0xFF 8 look_from _ refl refl refl look_loaded
 
 alone : (guard : ℕ → ℕ → Bool) (n : ℕ) (cpu : Cpu) → AreHarmless guard cpu.s (λ k. (run cpu.s k cpu).mem) n cpu
 alone guard n cpu = still_harmless guard cpu.s n cpu
 
-abbrev kept : ℕ → Bool
-kept = is_kept (Calls.is_table offer (look ∷ peek ∷ reset ∷ []))
-
-differs : (p b : ℕ) → kept p ≡ false → (kept b || false) ≡ true → nat_eq b p ≡ false
-differs p b out is = by (nat_eq b p) refl
-  where
-    by : (t : Bool) → nat_eq b p ≡ t → nat_eq b p ≡ false
-    by false e = e
-    by true e = absurd (let k = ap (λ q. kept q || false) (eqb-true b p e) ∙ ap (λ (t : Bool). t || false) out in
-        let f = sym is ∙ k in cc)
-
-nmi_leaves : (mem : ℕ → ℕ) (b : ℕ) → (kept b || false) ≡ true → nmi mem b ≡ mem b
-nmi_leaves mem b is =
-    ap (λ (t : Bool). if t then (mem 0 + 1) % 256 else put 0x1FD 0x30 (put 0x1FE 0x6E (put 0x1FF 0x68 mem)) b)
-    (differs 0 b refl is)
-    ∙ ap (λ (t : Bool). if t then 0x30 else put 0x1FE 0x6E (put 0x1FF 0x68 mem) b) (differs 0x1FD b refl is)
-    ∙ ap (λ (t : Bool). if t then 0x6E else put 0x1FF 0x68 mem b) (differs 0x1FE b refl is)
-    ∙ ap (λ (t : Bool). if t then 0x68 else mem b) (differs 0x1FF b refl is)
-
-nmi_alone : AreHarmless (guards kept 0xFF) 0xFF offer.others 33 offer.from
-nmi_alone = once_harmless (guards kept 0xFF) nmi 3 0xFF 33 offer.from
-    (λ b is. nmi_leaves (run 0xFF 3 offer.from).mem b is)
-
-words_at : (k : ℕ) → k < 10 → memory 2 0xE2 3 (0x5002 + k) ≡ slice_index (table_of stroke) k
-words_at zero h = refl
-words_at (suc zero) h = refl
-words_at (suc (suc zero)) h = refl
-words_at (suc (suc (suc zero))) h = refl
-words_at (suc (suc (suc (suc zero)))) h = refl
-words_at (suc (suc (suc (suc (suc zero))))) h = refl
-words_at (suc (suc (suc (suc (suc (suc zero)))))) h = refl
-words_at (suc (suc (suc (suc (suc (suc (suc zero))))))) h = refl
-words_at (suc (suc (suc (suc (suc (suc (suc (suc zero)))))))) h = refl
-words_at (suc (suc (suc (suc (suc (suc (suc (suc (suc zero))))))))) h = refl
-words_at (suc (suc (suc (suc (suc (suc (suc (suc (suc (suc k)))))))))) h = absurd (omega arith)
-
-far : (k : ℕ) → k < 10 → is_hardware (0x5002 + k) ≡ false
-far zero h = refl
-far (suc zero) h = refl
-far (suc (suc zero)) h = refl
-far (suc (suc (suc zero))) h = refl
-far (suc (suc (suc (suc zero)))) h = refl
-far (suc (suc (suc (suc (suc zero))))) h = refl
-far (suc (suc (suc (suc (suc (suc zero)))))) h = refl
-far (suc (suc (suc (suc (suc (suc (suc zero))))))) h = refl
-far (suc (suc (suc (suc (suc (suc (suc (suc zero)))))))) h = refl
-far (suc (suc (suc (suc (suc (suc (suc (suc (suc zero))))))))) h = refl
-far (suc (suc (suc (suc (suc (suc (suc (suc (suc (suc k)))))))))) h = absurd (omega arith)
-
-vector_is : IsOp (Draw (Vctr 9 (pos 100) (pos 0) 7))
-vector_is = ((omega arith, omega arith, omega arith, omega arith), refl)
-
-labs_is : IsOp (Draw (Labs 512 512 0))
-labs_is = ((omega arith, omega arith, omega arith), refl)
-
-has_table : HasTable (memory 2 0xE2 3) 0x5000 stroke
-has_table = record {
-  fit = (labs_is, tt, (vector_is, tt, (tt, tt, tt)));
-  some = omega arith;
-  fits = omega arith;
-  count = refl;
-  table = words_at;
-  head = (refl, refl);
-  far = far;
-  low = omega arith;
-  ends = omega arith;
-}
-
-enters_reset : Enters reset.from 0x6800
-enters_reset = enters 0x6800 0 0 0 0 (omega arith) (omega arith) (omega arith) (omega arith)
-
 session_reset : IsSession (reset ∷ [])
-session_reset = (enters_reset, tt, alone (guards (is_kept (Calls.is_table reset [])) 0xFF) 4 reset.from, tt)
+session_reset = (
+  enters 0x6800 0 0xFF 0 start (omega arith) (omega arith) start_loaded,
+  tt,
+  alone (guards (is_kept (Calls.is_table reset [])) 0xFF) 4 reset_from,
+  tt,
+)
 
 session_peek : IsSession (peek ∷ reset ∷ [])
 session_peek = (
-  enters 0x686A 0 0 0 3 (omega arith) (omega arith) (omega arith) (omega arith),
+  enters 0x686A 0 0xFF 0 peek_from.mem (omega arith) (omega arith) peek_loaded,
   tt,
-  alone (guards (is_kept (Calls.is_table peek (reset ∷ []))) 0xFF) 8 peek.from,
-  ((refl, untouched (reset ∷ []) (run 0xFF 4 reset.from).mem (memory 0 0 3) after_reset), session_reset),
+  alone (guards (is_kept (Calls.is_table peek (reset ∷ []))) 0xFF) 8 peek_from,
+  (follows Calls.Reset 4 reset_from [] peek refl refl, session_reset),
 )
 
 session_look : IsSession (look ∷ peek ∷ reset ∷ [])
 session_look = (
-  enters 0x686A 0 1 0xE2 3 (omega arith) (omega arith) (omega arith) (omega arith),
+  enters 0x686A 0 0xFF 0 look_from.mem (omega arith) (omega arith) look_loaded,
   tt,
-  alone (guards (is_kept (Calls.is_table look (peek ∷ reset ∷ []))) 0xFF) 8 look.from,
-  ((refl, untouched (peek ∷ reset ∷ []) (run 0xFF 8 peek.from).mem (memory 1 0xE2 3) after_peek), session_peek),
-)
-
-session : IsSession (offer ∷ look ∷ peek ∷ reset ∷ [])
-session = (
-  enters 0x68FE 0x50 2 0xE2 3 (omega arith) (omega arith) (omega arith) (omega arith),
-  has_table,
-  nmi_alone,
-  ((refl, untouched (look ∷ peek ∷ reset ∷ []) (run 0xFF 8 look.from).mem (memory 2 0xE2 3) after_look), session_look),
+  alone (guards (is_kept (Calls.is_table look (peek ∷ reset ∷ []))) 0xFF) 8 look_from,
+  (follows Calls.Tick 8 peek_from (reset ∷ []) look refl refl, session_peek),
 )
 
 life_peek : IsLifeOf (peek ∷ reset ∷ []) (Did Peek ∷ [])
@@ -208,11 +92,77 @@ life_peek = (Did Peek ∷ [], [], refl, ((0, refl), tt), ([], [], refl, (refl, r
 life_look : IsLifeOf (look ∷ peek ∷ reset ∷ []) (Did (Read true) ∷ Did Peek ∷ [])
 life_look = (Did (Read true) ∷ [], Did Peek ∷ [], refl, ((0, refl, refl), tt), life_peek)
 
+-- an offer, amid which an NMI has come: it has counted, and below S stands what it pushed
+abbrev nmi_writes : (ℕ → ℕ) → List (ℕ × ℕ)
+nmi_writes mem = (0, (mem 0 + 1) % 256) ∷ (0x1FD, 0x30) ∷ (0x1FE, 0x6E) ∷ (0x1FF, 0x68) ∷ []
+
+abbrev nmi : (ℕ → ℕ) → ℕ → ℕ
+nmi mem = puts (nmi_writes mem) mem
+
+abbrev offer_from : Cpu
+offer_from = entered 0x68FE 0x50 0xFF 0 booted
+
+abbrev offer_after : ℕ → Call
+offer_after n = record { routine = Calls.Offer stroke; from = offer_from; steps = n; others = once 3 nmi 0xFF offer_from }
+
+abbrev offer : Call
+offer = offer_after 33
+
+abbrev kept : ℕ → Bool
+kept = is_kept (Calls.is_table offer (look ∷ peek ∷ reset ∷ []))
+
+-- writes that reach nothing that is kept
+abbrev all_out : List (ℕ × ℕ) → Bool
+all_out [] = true
+all_out (w ∷ ws) = not (kept w.0) && all_out ws
+
+puts_beside : (ws : List (ℕ × ℕ)) (mem : ℕ → ℕ) → all_out ws ≡ true → (b : ℕ) → (kept b || false) ≡ true → puts ws mem b ≡ mem b
+puts_beside [] mem out b is = refl
+puts_beside (w ∷ ws) mem out b is = let two = both_true (not (kept w.0)) (all_out ws) out in
+    by (nat_eq b w.0) refl (puts_beside ws mem two.1 b is)
+  where
+    by : (t : Bool) → nat_eq b w.0 ≡ t → puts ws mem b ≡ mem b → (if t then w.1 else puts ws mem b) ≡ mem b
+    by false e rest = rest
+    by true e rest = absurd (let k = ap (λ q. kept q || false) (eqb-true b w.0 e) ∙ ap (λ (t : Bool). t || false)
+        (not_true (kept w.0) (both_true (not (kept w.0)) (all_out ws) out).0) in let f = sym is ∙ k in cc)
+
+offer_alone : (n : ℕ) → AreHarmless (guards kept 0xFF) 0xFF offer.others n offer_from
+offer_alone n = once_harmless (guards kept 0xFF) nmi 3 0xFF n offer_from
+    (λ b is. let mem = (run 0xFF 3 offer_from).mem in puts_beside (nmi_writes mem) mem refl b is)
+
+vector_is : IsOp (Draw (Vctr 9 (pos 100) (pos 0) 7))
+vector_is = ((omega arith, omega arith, omega arith, omega arith), refl)
+
+labs_is : IsOp (Draw (Labs 512 512 0))
+labs_is = ((omega arith, omega arith, omega arith), refl)
+
+pub has_table : HasTable booted 0x5000 stroke
+has_table = record {
+  fit = (labs_is, tt, (vector_is, tt, (tt, tt, tt)));
+  some = omega arith;
+  fits = omega arith;
+  count = refl;
+  table = λ k less. eqb-true (booted (0x5002 + k)) (slice_index (table_of stroke) k)
+      (at_all 10 (λ j. nat_eq (booted (0x5002 + j)) (slice_index (table_of stroke) j)) refl k less);
+  head = (refl, refl);
+  far = λ k less. not_true (is_hardware (0x5002 + k)) (at_all 10 (λ j. not (is_hardware (0x5002 + j))) refl k less);
+  low = omega arith;
+  ends = omega arith;
+}
+
+session_offer : (n : ℕ) → IsSession (offer_after n ∷ look ∷ peek ∷ reset ∷ [])
+session_offer n = (
+  enters 0x68FE 0x50 0xFF 0 booted (omega arith) (omega arith) booted_loaded,
+  has_table,
+  offer_alone n,
+  (follows Calls.Tick 8 look_from (peek ∷ reset ∷ []) offer refl refl, session_look),
+)
+
 pub some_calls : SomeCalls
 some_calls = (
   offer,
   look ∷ peek ∷ reset ∷ [],
-  session,
+  session_offer 33,
   (Offered H1 stroke ∷ [], Did (Read true) ∷ Did Peek ∷ [], refl, (refl, refl), life_look),
   refl,
   refl,
@@ -220,71 +170,31 @@ some_calls = (
 
 -- an NMI that ticks: it has counted and pushed, and calls dvg_tick
 abbrev idle : Cpu
-idle = at 0x686A 0 0 0 0xF7 false false false false (nmi (memory 2 0xE2 3)) (λ n. 0) []
+idle = entered 0x686A 0 0xF7 0 (nmi booted)
 
 -- that offer, up to its CLC; an idle tick comes amid it
 abbrev decided : Call
-decided = record offer { steps = 28 }
+decided = offer_after 28
 
 -- and a tick that acts comes after that
+abbrev feed_from : Cpu
+feed_from = entered 0x686A 0 0xF7 0 (Calls.after decided).mem
+
 abbrev feed : Call
-feed = quiet Calls.Tick 20 (at 0x686A 0 0 0 0xF7 false false false false (Calls.after decided).mem (λ n. 0) [])
+feed = quiet Calls.Tick 20 feed_from
 
-loaded_put : (p v : ℕ) (mem : ℕ → ℕ) → is_code p ≡ false → v < 256 → IsLoaded mem → IsLoaded (put p v mem)
-loaded_put p v mem out small load = record {
-  code = λ i h. other (0x6800 + i) (ne_eqb (0x6800 + i) p (λ same. absurd (let a = ap is_code same ∙ out in
-      let b = coded i h in cc))) ∙ load.code i h;
-  bytes = put_small p v mem small load.bytes;
-}
-  where
-    coded : (i : ℕ) → i < length code → is_code (0x6800 + i) ≡ true
-    coded i h = ap (λ (t : Bool). t && nat_lt (0x6800 + i) 0x6A87) (le-leb 0x6800 (0x6800 + i) (omega arith))
-        ∙ le-leb (suc (0x6800 + i)) 0x6A87 (omega (arith, h))
+loaded_nmi : IsLoaded (nmi booted)
+loaded_nmi = loaded_puts (nmi_writes booted) booted refl booted_loaded
 
-    other : (b : ℕ) → nat_eq b p ≡ false → put p v mem b ≡ mem b
-    other b is = ap (λ (t : Bool). if t then v else mem b) is
-
-loaded_nmi : IsLoaded (nmi (memory 2 0xE2 3))
-loaded_nmi = loaded_put 0 _ _ refl (omega arith) (loaded_put 0x1FD _ _ refl (omega arith) (loaded_put 0x1FE _ _ refl (omega arith)
-    (loaded_put 0x1FF _ _ refl (omega arith) (loaded (page 2 0xE2 3) world (small 2 0xE2 3 (omega arith) (omega arith) (omega arith))
-    world_small))))
-
--- what the offer has written by then: `from`, `pages`, `end`, `second`, `to`, `at`, and the phase
 loaded_decided : IsLoaded (Calls.after decided).mem
-loaded_decided = loaded_put 0x10 0x80 _ refl (omega arith) (loaded_put 0x13 2 _ refl (omega arith)
-    (loaded_put 0x15 0x44 _ refl (omega arith) (loaded_put 0x14 0 _ refl (omega arith) (loaded_put 0x18 0 _ refl (omega arith)
-    (loaded_put 0x17 12 _ refl (omega arith) (loaded_put 0x17 11 _ refl (omega arith) (loaded_put 0x17 10 _ refl (omega arith)
-    (loaded_put 0x16 0 _ refl (omega arith) (loaded_put 0x16 0 _ refl (omega arith) (loaded_put 0x1A 0x50 _ refl (omega arith)
-    (loaded_put 0x19 0 _ refl (omega arith) loaded_nmi)))))))))))
-
-decided_alone : AreHarmless (guards kept 0xFF) 0xFF decided.others 28 decided.from
-decided_alone = once_harmless (guards kept 0xFF) nmi 3 0xFF 28 decided.from
-    (λ b is. nmi_leaves (run 0xFF 3 decided.from).mem b is)
-
-session_decided : IsSession (decided ∷ look ∷ peek ∷ reset ∷ [])
-session_decided = (
-  enters 0x68FE 0x50 2 0xE2 3 (omega arith) (omega arith) (omega arith) (omega arith),
-  has_table,
-  decided_alone,
-  ((refl, untouched (look ∷ peek ∷ reset ∷ []) (run 0xFF 8 look.from).mem (memory 2 0xE2 3) after_look), session_look),
-)
+loaded_decided = loaded_as (Calls.after decided) (nmi booted) refl refl loaded_nmi
 
 session_feed : IsSession (feed ∷ decided ∷ look ∷ peek ∷ reset ∷ [])
 session_feed = (
-  record {
-    entry = refl;
-    log = refl;
-    loaded = loaded_decided;
-    a = omega arith;
-    x = omega arith;
-    s = omega arith;
-  },
+  enters 0x686A 0 0xF7 0 feed_from.mem (omega arith) (omega arith) loaded_decided,
   tt,
-  still_harmless (guards (is_kept (Calls.is_table feed (decided ∷ look ∷ peek ∷ reset ∷ []))) 0xF7) 0xF7 20 feed.from,
-  (
-    (refl, untouched (decided ∷ look ∷ peek ∷ reset ∷ []) (Calls.after decided).mem (Calls.after decided).mem refl),
-    session_decided,
-  ),
+  still_harmless (guards (is_kept (Calls.is_table feed (decided ∷ look ∷ peek ∷ reset ∷ []))) 0xF7) 0xF7 20 feed_from,
+  ((refl, record { own = λ b is. refl; ram = λ b is. refl; table = λ writing b low high. refl }), session_offer 28),
 )
 
 pub some_ticks : SomeTicks
@@ -306,14 +216,7 @@ some_ticks = (
   ),
   idle,
   7,
-  record {
-    entry = refl;
-    log = refl;
-    loaded = loaded_nmi;
-    a = omega arith;
-    x = omega arith;
-    s = omega arith;
-  },
+  enters 0x686A 0 0xF7 0 (nmi booted) (omega arith) (omega arith) loaded_nmi,
   refl,
   refl,
 )
@@ -329,74 +232,63 @@ accepted : (R : List ℕ) → Accepts stroke R
 accepted R = built_accepted R 512 512 0 (Draw (Vctr 9 (pos 100) (pos 0) 7) ∷ [])
     (All-cons (IsPut R) (Draw (Vctr 9 (pos 100) (pos 0) 7)) [] refl (All-nil (IsPut R))) (omega arith)
 
-answered : Calls.IsAnswered (Calls.Offer stroke) false (Did (Read true) ∷ Did Peek ∷ [])
-answered = record {
-  from = offer.from;
-  steps = 33;
-  others = offer.others;
-  calls = look ∷ peek ∷ reset ∷ [];
-  session = session;
-  makes = life_look;
-  over = refl;
-  carry = refl;
-}
-
 -- after that boot a frame is built: a LABS, and the HALT
 abbrev places_and_halt : List OpKind
 places_and_halt = Draw (Labs 512 512 0) ∷ Halt ∷ []
 
+abbrev open_from : Cpu
+open_from = entered 0x6924 0 0xFF 0 booted
+
 abbrev opening : Call
-opening = quiet (Calls.Open places_and_halt) 16 (built.state 0x6924 2 0 0 world)
+opening = quiet (Calls.Open places_and_halt) 16 open_from
+
+abbrev labs_from : Cpu
+labs_from = entered 0x6979 0 0xFF 0 (run 0xFF 16 open_from).mem
 
 abbrev putting : Call
-putting = quiet (Calls.Puts Routines.Labs) 30 (built.state 0x6979 7 2 0x44 world)
+putting = quiet (Calls.Puts Routines.Labs) 30 labs_from
+
+abbrev close_from : Cpu
+close_from = entered 0x6A00 0 0xFF 0 (run 0xFF 30 labs_from).mem
 
 abbrev closing : Call
-closing = quiet Calls.Close 12 (built.state 0x6A00 7 6 0x44 built.labs)
+closing = quiet Calls.Close 12 close_from
+
+enters_open : Enters open_from 0x6924
+enters_open = enters 0x6924 0 0xFF 0 booted (omega arith) (omega arith) booted_loaded
+
+labs_loaded : IsLoaded labs_from.mem
+labs_loaded = loaded_after 0xFF 16 open_from _ refl refl refl booted_loaded
+
+enters_labs : Enters labs_from 0x6979
+enters_labs = enters 0x6979 0 0xFF 0 labs_from.mem (omega arith) (omega arith) labs_loaded
+
+enters_close : Enters close_from 0x6A00
+enters_close = enters 0x6A00 0 0xFF 0 close_from.mem (omega arith) (omega arith)
+    (loaded_after 0xFF 30 labs_from _ refl refl refl labs_loaded)
 
 session_open : IsSession (opening ∷ look ∷ peek ∷ reset ∷ [])
 session_open = (
-  built.enters 0x6924 2 0 0 world world_small (omega arith) (omega arith) (omega arith),
+  enters_open,
   record { alike = refl; some = omega arith; fits = omega arith },
-  alone (guards (is_kept (Calls.is_table opening (look ∷ peek ∷ reset ∷ []))) 0xFF) 16 opening.from,
-  ((refl, untouched (look ∷ peek ∷ reset ∷ []) (run 0xFF 8 look.from).mem (memory 2 0xE2 3) after_look), session_look),
+  alone (guards (is_kept (Calls.is_table opening (look ∷ peek ∷ reset ∷ []))) 0xFF) 16 open_from,
+  (follows Calls.Tick 8 look_from (peek ∷ reset ∷ []) opening refl refl, session_look),
 )
 
 session_labs : IsSession (putting ∷ opening ∷ look ∷ peek ∷ reset ∷ [])
 session_labs = (
-  built.enters 0x6979 7 2 0x44 world world_small (omega arith) (omega arith) (omega arith),
+  enters_labs,
   (λ less. (0x00 ∷ 0xB0 ∷ [], refl, omega arith)),
-  alone (guards (is_kept (Calls.is_table putting (opening ∷ look ∷ peek ∷ reset ∷ []))) 0xFF) 30 putting.from,
-  (
-    (refl, untouched (opening ∷ look ∷ peek ∷ reset ∷ []) (run 0xFF 16 opening.from).mem putting.from.mem built.after_open),
-    session_open,
-  ),
+  alone (guards (is_kept (Calls.is_table putting (opening ∷ look ∷ peek ∷ reset ∷ []))) 0xFF) 30 labs_from,
+  (follows (Calls.Open places_and_halt) 16 open_from (look ∷ peek ∷ reset ∷ []) putting refl refl, session_open),
 )
 
 session_close : IsSession (closing ∷ putting ∷ opening ∷ look ∷ peek ∷ reset ∷ [])
 session_close = (
-  built.enters 0x6A00 7 6 0x44 built.labs built.labs_small (omega arith) (omega arith) (omega arith),
+  enters_close,
   refl,
-  alone (guards (is_kept (Calls.is_table closing (putting ∷ opening ∷ look ∷ peek ∷ reset ∷ []))) 0xFF) 12 closing.from,
-  (
-    (refl, untouched (putting ∷ opening ∷ look ∷ peek ∷ reset ∷ []) (run 0xFF 30 putting.from).mem closing.from.mem built.after_labs),
-    session_labs,
-  ),
-)
-
-life_open : IsLifeOf (opening ∷ look ∷ peek ∷ reset ∷ [])
-    (Offered H1 places_and_halt ∷ Did (Read true) ∷ Did Peek ∷ [])
-life_open = (Offered H1 places_and_halt ∷ [], Did (Read true) ∷ Did Peek ∷ [], refl, (refl, refl), life_look)
-
-life_labs : IsLifeOf (putting ∷ opening ∷ look ∷ peek ∷ reset ∷ [])
-    (put_items 0x4402 (0x00 ∷ 0xA2 ∷ 0x00 ∷ 0x02 ∷ [])
-    ++ Offered H1 places_and_halt ∷ Did (Read true) ∷ Did Peek ∷ [])
-life_labs = (
-  put_items 0x4402 (0x00 ∷ 0xA2 ∷ 0x00 ∷ 0x02 ∷ []),
-  Offered H1 places_and_halt ∷ Did (Read true) ∷ Did Peek ∷ [],
-  refl,
-  (refl, (refl, (refl, (refl, tt)))),
-  life_open,
+  alone (guards (is_kept (Calls.is_table closing (putting ∷ opening ∷ look ∷ peek ∷ reset ∷ []))) 0xFF) 12 close_from,
+  (follows (Calls.Puts Routines.Labs) 30 labs_from (opening ∷ look ∷ peek ∷ reset ∷ []) closing refl refl, session_labs),
 )
 
 pub some_building : SomeBuilding
@@ -409,8 +301,48 @@ some_building = (
     put_items 0x4402 (0x00 ∷ 0xA2 ∷ 0x00 ∷ 0x02 ∷ []) ++ Offered H1 places_and_halt ∷ Did (Read true) ∷ Did Peek ∷ [],
     refl,
     (refl, (refl, tt)),
-    life_labs,
+    (
+      put_items 0x4402 (0x00 ∷ 0xA2 ∷ 0x00 ∷ 0x02 ∷ []),
+      Offered H1 places_and_halt ∷ Did (Read true) ∷ Did Peek ∷ [],
+      refl,
+      (refl, (refl, (refl, (refl, tt)))),
+      (Offered H1 places_and_halt ∷ [], Did (Read true) ∷ Did Peek ∷ [], refl, (refl, refl), life_look),
+    ),
   ),
+)
+
+-- the same calls, as laws of whole frames have them
+abbrev done : ℕ → Cpu → Done
+done steps from = record { from = from; steps = steps; others = λ k. (run from.s k from).mem }
+
+pub some_frame : SomeFrame
+some_frame = (
+  done 16 open_from,
+  done 12 close_from,
+  (Routines.Labs, done 30 labs_from) ∷ [],
+  record { flipped = refl; place = (refl, refl, refl) },
+  record {
+    enters = enters_open;
+    untouched = λ b own. refl;
+    alone = alone (guards is_kept_building 0xFF) 16 open_from;
+    returns = refl;
+  },
+  (
+    record {
+      enters = enters_labs;
+      untouched = λ b own. ap (λ (c : Cpu). c.mem b) (sym (still 0xFF 16 open_from));
+      alone = alone (guards is_kept_building 0xFF) 30 labs_from;
+      returns = refl;
+    },
+    tt,
+  ),
+  record {
+    enters = enters_close;
+    untouched = λ b own. ap (λ (c : Cpu). c.mem b) (sym (still 0xFF 30 labs_from));
+    alone = alone (guards is_kept_building 0xFF) 12 close_from;
+    returns = refl;
+  },
+  refl,
 )
 
 pub some_logs : SomeLogs
@@ -423,3 +355,15 @@ some_logs R image rom is = (
     (((peek ∷ reset ∷ [], session_peek, life_peek), tt), tt, (rom, is)),
   ),
 )
+  where
+    answered : Calls.IsAnswered (Calls.Offer stroke) false (Did (Read true) ∷ Did Peek ∷ [])
+    answered = record {
+      from = offer_from;
+      steps = 33;
+      others = offer.others;
+      calls = look ∷ peek ∷ reset ∷ [];
+      session = session_offer 33;
+      makes = life_look;
+      over = refl;
+      carry = refl;
+    }

@@ -13,7 +13,8 @@ use Rattle.dvg_6502.proofs.Memory.{laid, page_of, phase_is, both_true}
 use Rattle.dvg_6502.proofs.Growing.{Splits, split, stays}
 use Rattle.dvg_6502.proofs.Steady.{code_kept}
 use Rattle.dvg_6502.proofs.Decided.{clears}
-use Rattle.dvg_6502.proofs.Interrupted.{bridge, leaves_too}
+use Rattle.dvg_6502.proofs.Interrupted.{leaves_too}
+use Rattle.dvg_6502.proofs.Sessions.{came_of}
 
 -- the phase is this one before each of so many steps
 abbrev pub are_in : (p q n : ℕ) → Cpu → Bool
@@ -158,7 +159,7 @@ module _ (call : calls.Call) (more : List calls.Call) (session : calls.IsSession
   tables = calls.is_table call more
 
   is_same : (b : ℕ) → is_kept tables b ≡ true → (calls.after call).mem b ≡ pl.mem b
-  is_same b kept = let same = (bridge call more session).same in
+  is_same b kept = let same = (came_of call more session).same in
       ap (λ (k : Cpu). k.mem b) same.same ∙ same.keeps b (left_true (is_kept tables b) _ kept)
 
   over : (calls.has_returned call ≡ true) ⊎ (calls.is_leaving call.from.s (calls.after call) ≡ true)
@@ -170,12 +171,12 @@ module _ (call : calls.Call) (more : List calls.Call) (session : calls.IsSession
       → (calls.after call).mem 0x10 ≡ p
   phase_at p open_yet (inl phase) = is_same 0x10 refl ∙ phase
   phase_at p open_yet (inr (inl leaves)) =
-      let same = (bridge call more session).same in
+      let same = (came_of call more session).same in
       let also = leaves_too call.from.s (is_kept tables) (calls.after call) pl pl.mem (λ b code. code_kept tables b code)
       (sym (ap (changed pl.mem) same.same)) (λ b kept. sym (is_same b kept)) leaves in
       absurd (let e = sym open_yet ∙ over (inr also) in cc)
   phase_at p open_yet (inr (inr back)) =
-      absurd (let e = sym open_yet ∙ over (inl ((bridge call more session).returned ∙ back)) in cc)
+      absurd (let e = sym open_yet ∙ over (inl ((came_of call more session).returned ∙ back)) in cc)
 
 -- where the plain run stays so, the call does
 pub call_stays : (p : ℕ) (call : calls.Call) (more : List calls.Call) → calls.IsSession (call ∷ more)

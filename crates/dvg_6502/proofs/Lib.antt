@@ -45,13 +45,13 @@ pub mod Built
 pub mod Decided
 pub mod BuildCalls
 pub mod Whole
-pub mod ExampleFrame
-pub mod Plain
-pub mod Sessions
 pub mod Interrupted
+pub mod Sessions
 pub mod Idling
 pub mod Drafts
 pub mod Programs
 pub mod BuildStays
 pub mod Joined
+pub mod Quiet
+pub mod ExampleWorld
 pub mod Example

@@ -148,6 +148,11 @@ abbrev pub AreSmall : List ℕ → Type 0
 AreSmall [] = Unit {0}
 AreSmall (x ∷ xs) = (x < 256) × AreSmall xs
 
+pub small_page : {phase free publish next t0 t1 pages end second f0 f1 : ℕ} → phase < 256 → free < 256 → publish < 256
+    → next < 256 → t0 < 256 → t1 < 256 → pages < 256 → end < 256 → second < 256 → f0 < 256 → f1 < 256
+    → AreSmall (page_of phase free publish next t0 t1 pages end second f0 f1)
+small_page a b c d e f g h i j k = (a, (b, (c, (d, (e, (f, (g, (h, (i, (j, (k, tt)))))))))))
+
 pub are_small : (xs : List ℕ) → AreSmall xs → (i : ℕ) → slice_index xs i < 256
 are_small [] all i = omega arith
 are_small (x ∷ xs) all zero = all.0

@@ -4,7 +4,7 @@ use Rattle.std.proofs.Common.{arith}
 use Rattle.std.specs.Prelude.{nat_eq, nat_le, ◌&&◌, if◌then◌else◌}
 use Rattle.dvg_6502.specs.Processor.{Cpu, Access, Reads, Writes, put, run, bit_of}
 use Rattle.dvg_6502.specs.Board.{seen, is_hardware}
-use Rattle.dvg_6502.proofs.Running.{Comes, by, at}
+use Rattle.dvg_6502.proofs.Running.{Comes, by, at, comes}
 use Rattle.dvg_6502.proofs.Memory.{laid, page_of, put_page, both_true}
 use Rattle.dvg_6502.proofs.FedByte.{compared, byte_read, flags_then, taken}
 
@@ -24,17 +24,9 @@ module _ (q a x y s : ℕ) (n z c v : Bool) (free next t0 t1 pages end second f0
   pub reset : (phase publish : ℕ)
       → Comes q (at 0x6800 a x y s n z c v (laid (page phase publish) mem) flags log) s c (laid (page 0 3) mem)
       (seen log) []
-  reset phase publish = record {
-    steps = 4;
-    returns = refl;
-    stack = refl;
-    carry = refl;
-    accesses = refl;
-    steady = λ tables is. refl;
-    there = refl;
-    memory = ap (put 0x12 3) (put_page 0 0 (page phase publish) mem (omega arith) refl)
-        ∙ put_page 2 3 (page 0 publish) mem (omega arith) refl;
-  }
+  reset phase publish = comes 4 refl refl refl refl refl (λ tables is. refl)
+      (ap (put 0x12 3) (put_page 0 0 (page phase publish) mem (omega arith) refl)
+      ∙ put_page 2 3 (page 0 publish) mem (omega arith) refl)
 
   pub offer_refuses : (phase publish : ℕ) → phase < 256 → nat_eq phase 2 ≡ false
       → Comes q (at 0x68FE a x y s n z c v (laid (page phase publish) mem) flags log) s true
@@ -49,16 +41,7 @@ module _ (q a x y s : ℕ) (n z c v : Bool) (free next t0 t1 pages end second f0
 
   pub redraw_takes : Comes q (at 0x6943 a x y s n z c v (laid (page 2 4) mem) flags log) s false (laid (page 5 4) mem)
       (seen log) []
-  redraw_takes = record {
-    steps = 9;
-    returns = refl;
-    stack = refl;
-    carry = refl;
-    accesses = refl;
-    steady = λ tables is. refl;
-    there = refl;
-    memory = put_page 0 5 (page 2 4) mem (omega arith) refl;
-  }
+  redraw_takes = comes 9 refl refl refl refl refl (λ tables is. refl) (put_page 0 5 (page 2 4) mem (omega arith) refl)
 
   -- nothing was published
   pub redraw_first : Comes q (at 0x6943 a x y s n z c v (laid (page 2 3) mem) flags log) s true (laid (page 2 3) mem)
@@ -186,50 +169,16 @@ module _ (q a x y s : ℕ) (n z c v : Bool) (publish next t0 t1 pages end second
         (at 0x691A e0 x 0 s (nat_le 128 e2) t (nat_le 128 wh) v
         (laid (page_of 2 (free_of h) publish next t0 t1 p0 e2 second a x) mem) flags log5) s false
         (laid (page_of 0x80 (free_of h) publish 2 0 (high_of h) (p2 t) e2 0 a x) mem) (seen log5) (low_place ∷ high_place ∷ [])
-    rest true true = record {
-      steps = 15;
-      returns = refl;
-      stack = refl;
-      carry = refl;
-      accesses = refl;
-      steady = λ tables is. refl;
-      there = refl;
-      memory = ap (λ m. put 0x10 0x80 (put 0x13 2 (put 0x15 0x44 (put 0x14 0 (put 0x18 0 m)))))
-          (put_page 6 ((p0 + 1) % 256) (page_of 2 0xE2 publish next t0 t1 p0 e2 second a x) mem (omega arith) refl)
-          ∙ readied true ((p0 + 1) % 256);
-    }
-    rest true false = record {
-      steps = 14;
-      returns = refl;
-      stack = refl;
-      carry = refl;
-      accesses = refl;
-      steady = λ tables is. refl;
-      there = refl;
-      memory = readied true p0;
-    }
-    rest false true = record {
-      steps = 15;
-      returns = refl;
-      stack = refl;
-      carry = refl;
-      accesses = refl;
-      steady = λ tables is. refl;
-      there = refl;
-      memory = ap (λ m. put 0x10 0x80 (put 0x13 2 (put 0x15 0x40 (put 0x14 0 (put 0x18 0 m)))))
-          (put_page 6 ((p0 + 1) % 256) (page_of 2 0xE0 publish next t0 t1 p0 e2 second a x) mem (omega arith) refl)
-          ∙ readied false ((p0 + 1) % 256);
-    }
-    rest false false = record {
-      steps = 14;
-      returns = refl;
-      stack = refl;
-      carry = refl;
-      accesses = refl;
-      steady = λ tables is. refl;
-      there = refl;
-      memory = readied false p0;
-    }
+    rest true true = comes 15 refl refl refl refl refl (λ tables is. refl)
+        (ap (λ m. put 0x10 0x80 (put 0x13 2 (put 0x15 0x44 (put 0x14 0 (put 0x18 0 m)))))
+        (put_page 6 ((p0 + 1) % 256) (page_of 2 0xE2 publish next t0 t1 p0 e2 second a x) mem (omega arith) refl)
+        ∙ readied true ((p0 + 1) % 256))
+    rest true false = comes 14 refl refl refl refl refl (λ tables is. refl) (readied true p0)
+    rest false true = comes 15 refl refl refl refl refl (λ tables is. refl)
+        (ap (λ m. put 0x10 0x80 (put 0x13 2 (put 0x15 0x40 (put 0x14 0 (put 0x18 0 m)))))
+        (put_page 6 ((p0 + 1) % 256) (page_of 2 0xE0 publish next t0 t1 p0 e2 second a x) mem (omega arith) refl)
+        ∙ readied false ((p0 + 1) % 256))
+    rest false false = comes 14 refl refl refl refl refl (λ tables is. refl) (readied false p0)
 
     quiet : seen log5 ≡ seen log
     quiet = ap (λ (t : Bool). if t then Reads low_place wl ∷ seen log2 else seen log2) low_device

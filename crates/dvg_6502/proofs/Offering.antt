@@ -18,7 +18,7 @@ use Rattle.dvg_6502.specs.Tables.{HasTable, table_of}
 use Rattle.dvg_6502.specs.Routines.{Answers, IsBusy, Enters, ResetRefines, OfferTakes, OfferRefuses, RedrawTakes}
 use Rattle.dvg_6502.specs.Routines.{RedrawRefuses}
 use Rattle.dvg_6502.proofs.Running.{Comes, at, returned}
-use Rattle.dvg_6502.proofs.Memory.{AreSmall, known, page_in, laid, page_of, loaded, same_out, out_of_page}
+use Rattle.dvg_6502.proofs.Memory.{AreSmall, known, page_in, laid, page_of, loaded, same_out, out_of_page, small_page}
 use Rattle.dvg_6502.proofs.TableTick.{not_flag}
 use Rattle.dvg_6502.proofs.Begun.{BeginsTable, table_begins}
 use Rattle.dvg_6502.proofs.Steady.{steady_all, code_kept}
@@ -86,25 +86,8 @@ module _ (tables : ℕ → Bool) (a x y s : ℕ) (n z c v : Bool) (mem flags : �
       (mem 0x18) (mem 0x19) (mem 0x1A)
 
   small : (phase free publish : ℕ) → phase < 256 → free < 256 → publish < 256 → AreSmall (page phase free publish)
-  small phase free publish p f l = (
-    p,
-    (
-      f,
-      (
-        l,
-        (
-          load.bytes 0x13,
-          (
-            load.bytes 0x14,
-            (
-              load.bytes 0x15,
-              (load.bytes 0x16, (load.bytes 0x17, (load.bytes 0x18, (load.bytes 0x19, (load.bytes 0x1A, tt))))),
-            ),
-          ),
-        ),
-      ),
-    ),
-  )
+  small phase free publish p f l = small_page p f l (load.bytes 0x13) (load.bytes 0x14) (load.bytes 0x15)
+      (load.bytes 0x16) (load.bytes 0x17) (load.bytes 0x18) (load.bytes 0x19) (load.bytes 0x1A)
 
   abbrev from : ℕ → Cpu
   from entry = at entry a x y s n z c v (laid (page_in mem) mem) flags []
@@ -291,22 +274,8 @@ module _ (tables : ℕ → Bool) (a x y s : ℕ) (n z c v : Bool) (mem flags : �
   p2_small false = omega arith
 
   small_final : AreSmall final
-  small_final = (
-    omega arith,
-    (
-      f_small,
-      (
-        load.bytes 0x12,
-        (
-          omega arith,
-          (
-            omega arith,
-            (h_small, (p2_small (nat_eq e2 0), (omega arith, (omega arith, (a_small, (x_small, tt)))))),
-          ),
-        ),
-      ),
-    ),
-  )
+  small_final = small_page (omega arith) f_small (load.bytes 0x12) (omega arith) (omega arith) h_small
+      (p2_small (nat_eq e2 0)) (omega arith) (omega arith) a_small x_small
 
   offers : (from : Cpu) → from ≡ at 0x68FE a x y s n z c v (laid begun mem) flags []
       → ((b : ℕ) → is_own b ≡ false → laid begun mem b ≡ from.mem b)

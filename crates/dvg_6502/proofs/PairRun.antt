@@ -4,7 +4,7 @@ use Rattle.std.proofs.Common.{arith}
 use Rattle.std.specs.Prelude.{nat_eq, nat_le, bit_and, bit_or, bit_xor, if◌then◌else◌}
 use Rattle.dvg_6502.specs.Processor.{Cpu, Access, Reads, Writes, put, run}
 use Rattle.dvg_6502.specs.Board.{seen}
-use Rattle.dvg_6502.proofs.Running.{Comes, by, at}
+use Rattle.dvg_6502.proofs.Running.{Comes, by, at, comes}
 use Rattle.dvg_6502.proofs.Memory.{laid, page_of, put_page, put_out, in_page, in_code}
 use Rattle.dvg_6502.proofs.StoredByte.{carried}
 use Rattle.dvg_6502.proofs.BuildRun.{is_full}
@@ -88,28 +88,11 @@ module _ (q x s : ℕ) (v : Bool) (free publish old next t0 t1 pages end second 
           ∙ ap (λ (t : Bool). Writes to1 b1 ∷ (if t then Writes to0 b0 ∷ seen log else seen log)) place0.high
 
       rest : (wrap : Bool) → Comes q (told2 wrap) s false (laid (moved wrap) new) (seen log5) []
-      rest false = record {
-        steps = 1;
-        returns = refl;
-        stack = refl;
-        carry = refl;
-        memory = refl;
-        accesses = refl;
-        steady = λ tables is. refl;
-        there = refl;
-      }
-      rest true = record {
-        steps = 3;
-        returns = refl;
-        stack = refl;
-        carry = refl;
-        memory = ap (put 0x16 ((pages + 1) % 256)) (put_page 5 ((t1 + 1) % 256) (here up) new (omega arith) refl)
-            ∙ put_page 6 ((pages + 1) % 256) (page_of 7 free publish up t0 ((t1 + 1) % 256) pages end second f0 f1) new
-            (omega arith) refl;
-        accesses = refl;
-        steady = λ tables is. refl;
-        there = refl;
-      }
+      rest false = comes 1 refl refl refl refl refl (λ tables is. refl) refl
+      rest true = comes 3 refl refl refl refl refl (λ tables is. refl)
+          (ap (put 0x16 ((pages + 1) % 256)) (put_page 5 ((t1 + 1) % 256) (here up) new (omega arith) refl)
+          ∙ put_page 6 ((pages + 1) % 256) (page_of 7 free publish up t0 ((t1 + 1) % 256) pages end second f0 f1) new
+          (omega arith) refl)
 
 -- the first word, from 6995 on
 module _ (q x s : ℕ) (v : Bool) (free publish next t0 t1 pages end second f0 f1 : ℕ) (mem flags : ℕ → ℕ) where
@@ -277,16 +260,7 @@ module _ (q a x y s : ℕ) (n z c v : Bool) (publish next t0 t1 pages end second
   pub open_takes : (h : Bool)
       → Comes q (at 0x6924 a x y s n z c v (laid (page_of 2 (free_of h) publish next t0 t1 pages end second f0 f1) mem)
       flags log) s false (laid (page_of 7 (free_of h) publish 2 0 (high_of h) 0 end second f0 f1) mem) (seen log) []
-  open_takes true = record {
-    steps = 16;
-    returns = refl;
-    stack = refl;
-    carry = refl;
-    memory = opened 0xE2 0x44;
-    accesses = refl;
-    steady = λ tables is. refl;
-    there = refl;
-  }
+  open_takes true = comes 16 refl refl refl refl refl (λ tables is. refl) (opened 0xE2 0x44)
     where
       opened : (free high : ℕ) → put 0x10 7 (put 0x13 2 (put 0x15 high (put 0x14 0 (put 0x16 0
           (laid (page_of 2 free publish next t0 t1 pages end second f0 f1) mem)))))
@@ -300,16 +274,7 @@ module _ (q a x y s : ℕ) (n z c v : Bool) (publish next t0 t1 pages end second
           (put_page 5 high (page_of 2 free publish next 0 t1 0 end second f0 f1) mem (omega arith) refl)
           ∙ ap (put 0x10 7) (put_page 3 2 (page_of 2 free publish next 0 high 0 end second f0 f1) mem (omega arith) refl)
           ∙ put_page 0 7 (page_of 2 free publish 2 0 high 0 end second f0 f1) mem (omega arith) refl
-  open_takes false = record {
-    steps = 16;
-    returns = refl;
-    stack = refl;
-    carry = refl;
-    memory = opened 0xE0 0x40;
-    accesses = refl;
-    steady = λ tables is. refl;
-    there = refl;
-  }
+  open_takes false = comes 16 refl refl refl refl refl (λ tables is. refl) (opened 0xE0 0x40)
     where
       opened : (free high : ℕ) → put 0x10 7 (put 0x13 2 (put 0x15 high (put 0x14 0 (put 0x16 0
           (laid (page_of 2 free publish next t0 t1 pages end second f0 f1) mem)))))
@@ -348,16 +313,7 @@ module _ (q a x y s : ℕ) (n z c v : Bool) (free publish next t0 t1 pages end s
       (put_out h1 0xB0 (hpage 7) (put h0 0 mem) place1.page place1.code)) (λ tables is. refl)
       (subst (λ es. Comes q (at 0x6A11 0xB0 x odd1 s true false true v (laid (hpage 7) new) flags log2) s false
       (laid (hpage publish) new) es []) shown
-      (record {
-        steps = 3;
-        returns = refl;
-        stack = refl;
-        carry = refl;
-        memory = put_page 0 publish (hpage 7) new (omega arith) refl;
-        accesses = refl;
-        steady = λ tables is. refl;
-        there = refl;
-      })))
+      (comes 3 refl refl refl refl refl (λ tables is. refl) (put_page 0 publish (hpage 7) new (omega arith) refl))))
     where
       odd1 : ℕ
       odd1 = (next + 1) % 256

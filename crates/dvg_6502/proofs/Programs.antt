@@ -19,11 +19,10 @@ use Rattle.dvg_6502.specs.Calls.{is_over, answer, finds_busy, is_leaving, is_tak
 use Rattle.dvg_6502.specs.Calls.{IsLeftAlone, IsRoomFor, Follows, UnlessReset, IsSessionBy, IsSession, TicksReturn}
 use Rattle.dvg_6502.specs.Build.{IsPut}
 use Rattle.dvg_6502.specs.Programs.{IsLabs, Tells, renamed, with_drafts, BuildsOnly, AreBuilt, Hindsight}
-use Rattle.dvg_6502.proofs.Plain as plain
 use Rattle.dvg_6502.proofs.TicksRun.{ticks_return}
 use Rattle.dvg_6502.proofs.Built.{holds_in, holds_goes}
 use Rattle.dvg_6502.proofs.BuildCalls.{puts_room, puts_over, close_some}
-use Rattle.dvg_6502.proofs.Interrupted.{plain_with, bridge, facts_of, unless_map}
+use Rattle.dvg_6502.proofs.Sessions.{came_of, before_call, unless_map}
 use Rattle.dvg_6502.proofs.Drafts.{Fits, shortest, shortest_fits, fits_more, table_on, ends_some, buildable, is_built}
 
 -- what may come later in the frame that is being built
@@ -72,26 +71,16 @@ record Finds (R : List ℕ) (call : Call) (calls : List Call) : Type 0 where
 told : (call : Call) (calls : List Call) → IsSession (call ∷ calls) → (c : Bool)
     → ((k : ℕ) → at_return call.from.s (run call.from.s k call.from) ≡ true → (run call.from.s k call.from).c ≡ c)
     → is_over call ≡ true → answer call ≡ c
-told call calls session c carry here = let is = bridge call calls session in
-    is.carry here ∙ carry (is.left + call.steps) (sym is.over ∙ here)
+told call calls session c carry here = let is = came_of call calls session in
+    is.carry here ∙ carry is.n (sym is.over ∙ here)
 
 -- what holds at a call that follows others
 pub held : (call older : Call) (olds : List Call) → Enters call.from (entry call.routine) → Follows call (older ∷ olds)
     → IsSession (older ∷ olds)
     → (begin : ℕ) × ((stop : ℕ) × ((life : List Item) × holds_in begin stop (frame_of (older ∷ olds)) call.from.mem life))
 held call older olds enters follows session =
-    let was = bridge older olds session in
-    let facts = facts_of call older olds enters.loaded follows was in
-    let ends = plain.bounds (plain_with was.left older ∷ was.rest) in (
-      ends.0,
-      (
-        ends.1,
-        (
-          facts.standing.0,
-          subst (λ frame. holds_in ends.0 ends.1 frame call.from.mem facts.standing.0) (sym facts.frame) facts.standing.2,
-        ),
-      ),
-    )
+    let was = before_call call (older ∷ olds) follows enters.loaded session in
+    ((bounds (older ∷ olds)).0, ((bounds (older ∷ olds)).1, (was.life, was.holds)))
 
 pub ticks_come_back : TicksReturn
 ticks_come_back from others [] session = absurd (session 0).3.0
@@ -101,7 +90,7 @@ ticks_come_back from others (older ∷ olds) session =
     let was = held call older olds first.0 first.3.0 first.3.1 in
     let done = ticks_return (holds_in was.0 was.1.0 (frame_of (older ∷ olds))) from was.0 was.1.0 was.1.1.0
     (holds_goes was.0 was.1.0 (frame_of (older ∷ olds))) first.0.entry first.0.a first.0.s was.1.1.1 in
-    let all = bridge (record { routine = Ticks; from = from; steps = done.0; others = others }) (older ∷ olds)
+    let all = came_of (record { routine = Ticks; from = from; steps = done.0; others = others }) (older ∷ olds)
     (session done.0) in (
       done.0,
       all.returned ∙ done.1,

@@ -8,7 +8,7 @@ use Rattle.dvg_6502.specs.Amid.{is_kept, are_steady}
 use Rattle.dvg_6502.specs.Routines.{Enters, Pair, Labs, put_by}
 use Rattle.dvg_6502.specs.Decided.{is_labs, LabsIsPair}
 use Rattle.dvg_6502.proofs.AmidRun.{came_out}
-use Rattle.dvg_6502.proofs.Running.{Comes, by, at, returned}
+use Rattle.dvg_6502.proofs.Running.{Comes, by, at, returned, comes}
 use Rattle.dvg_6502.proofs.Memory.{laid, page_of, page_in, known, loaded, put_small, both_true, state_is}
 use Rattle.dvg_6502.proofs.FedByte.{compared}
 use Rattle.dvg_6502.proofs.Masks.{opened, mixed}
@@ -46,48 +46,21 @@ module _ (q a x y s : ℕ) (n z c v : Bool) (phase free publish next t0 t1 pages
   open_refuses other =
       by q 2 _ (told 0x6928 2 false) s true _ _ (ap (told 0x6928 2) (compared phase 2 small (omega arith) ∙ other))
       (λ tables is. refl)
-      (record {
-        steps = 2;
-        returns = refl;
-        stack = refl;
-        carry = refl;
-        memory = refl;
-        accesses = refl;
-        steady = λ tables is. refl;
-        there = refl;
-      })
+      (comes 2 refl refl refl refl refl (λ tables is. refl) refl)
 
   pub pair_refuses : nat_eq phase 7 ≡ false
       → Comes q (at 0x6989 a x y s n z c v (laid page mem) flags log) s true (laid page mem) (seen log) []
   pair_refuses other =
       by q 2 _ (told 0x698D 7 false) s true _ _ (ap (told 0x698D 7) (compared phase 7 small (omega arith) ∙ other))
       (λ tables is. refl)
-      (record {
-        steps = 2;
-        returns = refl;
-        stack = refl;
-        carry = refl;
-        memory = refl;
-        accesses = refl;
-        steady = λ tables is. refl;
-        there = refl;
-      })
+      (comes 2 refl refl refl refl refl (λ tables is. refl) refl)
 
   close_refuses : nat_eq phase 7 ≡ false
       → Comes q (at 0x6A00 a x y s n z c v (laid page mem) flags log) s true (laid page mem) (seen log) []
   close_refuses other =
       by q 2 _ (told 0x6A04 7 false) s true _ _ (ap (told 0x6A04 7) (compared phase 7 small (omega arith) ∙ other))
       (λ tables is. refl)
-      (record {
-        steps = 2;
-        returns = refl;
-        stack = refl;
-        carry = refl;
-        memory = refl;
-        accesses = refl;
-        steady = λ tables is. refl;
-        there = refl;
-      })
+      (comes 2 refl refl refl refl refl (λ tables is. refl) refl)
 
 -- two words have no room
 pub pair_full : (q a x y s : ℕ) (n z c v : Bool) (free publish next t0 t1 pages end second f0 f1 : ℕ) (mem flags : ℕ → ℕ)
@@ -97,16 +70,7 @@ pub pair_full : (q a x y s : ℕ) (n z c v : Bool) (free publish next t0 t1 page
 pair_full q a x y s n z c v free publish next t0 t1 pages end second f0 f1 mem flags log last late =
     by q 6 _ (told_page true) s true _ _ (ap told_page last) (λ tables is. refl)
     (by q 2 _ (told_place true) s true _ _ (ap told_place late) (λ tables is. refl)
-    (record {
-      steps = 1;
-      returns = refl;
-      stack = refl;
-      carry = refl;
-      memory = refl;
-      accesses = refl;
-      steady = λ tables is. refl;
-      there = refl;
-    }))
+    (comes 1 refl refl refl refl refl (λ tables is. refl) refl))
   where
     page : List ℕ
     page = page_of 7 free publish next t0 t1 pages end second f0 f1

@@ -112,6 +112,36 @@ by q k from mid s c mem events e steady comes =
       there = ap (λ (cpu : Cpu). is_code cpu.pc) both ∙ comes.there;
     }
 
+-- so many steps come there, by computing
+pub ends : (steps : ℕ) {q : ℕ} {from : Cpu} {s : ℕ} {mem : ℕ → ℕ} {events : List Access} {reads : List ℕ}
+    → (run q steps from).mem (run q steps from).pc ≡ 0x60 → (run q steps from).s ≡ s → seen (run q steps from).log ≡ events
+    → is_code (run q steps from).pc ≡ true → IsSteady q steps reads from → (run q steps from).mem ≡ mem
+    → Ends q from s mem events reads
+ends steps returns stack accesses there steady memory = record {
+  steps = steps;
+  returns = returns;
+  stack = stack;
+  memory = memory;
+  accesses = accesses;
+  steady = steady;
+  there = there;
+}
+
+pub comes : (steps : ℕ) {q : ℕ} {from : Cpu} {s : ℕ} {c : Bool} {mem : ℕ → ℕ} {events : List Access} {reads : List ℕ}
+    → (run q steps from).mem (run q steps from).pc ≡ 0x60 → (run q steps from).s ≡ s → (run q steps from).c ≡ c
+    → seen (run q steps from).log ≡ events → is_code (run q steps from).pc ≡ true → IsSteady q steps reads from
+    → (run q steps from).mem ≡ mem → Comes q from s c mem events reads
+comes steps returns stack carry accesses there steady memory = record {
+  steps = steps;
+  returns = returns;
+  stack = stack;
+  carry = carry;
+  memory = memory;
+  accesses = accesses;
+  steady = steady;
+  there = there;
+}
+
 -- at an RTS with S as it was
 pub returned : (s : ℕ) (cpu : Cpu) → cpu.mem cpu.pc ≡ 0x60 → cpu.s ≡ s → at_return s cpu ≡ true
 returned s cpu opcode stack =

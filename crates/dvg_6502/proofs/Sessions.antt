@@ -1,8 +1,8 @@
--- What many calls make.
-use Rattle.std.proofs.Common.{◌≡◌, ℕ, inl, inr, ◌+◌, ◌-◌, ◌*◌, Bool, true, false, not, List, [], ◌∷◌, ◌++◌, length}
+-- What many calls make, also calls that others interrupt.
+use Rattle.std.proofs.Common.{◌≡◌, ℕ, inl, inr, ◌+◌, ◌-◌, ◌*◌, ◌<◌, ◌≤◌, Bool, true, false, not, List, [], ◌∷◌, ◌++◌, length}
 use Rattle.std.proofs.Common.{refl, sym, ap, ◌∙◌, subst, arith, Some, Option, None}
 use Rattle.std.proofs.lemmas.Bool.{ne_eqb}
-use Rattle.std.specs.Prelude.{nat_eq, ◌⊎◌, ◌&&◌, option_and_then, if◌then◌else◌}
+use Rattle.std.specs.Prelude.{nat_eq, nat_le, nat_lt, ◌⊎◌, ◌&&◌, ◌||◌, option_and_then, if◌then◌else◌}
 use Rattle.dvg_mem.specs.declared.half.Half.{Half}
 use Rattle.dvg_mem.specs.declared.half.Half.TheVariants.{H0, H1}
 use Rattle.dvg_mem.specs.Areas.{base, other, half_of_high}
@@ -17,38 +17,51 @@ use Rattle.dvg_driver.specs.Stands.{Stage, StandsAfter, KnowsHalf, byte1_of}
 use Rattle.dvg_driver.proofs.Places.{whole_rests, some_same}
 use Rattle.dvg_driver.proofs.Shapes.{place_life, rests_whole}
 use Rattle.dvg_6502.specs.Processor.{Cpu, Access, Reads, Writes, run, at_return}
-use Rattle.dvg_6502.specs.Board.{IsLoaded, seen, tells_halted, goal_in}
+use Rattle.dvg_6502.specs.Amid.{is_kept, is_work, is_code, are_steady, all_in}
+use Rattle.dvg_6502.specs.Board.{IsLoaded, seen, tells_halted, goal_in, is_own, is_ram, is_hardware}
 use Rattle.dvg_6502.specs.Holds.{Holds, HoldsPlace}
 use Rattle.dvg_6502.specs.Tables.{HasTable, table_of}
 use Rattle.dvg_6502.specs.Routines.{Enters, Shows, Answers, Part, begins, put_by}
 use Rattle.dvg_6502.specs.Calls
-use Rattle.dvg_6502.specs.Calls.{Routine, AreShown, put_on}
-use Rattle.dvg_6502.proofs.Plain
-use Rattle.dvg_6502.proofs.Plain.{Call, after, has_returned, bounds, frame_of, IsSession}
-use Rattle.dvg_6502.proofs.Plain.{Adds, IsLifeOf, CallsLive, OneLife, IsAnswered, OfferAnswers, RedrawAnswers}
-use Rattle.dvg_6502.proofs.Plain.{OpenAnswers}
+use Rattle.dvg_6502.specs.Calls.{Routine, Call, call_of, after, is_over, is_taken, is_table, is_offered, bounds, frame_of}
+use Rattle.dvg_6502.specs.Calls.{IsSession, Adds, AreShown, IsLifeOf, put_on, CallsLive, OneLife, IsAnswered, OfferAnswers}
+use Rattle.dvg_6502.specs.Calls.{OpenAnswers, RedrawAnswers}
 use Rattle.dvg_6502.proofs.Growing.{GoesOn, within, same_end}
 use Rattle.dvg_6502.proofs.Running.{returned}
+use Rattle.dvg_6502.proofs.Acting.{Covers}
 use Rattle.dvg_6502.proofs.Ticking.{append_none}
 use Rattle.dvg_6502.proofs.Going.{Claim, GoesTo}
 use Rattle.dvg_6502.proofs.TickCall.{tick_goes}
 use Rattle.dvg_6502.proofs.TicksRun.{ticks_go}
-use Rattle.dvg_6502.proofs.Offering.{reset_refines, offer_is_taken, redraw_is_taken}
-use Rattle.dvg_6502.proofs.Offering.{redraw_is_refused}
+use Rattle.dvg_6502.proofs.Steady.{steady_all, code_kept}
+use Rattle.dvg_6502.proofs.Offering.{resets_steadily, reset_refines, takes_steadily, offer_is_taken, redraw_is_taken}
+use Rattle.dvg_6502.proofs.Offering.{redraw_is_refused, redraw_takes_steadily, redraw_refuses_steadily}
 use Rattle.dvg_6502.proofs.Building.{goal_is}
 use Rattle.dvg_6502.proofs.Closing.{open_steadily, open_is_taken}
 use Rattle.dvg_6502.proofs.Standing.{Stood}
-use Rattle.dvg_6502.proofs.Refusing.{Refuses, offer_refused, open_refused, redraw_refused}
+use Rattle.dvg_6502.proofs.Refusing.{Refuses, refused_steady, offer_refused, open_refused, redraw_refused}
 use Rattle.dvg_6502.proofs.Built.{stage_at, holds_in, place_now, holds_on, by_rest, holds_goes, run_goes_on}
 use Rattle.dvg_6502.proofs.BuildCalls.{refused_holds, puts_end, close_ends}
+use Rattle.dvg_6502.proofs.Interrupted.{Came, came, left_true, right_true, within as both_bounds}
 
--- what calls make: a life with a place, and where the newest one has returned, a driver that stands after it or builds
+-- after a call this holds of the memory of its run that nobody interrupts, which agrees with its own where that is kept
+abbrev pub Holding : (ℕ × ℕ) → Option (ℕ × List ℕ) → Call → List Call → List Item → Type 0
+Holding ends frame call calls life = (mem : ℕ → ℕ)
+    × ((b : ℕ) → is_kept (is_table call calls) b ≡ true → (after call).mem b ≡ mem b) × holds_in ends.0 ends.1 frame mem life
+
+-- what calls make: a life with a place, and where the newest one is over, a driver that stands after it or builds
 abbrev Outcome : List Call → Type 0
 Outcome [] = ⊥
 Outcome (call ∷ calls) = (life : List Item) × IsLifeOf (call ∷ calls) life
     × ((place : Place) × (place_of_life life ≡ Some place))
-    × (has_returned call ≡ true
-    → holds_in (bounds (call ∷ calls)).0 (bounds (call ∷ calls)).1 (frame_of (call ∷ calls)) (after call).mem life)
+    × (is_over call ≡ true → Holding (bounds (call ∷ calls)) (frame_of (call ∷ calls)) call calls life)
+
+-- a call, whoever interrupts it: it takes guarded bytes alone, and makes this
+record Course (r : Routine) (from : Cpu) (calls : List Call) : Type 0 where
+  steady : (k : ℕ) (tables : ℕ → Bool) → ((b : ℕ) → is_offered r from b ≡ true → tables b ≡ true)
+      → Covers tables (bounds calls).0 (bounds calls).1 → are_steady (is_kept tables) from.s k from ≡ true
+  makes : (steps : ℕ) (others : ℕ → ℕ → ℕ) → Came (call_of r from steps others) calls
+      → Outcome (call_of r from steps others ∷ calls)
 
 -- what is quiet to its end is quiet before
 none_before : (pre log : List Access) → [] ≡ pre ++ log → log ≡ []
@@ -91,152 +104,165 @@ of_refusal cpu did = record {
   memory = did.comes.memory;
 }
 
--- a call, over what held before it
-module _ (from : Cpu) (steps : ℕ) (calls : List Call) (life : List Item) (is_life : IsLifeOf calls life) where
-  abbrev call_of : Routine → Call
-  call_of routine = record { routine = routine; from = from; steps = steps }
+-- where a call is over and its run comes to its end with this C, it is taken where that is clear
+taken_if : (call : Call) (calls : List Call) (came : Came call calls) (t c : Bool)
+    → at_return call.from.s (run call.from.s came.n call.from) ≡ t → (run call.from.s came.n call.from).c ≡ c
+    → is_taken call ≡ (t && not c)
+taken_if call calls came true c here carry =
+    let over = came.over ∙ here in
+    ap (λ (t : Bool). t && not (Calls.answer call)) over ∙ ap not (came.carry over ∙ carry)
+taken_if call calls came false c here carry = ap (λ (t : Bool). t && not (Calls.answer call)) (came.over ∙ here)
 
-  abbrev end : Cpu
-  end = run from.s steps from
-
-  abbrev Holding : (ℕ → ℕ) → List Item → Type 0
-  Holding mem after = holds_in (bounds calls).0 (bounds calls).1 (frame_of calls) mem after
-
-  abbrev Following : Routine → (ℕ → ℕ) → List Item → Type 0
-  Following routine mem after = holds_in (bounds (call_of routine ∷ calls)).0 (bounds (call_of routine ∷ calls)).1
-      (frame_of (call_of routine ∷ calls)) mem after
-
-  -- where the call has returned, it is at its end
-  at_end : (n : ℕ) → at_return from.s end ≡ true → at_return from.s (run from.s n from) ≡ true → end ≡ run from.s n from
-  at_end n here there = same_end from.s steps n from here there
+-- a call, over what holds before it
+module _ (from : Cpu) (calls : List Call) (life : List Item) (is_life : IsLifeOf calls life)
+    (holds : holds_in (bounds calls).0 (bounds calls).1 (frame_of calls) from.mem life) where
+  abbrev placed_now : (place : Place) × (place_of_life life ≡ Some place)
+  placed_now = place_now (bounds calls).0 (bounds calls).1 (frame_of calls) from.mem life holds
 
   -- a call that acts
-  acts_outcome : (routine : Routine) (P : Claim)
-      → ((items : List Item) → AreShown items (seen end.log) → Adds routine (call_of routine) items)
-      → ((items : List Item) → IsLifeOf calls items → Calls.SinceReset routine items (IsLifeOf calls items))
-      → from.log ≡ [] → GoesTo P from.s steps from (bounds calls).0 (bounds calls).1 life
-      → (at_return from.s end ≡ true → (after : List Item) → P end.mem after → Following routine end.mem after)
-      → Outcome (call_of routine ∷ calls)
-  acts_outcome routine P adds since no_log goes follows =
-      let logged : seen end.log ≡ goes.accesses = goes.logged ∙ ap (λ l. goes.accesses ++ seen l) no_log
-      ∙ append_none goes.accesses in (
-        goes.items ++ life,
-        (
-          goes.items,
-          life,
-          refl,
-          adds goes.items (subst (λ l. AreShown goes.items l) (sym logged) goes.shown),
-          since life is_life,
-        ),
-        goes.placed,
-        (λ here. follows here (goes.items ++ life) (goes.stands here)),
-      )
+  acts : (r : Routine) (P : Claim)
+      → ((steps : ℕ) (others : ℕ → ℕ → ℕ) (items : List Item)
+      → AreShown items (seen (after (call_of r from steps others)).log) → Adds r (call_of r from steps others) items)
+      → ((items : List Item) → IsLifeOf calls items → Calls.SinceReset r items (IsLifeOf calls items))
+      → from.log ≡ [] → ((k : ℕ) → GoesTo P from.s k from (bounds calls).0 (bounds calls).1 life)
+      → ((steps : ℕ) (others : ℕ → ℕ → ℕ) (came : Came (call_of r from steps others) calls)
+      → at_return from.s (run from.s came.n from) ≡ true → (mem : ℕ → ℕ) (items : List Item) → P mem items
+      → holds_in (bounds (call_of r from steps others ∷ calls)).0 (bounds (call_of r from steps others ∷ calls)).1
+      (frame_of (call_of r from steps others ∷ calls)) mem items)
+      → Course r from calls
+  acts r P adds since no_log goes follows = record {
+    steady = λ k tables offered covers. (goes k).steady tables covers;
+    makes = λ steps others came.
+        let does = goes came.n in
+        let logged : seen (after (call_of r from steps others)).log ≡ does.accesses = came.shows ∙ does.logged
+        ∙ ap (λ l. does.accesses ++ seen l) no_log ∙ append_none does.accesses in (
+          does.items ++ life,
+          (
+            does.items,
+            life,
+            refl,
+            adds steps others does.items (subst (λ l. AreShown does.items l) (sym logged) does.shown),
+            since life is_life,
+          ),
+          does.placed,
+          (λ over. let here = sym came.over ∙ over in (
+            (run from.s came.n from).mem,
+            came.keeps,
+            follows steps others came here (run from.s came.n from).mem (does.items ++ life) (does.stands here),
+          )),
+        );
+  }
 
-  tick_outcome : Enters from 0x686A → Holding from.mem life → Outcome (call_of Calls.Tick ∷ calls)
-  tick_outcome enters holds = acts_outcome Calls.Tick (holds_in (bounds calls).0 (bounds calls).1 (frame_of calls)) (λ items shown. shown)
-      (λ items made. made) enters.log
-      (tick_goes (holds_in (bounds calls).0 (bounds calls).1 (frame_of calls)) steps from (bounds calls).0 (bounds calls).1 life
-      (holds_goes (bounds calls).0 (bounds calls).1 (frame_of calls)) enters.entry holds) (λ here after is. is)
+  abbrev Stays : Claim
+  Stays = holds_in (bounds calls).0 (bounds calls).1 (frame_of calls)
 
-  ticks_outcome : Enters from 0x6860 → Holding from.mem life → Outcome (call_of Calls.Ticks ∷ calls)
-  ticks_outcome enters holds = acts_outcome Calls.Ticks (holds_in (bounds calls).0 (bounds calls).1 (frame_of calls)) (λ items shown. shown)
-      (λ items made. made) enters.log
-      (ticks_go (holds_in (bounds calls).0 (bounds calls).1 (frame_of calls)) steps from (bounds calls).0 (bounds calls).1 life
+  tick_course : Enters from 0x686A → Course Calls.Tick from calls
+  tick_course enters = acts Calls.Tick Stays (λ steps others items shown. shown) (λ items made. made) enters.log
+      (λ k. tick_goes Stays k from (bounds calls).0 (bounds calls).1 life
+      (holds_goes (bounds calls).0 (bounds calls).1 (frame_of calls)) enters.entry holds)
+      (λ steps others came here mem items is. is)
+
+  ticks_course : Enters from 0x6860 → Course Calls.Ticks from calls
+  ticks_course enters = acts Calls.Ticks Stays (λ steps others items shown. shown) (λ items made. made) enters.log
+      (λ k. ticks_go Stays k from (bounds calls).0 (bounds calls).1 life
       (holds_goes (bounds calls).0 (bounds calls).1 (frame_of calls)) enters.entry enters.a enters.s holds)
-      (λ here after is. is)
+      (λ steps others came here mem items is. is)
 
-  run_outcome : Enters from 0x6809 → Holding from.mem life → Outcome (call_of Calls.Run ∷ calls)
-  run_outcome enters holds = acts_outcome Calls.Run (holds_in (bounds calls).0 (bounds calls).1 (frame_of calls)) (λ items shown. shown)
-      (λ items made. made) enters.log
-      (run_goes_on steps from (bounds calls).0 (bounds calls).1 (frame_of calls) life enters.entry enters.s holds)
-      (λ here after is. is)
+  run_course : Enters from 0x6809 → Course Calls.Run from calls
+  run_course enters = acts Calls.Run Stays (λ steps others items shown. shown) (λ items made. made) enters.log
+      (λ k. run_goes_on k from (bounds calls).0 (bounds calls).1 (frame_of calls) life enters.entry enters.s holds)
+      (λ steps others came here mem items is. is)
 
-  taken_if : (t u : Bool) → at_return from.s end ≡ t → end.c ≡ u → (at_return from.s end && not end.c) ≡ (t && not u)
-  taken_if t u here carry = ap (λ (b : Bool). b && not end.c) here ∙ ap (λ (b : Bool). t && not b) carry
+  -- what is still to come after a call, by its C
+  still_to_come : (c : Bool) (taken left : Option (ℕ × List ℕ)) (t : Bool) → t ≡ not c
+      → (if c then left else taken) ≡ (if t then taken else left)
+  still_to_come true taken left t is = sym (ap (λ (t : Bool). if t then taken else left) is)
+  still_to_come false taken left t is = sym (ap (λ (t : Bool). if t then taken else left) is)
 
-  untaken : at_return from.s end ≡ false → (at_return from.s end && not end.c) ≡ false
-  untaken here = ap (λ (b : Bool). b && not end.c) here
-
-  -- what is still to come after the call, by its C
-  still_to_come : (c : Bool) (taken left : Option (ℕ × List ℕ)) → at_return from.s end ≡ true → end.c ≡ c
-      → (if c then left else taken) ≡ (if (at_return from.s end && not end.c) then taken else left)
-  still_to_come true taken left here carry =
-      sym (ap (λ (t : Bool). if t then taken else left) (taken_if true true here carry))
-  still_to_come false taken left here carry =
-      sym (ap (λ (t : Bool). if t then taken else left) (taken_if true false here carry))
-
-  puts_outcome : (part : Part) → Enters from (begins part) → Calls.Brings (Calls.Puts part) from (frame_of calls)
-      → Holding from.mem life → Outcome (call_of (Calls.Puts part) ∷ calls)
-  puts_outcome part enters brings holds =
+  puts_course : (part : Part) → Enters from (begins part) → Calls.Brings (Calls.Puts part) from (frame_of calls)
+      → Course (Calls.Puts part) from calls
+  puts_course part enters brings =
       let taken = put_on (put_by part from) (frame_of calls) in
       let did = puts_end part from (bounds calls).0 (bounds calls).1 (frame_of calls) life enters brings holds in
-      acts_outcome (Calls.Puts part)
-      (holds_in (bounds calls).0 (bounds calls).1 (if did.0 then frame_of calls else taken))
-      (λ items shown. shown) (λ items made. made) enters.log (did.1.goes steps)
-      (λ here after is. subst (λ frame. holds_in (bounds calls).0 (bounds calls).1 frame end.mem after)
-      (still_to_come did.0 taken (frame_of calls) here (did.1.carry steps here)) is)
+      acts (Calls.Puts part) (holds_in (bounds calls).0 (bounds calls).1 (if did.0 then frame_of calls else taken))
+      (λ steps others items shown. shown) (λ items made. made) enters.log did.1.goes
+      (λ steps others came here mem items is. subst (λ frame. holds_in (bounds calls).0 (bounds calls).1 frame mem items)
+      (still_to_come did.0 taken (frame_of calls) (is_taken (call_of (Calls.Puts part) from steps others))
+      (taken_if (call_of (Calls.Puts part) from steps others) calls came true did.0 here (did.1.carry came.n here))) is)
 
-  close_outcome : Enters from 0x6A00 → Calls.Brings Calls.Close from (frame_of calls) → Holding from.mem life
-      → Outcome (call_of Calls.Close ∷ calls)
-  close_outcome enters brings holds =
+  close_course : Enters from 0x6A00 → Calls.Brings Calls.Close from (frame_of calls) → Course Calls.Close from calls
+  close_course enters brings =
       let did = close_ends from (bounds calls).0 (bounds calls).1 (frame_of calls) life enters brings holds in
-      acts_outcome Calls.Close (holds_in (bounds calls).0 (bounds calls).1 (if did.0 then frame_of calls else None))
-      (λ items shown. shown) (λ items made. made) enters.log (did.1.goes steps)
-      (λ here after is. subst (λ frame. holds_in (bounds calls).0 (bounds calls).1 frame end.mem after)
-      (still_to_come did.0 None (frame_of calls) here (did.1.carry steps here)) is)
+      acts Calls.Close (holds_in (bounds calls).0 (bounds calls).1 (if did.0 then frame_of calls else None))
+      (λ steps others items shown. shown) (λ items made. made) enters.log did.1.goes
+      (λ steps others came here mem items is. subst (λ frame. holds_in (bounds calls).0 (bounds calls).1 frame mem items)
+      (still_to_come did.0 None (frame_of calls) (is_taken (call_of Calls.Close from steps others))
+      (taken_if (call_of Calls.Close from steps others) calls came true did.0 here (did.1.carry came.n here))) is)
 
   -- a call that answers: it is taken, which adds an item, or refused
-  module _ (item : Item) (bounds_if : Bool → ℕ × ℕ) (frame_if : Bool → Option (ℕ × List ℕ)) where
+  module _ (r : Routine) (item : Item) (bounds_if : Bool → ℕ × ℕ) (frame_if : Bool → Option (ℕ × List ℕ)) where
     -- what is added, by whether it is taken
-    abbrev Made : Bool → Type 0
-    Made taken = (life' : List Item) × ((new : List Item) × (old : List Item) × (life' ≡ new ++ old)
-        × ((seen end.log ≡ []) × (new ≡ (if taken then item ∷ [] else []))) × IsLifeOf calls old)
+    abbrev Made : Call → Bool → Type 0
+    Made call taken = (life' : List Item) × ((new : List Item) × (old : List Item) × (life' ≡ new ++ old)
+        × ((seen (after call).log ≡ []) × (new ≡ (if taken then item ∷ [] else []))) × IsLifeOf calls old)
         × ((place : Place) × (place_of_life life' ≡ Some place))
-        × (at_return from.s end ≡ true
-        → holds_in (bounds_if taken).0 (bounds_if taken).1 (frame_if taken) end.mem life')
+        × (is_over call ≡ true → Holding (bounds_if taken) (frame_if taken) call calls life')
 
     -- what holds after it, by its C
     abbrev After : Bool → (ℕ → ℕ) → Type 0
     After true mem = holds_in (bounds_if false).0 (bounds_if false).1 (frame_if false) mem life
     After false mem = holds_in (bounds_if true).0 (bounds_if true).1 (frame_if true) mem (item ∷ life)
 
-    answered : (c : Bool) (mem : ℕ → ℕ) → Quietly from c mem → ((place : Place) × (place_of_life life ≡ Some place))
-        → After c mem → Made (at_return from.s end && not end.c)
-    answered c mem did placed after = by (at_return from.s end) refl c did.carry after
-      where
-        quiet : seen end.log ≡ []
-        quiet = quiet_before from.s steps did.steps from did.returns did.shows
+    module _ (c : Bool) (mem : ℕ → ℕ) (did : Quietly from c mem) (steps : ℕ) (others : ℕ → ℕ → ℕ)
+        (came : Came (call_of r from steps others) calls) where
+      abbrev this : Call
+      this = call_of r from steps others
 
-        ended : at_return from.s end ≡ true → end ≡ run from.s did.steps from
-        ended here = at_end did.steps here did.returns
+      quiet : seen (after this).log ≡ []
+      quiet = came.shows ∙ quiet_before from.s came.n did.steps from did.returns did.shows
 
-        mem_is : at_return from.s end ≡ true → mem ≡ end.mem
-        mem_is here = sym (ap (λ (k : Cpu). k.mem) (ended here) ∙ did.memory)
+      ended : at_return from.s (run from.s came.n from) ≡ true → run from.s came.n from ≡ run from.s did.steps from
+      ended here = same_end from.s came.n did.steps from here did.returns
 
-        by : (t : Bool) → at_return from.s end ≡ t → (c : Bool) → (run from.s did.steps from).c ≡ c → After c mem
-            → Made (at_return from.s end && not end.c)
-        by true here true carry after =
-            subst Made (sym (taken_if true true here (ap (λ (k : Cpu). k.c) (ended here) ∙ carry))) (
-              life,
-              ([], life, refl, (quiet, refl), is_life),
-              placed,
-              (λ again. subst (λ (m : ℕ → ℕ). holds_in (bounds_if false).0 (bounds_if false).1 (frame_if false) m life)
-                  (mem_is here) after),
-            )
-        by true here false carry after =
-            subst Made (sym (taken_if true false here (ap (λ (k : Cpu). k.c) (ended here) ∙ carry))) (
-              item ∷ life,
-              (item ∷ [], life, refl, (quiet, refl), is_life),
-              place_now (bounds_if true).0 (bounds_if true).1 (frame_if true) mem (item ∷ life) after,
-              (λ again. subst (λ (m : ℕ → ℕ). holds_in (bounds_if true).0 (bounds_if true).1 (frame_if true) m
-                  (item ∷ life)) (mem_is here) after),
-            )
-        by false here c carry after = subst Made (sym (untaken here)) (
-          life,
-          ([], life, refl, (quiet, refl), is_life),
-          placed,
-          (λ again. absurd (cc)),
-        )
+      agrees : at_return from.s (run from.s came.n from) ≡ true → (b : ℕ) → is_kept (is_table this calls) b ≡ true
+          → (after this).mem b ≡ mem b
+      agrees here b is = came.keeps b is ∙ ap (λ (k : Cpu). k.mem b) (ended here) ∙ ap (λ (m : ℕ → ℕ). m b) did.memory
+
+      made : (t : Bool) → at_return from.s (run from.s came.n from) ≡ t → (c : Bool) → (run from.s did.steps from).c ≡ c
+          → After c mem → Made this (is_taken this)
+      made true here true carry after_it =
+          subst (Made this) (sym (taken_if this calls came true true here (ap (λ (k : Cpu). k.c) (ended here) ∙ carry))) (
+            life,
+            ([], life, refl, (quiet, refl), is_life),
+            placed_now,
+            (λ over. (mem, agrees here, after_it)),
+          )
+      made true here false carry after_it =
+          subst (Made this) (sym (taken_if this calls came true false here (ap (λ (k : Cpu). k.c) (ended here) ∙ carry))) (
+            item ∷ life,
+            (item ∷ [], life, refl, (quiet, refl), is_life),
+            place_now (bounds_if true).0 (bounds_if true).1 (frame_if true) mem (item ∷ life) after_it,
+            (λ over. (mem, agrees here, after_it)),
+          )
+      made false here c carry after_it =
+          subst (Made this) (sym (taken_if this calls came false _ here refl)) (
+            life,
+            ([], life, refl, (quiet, refl), is_life),
+            placed_now,
+            (λ over. absurd (let e = sym came.over ∙ over in cc)),
+          )
+
+    answers : (c : Bool) (mem : ℕ → ℕ) → Quietly from c mem → After c mem
+        → ((steps : ℕ) (others : ℕ → ℕ → ℕ) → let call = call_of r from steps others in
+        Made call (is_taken call) → Outcome (call ∷ calls))
+        → ((k : ℕ) (tables : ℕ → Bool) → ((b : ℕ) → is_offered r from b ≡ true → tables b ≡ true)
+        → are_steady (is_kept tables) from.s k from ≡ true)
+        → Course r from calls
+    answers c mem did after_it outcome steady = record {
+      steady = λ k tables offered covers. steady k tables offered;
+      makes = λ steps others came. outcome steps others (made c mem did steps others came (at_return from.s (run from.s came.n from)) refl
+          c did.carry after_it);
+    }
 
   -- what stands after an answer
   stood_answer : (c : Bool) (begin stop : ℕ) (new : Stage) (did : Answers from c begin stop new) (peeked : ℕ)
@@ -252,11 +278,8 @@ module _ (from : Cpu) (steps : ℕ) (calls : List Call) (life : List Item) (is_l
   }
 
   -- a call that is refused, at any place
-  refused_after : (did : Refuses from) → Holding from.mem life → Holding did.memory life
-  refused_after did holds = refused_holds from (bounds calls).0 (bounds calls).1 (frame_of calls) life did holds
-
-  abbrev placed_now : Holding from.mem life → (place : Place) × (place_of_life life ≡ Some place)
-  placed_now holds = place_now (bounds calls).0 (bounds calls).1 (frame_of calls) from.mem life holds
+  refused_after : (did : Refuses from) → Stays did.memory life
+  refused_after did = refused_holds from (bounds calls).0 (bounds calls).1 (frame_of calls) life did holds
 
   abbrev half_now : Half
   half_now = other (half_of_high (from.mem 0x4001))
@@ -284,51 +307,64 @@ module _ (from : Cpu) (steps : ℕ) (calls : List Call) (life : List Item) (is_l
       flipped = stood.stands.flipped;
     }
 
-  offer_outcome : (F : List OpKind) → Enters from 0x68FE → HasTable from.mem (from.a + 256 * from.x) F
-      → Holding from.mem life → Outcome (call_of (Calls.Offer F) ∷ calls)
-  offer_outcome F enters table holds =
-      by_rest from.mem (bounds calls).0 (bounds calls).1 (frame_of calls) life (Outcome (call_of (Calls.Offer F) ∷ calls))
+  offer_course : (F : List OpKind) → Enters from 0x68FE → HasTable from.mem (from.a + 256 * from.x) F
+      → Course (Calls.Offer F) from calls
+  offer_course F enters table =
+      by_rest from.mem (bounds calls).0 (bounds calls).1 (frame_of calls) life (Course (Calls.Offer F) from calls)
       busy rests holds
     where
       bounds_if : Bool → ℕ × ℕ
       bounds_if taken = let t = from.a + 256 * from.x + 2 in if taken then (t, t + length (table_of F)) else bounds calls
 
-      busy : nat_eq (from.mem 0x10) 2 ≡ false → Outcome (call_of (Calls.Offer F) ∷ calls)
+      t : ℕ
+      t = from.a + 256 * from.x
+
+      in_table : (tables : ℕ → Bool) → ((b : ℕ) → is_offered (Calls.Offer F) from b ≡ true → tables b ≡ true) → (b : ℕ)
+          → t ≤ b → b < t + 2 + length (table_of F) → tables b ≡ true
+      in_table tables in_guard b low high = in_guard b (both_bounds t (t + 2 + length (table_of F)) b low high)
+
+      heads : (tables : ℕ → Bool) → ((b : ℕ) → is_offered (Calls.Offer F) from b ≡ true → tables b ≡ true)
+          → all_in tables ((from.a + 256 * from.x) ∷ (from.a + 256 * from.x + 1) ∷ []) ≡ true
+      heads tables in_guard =
+          ap (λ (u : Bool). u && (tables (from.a + 256 * from.x + 1) && true)) (in_table tables in_guard t (omega arith) (omega arith))
+          ∙ ap (λ (u : Bool). u && true) (in_table tables in_guard (t + 1) (omega arith) (omega arith))
+
+      busy : nat_eq (from.mem 0x10) 2 ≡ false → Course (Calls.Offer F) from calls
       busy away =
           let did = offer_refused from enters away in
-          answered (Offered half_now F) bounds_if (λ t. frame_of calls) true did.memory (of_refusal from did)
-          (placed_now holds) (refused_after did holds)
+          answers (Calls.Offer F) (Offered half_now F) bounds_if (λ t. frame_of calls) true did.memory (of_refusal from did)
+          (refused_after did) (λ steps others made. made) (λ k tables in_guard. refused_steady tables from k did)
 
       rests : frame_of calls ≡ None → (stood : Stood from.mem (bounds calls).0 (bounds calls).1 life) (first : Bool)
           → stood.stage.place ≡ Resting first
           → Holds from.mem (bounds calls).0 (bounds calls).1
           (record { place = Resting first; half = stood.stage.half; flipped = stood.stage.flipped })
-          → Outcome (call_of (Calls.Offer F) ∷ calls)
+          → Course (Calls.Offer F) from calls
       rests none stood first is held =
           let new = begun stood first is held.place.2 F in
           let did = offer_is_taken from (bounds calls).0 (bounds calls).1 stood.stage.half stood.stage.flipped first F enters
           held table in
-          answered (Offered half_now F) bounds_if (λ t. frame_of calls) false _ (of_answer from false _ _ new did)
-          (placed_now holds)
+          answers (Calls.Offer F) (Offered half_now F) bounds_if (λ t. frame_of calls) false _ (of_answer from false _ _ new did)
           (subst (λ frame. holds_in (from.a + 256 * from.x + 2) (from.a + 256 * from.x + 2 + length (table_of F)) frame
           (run from.s did.steps from).mem (Offered half_now F ∷ life)) (sym none)
           (stood_answer false _ _ new did stood.peeked (Offered half_now F ∷ life)
-          (offered stood first is held.place.2 F) stood.byte1))
+          (offered stood first is held.place.2 F) stood.byte1)) (λ steps others made. made)
+          (λ k tables in_guard. (takes_steadily tables from (bounds calls).0 (bounds calls).1 stood.stage.half
+          stood.stage.flipped first F (heads tables in_guard) enters held table).steady k)
 
-  open_outcome : (F : List OpKind) → Enters from 0x6924 → Calls.IsBuildable F → Holding from.mem life
-      → Outcome (call_of (Calls.Open F) ∷ calls)
-  open_outcome F enters fit holds =
-      by_rest from.mem (bounds calls).0 (bounds calls).1 (frame_of calls) life (Outcome (call_of (Calls.Open F) ∷ calls))
+  open_course : (F : List OpKind) → Enters from 0x6924 → Calls.IsBuildable F → Course (Calls.Open F) from calls
+  open_course F enters fit =
+      by_rest from.mem (bounds calls).0 (bounds calls).1 (frame_of calls) life (Course (Calls.Open F) from calls)
       busy rests holds
     where
       frame_if : Bool → Option (ℕ × List ℕ)
       frame_if taken = if taken then Some (0, table_of F) else frame_of calls
 
-      busy : nat_eq (from.mem 0x10) 2 ≡ false → Outcome (call_of (Calls.Open F) ∷ calls)
+      busy : nat_eq (from.mem 0x10) 2 ≡ false → Course (Calls.Open F) from calls
       busy away =
           let did = open_refused from enters away in
-          answered (Offered half_now F) (λ t. bounds calls) frame_if true did.memory (of_refusal from did)
-          (placed_now holds) (refused_after did holds)
+          answers (Calls.Open F) (Offered half_now F) (λ t. bounds calls) frame_if true did.memory (of_refusal from did)
+          (refused_after did) (λ steps others made. made) (λ k tables in_guard. refused_steady tables from k did)
 
       alike : (half : Half) → bytes (laid half F) ≡ table_of F
       alike H0 = refl
@@ -350,12 +386,12 @@ module _ (from : Cpu) (steps : ℕ) (calls : List Call) (life : List Item) (is_l
           → stood.stage.place ≡ Resting first
           → Holds from.mem (bounds calls).0 (bounds calls).1
           (record { place = Resting first; half = stood.stage.half; flipped = stood.stage.flipped })
-          → Outcome (call_of (Calls.Open F) ∷ calls)
+          → Course (Calls.Open F) from calls
       rests none stood first is held =
           let did = open_steadily from (bounds calls).0 (bounds calls).1 stood.stage.half stood.stage.flipped first
           (table_of F) enters held fit.some fit.fits in
           let life_is = offered stood first is held.place.2 F in
-          answered (Offered half_now F) (λ t. bounds calls) frame_if false (run from.s did.0.steps from).mem
+          answers (Calls.Open F) (Offered half_now F) (λ t. bounds calls) frame_if false (run from.s did.0.steps from).mem
           (record {
             steps = did.0.steps;
             returns = did.0.returns;
@@ -363,7 +399,6 @@ module _ (from : Cpu) (steps : ℕ) (calls : List Call) (life : List Item) (is_l
             shows = did.0.shows;
             memory = refl;
           })
-          (placed_now holds)
           (record {
             half = stood.stage.half;
             flipped = stood.stage.flipped;
@@ -380,44 +415,51 @@ module _ (from : Cpu) (steps : ℕ) (calls : List Call) (life : List Item) (is_l
                 did.0.building);
             byte1 = did.1.byte1 ∙ stood.byte1;
             loaded = did.0.loaded;
-          })
+          }) (λ steps others made. made)
+          (λ k tables in_guard. steady_all (is_kept tables) from.s did.0.steps k from (did.1.steady tables) did.0.returns
+          (code_kept tables (run from.s did.0.steps from).pc did.1.there))
 
-  redraw_outcome : Enters from 0x6943 → Holding from.mem life → Outcome (call_of Calls.Redraw ∷ calls)
-  redraw_outcome enters holds =
-      by_rest from.mem (bounds calls).0 (bounds calls).1 (frame_of calls) life (Outcome (call_of Calls.Redraw ∷ calls))
+  redraw_course : Enters from 0x6943 → Course Calls.Redraw from calls
+  redraw_course enters =
+      by_rest from.mem (bounds calls).0 (bounds calls).1 (frame_of calls) life (Course Calls.Redraw from calls)
       busy (λ none stood first is held. rests none stood first is held stood.stage.flipped refl) holds
     where
-      busy : nat_eq (from.mem 0x10) 2 ≡ false → Outcome (call_of Calls.Redraw ∷ calls)
+      busy : nat_eq (from.mem 0x10) 2 ≡ false → Course Calls.Redraw from calls
       busy away =
           let did = redraw_refused from enters away in
-          answered Asked (λ t. bounds calls) (λ t. frame_of calls) true did.memory (of_refusal from did)
-          (placed_now holds) (refused_after did holds)
+          answers Calls.Redraw Asked (λ t. bounds calls) (λ t. frame_of calls) true did.memory (of_refusal from did)
+          (refused_after did) (λ steps others made. made) (λ k tables in_guard. refused_steady tables from k did)
 
       rests : frame_of calls ≡ None → (stood : Stood from.mem (bounds calls).0 (bounds calls).1 life) (first : Bool)
           → stood.stage.place ≡ Resting first
           → Holds from.mem (bounds calls).0 (bounds calls).1
           (record { place = Resting first; half = stood.stage.half; flipped = stood.stage.flipped })
-          → (flipped : Bool) → stood.stage.flipped ≡ flipped → Outcome (call_of Calls.Redraw ∷ calls)
+          → (flipped : Bool) → stood.stage.flipped ≡ flipped → Course Calls.Redraw from calls
       rests none stood first is held false unset =
           let did = redraw_is_refused from (bounds calls).0 (bounds calls).1 stood.stage enters stood.holds
           (λ set. absurd (let e = sym unset ∙ set in cc)) in
-          answered Asked (λ t. bounds calls) (λ t. frame_of calls) true _ (of_answer from true _ _ stood.stage did)
-          (placed_now holds)
+          answers Calls.Redraw Asked (λ t. bounds calls) (λ t. frame_of calls) true _ (of_answer from true _ _ stood.stage did)
           (subst (λ frame. holds_in (bounds calls).0 (bounds calls).1 frame (run from.s did.steps from).mem life) (sym none)
-          (stood_answer true _ _ stood.stage did stood.peeked life stood.stands stood.byte1))
+          (stood_answer true _ _ stood.stage did stood.peeked life stood.stands stood.byte1)) (λ steps others made. made)
+          (λ k tables in_guard. (redraw_refuses_steadily tables from (bounds calls).0 (bounds calls).1 stood.stage enters
+          stood.holds (λ set. absurd (let e = sym unset ∙ set in cc))).steady k)
       rests none stood first is held true set =
-          answered Asked (λ t. bounds calls) (λ t. frame_of calls) false _ (of_answer from false _ _ new did)
-          (placed_now holds)
+          answers Calls.Redraw Asked (λ t. bounds calls) (λ t. frame_of calls) false _ (of_answer from false _ _ new did)
           (subst (λ frame. holds_in (bounds calls).0 (bounds calls).1 frame (run from.s did.steps from).mem (Asked ∷ life))
-          (sym none) (stood_answer false _ _ new did stood.peeked (Asked ∷ life) stands stood.byte1))
+          (sym none) (stood_answer false _ _ new did stood.peeked (Asked ∷ life) stands stood.byte1)) (λ steps others made. made)
+          (λ k tables in_guard. (redraw_takes_steadily tables from (bounds calls).0 (bounds calls).1 stood.stage.half first
+          enters flips).steady k)
         where
           new : Stage
           new = record { place = Waiting first; half = stood.stage.half; flipped = true }
 
+          flips : Holds from.mem (bounds calls).0 (bounds calls).1
+              (record { place = Resting first; half = stood.stage.half; flipped = true })
+          flips = subst (λ (t : Bool). Holds from.mem (bounds calls).0 (bounds calls).1
+              (record { place = Resting first; half = stood.stage.half; flipped = t })) set held
+
           did : Answers from false (bounds calls).0 (bounds calls).1 new
-          did = redraw_is_taken from (bounds calls).0 (bounds calls).1 stood.stage.half first enters
-              (subst (λ (t : Bool). Holds from.mem (bounds calls).0 (bounds calls).1
-              (record { place = Resting first; half = stood.stage.half; flipped = t })) set held)
+          did = redraw_is_taken from (bounds calls).0 (bounds calls).1 stood.stage.half first enters flips
 
           stands : StandsAfter new stood.peeked (Asked ∷ life)
           stands = record {
@@ -427,91 +469,162 @@ module _ (from : Cpu) (steps : ℕ) (calls : List Call) (life : List Item) (is_l
           }
 
 -- a reset, over anything
-module _ (from : Cpu) (steps : ℕ) (calls : List Call) (enters : Enters from 0x6800) where
+module _ (from : Cpu) (calls : List Call) (enters : Enters from 0x6800) where
   abbrev start : Stage
   start = record { place = Start; half = H0; flipped = false }
 
   reset_did : Answers from from.c 0 0 start
   reset_did = reset_refines from 0 0 H0 enters
 
-  reset_outcome : Outcome (record { routine = Calls.Reset; from = from; steps = steps } ∷ calls)
-  reset_outcome = (
-    [],
-    ([], [], refl, (quiet_before from.s steps reset_did.steps from reset_did.returns reset_did.shows, refl), refl),
-    (Start, refl),
-    (λ here. subst (λ (k : Cpu). holds_in 0 0 None k.mem [])
-        (sym (same_end from.s steps reset_did.steps from here reset_did.returns))
-        (record {
+  reset_course : Course Calls.Reset from calls
+  reset_course = record {
+    steady = λ k tables in_guard covers. (resets_steadily tables from 0 0 H0 enters).steady k;
+    makes = λ steps others came. (
+      [],
+      (
+        [],
+        [],
+        refl,
+        (came.shows ∙ quiet_before from.s came.n reset_did.steps from reset_did.returns reset_did.shows, refl),
+        refl,
+      ),
+      (Start, refl),
+      (λ over. (
+        (run from.s reset_did.steps from).mem,
+        (λ b is. came.keeps b is ∙ ap (λ (k : Cpu). k.mem b)
+            (same_end from.s came.n reset_did.steps from (sym came.over ∙ over) reset_did.returns)),
+        record {
           stage = start;
           peeked = (run from.s reset_did.steps from).mem 0x4001;
           stands = record { place = refl; half = tt; flipped = refl };
           holds = reset_did.holds;
           byte1 = refl;
           loaded = reset_did.loaded;
-        })),
-  )
+        },
+      )),
+    );
+  }
+
+-- a table that stands after a call was one that the call's guard has
+covers_after : (routine : Routine) (call : Call) (bounds : ℕ × ℕ) (b : ℕ)
+    → (Calls.taken_bounds routine call bounds).0 ≤ b → b < (Calls.taken_bounds routine call bounds).1
+    → ((nat_le bounds.0 b && nat_lt b bounds.1) || Calls.is_offered routine call.from b) ≡ true
+covers_after Calls.Reset call bounds b low high = absurd (omega (arith, high))
+covers_after Calls.Tick call bounds b low high = left_true _ false (both_bounds bounds.0 bounds.1 b low high)
+covers_after Calls.Ticks call bounds b low high = left_true _ false (both_bounds bounds.0 bounds.1 b low high)
+covers_after Calls.Run call bounds b low high = left_true _ false (both_bounds bounds.0 bounds.1 b low high)
+covers_after Calls.Redraw call bounds b low high = left_true _ false (both_bounds bounds.0 bounds.1 b low high)
+covers_after (Calls.Open F) call bounds b low high = left_true _ false (both_bounds bounds.0 bounds.1 b low high)
+covers_after (Calls.Puts part) call bounds b low high = left_true _ false (both_bounds bounds.0 bounds.1 b low high)
+covers_after Calls.Close call bounds b low high = left_true _ false (both_bounds bounds.0 bounds.1 b low high)
+covers_after (Calls.Offer F) call bounds b low high = by (Calls.is_taken call) low high
+  where
+    t : ℕ
+    t = call.from.a + 256 * call.from.x
+
+    by : (u : Bool)
+        → (if u then (call.from.a + 256 * call.from.x + 2, call.from.a + 256 * call.from.x + 2 + length (table_of F)) else bounds).0 ≤ b
+        → b < (if u then (call.from.a + 256 * call.from.x + 2, call.from.a + 256 * call.from.x + 2 + length (table_of F)) else bounds).1
+        → ((nat_le bounds.0 b && nat_lt b bounds.1) || Calls.is_offered (Calls.Offer F) call.from b) ≡ true
+    by true low high = right_true (nat_le bounds.0 b && nat_lt b bounds.1) _
+        (both_bounds (call.from.a + 256 * call.from.x) (call.from.a + 256 * call.from.x + 2 + length (table_of F)) b
+        (omega (arith, low)) high)
+    by false low high = left_true _ (Calls.is_offered (Calls.Offer F) call.from b) (both_bounds bounds.0 bounds.1 b low high)
+
+kept_own : (tables : ℕ → Bool) (b : ℕ) → is_own b ≡ true → is_kept tables b ≡ true
+kept_own tables b is = left_true (is_own b) _ is
+
+kept_ram : (tables : ℕ → Bool) (b : ℕ) → is_ram b ≡ true → is_kept tables b ≡ true
+kept_ram tables b is = right_true (is_own b) _ (right_true (is_work b) _ (right_true (is_code b) _
+    (left_true (is_hardware b) (tables b) (left_true (is_ram b) _ is))))
+
+kept_table : (tables : ℕ → Bool) (b : ℕ) → tables b ≡ true → is_kept tables b ≡ true
+kept_table tables b is = right_true (is_own b) _ (right_true (is_work b) _ (right_true (is_code b) _
+    (right_true (is_hardware b) (tables b) is)))
+
+-- dvg_reset needs no premise, and begins a life; each other routine does neither
+pub by_reset : (M : Routine → (Type 0 → Type 0) → (List Item → Type 0 → Type 0) → Type 0)
+    → M Calls.Reset (λ P. Unit {0}) (λ old P. old ≡ []) → ((r : Routine) → M r (λ P. P) (λ old P. P))
+    → (r : Routine) → M r (Calls.UnlessReset r) (Calls.SinceReset r)
+by_reset M reset other Calls.Reset = reset
+by_reset M reset other Calls.Tick = other Calls.Tick
+by_reset M reset other Calls.Ticks = other Calls.Ticks
+by_reset M reset other Calls.Run = other Calls.Run
+by_reset M reset other (Calls.Offer F) = other (Calls.Offer F)
+by_reset M reset other Calls.Redraw = other Calls.Redraw
+by_reset M reset other (Calls.Open F) = other (Calls.Open F)
+by_reset M reset other (Calls.Puts part) = other (Calls.Puts part)
+by_reset M reset other Calls.Close = other Calls.Close
+
+pub unless_map : (r : Routine) (P Q : Type 0) → (P → Q) → Calls.UnlessReset r P → Calls.UnlessReset r Q
+unless_map r P Q f = by_reset (λ r U S. U P → U Q) (λ is. tt) (λ r. f) r
 
 -- what holds at a call that follows others
-pub record Before (call : Call) (calls : List Call) : Type 0 where
+pub record Before (from : Cpu) (calls : List Call) : Type 0 where
   pub life : List Item
   pub is_life : IsLifeOf calls life
-  pub holds : holds_in (bounds calls).0 (bounds calls).1 (frame_of calls) call.from.mem life
+  pub holds : holds_in (bounds calls).0 (bounds calls).1 (frame_of calls) from.mem life
 
-pub before : (call : Call) (calls : List Call) → Plain.Follows call calls → IsLoaded call.from.mem → Outcome calls
-    → Before call calls
+before : (call : Call) (calls : List Call) → Calls.Follows call calls → IsLoaded call.from.mem → Outcome calls
+    → Before call.from calls
 before call [] follows load outcome = absurd follows
-before call (older ∷ calls) follows load outcome =
+before call (older ∷ olds) follows load outcome =
     let untouched = follows.1 in
+    let ends = bounds (older ∷ olds) in
+    let tables = is_table older olds in
+    let was = outcome.3 follows.0 in
     record {
       life = outcome.0;
       is_life = outcome.1;
-      holds = holds_on (bounds (older ∷ calls)).0 (bounds (older ∷ calls)).1 (frame_of (older ∷ calls)) (after older).mem
-          call.from.mem outcome.0 (outcome.3 follows.0) load
-          untouched.own untouched.ram (λ writing b low high far device. untouched.table writing b low high);
+      holds = holds_on ends.0 ends.1 (frame_of (older ∷ olds)) was.0 call.from.mem outcome.0 was.2 load
+          (λ b is. untouched.own b is ∙ was.1 b (kept_own tables b is))
+          (λ b is. untouched.ram b is ∙ was.1 b (kept_ram tables b is))
+          (λ writing b low high far device. untouched.table (was.1 0x10 refl ∙ writing) b low high
+          ∙ was.1 b (kept_table tables b (covers_after older.routine older (bounds olds) b low high)));
     }
 
-pub outcome : (calls : List Call) → IsSession calls → Outcome calls
+course : (r : Routine) (from : Cpu) (calls : List Call) → Enters from (Calls.entry r)
+    → Calls.Brings r from (frame_of calls) → Calls.UnlessReset r (Before from calls) → Course r from calls
+course Calls.Reset from calls enters brings was = reset_course from calls enters
+course Calls.Tick from calls enters brings was = tick_course from calls was.life was.is_life was.holds enters
+course Calls.Ticks from calls enters brings was = ticks_course from calls was.life was.is_life was.holds enters
+course Calls.Run from calls enters brings was = run_course from calls was.life was.is_life was.holds enters
+course (Calls.Offer F) from calls enters brings was =
+    offer_course from calls was.life was.is_life was.holds F enters brings
+course Calls.Redraw from calls enters brings was = redraw_course from calls was.life was.is_life was.holds enters
+course (Calls.Open F) from calls enters brings was = open_course from calls was.life was.is_life was.holds F enters brings
+course (Calls.Puts part) from calls enters brings was =
+    puts_course from calls was.life was.is_life was.holds part enters brings
+course Calls.Close from calls enters brings was = close_course from calls was.life was.is_life was.holds enters brings
+
+course_of : (call : Call) (calls : List Call) → IsSession (call ∷ calls) → (IsSession calls → Outcome calls)
+    → Course call.routine call.from calls
+course_of call calls session older = course call.routine call.from calls session.0 session.1
+    (unless_map call.routine (Calls.Follows call calls × IsSession calls) (Before call.from calls)
+    (λ both. before call calls both.0 session.0.loaded (older both.1)) session.3)
+
+-- the tables that matter to a call are guarded
+comes : (call : Call) (calls : List Call) → IsSession (call ∷ calls) → Course call.routine call.from calls
+    → Came call calls
+comes call calls session does =
+    let ends = bounds calls in
+    came call calls session.0 session.2 (λ k. does.steady k (is_table call calls)
+    (λ b is. right_true (nat_le ends.0 b && nat_lt b ends.1) (is_offered call.routine call.from b) is)
+    (λ b low high. left_true (nat_le ends.0 b && nat_lt b ends.1) (is_offered call.routine call.from b)
+    (both_bounds ends.0 ends.1 b low high)))
+
+outcome : (calls : List Call) → IsSession calls → Outcome calls
 outcome [] session = absurd session
-outcome (call ∷ calls) session = by call.routine call.from call.steps session.0 session.1 session.2 (outcome calls)
-  where
-    by : (routine : Routine) (from : Cpu) (steps : ℕ) → Enters from (Calls.entry routine)
-        → Calls.Brings routine from (frame_of calls)
-        → Calls.UnlessReset routine (Plain.Follows (record { routine = routine; from = from; steps = steps }) calls
-        × IsSession calls)
-        → (IsSession calls → Outcome calls) → Outcome (record { routine = routine; from = from; steps = steps } ∷ calls)
-    by Calls.Reset from steps enters brings rest older = reset_outcome from steps calls enters
-    by Calls.Tick from steps enters brings rest older =
-        let was = before (record { routine = Calls.Tick; from = from; steps = steps }) calls rest.0 enters.loaded
-        (older rest.1) in
-        tick_outcome from steps calls was.life was.is_life enters was.holds
-    by Calls.Ticks from steps enters brings rest older =
-        let was = before (record { routine = Calls.Ticks; from = from; steps = steps }) calls rest.0 enters.loaded
-        (older rest.1) in
-        ticks_outcome from steps calls was.life was.is_life enters was.holds
-    by Calls.Run from steps enters brings rest older =
-        let was = before (record { routine = Calls.Run; from = from; steps = steps }) calls rest.0 enters.loaded
-        (older rest.1) in
-        run_outcome from steps calls was.life was.is_life enters was.holds
-    by (Calls.Offer F) from steps enters brings rest older =
-        let was = before (record { routine = Calls.Offer F; from = from; steps = steps }) calls rest.0 enters.loaded
-        (older rest.1) in
-        offer_outcome from steps calls was.life was.is_life F enters brings was.holds
-    by Calls.Redraw from steps enters brings rest older =
-        let was = before (record { routine = Calls.Redraw; from = from; steps = steps }) calls rest.0 enters.loaded
-        (older rest.1) in
-        redraw_outcome from steps calls was.life was.is_life enters was.holds
-    by (Calls.Open F) from steps enters brings rest older =
-        let was = before (record { routine = Calls.Open F; from = from; steps = steps }) calls rest.0 enters.loaded
-        (older rest.1) in
-        open_outcome from steps calls was.life was.is_life F enters brings was.holds
-    by (Calls.Puts part) from steps enters brings rest older =
-        let was = before (record { routine = Calls.Puts part; from = from; steps = steps }) calls rest.0 enters.loaded
-        (older rest.1) in
-        puts_outcome from steps calls was.life was.is_life part enters brings was.holds
-    by Calls.Close from steps enters brings rest older =
-        let was = before (record { routine = Calls.Close; from = from; steps = steps }) calls rest.0 enters.loaded
-        (older rest.1) in
-        close_outcome from steps calls was.life was.is_life enters brings was.holds
+outcome (call ∷ calls) session = let does = course_of call calls session (outcome calls) in
+    does.makes call.steps call.others (comes call calls session does)
+
+pub came_of : (call : Call) (calls : List Call) → IsSession (call ∷ calls) → Came call calls
+came_of call calls session = comes call calls session (course_of call calls session (outcome calls))
+
+-- what holds at a call of a session
+pub before_call : (call : Call) (calls : List Call) → Calls.Follows call calls → IsLoaded call.from.mem → IsSession calls
+    → Before call.from calls
+before_call call calls follows load session = before call calls follows load (outcome calls session)
 
 pub calls_live : CallsLive
 calls_live [] session = absurd session
@@ -537,7 +650,7 @@ is_kind (Read halted) access is = ap Read is.2 ∙ sym (ap kind_of (head_same ac
 is_kind Sent access is = sym (ap kind_of (head_same access (Writes 0x3000 is.0) is.1))
 is_kind Idle access is = absurd (cc)
 
-pub one_shown : (log : List Access) (one other : List Item) → AreShown one log → AreShown other log → one ≡ other
+one_shown : (log : List Access) (one other : List Item) → AreShown one log → AreShown other log → one ≡ other
 one_shown [] [] [] a b = refl
 one_shown [] [] (Did action ∷ other) a b = absurd b
 one_shown [] [] (Offered half F ∷ other) a b = absurd b
@@ -567,17 +680,10 @@ one_added (Calls.Puts part) call one other a b = one_shown (seen (after call).lo
 one_added Calls.Close call one other a b = one_shown (seen (after call).log) one other a b
 one_added Calls.Redraw call one other a b = a.1 ∙ sym b.1
 
-pub one_since : (routine : Routine) (one other : List Item) (P : List Item → Type 0) → (P one → P other → one ≡ other)
-    → Calls.SinceReset routine one (P one) → Calls.SinceReset routine other (P other) → one ≡ other
-one_since Calls.Reset one other P same a b = a ∙ sym b
-one_since Calls.Tick one other P same a b = same a b
-one_since Calls.Ticks one other P same a b = same a b
-one_since Calls.Run one other P same a b = same a b
-one_since (Calls.Offer F) one other P same a b = same a b
-one_since (Calls.Open F) one other P same a b = same a b
-one_since (Calls.Puts part) one other P same a b = same a b
-one_since Calls.Close one other P same a b = same a b
-one_since Calls.Redraw one other P same a b = same a b
+one_since : (r : Routine) (one other : List Item) (P : List Item → Type 0) → (P one → P other → one ≡ other)
+    → Calls.SinceReset r one (P one) → Calls.SinceReset r other (P other) → one ≡ other
+one_since r one other P same =
+    by_reset (λ r U S. S one (P one) → S other (P other) → one ≡ other) (λ a b. a ∙ sym b) (λ r. same) r
 
 pub one_life : OneLife
 one_life [] one other a b = absurd a
@@ -585,24 +691,6 @@ one_life (call ∷ calls) one other a b =
     a.2 ∙ ap (λ l. l ++ a.1) (one_added call.routine call a.0 b.0 a.3 b.3)
     ∙ ap (λ l. b.0 ++ l) (one_since call.routine a.1 b.1 (λ l. IsLifeOf calls l) (one_life calls a.1 b.1) a.4 b.4)
     ∙ sym b.2
-
--- what held before a call of a session, after the life that the calls before it make
-holds_of : (routine : Routine) (from : Cpu) (steps : ℕ) (calls : List Call) (life : List Item)
-    → Enters from (Calls.entry routine)
-    → Plain.Follows (record { routine = routine; from = from; steps = steps }) calls → IsSession calls
-    → IsLifeOf calls life
-    → holds_in (bounds calls).0 (bounds calls).1 (frame_of calls) from.mem life
-holds_of routine from steps calls life enters follows session makes =
-    let was = before (record { routine = routine; from = from; steps = steps }) calls follows enters.loaded
-    (outcome calls session) in
-    subst (λ l. holds_in (bounds calls).0 (bounds calls).1 (frame_of calls) from.mem l)
-    (one_life calls was.life life was.is_life makes) was.holds
-
--- C at the end of an answer
-carried : (from : Cpu) (steps : ℕ) (c d : Bool) (mem : ℕ → ℕ) → at_return from.s (run from.s steps from) ≡ true
-    → Quietly from c mem → (run from.s steps from).c ≡ d → d ≡ c
-carried from steps c d mem here did is = sym is
-    ∙ ap (λ (k : Cpu). k.c) (same_end from.s steps did.steps from here did.returns) ∙ did.carry
 
 -- where a life is whole, the driver rests
 module _ (from : Cpu) (begin stop : ℕ) (life : List Item) where
@@ -634,83 +722,98 @@ module _ (from : Cpu) (begin stop : ℕ) (life : List Item) where
 abbrev held_at : (routine : Routine) (c : Bool) (life : List Item) → IsAnswered routine c life → Type 0
 held_at routine c life a = holds_in (bounds a.calls).0 (bounds a.calls).1 (frame_of a.calls) a.from.mem life
 
-module _ (F : List OpKind) (life : List Item) where
-  offer_held : (c : Bool) → (a : IsAnswered (Calls.Offer F) c life) → held_at (Calls.Offer F) c life a
-  offer_held c a = holds_of (Calls.Offer F) a.from a.steps a.calls life a.session.0 a.session.2.0 a.session.2.1 a.makes
+-- what an answer of a call is, and what it may be
+module _ (r : Routine) (c : Bool) (life : List Item) (no_reset : (P : Type 0) → Calls.UnlessReset r P → P)
+    (a : IsAnswered r c life) where
+  abbrev asked : Call
+  asked = call_of r a.from a.steps a.others
 
-  offer_taken : (a : IsAnswered (Calls.Offer F) false life) → IsWhole life
-  offer_taken a = by_rest a.from.mem (bounds a.calls).0 (bounds a.calls).1 (frame_of a.calls) life (IsWhole life)
-      (λ busy. let did = offer_refused a.from a.session.0 busy in
-      absurd (let e = carried a.from a.steps true false did.memory a.returns (of_refusal a.from did) a.carry in cc))
-      (λ none stood first is held. rests_whole life first (stood.stands.place ∙ ap Some is)) (offer_held false a)
+  held : holds_in (bounds a.calls).0 (bounds a.calls).1 (frame_of a.calls) a.from.mem life
+  held = let both = no_reset (Calls.Follows asked a.calls × IsSession a.calls) a.session.3 in
+      let was = before_call asked a.calls both.0 a.session.0.loaded both.1 in
+      subst (λ l. holds_in (bounds a.calls).0 (bounds a.calls).1 (frame_of a.calls) a.from.mem l)
+      (one_life a.calls was.life life was.is_life a.makes) was.holds
 
-  offer_untaken : (a : IsAnswered (Calls.Offer F) true life) → ¬ IsWhole life
-  offer_untaken a whole =
-      let rest = at_rest a.from (bounds a.calls).0 (bounds a.calls).1 life whole (frame_of a.calls) (offer_held true a) in
+  -- its C
+  carried : (d : Bool) (mem : ℕ → ℕ) → Quietly a.from d mem → c ≡ d
+  carried d mem did =
+      let is = came_of asked a.calls a.session in
+      sym a.carry ∙ is.carry a.over
+      ∙ ap (λ (k : Cpu). k.c) (same_end a.from.s is.n did.steps a.from (sym is.over ∙ a.over) did.returns) ∙ did.carry
+
+  -- where it is taken, the driver rests, so that the life is whole
+  rests : c ≡ false → (nat_eq (a.from.mem 0x10) 2 ≡ false → Refuses a.from)
+      → (stood : Stood a.from.mem (bounds a.calls).0 (bounds a.calls).1 life)
+      × ((first : Bool) × (stood.stage.place ≡ Resting first))
+  rests taken refused = by_rest a.from.mem (bounds a.calls).0 (bounds a.calls).1 (frame_of a.calls) life
+      ((stood : Stood a.from.mem (bounds a.calls).0 (bounds a.calls).1 life)
+      × ((first : Bool) × (stood.stage.place ≡ Resting first)))
+      (λ busy. let did = refused busy in
+      absurd (let e = sym (carried true did.memory (of_refusal a.from did)) ∙ taken in cc))
+      (λ none stood first is held. (stood, (first, is))) held
+
+  whole : c ≡ false → (nat_eq (a.from.mem 0x10) 2 ≡ false → Refuses a.from) → IsWhole life
+  whole taken refused = let at = rests taken refused in
+      rests_whole life at.1.0 (at.0.stands.place ∙ ap Some at.1.1)
+
+  -- where the life is whole, the driver rests
+  rested : IsWhole life → (stood : Stood a.from.mem (bounds a.calls).0 (bounds a.calls).1 life) × ((first : Bool)
+      × Holds a.from.mem (bounds a.calls).0 (bounds a.calls).1
+      (record { place = Resting first; half = stood.stage.half; flipped = stood.stage.flipped }))
+  rested whole = at_rest a.from (bounds a.calls).0 (bounds a.calls).1 life whole (frame_of a.calls) held
+
+pub offer_answers : OfferAnswers
+offer_answers F life = (
+  (λ a. whole (Calls.Offer F) false life (λ P is. is) a refl (offer_refused a.from a.session.0)),
+  (λ a is_whole.
+      let rest = rested (Calls.Offer F) true life (λ P is. is) a is_whole in
       let did = offer_is_taken a.from (bounds a.calls).0 (bounds a.calls).1 rest.0.stage.half rest.0.stage.flipped
       rest.1.0 F a.session.0 rest.1.1 a.session.1 in
-      let e = carried a.from a.steps false true _ a.returns (of_answer a.from false _ _ _ did) a.carry in absurd (cc)
+      absurd (let e = carried (Calls.Offer F) true life (λ P is. is) a false _ (of_answer a.from false _ _ _ did) in cc)),
+)
 
-  open_held : (c : Bool) → (a : IsAnswered (Calls.Open F) c life) → held_at (Calls.Open F) c life a
-  open_held c a = holds_of (Calls.Open F) a.from a.steps a.calls life a.session.0 a.session.2.0 a.session.2.1 a.makes
-
-  open_taken : (a : IsAnswered (Calls.Open F) false life) → IsWhole life
-  open_taken a = by_rest a.from.mem (bounds a.calls).0 (bounds a.calls).1 (frame_of a.calls) life (IsWhole life)
-      (λ busy. let did = open_refused a.from a.session.0 busy in
-      absurd (let e = carried a.from a.steps true false did.memory a.returns (of_refusal a.from did) a.carry in cc))
-      (λ none stood first is held. rests_whole life first (stood.stands.place ∙ ap Some is)) (open_held false a)
-
-  open_untaken : (a : IsAnswered (Calls.Open F) true life) → ¬ IsWhole life
-  open_untaken a whole =
-      let rest = at_rest a.from (bounds a.calls).0 (bounds a.calls).1 life whole (frame_of a.calls) (open_held true a) in
+pub open_answers : OpenAnswers
+open_answers F life = (
+  (λ a. whole (Calls.Open F) false life (λ P is. is) a refl (open_refused a.from a.session.0)),
+  (λ a is_whole.
+      let rest = rested (Calls.Open F) true life (λ P is. is) a is_whole in
       let did = open_is_taken a.from (bounds a.calls).0 (bounds a.calls).1 rest.0.stage.half rest.0.stage.flipped
       rest.1.0 (table_of F) a.session.0 rest.1.1 a.session.1.some a.session.1.fits in
-      let quiet : Quietly a.from false (run a.from.s did.steps a.from).mem = record {
+      absurd (let e = carried (Calls.Open F) true life (λ P is. is) a false (run a.from.s did.steps a.from).mem (record {
         steps = did.steps;
         returns = did.returns;
         carry = did.carry;
         shows = did.shows;
         memory = refl;
-      } in
-      let e = carried a.from a.steps false true _ a.returns quiet a.carry in absurd (cc)
-
-pub offer_answers : OfferAnswers
-offer_answers F life = (offer_taken F life, offer_untaken F life)
-
-pub open_answers : OpenAnswers
-open_answers F life = (open_taken F life, open_untaken F life)
+      }) in cc)),
+)
 
 module _ (life : List Item) where
-  redraw_held : (c : Bool) → (a : IsAnswered Calls.Redraw c life) → held_at Calls.Redraw c life a
-  redraw_held c a = holds_of Calls.Redraw a.from a.steps a.calls life a.session.0 a.session.2.0 a.session.2.1 a.makes
-
   redraw_taken : (a : IsAnswered Calls.Redraw false life) → (has_flip life ≡ true) × IsWhole life
-  redraw_taken a = by_rest a.from.mem (bounds a.calls).0 (bounds a.calls).1 (frame_of a.calls) life
-      ((has_flip life ≡ true) × IsWhole life)
-      (λ busy. let did = redraw_refused a.from a.session.0 busy in unless did.memory (of_refusal a.from did))
-      (λ none stood first is held. by stood first is stood.stage.flipped refl) (redraw_held false a)
+  redraw_taken a = (
+    by at.0.stage.flipped refl,
+    whole Calls.Redraw false life (λ P is. is) a refl (redraw_refused a.from a.session.0),
+  )
     where
-      unless : (mem : ℕ → ℕ) → Quietly a.from true mem → (has_flip life ≡ true) × IsWhole life
-      unless mem did = absurd (let e = carried a.from a.steps true false mem a.returns did a.carry in cc)
+      at : (stood : Stood a.from.mem (bounds a.calls).0 (bounds a.calls).1 life)
+          × ((first : Bool) × (stood.stage.place ≡ Resting first))
+      at = rests Calls.Redraw false life (λ P is. is) a refl (redraw_refused a.from a.session.0)
 
-      by : (stood : Stood a.from.mem (bounds a.calls).0 (bounds a.calls).1 life) (first : Bool)
-          → stood.stage.place ≡ Resting first → (flipped : Bool) → stood.stage.flipped ≡ flipped
-          → (has_flip life ≡ true) × IsWhole life
-      by stood first is false unset =
-          let did = redraw_is_refused a.from _ _ stood.stage a.session.0 stood.holds
+      by : (flipped : Bool) → at.0.stage.flipped ≡ flipped → has_flip life ≡ true
+      by false unset =
+          let did = redraw_is_refused a.from _ _ at.0.stage a.session.0 at.0.holds
           (λ set. absurd (let e = sym unset ∙ set in cc)) in
-          unless _ (of_answer a.from true _ _ stood.stage did)
-      by stood first is true set =
-          (stood.stands.flipped ∙ set, rests_whole life first (stood.stands.place ∙ ap Some is))
+          absurd (let e = carried Calls.Redraw false life (λ P is. is) a true _ (of_answer a.from true _ _ at.0.stage did) in cc)
+      by true set = at.0.stands.flipped ∙ set
 
   redraw_untaken : (a : IsAnswered Calls.Redraw true life) → has_flip life ≡ true → ¬ IsWhole life
-  redraw_untaken a flip whole =
-      let rest = at_rest a.from (bounds a.calls).0 (bounds a.calls).1 life whole (frame_of a.calls) (redraw_held true a) in
+  redraw_untaken a flip is_whole =
+      let rest = rested Calls.Redraw true life (λ P is. is) a is_whole in
       let flipped : rest.0.stage.flipped ≡ true = sym rest.0.stands.flipped ∙ flip in
       let did = redraw_is_taken a.from (bounds a.calls).0 (bounds a.calls).1 rest.0.stage.half rest.1.0 a.session.0
       (subst (λ (t : Bool). Holds a.from.mem (bounds a.calls).0 (bounds a.calls).1
       (record { place = Resting rest.1.0; half = rest.0.stage.half; flipped = t })) flipped rest.1.1) in
-      let e = carried a.from a.steps false true _ a.returns (of_answer a.from false _ _ _ did) a.carry in absurd (cc)
+      absurd (let e = carried Calls.Redraw true life (λ P is. is) a false _ (of_answer a.from false _ _ _ did) in cc)
 
 pub redraw_answers : RedrawAnswers
 redraw_answers life = (redraw_taken life, redraw_untaken life)

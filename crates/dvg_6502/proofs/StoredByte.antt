@@ -3,7 +3,7 @@ use Rattle.std.proofs.Common.{◌≡◌, ℕ, ◌+◌, ◌-◌, ◌*◌, ◌%◌
 use Rattle.std.specs.Prelude.{nat_eq, nat_le, if◌then◌else◌}
 use Rattle.dvg_6502.specs.Processor.{Cpu, Access, Reads, Writes, put}
 use Rattle.dvg_6502.specs.Board.{seen}
-use Rattle.dvg_6502.proofs.Running.{Ends, on, at, seen_as}
+use Rattle.dvg_6502.proofs.Running.{Ends, on, at, seen_as, ends}
 use Rattle.dvg_6502.proofs.Memory.{laid, page_of, put_page, put_out, in_page, in_code}
 
 -- the phase after a byte: on the last page's last byte the table is done
@@ -31,15 +31,8 @@ module _ (q s : ℕ) (reads : List ℕ) (free publish next t0 t1 pages end secon
           (Reads 0x16 pages ∷ log)
 
       rest : (last : Bool) → Ends q (told last) s (laid (bytes (phase_then true last publish)) mem) (seen log) reads
-      rest true = record {
-        steps = 3;
-        returns = refl;
-        stack = refl;
-        accesses = refl;
-        steady = λ tables is. refl;
-        there = refl;
-        memory = put_page 0 publish (bytes 0x80) mem (omega arith) refl;
-      }
+      rest true = ends 3 refl refl refl refl (λ tables is. refl)
+          (put_page 0 publish (bytes 0x80) mem (omega arith) refl)
       rest false = record { steps = 1; returns = refl; stack = refl; accesses = refl; steady = λ tables is. refl; there = refl; memory = refl }
 
   same : (a x y : ℕ) (n z c v : Bool) (log : List Access) (ends last : Bool) → nat_eq ((y + 256 - end) % 256) 0 ≡ ends

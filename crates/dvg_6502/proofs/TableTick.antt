@@ -18,7 +18,7 @@ use Rattle.dvg_6502.specs.Board.{IsLoaded, is_hardware, source_in, goal_in, seen
 use Rattle.dvg_6502.specs.Feed.{fed, put_for, second_then, second_byte}
 use Rattle.dvg_6502.specs.Holds.{IsFeeding, Holds, publish_byte}
 use Rattle.dvg_6502.proofs.Running.{Ends, at}
-use Rattle.dvg_6502.proofs.Memory.{AreSmall, laid, page_of, in_page, in_code, known, page_in, loaded, put_small}
+use Rattle.dvg_6502.proofs.Memory.{AreSmall, laid, page_of, in_page, in_code, known, page_in, loaded, put_small, small_page}
 use Rattle.dvg_6502.proofs.Memory.{same_out, kept_write, le_not, out_of_page}
 use Rattle.dvg_6502.proofs.StoredByte.{phase_then, carried}
 use Rattle.dvg_6502.proofs.FedByte.{writes}
@@ -298,34 +298,11 @@ module _ (q a x y s : ℕ) (n z c v : Bool) (mem flags : ℕ → ℕ) (log : Lis
         parity)
 
     pages_small : AreSmall (there phase)
-    pages_small = (
-      phase_small (nat_eq ((up + 256 - mem 0x17) % 256) 0) (nat_eq pages 0) (mem 0x12) (bytes 0x12),
-      (
-        bytes 0x11,
-        (
-          bytes 0x12,
-          (
-            up_small,
-            (
-              bytes 0x14,
-              (
-                carried_small wrap 1 (mem 0x15) (bytes 0x15),
-                (
-                  carried_small wrap 255 (mem 0x16) (bytes 0x16),
-                  (
-                    bytes 0x17,
-                    (
-                      second_small (second_then odd second byte),
-                      (bytes 0x19, (carried_small wrap 1 (mem 0x1A) (bytes 0x1A), tt)),
-                    ),
-                  ),
-                ),
-              ),
-            ),
-          ),
-        ),
-      ),
-    )
+    pages_small = small_page
+        (phase_small (nat_eq ((up + 256 - mem 0x17) % 256) 0) (nat_eq pages 0) (mem 0x12) (bytes 0x12)) (bytes 0x11)
+        (bytes 0x12) up_small (bytes 0x14) (carried_small wrap 1 (mem 0x15) (bytes 0x15))
+        (carried_small wrap 255 (mem 0x16) (bytes 0x16)) (bytes 0x17) (second_small (second_then odd second byte))
+        (bytes 0x19) (carried_small wrap 1 (mem 0x1A) (bytes 0x1A))
 
     pub tick : Acts q (from 0x80 (mem 0x11) (second_byte second)) begin stop peeked life
     tick =

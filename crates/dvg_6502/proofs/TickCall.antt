@@ -13,7 +13,7 @@ use Rattle.dvg_6502.specs.Amid.{is_kept, is_code, is_steady, are_steady}
 use Rattle.dvg_6502.specs.Routines.{acted}
 use Rattle.dvg_6502.specs.Calls.{AreShown}
 use Rattle.dvg_6502.proofs.Running.{at, run_more, returned, steady_more, and_true}
-use Rattle.dvg_6502.proofs.Memory.{AreSmall, laid, page_in, in_page, in_code, known, loaded, put_out, put_small, state_is}
+use Rattle.dvg_6502.proofs.Memory.{AreSmall, laid, page_in, in_page, in_code, known, loaded, put_out, put_small, state_is, small_page}
 use Rattle.dvg_6502.proofs.Memory.{both_true, le_not}
 use Rattle.dvg_6502.proofs.Acting.{Covers}
 use Rattle.dvg_6502.proofs.Steady.{rts_steady, code_kept}
@@ -212,28 +212,8 @@ module _ (P : Claim) (begin stop : ℕ) (goes : GoesByTicks P begin stop) (q a x
       not_at p low up (inr more) same = omega arith
 
   small : AreSmall page
-  small = (
-    load.bytes 0x10,
-    (
-      load.bytes 0x11,
-      (
-        load.bytes 0x12,
-        (
-          load.bytes 0x13,
-          (
-            load.bytes 0x14,
-            (
-              load.bytes 0x15,
-              (
-                load.bytes 0x16,
-                (load.bytes 0x17, (load.bytes 0x18, (load.bytes 0x19, (load.bytes 0x1A, tt)))),
-              ),
-            ),
-          ),
-        ),
-      ),
-    ),
-  )
+  small = small_page (load.bytes 0x10) (load.bytes 0x11) (load.bytes 0x12) (load.bytes 0x13) (load.bytes 0x14)
+      (load.bytes 0x15) (load.bytes 0x16) (load.bytes 0x17) (load.bytes 0x18) (load.bytes 0x19) (load.bytes 0x1A)
 
   back_small : (site : Bool) → back_of site < 256
   back_small true = omega arith

@@ -8,7 +8,7 @@ use Rattle.dvg_6502.specs.Processor.{Cpu, Access, Reads, Writes, put, run, at_re
 use Rattle.dvg_6502.specs.Board.{IsLoaded, seen}
 use Rattle.dvg_6502.specs.Amid.{is_kept, is_code, are_steady}
 use Rattle.dvg_6502.proofs.Running.{at, run_more, returned, steady_more}
-use Rattle.dvg_6502.proofs.Memory.{AreSmall, laid, page_in, known, loaded, put_out, put_small, both_true, state_is}
+use Rattle.dvg_6502.proofs.Memory.{AreSmall, laid, page_in, known, loaded, put_out, put_small, both_true, state_is, small_page}
 use Rattle.dvg_6502.proofs.Going.{Claim, GoesTo, Stretch, idle_stretch, finish, go_on}
 use Rattle.dvg_6502.proofs.TickCall.{GoesByTicks, TurnedTo, tick_call_to, past_low}
 
@@ -27,25 +27,9 @@ extend begin stop q cpu k more life made quiet steady = record {
 }
 
 pub page_small : (mem : ℕ → ℕ) → IsLoaded mem → AreSmall (page_in mem)
-page_small mem load = (
-  load.bytes 0x10,
-  (
-    load.bytes 0x11,
-    (
-      load.bytes 0x12,
-      (
-        load.bytes 0x13,
-        (
-          load.bytes 0x14,
-          (
-            load.bytes 0x15,
-            (load.bytes 0x16, (load.bytes 0x17, (load.bytes 0x18, (load.bytes 0x19, (load.bytes 0x1A, tt))))),
-          ),
-        ),
-      ),
-    ),
-  ),
-)
+page_small mem load = small_page (load.bytes 0x10) (load.bytes 0x11) (load.bytes 0x12) (load.bytes 0x13)
+    (load.bytes 0x14) (load.bytes 0x15) (load.bytes 0x16) (load.bytes 0x17) (load.bytes 0x18) (load.bytes 0x19)
+    (load.bytes 0x1A)
 
 -- what holds where only the count of dvg_ticks was changed
 count_stood : (P : Claim) (begin stop : ℕ) → GoesByTicks P begin stop → (mem : ℕ → ℕ) (r : ℕ) (life : List Item)

@@ -10,7 +10,7 @@ use Rattle.dvg_6502.specs.Board.{IsLoaded, seen, goal_in, is_own, is_ram}
 use Rattle.dvg_6502.specs.Amid.{is_work}
 use Rattle.dvg_6502.specs.Routines.{Enters, Vector, put_by}
 use Rattle.dvg_6502.specs.Build.{IsBuilding, Builds, IsRefused, VectorTakes, VectorRefuses}
-use Rattle.dvg_6502.proofs.Running.{Comes, by, at, returned}
+use Rattle.dvg_6502.proofs.Running.{Comes, by, at, returned, comes}
 use Rattle.dvg_6502.proofs.Memory.{laid, page_of, page_in, known, loaded, in_page, in_code, AreSmall, are_small, both_true}
 use Rattle.dvg_6502.proofs.Memory.{le_not}
 use Rattle.dvg_6502.proofs.Alike.{alike_if, Keeping}
@@ -275,16 +275,7 @@ module _ (cpu : Cpu) (enters : Enters cpu dvg_vector) where
         out.work,
         out.small,
         home out.work (led_comes cpu.s first _ cpu.s true _ [] out.led
-            (λ log quiet. record {
-              steps = 1;
-              returns = refl;
-              stack = refl;
-              carry = refl;
-              memory = refl;
-              accesses = quiet;
-              steady = λ tables is. refl;
-              there = refl;
-            })),
+            (λ log quiet. comes 1 refl refl refl quiet refl (λ tables is. refl) refl)),
       )
       which (one_word b0 b1 work is b0_small b1_small small to) = (
         work,

@@ -128,47 +128,21 @@ pub data Comes (q y s l len : ℕ) (v : Bool) (page : List ℕ) (mem flags : ℕ
       → ToPair q y s l len v page mem flags from (b0 ∷ b1 ∷ b2 ∷ b3 ∷ l ∷ len ∷ [])
       → Comes q y s l len v page mem flags from now
 
+right_false : (t : Bool) → (t && false) ≡ false
+right_false true = refl
+right_false false = refl
+
 second_false : (t u w : Bool) → u ≡ false → (t && (u && w)) ≡ false
-second_false true false w is = refl
-second_false false u w is = refl
-second_false true true w is = absurd (cc)
+second_false t u w is = ap (λ (u : Bool). t && (u && w)) is ∙ right_false t
 
 third_false : (t u w : Bool) → w ≡ false → (t && (u && w)) ≡ false
-third_false true true false is = refl
-third_false true false w is = refl
-third_false false u w is = refl
-third_false true true true is = absurd (cc)
+third_false t u w is = ap (λ (w : Bool). t && (u && w)) is ∙ ap (λ (k : Bool). t && k) (right_false u) ∙ right_false t
 
 all_three : (t u w : Bool) → t ≡ true → u ≡ true → w ≡ true → (t && (u && w)) ≡ true
-all_three true true true a b c = refl
-all_three false u w a b c = absurd (cc)
-all_three true false w a b c = absurd (cc)
-all_three true true false a b c = absurd (cc)
+all_three t u w a b c = ap (λ (t : Bool). t && (u && w)) a ∙ ap (λ (u : Bool). u && w) b ∙ c
 
 first_of_four : (t u w k : Bool) → (t && u) ≡ false → ((t && u) && (w && k)) ≡ false
-first_of_four true false w k is = refl
-first_of_four false u w k is = refl
-first_of_four true true w k is = absurd (cc)
-
-third_of_four : (t u w k : Bool) → w ≡ false → ((t && u) && (w && k)) ≡ false
-third_of_four true true false k is = refl
-third_of_four true false w k is = refl
-third_of_four false u w k is = refl
-third_of_four true true true k is = absurd (cc)
-
-fourth_of_four : (t u w k : Bool) → k ≡ false → ((t && u) && (w && k)) ≡ false
-fourth_of_four true true true false is = refl
-fourth_of_four true true false k is = refl
-fourth_of_four true false w k is = refl
-fourth_of_four false u w k is = refl
-fourth_of_four true true true true is = absurd (cc)
-
-all_four : (t u w k : Bool) → (t && u) ≡ true → w ≡ true → k ≡ true → ((t && u) && (w && k)) ≡ true
-all_four true true true true a b c = refl
-all_four true false w k a b c = absurd (cc)
-all_four false u w k a b c = absurd (cc)
-all_four true true false k a b c = absurd (cc)
-all_four true true true false a b c = absurd (cc)
+first_of_four t u w k is = ap (λ (m : Bool). m && (w && k)) is
 
 high_small : (m : Bool) (w : ℕ) → magnitude m w ≤ 1023 → high_of m w < 8
 high_small true w fits = omega (arith, fits)
@@ -344,13 +318,13 @@ module _ (q a x y s y0 y1 x0 x1 l old : ℕ) (n z c v : Bool) (page : List ℕ) 
 
       below : zeros ≡ true → nat_le 0x20 a ≡ false → Coming
       below is less = as_pair
-          (third_of_four (nat_eq (unsigned_abs fy % 256) 0) (nat_eq (unsigned_abs fx % 256) 0) (nat_le 2 (a / 16))
+          (second_false (nat_eq (unsigned_abs fy % 256) 0 && nat_eq (unsigned_abs fx % 256) 0) (nat_le 2 (a / 16))
           (nat_le (a / 16) 5) (le_not 2 (a / 16) (let few = leb-false 0x20 a less in omega (arith, few))))
           (λ log quiet. long_small q y s l a v page mem flags ly ky lx kx log quiet (zeros_code ∙ is) less)
 
       above : zeros ≡ true → nat_le 0x20 a ≡ true → nat_le 0x60 a ≡ true → Coming
       above is two five = as_pair
-          (fourth_of_four (nat_eq (unsigned_abs fy % 256) 0) (nat_eq (unsigned_abs fx % 256) 0) (nat_le 2 (a / 16))
+          (third_false (nat_eq (unsigned_abs fy % 256) 0 && nat_eq (unsigned_abs fx % 256) 0) (nat_le 2 (a / 16))
           (nat_le (a / 16) 5) (le_not (a / 16) 5 (let many = leb-true 0x60 a five in omega (arith, many))))
           (λ log quiet. long_large q y s l a v page mem flags ly ky lx kx log quiet (zeros_code ∙ is) two five)
 
@@ -383,7 +357,7 @@ module _ (q a x y s y0 y1 x0 x1 l old : ℕ) (n z c v : Bool) (page : List ℕ) 
             let g = leb-false 64 (a % 128) less in omega (arith, low_is, g, from_two, to_five)
 
         short_said : is_short (a / 16) fx fy ≡ true
-        short_said = all_four (nat_eq (unsigned_abs fy % 256) 0) (nat_eq (unsigned_abs fx % 256) 0) (nat_le 2 (a / 16))
+        short_said = all_three (nat_eq (unsigned_abs fy % 256) 0 && nat_eq (unsigned_abs fx % 256) 0) (nat_le 2 (a / 16))
             (nat_le (a / 16) 5) (zeros_said ∙ is) (le-leb 2 (a / 16) (omega (arith, from_two)))
             (le-leb (a / 16) 5 (omega (arith, to_five)))
 

@@ -5,7 +5,7 @@ use Rattle.std.proofs.Common.{get_or-set_same, get_or-set_other}
 use Rattle.std.proofs.Math.Path.{fun_ext}
 use Rattle.std.proofs.lemmas.Bool.{ne_eqb, leb-false, eqb-false}
 use Rattle.std.specs.Prelude.{nat_eq, nat_le, nat_lt, if◌then◌else◌, slice_index, bit_and, bit_or, bit_xor}
-use Rattle.dvg_6502.specs.Processor.{Cpu, Access, Reads, Writes, put, run}
+use Rattle.dvg_6502.specs.Processor.{Cpu, Access, put, run}
 use Rattle.dvg_6502.specs.Board.{seen}
 use Rattle.dvg_6502.specs.Amid.{is_work, is_kept, are_steady}
 use Rattle.dvg_6502.proofs.Running.{at, run_more, steady_more, IsSteady}
@@ -52,6 +52,22 @@ pub record Led (q : ℕ) (from : Cpu) (to : List Access → Cpu) : Type 0 where
   pub is : run q steps from ≡ to log
   pub steady : IsSteady q steps [] from
   pub quiet : seen log ≡ []
+
+-- so many steps, by computing; and where memory is then this one
+led_put : (steps : ℕ) {q : ℕ} {from : Cpu} {to : List Access → Cpu} {m : ℕ → ℕ} → (run q steps from).mem ≡ m
+    → record (run q steps from) { mem = m } ≡ to (run q steps from).log → IsSteady q steps [] from
+    → seen (run q steps from).log ≡ [] → Led q from to
+led_put steps {q = q} {from = from} memory is steady quiet = record {
+  steps = steps;
+  log = (run q steps from).log;
+  is = ap (λ m. record (run q steps from) { mem = m }) memory ∙ is;
+  steady = steady;
+  quiet = quiet;
+}
+
+led : (steps : ℕ) {q : ℕ} {from : Cpu} {to : List Access → Cpu} → run q steps from ≡ to (run q steps from).log
+    → IsSteady q steps [] from → seen (run q steps from).log ≡ [] → Led q from to
+led steps is steady quiet = led_put steps refl is steady quiet
 
 pub joined : (q : ℕ) (from : Cpu) (mid to : List Access → Cpu) → (one : Led q from mid) → Led q (mid one.log) to
     → Led q from to
@@ -106,50 +122,32 @@ module _ (q y s l len : ℕ) (v : Bool) (page : List ℕ) (mem flags : ℕ → �
   looks : (t : Bool) (a o0 o1 lo hi : ℕ) (n z c : Bool) (log : List Access) → seen log ≡ []
       → Led q (here 0x6A1F a (axis t) n z c (pair t o0 o1 lo hi) log)
       (here 0x6A21 hi (axis t) (nat_le 128 hi) (nat_eq hi 0) c (pair t o0 o1 lo hi))
-  looks true a o0 o1 lo hi n z c log quiet =
-      record { steps = 1; log = Reads 0x1E hi ∷ log; is = refl; steady = λ tables is. refl; quiet = quiet }
-  looks false a o0 o1 lo hi n z c log quiet =
-      record { steps = 1; log = Reads 0x1C hi ∷ log; is = refl; steady = λ tables is. refl; quiet = quiet }
+  looks true a o0 o1 lo hi n z c log quiet = led 1 refl (λ tables is. refl) quiet
+  looks false a o0 o1 lo hi n z c log quiet = led 1 refl (λ tables is. refl) quiet
 
   -- not below zero: whether it is too large
   compares : (x hi : ℕ) (z c : Bool) (work : List ℕ) (log : List Access) → seen log ≡ []
       → Led q (here 0x6A21 hi x false z c work log)
       (here 0x6A3F hi x (nat_le 128 ((hi + 256 - 4) % 256)) (nat_eq ((hi + 256 - 4) % 256) 0) (nat_le 4 hi) work)
-  compares x hi z c work log quiet =
-      record { steps = 2; log = log; is = refl; steady = λ tables is. refl; quiet = quiet }
+  compares x hi z c work log quiet = led 2 refl (λ tables is. refl) quiet
 
   goes_beyond : (a x : ℕ) (n z : Bool) (work : List ℕ) (log : List Access) → seen log ≡ []
       → Led q (here 0x6A3F a x n z true work log) (here 0x6A85 a x n z true work)
-  goes_beyond a x n z work log quiet =
-      record { steps = 1; log = log; is = refl; steady = λ tables is. refl; quiet = quiet }
+  goes_beyond a x n z work log quiet = led 1 refl (λ tables is. refl) quiet
 
   stores_plus : (t : Bool) (o0 o1 lo hi : ℕ) (n z : Bool) (log : List Access) → seen log ≡ []
       → Led q (here 0x6A3F hi (axis t) n z false (pair t o0 o1 lo hi) log) (turned_to t o0 o1 lo hi)
-  stores_plus true o0 o1 lo hi n z log quiet = record {
-    steps = 4;
-    log = Writes 0x1E hi ∷ log;
-    is = ap (λ m. at 0x6A45 hi 0 y s false true false v m flags (Writes 0x1E hi ∷ log))
-        (put_work 3 hi page (pair true o0 o1 lo hi) mem (omega arith) refl);
-    steady = λ tables is. refl;
-    quiet = quiet;
-  }
-  stores_plus false o0 o1 lo hi n z log quiet = record {
-    steps = 4;
-    log = Writes 0x1C hi ∷ log;
-    is = ap (λ m. at 0x6A45 hi 254 y s true false false v m flags (Writes 0x1C hi ∷ log))
-        (put_work 1 hi page (pair false o0 o1 lo hi) mem (omega arith) refl);
-    steady = λ tables is. refl;
-    quiet = quiet;
-  }
+  stores_plus true o0 o1 lo hi n z log quiet = led_put 4
+      (put_work 3 hi page (pair true o0 o1 lo hi) mem (omega arith) refl) refl (λ tables is. refl) quiet
+  stores_plus false o0 o1 lo hi n z log quiet = led_put 4
+      (put_work 1 hi page (pair false o0 o1 lo hi) mem (omega arith) refl) refl (λ tables is. refl) quiet
 
   -- below zero: the low byte is loaded
   looks_low : (t : Bool) (a o0 o1 lo hi : ℕ) (z c : Bool) (log : List Access) → seen log ≡ []
       → Led q (here 0x6A21 a (axis t) true z c (pair t o0 o1 lo hi) log)
       (here 0x6A25 lo (axis t) (nat_le 128 lo) (nat_eq lo 0) c (pair t o0 o1 lo hi))
-  looks_low true a o0 o1 lo hi z c log quiet =
-      record { steps = 2; log = Reads 0x1D lo ∷ log; is = refl; steady = λ tables is. refl; quiet = quiet }
-  looks_low false a o0 o1 lo hi z c log quiet =
-      record { steps = 2; log = Reads 0x1B lo ∷ log; is = refl; steady = λ tables is. refl; quiet = quiet }
+  looks_low true a o0 o1 lo hi z c log quiet = led 2 refl (λ tables is. refl) quiet
+  looks_low false a o0 o1 lo hi z c log quiet = led 2 refl (λ tables is. refl) quiet
 
   -- the high byte is one less where the low one is zero
   abbrev less : ℕ → ℕ
@@ -158,29 +156,14 @@ module _ (q y s l len : ℕ) (v : Bool) (page : List ℕ) (mem flags : ℕ → �
   borrows : (t : Bool) (a o0 o1 lo hi : ℕ) (n c : Bool) (log : List Access) → seen log ≡ []
       → Led q (here 0x6A25 a (axis t) n true c (pair t o0 o1 lo hi) log)
       (here 0x6A29 a (axis t) (nat_le 128 (less hi)) (nat_eq (less hi) 0) c (pair t o0 o1 lo (less hi)))
-  borrows true a o0 o1 lo hi n c log quiet = record {
-    steps = 2;
-    log = Writes 0x1E (less hi) ∷ Reads 0x1E hi ∷ log;
-    is = ap (λ m. at 0x6A29 a 2 y s (nat_le 128 (less hi)) (nat_eq (less hi) 0) c v m flags
-        (Writes 0x1E (less hi) ∷ Reads 0x1E hi ∷ log))
-        (put_work 3 (less hi) page (pair true o0 o1 lo hi) mem (omega arith) refl);
-    steady = λ tables is. refl;
-    quiet = quiet;
-  }
-  borrows false a o0 o1 lo hi n c log quiet = record {
-    steps = 2;
-    log = Writes 0x1C (less hi) ∷ Reads 0x1C hi ∷ log;
-    is = ap (λ m. at 0x6A29 a 0 y s (nat_le 128 (less hi)) (nat_eq (less hi) 0) c v m flags
-        (Writes 0x1C (less hi) ∷ Reads 0x1C hi ∷ log))
-        (put_work 1 (less hi) page (pair false o0 o1 lo hi) mem (omega arith) refl);
-    steady = λ tables is. refl;
-    quiet = quiet;
-  }
+  borrows true a o0 o1 lo hi n c log quiet = led_put 2
+      (put_work 3 (less hi) page (pair true o0 o1 lo hi) mem (omega arith) refl) refl (λ tables is. refl) quiet
+  borrows false a o0 o1 lo hi n c log quiet = led_put 2
+      (put_work 1 (less hi) page (pair false o0 o1 lo hi) mem (omega arith) refl) refl (λ tables is. refl) quiet
 
   leaves : (a x : ℕ) (n c : Bool) (work : List ℕ) (log : List Access) → seen log ≡ []
       → Led q (here 0x6A25 a x n false c work log) (here 0x6A29 a x n false c work)
-  leaves a x n c work log quiet =
-      record { steps = 1; log = log; is = refl; steady = λ tables is. refl; quiet = quiet }
+  leaves a x n c work log quiet = led 1 refl (λ tables is. refl) quiet
 
   -- each bit the other way, of 1 less
   abbrev other_way : ℕ → ℕ
@@ -191,62 +174,32 @@ module _ (q y s l len : ℕ) (v : Bool) (page : List ℕ) (mem flags : ℕ → �
       (here 0x6A37 (other_way hi) (axis t) (nat_le 128 ((other_way hi + 256 - 4) % 256))
       (nat_eq ((other_way hi + 256 - 4) % 256) 0) (nat_le 4 (other_way hi)) (pair t o0 o1 (other_way (less lo)) hi))
   turns true a o0 o1 lo hi n z c log quiet =
-      let log' : List Access = Reads 0x1E hi ∷ Writes 0x1D (other_way (less lo)) ∷ Reads 0x1D (less lo)
-      ∷ Writes 0x1D (less lo) ∷ Reads 0x1D lo ∷ log in
-      record {
-        steps = 7;
-        log = log';
-        is = ap (λ m. at 0x6A37 (other_way hi) 2 y s (nat_le 128 ((other_way hi + 256 - 4) % 256))
-            (nat_eq ((other_way hi + 256 - 4) % 256) 0) (nat_le 4 (other_way hi)) v m flags log')
-            (ap (put 0x1D (other_way (less lo))) (put_work 2 (less lo) page (pair true o0 o1 lo hi) mem (omega arith) refl)
-            ∙ put_work 2 (other_way (less lo)) page (pair true o0 o1 (less lo) hi) mem (omega arith) refl);
-        steady = λ tables is. refl;
-        quiet = quiet;
-      }
+      led_put 7
+      (ap (put 0x1D (other_way (less lo))) (put_work 2 (less lo) page (pair true o0 o1 lo hi) mem (omega arith) refl)
+      ∙ put_work 2 (other_way (less lo)) page (pair true o0 o1 (less lo) hi) mem (omega arith) refl)
+      refl (λ tables is. refl) quiet
   turns false a o0 o1 lo hi n z c log quiet =
-      let log' : List Access = Reads 0x1C hi ∷ Writes 0x1B (other_way (less lo)) ∷ Reads 0x1B (less lo)
-      ∷ Writes 0x1B (less lo) ∷ Reads 0x1B lo ∷ log in
-      record {
-        steps = 7;
-        log = log';
-        is = ap (λ m. at 0x6A37 (other_way hi) 0 y s (nat_le 128 ((other_way hi + 256 - 4) % 256))
-            (nat_eq ((other_way hi + 256 - 4) % 256) 0) (nat_le 4 (other_way hi)) v m flags log')
-            (ap (put 0x1B (other_way (less lo))) (put_work 0 (less lo) page (pair false o0 o1 lo hi) mem (omega arith) refl)
-            ∙ put_work 0 (other_way (less lo)) page (pair false o0 o1 (less lo) hi) mem (omega arith) refl);
-        steady = λ tables is. refl;
-        quiet = quiet;
-      }
+      led_put 7
+      (ap (put 0x1B (other_way (less lo))) (put_work 0 (less lo) page (pair false o0 o1 lo hi) mem (omega arith) refl)
+      ∙ put_work 0 (other_way (less lo)) page (pair false o0 o1 (less lo) hi) mem (omega arith) refl)
+      refl (λ tables is. refl) quiet
 
   goes_beyond' : (a x : ℕ) (n z : Bool) (work : List ℕ) (log : List Access) → seen log ≡ []
       → Led q (here 0x6A37 a x n z true work log) (here 0x6A85 a x n z true work)
-  goes_beyond' a x n z work log quiet =
-      record { steps = 1; log = log; is = refl; steady = λ tables is. refl; quiet = quiet }
+  goes_beyond' a x n z work log quiet = led 1 refl (λ tables is. refl) quiet
 
   -- the sign
   signs : (a x : ℕ) (n z : Bool) (work : List ℕ) (log : List Access) → seen log ≡ []
       → Led q (here 0x6A37 a x n z false work log)
       (here 0x6A3B (bit_or a 4) x (nat_le 128 (bit_or a 4)) (nat_eq (bit_or a 4) 0) false work)
-  signs a x n z work log quiet =
-      record { steps = 2; log = log; is = refl; steady = λ tables is. refl; quiet = quiet }
+  signs a x n z work log quiet = led 2 refl (λ tables is. refl) quiet
 
   stores_minus : (t : Bool) (a o0 o1 lo hi : ℕ) (n : Bool) (log : List Access) → seen log ≡ []
       → Led q (here 0x6A3B a (axis t) n false false (pair t o0 o1 lo hi) log) (turned_to t o0 o1 lo a)
-  stores_minus true a o0 o1 lo hi n log quiet = record {
-    steps = 4;
-    log = Writes 0x1E a ∷ log;
-    is = ap (λ m. at 0x6A45 a 0 y s false true false v m flags (Writes 0x1E a ∷ log))
-        (put_work 3 a page (pair true o0 o1 lo hi) mem (omega arith) refl);
-    steady = λ tables is. refl;
-    quiet = quiet;
-  }
-  stores_minus false a o0 o1 lo hi n log quiet = record {
-    steps = 4;
-    log = Writes 0x1C a ∷ log;
-    is = ap (λ m. at 0x6A45 a 254 y s true false false v m flags (Writes 0x1C a ∷ log))
-        (put_work 1 a page (pair false o0 o1 lo hi) mem (omega arith) refl);
-    steady = λ tables is. refl;
-    quiet = quiet;
-  }
+  stores_minus true a o0 o1 lo hi n log quiet = led_put 4
+      (put_work 3 a page (pair true o0 o1 lo hi) mem (omega arith) refl) refl (λ tables is. refl) quiet
+  stores_minus false a o0 o1 lo hi n log quiet = led_put 4
+      (put_work 1 a page (pair false o0 o1 lo hi) mem (omega arith) refl) refl (λ tables is. refl) quiet
 
   -- there is no such vector
   pub record Beyond (from : Cpu) : Type 0 where
@@ -351,6 +304,41 @@ module _ (q y s l len : ℕ) (v : Bool) (page : List ℕ) (mem flags : ℕ → �
           (more q from_axis (signed_at true) (low_at (nat_eq lo 0)) (looked true is)
           (λ log1 quiet1. looks_low t hi o0 o1 lo hi (nat_eq hi 0) c log1 quiet1))
 
+      -- a number below zero, one less: where the low byte is zero, the high one is one less
+      record Lessened : Type 0 where
+        h : ℕ
+        n' : Bool
+        z' : Bool
+        led : Led q from_axis (here 0x6A29 lo (axis t) n' z' c (bytes lo h))
+        small : h < 256
+        low : 255 - less lo ≡ (65536 - w) % 256
+        high : 255 - h ≡ (65536 - w) / 256
+
+      lessened : nat_le 128 hi ≡ true → Lessened
+      lessened is = by (nat_eq lo 0) refl
+        where
+          by : (none : Bool) → nat_eq lo 0 ≡ none → Lessened
+          by true none = let e = eqb-true lo 0 none in let great = leb-true 128 hi is in record {
+            h = less hi;
+            n' = nat_le 128 (less hi);
+            z' = nat_eq (less hi) 0;
+            led = more q from_axis (low_at true) _ (looked_low is true none)
+                (λ log1 quiet1. borrows t lo o0 o1 lo hi (nat_le 128 lo) c log1 quiet1);
+            small = omega arith;
+            low = omega (arith, e, hi_small);
+            high = omega (arith, e, hi_small, great);
+          }
+          by false some = let positive : 1 ≤ lo = let e = eqb-false lo 0 some in omega (arith, e) in record {
+            h = hi;
+            n' = nat_le 128 lo;
+            z' = false;
+            led = more q from_axis (low_at false) _ (looked_low is false some)
+                (λ log1 quiet1. leaves lo (axis t) (nat_le 128 lo) c (bytes lo hi) log1 quiet1);
+            small = hi_small;
+            low = omega (arith, positive, lo_small, hi_small);
+            high = omega (arith, positive, lo_small, hi_small);
+          }
+
       abbrev Turned : Bool → Type 0
       Turned m = Led q from_axis (turned_to t o0 o1 (magnitude m w % 256) (high_of m w))
 
@@ -363,38 +351,14 @@ module _ (q y s l len : ℕ) (v : Bool) (page : List ℕ) (mem flags : ℕ → �
           (more q from_axis (large_at false) (turned_to t o0 o1 lo hi)
           (compared_as is false (le_not 4 hi (omega (arith, fits))))
           (λ log1 quiet1. stores_plus t o0 o1 lo hi _ _ log1 quiet1)))
-      axis_in true is fits = by (nat_eq lo 0) refl
-        where
-          by : (none : Bool) → nat_eq lo 0 ≡ none → Turned true
-          by true none =
-              let e = eqb-true lo 0 none in
-              let great = leb-true 128 hi is in
-              let lo_is : 255 - less lo ≡ (65536 - w) % 256 = omega (arith, e, hi_small) in
-              let hi_is : 4 + (255 - less hi) ≡ 4 + (65536 - w) / 256 = omega (arith, e, hi_small, great) in
-              subst (λ k. Led q from_axis (turned_to t o0 o1 k (4 + (65536 - w) / 256))) lo_is
-              (subst (λ k. Led q from_axis (turned_to t o0 o1 (255 - less lo) k)) hi_is
-              (more q from_axis (low_at true) (turned_to t o0 o1 (255 - less lo) (4 + (255 - less hi))) (looked_low is true none)
-              (λ log1 quiet1. more q (low_at true log1)
-              (here 0x6A29 lo (axis t) (nat_le 128 (less hi)) (nat_eq (less hi) 0) c (bytes lo (less hi)))
-              (turned_to t o0 o1 (255 - less lo) (4 + (255 - less hi)))
-              (borrows t lo o0 o1 lo hi (nat_le 128 lo) c log1 quiet1)
-              (λ log2 quiet2. minus_in lo lo (less hi) (nat_le 128 (less hi)) (nat_eq (less hi) 0) c log2 (omega arith)
-              lo_small quiet2 (le_not 4 (255 - less hi) (omega (arith, e, fits, great, hi_small)))))))
-          by false some =
-              let e = eqb-false lo 0 some in
-              let great = leb-true 128 hi is in
-              let positive : 1 ≤ lo = omega (arith, e) in
-              let lo_is : 255 - less lo ≡ (65536 - w) % 256 = omega (arith, positive, lo_small, hi_small) in
-              let hi_is : 4 + (255 - hi) ≡ 4 + (65536 - w) / 256 = omega (arith, positive, lo_small, hi_small) in
-              subst (λ k. Led q from_axis (turned_to t o0 o1 k (4 + (65536 - w) / 256))) lo_is
-              (subst (λ k. Led q from_axis (turned_to t o0 o1 (255 - less lo) k)) hi_is
-              (more q from_axis (low_at false) (turned_to t o0 o1 (255 - less lo) (4 + (255 - hi))) (looked_low is false some)
-              (λ log1 quiet1. more q (low_at false log1)
-              (here 0x6A29 lo (axis t) (nat_le 128 lo) false c (bytes lo hi))
-              (turned_to t o0 o1 (255 - less lo) (4 + (255 - hi)))
-              (leaves lo (axis t) (nat_le 128 lo) c (bytes lo hi) log1 quiet1)
-              (λ log2 quiet2. minus_in lo lo hi (nat_le 128 lo) false c log2 hi_small
-              lo_small quiet2 (le_not 4 (255 - hi) (omega (arith, positive, fits, lo_small, hi_small)))))))
+      axis_in true is fits =
+          let l = lessened is in
+          subst (λ k. Led q from_axis (turned_to t o0 o1 k (4 + (65536 - w) / 256))) l.low
+          (subst (λ k. Led q from_axis (turned_to t o0 o1 (255 - less lo) (4 + k))) l.high
+          (more q from_axis (here 0x6A29 lo (axis t) l.n' l.z' c (bytes lo l.h))
+          (turned_to t o0 o1 (255 - less lo) (4 + (255 - l.h))) l.led
+          (λ log1 quiet1. minus_in lo lo l.h l.n' l.z' c log1 l.small lo_small quiet1
+          (le_not 4 (255 - l.h) (omega (arith, l.high, fits))))))
 
       -- the bytes are bytes; and the others of that number, too
       pub axis_out : (m : Bool) → nat_le 128 hi ≡ m → 1023 < magnitude m w
@@ -402,32 +366,12 @@ module _ (q y s l len : ℕ) (v : Bool) (page : List ℕ) (mem flags : ℕ → �
       axis_out false is above small = beyond_at from_axis hi (axis t) _ _ (bytes lo hi) (small lo hi lo_small hi_small)
           (more q from_axis (large_at true) _ (compared_as is true (le-leb 4 hi (omega (arith, above, lo_small))))
           (λ log1 quiet1. goes_beyond hi (axis t) _ _ (bytes lo hi) log1 quiet1))
-      axis_out true is above small = by (nat_eq lo 0) refl
-        where
-          turned_small : other_way (less lo) < 256
-          turned_small = let e = turned (less lo) (omega arith) in omega (arith, e)
-
-          by : (none : Bool) → nat_eq lo 0 ≡ none → Beyond from_axis
-          by true none =
-              let e = eqb-true lo 0 none in
-              let great = leb-true 128 hi is in
-              beyond_more from_axis (low_at true) (looked_low is true none)
-              (λ log1 quiet1. beyond_more (low_at true log1)
-              (here 0x6A29 lo (axis t) (nat_le 128 (less hi)) (nat_eq (less hi) 0) c (bytes lo (less hi)))
-              (borrows t lo o0 o1 lo hi (nat_le 128 lo) c log1 quiet1)
-              (λ log2 quiet2. minus_out lo lo (less hi) (nat_le 128 (less hi)) (nat_eq (less hi) 0) c log2 (omega arith)
-              lo_small quiet2 (le-leb 4 (255 - less hi) (omega (arith, e, above, great, hi_small)))
-              (small (other_way (less lo)) (less hi) turned_small (omega arith))))
-          by false some =
-              let e = eqb-false lo 0 some in
-              let positive : 1 ≤ lo = omega (arith, e) in
-              beyond_more from_axis (low_at false) (looked_low is false some)
-              (λ log1 quiet1. beyond_more (low_at false log1)
-              (here 0x6A29 lo (axis t) (nat_le 128 lo) false c (bytes lo hi))
-              (leaves lo (axis t) (nat_le 128 lo) c (bytes lo hi) log1 quiet1)
-              (λ log2 quiet2. minus_out lo lo hi (nat_le 128 lo) false c log2 hi_small
-              lo_small quiet2 (le-leb 4 (255 - hi) (omega (arith, positive, above, lo_small, hi_small)))
-              (small (other_way (less lo)) hi turned_small hi_small)))
+      axis_out true is above small =
+          let l = lessened is in
+          let turned_small : other_way (less lo) < 256 = let e = turned (less lo) (omega arith) in omega (arith, e) in
+          beyond_more from_axis (here 0x6A29 lo (axis t) l.n' l.z' c (bytes lo l.h)) l.led
+          (λ log1 quiet1. minus_out lo lo l.h l.n' l.z' c log1 l.small lo_small quiet1
+          (le-leb 4 (255 - l.h) (omega (arith, l.high, above))) (small (other_way (less lo)) l.h turned_small l.small))
 
   -- both numbers, with their signs
   abbrev pub both : (y0 y1 x0 x1 : ℕ) → List ℕ
@@ -436,13 +380,11 @@ module _ (q y s l len : ℕ) (v : Bool) (page : List ℕ) (mem flags : ℕ → �
   -- on to dvg_y, and after it
   turns_to_y : (y0 y1 x0 x1 : ℕ) (log : List Access) → seen log ≡ []
       → Led q (turned_to true y0 y1 x0 x1 log) (here 0x6A1F x1 0 false true false (both y0 y1 x0 x1))
-  turns_to_y y0 y1 x0 x1 log quiet =
-      record { steps = 1; log = log; is = refl; steady = λ tables is. refl; quiet = quiet }
+  turns_to_y y0 y1 x0 x1 log quiet = led 1 refl (λ tables is. refl) quiet
 
   goes_on : (y0 y1 x0 x1 : ℕ) (log : List Access) → seen log ≡ []
       → Led q (turned_to false x0 x1 y0 y1 log) (here 0x6A47 y1 254 true false false (both y0 y1 x0 x1))
-  goes_on y0 y1 x0 x1 log quiet =
-      record { steps = 1; log = log; is = refl; steady = λ tables is. refl; quiet = quiet }
+  goes_on y0 y1 x0 x1 log quiet = led 1 refl (λ tables is. refl) quiet
 
   -- the intensity, shifted
   abbrev twice : ℕ → ℕ
@@ -491,152 +433,91 @@ module _ (q y s l len : ℕ) (v : Bool) (page : List ℕ) (mem flags : ℕ → �
         led = joined q from mid (here 0x6989 two.a two.x two.n two.z two.c work) one two.led;
       }
 
+  -- so many steps come to dvg_put, and to dvg_pair
+  to_put : (steps : ℕ) (from : Cpu) {a x : ℕ} {work : List ℕ} → let to = run q steps from in
+      to ≡ at 0x6957 a x y s to.n to.z to.c to.v (laid page (worked work mem)) flags to.log
+      → IsSteady q steps [] from → seen to.log ≡ [] → ToPut from a x work
+  to_put steps from is steady quiet = let to = run q steps from in
+      record { n = to.n; z = to.z; c = to.c; v' = to.v; led = led steps is steady quiet }
+
+  to_pair : (steps : ℕ) (from : Cpu) {work : List ℕ} → let to = run q steps from in to.mem ≡ laid page (worked work mem)
+      → record to { mem = laid page (worked work mem) } ≡ here 0x6989 to.a to.x to.n to.z to.c work to.log
+      → IsSteady q steps [] from → seen to.log ≡ [] → ToPair from work
+  to_pair steps from memory is steady quiet = let to = run q steps from in
+      record { a = to.a; x = to.x; n = to.n; z = to.z; c = to.c; led = led_put steps memory is steady quiet }
+
   -- the words
   module _ (y0 y1 x0 x1 : ℕ) where
-    abbrev bytes2 : List ℕ
-    bytes2 = both y0 y1 x0 x1
-
-    -- two words
-    longs : (a x : ℕ) (n z c : Bool) (log : List Access) → seen log ≡ []
-        → ToPair (here 0x6A70 a x n z c bytes2 log)
-        (both y0 (bit_or (bit_and len 0xF0) y1) x0 (bit_or shifted x1))
-    longs a x n z c log quiet =
-        let h = bit_or (bit_and len 0xF0) y1 in
-        let k = bit_or shifted x1 in
-        let log' : List Access = Writes 0x1E k ∷ Reads 0x1E x1 ∷ Reads 0x20 len ∷ Writes 0x1C h ∷ Reads 0x1C y1
-        ∷ Reads 0x20 len ∷ log in
-        record {
-          a = k;
-          x = x;
-          n = nat_le 128 k;
-          z = nat_eq k 0;
-          c = nat_le 128 (twice (twice (twice len)));
-          led = record {
-            steps = 12;
-            log = log';
-            is = ap (λ m. at 0x6989 k x y s (nat_le 128 k) (nat_eq k 0) (nat_le 128 (twice (twice (twice len)))) v m flags
-                log')
-                (ap (put 0x1E k) (put_work 1 h page (both y0 y1 x0 x1) mem (omega arith) refl)
-                ∙ put_work 3 k page (both y0 h x0 x1) mem (omega arith) refl);
-            steady = λ tables is. refl;
-            quiet = quiet;
-          };
-        }
-
     abbrev high_byte : ℕ
     high_byte = bit_or (bit_or (bit_and len 0x10 / 2) y1) 0xF0
 
-    abbrev low_byte : ℕ
-    low_byte = bit_or shifted x1
-
     abbrev large : Bool → ℕ
-    large true = bit_or low_byte 8
-    large false = low_byte
+    large true = bit_or (bit_or shifted x1) 8
+    large false = bit_or shifted x1
 
-    abbrev asked : Bool → List Access → Cpu
-    asked t = at 0x6A69 low_byte high_byte y s (nat_le 128 len) (nat_eq (bit_and low_byte len) 0)
-        (nat_le 128 (twice (twice (twice len)))) t (laid page (worked bytes2 mem)) flags
+    abbrev long_work : List ℕ
+    long_work = both y0 (bit_or (bit_and len 0xF0) y1) x0 (bit_or shifted x1)
 
-    shorts : (x : ℕ) (n z : Bool) (log : List Access) → seen log ≡ []
-        → Led q (here 0x6A55 len x n z false bytes2 log) (asked (nat_le 64 (len % 128)))
-    shorts x n z log quiet = record {
-      steps = 13;
-      log = Reads 0x20 len ∷ Reads 0x1E x1 ∷ Reads 0x20 len ∷ Reads 0x1C y1 ∷ log;
-      is = refl;
-      steady = λ tables is. refl;
-      quiet = quiet;
-    }
-
-    puts_short : (t : Bool) (log : List Access) → seen log ≡ [] → ToPut (asked t log) (large t) high_byte bytes2
-    puts_short true log quiet = record {
-      n = nat_le 128 (bit_or low_byte 8);
-      z = nat_eq (bit_or low_byte 8) 0;
-      c = nat_le 128 (twice (twice (twice len)));
-      v' = true;
-      led = record { steps = 3; log = log; is = refl; steady = λ tables is. refl; quiet = quiet };
-    }
-    puts_short false log quiet = record {
-      n = nat_le 128 len;
-      z = nat_eq (bit_and low_byte len) 0;
-      c = nat_le 128 (twice (twice (twice len)));
-      v' = false;
-      led = record { steps = 2; log = log; is = refl; steady = λ tables is. refl; quiet = quiet };
-    }
-
-    -- whether both low bytes are zero, and the scale is 2 to 5
-    abbrev summed : Bool → List Access → Cpu
-    summed t = here 0x6A4B (bit_or y0 x0) 254 (nat_le 128 (bit_or y0 x0)) t false bytes2
-
-    sums : (log : List Access) → seen log ≡ []
-        → Led q (here 0x6A47 y1 254 true false false bytes2 log) (summed (nat_eq (bit_or y0 x0) 0))
-    sums log quiet = record {
-      steps = 2;
-      log = Reads 0x1D x0 ∷ Reads 0x1B y0 ∷ log;
-      is = refl;
-      steady = λ tables is. refl;
-      quiet = quiet;
-    }
-
-    abbrev from_two : Bool → List Access → Cpu
-    from_two t = here 0x6A51 len 254 (nat_le 128 ((len + 256 - 0x20) % 256)) (nat_eq ((len + 256 - 0x20) % 256) 0) t bytes2
-
-    abbrev to_five : Bool → List Access → Cpu
-    to_five t = here 0x6A55 len 254 (nat_le 128 ((len + 256 - 0x60) % 256)) (nat_eq ((len + 256 - 0x60) % 256) 0) t bytes2
-
-    looks_two : (log : List Access) → seen log ≡ [] → Led q (summed true log) (from_two (nat_le 0x20 len))
-    looks_two log quiet =
-        record { steps = 3; log = Reads 0x20 len ∷ log; is = refl; steady = λ tables is. refl; quiet = quiet }
-
-    looks_five : (log : List Access) → seen log ≡ [] → Led q (from_two true log) (to_five (nat_le 0x60 len))
-    looks_five log quiet = record { steps = 2; log = log; is = refl; steady = λ tables is. refl; quiet = quiet }
+    stored : put 0x1E (bit_or shifted x1) (put 0x1C (bit_or (bit_and len 0xF0) y1) (laid page (worked (both y0 y1 x0 x1) mem)))
+        ≡ laid page (worked long_work mem)
+    stored = let h = bit_or (bit_and len 0xF0) y1 in let k = bit_or shifted x1 in
+        ap (put 0x1E k) (put_work 1 h page (both y0 y1 x0 x1) mem (omega arith) refl)
+        ∙ put_work 3 k page (both y0 h x0 x1) mem (omega arith) refl
 
     module _ (log : List Access) (quiet : seen log ≡ []) where
       abbrev from_words : Cpu
-      from_words = here 0x6A47 y1 254 true false false bytes2 log
+      from_words = here 0x6A47 y1 254 true false false (both y0 y1 x0 x1) log
 
-      abbrev long_work : List ℕ
-      long_work = both y0 (bit_or (bit_and len 0xF0) y1) x0 (bit_or shifted x1)
+      -- whether both low bytes are zero; then, whether the scale is from 2 on, and from 6 on; then, whether it is 4 or 5
+      abbrev summed : Bool → List Access → Cpu
+      summed t log = record (run q 2 from_words) { z = t; log = log }
+
+      abbrev from_two : Bool → List Access → Cpu
+      from_two t log = record (run q 3 (summed true [])) { c = t; log = log }
+
+      abbrev to_five : Bool → List Access → Cpu
+      to_five t log = record (run q 2 (from_two true [])) { c = t; log = log }
+
+      abbrev asked : Bool → List Access → Cpu
+      asked t log = record (run q 13 (to_five false [])) { v = t; log = log }
 
       sums_as : (t : Bool) → nat_eq (bit_or y0 x0) 0 ≡ t → Led q from_words (summed t)
-      sums_as t is = led_as q from_words summed (nat_eq (bit_or y0 x0) 0) t is (sums log quiet)
+      sums_as t is = led_as q from_words summed (nat_eq (bit_or y0 x0) 0) t is (led 2 refl (λ tables is. refl) quiet)
 
       twos_as : nat_eq (bit_or y0 x0) 0 ≡ true → (t : Bool) → nat_le 0x20 len ≡ t → Led q from_words (from_two t)
       twos_as none t is = led_as q from_words from_two (nat_le 0x20 len) t is
-          (more q from_words (summed true) (from_two (nat_le 0x20 len)) (sums_as true none) looks_two)
+          (more q from_words (summed true) (from_two (nat_le 0x20 len)) (sums_as true none)
+          (λ log1 quiet1. led 3 refl (λ tables is. refl) quiet1))
 
       fives_as : nat_eq (bit_or y0 x0) 0 ≡ true → nat_le 0x20 len ≡ true → (t : Bool) → nat_le 0x60 len ≡ t
           → Led q from_words (to_five t)
       fives_as none two t is = led_as q from_words to_five (nat_le 0x60 len) t is
-          (more q from_words (from_two true) (to_five (nat_le 0x60 len)) (twos_as none true two) looks_five)
+          (more q from_words (from_two true) (to_five (nat_le 0x60 len)) (twos_as none true two)
+          (λ log1 quiet1. led 2 refl (λ tables is. refl) quiet1))
 
       pub long_some : nat_eq (bit_or y0 x0) 0 ≡ false → ToPair from_words long_work
       long_some some = pair_more from_words (summed false) long_work (sums_as false some)
-          (λ log1 quiet1. pair_more (summed false log1) (here 0x6A70 (bit_or y0 x0) 254 (nat_le 128 (bit_or y0 x0)) false
-          false bytes2) long_work
-          (record { steps = 1; log = log1; is = refl; steady = λ tables is. refl; quiet = quiet1 })
-          (λ log2 quiet2. longs _ _ _ _ _ log2 quiet2))
+          (λ log1 quiet1. to_pair 13 (summed false log1) stored refl (λ tables is. refl) quiet1)
 
       pub long_small : nat_eq (bit_or y0 x0) 0 ≡ true → nat_le 0x20 len ≡ false → ToPair from_words long_work
       long_small none less = pair_more from_words (from_two false) long_work (twos_as none false less)
-          (λ log1 quiet1. pair_more (from_two false log1) (here 0x6A70 len 254 (nat_le 128 ((len + 256 - 0x20) % 256))
-          (nat_eq ((len + 256 - 0x20) % 256) 0) false bytes2) long_work
-          (record { steps = 1; log = log1; is = refl; steady = λ tables is. refl; quiet = quiet1 })
-          (λ log2 quiet2. longs _ _ _ _ _ log2 quiet2))
+          (λ log1 quiet1. to_pair 13 (from_two false log1) stored refl (λ tables is. refl) quiet1)
 
       pub long_large : nat_eq (bit_or y0 x0) 0 ≡ true → nat_le 0x20 len ≡ true → nat_le 0x60 len ≡ true
           → ToPair from_words long_work
       long_large none two above = pair_more from_words (to_five true) long_work (fives_as none two true above)
-          (λ log1 quiet1. pair_more (to_five true log1) (here 0x6A70 len 254 (nat_le 128 ((len + 256 - 0x60) % 256))
-          (nat_eq ((len + 256 - 0x60) % 256) 0) true bytes2) long_work
-          (record { steps = 1; log = log1; is = refl; steady = λ tables is. refl; quiet = quiet1 })
-          (λ log2 quiet2. longs _ _ _ _ _ log2 quiet2))
+          (λ log1 quiet1. to_pair 13 (to_five true log1) stored refl (λ tables is. refl) quiet1)
+
+      puts_short : (t : Bool) (log : List Access) → seen log ≡ [] → ToPut (asked t log) (large t) high_byte (both y0 y1 x0 x1)
+      puts_short true log quiet = to_put 3 (asked true log) refl (λ tables is. refl) quiet
+      puts_short false log quiet = to_put 2 (asked false log) refl (λ tables is. refl) quiet
 
       pub short_fits : nat_eq (bit_or y0 x0) 0 ≡ true → nat_le 0x20 len ≡ true → nat_le 0x60 len ≡ false
-          → (t : Bool) → nat_le 64 (len % 128) ≡ t → ToPut from_words (large t) high_byte bytes2
-      short_fits none two five t is = put_more from_words (asked t) (large t) high_byte bytes2
+          → (t : Bool) → nat_le 64 (len % 128) ≡ t → ToPut from_words (large t) high_byte (both y0 y1 x0 x1)
+      short_fits none two five t is = put_more from_words (asked t) (large t) high_byte (both y0 y1 x0 x1)
           (led_as q from_words asked (nat_le 64 (len % 128)) t is
           (more q from_words (to_five false) (asked (nat_le 64 (len % 128))) (fives_as none two false five)
-          (λ log1 quiet1. shorts 254 _ _ log1 quiet1)))
+          (λ log1 quiet1. led 13 refl (λ tables is. refl) quiet1)))
           (λ log1 quiet1. puts_short t log1 quiet1)
 
   -- from the first number on
@@ -705,21 +586,15 @@ module _ (q y s l len : ℕ) (v : Bool) (page : List ℕ) (mem flags : ℕ → �
 
     scales : (t : Bool) → nat_le 0xA0 len ≡ t → Led q at_entry (scaled t)
     scales t is = led_as q at_entry scaled (nat_le 0xA0 len) t is
-        (record { steps = 1; log = log; is = refl; steady = λ tables is. refl; quiet = quiet })
+        (led 1 refl (λ tables is. refl) quiet)
 
     pub scale_out : nat_le 0xA0 len ≡ true → AreSmall first_work → Beyond at_entry
     scale_out is small = beyond_at at_entry len x _ _ first_work small
         (more q at_entry (scaled true) _ (scales true is)
-        (λ log1 quiet1. record { steps = 1; log = log1; is = refl; steady = λ tables is. refl; quiet = quiet1 }))
+        (λ log1 quiet1. led 1 refl (λ tables is. refl) quiet1))
 
     pub scale_in : nat_le 0xA0 len ≡ false
         → Led q at_entry (here 0x6A1F len 2 false false false (both y0 y1 x0 x1))
     scale_in is = more q at_entry (scaled false) (here 0x6A1F len 2 false false false (both y0 y1 x0 x1)) (scales false is)
-        (λ log1 quiet1. record {
-          steps = 3;
-          log = Writes 0x20 len ∷ log1;
-          is = ap (λ m. at 0x6A1F len 2 y s false false false v m flags (Writes 0x20 len ∷ log1))
-              (put_work 5 len page first_work mem (omega arith) refl);
-          steady = λ tables is. refl;
-          quiet = quiet1;
-        })
+        (λ log1 quiet1. led_put 3 (put_work 5 len page first_work mem (omega arith) refl)
+        refl (λ tables is. refl) quiet1)

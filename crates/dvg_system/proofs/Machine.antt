@@ -31,7 +31,7 @@ use Rattle.dvg_6502.specs.Board.{seen}
 use Rattle.dvg_6502.specs.Routines.{Enters, Shows}
 use Rattle.dvg_6502.specs.Calls as calls
 use Rattle.dvg_6502.specs.Calls.{Routine, Call, IsSession, IsSessionBy, Brings, IsLifeOf, IsAnswered, Follows, AreShown, Adds}
-use Rattle.dvg_6502.proofs.Interrupted.{calls_live}
+use Rattle.dvg_6502.proofs.Sessions.{calls_live}
 use Rattle.dvg_core.specs.Core.{halted}
 use Rattle.dvg_board.specs.Board.{Board, Bus, q, clock}
 use Rattle.dvg_board.specs.Clocks.{IsBus, IsServed, after, reads, writes, sends, looks, changes}

@@ -15,7 +15,7 @@ use Rattle.dvg_log.specs.Legal.{IsLegal, Fits}
 use Rattle.dvg_log.specs.Headline.{KeepsHeadline}
 use Rattle.dvg_6502.specs.Processor.{Reads, Writes}
 use Rattle.dvg_6502.specs.Joined.{IsMade, FitsBoard, IsBoards}
-use Rattle.dvg_6502.proofs.Interrupted.{calls_live, one_life}
+use Rattle.dvg_6502.proofs.Sessions.{calls_live, one_life}
 use Rattle.dvg_6502.proofs.Joined.{board_keeps as code_keeps}
 use Rattle.dvg_core.specs.Core.{halted}
 use Rattle.dvg_6502.specs.Processor.{Access}

@@ -1,5 +1,5 @@
 use Rattle.dvg_6502.proofs.Whole.{builds_frame, builds_life}
-use Rattle.dvg_6502.proofs.ExampleFrame.{some_frame}
+use Rattle.dvg_6502.proofs.Example.{some_frame}
 use Rattle.dvg_6502.proofs.builds_frame.Goals as goal
 
 pub returns : goal.returns

@@ -1,4 +1,4 @@
-use Rattle.dvg_6502.proofs.Interrupted.{calls_live}
+use Rattle.dvg_6502.proofs.Sessions.{calls_live}
 use Rattle.dvg_6502.proofs.calls_live.Goals as goal
 
 pub returns : goal.returns

@@ -1,4 +1,4 @@
-use Rattle.dvg_6502.proofs.Interrupted.{one_life}
+use Rattle.dvg_6502.proofs.Sessions.{one_life}
 use Rattle.dvg_6502.proofs.one_life.Goals as goal
 
 pub returns : goal.returns
