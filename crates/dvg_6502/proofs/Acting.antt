@@ -24,6 +24,11 @@ use Rattle.dvg_6502.proofs.ShortTicks as short
 abbrev pub Covers : (tables : ℕ → Bool) → (begin stop : ℕ) → Type 0
 Covers tables begin stop = (b : ℕ) → begin ≤ b → b < stop → tables b ≡ true
 
+-- a byte that an action writes is one of the vector RAM
+abbrev pub IsInRam : Action → Type 0
+IsInRam (Wrote a byte) = a < 2048
+IsInRam action = Unit {0}
+
 -- the run comes to an RTS with S as it was, after one action that goes on the life
 pub record Acts (q : ℕ) (from : Cpu) (begin stop peeked : ℕ) (life : List Item) : Type 0 where
   pub steps : ℕ
@@ -39,6 +44,7 @@ pub record Acts (q : ℕ) (from : Cpu) (begin stop peeked : ℕ) (life : List It
   pub holds : Holds (run q steps from).mem begin stop new
   pub loaded : IsLoaded (run q steps from).mem
   pub kept : (b : ℕ) → is_own b ≡ false → b ≢ 0x3000 → (run q steps from).mem b ≡ acted action from.mem b
+  pub in_ram : IsInRam action
   pub steady : (tables : ℕ → Bool) → Covers tables begin stop → are_steady (is_kept tables) q steps from ≡ true
   pub there : is_code (run q steps from).pc ≡ true
 
@@ -49,24 +55,27 @@ pub close : (q : ℕ) (from : Cpu) (s : ℕ) (mem : ℕ → ℕ) (events : List 
     → Shows action events → Tells action (tells_halted (from.flags 0))
     → StandsAfter new (peeked_after action (from.mem 0x4001) peeked) (Did action ∷ life)
     → Holds mem begin stop new → IsLoaded mem
-    → ((b : ℕ) → is_own b ≡ false → b ≢ 0x3000 → mem b ≡ acted action from.mem b) → Acts q from begin stop peeked life
-close q from s mem events action new begin stop peeked life held ends stack shows tells stands holds load kept = record {
-  steps = ends.steps;
-  action = action;
-  events = events;
-  new = new;
-  returns = ends.returns;
-  stack = ends.stack ∙ stack;
-  accesses = ends.accesses;
-  shows = shows;
-  tells = tells;
-  stands = stands;
-  holds = subst (λ (m : ℕ → ℕ). Holds m begin stop new) (sym ends.memory) holds;
-  loaded = subst IsLoaded (sym ends.memory) load;
-  kept = λ b own go. ap (λ (m : ℕ → ℕ). m b) ends.memory ∙ kept b own go;
-  steady = λ tables covers. ends.steady tables (held tables covers);
-  there = ends.there;
-}
+    → ((b : ℕ) → is_own b ≡ false → b ≢ 0x3000 → mem b ≡ acted action from.mem b) → IsInRam action
+    → Acts q from begin stop peeked life
+close q from s mem events action new begin stop peeked life held ends stack shows tells stands holds load kept in_ram =
+    record {
+      steps = ends.steps;
+      action = action;
+      events = events;
+      new = new;
+      returns = ends.returns;
+      stack = ends.stack ∙ stack;
+      accesses = ends.accesses;
+      shows = shows;
+      tells = tells;
+      stands = stands;
+      holds = subst (λ (m : ℕ → ℕ). Holds m begin stop new) (sym ends.memory) holds;
+      loaded = subst IsLoaded (sym ends.memory) load;
+      kept = λ b own go. ap (λ (m : ℕ → ℕ). m b) ends.memory ∙ kept b own go;
+      in_ram = in_ram;
+      steady = λ tables covers. ends.steady tables (held tables covers);
+      there = ends.there;
+    }
 
 -- what the look at byte 001 makes of it
 pub looked : (b : ℕ) → bit_xor (bit_and b 2) 0xE2 ≡ high (other (half_of_high b))
@@ -125,7 +134,7 @@ module _ (q a x y s : ℕ) (n z c v : Bool) (mem flags : ℕ → ℕ) (log : Lis
       (record { place = goes Start Peek stands.place; half = refl; flipped = stands.flipped })
       (record { flipped = clear; place = (refl, looked (mem 0x4001), refl) })
       (loaded (page 1 f (mem 0x12)) mem (small 1 f (mem 0x12) (omega arith) f_small (bytes 0x12)) bytes)
-      (λ b own go. same_out (page 1 f (mem 0x12)) (page 0 (mem 0x11) (mem 0x12)) mem b own)
+      (λ b own go. same_out (page 1 f (mem 0x12)) (page 0 (mem 0x11) (mem 0x12)) mem b own) tt
 
   pub boot : (half : Half) (free : ℕ) (running : Bool) → free ≡ high (other half) → nat_le 128 (flags 0) ≡ running
       → StandsAfter (stage Booting half false) peeked life → mem 0x12 ≡ 3 → Acts q (from 1 free) begin stop peeked life
@@ -138,7 +147,7 @@ module _ (q a x y s : ℕ) (n z c v : Bool) (mem flags : ℕ → ℕ) (log : Lis
       (record { flipped = clear; place = (refl, is, refl) })
       (loaded (page 1 free (mem 0x12)) mem
       (small 1 free (mem 0x12) (omega arith) (subst (λ k. k < 256) (sym is) (free_small half)) (bytes 0x12)) bytes)
-      (λ b own go. refl)
+      (λ b own go. refl) tt
   boot half free false is flag stands clear =
       close q (from 1 free) s (laid (page 2 free (mem 0x12)) mem) (Reads 0x2002 (flags 0) ∷ []) (Read true)
       (stage (Resting true) half false) begin stop peeked life
@@ -148,7 +157,7 @@ module _ (q a x y s : ℕ) (n z c v : Bool) (mem flags : ℕ → ℕ) (log : Lis
       (record { flipped = clear; place = (refl, is, refl) })
       (loaded (page 2 free (mem 0x12)) mem
       (small 2 free (mem 0x12) (omega arith) (subst (λ k. k < 256) (sym is) (free_small half)) (bytes 0x12)) bytes)
-      (λ b own go. same_out (page 2 free (mem 0x12)) (page 1 free (mem 0x12)) mem b own)
+      (λ b own go. same_out (page 2 free (mem 0x12)) (page 1 free (mem 0x12)) mem b own) tt
 
   pub rest : (half : Half) (free : ℕ) (first set : Bool) → free ≡ high (other half) → first ≡ not set
       → StandsAfter (stage (Resting first) half set) peeked life → mem 0x12 ≡ publish_byte set
@@ -162,7 +171,7 @@ module _ (q a x y s : ℕ) (n z c v : Bool) (mem flags : ℕ → ℕ) (log : Lis
       (record { flipped = clear; place = (refl, is, firsts) })
       (loaded (page 2 free (mem 0x12)) mem
       (small 2 free (mem 0x12) (omega arith) (subst (λ k. k < 256) (sym is) (free_small half)) (bytes 0x12)) bytes)
-      (λ b own go. refl)
+      (λ b own go. refl) tt
 
   pub zero_tick : (half : Half) (free : ℕ) (set : Bool) → free ≡ high (other half)
       → StandsAfter (stage (Writing (word_zero (other half) true)) half set) peeked life → mem 0x12 ≡ publish_byte set
@@ -181,7 +190,7 @@ module _ (q a x y s : ℕ) (n z c v : Bool) (mem flags : ℕ → ℕ) (log : Lis
       (loaded (page 4 free (mem 0x12)) (put 0x4000 1 mem)
       (small 4 free (mem 0x12) (omega arith) (subst (λ k. k < 256) (sym is) (free_small half)) (bytes 0x12))
       (put_small 0x4000 1 mem (omega arith) bytes))
-      (λ b own go. kept_write 0x4000 1 (page 3 free (mem 0x12)) (page 4 free (mem 0x12)) mem refl refl b own)
+      (λ b own go. kept_write 0x4000 1 (page 3 free (mem 0x12)) (page 4 free (mem 0x12)) mem refl refl b own) (omega arith)
 
   pub flip : (half : Half) (set : Bool)
       → StandsAfter (stage (Writing (word_zero (other half) false)) half set) peeked life
@@ -195,7 +204,7 @@ module _ (q a x y s : ℕ) (n z c v : Bool) (mem flags : ℕ → ℕ) (log : Lis
       (record { flipped = refl; place = (refl, refl, refl) })
       (loaded (page 5 0xE0 4) (put 0x4001 0xE2 mem) (small 5 0xE0 4 (omega arith) (omega arith) (omega arith))
       (put_small 0x4001 0xE2 mem (omega arith) bytes))
-      (λ b own go. kept_write 0x4001 0xE2 (page 4 0xE2 (mem 0x12)) (page 5 0xE0 4) mem refl refl b own)
+      (λ b own go. kept_write 0x4001 0xE2 (page 4 0xE2 (mem 0x12)) (page 5 0xE0 4) mem refl refl b own) (omega arith)
   flip H1 set stands =
       close q (from 4 0xE0) s (laid (page 5 0xE2 4) (put 0x4001 0xE0 mem)) (Writes 0x4001 0xE0 ∷ []) (Wrote 1 0xE0)
       (stage (Waiting false) H0 true) begin stop peeked life
@@ -205,7 +214,7 @@ module _ (q a x y s : ℕ) (n z c v : Bool) (mem flags : ℕ → ℕ) (log : Lis
       (record { flipped = refl; place = (refl, refl, refl) })
       (loaded (page 5 0xE2 4) (put 0x4001 0xE0 mem) (small 5 0xE2 4 (omega arith) (omega arith) (omega arith))
       (put_small 0x4001 0xE0 mem (omega arith) bytes))
-      (λ b own go. kept_write 0x4001 0xE0 (page 4 0xE0 (mem 0x12)) (page 5 0xE2 4) mem refl refl b own)
+      (λ b own go. kept_write 0x4001 0xE0 (page 4 0xE0 (mem 0x12)) (page 5 0xE2 4) mem refl refl b own) (omega arith)
 
   pub wait : (half : Half) (free : ℕ) (first set running : Bool) → free ≡ high (other half) → first ≡ not set
       → nat_le 128 (flags 0) ≡ running → StandsAfter (stage (Waiting first) half set) peeked life
@@ -219,7 +228,7 @@ module _ (q a x y s : ℕ) (n z c v : Bool) (mem flags : ℕ → ℕ) (log : Lis
       (record { flipped = clear; place = (refl, is, firsts) })
       (loaded (page 5 free (mem 0x12)) mem
       (small 5 free (mem 0x12) (omega arith) (subst (λ k. k < 256) (sym is) (free_small half)) (bytes 0x12)) bytes)
-      (λ b own go. refl)
+      (λ b own go. refl) tt
   wait half free first set false is firsts flag stands clear =
       close q (from 5 free) s (laid (page 6 free (mem 0x12)) mem) (Reads 0x2002 (flags 0) ∷ []) (Read true)
       (stage (Sending first) half set) begin stop peeked life
@@ -229,7 +238,7 @@ module _ (q a x y s : ℕ) (n z c v : Bool) (mem flags : ℕ → ℕ) (log : Lis
       (record { flipped = clear; place = (refl, is, firsts) })
       (loaded (page 6 free (mem 0x12)) mem
       (small 6 free (mem 0x12) (omega arith) (subst (λ k. k < 256) (sym is) (free_small half)) (bytes 0x12)) bytes)
-      (λ b own go. same_out (page 6 free (mem 0x12)) (page 5 free (mem 0x12)) mem b own)
+      (λ b own go. same_out (page 6 free (mem 0x12)) (page 5 free (mem 0x12)) mem b own) tt
 
   pub send : (half : Half) (free : ℕ) (first set : Bool) → free ≡ high (other half) → first ≡ not set
       → StandsAfter (stage (Sending first) half set) peeked life → mem 0x12 ≡ publish_byte set
@@ -244,4 +253,4 @@ module _ (q a x y s : ℕ) (n z c v : Bool) (mem flags : ℕ → ℕ) (log : Lis
       (loaded (page 2 free (mem 0x12)) (put 0x3000 2 mem)
       (small 2 free (mem 0x12) (omega arith) (subst (λ k. k < 256) (sym is) (free_small half)) (bytes 0x12))
       (put_small 0x3000 2 mem (omega arith) bytes))
-      (λ b own go. kept_sent (page 6 free (mem 0x12)) (page 2 free (mem 0x12)) mem b own go)
+      (λ b own go. kept_sent (page 6 free (mem 0x12)) (page 2 free (mem 0x12)) mem b own go) tt

@@ -2,7 +2,7 @@
 use Rattle.std.proofs.Common.{◌≡◌, ℕ, suc, Bool, true, false, refl, ap, ◌∙◌}
 use Rattle.std.specs.Prelude.{nat_eq, ◌&&◌, ◌||◌}
 use Rattle.dvg_6502.specs.Processor.{Cpu, run, at_return}
-use Rattle.dvg_6502.specs.Amid.{ComesOut, CameOut, amid, guards, is_kept, is_kept_building, are_steady, is_code}
+use Rattle.dvg_6502.specs.Amid.{ComesOut, CameOut, amid, guards, is_kept, are_steady, is_code}
 use Rattle.dvg_6502.proofs.AmidRun.{came_out}
 use Rattle.dvg_6502.proofs.Steady.{steady_all, code_kept, last_kept}
 
@@ -30,10 +30,10 @@ comes_out kept cpu steps code back steady there n others harmless = (same, retur
         (same.keeps pl.pc (left_true (kept pl.pc) _ (last_kept kept cpu.s n cpu (all (suc n)))))
 
 pub alike_if : (cpu : Cpu) (steps : ℕ) → at_return cpu.s (run cpu.s steps cpu) ≡ true
-    → are_steady is_kept_building cpu.s steps cpu ≡ true → is_code (run cpu.s steps cpu).pc ≡ true
-    → ComesOut (guards is_kept_building cpu.s) cpu
-alike_if cpu steps back steady there =
-    comes_out is_kept_building cpu steps (code_kept (λ b. false)) back steady there
+    → ((tables : ℕ → Bool) → are_steady (is_kept tables) cpu.s steps cpu ≡ true) → is_code (run cpu.s steps cpu).pc ≡ true
+    → (also : ℕ → Bool) → ComesOut (guards (is_kept also) cpu.s) cpu
+alike_if cpu steps back steady there also =
+    comes_out (is_kept also) cpu steps (code_kept also) back (steady also) there
 
 -- up to its end a call leaves byte 001 as it is, and takes guarded bytes alone
 pub record Keeping (cpu : Cpu) (steps : ℕ) : Type 0 where

@@ -164,7 +164,7 @@ part_builds Put cpu half flipped more enters any building some = put_steadily cp
 part_builds Pair cpu half flipped more enters any building some = pair_steadily cpu half flipped more enters building some
 part_builds Labs cpu half flipped more enters any building some = labs_steadily cpu half flipped more enters building some
 part_builds Vector cpu half flipped more enters any building some =
-    (vector_steadily cpu enters half flipped more some any building).0
+    vector_steadily cpu enters half flipped more some any building
 
 -- no frame is being built
 part_refused : (part : Part) (cpu : Cpu) → Enters cpu (begins part) → nat_eq (cpu.mem 0x10) 7 ≡ false → Refuses cpu

@@ -48,6 +48,15 @@ laid_out page new mem load b own same =
     ap (λ k. if in_page b then slice_index page (b - 0x10) else if in_code b then slice_index code (b - 0x6800) else k) same
     ∙ same_out page (page_in mem) mem b own ∙ sym (ap (λ (m : ℕ → ℕ). m b) (known mem load))
 
+-- the driver's bytes, but with this phase
+abbrev pub page_at : ℕ → (ℕ → ℕ) → List ℕ
+page_at phase mem = page_of phase (mem 0x11) (mem 0x12) (mem 0x13) (mem 0x14) (mem 0x15) (mem 0x16) (mem 0x17) (mem 0x18)
+    (mem 0x19) (mem 0x1A)
+
+pub laid_at : (phase : ℕ) (mem : ℕ → ℕ) → IsLoaded mem → (b : ℕ) → is_own b ≡ false
+    → mem b ≡ laid (page_at phase mem) mem b
+laid_at phase mem load b own = sym (laid_out (page_at phase mem) mem mem load b own refl)
+
 -- where the frame goes on
 module _ (mem : ℕ → ℕ) (half : Half) (flipped : Bool) (rest : List ℕ) (load : IsLoaded mem)
     (building : IsBuilding mem half flipped rest) where
@@ -211,8 +220,9 @@ module _ (a x y s : ℕ) (n z c v : Bool) (mem flags : ℕ → ℕ) (log : List 
       goes_on = ap goal_in comes.memory ∙ moved_on;
       building = subst (λ (m : ℕ → ℕ). IsBuilding m half flipped rest) (sym comes.memory) built;
       alike = alike_if (from 7) comes.steps (returned s (run s comes.steps (from 7)) comes.returns comes.stack)
-          (comes.steady (λ b. false) refl) comes.there;
+          (λ tables. comes.steady tables refl) comes.there;
       loaded = subst IsLoaded (sym comes.memory) new_loaded;
+      kept = λ b own out ram. ap (λ (m : ℕ → ℕ). m b) comes.memory ∙ kept b own ram ∙ laid_at 7 mem load b own;
     },
     record {
       byte1 = ap (λ (m : ℕ → ℕ). m 0x4001) comes.memory ∙ byte1;

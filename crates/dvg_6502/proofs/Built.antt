@@ -155,7 +155,7 @@ module _ (q a x y s : ℕ) (n z c v : Bool) (mem flags : ℕ → ℕ) (log : Lis
     shown = tt;
     placed = place_now begin stop (Some frame) (laid page mem) life built;
     after = built;
-    low = λ b own low. refl;
+    kept = λ b own out. refl;
     steady = λ tables covers. refl;
     there = refl;
   }
@@ -180,7 +180,7 @@ holds_ticks begin stop None q cpu life at_pc stood =
       shown = did.shown;
       placed = did.placed;
       after = did.after;
-      low = did.low;
+      kept = did.kept;
       steady = did.steady;
       there = did.there;
     }

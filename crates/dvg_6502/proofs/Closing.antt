@@ -2,7 +2,7 @@
 use Rattle.std.proofs.Common.{◌≡◌, ℕ, suc, inl, inr, ◌+◌, ◌*◌, ◌%◌, ◌<◌, ◌≤◌, Bool, true, false, not, List, [], ◌∷◌, ◌++◌}
 use Rattle.std.proofs.Common.{length, refl, sym, ap, ◌∙◌, subst, arith, leb-true}
 use Rattle.std.proofs.lemmas.Bool.{ne_eqb}
-use Rattle.std.specs.Prelude.{nat_eq, nat_le, if◌then◌else◌, bit_and, bit_or, bit_xor, ◌/◌}
+use Rattle.std.specs.Prelude.{nat_eq, nat_le, ◌||◌, if◌then◌else◌, bit_and, bit_or, bit_xor, ◌/◌}
 use Rattle.dvg_mem.specs.declared.half.Half.{Half}
 use Rattle.dvg_mem.specs.declared.half.Half.TheVariants.{H0, H1}
 use Rattle.dvg_mem.specs.Areas.{base, other, high}
@@ -16,7 +16,7 @@ use Rattle.dvg_6502.specs.Routines.{Enters}
 use Rattle.dvg_6502.specs.Build.{IsBuilding, Opens, Closes, OpenTakes, PairTakes, LabsTakes, CloseTakes}
 use Rattle.dvg_6502.specs.Build.{Idles, IdleTicks}
 use Rattle.dvg_6502.proofs.Running.{Comes, by, at, returned}
-use Rattle.dvg_6502.proofs.Memory.{AreSmall, page_in, laid, page_of, loaded, put_small, state_is, small_page}
+use Rattle.dvg_6502.proofs.Memory.{AreSmall, page_in, laid, page_of, loaded, put_small, same_out, state_is, small_page}
 use Rattle.dvg_6502.proofs.StoredByte.{carried}
 use Rattle.dvg_6502.proofs.TableTick.{in_ram, carried_small}
 use Rattle.dvg_6502.proofs.OfferRun.{free_of, high_of}
@@ -24,7 +24,7 @@ use Rattle.dvg_6502.proofs.BuildRun.{is_full}
 use Rattle.dvg_6502.proofs.Alike.{alike_if, Keeping}
 use Rattle.dvg_6502.proofs.Masks.{opened, mixed}
 use Rattle.dvg_6502.proofs.PairRun.{Place, pair_room, labs_run, open_takes, close_ends}
-use Rattle.dvg_6502.proofs.Building.{BuildsSo, builds_so, goal_low, goal_high, place_low, on_word, put_far, laid_out}
+use Rattle.dvg_6502.proofs.Building.{BuildsSo, builds_so, goal_low, goal_high, place_low, on_word, put_far, laid_out, laid_at}
 
 -- an address of the vector RAM is one where a byte is stored
 pub place_of : (p q : ℕ) → q ≡ p → 0x4002 ≤ p → p < 0x4800 → Place q
@@ -239,7 +239,7 @@ pair_steadily cpu half flipped rest enters building more =
       returns = comes_back did;
       carry = did.carry;
       shows = did.accesses;
-      alike = alike_if _ did.steps (comes_back did) (did.steady (λ b. false) refl) did.there;
+      alike = alike_if _ did.steps (comes_back did) (λ tables. did.steady tables refl) did.there;
       goes_on = ap goal_in did.memory ∙ moved_on cpu.a cpu.x cpu.y cpu.s cpu.n cpu.z cpu.c cpu.v cpu.mem cpu.flags []
           enters.loaded half flipped b0 b1 b2 b3 rest refl refl refl refl building more;
       building = subst (λ (m : ℕ → ℕ). IsBuilding m half flipped rest) (sym did.memory)
@@ -248,6 +248,9 @@ pair_steadily cpu half flipped rest enters building more =
       loaded = subst IsLoaded (sym did.memory)
           (new_loaded cpu.a cpu.x cpu.y cpu.s cpu.n cpu.z cpu.c cpu.v cpu.mem cpu.flags []
           enters.loaded half flipped b0 b1 b2 b3 rest refl refl refl refl building more);
+      kept = λ b own out ram. ap (λ (m : ℕ → ℕ). m b) did.memory
+          ∙ kept cpu.a cpu.x cpu.y cpu.s cpu.n cpu.z cpu.c cpu.v cpu.mem cpu.flags [] enters.loaded half flipped b0 b1 b2
+          b3 rest refl refl refl refl building more b own ram ∙ laid_at 7 cpu.mem enters.loaded b own;
     })
     (record {
       byte1 = ap (λ (m : ℕ → ℕ). m 0x4001) did.memory
@@ -301,6 +304,14 @@ module _ (a x y s : ℕ) (n z c v : Bool) (mem flags : ℕ → ℕ) (load : IsLo
     bytes = put_small 0x1C h (put 0x1E l mem) h_small (put_small 0x1E l mem l_small load.bytes);
   }
 
+  set_out : (b : ℕ) → ((nat_eq b 0x1C || nat_eq b 0x1E) || false) ≡ false → set b ≡ mem b
+  set_out b = by (nat_eq b 0x1C) (nat_eq b 0x1E)
+    where
+      by : (t u : Bool) → ((t || u) || false) ≡ false → (if t then h else if u then l else mem b) ≡ mem b
+      by true u is = absurd (cc)
+      by false true is = absurd (cc)
+      by false false is = refl
+
   set_building : IsBuilding set half flipped (mem 0x1B ∷ h ∷ mem 0x1D ∷ l ∷ rest)
   set_building = record {
     phase = building.phase;
@@ -326,7 +337,7 @@ module _ (a x y s : ℕ) (n z c v : Bool) (mem flags : ℕ → ℕ) (load : IsLo
           returns = comes_back did;
           carry = did.carry;
           shows = did.accesses;
-          alike = alike_if start did.steps (comes_back did) (did.steady (λ b. false) refl) did.there;
+          alike = alike_if start did.steps (comes_back did) (λ tables. did.steady tables refl) did.there;
           goes_on = ap goal_in did.memory ∙ moved_on h x y s (nat_le 128 h) (nat_eq h 0) c v set flags log4 set_load half
               flipped (mem 0x1B) h (mem 0x1D) l rest refl refl refl refl set_building more;
           building = subst (λ (m : ℕ → ℕ). IsBuilding m half flipped rest) (sym did.memory)
@@ -335,6 +346,10 @@ module _ (a x y s : ℕ) (n z c v : Bool) (mem flags : ℕ → ℕ) (load : IsLo
           loaded = subst IsLoaded (sym did.memory)
               (new_loaded h x y s (nat_le 128 h) (nat_eq h 0) c v set flags log4 set_load half flipped (mem 0x1B) h
               (mem 0x1D) l rest refl refl refl refl set_building more);
+          kept = λ b own out ram. ap (λ (m : ℕ → ℕ). m b) did.memory
+              ∙ kept h x y s (nat_le 128 h) (nat_eq h 0) c v set flags log4 set_load half flipped (mem 0x1B) h
+              (mem 0x1D) l rest refl refl refl refl set_building more b own ram
+              ∙ set_out b out ∙ laid_at 7 mem load b own;
         },
         record {
           byte1 = ap (λ (m : ℕ → ℕ). m 0x4001) did.memory
@@ -400,7 +415,7 @@ open_steadily cpu begin stop half flipped first rest enters holds some fits = by
           returns = comes_back did;
           carry = did.carry;
           shows = did.accesses;
-          alike = alike_if _ did.steps (comes_back did) (did.steady (λ b. false) refl) did.there;
+          alike = alike_if _ did.steps (comes_back did) (λ tables. did.steady tables refl) did.there;
           begins = ap goal_in did.memory ∙ omega (arith, place);
           building = subst (λ (m : ℕ → ℕ). IsBuilding m half flipped rest) (sym did.memory) (record {
             phase = refl;
@@ -417,6 +432,10 @@ open_steadily cpu begin stop half flipped first rest enters holds some fits = by
               (loaded (page_of 7 (free_of h) (cpu.mem 0x12) 2 0 (high_of h) 0 (cpu.mem 0x17) (cpu.mem 0x18) (cpu.mem 0x19)
               (cpu.mem 0x1A)) cpu.mem (small_page (omega arith) f_small (bytes 0x12) (omega arith) (omega arith) small
               (omega arith) (bytes 0x17) (bytes 0x18) (bytes 0x19) (bytes 0x1A)) bytes);
+          kept = λ b own. ap (λ (m : ℕ → ℕ). m b) did.memory
+              ∙ same_out (page_of 7 (free_of h) (cpu.mem 0x12) 2 0 (high_of h) 0 (cpu.mem 0x17) (cpu.mem 0x18)
+              (cpu.mem 0x19) (cpu.mem 0x1A)) (page_of 2 (free_of h) (cpu.mem 0x12) (cpu.mem 0x13) (cpu.mem 0x14)
+              (cpu.mem 0x15) (cpu.mem 0x16) (cpu.mem 0x17) (cpu.mem 0x18) (cpu.mem 0x19) (cpu.mem 0x1A)) cpu.mem b own;
         })
         (record {
           byte1 = ap (λ (m : ℕ → ℕ). m 0x4001) did.memory;
@@ -509,7 +528,7 @@ module _ (a x y s : ℕ) (n z c v : Bool) (mem flags : ℕ → ℕ) (load : IsLo
       returns = comes_back shuts;
       carry = shuts.carry;
       shows = shuts.accesses;
-      alike = alike_if _ shuts.steps (comes_back shuts) (shuts.steady (λ b. false) refl) shuts.there;
+      alike = alike_if _ shuts.steps (comes_back shuts) (λ tables. shuts.steady tables refl) shuts.there;
       holds = λ begin stop. subst (λ (m : ℕ → ℕ). Holds m begin stop
           (record { place = Writing (word_zero (other half) (not flipped)); half = half; flipped = flipped }))
           (sym shuts.memory) (closes_at flipped refl begin stop);
@@ -517,6 +536,9 @@ module _ (a x y s : ℕ) (n z c v : Bool) (mem flags : ℕ → ℕ) (load : IsLo
           (load.bytes 0x11) (load.bytes 0x12) (load.bytes 0x13) (load.bytes 0x14) (load.bytes 0x15) (load.bytes 0x16)
           (load.bytes 0x17) (load.bytes 0x18) (load.bytes 0x19) (load.bytes 0x1A))
           (put_small (suc end) 0xB0 (put end 0 mem) (omega arith) (put_small end 0 mem (omega arith) load.bytes)));
+      kept = λ b own out ram. ap (λ (m : ℕ → ℕ). m b) shuts.memory ∙ laid_out (shut (mem 0x12)) ended mem load b own
+          (put_far (suc end) 0xB0 (put end 0 mem) b ram (omega (arith, end_low)) (omega (arith, end_high))
+          ∙ put_far end 0 mem b ram end_low (omega (arith, end_high))) ∙ laid_at 7 mem load b own;
     },
     record {
       byte1 = ap (λ (m : ℕ → ℕ). m 0x4001) shuts.memory

@@ -2,7 +2,7 @@
 use Rattle.std.proofs.Common.{◌≡◌, ℕ, inl, inr, ◌+◌, ◌-◌, ◌%◌, ◌<◌, Bool, true, false, not, List, ◌∷◌, refl, ap, ◌∙◌, subst, arith}
 use Rattle.std.proofs.Common.{eqb-true, sym}
 use Rattle.std.specs.Prelude.{nat_eq, nat_le, ◌&&◌, ◌||◌, if◌then◌else◌}
-use Rattle.dvg_6502.specs.Processor.{Cpu, Access, Reads, run, turn, step, at_return, decoded, opcodes, does, next, carrying}
+use Rattle.dvg_6502.specs.Processor.{Cpu, Access, Reads, run, turn, at_return, decoded, opcodes, does, next, carrying}
 use Rattle.dvg_6502.specs.Board.{IsLoaded, seen}
 use Rattle.dvg_6502.specs.Amid.{is_code, are_steady, all_in, guards, touches, goes_home}
 use Rattle.dvg_6502.specs.Routines.{Put, Pair, Labs, Vector}

@@ -2,27 +2,28 @@
 use Rattle.std.proofs.Common.{◌≡◌, ℕ, ◌+◌, ◌<◌, ◌≤◌, Bool, true, false, not, List, [], ◌∷◌, ◌++◌, length, refl}
 use Rattle.std.proofs.Common.{sym, ap, ◌∙◌, subst, arith, Some, Option, None, drop, leb-true}
 use Rattle.std.proofs.Math.Seq.{drop-append_seam}
-use Rattle.std.proofs.lemmas.Bool.{leb-false}
+use Rattle.std.proofs.lemmas.Bool.{leb-false, eqb-false}
 use Rattle.std.specs.Prelude.{nat_eq, nat_le, nat_lt, ◌&&◌, ◌||◌, if◌then◌else◌, ℤ, ◌/◌, ◌%◌}
 use Rattle.dvg_frame.specs.declared.op.OpKind.{OpKind}
 use Rattle.dvg_frame.specs.declared.op.OpKind.TheVariants.{Draw, Halt as Stop}
 use Rattle.dvg_code.specs.declared.instr.Instr.TheVariants.{Vctr, Svec}
 use Rattle.dvg_code.specs.Acts.{Moves, act_of}
 use Rattle.dvg_driver.specs.Script.{Item}
-use Rattle.dvg_6502.specs.Processor.{Cpu, run, at_return}
+use Rattle.dvg_6502.specs.Processor.{Cpu, run, at_return, stack_place}
 use Rattle.dvg_6502.specs.Amid.{AreHarmless, guards, is_kept}
+use Rattle.dvg_6502.specs.Board.{is_own, is_hardware}
 use Rattle.dvg_6502.specs.Tables.{table_of}
 use Rattle.dvg_6502.specs.Routines.{Enters, Part, Put, Pair, Labs, Vector, begins, put_by}
 use Rattle.dvg_6502.specs.Moves.{number, is_vector, is_short, in_256s, vector, vector_bytes}
 use Rattle.dvg_6502.specs.Calls.{Routine, Reset, Tick, Ticks, Run, Offer, Redraw, Open, Puts, Close, Call, after}
 use Rattle.dvg_6502.specs.Calls.{is_over, answer, finds_busy, is_leaving, is_taken, is_offered, entry, bounds, taken_bounds, put_on, frame_of, frame_after, Brings}
-use Rattle.dvg_6502.specs.Calls.{IsLeftAlone, IsRoomFor, Follows, UnlessReset, IsSessionBy, IsSession, TicksReturn}
+use Rattle.dvg_6502.specs.Calls.{IsLeftAlone, IsRoomFor, Follows, UnlessReset, IsSessionBy, IsSession, TicksReturn, is_ticked, call_of}
 use Rattle.dvg_6502.specs.Build.{IsPut}
 use Rattle.dvg_6502.specs.Programs.{IsLabs, Tells, renamed, with_drafts, BuildsOnly, AreBuilt, Hindsight}
-use Rattle.dvg_6502.proofs.TicksRun.{ticks_return}
+use Rattle.dvg_6502.proofs.TicksRun.{Leaves, ticks_go, ticks_return}
 use Rattle.dvg_6502.proofs.Built.{holds_in, holds_goes}
 use Rattle.dvg_6502.proofs.BuildCalls.{puts_room, puts_over, close_some}
-use Rattle.dvg_6502.proofs.Sessions.{came_of, before_call, unless_map}
+use Rattle.dvg_6502.proofs.Sessions.{came_of, before_call, spared, unless_map}
 use Rattle.dvg_6502.proofs.Drafts.{Fits, shortest, shortest_fits, fits_more, table_on, ends_some, buildable, is_built}
 
 -- what may come later in the frame that is being built
@@ -82,19 +83,37 @@ held call older olds enters follows session =
     let was = before_call call (older ∷ olds) follows enters.loaded session in
     ((bounds (older ∷ olds)).0, ((bounds (older ∷ olds)).1, (was.life, was.holds)))
 
+neither : (t u : Bool) → (t || u) ≡ false → (t ≡ false) × (u ≡ false)
+neither true u is = absurd (cc)
+neither false u is = (refl, is)
+
+-- what dvg_ticks may change, one by one
+leaves : (q : ℕ) (now before : ℕ → ℕ) → Leaves q now before → (b : ℕ) → is_ticked q b ≡ false → now b ≡ before b
+leaves q now before same b is =
+    let own = neither (is_own b) _ is in
+    let count = neither (nat_eq b 0x1F) _ own.1 in
+    let out = neither (is_hardware b) _ count.1 in
+    let stack = neither (nat_eq b (stack_place q)) (nat_eq b (stack_place (q + 255))) out.1 in
+    same b own.0 (eqb-false b 0x1F count.0) out.0 (eqb-false b (stack_place q) stack.0)
+    (eqb-false b (stack_place (q + 255)) stack.1)
+
 pub ticks_come_back : TicksReturn
 ticks_come_back from others [] session = absurd (session 0).3.0
 ticks_come_back from others (older ∷ olds) session =
-    let call : Call = record { routine = Ticks; from = from; steps = 0; others = others } in
     let first = session 0 in
-    let was = held call older olds first.0 first.3.0 first.3.1 in
-    let done = ticks_return (holds_in was.0 was.1.0 (frame_of (older ∷ olds))) from was.0 was.1.0 was.1.1.0
-    (holds_goes was.0 was.1.0 (frame_of (older ∷ olds))) first.0.entry first.0.a first.0.s was.1.1.1 in
-    let all = came_of (record { routine = Ticks; from = from; steps = done.0; others = others }) (older ∷ olds)
-    (session done.0) in (
+    let ends = bounds (older ∷ olds) in
+    let was = before_call (call_of Ticks from 0 others) (older ∷ olds) first.3.0 first.0.loaded first.3.1 in
+    let goes = holds_goes ends.0 ends.1 (frame_of (older ∷ olds)) in
+    let P = holds_in ends.0 ends.1 (frame_of (older ∷ olds)) in
+    let done = ticks_return P from ends.0 ends.1 was.life goes first.0.entry first.0.a first.0.s was.holds in
+    let call = call_of Ticks from done.0 others in
+    let steady = (ticks_go P done.0 from ends.0 ends.1 was.life goes first.0.entry first.0.a first.0.s was.holds).steady in
+    let all = came_of call (older ∷ olds) (session done.0) in (
       done.0,
       all.returned ∙ done.1,
       ap (λ (k : Cpu). k.mem 0x1F) all.same.same ∙ all.same.keeps 0x1F refl ∙ done.2,
+      (λ b out alone. spared call (older ∷ olds) steady (session done.0).2 b alone
+          ∙ leaves from.s (run from.s done.0 from).mem from.mem done.3 b out),
     )
 
 -- the draft doesn't matter to whether a call is over
@@ -595,22 +614,22 @@ Prior R call calls =
 
 -- each call, over those before it
 module _ (R : List ℕ) (from : Cpu) (steps : ℕ) (others : ℕ → ℕ → ℕ) (calls : List Call) where
-  abbrev call_of : Routine → Call
-  call_of routine = record { routine = routine; from = from; steps = steps; others = others }
+  abbrev made_by : Routine → Call
+  made_by routine = record { routine = routine; from = from; steps = steps; others = others }
 
-  quiet : (routine : Routine) → Enters from (entry routine) → IsLeftAlone (call_of routine) calls
-      → Prior R (call_of routine) calls → renamed routine [] ≡ routine
-      → ((f : Option (ℕ × List ℕ)) → frame_after routine (call_of routine) f ≡ f)
+  quiet : (routine : Routine) → Enters from (entry routine) → IsLeftAlone (made_by routine) calls
+      → Prior R (made_by routine) calls → renamed routine [] ≡ routine
+      → ((f : Option (ℕ × List ℕ)) → frame_after routine (made_by routine) f ≡ f)
       → ((f : Option (ℕ × List ℕ)) → Brings routine from f) → BuildsOnly R routine
-      → ((P : Type 0) → P → UnlessReset routine P) → Finds R (call_of routine) calls
+      → ((P : Type 0) → P → UnlessReset routine P) → Finds R (made_by routine) calls
   quiet routine enters alone first keeps stays brings builds unless =
-      subst (λ l. Finds R (call_of routine) l) (sym first.2)
-      (quiet_finds R (call_of routine) first.0 first.1 enters
-      (subst (λ l. IsLeftAlone (call_of routine) l) first.2 alone) first.3 first.4 keeps stays brings builds unless)
+      subst (λ l. Finds R (made_by routine) l) (sym first.2)
+      (quiet_finds R (made_by routine) first.0 first.1 enters
+      (subst (λ l. IsLeftAlone (made_by routine) l) first.2 alone) first.3 first.4 keeps stays brings builds unless)
 
   one_finds : (routine : Routine) → Enters from (entry routine) → Tells R routine from (frame_of calls)
-      → IsLeftAlone (call_of routine) calls → UnlessReset routine (Prior R (call_of routine) calls)
-      → Finds R (call_of routine) calls
+      → IsLeftAlone (made_by routine) calls → UnlessReset routine (Prior R (made_by routine) calls)
+      → Finds R (made_by routine) calls
   one_finds Reset enters tells alone first = reset_finds R from steps others calls enters alone
   one_finds Tick enters tells alone first =
       quiet Tick enters alone first refl (λ f. refl) (λ f. tt) tt (λ P is. is)
@@ -623,18 +642,18 @@ module _ (R : List ℕ) (from : Cpu) (steps : ℕ) (others : ℕ → ℕ → ℕ
   one_finds Redraw enters tells alone first =
       quiet Redraw enters alone first refl (λ f. refl) (λ f. tt) tt (λ P is. is)
   one_finds (Open F) enters tells alone first =
-      subst (λ l. Finds R (call_of (Open F)) l) (sym first.2)
+      subst (λ l. Finds R (made_by (Open F)) l) (sym first.2)
       (open_finds R F from steps others first.0 first.1 enters
-      (subst (λ l. IsLeftAlone (call_of (Open F)) l) first.2 alone) first.3 first.4)
+      (subst (λ l. IsLeftAlone (made_by (Open F)) l) first.2 alone) first.3 first.4)
   one_finds (Puts part) enters tells alone first =
-      subst (λ l. Finds R (call_of (Puts part)) l) (sym first.2)
+      subst (λ l. Finds R (made_by (Puts part)) l) (sym first.2)
       (puts_find R part from steps others first.0 first.1 enters
-      (subst (λ l. IsLeftAlone (call_of (Puts part)) l) first.2 alone) first.3
+      (subst (λ l. IsLeftAlone (made_by (Puts part)) l) first.2 alone) first.3
       (subst (λ l. Tells R (Puts part) from (frame_of l)) first.2 tells) first.4)
   one_finds Close enters tells alone first =
-      subst (λ l. Finds R (call_of Close) l) (sym first.2)
+      subst (λ l. Finds R (made_by Close) l) (sym first.2)
       (close_finds R from steps others first.0 first.1 enters
-      (subst (λ l. IsLeftAlone (call_of Close) l) first.2 alone) first.3
+      (subst (λ l. IsLeftAlone (made_by Close) l) first.2 alone) first.3
       (subst (λ l. Tells R Close from (frame_of l)) first.2 tells) first.4)
 
 all_find : (R : List ℕ) (call : Call) (calls : List Call) → IsSessionBy (Tells R) (call ∷ calls) → Finds R call calls

@@ -1,6 +1,6 @@
 -- What many calls make, also calls that others interrupt.
 use Rattle.std.proofs.Common.{◌≡◌, ℕ, inl, inr, ◌+◌, ◌-◌, ◌*◌, ◌<◌, ◌≤◌, Bool, true, false, not, List, [], ◌∷◌, ◌++◌, length}
-use Rattle.std.proofs.Common.{refl, sym, ap, ◌∙◌, subst, arith, Some, Option, None}
+use Rattle.std.proofs.Common.{refl, sym, ap, ◌∙◌, subst, arith, Some, Option, None, zero, suc, eq-eqb}
 use Rattle.std.proofs.lemmas.Bool.{ne_eqb}
 use Rattle.std.specs.Prelude.{nat_eq, nat_le, nat_lt, ◌⊎◌, ◌&&◌, ◌||◌, option_and_then, if◌then◌else◌}
 use Rattle.dvg_mem.specs.declared.half.Half.{Half}
@@ -16,8 +16,8 @@ use Rattle.dvg_driver.specs.Place.{Place, Start, Resting, Writing, Waiting, plac
 use Rattle.dvg_driver.specs.Stands.{Stage, StandsAfter, KnowsHalf, byte1_of}
 use Rattle.dvg_driver.proofs.Places.{whole_rests, some_same}
 use Rattle.dvg_driver.proofs.Shapes.{place_life, rests_whole}
-use Rattle.dvg_6502.specs.Processor.{Cpu, Access, Reads, Writes, run, at_return}
-use Rattle.dvg_6502.specs.Amid.{is_kept, is_work, is_code, are_steady, all_in}
+use Rattle.dvg_6502.specs.Processor.{Cpu, Access, Reads, Writes, run, turn, at_return}
+use Rattle.dvg_6502.specs.Amid.{Guard, AreHarmless, changed, guards, is_kept, is_work, is_code, are_steady, all_in}
 use Rattle.dvg_6502.specs.Board.{IsLoaded, seen, tells_halted, goal_in, is_own, is_ram, is_hardware}
 use Rattle.dvg_6502.specs.Holds.{Holds, HoldsPlace}
 use Rattle.dvg_6502.specs.Tables.{HasTable, table_of}
@@ -34,6 +34,7 @@ use Rattle.dvg_6502.proofs.Going.{Claim, GoesTo}
 use Rattle.dvg_6502.proofs.TickCall.{tick_goes}
 use Rattle.dvg_6502.proofs.TicksRun.{ticks_go}
 use Rattle.dvg_6502.proofs.Steady.{steady_all, code_kept}
+use Rattle.dvg_6502.proofs.AmidRun.{came_out}
 use Rattle.dvg_6502.proofs.Offering.{resets_steadily, reset_refines, takes_steadily, offer_is_taken, redraw_is_taken}
 use Rattle.dvg_6502.proofs.Offering.{redraw_is_refused, redraw_takes_steadily, redraw_refuses_steadily}
 use Rattle.dvg_6502.proofs.Building.{goal_is}
@@ -541,6 +542,50 @@ kept_ram tables b is = right_true (is_own b) _ (right_true (is_work b) _ (right_
 kept_table : (tables : ℕ → Bool) (b : ℕ) → tables b ≡ true → is_kept tables b ≡ true
 kept_table tables b is = right_true (is_own b) _ (right_true (is_work b) _ (right_true (is_code b) _
     (right_true (is_hardware b) (tables b) is)))
+
+-- one byte more is left alone
+both_harmless : (g h u : Guard) → ((now k : ℕ) → u now k ≡ true → (g now k ≡ true) ⊎ (h now k ≡ true))
+    → (s n : ℕ) (others : ℕ → ℕ → ℕ) (cpu : Cpu) → AreHarmless g s others n cpu → AreHarmless h s others n cpu
+    → AreHarmless u s others n cpu
+both_harmless g h u parts s zero others cpu one two = tt
+both_harmless g h u parts s (suc n) others cpu one two = (
+  (λ b is. by b (parts cpu.s b is)),
+  both_harmless g h u parts s n (λ k. others (suc k)) (turn s (changed (others 0) cpu)) one.1 two.1,
+)
+  where
+    by : (b : ℕ) → (g cpu.s b ≡ true) ⊎ (h cpu.s b ≡ true) → others 0 b ≡ cpu.mem b
+    by b (inl is) = one.0 b is
+    by b (inr is) = two.0 b is
+
+-- so that byte comes out of a call as without others
+pub spared : (call : Call) (calls : List Call)
+    → ((tables : ℕ → Bool) → Covers tables (bounds calls).0 (bounds calls).1
+    → are_steady (is_kept tables) call.from.s call.steps call.from ≡ true)
+    → Calls.IsLeftAlone call calls → (b : ℕ)
+    → AreHarmless (λ now k. nat_eq k b) call.from.s call.others call.steps call.from
+    → (after call).mem b ≡ (run call.from.s call.steps call.from).mem b
+spared call calls steady alone b leaves =
+    let came = came_out (is_kept tables) call.from.s call.steps call.from call.from.mem call.others (λ b is. refl)
+    (steady tables (λ k low high. left_true (is_table call calls k) (nat_eq k b)
+    (left_true _ (is_offered call.routine call.from k) (both_bounds (bounds calls).0 (bounds calls).1 k low high))))
+    (both_harmless (guards (is_kept (is_table call calls)) call.from.s) (λ now k. nat_eq k b)
+    (guards (is_kept tables) call.from.s) (λ now k. parted (is_own k) (is_work k) (is_code k) (is_hardware k)
+    (is_table call calls k) (nat_eq k b) _) call.from.s call.steps call.others call.from alone leaves) in
+    ap (λ (k : Cpu). k.mem b) came.same ∙ came.keeps b (left_true (is_kept tables b) _
+    (kept_table tables b (right_true (is_table call calls b) (nat_eq b b) (eq-eqb b b refl))))
+  where
+    tables : ℕ → Bool
+    tables k = is_table call calls k || nat_eq k b
+
+    parted : (o w c h t e s : Bool) → ((o || (w || (c || (h || (t || e))))) || s) ≡ true
+        → (((o || (w || (c || (h || t)))) || s) ≡ true) ⊎ (e ≡ true)
+    parted true w c h t e s is = inl refl
+    parted false true c h t e s is = inl refl
+    parted false false true h t e s is = inl refl
+    parted false false false true t e s is = inl refl
+    parted false false false false true e s is = inl refl
+    parted false false false false false true s is = inr refl
+    parted false false false false false false s is = inl is
 
 -- dvg_reset needs no premise, and begins a life; each other routine does neither
 pub by_reset : (M : Routine → (Type 0 → Type 0) → (List Item → Type 0 → Type 0) → Type 0)

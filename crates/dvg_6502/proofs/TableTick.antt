@@ -315,6 +315,7 @@ module _ (q a x y s : ℕ) (n z c v : Bool) (mem flags : ℕ → ℕ) (log : Lis
         (put_small to w mem (put_for_small (mem 0x11) odd second byte byte_small) bytes))
         (λ b own go. let same : to ≡ 0x4000 + (to - 0x4000) = omega (arith, low) in
         kept_write to w here (there phase) mem in_ram'.0 in_ram'.1 b own ∙ ap (λ p. put p w (laid here mem) b) same)
+        (omega (arith, low, high'))
 
     -- what it leaves, without the code
     pub step : Holds (final phase) begin stop (stage_then rest)

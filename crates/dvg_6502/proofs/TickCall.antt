@@ -7,7 +7,7 @@ use Rattle.dvg_driver.specs.declared.action.Action.{Action}
 use Rattle.dvg_driver.specs.declared.action.Action.TheVariants.{Peek, Wrote, Read, Sent, Idle}
 use Rattle.dvg_driver.specs.Script.{Item}
 use Rattle.dvg_driver.specs.Place.{Place, place_of_life}
-use Rattle.dvg_6502.specs.Processor.{Cpu, Access, Writes, Return, put, run, turn, does, decoded, opcodes}
+use Rattle.dvg_6502.specs.Processor.{Cpu, Access, Writes, Return, put, run, turn, does, decoded, opcodes, stack_place}
 use Rattle.dvg_6502.specs.Board.{IsLoaded, seen, is_own, is_ram, is_hardware}
 use Rattle.dvg_6502.specs.Amid.{is_kept, is_code, is_steady, are_steady}
 use Rattle.dvg_6502.specs.Routines.{acted}
@@ -15,7 +15,7 @@ use Rattle.dvg_6502.specs.Calls.{AreShown}
 use Rattle.dvg_6502.proofs.Running.{at, run_more, returned, steady_more, and_true}
 use Rattle.dvg_6502.proofs.Memory.{AreSmall, laid, page_in, in_page, in_code, known, loaded, put_out, put_small, state_is, small_page}
 use Rattle.dvg_6502.proofs.Memory.{both_true, le_not}
-use Rattle.dvg_6502.proofs.Acting.{Covers}
+use Rattle.dvg_6502.proofs.Acting.{Covers, IsInRam}
 use Rattle.dvg_6502.proofs.Steady.{rts_steady, code_kept}
 use Rattle.dvg_6502.proofs.Ticking.{acts}
 use Rattle.dvg_6502.proofs.Standing.{Stood, stood_on, stood_tick, items_of, shown_items}
@@ -40,13 +40,27 @@ on_stack p low high =
     (rw (a, b) refl, rw d refl)
 
 -- what an action writes is in the vector RAM
-acted_out : (action : Action) (mem : ℕ → ℕ) (b : ℕ) → b < 0x4000 → acted action mem b ≡ mem b
-acted_out Idle mem b low = refl
-acted_out Peek mem b low = refl
-acted_out (Wrote a v) mem b low =
-    ap (λ (t : Bool). if t then v else mem b) (ne_eqb b (0x4000 + a) (λ same. absurd (omega arith)))
-acted_out (Read halted) mem b low = refl
-acted_out Sent mem b low = refl
+acted_out : (action : Action) (mem : ℕ → ℕ) (b : ℕ) → IsInRam action → is_hardware b ≡ false → acted action mem b ≡ mem b
+acted_out Idle mem b in_ram out = refl
+acted_out Peek mem b in_ram out = refl
+acted_out (Wrote a v) mem b in_ram out = ap (λ (t : Bool). if t then v else mem b)
+    (ne_eqb b (0x4000 + a) (λ same. absurd (let is = subst (λ p. is_hardware p ≡ true) (sym same) there in cc)))
+  where
+    there : is_hardware (0x4000 + a) ≡ true
+    there =
+        let low : nat_le 0x4000 (0x4000 + a) ≡ true = le-leb 0x4000 (0x4000 + a) (omega arith) in
+        let high : nat_lt (0x4000 + a) 0x4800 ≡ true = le-leb (suc (0x4000 + a)) 0x4800 (omega (arith, in_ram)) in
+        rw (low, high) refl
+acted_out (Read halted) mem b in_ram out = refl
+acted_out Sent mem b in_ram out = refl
+
+-- below its places there is no hardware
+low_quiet : (b : ℕ) → b < 0x2000 → is_hardware b ≡ false
+low_quiet b low =
+    let ram : nat_le 0x4000 b ≡ false = le_not 0x4000 b (omega (arith, low)) in
+    let flag : nat_eq b 0x2002 ≡ false = ne_eqb b 0x2002 (λ same. absurd (omega (arith, same, low))) in
+    let strobe : nat_eq b 0x3000 ≡ false = ne_eqb b 0x3000 (λ same. absurd (omega (arith, same, low))) in
+    rw (ram, flag, strobe) refl
 
 -- the two places that call dvg_tick: in dvg_run, and in dvg_ticks
 abbrev pub site_of : Bool → ℕ
@@ -68,7 +82,7 @@ pub record TickMakes (P : Claim) (q : ℕ) (cpu : Cpu) (begin stop : ℕ) (life 
   pub shown : AreShown items events
   pub placed : (place : Place) × (place_of_life (items ++ life) ≡ Some place)
   pub after : P (run q steps cpu).mem (items ++ life)
-  pub low : (b : ℕ) → is_own b ≡ false → b < 0x3000 → (run q steps cpu).mem b ≡ cpu.mem b
+  pub kept : (b : ℕ) → is_own b ≡ false → is_hardware b ≡ false → (run q steps cpu).mem b ≡ cpu.mem b
   pub steady : Keeps begin stop q steps cpu
   pub there : is_code (run q steps cpu).pc ≡ true
 
@@ -100,7 +114,8 @@ stood_ticks begin stop q cpu life at_pc stood =
       shown = shown_items did.action did.events did.shows;
       placed = (new.stage.place, new.stands.place);
       after = new;
-      low = λ b own low. did.kept b own (λ same. absurd (omega arith)) ∙ acted_out did.action cpu.mem b (omega arith);
+      kept = λ b own out. did.kept b own (λ same. absurd (let e = subst (λ p. is_hardware p ≡ false) same out in cc))
+          ∙ acted_out did.action cpu.mem b did.in_ram out;
       steady = did.steady;
       there = did.there;
     }
@@ -138,6 +153,8 @@ pub record TurnedTo (P : Claim) (q : ℕ) (site : Bool) (cpu : Cpu) (begin stop 
   pub stack : (run q steps cpu).s ≡ q
   pub stood : P (run q steps cpu).mem (made.items ++ life)
   pub kept : (run q steps cpu).mem 0x1F ≡ cpu.mem 0x1F
+  pub spared : (b : ℕ) → is_own b ≡ false → is_hardware b ≡ false → b ≢ stack_place q → b ≢ stack_place (q + 255)
+      → (run q steps cpu).mem b ≡ cpu.mem b
 
 -- the same, of a driver that stands
 abbrev pub Turned : (q : ℕ) (site : Bool) → Cpu → (begin stop : ℕ) → List Item → Type 0
@@ -243,8 +260,8 @@ module _ (P : Claim) (begin stop : ℕ) (goes : GoesByTicks P begin stop) (q a x
   not_q : nat_eq fin.s q ≡ false
   not_q = ap (λ s. nat_eq s q) inner_is ∙ ne_eqb inner q (λ same. absurd (omega arith))
 
-  kept_low : (b : ℕ) → is_own b ≡ false → b < 0x3000 → fin.mem b ≡ laid page stacked b
-  kept_low b own low = did.low b own low
+  kept_low : (b : ℕ) → is_own b ≡ false → b < 0x2000 → fin.mem b ≡ laid page stacked b
+  kept_low b own low = did.kept b own (low_quiet b low)
 
   not_own : (p : ℕ) → 0x1B ≤ p → is_own p ≡ false
   not_own p low = let a : nat_le 0x10 p ≡ true = le-leb 0x10 p (omega arith) in
@@ -312,6 +329,9 @@ module _ (P : Claim) (begin stop : ℕ) (goes : GoesByTicks P begin stop) (q a x
     stood = subst (λ (k : Cpu). P k.mem (did.items ++ life)) (sym ends) did.after;
     kept = ap (λ (k : Cpu). k.mem 0x1F) ends ∙ kept_low 0x1F refl (omega arith) ∙ elsewhere 0x1F (inl (omega arith))
         ∙ ap (λ (m : ℕ → ℕ). m 0x1F) (known mem load);
+    spared = λ b own out not0 not1. ap (λ (k : Cpu). k.mem b) ends ∙ did.kept b own out
+        ∙ past_low p1 (back_of site) page (put p0 0x68 mem) out1.0 out1.1 b not1
+        ∙ past_low p0 0x68 page mem out0.0 out0.1 b not0;
   }
 
 -- from any state at one of the two places

@@ -2,10 +2,10 @@
 use Rattle.std.proofs.Common.{◌≡◌, ◌≢◌, ℕ, zero, suc, inl, inr, ◌+◌, ◌%◌, ◌<◌, ◌≤◌, Bool, true, false, List, ◌∷◌}
 use Rattle.std.proofs.Common.{◌++◌, refl, sym, ap, ◌∙◌, subst, arith, leb-true}
 use Rattle.std.proofs.lemmas.Bool.{ne_eqb}
-use Rattle.std.specs.Prelude.{nat_eq, nat_le, nat_lt, ◌⊎◌}
+use Rattle.std.specs.Prelude.{nat_eq, nat_le, nat_lt, ◌⊎◌, if◌then◌else◌}
 use Rattle.dvg_driver.specs.Script.{Item}
-use Rattle.dvg_6502.specs.Processor.{Cpu, Access, Reads, Writes, put, run, at_return}
-use Rattle.dvg_6502.specs.Board.{IsLoaded, seen}
+use Rattle.dvg_6502.specs.Processor.{Cpu, Access, Reads, Writes, put, run, at_return, stack_place}
+use Rattle.dvg_6502.specs.Board.{IsLoaded, seen, is_own, is_hardware}
 use Rattle.dvg_6502.specs.Amid.{is_kept, is_code, are_steady}
 use Rattle.dvg_6502.proofs.Running.{at, run_more, returned, steady_more}
 use Rattle.dvg_6502.proofs.Memory.{AreSmall, laid, page_in, known, loaded, put_out, put_small, both_true, state_is, small_page}
@@ -71,6 +71,11 @@ module _ (q a x y : ℕ) (n z c v : Bool) (mem flags : ℕ → ℕ) (log : List 
 
   pub again : nat_eq r 0 ≡ false → run q 2 from ≡ then_at 0x6862 false
   again is = run_more q 1 1 from ∙ ap (run q 1) (counts false is)
+
+-- memory is as it was, but for what dvg_ticks may change
+abbrev pub Leaves : (q : ℕ) (now before : ℕ → ℕ) → Type 0
+Leaves q now before = (b : ℕ) → is_own b ≡ false → b ≢ 0x1F → is_hardware b ≡ false → b ≢ stack_place q
+    → b ≢ stack_place (q + 255) → now b ≡ before b
 
 -- the ticks that are left
 module _ (P : Claim) (begin stop : ℕ) (goes : GoesByTicks P begin stop) (q : ℕ) (q_small : q < 256) where
@@ -143,10 +148,16 @@ module _ (P : Claim) (begin stop : ℕ) (goes : GoesByTicks P begin stop) (q : �
             (omega (arith, most)) next_pc next_q (next_count ∙ down) next_stood,
       ))
 
+  -- after the count nothing else is changed
+  counted : (mid : Cpu) (r : ℕ) (life : List Item) → P mid.mem life → (b : ℕ) → b ≢ 0x1F
+      → laid (page_in mid.mem) (put 0x1F r mid.mem) b ≡ mid.mem b
+  counted mid r life stood b not = past_low 0x1F r (page_in mid.mem) mid.mem refl refl b not
+      ∙ sym (ap (λ (m : ℕ → ℕ). m b) (known mid.mem (goes.loaded mid.mem life stood)))
+
   -- they come to their end
   ticks_end : (n : ℕ) (cpu : Cpu) (life : List Item) → n ≤ 255 → cpu.pc ≡ 0x6862 → cpu.s ≡ q
       → cpu.mem 0x1F ≡ suc n % 256 → P cpu.mem life
-      → (k : ℕ) × (at_return q (run q k cpu) ≡ true) × ((run q k cpu).mem 0x1F ≡ 0)
+      → (k : ℕ) × (at_return q (run q k cpu) ≡ true) × ((run q k cpu).mem 0x1F ≡ 0) × Leaves q (run q k cpu).mem cpu.mem
   ticks_end zero cpu life most at_pc at_q count stood =
       let t = tick_call_to P begin stop goes q false cpu life q_small at_pc at_q stood in
       let mid = run q t.steps cpu in
@@ -157,6 +168,9 @@ module _ (P : Claim) (begin stop : ℕ) (goes : GoesByTicks P begin stop) (q : �
         ap (at_return q) (run_more q t.steps 2 cpu ∙ is)
             ∙ returned q (then_at q mid.a mid.x mid.y mid.n mid.z mid.c mid.v mid.mem mid.flags mid.log 0x6869 true) refl refl,
         ap (λ (c : Cpu). c.mem 0x1F) (run_more q t.steps 2 cpu ∙ is) ∙ ap (λ m. (m + 255) % 256) (t.kept ∙ count),
+        (λ b own not out not0 not1. ap (λ (c : Cpu). c.mem b) (run_more q t.steps 2 cpu ∙ is)
+            ∙ counted mid ((mid.mem 0x1F + 255) % 256) (t.made.items ++ life) t.stood b not
+            ∙ t.spared b own out not0 not1),
       )
   ticks_end (suc n) cpu life most at_pc at_q count stood =
       let t = tick_call_to P begin stop goes q false cpu life q_small at_pc at_q stood in
@@ -173,6 +187,10 @@ module _ (P : Claim) (begin stop : ℕ) (goes : GoesByTicks P begin stop) (q : �
             ∙ ap (run q rest.0) (run_more q t.steps 2 cpu ∙ is)) ∙ rest.1,
         ap (λ (c : Cpu). c.mem 0x1F) (run_more q (2 + t.steps) rest.0 cpu
             ∙ ap (run q rest.0) (run_more q t.steps 2 cpu ∙ is)) ∙ rest.2,
+        (λ b own not out not0 not1. ap (λ (c : Cpu). c.mem b) (run_more q (2 + t.steps) rest.0 cpu
+            ∙ ap (run q rest.0) (run_more q t.steps 2 cpu ∙ is)) ∙ rest.3 b own not out not0 not1
+            ∙ counted mid ((mid.mem 0x1F + 255) % 256) (t.made.items ++ life) t.stood b not
+            ∙ t.spared b own out not0 not1),
       )
     where
       lower : (n m : ℕ) → m ≡ suc (suc n) % 256 → suc n ≤ 255 → (m + 255) % 256 ≡ suc n % 256
@@ -205,11 +223,17 @@ ticks_go P k cpu begin stop life goes at_pc a_small s_small stood =
 pub ticks_return : (P : Claim) (cpu : Cpu) (begin stop : ℕ) (life : List Item) → GoesByTicks P begin stop
     → cpu.pc ≡ 0x6860 → cpu.a < 256 → cpu.s < 256 → P cpu.mem life
     → (k : ℕ) × (at_return cpu.s (run cpu.s k cpu) ≡ true) × ((run cpu.s k cpu).mem 0x1F ≡ 0)
+    × Leaves cpu.s (run cpu.s k cpu).mem cpu.mem
 ticks_return P cpu begin stop life goes at_pc a_small s_small stood =
     let rest = ticks_end P begin stop goes cpu.s s_small ((cpu.a + 255) % 256) (run cpu.s 1 from) life
     (omega arith) refl refl (omega (arith, a_small)) counted in
-    let on = ap (run cpu.s (rest.0 + 1)) (sym is) ∙ run_more cpu.s 1 rest.0 from in
-    (rest.0 + 1, ap (at_return cpu.s) on ∙ rest.1, ap (λ (c : Cpu). c.mem 0x1F) on ∙ rest.2)
+    let on = ap (run cpu.s (rest.0 + 1)) (sym is) ∙ run_more cpu.s 1 rest.0 from in (
+      rest.0 + 1,
+      ap (at_return cpu.s) on ∙ rest.1,
+      ap (λ (c : Cpu). c.mem 0x1F) on ∙ rest.2,
+      (λ b own not out not0 not1. ap (λ (c : Cpu). c.mem b) on ∙ rest.3 b own not out not0 not1
+          ∙ ap (λ (t : Bool). if t then cpu.a else from.mem b) (ne_eqb b 0x1F not) ∙ ap (λ (c : Cpu). c.mem b) is),
+    )
   where
     from : Cpu
     from = at 0x6860 cpu.a cpu.x cpu.y cpu.s cpu.n cpu.z cpu.c cpu.v (laid (page_in cpu.mem) cpu.mem) cpu.flags cpu.log

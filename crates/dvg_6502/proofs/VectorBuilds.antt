@@ -6,18 +6,18 @@ use Rattle.std.specs.Prelude.{nat_eq, nat_le, nat_lt, ◌⊎◌, if◌then◌els
 use Rattle.dvg_mem.specs.declared.half.Half.{Half}
 use Rattle.dvg_6502.specs.Processor.{Cpu, Access, Writes, run}
 use Rattle.dvg_6502.specs.Code.{code, dvg_vector}
-use Rattle.dvg_6502.specs.Board.{IsLoaded, seen, goal_in, is_own, is_ram}
+use Rattle.dvg_6502.specs.Board.{IsLoaded, seen, goal_in, is_own}
 use Rattle.dvg_6502.specs.Amid.{is_work}
 use Rattle.dvg_6502.specs.Routines.{Enters, Vector, put_by}
-use Rattle.dvg_6502.specs.Build.{IsBuilding, Builds, IsRefused, VectorTakes, VectorRefuses}
+use Rattle.dvg_6502.specs.Build.{IsBuilding, IsRefused, VectorTakes, VectorRefuses}
 use Rattle.dvg_6502.proofs.Running.{Comes, by, at, returned, comes}
 use Rattle.dvg_6502.proofs.Memory.{laid, page_of, page_in, known, loaded, in_page, in_code, AreSmall, are_small, both_true}
 use Rattle.dvg_6502.proofs.Memory.{le_not}
-use Rattle.dvg_6502.proofs.Alike.{alike_if, Keeping}
+use Rattle.dvg_6502.proofs.Alike.{alike_if}
 use Rattle.dvg_6502.proofs.TicksRun.{page_small}
 use Rattle.dvg_6502.proofs.BuildRun.{put_refuses, put_full}
 use Rattle.dvg_6502.proofs.Building as building
-use Rattle.dvg_6502.proofs.Building.{BuildsSo}
+use Rattle.dvg_6502.proofs.Building.{BuildsSo, builds_so}
 use Rattle.dvg_6502.proofs.Closing as closing
 use Rattle.dvg_6502.proofs.Closing.{entered, comes_back}
 use Rattle.dvg_6502.proofs.Refusing.{Refuses, pair_refuses, pair_full}
@@ -127,17 +127,6 @@ module _ (cpu : Cpu) (enters : Enters cpu dvg_vector) where
       (enters.loaded.bytes 0x1B) (enters.loaded.bytes 0x1C) (enters.loaded.bytes 0x1D) (enters.loaded.bytes 0x1E)
       (enters.loaded.bytes 0x1F) (enters.loaded.bytes 0x20)
 
-  -- a part is put, and the rest of memory is as it was
-  abbrev pub VectorSo : Cpu → (half : Half) (flipped : Bool) (now rest : List ℕ) → Type 0
-  VectorSo k half flipped now rest = (did : BuildsSo k half flipped now rest) × ((b : ℕ) → is_own b ≡ false
-      → is_work b ≡ false → is_ram b ≡ false → (run k.s did.0.steps k).mem b ≡ k.mem b)
-
-  vector_so : (k : Cpu) (half : Half) (flipped : Bool) (now rest : List ℕ) (did : Builds k half flipped now rest)
-      → Keeping k did.steps
-      → ((b : ℕ) → is_own b ≡ false → is_work b ≡ false → is_ram b ≡ false → (run k.s did.steps k).mem b ≡ k.mem b)
-      → VectorSo k half flipped now rest
-  vector_so k half flipped now rest did keeping kept = ((did, keeping), kept)
-
   start_kept : (b : ℕ) → is_own b ≡ false → is_work b ≡ false → (start 7).mem b ≡ cpu.mem b
   start_kept b own out = building.laid_out (page 7) (worked (work_in cpu.mem) cpu.mem) cpu.mem enters.loaded b own
       (worked_out (work_in cpu.mem) cpu.mem b out)
@@ -146,7 +135,7 @@ module _ (cpu : Cpu) (enters : Enters cpu dvg_vector) where
   module _ (half : Half) (flipped : Bool) (rest : List ℕ) (more : 2 ≤ length rest) where
     one_builds : (b0 b1 : ℕ) (work : List ℕ) → b0 < 256 → b1 < 256 → (small : AreSmall work)
         → (n z c v : Bool) → Led cpu.s (start 7) (at 0x6957 b0 b1 cpu.y cpu.s n z c v (laid (page 7) (worked work cpu.mem)) cpu.flags)
-        → IsBuilding cpu.mem half flipped (b0 ∷ b1 ∷ rest) → VectorSo (start 7) half flipped (b0 ∷ b1 ∷ []) rest
+        → IsBuilding cpu.mem half flipped (b0 ∷ b1 ∷ rest) → BuildsSo (start 7) half flipped (b0 ∷ b1 ∷ []) rest
     one_builds b0 b1 work b0_small b1_small small n z c v led built =
         let m = worked work cpu.mem in
         let load = worked_loaded work cpu.mem small enters.loaded in
@@ -154,13 +143,13 @@ module _ (cpu : Cpu) (enters : Enters cpu dvg_vector) where
         let did = led_comes cpu.s (start 7) _ cpu.s false _ (written2 b0 b1) led
         (λ log quiet. after_quiet log (λ l. Writes (suc (goal_in cpu.mem)) b1 ∷ Writes (goal_in cpu.mem) b0 ∷ l) quiet
         (building.comes b0 b1 cpu.y cpu.s n z c v m cpu.flags log load b0_small b1_small half flipped rest building' more)) in
-        vector_so (start 7) half flipped (b0 ∷ b1 ∷ []) rest
+        builds_so (start 7) half flipped (b0 ∷ b1 ∷ []) rest
         (record {
           steps = did.steps;
           returns = comes_back did;
           carry = did.carry;
           shows = did.accesses;
-          alike = alike_if (start 7) did.steps (comes_back did) (did.steady (λ b. false) refl) did.there;
+          alike = alike_if (start 7) did.steps (comes_back did) (λ tables. did.steady tables refl) did.there;
           goes_on = ap goal_in did.memory ∙ building.moved_on b0 b1 cpu.y cpu.s n z c v m cpu.flags [] load b0_small b1_small
               half flipped rest building' more;
           building = subst (λ (m : ℕ → ℕ). IsBuilding m half flipped rest) (sym did.memory)
@@ -168,6 +157,9 @@ module _ (cpu : Cpu) (enters : Enters cpu dvg_vector) where
           loaded = subst IsLoaded (sym did.memory)
               (building.new_loaded b0 b1 cpu.y cpu.s n z c v m cpu.flags [] load b0_small b1_small half flipped rest building'
               more);
+          kept = λ b own out ram. ap (λ (m : ℕ → ℕ). m b) did.memory
+              ∙ building.kept b0 b1 cpu.y cpu.s n z c v m cpu.flags [] load b0_small b1_small half flipped rest building' more
+              b own ram ∙ worked_out work cpu.mem b out ∙ sym (start_kept b own out);
         })
         (record {
           byte1 = ap (λ (m : ℕ → ℕ). m 0x4001) did.memory
@@ -175,10 +167,6 @@ module _ (cpu : Cpu) (enters : Enters cpu dvg_vector) where
           steady = λ tables. did.steady tables refl;
           there = did.there;
         })
-        (λ b own out ram. ap (λ (m : ℕ → ℕ). m b) did.memory
-        ∙ building.kept b0 b1 cpu.y cpu.s n z c v m cpu.flags [] load b0_small b1_small half flipped rest building' more b own
-        ram
-        ∙ worked_out work cpu.mem b out ∙ sym (start_kept b own out))
       where
         written2 : (b0 b1 : ℕ) → List Access
         written2 b0 b1 = Writes (suc (goal_in cpu.mem)) b1 ∷ Writes (goal_in cpu.mem) b0 ∷ []
@@ -188,7 +176,7 @@ module _ (cpu : Cpu) (enters : Enters cpu dvg_vector) where
         → Led cpu.s (start 7) (at 0x6989 a x cpu.y cpu.s n z c cpu.v
         (laid (page 7) (worked (b0 ∷ b1 ∷ b2 ∷ b3 ∷ cpu.mem 0x1F ∷ cpu.a ∷ []) cpu.mem)) cpu.flags)
         → IsBuilding cpu.mem half flipped (b0 ∷ b1 ∷ b2 ∷ b3 ∷ rest)
-        → VectorSo (start 7) half flipped (b0 ∷ b1 ∷ b2 ∷ b3 ∷ []) rest
+        → BuildsSo (start 7) half flipped (b0 ∷ b1 ∷ b2 ∷ b3 ∷ []) rest
     two_build b0 b1 b2 b3 small a x n z c led built =
         let work = b0 ∷ b1 ∷ b2 ∷ b3 ∷ cpu.mem 0x1F ∷ cpu.a ∷ [] in
         let m = worked work cpu.mem in
@@ -201,13 +189,13 @@ module _ (cpu : Cpu) (enters : Enters cpu dvg_vector) where
         (λ l. Writes (suc (suc (suc g))) b3 ∷ Writes (suc (suc g)) b2 ∷ Writes (suc g) b1 ∷ Writes g b0 ∷ l) quiet
         (closing.comes a x cpu.y cpu.s n z c cpu.v m cpu.flags log load half flipped b0 b1 b2 b3 rest refl refl refl refl
         building' more)) in
-        vector_so (start 7) half flipped (b0 ∷ b1 ∷ b2 ∷ b3 ∷ []) rest
+        builds_so (start 7) half flipped (b0 ∷ b1 ∷ b2 ∷ b3 ∷ []) rest
         (record {
           steps = did.steps;
           returns = comes_back did;
           carry = did.carry;
           shows = did.accesses;
-          alike = alike_if (start 7) did.steps (comes_back did) (did.steady (λ b. false) refl) did.there;
+          alike = alike_if (start 7) did.steps (comes_back did) (λ tables. did.steady tables refl) did.there;
           goes_on = ap goal_in did.memory ∙ closing.moved_on a x cpu.y cpu.s n z c cpu.v m cpu.flags [] load half flipped b0
               b1 b2 b3 rest refl refl refl refl building' more;
           building = subst (λ (m : ℕ → ℕ). IsBuilding m half flipped rest) (sym did.memory)
@@ -216,6 +204,9 @@ module _ (cpu : Cpu) (enters : Enters cpu dvg_vector) where
           loaded = subst IsLoaded (sym did.memory)
               (closing.new_loaded a x cpu.y cpu.s n z c cpu.v m cpu.flags [] load half flipped b0 b1 b2 b3 rest refl refl refl
               refl building' more);
+          kept = λ b own out ram. ap (λ (m : ℕ → ℕ). m b) did.memory
+              ∙ closing.kept a x cpu.y cpu.s n z c cpu.v m cpu.flags [] load half flipped b0 b1 b2 b3 rest refl refl refl refl
+              building' more b own ram ∙ worked_out work cpu.mem b out ∙ sym (start_kept b own out);
         })
         (record {
           byte1 = ap (λ (m : ℕ → ℕ). m 0x4001) did.memory
@@ -224,25 +215,21 @@ module _ (cpu : Cpu) (enters : Enters cpu dvg_vector) where
           steady = λ tables. did.steady tables refl;
           there = did.there;
         })
-        (λ b own out ram. ap (λ (m : ℕ → ℕ). m b) did.memory
-        ∙ closing.kept a x cpu.y cpu.s n z c cpu.v m cpu.flags [] load half flipped b0 b1 b2 b3 rest refl refl refl refl
-        building' more b own ram
-        ∙ worked_out work cpu.mem b out ∙ sym (start_kept b own out))
 
     pub vector_steadily : 1 ≤ length (put_by Vector cpu) → IsBuilding cpu.mem half flipped (put_by Vector cpu ++ rest)
-        → VectorSo cpu half flipped (put_by Vector cpu) rest
+        → BuildsSo cpu half flipped (put_by Vector cpu) rest
     vector_steadily some built =
-        subst (λ (k : Cpu). VectorSo k half flipped (put_by Vector cpu) rest) (start_is 7 built.phase) (which (coming 7))
+        subst (λ (k : Cpu). BuildsSo k half flipped (put_by Vector cpu) rest) (start_is 7 built.phase) (which (coming 7))
       where
         which : Coming cpu.s cpu.y cpu.s (cpu.mem 0x1F) cpu.a cpu.v (page 7) cpu.mem cpu.flags (start 7) (put_by Vector cpu)
-            → VectorSo (start 7) half flipped (put_by Vector cpu) rest
+            → BuildsSo (start 7) half flipped (put_by Vector cpu) rest
         which (no_word is out) = absurd (let e = ap length is in omega (arith, e, some))
         which (one_word b0 b1 work is b0_small b1_small small to) =
-            subst (λ l. VectorSo (start 7) half flipped l rest) (sym is)
+            subst (λ l. BuildsSo (start 7) half flipped l rest) (sym is)
             (one_builds b0 b1 work b0_small b1_small small to.n to.z to.c to.v' to.led
             (subst (λ l. IsBuilding cpu.mem half flipped (l ++ rest)) is built))
         which (two_words b0 b1 b2 b3 is small to) =
-            subst (λ l. VectorSo (start 7) half flipped l rest) (sym is)
+            subst (λ l. BuildsSo (start 7) half flipped l rest) (sym is)
             (two_build b0 b1 b2 b3 small to.a to.x to.n to.z to.c to.led
             (subst (λ l. IsBuilding cpu.mem half flipped (l ++ rest)) is built))
 
@@ -320,7 +307,7 @@ module _ (cpu : Cpu) (enters : Enters cpu dvg_vector) where
         carry = comes.carry;
         shows = comes.accesses;
         kept = λ b out. ap (λ (m : ℕ → ℕ). m b) comes.memory ∙ kept_out did.0 b out;
-        alike = alike_if cpu comes.steps back (comes.steady (λ b. false) refl) comes.there;
+        alike = alike_if cpu comes.steps back (λ tables. comes.steady tables refl) comes.there;
       }
 
   -- there is no such vector, no frame is being built, or there is no room
@@ -383,7 +370,7 @@ module _ (cpu : Cpu) (enters : Enters cpu dvg_vector) where
 
 pub vector_takes : VectorTakes
 vector_takes cpu half flipped rest enters some built more =
-    let did = vector_steadily cpu enters half flipped rest more some built in (did.0.0, did.1)
+    (vector_steadily cpu enters half flipped rest more some built).0
 
 pub vector_refuses : VectorRefuses
 vector_refuses cpu enters (inl is) = refused_so cpu enters (no_vector cpu enters is)

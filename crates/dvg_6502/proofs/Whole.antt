@@ -82,7 +82,7 @@ of_builds cpu half flipped now rest did = record {
   shows = did.shows;
   goes_on = did.goes_on;
   building = did.building;
-  alike = did.alike;
+  alike = did.alike (λ b. false);
 }
 
 of_refusal : (cpu : Cpu) (half : Half) (flipped : Bool) (rest : List ℕ) → IsRefused cpu → IsBuilding cpu.mem half flipped rest
@@ -93,7 +93,7 @@ of_refusal cpu half flipped rest did building = record {
   shows = did.shows;
   goes_on = goal_on cpu.mem (run cpu.s did.steps cpu).mem own ∙ omega arith;
   building = building_on cpu.mem (run cpu.s did.steps cpu).mem half flipped rest own building;
-  alike = did.alike;
+  alike = did.alike (λ b. false);
 }
   where
     own : (b : ℕ) → is_own b ≡ true → (run cpu.s did.steps cpu).mem b ≡ cpu.mem b
@@ -115,7 +115,7 @@ part_does Vector cpu half flipped rest enters building more = by (put_by Vector 
         (of_refusal cpu half flipped rest (vector_refuses cpu enters (inl is))
         (subst (λ l. IsBuilding cpu.mem half flipped (l ++ rest)) is building))
     by (byte ∷ bytes) is = of_builds cpu half flipped (put_by Vector cpu) rest (vector_takes cpu half flipped rest enters
-        (let e = ap length is in omega (arith, e)) building more).0
+        (let e = ap length is in omega (arith, e)) building more)
 
 -- what parts do
 record Did (mem : ℕ → ℕ) (calls : Parts) (half : Half) (flipped : Bool) (rest : List ℕ) : Type 0 where
@@ -160,7 +160,7 @@ builds_frame begin stop half flipped first opening closing calls holds opened do
     let whole = length-append (bytes_put calls) halt in
     let began = open_is_taken opening.from begin stop half flipped first (bytes_put calls ++ halt) opened.enters holds
     (omega (arith, whole)) (omega (arith, whole, fits)) in
-    let out = same 0x6924 opening.from.mem opening began.steps opened began.alike began.returns in
+    let out = same 0x6924 opening.from.mem opening began.steps opened (began.alike (λ b. false)) began.returns in
     let start = building_on (run opening.from.s began.steps opening.from).mem (end_of opening).mem half flipped
     (bytes_put calls ++ halt) out.own began.building in
     let goal : goal_in (end_of opening).mem ≡ 0x4000 + 2 * base (other half) =
@@ -169,7 +169,7 @@ builds_frame begin stop half flipped first opening closing calls holds opened do
     let last = building_on (memory_after (end_of opening).mem calls) closing.from.mem half flipped halt closed.untouched
     did.building in
     let ends = close_takes closing.from half flipped closed.enters last in
-    let shut = same 0x6A00 (memory_after (end_of opening).mem calls) closing ends.steps closed ends.alike ends.returns in
+    let shut = same 0x6A00 (memory_after (end_of opening).mem calls) closing ends.steps closed (ends.alike (λ b. false)) ends.returns in
     let there : goal_in closing.from.mem ≡ goal_in (end_of opening).mem + length (bytes_put calls) =
     goal_on (memory_after (end_of opening).mem calls) closing.from.mem closed.untouched ∙ did.goes_on in (
       ap (λ l. seen l ++ (seen_of calls ++ seen (end_of opening).log)) shut.log

@@ -1,6 +1,6 @@
 -- Frames that a program builds, by dvg_open, dvg_put, dvg_pair, dvg_labs, dvg_vector and dvg_close.
 use Rattle.std.specs.Prelude.{◌≡◌, ◌≢◌, ℕ, suc, ◌+◌, ◌-◌, ◌*◌, ◌%◌, ◌<◌, ◌≤◌, Bool, true, false, not, List, [], ◌∷◌}
-use Rattle.std.specs.Prelude.{◌++◌, length, ◌⊎◌, All, Some, ◌/◌, nat_eq}
+use Rattle.std.specs.Prelude.{◌++◌, length, ◌⊎◌, ◌||◌, ◌&&◌, All, Some, ◌/◌, nat_eq}
 use Rattle.dvg_code.specs.declared.instr.Instr.TheVariants.{Labs}
 use Rattle.dvg_code.specs.Acts.{Moves, act_of}
 use Rattle.dvg_frame.specs.declared.op.OpKind.{OpKind}
@@ -13,7 +13,7 @@ use Rattle.dvg_driver.specs.declared.action.Action.TheVariants.{Wrote}
 use Rattle.dvg_driver.specs.Script.{Item, Did, word_zero}
 use Rattle.dvg_driver.specs.Place.{Resting, Writing, place_of_life}
 use Rattle.dvg_frame.specs.Bytes.{addressed}
-use Rattle.dvg_6502.specs.Amid.{ComesOut, guards, is_kept_building, is_work}
+use Rattle.dvg_6502.specs.Amid.{ComesOut, guards, is_kept, is_work}
 use Rattle.dvg_6502.specs.Calls.{AreShown}
 use Rattle.dvg_6502.specs.Processor.{Cpu, Access, Writes, run, at_return, stack_place}
 use Rattle.dvg_6502.specs.Code.{dvg_ticks, dvg_tick, dvg_open, dvg_put, dvg_pair, dvg_labs, dvg_vector, dvg_close}
@@ -39,8 +39,19 @@ abbrev pub written : ℕ → List ℕ → List Access
 written a [] = []
 written a (byte ∷ bytes) = written (suc a) bytes ++ Writes a byte ∷ []
 
+-- of dvg_y, dvg_x, left and length, what a call from this entry may change: dvg_put and dvg_pair nothing, dvg_labs the
+-- high bytes of dvg_y and dvg_x
+abbrev pub is_changed : (entry b : ℕ) → Bool
+is_changed entry b =
+    (nat_eq entry dvg_labs && (nat_eq b 0x1C || nat_eq b 0x1E)) || (nat_eq entry dvg_vector && is_work b)
+
+-- but for the driver's bytes, these, and the vector RAM, memory is as it was
+abbrev pub Spares : (changed : ℕ → Bool) (before now : ℕ → ℕ) → Type 0
+Spares changed before now =
+    (b : ℕ) → is_own b ≡ false → changed b ≡ false → is_ram b ≡ false → now b ≡ before b
+
 -- the call returns with C clear and S as it was, it has written these bytes where the frame goes on, and these are left;
--- the same amid others
+-- it spares all else; the same amid others, and what else they leave alone is as without them
 pub record Builds (cpu : Cpu) (half : Half) (flipped : Bool) (now rest : List ℕ) : Type 0 where
   pub steps : ℕ
   pub returns : at_return cpu.s (run cpu.s steps cpu) ≡ true
@@ -49,7 +60,8 @@ pub record Builds (cpu : Cpu) (half : Half) (flipped : Bool) (now rest : List �
   pub goes_on : goal_in (run cpu.s steps cpu).mem ≡ goal_in cpu.mem + length now
   pub building : IsBuilding (run cpu.s steps cpu).mem half flipped rest
   pub loaded : IsLoaded (run cpu.s steps cpu).mem
-  pub alike : ComesOut (guards is_kept_building cpu.s) cpu
+  pub kept : Spares (is_changed cpu.pc) cpu.mem (run cpu.s steps cpu).mem
+  pub alike : (also : ℕ → Bool) → ComesOut (guards (is_kept also) cpu.s) cpu
 
 -- where a frame is being built, dvg_put puts the word of A and X, if there is room for it and the HALT
 abbrev pub PutTakes : Type 0
@@ -69,24 +81,21 @@ LabsTakes = (cpu : Cpu) (half : Half) (flipped : Bool) (rest : List ℕ) → Ent
     → let now = cpu.mem 0x1B ∷ (0xA0 + cpu.mem 0x1C % 16) ∷ cpu.mem 0x1D ∷ (16 * (cpu.a / 16) + cpu.mem 0x1E % 16) ∷ [] in
     IsBuilding cpu.mem half flipped (now ++ rest) → 2 ≤ length rest → Builds cpu half flipped now rest
 
--- dvg_vector puts the vector of dvg_x and dvg_y, each of -1023 to 1023; A is 16 times the scale, of 0 to 9, and the intensity;
--- of memory it changes at most the driver's bytes, dvg_y, dvg_x, left, length, and the vector RAM
+-- dvg_vector puts the vector of dvg_x and dvg_y, each of -1023 to 1023; A is 16 times the scale, of 0 to 9, and the intensity
 abbrev pub VectorTakes : Type 0
 VectorTakes = (cpu : Cpu) (half : Half) (flipped : Bool) (rest : List ℕ) → Enters cpu dvg_vector
     → let now = put_by Vector cpu in
-    1 ≤ length now → IsBuilding cpu.mem half flipped (now ++ rest) → 2 ≤ length rest
-    → (did : Builds cpu half flipped now rest) × ((b : ℕ) → is_own b ≡ false → is_work b ≡ false → is_ram b ≡ false
-    → (run cpu.s did.steps cpu).mem b ≡ cpu.mem b)
+    1 ≤ length now → IsBuilding cpu.mem half flipped (now ++ rest) → 2 ≤ length rest → Builds cpu half flipped now rest
 
 -- the call returns with C set and S as it was, touches no hardware, and changes of memory at most dvg_y, dvg_x, left and
--- length; the same amid others
+-- length; the same amid others, and what else they leave alone is as without them
 pub record IsRefused (cpu : Cpu) : Type 0 where
   pub steps : ℕ
   pub returns : at_return cpu.s (run cpu.s steps cpu) ≡ true
   pub carry : (run cpu.s steps cpu).c ≡ true
   pub shows : seen (run cpu.s steps cpu).log ≡ []
   pub kept : (b : ℕ) → is_work b ≡ false → (run cpu.s steps cpu).mem b ≡ cpu.mem b
-  pub alike : ComesOut (guards is_kept_building cpu.s) cpu
+  pub alike : (also : ℕ → Bool) → ComesOut (guards (is_kept also) cpu.s) cpu
 
 -- there is no room for so many bytes and the HALT
 abbrev pub HasNoRoom : (ℕ → ℕ) → ℕ → Type 0
@@ -100,7 +109,8 @@ VectorRefuses = (cpu : Cpu) → Enters cpu dvg_vector
     → IsRefused cpu
 
 -- the call returns with C clear and S as it was, and touches no hardware; a frame of these bytes is begun in the free
--- half; the same amid others
+-- half; but for the driver's bytes, memory is as it was; the same amid others, and what else they leave alone is as
+-- without them
 pub record Opens (cpu : Cpu) (half : Half) (flipped : Bool) (rest : List ℕ) : Type 0 where
   pub steps : ℕ
   pub returns : at_return cpu.s (run cpu.s steps cpu) ≡ true
@@ -109,7 +119,8 @@ pub record Opens (cpu : Cpu) (half : Half) (flipped : Bool) (rest : List ℕ) : 
   pub begins : goal_in (run cpu.s steps cpu).mem ≡ 0x4000 + 2 * base (other half)
   pub building : IsBuilding (run cpu.s steps cpu).mem half flipped rest
   pub loaded : IsLoaded (run cpu.s steps cpu).mem
-  pub alike : ComesOut (guards is_kept_building cpu.s) cpu
+  pub kept : (b : ℕ) → is_own b ≡ false → (run cpu.s steps cpu).mem b ≡ cpu.mem b
+  pub alike : (also : ℕ → Bool) → ComesOut (guards (is_kept also) cpu.s) cpu
 
 -- where the driver rests, dvg_open begins a frame, whatever it will be: at most 510 words and the HALT
 abbrev pub OpenTakes : Type 0
@@ -117,7 +128,8 @@ OpenTakes = (cpu : Cpu) (begin stop : ℕ) (half : Half) (flipped first : Bool) 
     → Holds cpu.mem begin stop (record { place = Resting first; half = half; flipped = flipped })
     → 2 ≤ length rest → length rest ≤ 1022 → Opens cpu half flipped rest
 
--- the call returns with C clear and S as it was, it has written the HALT, and word zero is to come; the same amid others
+-- the call returns with C clear and S as it was, it has written the HALT, and word zero is to come; it spares all else;
+-- the same amid others, and what else they leave alone is as without them
 pub record Closes (cpu : Cpu) (half : Half) (flipped : Bool) : Type 0 where
   pub steps : ℕ
   pub returns : at_return cpu.s (run cpu.s steps cpu) ≡ true
@@ -126,7 +138,8 @@ pub record Closes (cpu : Cpu) (half : Half) (flipped : Bool) : Type 0 where
   pub holds : (begin stop : ℕ) → Holds (run cpu.s steps cpu).mem begin stop
       (record { place = Writing (word_zero (other half) (not flipped)); half = half; flipped = flipped })
   pub loaded : IsLoaded (run cpu.s steps cpu).mem
-  pub alike : ComesOut (guards is_kept_building cpu.s) cpu
+  pub kept : Spares (λ b. false) cpu.mem (run cpu.s steps cpu).mem
+  pub alike : (also : ℕ → Bool) → ComesOut (guards (is_kept also) cpu.s) cpu
 
 -- dvg_close ends the frame, of which the HALT alone is to come
 abbrev pub CloseTakes : Type 0

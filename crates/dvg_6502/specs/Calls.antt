@@ -7,10 +7,10 @@ use Rattle.dvg_frame.specs.declared.op.OpKind.{OpKind}
 use Rattle.dvg_frame.specs.Bytes.{bytes}
 use Rattle.dvg_frame.specs.Layout.{laid}
 use Rattle.dvg_driver.specs.Script.{Item, Offered, Asked, Did, IsLife, IsWhole, has_flip}
-use Rattle.dvg_6502.specs.Processor.{Cpu, Access, at_return}
+use Rattle.dvg_6502.specs.Processor.{Cpu, Access, at_return, stack_place}
 use Rattle.dvg_6502.specs.Amid.{amid, AreHarmless, guards, is_kept, is_code}
 use Rattle.dvg_6502.specs.Code.{dvg_reset, dvg_tick, dvg_ticks, dvg_run, dvg_offer, dvg_redraw, dvg_open, dvg_close}
-use Rattle.dvg_6502.specs.Board.{seen, is_own, is_ram, byte1_place, phase_in}
+use Rattle.dvg_6502.specs.Board.{seen, is_own, is_ram, is_hardware, byte1_place, phase_in}
 use Rattle.dvg_6502.specs.Tables.{HasTable, table_of}
 use Rattle.dvg_6502.specs.Routines.{Enters, Shows, Part, Put, Pair, begins, put_by}
 
@@ -253,9 +253,20 @@ abbrev pub RedrawAnswers : Type 0
 RedrawAnswers = (life : List Item) → (IsAnswered Redraw false life → (has_flip life ≡ true) × IsWhole life)
     × (IsAnswered Redraw true life → has_flip life ≡ true → ¬ IsWhole life)
 
--- a call of dvg_ticks returns, as long as it is in a session after each number of steps; its count is 0 then
+-- a byte that dvg_ticks may change: the driver's, its count, the hardware, and two of the stack below S
+abbrev pub is_ticked : (s b : ℕ) → Bool
+is_ticked s b = is_own b || (nat_eq b 0x1F || (is_hardware b || (nat_eq b (stack_place s) || nat_eq b (stack_place (s + 255)))))
+
+-- it leaves each other byte as it was, if those who interrupt it do so
+abbrev pub SparesTicked : Call → Type 0
+SparesTicked call = (b : ℕ) → is_ticked call.from.s b ≡ false
+    → AreHarmless (λ now k. nat_eq k b) call.from.s call.others call.steps call.from
+    → (after call).mem b ≡ call.from.mem b
+
+-- a call of dvg_ticks returns, as long as it is in a session after each number of steps; its count is 0 then, and the
+-- rest of memory is spared
 abbrev pub TicksReturn : Type 0
 TicksReturn = (from : Cpu) (others : ℕ → ℕ → ℕ) (calls : List Call)
-    → ((n : ℕ) → IsSession (record { routine = Ticks; from = from; steps = n; others = others } ∷ calls))
-    → (n : ℕ) × (has_returned (record { routine = Ticks; from = from; steps = n; others = others }) ≡ true)
-    × ((after (record { routine = Ticks; from = from; steps = n; others = others })).mem 0x1F ≡ 0)
+    → ((n : ℕ) → IsSession (call_of Ticks from n others ∷ calls))
+    → (n : ℕ) × (has_returned (call_of Ticks from n others) ≡ true)
+    × ((after (call_of Ticks from n others)).mem 0x1F ≡ 0) × SparesTicked (call_of Ticks from n others)
