@@ -13,3 +13,4 @@ pub mod Standing
 pub mod Contradicting
 pub mod Taking
 pub mod Torn
+pub mod TornRun

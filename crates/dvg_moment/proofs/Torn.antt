@@ -41,9 +41,6 @@ no_moment (a ∷ b ∷ since) moment e s r =
 pub torn_run : IsTorn torn
 torn_run = ((λ e. none-some _ (sym e)), λ m. no_moment m.0 m.1 m.2.split m.2.read_before m.2.read_since)
 
-pub some_run_is_torn : (log : Log) × IsTorn log
-some_run_is_torn = (torn, torn_run)
-
 -- where byte 2 alone is written, and bytes 4 and 5 are read, the moment is before that
 pub late_of_one : OfOneMoment told ((Fetch ⟼ Done 2 0xB000 []) ∷ written)
 late_of_one = (

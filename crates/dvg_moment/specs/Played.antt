@@ -14,7 +14,7 @@ use Rattle.dvg_log.specs.declared.entry.Entry.TheVariants.{Started, NoStrobe, Do
 use Rattle.dvg_log.specs.Log.{◌⟼◌, Log, Throughout, ram, history, open_run}
 use Rattle.dvg_log.specs.Legal.{Fits}
 use Rattle.dvg_theorem.specs.Law.{Finishes}
-use Rattle.dvg_moment.specs.Moment.{Known, stands, told, Contradicts, Changes, IsMoment}
+use Rattle.dvg_moment.specs.Moment.{Known, stands, told, Contradicts, Changes, IsMoment, IsOfOneMoment}
 
 -- the generator fetches what is in memory then; what the driver does, and when strobes arrive, is left open
 abbrev pub IsPlayed : List ℕ → List ℕ → Log → Happening → Shown → Type 0
@@ -76,3 +76,8 @@ StoodThen R image log event (Done address word drew) = (fetches : List (ℕ × �
     → HasMoment image ((event ⟼ Done address word drew) ∷ log) (λ moment.
     AllByRecursion (λ fetch. fetched (ram image moment) R fetch.0 ≡ Some fetch.1) ((address, word) ∷ fetches))
 StoodThen R image log event entry = Unit {0}
+
+-- over each ROM a generator makes a log in which a run comes to its HALT and is of no moment, also by what is told
+abbrev pub SomeRunIsTorn : Type 0
+SomeRunIsTorn = (R : List ℕ) → (image : List ℕ) × (log : Log) × IsImage image × Throughout (IsPlayed R image) log
+    × (¬ Throughout (IsOfOneMoment (stands image)) log) × ¬ Throughout (IsOfOneMoment told) log

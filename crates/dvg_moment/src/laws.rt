@@ -1,10 +1,8 @@
 //! Laws of the definitions alone. Each is the contract of a function that does nothing.
 ghost use Rattle.dvg_log.specs.Legal.{Always};
-ghost use Rattle.dvg_log.specs.Log.{Log};
-ghost use Rattle.dvg_moment.specs.Judging.{IsTorn};
 ghost use Rattle.dvg_moment.specs.Moment.{IsOfOneMoment, stands, told};
 ghost use Rattle.dvg_moment.specs.Played.{DrawsTheMoment, DrewAMoment, ErrsUntold};
-ghost use Rattle.dvg_moment.specs.Played.{IsPlayed, NeverContradicts, StoodThen};
+ghost use Rattle.dvg_moment.specs.Played.{IsPlayed, NeverContradicts, SomeRunIsTorn, StoodThen};
 
 /// In every legal log each run that reaches HALT is of one moment: there is a moment of the run
 /// such that no byte which the run reads changes between that moment and its reading. `world` says
@@ -56,7 +54,9 @@ pub fn errs_untold()
     ensures { ErrsUntold }
 {}
 
-/// There is a log whose open run is torn.
+/// Over each ROM there is a log in which the generator fetches what is in memory then, and a run
+/// comes to its HALT that is of no moment: neither where memory is known, nor by what the log alone
+/// tells. So the premise of `draws_the_moment` and of `told_is_enough` asks for something.
 pub fn some_run_is_torn()
-    ensures { (log : Log) × IsTorn log }
+    ensures { SomeRunIsTorn }
 {}

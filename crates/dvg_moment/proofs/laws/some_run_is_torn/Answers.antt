@@ -1,4 +1,4 @@
-use Rattle.dvg_moment.proofs.Torn.{some_run_is_torn}
+use Rattle.dvg_moment.proofs.TornRun.{some_run_is_torn}
 use Rattle.dvg_moment.proofs.laws.some_run_is_torn.Goals as goal
 
 pub returns : goal.returns
