@@ -8,7 +8,7 @@
 import { execFileSync, spawnSync } from 'node:child_process';
 import { existsSync, readFileSync, readdirSync, statSync, writeFileSync } from 'node:fs';
 import { createServer } from 'node:http';
-import { startChromium } from './page_chromium.mjs';
+import { comesTo, startChromium } from './page_chromium.mjs';
 import { DROP_LONG_LOG, MOVE_OVER_IT, movesText } from './page_long.mjs';
 import { LESSONS } from '../page/src/lessons.mjs';
 
@@ -18,14 +18,25 @@ const top = new URL('..', import.meta.url).pathname;
 const file = `${top}page/dvg.html`, address = `file://${file}`;
 let passed = 0, failed = 0;
 
+function fits(wanted, found) {
+  return wanted instanceof RegExp ? wanted.test(found) : wanted === found;
+}
+
 function expect(what, wanted, found) {
-  const fits = wanted instanceof RegExp ? wanted.test(found) : wanted === found;
-  if (fits) passed++;
+  if (fits(wanted, found)) passed++;
   else {
     failed++;
     const [left, right] = [wanted, found].map((one) => String(one).slice(0, 200));
     console.log(`FAILED: ${what}\n  wanted ${left}\n  found  ${right}`);
   }
+}
+
+// What a page comes to show after a change that it isn't asked for at once: another size, a frame of
+// an animation. It is looked at again until it fits.
+async function expectSoon(what, wanted, look) {
+  let found;
+  await comesTo(async () => fits(wanted, found = await look()));
+  expect(what, wanted, found);
 }
 
 function runProgram(args, input) {
@@ -56,9 +67,21 @@ const VERDICTS = {
 let browser, tab;
 const asked = [];
 
+// Keeps which texts these parts of a page had, one after the other: a step of the tour may have gone
+// by before it is looked at.
+const KEEP_TEXTS = `addEventListener('DOMContentLoaded', () => {
+  window.texts = {};
+  for (const id of ['tour-title', 'run']) {
+    const part = document.getElementById(id), texts = window.texts[id] = [];
+    const keep = () => { if (texts.at(-1) !== part.textContent) texts.push(part.textContent); };
+    if (part) new MutationObserver(keep).observe(part, { childList: true });
+  }
+})`;
+
 // A new tab, in which what is grey is looked at after each thing that is done.
 async function openTab() {
   const opened = await browser.newTab();
+  await opened.send('Page.addScriptToEvaluateOnNewDocument', { source: KEEP_TEXTS });
   for (const name of ['click', 'choose', 'type', 'drop']) {
     opened[name] = (...words) => doAsked(name, ...words);
   }
@@ -173,9 +196,7 @@ function isSaved(name) {
 
 // The text of a file that the page has saved.
 async function taken(name) {
-  for (let k = 0; k < 400 && !isSaved(name); k++) {
-    await new Promise((resolve) => { setTimeout(resolve, 25); });
-  }
+  await comesTo(() => isSaved(name));
   const text = readFileSync(`${work}/${name}`, 'utf8');
   execFileSync('rm', [`${work}/${name}`]);
   return text;
@@ -195,15 +216,12 @@ async function testBeginning() {
   expect('so say both verdicts', VERDICTS.whole, await verdicts());
   for (const width of [1500, 700, 1280]) {
     await tab.size(width, 1000);
-    await tab.settle();
-    expect(`${width} pixels, made so: it is seen`, true, (await tab.value(REDS)).blue > 100);
+    await expectSoon(`${width} pixels, made so: it is seen`, true, isSeen);
   }
   for (const width of [1280, 1500, 1600]) {
     await tab.size(width, 1000);
     await openPage();
-    await tab.settle();
-    expect(`${width} pixels from the beginning: it is seen`, true,
-      (await tab.value(REDS)).blue > 100);
+    await expectSoon(`${width} pixels from the beginning: it is seen`, true, isSeen);
   }
 }
 
@@ -211,25 +229,26 @@ async function testBeginning() {
 // and how much of that the page's own thread was at work. Both are printed; only the second is
 // judged, as a busy machine mustn't fail the tests.
 async function testOpening() {
-  await tab.send('Performance.disable');
-  await tab.send('Performance.enable', { timeDomain: 'threadTicks' });
   const clock = [], work = [];
   for (let k = 0; k < 7; k++) {
     await tab.send('Page.navigate', { url: 'about:blank' });
-    const before = await taskTime();
-    await tab.open(address);
-    work.push(Math.round(await taskTime() - before));
+    work.push(Math.round(await workOf(() => tab.open(address))));
     clock.push(Number(await tab.value('document.body.dataset.opened')));
   }
-  await tab.send('Performance.disable');
-  await tab.send('Performance.enable');
   for (const times of [clock, work]) times.sort((a, b) => a - b);
   console.log(`browser: the page opens in ${clock[0]} to ${clock[6]} ms, ${clock[3]} at the `
     + `median; its thread works ${work[0]} to ${work[6]} ms of that, and a little after`);
   expect('the thread of the page works less than 300 ms until it is open', true, work[3] <= 300);
 }
 
-// How long the page's thread was at work so far, in milliseconds.
+// How long the page's thread is at work while something is done, in milliseconds: by the time that
+// it gets of a processor, not by the clock.
+async function workOf(act) {
+  const before = await taskTime();
+  await act();
+  return await taskTime() - before;
+}
+
 async function taskTime() {
   const { metrics } = await tab.send('Performance.getMetrics');
   return 1000 * metrics.find(({ name }) => name === 'TaskDuration').value;
@@ -306,12 +325,7 @@ async function testSketches() {
   expect('its ROM is that of the board', /^2048 bytes$/, await tab.text('rom-said'));
   const drawn = () => tab.value('document.querySelector("#A .preview").toDataURL()');
   const first = await drawn();
-  let moved = false;
-  for (let k = 0; k < 40 && !moved; k++) {
-    await new Promise((resolve) => { setTimeout(resolve, 50); });
-    moved = first !== await drawn();
-  }
-  expect('it is drawn in turn', true, moved);
+  await expectSoon('it is drawn in turn', true, async () => first !== await drawn());
   await tab.click('once');
   await tab.click('compare');
   expect('and offered in turn', /^the same/, await tab.text('compared'));
@@ -436,6 +450,11 @@ const REDS = `(() => {
   return { red, blue, yellow };
 })()`;
 
+// Whether there is a picture.
+async function isSeen() {
+  return (await tab.value(REDS)).blue > 100;
+}
+
 async function testCutWire() {
   await tab.media({ 'color-scheme': 'dark' });
   await tab.size(1280, 900);
@@ -499,9 +518,7 @@ async function testRunning() {
   await set('count', 4000);
   await tab.choose('how', 'chance');
   await tab.click('run');
-  expect('it runs', 'Stop', await tab.text('run'));
-  expect('it ends',
-    true, await tab.until('document.getElementById("run").textContent === "Run"', 30000));
+  await expectSoon('it runs, and ends', /(^|,)Stop,Run$/, () => tab.value('window.texts.run.join()'));
   expect('after as many events', /^event 4000 /, await tab.text('counts'));
   await tab.click('compare');
   expect('the log is that of play', /^the same: 4000 events/, await tab.text('compared'));
@@ -638,7 +655,7 @@ async function testLogShown(name, log) {
     (text) => /torn|drew/.test(text)).length);
   expect(`${name}: its rows have the focus`, 'rows',
     await tab.value('document.activeElement.id'));
-  expect(`${name}: in view`, '', await outOfView(SEEN_AT_ONCE));
+  await expectInView(`${name}: in view`);
   const [, line] = /line ([0-9]+)/.exec(said[0]) ?? [];
   if (line) expect(`${name}: the torn line is shown`, true,
     (await tab.text('moment-text')).includes(`line ${line}: wrote`));
@@ -647,28 +664,24 @@ async function testLogShown(name, log) {
 }
 
 // A log of 100,000 events: how long it is from one frame to the next while one drags, turns a wheel
-// or holds a key; and what a step back takes of the page's own script.
+// or holds a key, which is printed; and how much the page's thread works for that and for a step
+// back, which is judged.
 async function testLongLog() {
   await openPage();
   await tab.value(DROP_LONG_LOG);
-  expect('a long log is judged', true, await comesWith('judged', 'not torn: '));
+  expect('a long log opens', true, await comesWith('file-title', 'The log long.log'));
+  expect('it is judged', NOT_TORN, await tab.text('judged'));
   expect('by moments, too', VERDICTS.whole, await verdicts());
-  const before = await taskTime(), moves = await tab.value(MOVE_OVER_IT);
-  const task = (await taskTime() - before) / 360;
-  const walk = await tab.value(`(() => {
-    const begin = performance.now();
-    for (let k = 0; k < 50; k++) document.getElementById('back').click();
-    return (performance.now() - begin) / 50;
-  })()`);
-  console.log(`browser: ${movesText(moves)}; of the main thread each takes ${task.toFixed(1)} ms `
-    + `on average, with layout and paint; a step back ${walk.toFixed(1)} ms`);
+  let moves;
+  const task = await workOf(async () => { moves = await tab.value(MOVE_OVER_IT); }) / 360;
+  const walk = await workOf(() => tab.value(
+    'for (let k = 0; k < 50; k++) document.getElementById("back").click()')) / 50;
+  console.log(`browser: ${movesText(moves)}; the page's thread works ${task.toFixed(1)} ms for each `
+    + `on average, with layout and paint; ${walk.toFixed(1)} ms for a step back`);
   expect('a wheel moves the rows', true, moves.moved > 1000);
   expect('and they are drawn anew', true, moves.drawn);
-  for (const name of ['drag', 'wheel', 'key']) {
-    expect(`a frame by ${name} takes less than ten times 17 ms`, true, moves[name][59] <= 170);
-  }
   expect('a frame works less than ten times 8 ms', true, task <= 80);
-  expect('a step back takes less than ten times 30 ms', true, walk <= 300);
+  expect('a step back works less than ten times 30 ms', true, walk <= 300);
 }
 
 // --- Over http, and what leaves the page ---
@@ -747,6 +760,12 @@ function outOfView(selectors) {
 }
 
 const SEEN_AT_ONCE = ['#screen', '#rows', '#run', '#wire', '#verdict', '#moment-text'];
+
+// What is always in view is, and so are these parts.
+function expectInView(what, ...more) {
+  return expectSoon(what, '', () => outOfView([...SEEN_AT_ONCE, ...more]));
+}
+
 const SIZES = [[400, 800], [800, 900], [1280, 900], [1920, 1080]];
 
 async function testInView() {
@@ -754,43 +773,49 @@ async function testInView() {
     const what = `${width} by ${height}`;
     await tab.size(width, height, width === 400);
     await tab.open(address);
-    expect(`${what}: the tour in view`, '',
-      await outOfView([...SEEN_AT_ONCE, '#tour-title', '#tour-text', '#tour-end']));
+    await expectInView(`${what}: the tour in view`, '#tour-title', '#tour-text', '#tour-end');
     await openPage();
-    expect(`${what}: in view`, '', await outOfView(SEEN_AT_ONCE));
+    await expectInView(`${what}: in view`);
     writeFileSync(`${work}/page_${width}_first.png`, await tab.screenshot());
     for (const id of ['wire', 'once', 'moments-go']) await tab.click(id);
     await tab.value('scrollTo(0, 0)');
-    expect(`${what}: a torn picture in view`, '',
-      await outOfView([...SEEN_AT_ONCE, ...(width < 1280 ? ['#tear-title'] : ['#tear-text'])]));
+    await expectInView(`${what}: a torn picture in view`,
+      width < 1280 ? '#tear-title' : '#tear-text');
     writeFileSync(`${work}/page_${width}.png`, await tab.screenshot());
     for (let k = 1; k <= LESSONS.length; k++) {
       await tab.value('scrollTo(0, 0)');
       await tab.value(`document.querySelector('#lessons li:nth-child(${k}) a').click()`);
       await comesWith('lesson-title', `${k}. `);
       const text = width < 1280 ? ['#lesson-title'] : ['#lesson-title', '#lesson-text'];
-      expect(`${what}: lesson ${k} in view`, '', await outOfView([...SEEN_AT_ONCE, ...text]));
+      await expectInView(`${what}: lesson ${k} in view`, ...text);
     }
     writeFileSync(`${work}/page_${width}_lesson.png`, await tab.screenshot());
     await tab.drop('screen', `${top}examples/logs/tears.log`);
     await comesWith('file-title', 'The log tears.log');
-    expect(`${what}: a log in view`, '', await outOfView([...SEEN_AT_ONCE, '#file-title']));
+    await expectInView(`${what}: a log in view`, '#file-title');
     writeFileSync(`${work}/page_${width}_log.png`, await tab.screenshot());
   }
   await tab.size(400, 800, true);
   await openPage();
   await tab.value('document.getElementById("memory").scrollIntoView()');
-  expect('on a phone all that stays, however far one scrolls', '', await outOfView(SEEN_AT_ONCE));
+  await expectInView('on a phone all that stays, however far one scrolls');
   await tab.size(1600, 1000);
 }
 
 // What is grey says why in view, once its button is: of a recording, a draft with a fault, a run,
 // and a board with as many events as it holds.
+async function runSlowly() {
+  await tab.value(`(() => {
+    document.getElementById('speed').value = 0;
+    document.getElementById('run').click();
+  })()`);
+}
+
 async function testGrey() {
   const states = {
     recording: () => tab.drop('screen', `${top}examples/logs/waits.log`),
     fault: async () => { await openPage(); await set('textA', 'vctr 1'); },
-    run: async () => { await openPage(); await tab.click('run'); },
+    run: async () => { await openPage(); await runSlowly(); },
     full: async () => { await openPage(); await set('count', 65536); await tab.click('once'); },
   };
   for (const [width, height] of SIZES) {
@@ -809,8 +834,8 @@ async function testGrey() {
           one.scrollIntoView({ block: 'center' });
           return '#' + one.getAttribute('aria-describedby');
         })()`);
-        expect(`${width} pixels, ${state}: why ${id} is grey is in view`, '',
-          await outOfView([why]));
+        await expectSoon(`${width} pixels, ${state}: why ${id} is grey is in view`, '',
+          () => outOfView([why]));
       }
     }
   }
@@ -858,22 +883,20 @@ async function testCode() {
 
 // --- The tour, and what a tear is ---
 
-// Whether the tour comes to a step, which takes some seconds.
-function comesInTour(title) {
-  return tab.until(`document.getElementById('tour-title').textContent === '${title}'`, 90000);
+// Which steps the tour comes to, up to this one, which takes some seconds.
+function expectTour(what, ...titles) {
+  return expectSoon(what, titles.join(), () => tab.value('window.texts["tour-title"].join()'));
 }
 
 async function testTour() {
   await tab.size(1280, 900);
   await tab.media({ 'color-scheme': 'dark' });
   await tab.open(address);
-  expect('the tour begins by itself', '1 of 3: Whole', await tab.text('tour-title'));
   const early = await tab.text('counts');
-  await new Promise((resolve) => { setTimeout(resolve, 500); });
-  expect('and it moves', true, early !== await tab.text('counts'));
-  expect('then the wire is cut', true, await comesInTour('2 of 3: Cut'));
+  await expectSoon('it moves', true, async () => early !== await tab.text('counts'));
+  await expectTour('the tour begins by itself, then the wire is cut, and a picture is torn',
+    '1 of 3: Whole', '2 of 3: Cut', '3 of 3: Torn');
   expect('so says its button', 'Mend the HALT wire', await tab.text('wire'));
-  expect('and a picture is torn', true, await comesInTour('3 of 3: Torn'));
   expect('so say both verdicts', VERDICTS.torn, await verdicts());
   expect('the run has ended', 'Run', await tab.text('run'));
   expect('what the colours and the ring mean is said',
@@ -890,7 +913,7 @@ async function testTour() {
     const lit = await tab.value(LIT.replace('ID', id));
     expect(`the frame of ${id} is drawn`, true, lit > 200);
   }
-  expect('all of it in view', '', await outOfView([...SEEN_AT_ONCE, '#tear-text', '#next']));
+  await expectInView('all of it in view', '#tear-text', '#next');
   writeFileSync(`${work}/page_torn.png`, await tab.screenshot());
   await tab.click('tear-go');
   expect('the byte is shown', /into the half that is being drawn, and it shows\.$/,
@@ -899,7 +922,8 @@ async function testTour() {
   await tab.click('tear-back');
   expect('and the picture again', /: done /, await tab.text('moment-text'));
   await tab.click('tour-again');
-  expect('once more', '1 of 3: Whole', await tab.text('tour-title'));
+  expect('once more', /^1 of 3: Whole,2 of 3: Cut,3 of 3: Torn,1 of 3: Whole/,
+    await tab.value('window.texts["tour-title"].join()'));
   await tab.click('tour-end');
   expect('skipped, it rests', 'Run/event 2600 ',
     `${await tab.text('run')}/${(await tab.text('counts')).slice(0, 11)}`);
@@ -1044,8 +1068,8 @@ async function testRows() {
   await tab.click('now');
   const { left: x, top: at } = await tab.middle('memory');
   await tab.mouse('mouseMoved', x + 3, at + 22);
-  expect('a word under the pointer', /^Word 000, word zero: E[0-9A-F]{3}, JMPL/,
-    await tab.text('word-text'));
+  await expectSoon('a word under the pointer', /^Word 000, word zero: E[0-9A-F]{3}, JMPL/,
+    () => tab.text('word-text'));
 }
 
 async function testReadAloud() {
@@ -1080,22 +1104,22 @@ async function testSpeed() {
   await set('count', 2000);
   await tab.value('document.getElementById("speed").value = 4');
   await tab.value('document.getElementById("run").scrollIntoView({ block: "center" })');
-  const metrics =
-    async () =>
-    Object.fromEntries((await tab.send('Performance.getMetrics')).metrics
-    .map(({ name, value }) => [name, value]));
   await tab.value('scrollTo(0, 0)');
-  const before = await metrics();
-  await tab.value('document.getElementById("run").click()');
-  expect('it runs to the end',
-    true, await tab.until('document.getElementById("run").textContent === "Run"', 60000));
-  const after = await metrics();
-  const said = await tab.text('frame-time'), [median, most] = said.match(/[0-9.]+/g).map(Number);
-  const task = 1000 * (after.TaskDuration - before.TaskDuration) / 125;
+  await tab.value(`{
+    window.frameCount = 0;
+    const count = () => { window.frameCount++; requestAnimationFrame(count); };
+    count();
+  }`);
+  const task = await workOf(async () => {
+    await tab.value('window.frameCount = 0; document.getElementById("run").click()');
+    expect('it runs to the end', true,
+      await tab.until('document.getElementById("run").textContent === "Run"'));
+  }) / await tab.value('window.frameCount');
+  const [median, most] = (await tab.text('frame-time')).match(/[0-9.]+/g).map(Number);
   console.log(`browser: a frame with 254 strokes and ${events} events takes ${median} ms at the`
-    + ` median, ${most} ms or less in 19 of 20; with layout and paint ${task.toFixed(1)} ms of the`
-    + ' main thread on average');
-  expect('a frame takes less than ten times 8 ms', true, median <= 80);
+    + ` median, ${most} ms or less in 19 of 20; the page's thread works ${task.toFixed(1)} ms for`
+    + ' each on average, with layout and paint');
+  expect('a frame works less than ten times 8 ms', true, task <= 80);
 }
 
 const tests = {

@@ -4,7 +4,17 @@ import { mkdtempSync, rmSync } from 'node:fs';
 import { tmpdir } from 'node:os';
 import { join } from 'node:path';
 
-const WAIT = 30000;
+// How long something is waited for, in milliseconds: long, as a machine may be busy.
+const WAIT = 120000;
+
+// Looks again and again until something holds; whether it came to that.
+export async function comesTo(look, most = WAIT) {
+  for (const end = Date.now() + most; Date.now() < end;) {
+    if (await look()) return true;
+    await new Promise((resolve) => { setTimeout(resolve, 25); });
+  }
+  return false;
+}
 
 // Starts the browser of this name.
 export async function startChromium(name) {
@@ -65,8 +75,9 @@ class Chromium {
     const before = this.heard;
     this.heard = (message) => (message.sessionId === sessionId ? tab.hear(message)
       : before(message));
-    for (const domain of ['Page', 'Runtime', 'Network', 'Log',
-      'Performance']) await tab.send(`${domain}.enable`);
+    for (const domain of ['Page', 'Runtime', 'Network', 'Log']) await tab.send(`${domain}.enable`);
+    // What a thread is measured by is the time that it gets of a processor.
+    await tab.send('Performance.enable', { timeDomain: 'threadTicks' });
     return tab;
   }
 
@@ -129,12 +140,8 @@ class Tab {
   }
 
   // Waits until an expression holds in the page; whether it came to that.
-  async until(expression, most = 15000) {
-    for (const end = Date.now() + most; Date.now() < end;) {
-      if (await this.value(expression)) return true;
-      await new Promise((resolve) => { setTimeout(resolve, 25); });
-    }
-    return false;
+  until(expression) {
+    return comesTo(() => this.value(expression));
   }
 
   async size(width, height = 900, mobile = false) {
@@ -154,13 +161,6 @@ class Tab {
     await this.send('Page.navigate', { url });
     const ready = await this.until('document.body?.dataset.ready === "yes"');
     if (!ready) throw new Error(`${url} is not ready`);
-  }
-
-  // Waits until the page has been laid out and painted.
-  async settle() {
-    await this.value(`new Promise((done) => {
-      requestAnimationFrame(() => requestAnimationFrame(() => setTimeout(done)));
-    })`);
   }
 
   text(id) {

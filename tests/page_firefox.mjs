@@ -11,7 +11,8 @@ import { DROP_LONG_LOG, MOVE_OVER_IT, movesText } from './page_long.mjs';
 
 const [firefox, work] = process.argv.slice(2);
 const address = `file://${new URL('../page/dvg.html', import.meta.url).pathname}`;
-const WAIT = 90000, COLON = 58;
+// How long something is waited for, in milliseconds: long, as a machine may be busy.
+const WAIT = 240000, COLON = 58;
 let passed = 0, failed = 0;
 
 function expect(what, wanted, found) {
@@ -111,6 +112,7 @@ class Firefox {
 
 async function testPage(browser) {
   await browser.send('NewSession', { capabilities: { alwaysMatch: {} } });
+  await browser.send('SetTimeouts', { script: WAIT, pageLoad: WAIT });
   await browser.send('SetWindowRect', { width: 1280, height: 985 });
   const opened = [];
   for (let k = 0; k < 5; k++) {
@@ -135,13 +137,16 @@ async function testPage(browser) {
   }
   expect('the log is that of play', /^the same: 22600 events/, await browser.text('compared'));
   await browser.value(DROP_LONG_LOG);
-  expect('a long log is judged', true,
-    await browser.until('document.getElementById("judged").textContent.startsWith("not torn")'));
+  expect('a long log opens', true,
+    await browser.until('/ long.log/.test(document.getElementById("file-title").textContent)'));
+  expect('it is judged', /^not torn: /, await browser.text('judged'));
   const moves = await browser.later(MOVE_OVER_IT);
   console.log(`firefox: ${movesText(moves)}`);
   expect('a wheel moves the rows', true, moves.moved > 1000);
+  expect('and they are drawn anew', true, moves.drawn);
+  // What it works for is measured in Chromium, whose clock of a thread isn't here.
   for (const name of ['drag', 'wheel', 'key']) {
-    expect(`a frame by ${name} takes less than ten times 17 ms`, true, moves[name][59] <= 170);
+    expect(`a frame by ${name} comes within two seconds`, true, moves[name][59] <= 2000);
   }
 }
 
