@@ -22,9 +22,14 @@ function refuse(text) {
 
 function size(number) { return number < 0 ? -number : number }
 
+function power_of_two(exponent, power) {
+    for (power = 1; exponent > 0; exponent--) power *= 2
+    return power
+}
+
 # The least scale, 1 or more, at which a move of this many units is at most 1,023 long.
 function scale_of(units, scale) {
-    for (scale = 1; scale < 9 && units * 512 / 2 ^ scale > 1023; scale++);
+    for (scale = 1; scale < 9 && units * 512 / power_of_two(scale) > 1023; scale++);
     return scale
 }
 
@@ -35,7 +40,7 @@ function vector(x, y, z, scale, step, dx, dy) {
     dx = x * 512 - at_x
     dy = y * 512 - at_y
     scale = scale_of((size(dx) > size(dy) ? size(dx) : size(dy)) / 512)
-    step = 2 ^ scale
+    step = power_of_two(scale)
     dx = rounded(dx / step)
     dy = rounded(dy / step)
     if (size(dx) > 1023 || size(dy) > 1023) refuse("a move of more than 1,023 units")

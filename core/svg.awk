@@ -16,7 +16,7 @@ BEGIN {
 
 NF == 5 && /^[0-9]/ {
     printf "<path d=\"M%d %dl%d %d\" opacity=\"%s\"/>\n", centred($1), centred($2),
-        centred($3 - $1), centred($4 - $2), $5 < 15 ? "." 5 * ($5 + 5) : "1.0"
+        centred($3 - $1), centred($4 - $2), ($5 < 15 ? "." 5 * ($5 + 5) : "1.0")
 }
 
 END { print "</g>\n</svg>" }

@@ -9,7 +9,11 @@
 # the last one all of it. Of several pictures it is the sum; `-v each=1` gives a last line for each
 # line `picture W N` instead. `dvg render --check` tells the last line of each frame of a sketch.
 
-function microseconds(scale) { return (scale > 9 ? 0 : 2 ^ (scale + 1) * 8 / 12.096) + 4 }
+function microseconds(scale, units) {
+    if (scale > 9) return 4
+    for (units = 2; scale > 0; scale--) units *= 2
+    return units * 8 / 12.096 + 4
+}
 
 function vector(local, scale) {
     scale = (local + global) % 16

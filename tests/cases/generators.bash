@@ -131,6 +131,20 @@ numbered() {
     }'
 }
 
+# Outlines in 16 directions, a name and points each, as an awk with or without sines writes them:
+# `turned 'ship 28,0 -20,16'`.
+turned() {
+    python3 - "$@" <<'EOF'
+import cmath, sys
+for turn in range(16):
+    for name, *points in map(str.split, sys.argv[1:]):
+        places = [complex(*map(int, point.split(","))) for point in points]
+        places = [place * cmath.exp(1j * cmath.pi * turn / 8) for place in places]
+        texts = [f"{place.real:.2f},{place.imag:.2f}" for place in places]
+        print(f"{name}_{turn}: @{' '.join(texts)} @0,0".replace("-0.00", "0.00"))
+EOF
+}
+
 # What `list` says of the first of those vectors, so many, and of all 4,096 short vectors.
 vectors_listed() {
     awk -v count="$1" 'BEGIN {
