@@ -8,8 +8,9 @@ what it doesn't know.
 The cells are computed here, by the meaning that each kind has, over random clocks since power-up of
 dvg_core and of dvg_board. The pins after each clock must be those that Icarus Verilog has, and those of
 Verilator. Some clocks of Icarus Verilog are given to the prover, too, which computes them by the
-definition of the cells: proofs/ClockVectors.antt of both crates must be what is written here. Then texts
-are planted in the Verilog that core/cells must refuse. The last line is 'N passed, M failed'."""
+definition of the cells: proofs/ClockVectors.antt of both crates must be what is written here. A board
+whose pins are made of several wires is computed, too. Then texts are planted in the Verilog that
+core/cells must refuse, each by a line that says why. The last line is 'N passed, M failed'."""
 
 import os
 import random
@@ -241,42 +242,139 @@ def expect_vectors(suite, name, text):
 
 
 # What is planted: the module, what is taken away, what is put there, and what core/cells says of it.
+AFTER, FULL = "wire [11:0] after   = at + 12'd1;", "wire        full    = depth == 3'd4;"
+SHOWS, CLOCK, RESET = "assign halted = !is_open;", "always @(posedge clk)", "input  wire        reset,"
+TAKES, Q = "assign takes = pending && !reset && !starting;", "assign q     = flag ? {ran, 7'b0} : read;"
+CORE, WRITES = ".clk(clk), .reset(reset), .start(starting)", "if (writes) ram[place] <= d;"
 REFUSED = [
     ("dvg_core", "at + 12'd1", "at * 12'd3", "$mul: this kind isn't known"),
     ("dvg_core", "scale + local_scale", "scale ^ local_scale", "$xor: this kind isn't known"),
     ("dvg_core", "depth == 3'd0", "$signed(depth) < $signed(3'd1)", "$lt: a sign"),
-    ("dvg_core", "wire [11:0] after   = at + 12'd1;", "wire [11:0] after = at < 12'd1;", "$lt: widths"),
-    ("dvg_core", "assign halted = !is_open;", "assign halted = !is_open && valid;", "rests on pins"),
+    ("dvg_core", AFTER, "wire [11:0] after = at < 12'd1;", "$lt: widths"),
     ("dvg_core", "s3, scale} = 0;", "s3} = 0; scale = 4'd1;", "scale isn't 0 at power-up"),
     ("dvg_core", "s3, scale} = 0;", "s3} = 0;", "scale isn't 0 at power-up"),
-    ("dvg_core", "always @(posedge clk)", "always @(negedge clk)", "the other edge"),
-    ("dvg_core", "always @(posedge clk)", "always @(posedge start)", "another clock"),
-    ("dvg_core", "always @(posedge clk)", "always @(posedge clk or posedge reset)", "this kind isn't known"),
-    ("dvg_core", "wire [11:0] after   = at + 12'd1;", "wire [11:0] after = after + at;", "a loop of cells"),
+    ("dvg_core", AFTER, "wire [11:0] after = after + at;", "yosys: Warning: found logic loop"),
+    # Clocks
+    ("dvg_core", CLOCK, "always @(negedge clk)", "the other edge"),
+    ("dvg_core", CLOCK, "always @(posedge start)", "another clock"),
+    ("dvg_core", CLOCK, "wire gated = clk && valid;\n    always @(posedge gated)", "another clock"),
+    ("dvg_core", CLOCK, "always @(posedge clk or posedge reset)", "this kind isn't known"),
+    ("dvg_core", CLOCK, "always @(posedge clk or negedge clk)", "yosys: ERROR: Multiple edge"),
+    # Pins
+    ("dvg_core", SHOWS, "assign halted = !is_open && valid;", "the pin halted rests on pins"),
+    ("dvg_core", SHOWS, "assign halted = valid;", "the pin halted rests on pins"),
+    ("dvg_core", SHOWS, "assign halted = !is_open && clk;", "the clock is read"),
+    ("dvg_core", SHOWS, "assign halted = 1'bx;", "a bit that is x"),
+    ("dvg_core", SHOWS, "assign halted = 1'bz;", "a bit that is z"),
+    ("dvg_core", SHOWS, "", "halted is used but has no driver"),
+    ("dvg_core", RESET, f"{RESET}\n    inout  wire        io,", "a pin that is an inout: io"),
+    ("dvg_core", SHOWS, "reg h;\n    always @* if (is_open) h = valid;\n    assign halted = h;",
+     "$dlatch: this kind isn't known"),
+    # Two drivers of a wire
+    ("dvg_core", FULL, f"{FULL}\n    assign full = depth == 3'd5;", "multiple conflicting drivers"),
+    ("dvg_core", FULL, f"{FULL}\n    assign full = 1'b0;", "has another driver"),
+    ("dvg_core", FULL, f"{FULL}\n    assign valid = 1'b1;", "valid is an input, and has another"),
+    ("dvg_core", CLOCK, f"{CLOCK} high <= 1'b0;\n    {CLOCK}", "multiple conflicting drivers"),
+    ("dvg_board", TAKES, f"{TAKES}\n    assign at = a[11:0];", "multiple conflicting drivers"),
+    # Names
+    ("dvg_core", RESET, f"{RESET}\n    input  wire        mux,", "mux has another meaning"),
+    ("dvg_core", RESET, f"{RESET}\n    input  wire        \\a+b ,", "a+b is no name"),
+    # The memory
     ("dvg_board", "reg [7:0] ram [0:2047];", "reg [7:0] ram [0:4095];", "the memory"),
     ("dvg_board", "    initial {read", "    initial ram[5] = 8'd7;\n    initial {read", "$meminit_v2: this kind"),
-    ("dvg_board", "if (writes) ram[place] <= d;", "if (writes) ram[place][3:0] <= d[3:0];", "an enable"),
-    ("dvg_board", "always @(posedge clk)", "always @(negedge clk)", "the other edge"),
+    ("dvg_board", WRITES, "if (writes) ram[place][3:0] <= d[3:0];", "an enable"),
+    ("dvg_board", WRITES, "ram[place] <= d; if (writes) ran <= 1'b0;", "an enable"),
+    ("dvg_board", WRITES, "if (writes) ram[a] <= d;", "$memwr_v2: widths"),
+    ("dvg_board", WRITES, "if (writes) ran <= 1'b0;", "memories: 1, and one is written"),
+    ("dvg_board", WRITES, f"if (looks) ram[a[10:0]] <= 8'd0;\n        {WRITES}", "$memwr_v2: there are 2"),
+    ("dvg_board", CLOCK, "always @(negedge clk)", "the other edge"),
+    # The board
     ("dvg_board", "reset || starting || pending", "reset ^ starting ^ pending", "$xor: this kind"),
+    ("dvg_board", Q, "assign q = read == 8'hxx ? {ran, 7'b0} : read;", "a bit that is x"),
+    ("dvg_board", ".valid(pending)", ".valid(1'bx)", "dvg_core: a bit that is x"),
+    ("dvg_board", CORE, ".clk(a[0]), .reset(reset), .start(starting)", "dvg_core: another clock"),
+    ("dvg_board", CORE, ".clk(clk), .start(starting)", "dvg_core: reset isn't connected"),
+    ("dvg_board", CORE, ".clk(clk), .reset(reset), .begins(starting)", "does not have a port named 'begins'"),
+    ("dvg_board", "dvg_core core (", "other core (", "Module `\\other' referenced"),
+]
+
+# Whole files: the module, the file, its text or None where it is missing, and what core/cells says.
+FILES = [
+    ("dvg_core", "dvg_core", None, "yosys: ERROR: Can't open input file"),
+    ("dvg_board", "dvg_board", None, "yosys: ERROR: Can't open input file"),
+    ("dvg_core", "dvg_core", "// nothing\n", "yosys: ERROR: Module `dvg_core' not found!"),
+    ("dvg_core", "dvg_core", "module dvg_core(; endmodule\n", "ERROR: syntax error"),
+    ("dvg_core", "dvg_core", "module dvg_core(); endmodule\n", "no input clk of one bit"),
+    ("dvg_core", "dvg_core", "module dvg_core(input [1:0] clk); endmodule\n", "no input clk of one bit"),
+    ("dvg_core", "dvg_core", "module dvg_core(input clk); endmodule\n", "no output"),
+    ("dvg_board", "dvg_board", "module dvg_board(); endmodule\n", "the board has no dvg_core"),
 ]
 
 
-def expect_refusals(suite, folder):
-    for number, (module, taken, put, says) in enumerate(REFUSED):
-        copy = f"{folder}/refused{number}"
-        os.makedirs(copy)
-        for name in "dvg_core", "dvg_board":
-            with open(f"{texts.TOP}/core/{name}.v", encoding="utf-8") as source:
-                text = source.read()
-            if name == module:
-                assert text.count(taken) == 1, taken
-                text = text.replace(taken, put)
+def write_files(copy, texts_of):
+    """A folder with the Verilog of core/, but for these texts: None where a file is missing."""
+    os.makedirs(copy)
+    for name, text in texts_of.items():
+        if text is not None:
             with open(f"{copy}/{name}.v", "w", encoding="utf-8") as file:
                 file.write(text)
-        status, said, why = run(CELLS, module, copy)
-        suite.expect(f"{module}: {put}", [
-            ("status", "1", str(status)), ("a definition", "", said[:200]),
-            ("why", says, says if says in why else why[-300:])])
+
+
+def sources():
+    found = {}
+    for name in "dvg_core", "dvg_board":
+        with open(f"{texts.TOP}/core/{name}.v", encoding="utf-8") as source:
+            found[name] = source.read()
+    return found
+
+
+def planted(text, taken, put):
+    assert text.count(taken) == 1, taken
+    return text.replace(taken, put)
+
+
+def expect_refusal(suite, what, says, module, copy, **environment):
+    """core/cells refuses a folder by a last line that says why, and nothing of Python."""
+    ran = subprocess.run([sys.executable, "-B", CELLS, module, copy], stdin=subprocess.DEVNULL,
+                         capture_output=True, text=True, env={**os.environ, **environment})
+    why = ran.stderr.rstrip("\n").rpartition("\n")[2]
+    suite.expect(f"{module}: {what}", [
+        ("status", "1", str(ran.returncode)), ("a definition", "", ran.stdout[:200]),
+        ("how it begins", "cells: ", why[:7]), ("why", says, says if says in why else why[-300:])])
+
+
+def expect_refusals(suite, folder):
+    here = sources()
+    for number, (module, taken, put, says) in enumerate(REFUSED):
+        copy = f"{folder}/refused{number}"
+        write_files(copy, here | {module: planted(here[module], taken, put)})
+        expect_refusal(suite, put, says, module, copy)
+    for number, (module, file, text, says) in enumerate(FILES):
+        copy = f"{folder}/file{number}"
+        write_files(copy, here | {file: text})
+        expect_refusal(suite, f"{file}.v is {text}", says, module, copy)
+    expect_refusal(suite, "no folder", "yosys: ERROR: Can't open", "dvg_core", f"{folder}/none")
+    expect_refusal(suite, "no yosys", "yosys isn't here", "dvg_core", f"{texts.TOP}/core", PATH=folder)
+
+
+# A board whose pin `takes` is a register's, by another name, and whose pin `q` is of several cells.
+PIECES = [
+    (TAKES, "assign takes = pending;"),
+    (Q, "assign q = {flag ? ran : read[7], flag ? 6'd0 : read[6:1], !flag && read[0]};"),
+]
+
+
+def expect_pieces(suite, folder):
+    """The pins of that board by its cells are those of Icarus Verilog."""
+    here, copy = sources(), f"{folder}/pieces"
+    for edit in PIECES:
+        here["dvg_board"] = planted(here["dvg_board"], *edit)
+    write_files(copy, here)
+    core, board = (run(CELLS, name, copy)[1] for name in ("dvg_core", "dvg_board"))
+    bench = f"{texts.TOP}/tests/core_clocks.v"
+    run("iverilog", "-g2005", "-DBOARD", "-o", f"{copy}/icarus", bench, *(f"{copy}/{n}.v" for n in here))
+    expect_clocks(suite, "pins of several wires", Board(board, Core(core)),
+                  [("Icarus", ["vvp", "-n", f"{copy}/icarus"])], copy, 2000)
 
 
 def circuits():
@@ -301,6 +399,7 @@ def main(folder, word="10000"):
         random.seed(1979)
         expect_clocks(suite, name, circuit(), programs, place, int(word))
     if word != "--write":
+        expect_pieces(suite, folder)
         expect_refusals(suite, folder)
         suite.end()
 
