@@ -3,9 +3,10 @@
  *     board_exhaust PROGRAM LABELS
  *
  * Each number of words, for each half, as a first frame and as a later one, at several alignments
- * of the table; each word; each length at each place of what a program builds; each refusal in each
- * phase. It then prints the bytes of each routine, and the fewest and most cycles that were seen,
- * with the JSR and the RTS. A difference ends it with status 1. */
+ * of the table; each number of ticks, also where there is nothing to do; each word; each length at
+ * each place of what a program builds; each refusal in each phase. It then prints the bytes of each
+ * routine, and the fewest and most cycles that were seen, with the JSR and the RTS. A difference
+ * ends it with status 1. */
 #include <stdio.h>
 #include <stdlib.h>
 #include "board_cpu.h"
@@ -19,7 +20,7 @@ enum {
 
 static uint8_t memory[65536];
 static cpu processor;
-static int phase_at, publish_at, is_halted = 1;
+static int phase_at, publish_at, tick_at, is_halted = 1;
 static struct {
     int kind, at, value;
 } actions[3000];
@@ -95,12 +96,14 @@ static void cost(const char *name, int cycles)
     if (cycles > costs[i].most) costs[i].most = cycles;
 }
 
-/* Calls a routine, and answers the carry. Its cycles, with those of the JSR, are in `cycles`. */
-static int cycles;
+/* Calls a routine, and answers the carry. Its cycles, with those of the JSR, are in `cycles`, and
+ * how often it came to dvg_tick in `ticks_done`. */
+static int cycles, ticks_done;
 
 static int call(const char *name, int a, int x, int y)
 {
     int guard = 0;
+    ticks_done = 0;
     processor.a = (uint8_t)a;
     processor.x = (uint8_t)x;
     processor.y = (uint8_t)y;
@@ -109,8 +112,12 @@ static int call(const char *name, int a, int x, int y)
     memory[0x1FF] = (RETURN_TO - 1) >> 8;
     memory[0x1FE] = (RETURN_TO - 1) & 0xFF;
     processor.pc = (uint16_t)label(name);
-    while (processor.pc != RETURN_TO)
-        if (!step(&processor) || ++guard > 100000) fail("no way on", processor.pc, 0, 0);
+    while (processor.pc != RETURN_TO) {
+        ticks_done += processor.pc == tick_at;
+        if (step(&processor) && ++guard <= 100000) continue;
+        printf("%s doesn't return: it is at %04X\n", name, processor.pc);
+        exit(1);
+    }
     if (processor.s != 0xFF) fail("the stack", processor.s, 0, 0);
     cycles = (int)processor.cycles;
     return processor.p & CARRY;
@@ -262,6 +269,29 @@ static void try_ticks(void)
     call("dvg_ticks", 1, any(), any());
     cost("dvg_ticks a tick", many - cycles - one);
     cost("dvg_ticks but its ticks", 2 * cycles - many);
+}
+
+/* Where there is nothing to do, idle or while a frame is being built, dvg_run returns without a
+ * tick. dvg_ticks does each of its ticks, which do nothing, and leaves its count at 0. */
+static void try_resting(int phase)
+{
+    uint8_t kept[0x100];
+    int left = label("left");
+    boot(phase == BUILD, 0);
+    if (phase == BUILD && call("dvg_open", any(), any(), any())) fail("dvg_open", phase, 0, 0);
+    memory[left] = 0;
+    memcpy(kept, memory, sizeof kept);
+    for (int count = -1; count < 256; count++) {
+        const char *routine = count < 0 ? "dvg_run" : "dvg_ticks";
+        int wanted = count < 0 ? 0 : count == 0 ? 256 : count;
+        call(routine, count, any(), any());
+        if (memory[left]) fail("dvg_ticks leaves its count", phase, wanted, memory[left]);
+        if (ticks_done != wanted) {
+            printf("%s in phase %d: %d ticks, not %d\n", routine, phase, ticks_done, wanted);
+            exit(1);
+        }
+        if (action_count || memcmp(kept, memory, sizeof kept)) fail(routine, phase, count, 0);
+    }
 }
 
 /* Each word, as a first one and as the second one of a LABS, in both halves. */
@@ -539,9 +569,12 @@ int main(int count, char **words)
     read_labels(words[2]);
     phase_at = label("dvg_phase");
     publish_at = label("publish");
+    tick_at = label("dvg_tick");
     processor.p = UNUSED | INTERRUPT;
     try_tables();
     try_ticks();
+    try_resting(IDLE);
+    try_resting(BUILD);
     word_count = try_words();
     try_waiting();
     for (int kind = 0; kind < 4; kind++) try_building(kind & 1, kind >> 1);

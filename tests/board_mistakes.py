@@ -223,6 +223,18 @@ MISTAKES = [
     ('a short vector has scale 6', '        cmp #$60', '        cmp #$70'),
     ('a short vector has no scale 2', '        cmp #$20', '        cmp #$30'),
     ('a short vector is slow', '        bvc near', '        bvs near'),
+    # Where there is nothing to do
+    ('dvg_ticks rests, and leaves its count',
+     'again:  jsr dvg_tick\n        dec left\n        bne again\n        rts\n',
+     'again:  jsr dvg_tick\n        lda dvg_phase\n        cmp #DVG_IDLE\n        beq *+6\n'
+     '        dec left\n        bne again\n        rts\n'),
+    ('dvg_ticks rests before its last tick',
+     'again:  jsr dvg_tick\n        dec left\n        bne again\n        rts\n',
+     'again:  jsr dvg_tick\n        lda dvg_phase\n        cmp #DVG_IDLE\n        beq rested\n'
+     '        dec left\n        bne again\nrested: lda #0\n        sta left\n        rts\n'),
+    ('dvg_run runs on while a frame is being built',
+     '        cmp #DVG_BUILD\n        beq ran\n',
+     ''),
 ]
 
 
