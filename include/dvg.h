@@ -12,7 +12,8 @@
  *   a driver alone      it is handed the HALT flag and byte 001 of a RAM, and answers what is to
  *                       be written there
  *   a generator alone   it says which byte it wants, is handed that byte, and answers the strokes
- *                       of a whole run; it is saved and restored, and there is one whose stack wraps
+ *                       of a whole run; it is saved and restored, and there is one whose stack
+ *                       wraps
  *   a judge             it is told the log of any system, a line at a time, and says of each run
  *                       whether it is of one moment
  *
@@ -21,19 +22,24 @@
  *   1. Initialise the pointer before the call: `dvg *device = NULL;`, then `dvg_new(&device)`. Hand
  *      the other functions only a pointer that dvg_new wrote and dvg_free didn't get yet, and touch
  *      what it points to by these functions alone.
- *   2. Use a device on the thread that made it, in one call at a time, and never in a signal
- *      handler, or in the forked child of a process with threads.
+ *   2. Use a device in one call at a time, on any thread: what one thread did to it must be seen
+ *      by the next one, as a mutex or a join has it. Never use it in a signal handler, or in the
+ *      forked child of a process with threads. No two devices share anything but the heap.
  *   3. Link the C library's malloc, realloc and free: those of glibc, musl, macOS or Windows are
  *      fine. An allocator of your own must align a block to each power of two up to 16 that divides
  *      its size. Or define the three functions of dvg_heap.h.
  *   4. Call with DVG_STACK_KB KB of room on the stack.
  *
+ * Proved is what a device answers to one request after the other, whatever they are. So of these
+ * lines what is said of threads, 2, is the caller's, as are the others: the proof knows no threads.
+ *
  * On the heap a device takes at most DVG_HEAP_KB KB, and besides these what is staged, and 20 bytes
  * for each stroke of the run that is open, of the newest finished one, and of a state that is told.
- * The room for strokes doubles as it grows, and serves the runs after it. Memory is taken by dvg_new, by what stages bytes or opens something, by
- * what restores a state, and by a fetch that completes a stroke; an offer, a tick and a strobe take none, nor does a reset, but
- * for the bytes that dvg_reset_all stages. What was open leaves its memory to what is opened next,
- * until dvg_shut or dvg_free. */
+ * The room for strokes doubles as it grows, and serves the runs after it. Memory is taken by
+ * dvg_new, by what stages bytes or opens something, by what restores a state, and by a fetch that
+ * completes a stroke; an offer, a tick and a strobe take none, nor does a reset, but for the bytes
+ * that dvg_reset_all stages. What was open leaves its memory to what is opened next, until dvg_shut
+ * or dvg_free. */
 #ifndef DVG_H
 #define DVG_H
 
@@ -89,8 +95,8 @@ uint64_t dvg_turn(dvg *device, uint64_t request);
 void dvg_free(dvg *device);
 
 /* Asks `count` requests, in order, and writes the answer of each to `answers`, which has room for
- * as many and may be `requests`. It stops after a DVG_DONE, so that its strokes can be asked for, and after a
- * DVG_NO_MEMORY. Returns how many were asked. */
+ * as many and may be `requests`. It stops after a DVG_DONE, so that its strokes can be asked for,
+ * and after a DVG_NO_MEMORY. Returns how many were asked. */
 size_t dvg_turns(dvg *device, const uint64_t *requests, uint64_t *answers, size_t count);
 
 /* The version of the library that is linked, as DVG_VERSION has it. */
@@ -99,8 +105,8 @@ const char *dvg_version(void);
 /* --- Requests and answers --- */
 
 /* The lowest byte of a request says which it is. What it brings stands above: a flag in bit 8, a
- * byte in bits 16 to 23, a count in bits 24 to 39, the number of a stroke, a return address or a part
- * of a state from bit 8 on; and the fields of DVG_REQUEST_PUSH, as dvg_push has them. */
+ * byte in bits 16 to 23, a count in bits 24 to 39, the number of a stroke, a return address or a
+ * part of a state from bit 8 on; and the fields of DVG_REQUEST_PUSH, as dvg_push has them. */
 enum dvg_request {
     DVG_REQUEST_OFFER = 0,
     DVG_REQUEST_REDRAW = 1,
@@ -482,11 +488,11 @@ static inline dvg_answer dvg_open_generator(dvg *device)
     return dvg_ask(device, DVG_REQUEST_OPEN_GENERATOR);
 }
 
-/* Opens a generator alone whose stack wraps, as hardware and emulators go on: a fifth call overwrites
- * the oldest return address, and a return without a call goes to the address that was returned to
- * last, or saved before; at first all four are 000. A start and a reset leave them. So no call and
- * no return breaks a run. All else is as of dvg_open_generator, but dvg_held_by has 4 `returns`, and
- * it isn't saved. DVG_OPENED. */
+/* Opens a generator alone whose stack wraps, as hardware and emulators go on: a fifth call
+ * overwrites the oldest return address, and a return without a call goes to the address that was
+ * returned to last, or saved before; at first all four are 000. A start and a reset leave them. So
+ * no call and no return breaks a run. All else is as of dvg_open_generator, but dvg_held_by has 4
+ * `returns`, and it isn't saved. DVG_OPENED. */
 static inline dvg_answer dvg_open_wrapping(dvg *device)
 {
     return dvg_ask(device, DVG_REQUEST_OPEN_WRAPPING);
@@ -644,9 +650,9 @@ static inline dvg_answer dvg_driver_tick(dvg *device, bool halted, uint8_t byte1
 }
 
 /* Of a world or a generator: a start strobe arrives. DVG_STARTED, also amid a run, which is
- * abandoned with its strokes; of a world also DVG_NO_STROBE. A generator alone says with it, and with
- * the answer to each byte, which byte it wants next, so a run takes one turn a byte. This runs over
- * the 8,192 bytes at `memory` until it halts or breaks, or memory is refused; count the bytes where
+ * abandoned with its strokes; of a world also DVG_NO_STROBE. A generator alone says with it, and
+ * with the answer to each byte, which byte it wants next, so a run takes one turn a byte. This runs
+ * over the 8,192 bytes at `memory` until it halts or breaks, or memory is refused; count the bytes where
  * a list may have no end:
  *
  *     dvg_answer answer = dvg_strobe(device);
@@ -811,9 +817,9 @@ static inline uint64_t dvg_saved_number(const uint8_t *bytes)
     return number;
 }
 
-/* Of a generator: writes its state to `bytes`, which has room for `size` bytes, and returns how many
- * bytes the state has: at most DVG_SAVED_BYTES, and 16 for each stroke that the open run drew so
- * far. Where `size` is less, ask again with as much room: what was written is no whole state.
+/* Of a generator: writes its state to `bytes`, which has room for `size` bytes, and returns how
+ * many bytes the state has: at most DVG_SAVED_BYTES, and 16 for each stroke that the open run drew
+ * so far. Where `size` is less, ask again with as much room: what was written is no whole state.
  * `bytes` may be null where `size` is 0. The generator stays as it is. Returns 0 where no generator
  * alone is open, or one whose stack wraps. */
 static inline size_t dvg_save(dvg *device, uint8_t *bytes, size_t size)
@@ -841,8 +847,8 @@ static inline bool dvg_is_saved(const uint8_t *bytes, size_t size)
            && (dvg_saved_number(bytes + 8) & 0xFFFF) == DVG_REQUEST_TELL_STATE;
 }
 
-/* Opens a generator alone, in place of what is open, that goes on as the one whose saved state these
- * bytes are. They may be any: DVG_OPENED; DVG_NO_STATE: they are no saved state, or one of another
+/* Opens a generator alone, in place of what is open, that goes on as the one whose saved state
+ * these bytes are. They may be any: DVG_OPENED; DVG_NO_STATE: they are no saved state, or one of another
  * version; DVG_NO_MEMORY. Where the answer isn't DVG_OPENED, what was open stays as it was. Nothing
  * finds out that a byte was changed where another state is saved so. */
 static inline dvg_answer dvg_restore(dvg *device, const uint8_t *bytes, size_t size)

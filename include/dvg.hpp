@@ -23,7 +23,8 @@ namespace gerbilargent {
 /* Bytes of a RAM or a ROM. */
 using Bytes = std::vector<std::uint8_t>;
 
-/* A device, in which nothing is open. It moves, isn't copied, and is freed when it goes. */
+/* A device, in which nothing is open. It moves, isn't copied, and is freed when it goes. What was
+ * moved away throws std::logic_error where it is used. */
 class Device {
 public:
     /* std::bad_alloc where there is no memory. */
@@ -35,8 +36,16 @@ public:
         device_.reset(made);
     }
 
-    /* The device for a call of dvg.h; null where it was moved away. */
-    operator dvg *() const noexcept { return device_.get(); }
+    /* The device for a call of dvg.h. std::logic_error where it was moved away. */
+    operator dvg *() const {
+        if (!device_) {
+            throw std::logic_error("the device was moved away");
+        }
+        return device_.get();
+    }
+
+    /* Whether it wasn't moved away. */
+    explicit operator bool() const noexcept { return device_ != nullptr; }
 
     /* What the newest run drew that came to a HALT, in the order drawn. */
     std::vector<dvg_stroke> strokes() const {
@@ -85,11 +94,9 @@ public:
     }
 };
 
-/* A generator alone. std::bad_alloc. */
-class Generator : public Device {
+/* What each generator alone has. */
+class AnyGenerator : public Device {
 public:
-    Generator() { expect_opened(dvg_open_generator(*this)); }
-
     /* Whether this byte makes a move, if it is handed over next, and which: dvg_generator_move. */
     bool move_by(std::uint8_t byte, dvg_move &move) const {
         return dvg_generator_move(*this, byte, &move).kind == DVG_MOVES;
@@ -111,6 +118,15 @@ public:
         }
         return found;
     }
+
+protected:
+    AnyGenerator() = default;
+};
+
+/* A generator alone. std::bad_alloc. */
+class Generator : public AnyGenerator {
+public:
+    Generator() { expect_opened(dvg_open_generator(*this)); }
 
     /* Its state as bytes: dvg_save. */
     Bytes save() const {
@@ -135,7 +151,7 @@ public:
 };
 
 /* A generator alone whose stack wraps: dvg_open_wrapping. It isn't saved. std::bad_alloc. */
-class WrappingGenerator : public Generator {
+class WrappingGenerator : public AnyGenerator {
 public:
     WrappingGenerator() { expect_opened(dvg_open_wrapping(*this)); }
 };

@@ -30,10 +30,13 @@ FFF (hexadecimal): words 000 to 3FF are the RAM, and the ROM ends at BFF. A byte
 
 Errors. Each refusal is an exception with a name, below Error, and has changed nothing. What comes
 in a wrong order is a WrongOrder. A run that broke, and one that came to no end, are errors, too.
-A number that isn't whole is a NoInteger, and a memory that isn't bytes a NoBytes.
+A number that isn't whole is a NoInteger, and a memory that isn't bytes a NoBytes. Python's own are
+a call with other words than it has (TypeError), and what an iterator or a number of yours raises.
 
-Threads. A World, Driver or Generator belongs to the thread that made it, and another one gets a
-WrongThread. Each is a context manager, and `close` gives its memory back.
+Threads. Each object may be used and closed on any thread, in one call at a time. A call that comes
+while another one of the same object runs, also in a signal handler, is an InUse; where two begin at
+once, one waits for the other. Each object is a context manager, and `close` gives its memory back,
+as does its end. It isn't copied or pickled, which is a NotCopied; a Generator is copied.
 
 Run as a script it draws a first picture: `python3 python/gerbilargent.py --help`.
 """
@@ -49,18 +52,21 @@ import operator
 import os
 import sys
 import threading
-import warnings
 from array import array
 from pathlib import Path
-from typing import Iterable, Iterator, NamedTuple, Optional, TypeVar, Union
+from typing import (
+    Any, Callable, Iterable, Iterator, NamedTuple, NoReturn, Optional, Sequence, TypeVar, Union,
+    cast,
+)
 
 __all__ = [
-    "BadByte", "BadLog", "BadOperation", "BadState", "Beam", "Break", "Busy", "Closed", "Draft", "DraftFull",
-    "DraftRefused", "Driver", "Endless", "Entry", "Error", "Event", "Fault", "Generator", "Halted",
-    "Judge", "Kind", "LibraryMissing", "MomentJudge", "Move", "NoBytes", "NoEvent", "NoInteger",
-    "NothingPublished", "NoStrobe", "OutOfMemory", "RETURNS", "RunBroke", "Stroke", "Picture",
-    "Torn", "Verdict", "World", "WrongOrder", "WrongSize", "WrongThread", "Wanted", "judge",
-    "picture", "svg",
+    "BadByte", "BadLog", "BadOperation", "BadState", "Beam", "Break", "Busy", "Bytes", "Closed",
+    "Draft", "DraftFull", "DraftRefused", "Driver", "Endless", "Entry", "Error", "Event", "Fault",
+    "Generator", "Halted", "InUse", "Judge", "Kind", "LibraryMissing", "MOST_OPERATIONS",
+    "MOST_WORDS", "MomentJudge", "Move", "NoBytes", "NoDraft", "NoEvent", "NoInteger", "NoStrobe",
+    "NoStroke", "NoText", "NotCopied", "NothingPublished", "Opened", "Operation", "OutOfMemory",
+    "Picture", "RAM_BYTES", "RETURNS", "ROM_SIZES", "RunBroke", "Stroke", "Torn", "Verdict",
+    "Wanted", "World", "WrongOrder", "WrongSize", "judge", "picture", "svg",
 ]
 
 __version__ = "0.9.0"
@@ -306,7 +312,26 @@ class NoInteger(Error, TypeError):
 
 
 class NoEvent(Error, TypeError):
-    """What `World.run` is handed is no Event and no Draft."""
+    """What `World.run` is handed is no Event and no Draft, or what a judge is told no Entry."""
+
+
+class NoDraft(Error, TypeError):
+    """What is offered is no Draft."""
+
+
+class NoStroke(Error, TypeError):
+    """What an SVG is made of is no Stroke."""
+
+
+class NoText(Error, TypeError):
+    """A log isn't a text, or lines of text."""
+
+
+class NotCopied(Error, TypeError):
+    """A World, Driver or MomentJudge isn't copied, and none of these and no Generator is pickled.
+
+    It is a TypeError, as that is what copy and pickle say of what they can't do.
+    """
 
 
 class BadByte(Error, ValueError):
@@ -385,11 +410,15 @@ class WrongOrder(Error):
 
 
 class Closed(WrongOrder):
-    """The World, Driver or Generator was closed."""
+    """The object was closed, or never opened."""
 
 
-class WrongThread(WrongOrder):
-    """The World, Driver or Generator belongs to another thread."""
+class Opened(WrongOrder):
+    """The object is opened a second time, by its `__init__`."""
+
+
+class InUse(WrongOrder):
+    """Another call of the same object runs."""
 
 
 class Busy(WrongOrder):
@@ -502,7 +531,7 @@ _SAVED_VERSION = 1
 def _whole(name: str, value: int) -> int:
     """The number of this name, where it is whole."""
     try:
-        return operator.index(value)
+        return int(operator.index(value))
     except TypeError:
         raise NoInteger(f"{name} is {value!r}, and must be an integer") from None
 
@@ -527,7 +556,7 @@ def _bytes(name: str, held: Bytes) -> bytes:
     """The bytes of what is held by this name."""
     try:
         view = memoryview(held)
-    except TypeError:
+    except (TypeError, ValueError, BufferError):
         raise NoBytes(f"{name} is bytes, not {type(held).__name__}") from None
     if view.itemsize != 1:
         raise NoBytes(f"{name} is single bytes, not items of {view.itemsize} bytes")
@@ -595,14 +624,23 @@ def _entry_of(number: int) -> Entry:
     return Entry(Kind(number & 0xFF), number >> 8 & 0xFFFF, number >> 24 & 0xFFFF, number >> 40)
 
 
-def _handed_at(at: int, ram: Bytes, rom: Bytes) -> int:
-    """How a fetch is handed the byte at this byte address, of this RAM and ROM, or no memory."""
-    rom_begins = 0x1800 - len(rom)
+def _length(name: str, held: "Sequence[int]") -> int:
+    """How many bytes a sequence of this name has."""
+    try:
+        return len(held)
+    except TypeError:
+        raise NoBytes(f"{name} is bytes, not {type(held).__name__}") from None
+
+
+def _place_of(at: int, rom_bytes: int) -> Optional[int]:
+    """Which byte of a RAM, with a ROM of so many bytes after it, stands at this byte address.
+
+    None where no memory answers.
+    """
     if at < RAM_BYTES:
-        return ram[at] << 16
-    if rom_begins <= at < 0x1800:
-        return rom[at - rom_begins] << 16
-    return 0x100
+        return at
+    rom_begins = 0x1800 - rom_bytes
+    return RAM_BYTES + at - rom_begins if rom_begins <= at < 0x1800 else None
 
 
 @functools.lru_cache(maxsize=16)
@@ -613,59 +651,119 @@ def _staging(held: bytes) -> "array[int]":
 
 
 _Own = TypeVar("_Own", bound="_Device")
+_Item = TypeVar("_Item")
+_Call = TypeVar("_Call", bound=Callable[..., Any])
+
+
+class _Handle:
+    """Owns a device of the library, and frees it once: when it is closed, or goes itself."""
+
+    __slots__ = ("device", "library", "lock")
+
+    def __init__(self, library: Any = None) -> None:
+        self.device: Optional[ctypes.c_void_p] = None
+        self.library = library
+        self.lock = threading.Lock()
+        if library is not None:
+            made = ctypes.c_void_p()
+            if library.dvg_new(ctypes.byref(made)) != 0:
+                raise OutOfMemory("memory was refused")
+            self.device = made
+
+    def __reduce_ex__(self, _protocol: object) -> NoReturn:
+        raise NotCopied("what owns a device isn't copied or pickled")
+
+    def close(self) -> None:
+        device, self.device = self.device, None
+        if device is not None:
+            self.library.dvg_free(device)
+
+    __del__ = close
+
+
+#: That of an object which `__init__` hasn't opened.
+_NEVER_OPENED = _Handle()
+
+
+def _alone(call: _Call) -> _Call:
+    """A call of an object, while no other one of it runs."""
+
+    @functools.wraps(call)
+    def guarded(self: "_Device", *words: Any, **named: Any) -> Any:
+        handle = self._handle
+        if handle is _NEVER_OPENED:
+            raise Closed("it was never opened")
+        if handle.lock.locked():
+            raise InUse("another call of it runs")
+        # Where two come at once, one waits here until the other has ended.
+        with handle.lock:
+            return call(self, *words, **named)
+
+    return cast(_Call, guarded)
 
 
 class _Device:
-    """A device of the library. It is used by the thread that made it, until it is closed."""
+    """A device of the library. It is used in one call at a time, until it is closed.
 
-    def __init__(self) -> None:
-        self._device: Optional[ctypes.c_void_p] = None
-        self._thread = threading.get_ident()
-        self._library = _load(library_path())
-        made = ctypes.c_void_p()
-        if self._library.dvg_new(ctypes.byref(made)) != 0:
-            raise OutOfMemory("memory was refused")
-        self._device = made
+    What begins with an underscore is asked within a call.
+    """
+
+    _handle = _NEVER_OPENED
+
+    def __init__(self, request: "_Request", held: Optional[bytes] = None) -> None:
+        """Opens what this request opens, for which these bytes are staged: once. Opened."""
+        handle = _Handle(_load(library_path()))
+        with handle.lock:
+            if vars(self).setdefault("_handle", handle) is not handle:
+                raise Opened("it was opened already")
+            try:
+                if held is None:
+                    self._ask(request)
+                else:
+                    self._with_staged(request, held)
+            except BaseException:
+                handle.close()
+                raise
 
     def __repr__(self) -> str:
-        return f"<{type(self).__name__}{'' if self._device else ', closed'}>"
+        return f"<{type(self).__name__}{'' if self._handle.device else ', closed'}>"
 
     def close(self) -> None:
         """Gives the memory back. Closing again does nothing, and any other call is Closed then."""
-        if self._device is not None:
-            self._own_thread()
-            self._library.dvg_free(self._device)
-            self._device = None
+        if self._handle is not _NEVER_OPENED:
+            self._close()
+
+    @_alone
+    def _close(self) -> None:
+        self._handle.close()
 
     def __enter__(self: _Own) -> _Own:
-        if self._device is None:
-            raise Closed("it was closed")
+        self._own_device()
         return self
 
     def __exit__(self, *_error: object) -> None:
         self.close()
 
-    def __del__(self) -> None:
-        if getattr(self, "_device", None) is not None:
-            if self._thread == threading.get_ident():
-                self.close()
-            else:
-                warnings.warn("not closed by its own thread", ResourceWarning, stacklevel=2)
+    def __copy__(self) -> Any:
+        raise NotCopied(f"a {type(self).__name__} isn't copied")
 
-    def _own_thread(self) -> None:
-        if self._thread != threading.get_ident():
-            raise WrongThread("it belongs to the thread that made it")
+    def __deepcopy__(self, copies: "dict[int, object]") -> Any:
+        raise NotCopied(f"a {type(self).__name__} isn't copied")
+
+    def __reduce_ex__(self, _protocol: object) -> NoReturn:
+        raise NotCopied(f"a {type(self).__name__} isn't pickled")
 
     def _own_device(self) -> ctypes.c_void_p:
-        """The device, where it may be asked."""
-        self._own_thread()
-        if self._device is None:
-            raise Closed("it was closed")
-        return self._device
+        """The device, where it is open."""
+        device = self._handle.device
+        if device is None:
+            raise Closed("it was closed, or never opened")
+        return device
 
     def _turn(self, request: _Request, fields: int = 0) -> int:
         """One request, with its fields, and the number that is its answer."""
-        answer: int = self._library.dvg_turn(self._own_device(), int(request) | fields)
+        device = self._own_device()
+        answer: int = self._handle.library.dvg_turn(device, int(request) | fields)
         return answer
 
     def _turns(self, numbers: "array[int]") -> int:
@@ -673,13 +771,13 @@ class _Device:
 
         The last that was asked is the last of all, or its answer is DONE or NO_MEMORY.
         """
-        at, count = numbers.buffer_info()
-        asked: int = self._library.dvg_turns(self._own_device(), at, at, count)
+        device, (at, count) = self._own_device(), numbers.buffer_info()
+        asked: int = self._handle.library.dvg_turns(device, at, at, count)
         return asked
 
     def _turns_to_the_end(self, numbers: "array[int]") -> int:
         """The same, and goes on after each DONE, whose answer gets the number of its strokes."""
-        device, library = self._own_device(), self._library
+        device, library = self._own_device(), self._handle.library
         done, no_memory, strokes = int(Kind.DONE), int(Kind.NO_MEMORY), int(_Request.STROKES)
         at, count = numbers.buffer_info()
         asked = kind = 0
@@ -732,8 +830,12 @@ class _Device:
         return self._ask_all(array("Q", draft.requests()))
 
     @property
+    @_alone
     def strokes(self) -> "list[Stroke]":
         """What the newest run drew that came to a HALT, in the order drawn; empty before it."""
+        return self._strokes()
+
+    def _strokes(self) -> "list[Stroke]":
         numbers = iter(self._stroke_numbers())
         return [
             Stroke(begin & 0xFFFFFFFF, begin >> 32, end & 0xFFFFFFFF, end >> 32, z)
@@ -741,12 +843,13 @@ class _Device:
         ]
 
     @property
+    @_alone
     def stroke_table(self) -> memoryview:
         """These strokes as a table of numbers of 32 bits, in rows: x0, y0, x1, y1, z and 0.
 
         What reads the buffer protocol takes it without a copy: `numpy.asarray(world.stroke_table)`.
-        Where there is no stroke, it is empty and has no rows. It needs a machine with the low byte
-        first.
+        Where there is no stroke, it has one dimension, of length 0, so ask for its length before
+        its columns. It needs a machine with the low byte first.
         """
         if sys.byteorder != "little":
             raise Error("a table of strokes needs a machine with the low byte first")
@@ -813,11 +916,11 @@ class Draft:
 
     A field out of its range is a BadOperation, one that isn't whole a NoInteger, and a 512th
     operation a DraftFull: the draft is then as it was. Whether the whole may be drawn an offer
-    tells. Drafts are equal where their operations are.
+    tells. Drafts are equal where their operations are, and `copy.copy` makes another one.
     """
 
-    def __init__(self) -> None:
-        self._operations: "list[Operation]" = []
+    # No call changes it in its place, so copies don't share it.
+    _operations: "tuple[Operation, ...]" = ()
 
     def __len__(self) -> int:
         return len(self._operations)
@@ -846,7 +949,7 @@ class Draft:
                 raise BadOperation(f"{name} is {number}, and must be {least} to {most}")
         if len(self) == MOST_OPERATIONS:
             raise DraftFull(f"a draft has at most {MOST_OPERATIONS} operations")
-        self._operations.append(Operation(kind, **values))
+        self._operations += (Operation(kind, **values),)
         return self
 
     def vctr(self, scale: int, dx: int, dy: int, z: int) -> "Draft":
@@ -893,6 +996,13 @@ class Draft:
         return self._add(8)
 
 
+def _draft(draft: Draft) -> Draft:
+    """The draft, where it is one."""
+    if not isinstance(draft, Draft):
+        raise NoDraft(f"{draft!r} is no Draft")
+    return draft
+
+
 # --- What opens ---
 
 
@@ -905,10 +1015,9 @@ class Driver(_Device):
     """
 
     def __init__(self, rom: Optional[Bytes] = None) -> None:
-        held = _rom(rom)
-        super().__init__()
-        self._with_staged(_Request.OPEN_DRIVER, held)
+        super().__init__(_Request.OPEN_DRIVER, _rom(rom))
 
+    @_alone
     def tick(self, halted: bool, byte1: int) -> Entry:
         """The driver does one action: PEEK, WROTE (a byte, at a byte address), READ, SENT or IDLE.
 
@@ -916,14 +1025,17 @@ class Driver(_Device):
         """
         return self._ask(_Request.TICK, bool(halted) << 8 | _byte(byte1) << 16)
 
+    @_alone
     def offer(self, draft: Draft) -> Entry:
-        """Hands a draft to the driver: OFFERED. DraftRefused, Busy."""
-        return self._offer(draft)
+        """Hands a draft to the driver: OFFERED. DraftRefused, Busy; NoDraft."""
+        return self._offer(_draft(draft))
 
+    @_alone
     def redraw(self) -> Entry:
         """Asks to have the published frame drawn again: ASKED. NothingPublished, Busy."""
         return self._ask(_Request.REDRAW)
 
+    @_alone
     def reset(self) -> Entry:
         """A reset of the processor: CLEARED."""
         return self._ask(_Request.RESET_PROCESSOR)
@@ -932,19 +1044,30 @@ class Driver(_Device):
 class Generator(_Device):
     """A generator alone, halted, with the beam at 0, 0 and scale 0. It is handed its bytes.
 
-    With `wraps` its stack wraps, as hardware and emulators go on: a fifth call overwrites the oldest
-    return address, and a return without a call goes to the address that was returned to last, or
-    saved before. At first all four are 000; a start and a reset leave them.
+    With `wraps` its stack wraps, as hardware and emulators go on: a fifth call overwrites the
+    oldest return address, and a return without a call goes to the address that was returned to
+    last, or saved before. At first all four are 000; a start and a reset leave them.
     """
 
+    _wraps = False
+
     def __init__(self, wraps: bool = False) -> None:
-        super().__init__()
-        self.wraps = bool(wraps)
-        self._ask(_Request.OPEN_WRAPPING if wraps else _Request.OPEN_GENERATOR)
+        wraps = bool(wraps)
+        super().__init__(_Request.OPEN_WRAPPING if wraps else _Request.OPEN_GENERATOR)
+        self._wraps = wraps
 
     @property
+    def wraps(self) -> bool:
+        """Whether its stack wraps."""
+        return self._wraps
+
+    @property
+    @_alone
     def wanted(self) -> Optional[Wanted]:
         """Which byte it wants next; None where it is halted."""
+        return self._wanted()
+
+    def _wanted(self) -> Optional[Wanted]:
         number = self._turn(_Request.WANTS)
         if number & 0xFF == Kind.STILL:
             return None
@@ -955,10 +1078,12 @@ class Generator(_Device):
         """The HALT flag."""
         return self.wanted is None
 
+    @_alone
     def strobe(self) -> Entry:
         """A start strobe: a run begins at word zero. STARTED."""
         return self._ask(_Request.STROBE)
 
+    @_alone
     def fetch(self, byte: int) -> Entry:
         """Is handed the byte that it wants, 0 to 255: LOW, FETCHED or DONE.
 
@@ -966,6 +1091,7 @@ class Generator(_Device):
         """
         return self._ask(_Request.FETCH, _byte(byte) << 16)
 
+    @_alone
     def move_by(self, byte: int) -> Optional[Move]:
         """The move that it would make if it were handed this byte, 0 to 255, by `fetch`.
 
@@ -985,18 +1111,21 @@ class Generator(_Device):
         )
 
     @property
+    @_alone
     def beam(self) -> Beam:
         """Where its beam is, and the global scale."""
         place = self._turn(_Request.BEAM)
         return Beam(place & 0xFFFFFFFF, place >> 32, self._turn(_Request.HOLDS) >> 24 & 0xF)
 
     @property
+    @_alone
     def first_word(self) -> Optional[int]:
         """The first word of the instruction whose second word it wants next, if there is one."""
         number = self._turn(_Request.HOLDS)
         return number >> 8 & 0xFFFF if number >> 24 & 0x20 else None
 
     @property
+    @_alone
     def return_addresses(self) -> "list[int]":
         """Its return addresses, at most four word addresses, the newest last, to which RTSL leads.
 
@@ -1006,14 +1135,15 @@ class Generator(_Device):
         found = [self._turn(_Request.RETURN_TO, number << 8) for number in range(count)]
         return [number >> 8 & 0xFFFF for number in reversed(found)]
 
+    @_alone
     def save(self) -> bytes:
         """Its state as bytes, also amid a run, with what the run drew so far.
 
         `restore` takes them, in any process. Strokes of a finished run are no part of it. One whose
         stack wraps isn't saved: BadState.
         """
-        self._own_thread()
-        if self._device is not None and self.wraps:
+        self._own_device()
+        if self._wraps:
             raise BadState("a generator whose stack wraps isn't saved")
         parts = array("Q", [0])
         whole = False
@@ -1026,6 +1156,7 @@ class Generator(_Device):
         parts[0] = _saved_head(len(parts) - 1)
         return _turned(parts).tobytes()
 
+    @_alone
     def restore(self, saved: Bytes) -> None:
         """Goes on as the generator whose `save` gave these bytes. BadState, OutOfMemory.
 
@@ -1037,7 +1168,7 @@ class Generator(_Device):
             for answer in parts:
                 self._entry(answer)
             self._ask(_Request.RESUME)
-            self.wraps = False
+            self._wraps = False
         except Error:
             # What was told is forgotten.
             self._turn(_Request.TELL_STATE)
@@ -1046,7 +1177,7 @@ class Generator(_Device):
     def copy(self) -> "Generator":
         """Another one that goes on as this one does, without strokes of a finished run.
 
-        It belongs to the thread that makes it. OutOfMemory.
+        It is a Generator, also of a subclass. OutOfMemory; BadState where its stack wraps.
         """
         other = Generator()
         try:
@@ -1058,20 +1189,37 @@ class Generator(_Device):
 
     __copy__ = copy
 
+    def __deepcopy__(self, copies: "dict[int, object]") -> "Generator":
+        copies[id(self)] = other = self.copy()
+        return other
+
+    @_alone
     def hole(self) -> Entry:
         """No memory answers at the address that it wants: raises RunBroke, or Halted."""
         return self._ask(_Request.FETCH, 0x100)
 
-    def fetch_from(self, ram: Bytes, rom: Optional[Bytes] = None) -> Entry:
-        """Fetches the byte that it wants from this RAM and ROM: `fetch` or `hole`. WrongSize."""
+    @_alone
+    def fetch_from(self, ram: "Sequence[int]", rom: "Optional[Sequence[int]]" = None) -> Entry:
+        """Fetches the byte that it wants from this RAM and ROM: `fetch` or `hole`. WrongSize.
+
+        They may be any sequences of bytes. The byte that it wants is taken of them, and looked at.
+        """
         rom = RETURNS if rom is None else rom
-        if len(ram) != RAM_BYTES or len(rom) not in ROM_SIZES:
+        if _length("a RAM", ram) != RAM_BYTES or _length("a ROM", rom) not in ROM_SIZES:
             raise WrongSize("a RAM has 2,048 bytes, and a ROM 2,048 or 4,096")
-        wanted = self.wanted
+        wanted = self._wanted()
         if wanted is None:
             raise Halted("the generator is halted")
-        return self._ask(_Request.FETCH, _handed_at(2 * wanted.address + wanted.high, ram, rom))
+        place = _place_of(2 * wanted.address + wanted.high, len(rom))
+        if place is None:
+            return self._ask(_Request.FETCH, 0x100)
+        try:
+            byte = ram[place] if place < RAM_BYTES else rom[place - RAM_BYTES]
+        except (LookupError, TypeError) as error:
+            raise NoBytes(f"a RAM or a ROM isn't a sequence of bytes: {error!r}") from error
+        return self._ask(_Request.FETCH, _byte(byte) << 16)
 
+    @_alone
     def draw(
         self, ram: Bytes, rom: Optional[Bytes] = None, most_words: int = MOST_WORDS
     ) -> Picture:
@@ -1079,20 +1227,23 @@ class Generator(_Device):
 
         RunBroke; Endless, where there is no end within this many words; WrongSize, OutOfMemory.
         """
-        held_ram, held_rom = _ram(ram), _rom(rom)
+        held_rom = _rom(rom)
+        memory, rom_bytes = _ram(ram) + held_rom, len(held_rom)
         most = _whole("most_words", most_words)
         low, fetched = int(Kind.LOW), int(Kind.FETCHED)
         number = self._turn(_Request.STROBE)
         words = 0
         while words < most:
             at = number >> 40 & 0x1FFF  # each answer says which byte is wanted next
-            number = self._turn(_Request.FETCH, _handed_at(at, held_ram, held_rom))
+            place = _place_of(at, rom_bytes)
+            number = self._turn(_Request.FETCH, 0x100 if place is None else memory[place] << 16)
             words += number & 0xFF != low
             if number & 0xFF not in (low, fetched):
                 self._entry(number)
-                return Picture(words, self.strokes)
+                return Picture(words, self._strokes())
         raise Endless(most)
 
+    @_alone
     def reset(self) -> Entry:
         """A reset of the generator, which ends its run: CLEARED."""
         return self._ask(_Request.RESET_GENERATOR)
@@ -1108,116 +1259,131 @@ class World(_Device):
     refused: a refused draft, Busy, NothingPublished, NoStrobe and Halted.
     """
 
+    _events = 0
+
     def __init__(self, rom: Optional[Bytes] = None, ram: Optional[Bytes] = None) -> None:
-        held = _ram(ram) + _rom(rom)
-        super().__init__()
-        self.events = 0
-        self._with_staged(_Request.OPEN_WORLD, held)
+        super().__init__(_Request.OPEN_WORLD, _ram(ram) + _rom(rom))
+
+    @property
+    def events(self) -> int:
+        """How many events there were."""
+        return self._events
 
     def __repr__(self) -> str:
-        return f"<World, {self.events} events{'' if self._device else ', closed'}>"
+        return f"<World, {self.events} events{'' if self._handle.device else ', closed'}>"
 
     def _repr_svg_(self) -> str:
         return svg(self.strokes)
 
     def run(self, events: "Iterable[Union[Event, Draft]]") -> "list[Entry]":
-        """Lets many events happen, and returns their entries, in order: some millions a second.
+        """Lets many events happen, and returns their entries, in order: a million in a second.
 
         A Draft is offered. What is refused is an entry here, and isn't raised: its kind is REFUSED,
         BUSY, NOTHING_PUBLISHED, NO_STROBE or STILL. Where memory is refused, NO_MEMORY is the last
         entry: that fetch is no event, and what comes after it doesn't happen. NoEvent.
         """
         numbers, are_events = _requests_of(events)
+        return self._run(numbers, are_events)
+
+    @_alone
+    def _run(self, numbers: "array[int]", are_events: bytearray) -> "list[Entry]":
         asked = self._turns_to_the_end(numbers)
         answers = itertools.compress(numbers[:asked], are_events)
         entries = list(map(_entry_of, answers))
         refused = bool(entries) and entries[-1].kind is Kind.NO_MEMORY
-        self.events += len(entries) - refused
+        self._events += len(entries) - refused
         return entries
 
-    def _counted(self) -> None:
-        """Counts an event, of a world that can be asked."""
-        self._own_thread()
-        if self._device is not None:
-            self.events += 1
+    def _event(self, request: _Request) -> Entry:
+        """An event, which counts, of a world that is open."""
+        self._own_device()
+        self._events += 1
+        try:
+            return self._ask(request)
+        except OutOfMemory:
+            self._events -= 1
+            raise
 
+    @_alone
     def offer(self, draft: Draft) -> Entry:
-        """Hands a draft to the driver: OFFERED. DraftRefused, Busy."""
-        self._counted()
+        """Hands a draft to the driver: OFFERED. DraftRefused, Busy; NoDraft, which is no event."""
+        return self._offered(_draft(draft))
+
+    def _offered(self, draft: Draft) -> Entry:
+        self._own_device()
+        self._events += 1
         return self._offer(draft)
 
+    @_alone
     def redraw(self) -> Entry:
         """Asks to have the published frame drawn again: ASKED. NothingPublished, Busy."""
-        self._counted()
-        return self._ask(_Request.REDRAW)
+        return self._event(_Request.REDRAW)
 
+    @_alone
     def tick(self) -> Entry:
         """The driver does one action: PEEK, WROTE, READ, SENT or IDLE."""
-        self._counted()
-        return self._ask(_Request.TICK)
+        return self._event(_Request.TICK)
 
+    @_alone
     def strobe(self) -> Entry:
         """A start strobe arrives: STARTED. NoStrobe, where the driver has sent none."""
-        self._counted()
-        return self._ask(_Request.STROBE)
+        return self._event(_Request.STROBE)
 
+    @_alone
     def fetch(self) -> Entry:
         """The generator fetches a byte: LOW, FETCHED or DONE.
 
         Halted; OutOfMemory, which is no event: the same byte is still wanted.
         """
-        self._counted()
-        try:
-            return self._ask(_Request.FETCH)
-        except OutOfMemory:
-            self.events -= 1
-            raise
+        return self._event(_Request.FETCH)
 
+    @_alone
     def reset_generator(self) -> Entry:
         """A reset of the generator alone, which ends its run: CLEARED."""
-        self._counted()
-        return self._ask(_Request.RESET_GENERATOR)
+        return self._event(_Request.RESET_GENERATOR)
 
+    @_alone
     def reset_processor(self) -> Entry:
         """A reset of the processor alone, which is one of the driver: CLEARED."""
-        self._counted()
-        return self._ask(_Request.RESET_PROCESSOR)
+        return self._event(_Request.RESET_PROCESSOR)
 
+    @_alone
     def reset_all(self, ram: Optional[Bytes] = None) -> Entry:
         """A reset of the whole system, after which the RAM holds these bytes, or zeros: CLEARED."""
         held = _ram(ram)
         entry = self._with_staged(_Request.RESET_ALL, held)
-        self.events += 1
+        self._events += 1
         return entry
 
+    @_alone
     def draw(self, draft: Draft) -> "list[Stroke]":
         """Has a draft drawn, by as many events as that takes, and returns its strokes.
 
         What the driver and the generator are at is brought to its end first; a frame that was
-        offered before may not be drawn. DraftRefused, OutOfMemory.
+        offered before may not be drawn. DraftRefused, OutOfMemory; NoDraft.
         """
+        words = sum(2 if operation.kind in (0, 2) else 1 for operation in _draft(draft))
         while True:
             entry = self._let_tick()
             if entry.kind is Kind.IDLE or entry.kind is Kind.READ and entry.value:
                 try:
-                    self.offer(draft)
+                    self._offered(draft)
                     break
                 except Busy:
                     pass
-        words = sum(2 if operation.kind in (0, 2) else 1 for operation in draft)
         self._let_happen(_Request.TICK, 2 * words)
         while self._let_tick().kind is not Kind.SENT:
             pass
-        self.strobe()
+        self._event(_Request.STROBE)
         self._let_finish()
-        return self.strokes
+        return self._strokes()
 
     def _let_happen(self, event: _Request, count: int) -> Entry:
         """Lets an event happen this many times, or up to a DONE, and returns the last entry."""
         numbers = array("Q", [event]) * count
         asked = self._turns(numbers)
         last = numbers[asked - 1]
-        self.events += asked - (last & 0xFF == Kind.NO_MEMORY)
+        self._events += asked - (last & 0xFF == Kind.NO_MEMORY)
         return self._entry(last)
 
     def _let_finish(self) -> None:
@@ -1227,7 +1393,7 @@ class World(_Device):
 
     def _let_tick(self) -> Entry:
         """A tick; where it waits for the generator, that runs to its end."""
-        entry = self.tick()
+        entry = self._event(_Request.TICK)
         if entry.kind is Kind.READ and not entry.value:
             self._let_finish()
         return entry
@@ -1253,8 +1419,7 @@ class MomentJudge(_Device):
     """
 
     def __init__(self) -> None:
-        super().__init__()
-        self._ask(_Request.OPEN_JUDGE)
+        super().__init__(_Request.OPEN_JUDGE)
 
     def tell(self, entry: Entry) -> Entry:
         """A line that is what came of an event of a World, a Driver or a Generator.
@@ -1262,7 +1427,9 @@ class MomentJudge(_Device):
         Of a reset call the reset instead: a CLEARED, which doesn't say what was reset, is a
         NoEvent, as is what comes of no event.
         """
-        told = self._tell(entry.kind, entry.address, entry.value)
+        if not isinstance(entry, Entry) or not isinstance(entry.kind, Kind):
+            raise NoEvent(f"{entry!r} is no Entry")
+        told = self._tell(entry.kind, _of_16_bits(entry.address), _of_16_bits(entry.value))
         if told.kind is Kind.UNKNOWN:
             raise NoEvent(f"{entry.kind.text!r} is no line of a log")
         return told
@@ -1280,33 +1447,45 @@ class MomentJudge(_Device):
         return self._tell(Kind.LOW, _of_16_bits(address), _byte(byte))
 
     def fetched(self, address: int, word: int) -> Entry:
-        """The word at a word address was fetched, or the rest of it after `low`. The run goes on."""
+        """The word at a word address was fetched, or its rest after `low`. The run goes on."""
         return self._tell(Kind.FETCHED, _of_16_bits(address), _of_16_bits(word))
 
     def done(self, address: int, word: int) -> Entry:
         """The same, and the word is the HALT that ended the run: WHOLE or TORN."""
         return self._tell(Kind.DONE, _of_16_bits(address), _of_16_bits(word))
 
+    @_alone
     def reset_generator(self) -> Entry:
         """The generator was reset, or its run ended by a fault: without a picture."""
         return self._ask(_Request.RESET_GENERATOR)
 
+    @_alone
     def reset_processor(self) -> Entry:
         """The processor was reset, which says nothing of memory or of a run."""
         return self._ask(_Request.RESET_PROCESSOR)
 
+    @_alone
     def reset_all(self) -> Entry:
         """The whole system was reset. The run is over, and what was told of memory is void."""
         return self._ask(_Request.RESET_ALL)
 
+    @_alone
     def _tell(self, kind: Kind, address: int = 0, value: int = 0) -> Entry:
         return self._ask(_Request.TELL, int(kind) << 8 | address << 16 | value << 32)
+
+
+def _each(what: str, refusal: "type[Error]", items: "Iterable[_Item]") -> "Iterator[_Item]":
+    """These items, where they are any; else this refusal says what they must be."""
+    try:
+        return iter(items)
+    except TypeError:
+        raise refusal(f"{what}, not {type(items).__name__}") from None
 
 
 def _requests_of(events: "Iterable[Union[Event, Draft]]") -> "tuple[array[int], bytearray]":
     """The requests that events are, and of each whether it is an event."""
     requests, are_events = array("Q"), bytearray()
-    for event in events:
+    for event in _each("events are Events and Drafts", NoEvent, events):
         if isinstance(event, Event):
             requests.append(event)
         elif isinstance(event, Draft):
@@ -1380,15 +1559,14 @@ class Judge:
     """Judges a log whose lines come one at a time, of a driver and a generator of any kind.
 
     A run draws a half where the first word that it fetched is the one at 000, a jump to a word of
-    that half: from then on, until it ends. `runs`, `halts` and `writes` count, and `drew` counts the
-    runs that drew a half. This is the rule of `dvg torn`, written once more in Python: it is tested
-    against that.
+    that half: from then on, until it ends. `runs`, `halts` and `writes` count, and `drew` counts
+    the runs that drew a half. This is the rule of `dvg torn`, written once more in Python: it is
+    tested against that.
     """
 
-    def __init__(self) -> None:
-        self.runs = self.drew = self.halts = self.writes = 0
-        self._begun = False
-        self._half: Optional[int] = None
+    runs = drew = halts = writes = 0
+    _begun = False
+    _half: Optional[int] = None
 
     def started(self) -> None:
         """A strobe began a run."""
@@ -1397,6 +1575,7 @@ class Judge:
 
     def fetched(self, address: int, word: int) -> None:
         """A word was fetched, at a word address, 000 to FFF, and the run goes on."""
+        address, word = _of_16_bits(address), _of_16_bits(word)
         if self._begun:
             self._begun = False
             jumps = address == 0 and word >> 12 == 0xE
@@ -1454,7 +1633,10 @@ def judge(log: Union[str, Iterable[str]]) -> Verdict:
     """
     judge_of = Judge()
     torn = None
-    for number, line in enumerate(log.split("\n") if isinstance(log, str) else log, 1):
+    lines = log.split("\n") if isinstance(log, str) else log
+    for number, line in enumerate(_each("a log is a text, or lines", NoText, lines), 1):
+        if not isinstance(line, str):
+            raise NoText(f"line {number} is a text, not {type(line).__name__}")
         text = line[:-1] if line.endswith("\n") else line
         try:
             held = text.encode()
@@ -1482,6 +1664,13 @@ def _way(begin: int, end: int) -> int:
     return end + _FIELD if begin - end > _FIELD // 2 else end
 
 
+def _stroke(stroke: Stroke) -> Stroke:
+    """The stroke, where it is one, of whole numbers."""
+    if not isinstance(stroke, Stroke):
+        raise NoStroke(f"{stroke!r} is no Stroke")
+    return Stroke(*(_whole("a field of a stroke", field) for field in stroke))
+
+
 def _shapes(stroke: Stroke, side: int) -> Iterator[str]:
     """A stroke as elements of an SVG: twice along an axis where it crosses the edge."""
     x1, y1 = _way(stroke.x0, stroke.x1), _way(stroke.y0, stroke.y1)
@@ -1504,13 +1693,14 @@ def svg(strokes: Iterable[Stroke], units: int = 1024) -> str:
     a dot. A stroke goes the shorter way; where that crosses the edge at 4,096 units, it is there
     twice.
     """
-    side = units * 512
+    side = _whole("units", units) * 512
     head = (f'<svg xmlns="http://www.w3.org/2000/svg" width="1024" height="1024" '
             f'viewBox="-256 -256 {side} {side}">\n'
             f'<rect x="-256" y="-256" width="{side}" height="{side}"/>\n'
             f'<g transform="matrix(1 0 0 -1 0 {side - 512})" fill="#fff" stroke="#fff" '
             f'stroke-width="{side // 512}" stroke-linecap="round">\n')
-    shapes = (shape + "\n" for stroke in strokes for shape in _shapes(stroke, side))
+    drawn = map(_stroke, _each("strokes are Strokes", NoStroke, strokes))
+    shapes = (shape + "\n" for stroke in drawn for shape in _shapes(stroke, side))
     return head + "".join(shapes) + "</g>\n</svg>\n"
 
 

@@ -17,7 +17,6 @@ import re
 import subprocess
 import sys
 import tempfile
-import threading
 from pathlib import Path
 
 TOP = Path(__file__).resolve().parent.parent
@@ -423,14 +422,14 @@ def test_refusals():
     for kind in vars(g).values():
         if isinstance(kind, type) and issubclass(kind, Exception):
             expect(issubclass(kind, g.Error), f"{kind.__name__} is an Error")
-    for kind in (g.Closed, g.WrongThread, g.Busy, g.NothingPublished, g.NoStrobe, g.Halted):
+    for kind in (g.Closed, g.InUse, g.Opened, g.Busy, g.NothingPublished, g.NoStrobe, g.Halted):
         expect(issubclass(kind, g.WrongOrder), f"{kind.__name__} is a WrongOrder")
 
 
 def test_no_memory():
     """The library's answer 255, by one that answers nothing else, and a device that isn't made."""
     with World() as world:
-        real = world._library
+        real = world._handle.library
         class Refusing:
             dvg_turn = staticmethod(lambda device, request: 255)
 
@@ -438,14 +437,14 @@ def test_no_memory():
             def dvg_turns(device, requests, answers, count):
                 g.ctypes.memset(answers, 255, 1), g.ctypes.memset(answers + 1, 0, 7)
                 return 1
-        world._library = Refusing
+        world._handle.library = Refusing
         expect_raises(g.OutOfMemory, world.fetch)
         expect_same(0, world.events, "a fetch without memory is no event")
         entries = world.run([g.Event.FETCH] * 3)
         expect_same([g.Entry(Kind.NO_MEMORY)], entries, "many events end without memory")
         expect_raises(g.OutOfMemory, lambda: world._let_finish())
         expect_same(0, world.events, "and none of them is an event")
-        world._library = real
+        world._handle.library = real
         expect_same("peek", str(world.tick()), "and nothing has changed")
     load, g._load = g._load, lambda path: Missing
     class Missing:
@@ -558,29 +557,6 @@ def test_shown():
     expect_same("<Driver>", repr(driver), "a driver")
     driver.close()
     expect_same("<Driver, closed>", repr(driver), "a closed driver")
-
-
-def test_threads():
-    found = []
-    with World() as world:
-        def use():
-            for call in (world.tick, world.close, lambda: world.strokes):
-                try:
-                    call()
-                    found.append(None)
-                except g.Error as error:
-                    found.append(type(error))
-        thread = threading.Thread(target=use)
-        thread.start(), thread.join()
-        expect_same([g.WrongThread] * 3, found, "another thread is refused")
-        expect_same("peek", str(world.tick()), "and nothing has changed")
-        expect_same(1, world.events, "and nothing was counted")
-    def use_own():
-        with World() as own:
-            found.append(len(own.draw(first_frame())))
-    thread = threading.Thread(target=use_own)
-    thread.start(), thread.join()
-    expect_same(1, found[-1], "a world in a thread of its own")
 
 
 def test_ranges():
@@ -1107,7 +1083,6 @@ test_no_memory()
 test_kinds()
 test_run()
 test_shown()
-test_threads()
 test_ranges()
 test_schedules(60)
 test_dumps(200)

@@ -12,9 +12,12 @@ using gerbilargent::Driver;
 using gerbilargent::Generator;
 using gerbilargent::Judge;
 using gerbilargent::World;
+using gerbilargent::WrappingGenerator;
 
 static_assert(!std::is_copy_constructible<World>::value, "a world isn't copied");
 static_assert(std::is_nothrow_move_constructible<World>::value, "a world moves");
+static_assert(!std::is_convertible<WrappingGenerator &, Generator &>::value,
+              "one that wraps isn't restored");
 
 static int passed;
 static int failed;
@@ -90,14 +93,19 @@ static void test_saving(const Generator &generator) {
     expect(generator.save() != saved && restored.save() == saved, "by itself");
 }
 
-template <typename Make>
-static bool refuses(Make make) {
+template <typename Error, typename Make>
+static bool throws(Make make) {
     try {
         make();
         return false;
-    } catch (const std::invalid_argument &) {
+    } catch (const Error &) {
         return true;
     }
+}
+
+template <typename Make>
+static bool refuses(Make make) {
+    return throws<std::invalid_argument>(make);
 }
 
 int main() {
@@ -108,7 +116,9 @@ int main() {
     Judge judge;
     expect(dvg_judge_started(judge).kind == DVG_ONE_MOMENT, "a judge is told a line");
     World world(std::move(first));
-    expect(first == nullptr, "nothing is left where it moved from");
+    expect(world && !first, "nothing is left where it moved from");
+    expect(throws<std::logic_error>([&] { dvg_tick(first); }), "and that isn't used");
+    expect(throws<std::logic_error>([&] { first.strokes(); }), "nor asked");
     const std::vector<dvg_stroke> strokes = world.strokes();
     expect(strokes.size() == 1 && strokes[0].x1 == 210944 && strokes[0].z == 7, "its stroke");
     world = World(ram, rom);
@@ -117,6 +127,7 @@ int main() {
     expect(dvg_driver_tick(driver, true, 0).kind == DVG_PEEK, "a driver");
     Generator generator;
     expect(dvg_wants(generator).kind == DVG_STILL, "a generator");
+    expect(WrappingGenerator().held().returns == 4, "a generator whose stack wraps");
     test_moves(generator);
     test_saving(generator);
     expect(refuses([&] { generator.restore(Bytes(24)); }), "bytes that are no saved state");

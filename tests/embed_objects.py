@@ -1,0 +1,683 @@
+"""Tests what an object of python/gerbilargent.py is to Python, for each class: copies, pickles,
+`with`, subclasses, cycles, forks, threads, signals, objects that `__init__` didn't make; and then a
+storm of random calls.
+
+    embed_objects.py [SECONDS [SEED]]    a storm of so many seconds; none without SECONDS
+
+The shared library is build/libdvg.so, or the one that DVG_LIBRARY names. The module is that of
+python/, or of the folder that DVG_MODULE names. The library is watched: each device must be freed
+once and used until then alone, in one call at a time, and none may be left. Each call of the storm
+must return, or raise what is below Error, or a TypeError or a ValueError of Python's own. The storm
+goes in rounds, and each has a seed of its own, which is printed where it fails: `embed_objects.py 1
+SEED` begins with that round. The last line is 'N passed, M failed'.
+"""
+
+import asyncio
+import collections
+import copy
+import gc
+import os
+import pickle
+import random
+import signal
+import sys
+import threading
+import time
+from pathlib import Path
+
+TOP = Path(__file__).resolve().parent.parent
+sys.path.insert(0, os.environ.get("DVG_MODULE", str(TOP / "python")))
+import gerbilargent as g  # noqa: E402
+from gerbilargent import Draft, Driver, Entry, Event, Generator, Kind  # noqa: E402
+from gerbilargent import MomentJudge, World  # noqa: E402
+
+os.environ.setdefault("DVG_LIBRARY", str(TOP / "build" / "libdvg.so"))
+passed = failed = 0
+
+
+def expect(holds, what):
+    """Counts a test."""
+    global passed, failed
+    if holds:
+        passed += 1
+    else:
+        failed += 1
+        print(f"FAILED: {what}")
+
+
+def raised(call, *words):
+    """What a call raises, or None."""
+    try:
+        call(*words)
+    except BaseException as error:  # what it is the caller looks at
+        return error
+    return None
+
+
+def expect_raises(kind, call, what):
+    error = raised(call)
+    expect(type(error) is kind and str(error), f"{what}: {kind.__name__}, not {error!r}")
+
+
+# --- The library, watched ---
+
+
+class Watched:
+    """The library, which says what is done to a device that isn't there, or is in a call."""
+
+    def __init__(self, library):
+        self.library = library
+        self.alive, self.made, self.wrong = {}, 0, []
+        self.in_call = {}
+        self.amid = None
+
+    def dvg_new(self, place):
+        status = self.library.dvg_new(place)
+        self.made += status == 0
+        if status == 0:
+            self.alive[place._obj.value] = True
+        return status
+
+    def dvg_free(self, device):
+        if device.value in self.in_call:
+            self.wrong.append("what is in a call is freed")
+        if self.alive.pop(device.value, None) is None:
+            self.wrong.append("what isn't there is freed")
+            return
+        self.library.dvg_free(device)
+
+    def dvg_turn(self, device, request):
+        return self.watched(device, lambda: self.library.dvg_turn(device, request))
+
+    def dvg_turns(self, device, at, answers, count):
+        return self.watched(device, lambda: self.library.dvg_turns(device, at, answers, count))
+
+    def watched(self, device, call):
+        """One call of the library, if that does no harm."""
+        here = object()
+        if device.value not in self.alive:
+            self.wrong.append("what isn't there is used")
+            return 0xFF
+        if self.in_call.setdefault(device.value, here) is not here:
+            self.wrong.append("two calls at once")
+            return 0xFF
+        try:
+            if self.amid:
+                self.amid()
+            return call()
+        finally:
+            self.in_call.pop(device.value, None)
+
+
+library = Watched(g._load(g.library_path()))
+g._load = lambda path: library
+
+
+def expect_none_left(what):
+    gc.collect()
+    expect(not library.alive, f"{what}: {len(library.alive)} devices are left")
+    expect(not library.wrong, f"{what}: {library.wrong[:3]}")
+    library.wrong.clear()
+    library.alive.clear()
+
+
+# --- What each class has ---
+
+RAM = bytes([0x01, 0xE2]).ljust(2048, b"\0")
+FRAME = Draft().labs(512, 400).vctr(9, -100, 100, 7).halt()
+SAVED = b"DVG\x01" + b"\x01\0\0\0" + b"\x23" + bytes(7)
+
+CLASSES = (World, Driver, Generator, MomentJudge)
+
+#: The calls of each class, with words that they take.
+CALLS = {
+    World: {
+        "run": ([Event.TICK],), "offer": (FRAME,), "redraw": (), "tick": (), "strobe": (),
+        "fetch": (), "reset_generator": (), "reset_processor": (), "reset_all": (),
+        "draw": (FRAME,), "strokes": None, "stroke_table": None, "_repr_svg_": (),
+        "__enter__": (),
+    },
+    Driver: {
+        "tick": (True, 0), "offer": (FRAME,), "redraw": (), "reset": (), "strokes": None,
+        "stroke_table": None, "__enter__": (),
+    },
+    Generator: {
+        "strobe": (), "fetch": (0,), "hole": (), "fetch_from": (RAM,), "draw": (RAM,),
+        "reset": (), "move_by": (0,), "save": (), "restore": (SAVED,), "copy": (),
+        "wanted": None, "halted": None, "beam": None, "first_word": None,
+        "return_addresses": None, "strokes": None, "stroke_table": None, "__enter__": (),
+        "__copy__": (),
+    },
+    MomentJudge: {
+        "tell": (Entry(Kind.STARTED),), "started": (), "wrote": (0, 0), "low": (0, 0),
+        "fetched": (0, 0), "done": (0, 0xB000), "reset_generator": (), "reset_processor": (),
+        "reset_all": (), "strokes": None, "stroke_table": None, "__enter__": (),
+    },
+}
+#: What needs no open object.
+ALWAYS = {"close", "wraps", "events"}
+
+
+def ask(thing, name, words):
+    """A call, or a property where there are no words."""
+    found = getattr(thing, name)
+    return found if words is None else found(*words)
+
+
+def calls_of(kind):
+    return CALLS[kind].items()
+
+
+def test_calls():
+    """The tables above name each call."""
+    for kind in CLASSES:
+        public = {name for name in dir(kind) if not name.startswith("_")} - ALWAYS
+        listed = {name for name in CALLS[kind] if not name.startswith("_")}
+        expect(public == listed, f"{kind.__name__}: {public ^ listed} isn't tested")
+        with kind() as thing:
+            for name, words in calls_of(kind):
+                error = raised(ask, thing, name, words)
+                expect(error is None or isinstance(error, g.Error), f"{name}: {error!r}")
+    expect_none_left("each call")
+
+
+def test_copies():
+    for kind in CLASSES:
+        name = kind.__name__
+        thing = kind()
+        if kind is not Generator:
+            expect_raises(g.NotCopied, lambda: copy.copy(thing), f"a copy of a {name}")
+            expect_raises(g.NotCopied, lambda: copy.deepcopy(thing), f"a deep copy of a {name}")
+            expect_raises(g.NotCopied, lambda: copy.deepcopy([{1: thing}]), f"one amid: {name}")
+            for call in (copy.copy, copy.deepcopy):
+                expect(str(raised(call, thing)) == f"a {name} isn't copied", "it names the class")
+        for protocol in range(pickle.HIGHEST_PROTOCOL + 1):
+            expect_raises(
+                g.NotCopied, lambda: pickle.dumps(thing, protocol), f"a pickle of a {name}"
+            )
+        expect(issubclass(g.NotCopied, TypeError), "Python's users expect a TypeError")
+        if hasattr(copy, "replace"):
+            expect(type(raised(copy.replace, thing)) is TypeError, f"a {name} is replaced")
+        expect_raises(g.NotCopied, lambda: copy.deepcopy(vars(thing)), f"what a {name} has")
+        other = kind.__new__(kind)
+        vars(other).update(vars(thing))
+        del other
+        thing.close()
+        thing.close()
+        expect_raises(g.Closed, thing.__enter__, f"a closed {name}")
+        del thing
+    expect_none_left("copies")
+
+
+def test_copies_of_generators():
+    with Generator() as first:
+        first.strobe()
+        first.fetch(0x90)
+        pair = copy.deepcopy([first, first])
+        others = [copy.copy(first), copy.deepcopy(first), pair[0]]
+        expect(pair[0] is pair[1], "two of one are two of one copy")
+        for other in others:
+            expect(other.save() == first.save(), "a copy stands where the first does")
+            other.fetch(0x90)
+            expect(other.save() != first.save(), "and goes on alone")
+            other.close()
+    with Generator(wraps=True) as wrapping:
+        for call in (copy.copy, copy.deepcopy):
+            expect_raises(g.BadState, lambda: call(wrapping), "a wrapping one")
+        expect(type(raised(setattr, wrapping, "wraps", False)) is AttributeError, "wraps is read")
+        expect(wrapping.wraps and raised(wrapping.save) is not None, "it still wraps")
+    del others, other, pair
+    expect_none_left("copies of generators")
+
+
+def test_copies_of_drafts():
+    draft = Draft().labs(1, 2)
+    for other in (copy.copy(draft), copy.deepcopy(draft), pickle.loads(pickle.dumps(draft))):
+        expect(other == draft, "a copy of a draft")
+        other.halt()
+        expect((len(draft), len(other)) == (1, 2), "goes on alone")
+    expect(len(Draft.__new__(Draft).halt()) == 1, "a draft without `__init__`")
+    error = raised(World().offer, Draft())
+    for other in (copy.copy(error), pickle.loads(pickle.dumps(error))):
+        expect(str(other) == str(error) == "1 empty", "errors are copied")
+    del error, other
+    expect_none_left("copies of drafts")
+
+
+# --- `with`, subclasses, cycles, half-made objects ---
+
+
+def test_with():
+    for kind in CLASSES:
+        with kind() as thing:
+            pass
+        for name, words in calls_of(kind):
+            expect_raises(g.Closed, lambda: ask(thing, name, words), f"{kind.__name__}.{name}")
+        with kind() as thing:
+            thing.close()
+        error = ZeroDivisionError()
+
+        def leave():
+            with kind() as inner:
+                vars(error)["inner"] = inner
+                raise error
+
+        expect(raised(leave) is error, "what is raised within `with` comes out")
+        expect(error.inner._handle.device is None, "and it is closed")
+        error.__traceback__ = None
+    expect_none_left("with")
+
+
+def test_subclasses():
+    for kind in CLASSES:
+        class Own(kind):
+            def __init__(self):
+                super().__init__()
+                self.own = self
+
+        class Forgets(kind):
+            def __init__(self):
+                pass
+
+        thing = Own()
+        for name, words in calls_of(kind):
+            error = raised(ask, thing, name, words)
+            expect(error is None or isinstance(error, g.Error), f"Own.{name}: {error!r}")
+        if kind is Generator:
+            expect(type(copy.copy(thing)) is Generator, "a copy of a subclass is a Generator")
+        else:
+            error = raised(copy.copy, thing)
+            expect(type(error) is g.NotCopied and "Own" in str(error), "a refusal names it")
+            del error
+        del thing  # which is in a cycle
+        for half in (Forgets(), kind.__new__(kind), object.__new__(kind)):
+            for name, words in calls_of(kind):
+                expect_raises(g.Closed, lambda: ask(half, name, words), f"half-made: {name}")
+            expect("closed" in repr(half), "one that was never opened")
+            half.close()
+        expect_none_left(f"subclasses of {kind.__name__}")
+    expect(raised(g.Judge.__new__(g.Judge).started) is None, "a Judge without `__init__`")
+    half = Driver.__new__(Driver)
+
+    class Opens:
+        def __bool__(self):
+            half.__init__()
+            return True
+
+    expect_raises(g.Closed, lambda: half.tick(Opens(), 0), "one that is opened amid its call")
+    del half
+    expect_none_left("half-made objects")
+
+
+def test_cycles():
+    for kind in CLASSES:
+        before = library.made
+        first, second = kind(), kind()
+        first.other, second.other = second, first
+        held = [first]
+        held.append(held)
+        del first, second, held
+        gc.collect()
+        expect(library.made == before + 2, "two are made")
+        expect_none_left(f"a cycle of {kind.__name__}")
+        thing = kind()
+        expect_raises(g.Opened, thing.__init__, f"a {kind.__name__} is opened twice")
+        gc.collect()
+        expect(len(library.alive) == 1 and works(thing), "and it has one device, and is used")
+        del thing
+        expect_none_left(f"`__init__` again of {kind.__name__}")
+
+
+def test_failing():
+    """What can't be opened leaves nothing."""
+    for call in (lambda: World(bytes(1)), lambda: World(ram=bytes(1)), lambda: Driver(None, 1)):
+        expect(isinstance(raised(call), (g.Error, TypeError)), "wrong words")
+    real = library.library
+
+    class Refusing:
+        """The library, whose memory is refused."""
+        dvg_new, dvg_free = real.dvg_new, real.dvg_free
+        dvg_turn = staticmethod(lambda device, request: int(Kind.NO_MEMORY))
+
+        @staticmethod
+        def dvg_turns(device, at, answers, count):
+            g.ctypes.c_uint64.from_address(answers).value = int(Kind.NO_MEMORY)
+            return 1
+
+    for kind in CLASSES:
+        library.library = Refusing
+        expect_raises(g.OutOfMemory, kind, f"a {kind.__name__} without memory")
+        half = kind.__new__(kind)
+        raised(half.__init__)
+        library.library = real
+        expect_raises(g.Closed, half.__enter__, "what couldn't be opened")
+        del half
+    expect_none_left("what can't be opened")
+
+
+# --- Forks, threads, signals ---
+
+
+def works(thing):
+    """Whether each call of an object returns or is refused."""
+    errors = [raised(ask, thing, name, words) for name, words in calls_of(type(thing))]
+    return all(error is None or isinstance(error, g.Error) for error in errors)
+
+
+def test_forks():
+    for kind in CLASSES:
+        thing = kind()
+        child = os.fork()
+        if child == 0:
+            fine = works(thing)
+            thing.close()
+            os._exit(0 if fine and raised(thing.__enter__) is not None else 1)
+        expect(os.waitpid(child, 0)[1] == 0, f"a {kind.__name__} in a fork")
+        expect(works(thing), f"and the first {kind.__name__} after it")
+        thing.close()
+    del thing
+    expect_none_left("forks")
+
+
+def in_thread(call):
+    """What a call answers in a thread of its own, which has ended then."""
+    found = []
+    thread = threading.Thread(target=lambda: found.append(call()))
+    thread.start()
+    thread.join()
+    return found[0] if found else None
+
+
+def test_ended_threads():
+    for kind in CLASSES:
+        thing = in_thread(kind)
+        expect(works(thing), f"a {kind.__name__} of a thread that has ended")
+        expect(in_thread(lambda: works(thing)), "is used by another one")
+        expect(in_thread(lambda: raised(thing.close)) is None, "and closed by a third")
+        thing = in_thread(kind)
+        del thing
+        expect_none_left("threads that have ended")
+    if hasattr(asyncio, "to_thread"):
+        async def draws():
+            with World() as world:
+                return [len(await asyncio.to_thread(world.draw, FRAME)) for _ in range(3)]
+
+        expect(asyncio.run(draws()) == [1, 1, 1], "a world in asyncio's threads")
+
+
+def test_in_use():
+    """A call that comes while another one runs is refused, by a thread and by a signal."""
+    for kind in CLASSES:
+        thing = kind()
+        begun, go_on = threading.Event(), threading.Event()
+
+        def wait():
+            begun.set()
+            go_on.wait()
+
+        library.amid = wait
+        name, words = next(iter(calls_of(kind)))
+        thread = threading.Thread(target=raised, args=(ask, thing, name, words))
+        thread.start()
+        begun.wait()
+        library.amid = None
+        refused = {other: type(raised(ask, thing, other, held)) for other, held in calls_of(kind)}
+        refused["close"] = type(raised(thing.close))
+        refused.pop("__enter__")
+        go_on.set()
+        thread.join()
+        lacking = [other for other, error in refused.items() if error is not g.InUse]
+        expect(not lacking, f"{kind.__name__}: not refused amid a call: {lacking}")
+        expect(works(thing), "and then it is used")
+        del thing, thread
+        expect_none_left("one call at a time")
+
+
+def test_signals():
+    world, found = World(), []
+    signal.signal(signal.SIGUSR1, lambda *_: found.append(type(raised(world.tick))))
+
+    def interrupt():
+        library.amid = None
+        os.kill(os.getpid(), signal.SIGUSR1)
+
+    library.amid = interrupt
+    expect(str(world.tick()) == "peek", "the call that was interrupted ends")
+    expect(found == [g.InUse], f"a call in a signal handler amid a call: {found}")
+    expect(world.events == 1, "and is no event")
+    signal.signal(signal.SIGUSR1, signal.SIG_DFL)
+    del world
+    expect_none_left("signals")
+
+
+# --- A memory's bytes ---
+
+
+class Narrow(int):
+    """A byte that keeps 8 bits where it is shifted, as an item of an array of another kind does."""
+
+    def __lshift__(self, count):
+        return Narrow(int(self) << count & 0xFF)
+
+
+class Lying(list):
+    """A sequence that has fewer items than it says."""
+
+    def __len__(self):
+        return 2048
+
+
+def fetched(memory, count=4):
+    """What a generator fetches from a RAM."""
+    with Generator() as generator:
+        generator.strobe()
+        return [str(generator.fetch_from(memory)) for _ in range(count)]
+
+
+def test_fetching():
+    """Each byte is looked at that `fetch_from` is handed, whatever sequence that is of."""
+    words = [0x90, 0xA1, 0x01, 0x02]
+    wanted = ["low 000 90", "fetched 000 A190", "low 001 01", "fetched 001 0201"]
+    whole = words + [0] * 2044
+    for memory in (bytes(whole), bytearray(whole), memoryview(bytes(whole)), whole, tuple(whole),
+                   list(map(Narrow, whole))):
+        expect(fetched(memory) == wanted, f"from {type(memory).__name__}: {fetched(memory)}")
+    wrong = {
+        g.BadByte: ([256] * 2048, [-1] * 2048, [400] * 2048, [1 << 70] * 2048),
+        g.NoInteger: ("a" * 2048, [1.0] * 2048, [None] * 2048, [b"a"] * 2048),
+        g.NoBytes: ({n + 1: 0 for n in range(2048)}, set(range(2048)), Lying(), None, 7, print),
+        g.WrongSize: ([], "", b"", {}, [0] * 2047, bytes(4096)),
+    }
+    for kind, memories in wrong.items():
+        for memory in memories:
+            expect_raises(kind, lambda: fetched(memory, 1), f"from {str(memory)[:20]}")
+    with Generator() as generator:
+        generator.strobe()
+        expect_raises(g.BadByte, lambda: generator.fetch_from([256] * 2048), "256")
+        expect(str(generator.fetch_from(bytes(whole))) == wanted[0], "and nothing has changed")
+    try:
+        import numpy
+    except ImportError:
+        print("skipped: arrays of NumPy: this Python has none")
+    else:
+        for kind in ("uint8", "uint16", "int64", "int8"):
+            memory = numpy.array(whole).astype(kind)
+            same = kind != "int8"
+            found = fetched(memory) if same else type(raised(fetched, memory))
+            expect(found == (wanted if same else g.BadByte), f"from an array of {kind}: {found}")
+        expect_raises(g.BadByte, lambda: fetched(numpy.full(2048, 256)), "256 in an array")
+        expect_raises(g.NoInteger, lambda: fetched(numpy.zeros(2048)), "an array of floats")
+    expect_none_left("fetching")
+
+
+def test_types():
+    """What isn't of its type is refused below Error."""
+    world, judge = World(), MomentJudge()
+    for call, kind in (
+        (lambda: world.offer(None), g.NoDraft), (lambda: world.draw([]), g.NoDraft),
+        (lambda: Driver().offer(FRAME.requests()), g.NoDraft),
+        (lambda: judge.tell(None), g.NoEvent), (lambda: judge.tell(Entry(6)), g.NoEvent),
+        (lambda: judge.tell(Entry(Kind.WROTE, "a", 0)), g.NoInteger),
+        (lambda: judge.tell(Entry(Kind.WROTE, 1 << 16, 0)), g.BadByte),
+        (lambda: world.run(None), g.NoEvent), (lambda: world.run([3]), g.NoEvent),
+        (lambda: g.judge(b"started"), g.NoText), (lambda: g.judge(None), g.NoText),
+        (lambda: g.judge(["started", 7]), g.NoText),
+        (lambda: g.Judge().fetched("a", 0), g.NoInteger),
+        (lambda: g.Judge().fetched(0, 1 << 16), g.BadByte),
+        (lambda: g.svg(None), g.NoStroke), (lambda: g.svg([None]), g.NoStroke),
+        (lambda: g.svg([g.Stroke(0, 0, 1.5, 0, 1)]), g.NoInteger),
+        (lambda: g.svg([], "a"), g.NoInteger),
+    ):
+        expect_raises(kind, call, kind.__name__)
+    expect(world.events == 0, "what is no draft is no event")
+    expect(type(raised(setattr, world, "events", "a")) is AttributeError, "events are read")
+    released = memoryview(bytearray(2048))
+    released.release()
+    expect_raises(g.NoBytes, lambda: World(ram=released), "a view that was released")
+    del world, judge
+    expect_none_left("types")
+
+
+# --- A storm ---
+
+
+class Storm:
+    """A round of random calls of some objects, by three threads."""
+
+    def __init__(self, seed):
+        self.seed = seed
+        self.chance = random.Random(seed)
+        self.things = []
+        self.errors = collections.Counter()
+        self.wrong = []
+        self.calls = 0
+
+    def value(self, chance):
+        """A word of a call, often of a type or a range that it isn't for."""
+        def draft():
+            made = Draft()
+            for _ in range(chance.randrange(4)):
+                raised(chance.choice((made.halt, made.return_)))
+                raised(made.vctr, chance.randrange(-1, 11), chance.randrange(-1100, 1100), 5, 7)
+                raised(made.labs, chance.randrange(5000), 5, 3)
+            return chance.choice((made, FRAME, copy.copy(made)))
+
+        makers = (
+            lambda: None, lambda: chance.randrange(-2, 300), lambda: chance.randrange(1 << 70),
+            lambda: chance.random(), lambda: "text", lambda: b"bytes", lambda: bytes(2048),
+            lambda: bytearray(chance.randrange(256) for _ in range(2048)),
+            lambda: memoryview(bytes(4096)), lambda: g.RETURNS, lambda: [256] * 2048,
+            draft, draft, lambda: Event.TICK, lambda: [chance.choice(list(Event))] * 9,
+            lambda: [draft(), Event.STROBE, chance.choice((None, Event.FETCH))], lambda: SAVED,
+            lambda: Entry(chance.choice(list(Kind)), chance.randrange(1 << 17), 3),
+            lambda: True, lambda: object, lambda: self.thing(chance), lambda: [0.5] * 2048,
+            lambda: Lying(), lambda: RAM,
+        )
+        return chance.choice(makers)()
+
+    def thing(self, chance):
+        return chance.choice(self.things) if self.things else None
+
+    def words(self, chance, kind, name):
+        """The words of a call: those of the table, or some of any kind."""
+        words = CALLS[kind].get(name, ())
+        if words is None or chance.random() < 0.5:
+            return words
+        return tuple(self.value(chance) for _ in range(chance.randrange(4)))
+
+    def make(self, chance):
+        kind = chance.choice(CLASSES)
+        if chance.random() < 0.1:
+            return kind.__new__(kind)
+        words = () if chance.random() < 0.6 else (self.value(chance),) * chance.randrange(3)
+        return kind(*words)
+
+    def step(self, chance):
+        """One random call."""
+        choice = chance.random()
+        thing = self.thing(chance)
+        if thing is None or choice < 0.08 and len(self.things) < 12:
+            self.things.append(self.make(chance))
+        elif choice < 0.13:
+            self.things.remove(thing)
+        elif choice < 0.17:
+            chance.choice((copy.copy, copy.deepcopy, pickle.dumps))(thing)
+        elif choice < 0.19:
+            thing.close()
+        elif choice < 0.20:
+            thing.__init__(*(self.value(chance) for _ in range(chance.randrange(2))))
+        elif choice < 0.21:
+            with thing:
+                thing.own = chance.choice(self.things)
+        elif choice < 0.22:
+            gc.collect()
+        elif choice < 0.24:
+            with thing.copy() as other:
+                other.restore(thing.save())
+        elif choice < 0.27:
+            call = chance.choice((g.judge, g.svg, g.picture, g.Judge().fetched, Draft().labs))
+            call(*(self.value(chance) for _ in range(chance.randrange(1, 3))))
+        else:
+            kind = type(thing)
+            name = chance.choice(list(CALLS[kind]))
+            ask(thing, name, self.words(chance, kind, name))
+
+    def run(self, seed, count):
+        """So many calls. What they raise is counted."""
+        chance = random.Random(seed)
+        for _ in range(count):
+            self.calls += 1
+            try:
+                self.step(chance)
+            except (g.Error, TypeError, ValueError) as error:
+                self.errors[type(error).__name__] += 1
+            except AttributeError as error:
+                fine = "object has no attribute 'copy'" in str(error)
+                fine = fine or "'NoneType'" in str(error)
+                self.errors["AttributeError"] += 1
+                if not fine:
+                    self.wrong.append(repr(error))
+            except BaseException as error:
+                self.wrong.append(repr(error))
+
+    def rage(self, count):
+        threads = [
+            threading.Thread(target=self.run, args=(f"{self.seed} {number}", count))
+            for number in range(3)
+        ]
+        for thread in threads:
+            thread.start()
+        for thread in threads:
+            thread.join()
+        self.things.clear()
+
+
+def storm(seconds, seed):
+    """Rounds until so many seconds are over."""
+    end = time.monotonic() + seconds
+    calls, rounds, errors = 0, 0, collections.Counter()
+    made = library.made
+    while time.monotonic() < end and not failed:
+        one = Storm(seed + rounds)
+        one.rage(400)
+        expect(not one.wrong, f"round {one.seed} raised {one.wrong[:3]}")
+        del one.things
+        expect_none_left(f"round {one.seed}")
+        calls, rounds, errors = calls + one.calls, rounds + 1, errors + one.errors
+    kinds = len([name for name in errors if issubclass(getattr(g, name, int), g.Error)])
+    expect(kinds >= 12 or failed, f"of the refusals {kinds} came: {dict(errors)}")
+    print(f"storm: seed {seed}, {rounds} rounds, {calls} calls, {library.made - made} devices, "
+          f"{sum(errors.values())} refusals of {kinds} kinds")
+
+
+for test in (
+    test_calls, test_copies, test_copies_of_generators, test_copies_of_drafts, test_with,
+    test_subclasses, test_cycles, test_failing, test_forks, test_ended_threads, test_in_use,
+    test_signals, test_fetching, test_types,
+):
+    test()
+if len(sys.argv) > 1:
+    sys.setswitchinterval(1e-4)
+    storm(float(sys.argv[1]), int(sys.argv[2]) if len(sys.argv) > 2 else 1979)
+print(f"{passed} passed, {failed} failed")
+sys.exit(failed != 0)
