@@ -991,14 +991,25 @@ def script(*arguments, **environment):
     return ran.stdout, ran.stderr, ran.returncode
 
 
+# The first picture as SVG: y goes up, so 400 units stand at 1,023 - 400 pixels.
+FIRST_SVG = """\
+<svg xmlns="http://www.w3.org/2000/svg" width="1024" height="1024" \
+viewBox="-256 -256 524288 524288">
+<rect x="-256" y="-256" width="524288" height="524288"/>
+<g transform="matrix(1 0 0 -1 0 523776)" fill="#fff" stroke="#fff" stroke-width="1024" \
+stroke-linecap="round">
+<line x1="262144" y1="204800" x2="210944" y2="256000" opacity="0.60"/>
+</g>
+</svg>
+"""
+
+
 def test_script():
     with tempfile.TemporaryDirectory() as folder:
         dump, log, bad = Path(folder, "dump"), Path(folder, "log"), Path(folder, "bad")
         first = "picture 6 1\n262144 204800 210944 256000 7\n"
         expect_same((first, "", 0), script(), "the first picture")
-        expect_same(
-            (TOP / "docs/first_picture.svg").read_text(), script("--svg")[0], "the same as SVG"
-        )
+        expect_same(FIRST_SVG, script("--svg")[0], "the same as SVG")
         expect_same(0, script("--help")[2], "help")
         expect("--dump" in script("--help")[0], "help names what there is")
         expect_same(2, script("--nonsense")[2], "an option that isn't there")
