@@ -9,7 +9,7 @@
  * port's picture. Starts and resets also come while a stroke is walked. Prints what was played, or
  * the first difference (status 1). */
 #include "Vcore_beam.h"
-#include "core_bench.h"
+#include "core_screen.h"
 
 static struct { uint64_t runs, halts, strokes, lit, amid, longest, dots; } counts;
 
@@ -23,26 +23,6 @@ static struct {
     uint64_t steps, dark, lit;
 } walk;
 
-/* A position or a move of 21 bits, as a signed number. */
-static int64_t signed_of(uint32_t bits)
-{
-    bits &= 0x1FFFFF;
-    return bits < 0x100000 ? bits : (int64_t)bits - 0x200000;
-}
-
-/* How many steps a stroke has: halved while twice the moves would stay below 1,024 units. */
-static uint64_t steps_of(const dvg_stroke &line)
-{
-    int64_t dx = signed_of(line.x1 - line.x0), dy = signed_of(line.y1 - line.y0);
-    uint64_t steps = most_steps;
-    for (; steps > least_steps; steps /= 2, dx *= 2, dy *= 2) {
-        if (dx < -0x40000 || dx >= 0x40000 || dy < -0x40000 || dy >= 0x40000) {
-            break;
-        }
-    }
-    return steps;
-}
-
 /* One coordinate after some steps lies within 1/512 of a unit of the line. */
 static void agree_on_line(const char *what, uint32_t from, uint32_t to, uint32_t found)
 {
@@ -54,7 +34,7 @@ static void begin_walk(const Vcore_beam &beam)
 {
     agree("a stroke while one is walked", walk.open, false);
     walk.line = dvg_stroke{beam.x0, beam.y0, beam.x, beam.y, beam.z};
-    walk.steps = steps_of(walk.line);
+    walk.steps = steps_of(walk.line, most_steps, least_steps);
     walk.open = true;
     walk.old = false;
     walk.dark = walk.lit = 0;

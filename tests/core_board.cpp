@@ -4,9 +4,9 @@
  *     core_board FETCHES SEED
  *
  * The processor writes and reads at random, often the very byte that is fetched. Compared are, in
- * each clock: what a read found, whether the core is answered, what it is answered with (the byte
- * as it stands in that clock), each pin of the core, and each picture. Prints what was played, or
- * the first difference (status 1). */
+ * each clock: what a read found, or that it found nothing, whether the core is answered, what it is
+ * answered with (the byte as it stands in that clock), each pin of the core, and each picture.
+ * Prints what was played, or the first difference (status 1). */
 #include "Vdvg_board.h"
 #include "core_bench.h"
 
@@ -52,14 +52,15 @@ static bool in_rom(uint32_t at)
 /* Chooses the pins of a clock. */
 static void choose_pins(Vdvg_board &board)
 {
-    static const uint16_t others[] = {0x2002, 0x2002, 0x3000, 0x3001, 0x2003, 0x3800, 0x4800};
+    static const uint16_t others[] = {
+        0x2002, 0x2002, 0x2002, 0x3000, 0x3000, 0x3001, 0x2003, 0x3800, 0x4800, 0xA002, 0xB000, 0xC000};
     board.reset = once_in(900);
     board.hold = below(100) < hold_in_100;
     board.access = below(100) < access_in_100;
     board.write = below(2);
     board.d = once_in(2) ? any_word() >> 8 : below(256);
     if (once_in(3)) {
-        board.a = once_in(20) ? below(0x10000) : others[below(7)];
+        board.a = once_in(20) ? below(0x10000) : others[below(12)];
     } else {
         board.a = 0x4000 + (once_in(2) ? 2 * board.at + board.high : random_bits()) % DVG_RAM_BYTES;
     }
@@ -112,14 +113,16 @@ static dvg_answer tell_port(const Vdvg_board &board, dvg *port)
     return dvg_generator_fetch_from(port, ram, rom, rom_bytes);
 }
 
-/* What this clock leaves for the next one. `event` is whether an event moves the core in it. */
+/* What this clock leaves for the next one. `event` is whether an event moves the core in it. Where
+ * nothing answers a read, `q` is what it is without one: the byte that the RAM reads for the core. */
 static void perform(const Vdvg_board &board, bool event)
 {
     bool on_ram = board.access && board.a >= 0x4000 && board.a < 0x4800;
     bool looks = board.access && !board.write && board.a == 0x2002;
     uint8_t &byte = ram[board.a % DVG_RAM_BYTES];
-    owed.found = looks || (on_ram && !board.write);
-    owed.q = looks ? 0x80 * !board.halted : byte;
+    uint8_t own = ram[(2 * board.at + board.high) % DVG_RAM_BYTES];
+    owed.found = board.access && !board.write;
+    owed.q = looks ? 0x80 * !board.halted : on_ram ? byte : own;
     owed.starting = board.access && board.write && board.a == 0x3000 && !board.reset;
     owed.pending = !board.halted && !board.hold && !event && !on_ram;
     counts.looks += looks;

@@ -11,11 +11,11 @@
  *
  * Beside it the port's generator is handed the RAM and the ROM. Compared are where each fetch is,
  * each byte of the RAM that the processor reads, and the strokes of each picture; and the pins of
- * the monitor, where all of a picture lies on the screen. What was played is printed to standard
- * error, or the first difference to standard output (status 1). */
+ * the monitor, which show as much of a picture as lies on the screen. What was played is printed to
+ * standard error, or the first difference to standard output (status 1). */
 #include "Vtop.h"
 #include "Vtop___024root.h"
-#include "core_bench.h"
+#include "core_screen.h"
 extern "C" {
 #include "board_cpu.h"
 }
@@ -45,54 +45,36 @@ static bool is_reset() { return root->top__DOT__processor__DOT__seen >> 9 & 1; }
 
 /* --- The monitor --- */
 
-static std::vector<dvg_stroke> lit_so_far;
-static dvg_stroke lit;
+static monitor screen;
 
-/* What the pins show in a clock: whatever is lit without a dark clock between is one stroke. */
+/* What the pins show in a clock. */
 static void watch_pins()
 {
     uint32_t x = top.pmod1a | (top.pmod2 & 3) << 8, y = top.pmod1b | (top.pmod2 >> 2 & 3) << 8;
-    uint8_t z = top.pmod2 >> 4;
-    if (z == 0 && lit.z != 0) {
-        lit_so_far.push_back(lit);
-    } else if (z != 0 && lit.z == 0) {
-        lit = dvg_stroke{x, y, x, y, z};
-    }
-    lit.x1 = x;
-    lit.y1 = y;
-    lit.z = z;
+    screen.watch(x, y, top.pmod2 >> 4);
 }
 
-/* The strokes of the last picture, in units of the screen, if all of it lies there; and whether the
- * pins have to show them yet. */
+/* What is seen of the last picture, and whether the pins have to show it yet. */
 static std::vector<dvg_stroke> wanted;
 static bool is_wanted;
 
 static void keep_wanted()
 {
     wanted.clear();
-    is_wanted = !shown.empty();
-    for (const dvg_stroke &s : shown) {
-        is_wanted = is_wanted && (s.x0 | s.y0 | s.x1 | s.y1) < 1024 << 9;
-        wanted.push_back(dvg_stroke{s.x0 >> 9, s.y0 >> 9, s.x1 >> 9, s.y1 >> 9, s.z});
+    is_wanted = true;
+    for (const dvg_stroke &stroke : shown) {
+        see_stroke(stroke, wanted);
     }
 }
 
 static void agree_on_pins()
 {
     if (is_wanted) {
-        agree("strokes on the pins", lit_so_far.size(), wanted.size());
-        for (size_t number = 0; number < wanted.size(); number++) {
-            agree("x0 on the pins", lit_so_far[number].x0, wanted[number].x0);
-            agree("y0 on the pins", lit_so_far[number].y0, wanted[number].y0);
-            agree("x1 on the pins", lit_so_far[number].x1, wanted[number].x1);
-            agree("y1 on the pins", lit_so_far[number].y1, wanted[number].y1);
-            agree("z on the pins", lit_so_far[number].z, wanted[number].z);
-        }
+        screen.agree_on(wanted);
         counts.seen++;
     }
     is_wanted = false;
-    lit_so_far.clear();
+    screen.seen.clear();
 }
 
 /* --- The generator --- */

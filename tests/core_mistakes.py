@@ -3,9 +3,9 @@
 
     core_mistakes.py FOLDER
 
-Writes FOLDER/NUMBER/dvg_core.v and dvg_board.v, and prints a line for each mistake: its number, the
-bench that must find it (fetches, board, events or none), and its name. Ends with status 1 where a
-text isn't in the file exactly once."""
+Writes FOLDER/NUMBER/dvg_core.v, dvg_board.v and dvg_bus.v, and prints a line for each mistake: its
+number, what must find it (fetches, board, events, bus, or else prover, none, nobody), and its name.
+Ends with status 1 where a text isn't in the file exactly once."""
 
 import os
 import re
@@ -13,7 +13,7 @@ import sys
 
 TESTS = os.path.dirname(os.path.abspath(__file__))
 CORE = f"{os.path.dirname(TESTS)}/core"
-FILES = "dvg_core.v", "dvg_board.v"
+FILES = "dvg_core.v", "dvg_board.v", "dvg_bus.v"
 
 
 def read_edits(lines):

@@ -5,7 +5,8 @@
 
 Of each mistake core/cells writes the cells anew, in a copy of dvg_core or of dvg_board, and the prover must
 refuse a law of the crate, without its examples and the clocks of Icarus Verilog. The Verilog as it is must
-be proved there. A mistake that does no harm may be refused, too, as a proof may name a wire. What the
+be proved there. A mistake that does no harm may be refused, too, as a proof may name a wire; one of
+dvg_bus.v isn't tried, as that isn't proved. What the
 crates stand on must be proved: `./prove dvg_board`. The last line is 'N passed, M failed'."""
 
 import os
@@ -89,8 +90,8 @@ def main(folder, *numbers):
     with open(f"{folder}/mistakes", encoding="utf-8") as lines:
         mistakes = [line.rstrip("\n").split(" ", 2) for line in lines]
     for number, bench, name in mistakes:
-        if not numbers or number in numbers:
-            planted = f"{folder}/planted/{number}"
+        planted = f"{folder}/planted/{number}"
+        if (not numbers or number in numbers) and not is_changed(planted, "dvg_bus.v"):
             crate = "dvg_core" if is_changed(planted, "dvg_core.v") else "dvg_board"
             wanted = ["refused", "proved"] if bench == "none" else ["refused"]
             try_cells(suite, name, crate, planted, f"{folder}/room", wanted)
