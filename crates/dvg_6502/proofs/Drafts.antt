@@ -1,5 +1,5 @@
 -- Drafts that a program builds, operation by operation.
-use Rattle.std.proofs.Common.{◌≡◌, ℕ, zero, suc, ◌+◌, ◌≤◌, List, [], ◌∷◌, ◌++◌, length, refl, sym, ap, ◌∙◌}
+use Rattle.std.proofs.Common.{◌≡◌, ℕ, zero, suc, ◌+◌, ◌*◌, ◌≤◌, List, [], ◌∷◌, ◌++◌, length, refl, sym, ap, ◌∙◌}
 use Rattle.std.proofs.Common.{arith, length-append}
 use Rattle.std.proofs.lemmas.List.{append-nil}
 use Rattle.std.proofs.lemmas.List.Elements.{All-cons, All-nil}
@@ -10,6 +10,7 @@ use Rattle.dvg_mem.specs.declared.half.Half.{Half}
 use Rattle.dvg_mem.specs.declared.half.Half.TheVariants.{H0, H1}
 use Rattle.dvg_frame.specs.declared.op.OpKind.{OpKind}
 use Rattle.dvg_frame.specs.declared.op.OpKind.TheVariants.{Draw, CallRom, JumpRom, Call, Jump, Return, Halt as Stop}
+use Rattle.dvg_frame.specs.Ops.{IsOp, IsDraft}
 use Rattle.dvg_frame.specs.Bytes.{bytes}
 use Rattle.dvg_frame.specs.Layout.{op_code, laid}
 use Rattle.dvg_frame.proofs.Bytes.{bytes-length, bytes-append}
@@ -136,9 +137,51 @@ is_built R (Jump j ∷ ops) ends labs fits = absurd labs
 is_built R (Return ∷ ops) ends labs fits = absurd labs
 is_built R (Stop ∷ ops) ends labs fits = absurd labs
 
+-- each operation has a word or more
+two_bytes : (R : List ℕ) (op : OpKind) → IsPut R op → 2 ≤ length (table_of (op ∷ []))
+two_bytes R (Draw (Vctr scale dx dy z)) put = omega arith
+two_bytes R (Draw (Labs x y scale)) put = omega arith
+two_bytes R (Draw (Svec scale dx dy z)) put = omega arith
+two_bytes R (Draw Stops) put = omega arith
+two_bytes R (Draw (Jsrl a)) put = omega arith
+two_bytes R (Draw Rtsl) put = omega arith
+two_bytes R (Draw (Jmpl a)) put = omega arith
+two_bytes R (CallRom a) put = omega arith
+two_bytes R (JumpRom a) put = absurd put
+two_bytes R (Call j) put = absurd put
+two_bytes R (Jump j) put = absurd put
+two_bytes R Return put = absurd put
+two_bytes R Stop put = absurd put
+
+one_more : (R : List ℕ) (op : OpKind) (ops : List OpKind) → IsPut R op → IsEnding R ops
+    → 2 * length ops ≤ length (table_of ops) → 2 * length (op ∷ ops) ≤ length (table_of (op ∷ ops))
+one_more R op ops put ends few =
+    let is = ap length (table_on R op ops put ends) in
+    let both = length-append (table_of (op ∷ [])) (table_of ops) in
+    let two = two_bytes R op put in omega (arith, is, both, two, few)
+
+few_ops : (R : List ℕ) (ops : List OpKind) → IsEnding R ops → 2 * length ops ≤ length (table_of ops)
+few_ops R [] ends = absurd ends
+few_ops R (Draw instr ∷ ops) ends = one_more R (Draw instr) ops ends.0 ends.1 (few_ops R ops ends.1)
+few_ops R (CallRom a ∷ ops) ends = one_more R (CallRom a) ops ends.0 ends.1 (few_ops R ops ends.1)
+few_ops R (JumpRom a ∷ ops) ends = absurd ends.0
+few_ops R (Call j ∷ ops) ends = absurd ends.0
+few_ops R (Jump j ∷ ops) ends = absurd ends.0
+few_ops R (Return ∷ ops) ends = absurd ends.0
+few_ops R (Stop ∷ []) ends = omega arith
+few_ops R (Stop ∷ op ∷ ops) ends = absurd ends.0
+
+pub is_draft : (R : List ℕ) (ops : List OpKind) → IsEnding R ops → All IsOp ops → length (table_of ops) ≤ 1022
+    → IsDraft ops
+is_draft R ops ends all fits = record {
+  count = let few = few_ops R ops ends in omega (arith, few, fits);
+  ops = all;
+}
+
 -- these operations may come after so many bytes
 pub record Fits (R : List ℕ) (count : ℕ) (later : List OpKind) : Type 0 where
   pub ends : IsEnding R later
+  pub ops : All IsOp later
   pub labs : count ≡ 0 → HasLabs later
   pub fits : count + length (table_of later) ≤ 1022
 
@@ -147,20 +190,29 @@ abbrev pub shortest : ℕ → List OpKind
 shortest zero = Draw (Labs 0 0 0) ∷ Stop ∷ []
 shortest (suc count) = Stop ∷ []
 
+pub only_halt : All IsOp (Stop ∷ [])
+only_halt = All-cons IsOp Stop [] tt (All-nil IsOp)
+
 pub shortest_fits : (R : List ℕ) (count : ℕ) → count ≤ 1020 → Fits R count (shortest count)
-shortest_fits R zero low = record { ends = (refl, tt); labs = λ is. tt; fits = omega arith }
+shortest_fits R zero low = record {
+  ends = (refl, tt);
+  ops = All-cons IsOp (Draw (Labs 0 0 0)) (Stop ∷ []) ((omega arith, omega arith, omega arith), refl) only_halt;
+  labs = λ is. tt;
+  fits = omega arith;
+}
 shortest_fits R (suc count) low =
-    record { ends = tt; labs = λ is. absurd (omega (arith, is)); fits = omega (arith, low) }
+    record { ends = tt; ops = only_halt; labs = λ is. absurd (omega (arith, is)); fits = omega (arith, low) }
 
 -- one more
-pub fits_more : (R : List ℕ) (count : ℕ) (op : OpKind) (later : List OpKind) → IsPut R op → (count ≡ 0 → IsLabs op)
+pub fits_more : (R : List ℕ) (count : ℕ) (op : OpKind) (later : List OpKind) → IsPut R op → IsOp op → (count ≡ 0 → IsLabs op)
     → Fits R (count + length (table_of (op ∷ []))) later → Fits R count (op ∷ later)
-fits_more R count op later put labs fits =
+fits_more R count op later put is_op labs fits =
     let is = ap length (table_on R op later put fits.ends) in
     let both = length-append (table_of (op ∷ [])) (table_of later) in
     let old = fits.fits in
     record {
       ends = ending_of R op later put fits.ends;
+      ops = All-cons IsOp op later is_op fits.ops;
       labs = labs;
       fits = omega (arith, is, both, old);
     }

@@ -8,6 +8,8 @@ use Rattle.dvg_frame.specs.declared.op.OpKind.{OpKind}
 use Rattle.dvg_frame.specs.declared.op.OpKind.TheVariants.{Draw, Halt as Stop}
 use Rattle.dvg_code.specs.declared.instr.Instr.TheVariants.{Vctr, Svec}
 use Rattle.dvg_code.specs.Acts.{Moves, act_of}
+use Rattle.dvg_code.specs.Ranges.{InRange}
+use Rattle.dvg_frame.specs.Ops.{IsOp}
 use Rattle.dvg_driver.specs.Script.{Item}
 use Rattle.dvg_6502.specs.Processor.{Cpu, run, at_return, stack_place}
 use Rattle.dvg_6502.specs.Amid.{AreHarmless, guards, is_kept}
@@ -24,7 +26,8 @@ use Rattle.dvg_6502.proofs.TicksRun.{Leaves, ticks_go, ticks_return}
 use Rattle.dvg_6502.proofs.Built.{holds_in, holds_goes}
 use Rattle.dvg_6502.proofs.BuildCalls.{puts_room, puts_over, close_some}
 use Rattle.dvg_6502.proofs.Sessions.{came_of, before_call, spared, unless_map}
-use Rattle.dvg_6502.proofs.Drafts.{Fits, shortest, shortest_fits, fits_more, table_on, ends_some, buildable, is_built}
+use Rattle.dvg_6502.proofs.VectorDraws.{vector_draws}
+use Rattle.dvg_6502.proofs.Drafts.{is_draft, only_halt, Fits, shortest, shortest_fits, fits_more, table_on, ends_some, buildable, is_built}
 
 -- what may come later in the frame that is being built
 abbrev MayCome : List ℕ → Option (ℕ × List ℕ) → List OpKind → Type 0
@@ -186,10 +189,19 @@ vector_table scale dx dy z = by (is_vector scale dx dy)
     by true some = refl
     by false some = absurd (omega (arith, some))
 
+vector_op : (R : List ℕ) (scale : ℕ) (dx dy : ℤ) (z : ℕ) → z ≤ 15 → 1 ≤ length (vector_bytes scale dx dy z)
+    → IsOp (Draw (vector scale dx dy z))
+vector_op R scale dx dy z low some = (in_range (is_vector scale dx dy) refl some, vector_put R scale dx dy z)
+  where
+    in_range : (t : Bool) → is_vector scale dx dy ≡ t
+        → 1 ≤ length (if t then table_of (Draw (vector scale dx dy z) ∷ []) else []) → InRange (vector scale dx dy z)
+    in_range true is some = (vector_draws scale dx dy z is low).0
+    in_range false is some = absurd (omega (arith, some))
+
 -- what a part puts is the words of an operation
 told_op : (R : List ℕ) (part : Part) (from : Cpu) (frame : ℕ × List ℕ) → Tells R (Puts part) from (Some frame)
     → IsRoomFor part from frame.0
-    → (op : OpKind) × (put_by part from ≡ table_of (op ∷ [])) × IsPut R op × (frame.0 ≡ 0 → IsLabs op)
+    → (op : OpKind) × (put_by part from ≡ table_of (op ∷ [])) × IsPut R op × IsOp op × (frame.0 ≡ 0 → IsLabs op)
 told_op R Put from frame tells room = tells room
 told_op R Pair from frame tells room = tells room
 told_op R Labs from frame tells room = tells room
@@ -201,6 +213,7 @@ told_op R Vector from frame tells room =
       Draw (vector scale dx dy z),
       vector_table scale dx dy z room.0,
       vector_put R scale dx dy z,
+      vector_op R scale dx dy z (omega arith) room.0,
       λ none. absurd (omega (arith, tells, none)),
     )
 
@@ -242,7 +255,7 @@ module _ (R : List ℕ) (part : Part) (from : Cpu) (steps : ℕ) (others : ℕ �
 
     module _ (frame : ℕ × List ℕ) (is : frame_of (older ∷ olds) ≡ Some frame) where
       tells_now : IsRoomFor part from frame.0 → (op : OpKind) × (put_by part from ≡ table_of (op ∷ [])) × IsPut R op
-          × (frame.0 ≡ 0 → IsLabs op)
+          × IsOp op × (frame.0 ≡ 0 → IsLabs op)
       tells_now = told_op R part from frame (subst (λ f. Tells R (Puts part) from f) is tells)
 
       -- there is room
@@ -252,7 +265,7 @@ module _ (R : List ℕ) (part : Part) (from : Cpu) (steps : ℕ) (others : ℕ �
 
         next_fits : (later : List OpKind) → Fits R (frame.0 + width) later → MayCome R (frame_of (older ∷ olds)) (op ∷ later)
         next_fits later fits = subst (λ f. MayCome R f (op ∷ later)) (sym is)
-            (fits_more R frame.0 op later (tells_now room).2 (tells_now room).3
+            (fits_more R frame.0 op later (tells_now room).2 (tells_now room).3 (tells_now room).4
             (subst (λ l. Fits R (frame.0 + length l) later) (tells_now room).1 fits))
 
         module _ (later : List OpKind) (fits : Fits R (frame.0 + width) later) where
@@ -455,7 +468,13 @@ module _ (R : List ℕ) (F : List OpKind) (from : Cpu) (steps : ℕ) (others : �
         alone' R (opening F) older olds enters alone follows next found,
         (follows' R (opening F) older olds enters alone follows next found, found.session),
       );
-      built = (is_built R G fits.ends (fits.labs refl) (let most = fits.fits in omega (arith, most)), found.built);
+      built = (
+        (
+          is_draft R G fits.ends fits.ops (let most = fits.fits in omega (arith, most)),
+          is_built R G fits.ends (fits.labs refl) (let most = fits.fits in omega (arith, most)),
+        ),
+        found.built,
+      );
       same = found.same;
       frame = λ here. frame;
     }
@@ -523,6 +542,7 @@ module _ (R : List ℕ) (from : Cpu) (steps : ℕ) (others : ℕ → ℕ → ℕ
       halt_may : MayCome R (frame_of (older ∷ olds)) (Stop ∷ [])
       halt_may = subst (λ f. MayCome R f (Stop ∷ [])) (sym is) (record {
         ends = tt;
+        ops = only_halt;
         labs = λ none. absurd (let some = subst (λ f. Tells R Close from f) is tells in omega (arith, some, none));
         fits = let room = subst HasRoom is finds.room in omega (arith, room);
       })

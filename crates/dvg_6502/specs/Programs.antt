@@ -3,6 +3,7 @@ use Rattle.std.specs.Prelude.{◌≡◌, ℕ, ◌+◌, ◌*◌, ◌≤◌, List,
 use Rattle.dvg_code.specs.declared.instr.Instr.TheVariants.{Labs}
 use Rattle.dvg_frame.specs.declared.op.OpKind.{OpKind}
 use Rattle.dvg_frame.specs.declared.op.OpKind.TheVariants.{Draw}
+use Rattle.dvg_frame.specs.Ops.{IsOp, IsDraft}
 use Rattle.dvg_6502.specs.Processor.{Cpu}
 use Rattle.dvg_6502.specs.Tables.{HasTable, table_of}
 use Rattle.dvg_6502.specs.Routines.{put_by, Vector}
@@ -15,12 +16,12 @@ IsLabs (Draw (Labs x y scale)) = Unit {0}
 IsLabs op = ⊥
 
 -- what a call of a program brings that knows of no draft: a table, at A and X; a vector that isn't the first; where there
--- is room, the words of an operation that it may put, at first of a LABS; and it ends no frame of nothing
+-- is room, the words of an operation that it may put, at first of a LABS, in range; and it ends no frame of nothing
 abbrev pub Tells : List ℕ → Routine → Cpu → Option (ℕ × List ℕ) → Type 0
 Tells R (Offer F) cpu frame = HasTable cpu.mem (cpu.a + 256 * cpu.x) F
 Tells R (Puts Vector) cpu (Some frame) = 1 ≤ frame.0
 Tells R (Puts part) cpu (Some frame) = IsRoomFor part cpu frame.0
-    → (op : OpKind) × (put_by part cpu ≡ table_of (op ∷ [])) × IsPut R op × (frame.0 ≡ 0 → IsLabs op)
+    → (op : OpKind) × (put_by part cpu ≡ table_of (op ∷ [])) × IsPut R op × IsOp op × (frame.0 ≡ 0 → IsLabs op)
 Tells R Close cpu (Some frame) = 1 ≤ frame.0
 Tells R routine cpu frame = Unit {0}
 
@@ -38,7 +39,7 @@ with_drafts (call ∷ calls) (G ∷ drafts) =
 
 -- a draft of dvg_open is one that the program may build
 abbrev pub BuildsOnly : List ℕ → Routine → Type 0
-BuildsOnly R (Open F) = IsBuilt R F
+BuildsOnly R (Open F) = IsDraft F × IsBuilt R F
 BuildsOnly R routine = Unit {0}
 
 -- each since the last reset
