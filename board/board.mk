@@ -64,6 +64,15 @@ build/driver.o: $(BOARD)driver.s $(BOARD)dvg.inc build/options
 	$(find_ca65)
 	ca65 -g $(DRIVER) -o $@ $(BOARD)driver.s
 
+# The driver alone, at the place where it is proved.
+build/driver.proved: build/driver.o $(BOARD)driver.cfg
+	@ld65 -C $(BOARD)driver.cfg -o $@ build/driver.o
+
+# What looks whether a program keeps to the premises of the proof, where a C compiler is here.
+build/premises: $(wildcard $(BOARD)../tests/board_*.[ch])
+	@! command -v $(CC) >/dev/null || $(CC) -O2 -o $@ $(BOARD)../tests/board_premises.c
+	@touch $@
+
 build/sketch: $(SKETCH) $(BOARD)outline.awk build/options
 	$(if $(SKETCH),awk -f $(BOARD)outline.awk $(SKETCH),echo .rom) >$@
 
@@ -98,8 +107,9 @@ watch:
 build/prom: $(BOARD)emulator/prom.py
 	python3 $(BOARD)emulator/prom.py $@
 
-# The file of buttons, if it is there.
-played = $(if $(wildcard $(BUTTONS)),$(CURDIR)/$(BUTTONS))
+# The file of buttons: buttons.txt, if it is there, or another one, which must be there.
+played = $(if $(wildcard $(BUTTONS)),$(if $(filter /%,$(BUTTONS)),,$(CURDIR)/)$(BUTTONS),$(if \
+    $(filter buttons.txt,$(BUTTONS)),,$(error there is no file $(BUTTONS), which BUTTONS names)))
 
 emulator: build/roms/$(MACHINE) build/rom.lines
 	@DVG_SHOTS="$(SHOTS)" DVG_BUTTONS="$(played)" \
@@ -111,11 +121,22 @@ torn: build/roms/$(MACHINE)
 	@$(BOARD)emulator/run build/roms build/torn $(SECONDS) $(BOARD)emulator/torn.lua
 	@"$(DVG)" torn <build/torn/torn.log
 
-judge: build/roms/$(MACHINE)
-	@DVG_BUTTONS="$(played)" \
+labels = build/$(PROGRAM).labels
+premises = $(BOARD)emulator/premises build/driver.proved build/$(PROGRAM).program $(labels) \
+    build/shapes.equates $(JUDGED) "$(played)"
+
+premises: build/roms/$(MACHINE) build/premises build/driver.proved
+	@$(premises)
+
+# What judge.py prints of it is one line.
+judge: build/roms/$(MACHINE) build/premises build/driver.proved
+	@mkdir -p build/judge
+	@$(premises) >build/judge/premises || true
+	@DVG_BUTTONS="$(played)" DVG_LABELS="$(CURDIR)/$(labels)" DVG_WATCH="$(WATCH)" \
 	    $(BOARD)emulator/run build/roms build/judge $(JUDGED) $(BOARD)emulator/judge.lua || { \
 	    echo 'BAD: the emulator failed: build/judge/said' && exit 1; }
-	@python3 $(BOARD)emulator/judge.py build/judge build/rom $(RATE)
+	@DVG_LABELS="$(labels)" DVG_EQUATES=build/shapes.equates \
+	    python3 $(BOARD)emulator/judge.py build/judge build/rom $(RATE)
 
 film: judge
 	python3 $(BOARD)emulator/film.py build/judge build/rom $(FILM) >build/film.new
@@ -146,4 +167,4 @@ clean:
 
 .SECONDARY:
 .DELETE_ON_ERROR:
-.PHONY: emulator torn judge film play record watch eproms test-rom clean
+.PHONY: emulator torn premises judge film play record watch eproms test-rom clean

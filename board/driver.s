@@ -473,3 +473,4 @@ long:   lda length
 
 beyond: sec
         rts
+dvg_end:                        ; after its code

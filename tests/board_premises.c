@@ -1,13 +1,14 @@
 /* Whether a program keeps to the premises under which docs/BOARD.md speaks of it, as far as a run
  * shows it.
  *
- *     board_premises DRIVER PROGRAM LABELS EQUATES SECONDS SEED
+ *     board_premises DRIVER PROGRAM LABELS EQUATES SECONDS SEED [BUTTONS]
  *
- * DRIVER has the bytes that are proved, PROGRAM those from 6800 on, LABELS is ld65's list, and
- * EQUATES is build/shapes.equates. The program runs by the 6502 of board_cpu.h, and an NMI comes
- * each 6,144 cycles, at chance between two instructions, and also amid another NMI; but not amid the
- * first cycles after power-on, in which a program can't have set a byte yet. Prints how much was
- * seen, or the first thing that is against a premise (status 1). */
+ * DRIVER has the bytes that are proved, PROGRAM those up to 7FFF, LABELS is ld65's list, EQUATES is
+ * build/shapes.equates, and BUTTONS a file of buttons (docs/GAME.md). The program runs by the 6502
+ * of board_cpu.h, and an NMI comes each 6,144 cycles, at chance between two instructions, and also
+ * amid another NMI; but not amid the first cycles after power-on, in which a program can't have set
+ * a byte yet, nor while the self-test switch is closed. Prints how much was seen, or the first thing
+ * that is against a premise, and the place of the instruction (status 1). */
 #include <stdarg.h>
 #include <stdio.h>
 #include <stdlib.h>
@@ -16,10 +17,12 @@
 #include "board_labels.h"
 
 enum {
-    CODE = 0x6800, PROGRAM_BYTES = 0x1800, VARIABLES = 0x10, OPERANDS = 0x1B, OPERANDS_END = 0x1F,
+    CODE = 0x6800, PROGRAM_BYTES = 0x2000, ROM = 0x6000, VARIABLES = 0x10, OPERANDS = 0x1B, OPERANDS_END = 0x1F,
     VARIABLES_END = 0x21, FLAG = 0x2002, STROBE = 0x3000, VECTOR_RAM = 0x4000, MEMORY = 0x8000,
     BEGUN = 8, NMI_CYCLES = 6144, NMI_MOST_CYCLES = 6048, NMI_MOST_TICKS = 53,
-    CYCLES_A_SECOND = 1512000, LEAST_STACK = 0x60
+    CYCLES_A_SECOND = 1512000, LEAST_STACK = 0x60,
+    INPUTS = 0x2000, CLOCK = 0x2001, TEST = 0x2007, SWITCHES = 0x2800, INPUTS_END = 0x3000,
+    JSR_OPCODE = 0x20, MOST_CALLS = 3
 };
 enum { IDLE = 2, BUILD = 7, WRITING = 0x80 };
 enum routine { RESET, RUN, TICKS, TICK, OFFER, REDRAW, OPEN, PUT, PAIR, SET, VECTOR, COPY, CLOSE };
@@ -48,8 +51,44 @@ static uint64_t run_ends;
 static int code_end, was_reset, ticks_in_main, ticks_in_nmi, instructions;
 static int table_from, table_to;        /* the table that is being written */
 static int tables, tables_low, tables_high, shapes[1024], shape_count;
+static char shape_names[1024][32];
+static int instruction;                 /* where it stands that runs, or that comes next */
 static long calls, nmis, nested, frames_built, frames_offered;
 static uint64_t seed;
+
+static int word_at(int at) { return memory[at] | memory[at + 1] << 8; }
+
+static int is_driver(int at) { return at >= CODE && at < code_end; }
+
+/* As `6AF8, picture + 23`: the label before it, in the driver one of its routines. */
+static void print_place(int at)
+{
+    const char *name = 0;
+    int from = 0;
+    for (int i = 0; i < label_count; i++) {
+        const int found = labels[i].at, is_routine = !strncmp(labels[i].name, "dvg_", 4);
+        if (found < ROM || found > at || (name && found <= from)) continue;
+        if (is_driver(at) ? !is_routine : is_driver(found)) continue;
+        name = labels[i].name;
+        from = found;
+    }
+    printf("%04X", at);
+    if (name) printf(", %s", name);
+    if (name && at > from && !is_driver(at)) printf(" + %d", at - from);
+}
+
+/* Where the driver was called from, by the JSRs whose return addresses stand on the stack. */
+static void print_calls(void)
+{
+    int s = processor.s;
+    for (int i = 0; i < MOST_CALLS && s < 0xFE; i++, s += 2) {
+        int call = word_at(0x101 + s) - 2;
+        if (call < ROM || call >= MEMORY - 6 || memory[call] != JSR_OPCODE) return;
+        if (is_driver(call)) continue;
+        printf(", from ");
+        print_place(call);
+    }
+}
 
 static void fail(const char *format, ...)
 {
@@ -57,8 +96,10 @@ static void fail(const char *format, ...)
     va_start(list, format);
     vprintf(format, list);
     va_end(list);
-    printf(", before %04X, after %.3f seconds\n", processor.pc,
-        (double)processor.cycles / CYCLES_A_SECOND);
+    printf(", by ");
+    print_place(instruction);
+    if (is_driver(instruction)) print_calls();
+    printf(", at %.3f s\n", (double)processor.cycles / CYCLES_A_SECOND);
     exit(1);
 }
 
@@ -73,6 +114,66 @@ static int below(int count)
 static int is_nmi(void) { return now != contexts; }
 
 static const char *whose(void) { return is_nmi() ? "the NMI" : "the program"; }
+
+/* --- Buttons --- */
+
+static const struct { char name[16]; int at; } buttons[] = {
+    { "hyperspace", 0x2003 }, { "fire", 0x2004 }, { "step", 0x2005 }, { "slam", 0x2006 },
+    { "test", TEST }, { "coin_left", 0x2400 }, { "coin_center", 0x2401 },
+    { "coin_right", 0x2402 }, { "start_1", 0x2403 }, { "start_2", 0x2404 },
+    { "thrust", 0x2405 }, { "right", 0x2406 }, { "left", 0x2407 }
+};
+typedef struct {
+    double time;
+    int number, at, is_down;            /* its place in the file, and the address of the button */
+} press;
+
+static press presses[4000];
+static int press_count, next_press;
+static uint8_t closed[INPUTS_END - INPUTS];
+/* As the arcade emulator has them at first: two bits of each. */
+static const uint8_t switches[4] = { 0xFE, 0xFC, 0xFD, 0xFC };
+
+static int compare_presses(const void *one, const void *other)
+{
+    const press *a = one, *b = other;
+    if (a->time != b->time) return a->time < b->time ? -1 : 1;
+    return a->number - b->number;
+}
+
+static void read_presses(const char *path)
+{
+    FILE *file = fopen(path, "r");
+    char line[200], name[100], way[10];
+    double time;
+    if (!file) exit(2);
+    while (fgets(line, sizeof line, file) && press_count < 4000) {
+        if (sscanf(line, "%lf %99s %9s", &time, name, way) != 3) continue;
+        for (unsigned i = 0; i < sizeof buttons / sizeof buttons[0]; i++) {
+            if (strcmp(name, buttons[i].name)) continue;
+            press next = { time, press_count, buttons[i].at, !strcmp(way, "down") };
+            presses[press_count++] = next;
+        }
+    }
+    fclose(file);
+    qsort(presses, (size_t)press_count, sizeof presses[0], compare_presses);
+}
+
+static void press_buttons(void)
+{
+    while (next_press < press_count &&
+           presses[next_press].time * CYCLES_A_SECOND <= (double)processor.cycles) {
+        closed[presses[next_press].at - INPUTS] = (uint8_t)presses[next_press].is_down;
+        next_press++;
+    }
+}
+
+static int read_input(int at)
+{
+    if (at == CLOCK) return processor.cycles & 0x100 ? 0xFF : 0x7F;
+    if (at >= SWITCHES && at < SWITCHES + 4) return switches[at - SWITCHES];
+    return closed[at - INPUTS] ? 0xFF : 0x7F;
+}
 
 /* --- The bus --- */
 
@@ -89,7 +190,7 @@ uint8_t bus_read(uint16_t at, int dummy)
     at %= MEMORY;
     if (is_hardware(at) && !now->in_driver) fail("%s reads %04X", whose(), at);
     if (at == FLAG) return processor.cycles < run_ends ? 0xFF : 0x7F;
-    if (at >= 0x2000 && at < 0x3000) return 0x7F;
+    if (at >= INPUTS && at < INPUTS_END) return read_input(at);
     return memory[at];
 }
 
@@ -120,17 +221,18 @@ void bus_write(uint16_t at, uint8_t value)
 /* Ten bits of magnitude and a sign, which zero doesn't have, and no free bit. */
 static int is_number(int word) { return !(word & 0x800) && (word & 0x7FF) != 0x400; }
 
-static int is_shape(int word)
+/* The name of the shape that stands at the place of a word, or null. */
+static const char *shape_of(int word)
 {
     for (int i = 0; i < shape_count; i++)
-        if (shapes[i] == (word & 0xFFF)) return 1;
+        if (shapes[i] == (word & 0xFFF)) return shape_names[i];
     return 0;
 }
 
 /* The canonical word of a short vector, or a call of a shape. */
 static int is_instruction(int word)
 {
-    if (word >> 12 == 12) return is_shape(word);
+    if (word >> 12 == 12) return shape_of(word) != 0;
     return word >> 12 == 15 && (word & 0x700) != 0x400 && (word & 7) != 4;
 }
 
@@ -145,12 +247,13 @@ static void check_put(int first, int second, int is_pair)
     if (!instructions && !is_labs) fail("a frame doesn't begin with a LABS, but with %04X", first);
     if (is_pair && !is_labs && !is_vector(first, second))
         fail("no canonical vector: %04X %04X", first, second);
+    if (!is_pair && !(first >> 12) && shape_of(first))
+        fail("no short vector, nor a call of a shape: %04X is where %s stands, its call is %04X",
+            first, shape_of(first), first | 0xC000);
     if (!is_pair && !is_instruction(first))
         fail("no short vector, nor a call of a shape: %04X", first);
     instructions++;
 }
-
-static int word_at(int at) { return memory[at] | memory[at + 1] << 8; }
 
 static int is_building(void) { return memory[VARIABLES] == BUILD; }
 
@@ -256,6 +359,7 @@ static void end_nmi(int was_interrupted)
 /* Whether an NMI comes before this instruction. */
 static int comes(uint64_t *next, int *was_interrupted)
 {
+    if (closed[TEST - INPUTS]) return 0;
     if (now == contexts + 1 && !below(400)) {
         *was_interrupted = 1;
         return 1;
@@ -271,7 +375,9 @@ static int comes(uint64_t *next, int *was_interrupted)
 
 static void run_one(void)
 {
-    int inside = processor.pc >= CODE && processor.pc < code_end;
+    int inside = is_driver(processor.pc);
+    instruction = processor.pc;
+    press_buttons();
     if (inside && !now->in_driver) begin_call();
     else if (!inside && now->in_driver) end_call();
     if (is_nmi() && processor.pc == label(names[TICK]) && ++now->ticks > NMI_MOST_TICKS)
@@ -306,8 +412,8 @@ static void read_shapes(const char *path)
     char line[200];
     unsigned at;
     if (!file) exit(2);
-    while (fgets(line, sizeof line, file))
-        if (sscanf(line, "%*s = $%x", &at) == 1 && shape_count < 1024)
+    while (fgets(line, sizeof line, file) && shape_count < 1024)
+        if (sscanf(line, "%31s = $%x", shape_names[shape_count], &at) == 2)
             shapes[shape_count++] = (int)at;
     fclose(file);
 }
@@ -333,11 +439,14 @@ static void find_tables(void)
 
 int main(int count, char **words)
 {
-    uint8_t driver[PROGRAM_BYTES];
-    if (count != 7) return 64;
+    uint8_t driver[PROGRAM_BYTES], program[PROGRAM_BYTES];
+    size_t size;
+    if (count != 7 && count != 8) return 64;
     ready_opcodes();
-    read_file(words[2], memory + CODE, PROGRAM_BYTES);
+    size = read_file(words[2], program, sizeof program);
+    memcpy(memory + MEMORY - size, program, size);
     read_labels(words[3]);
+    if (count == 8) read_presses(words[7]);
     read_shapes(words[4]);
     seed = strtoull(words[6], 0, 10) * 0x9E3779B97F4A7C15u + 1;
     check_place(driver, read_file(words[1], driver, sizeof driver));

@@ -2,6 +2,7 @@
 --
 --     dofile("buttons.lua")
 --     dvg_play(PATH)       from now on the buttons do what the file of PATH says
+--     dvg_pressed()        how many presses of that file came, and how many it has
 --     dvg_record(PATH)     returns what writes into PATH what the buttons did since then
 --
 -- A line of such a file is a time in seconds since the start, a button, and `down` or `up`. What
@@ -56,11 +57,21 @@ local function read_events(path)
   return events
 end
 
+-- How many of the first events, as many as are given, are presses.
+local function presses(events, count)
+  local sum = 0
+  for i = 1, count do
+    if events[i].is_down then sum = sum + 1 end
+  end
+  return sum
+end
+
 -- True, or nil and what is wrong with the file.
 function dvg_play(path)
   local events, fault = read_events(path)
   local next_event = 1
   if not events then return nil, fault end
+  dvg_pressed = function() return presses(events, next_event - 1), presses(events, #events) end
   emu.register_frame_done(function()
     while next_event <= #events and events[next_event].time <= now() do
       press(events[next_event].name, events[next_event].is_down)

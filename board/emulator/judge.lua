@@ -1,34 +1,66 @@
 -- For the arcade emulator: watches a program, for judge.py of this folder. It writes into DVG_OUT
 -- the log of torn.lua, the 2,048 bytes of vector RAM at each strobe (`pictures`), and judge.log:
 --
---     picture TIME WAITED RUNS
+--     wrote AT VALUE TIME PLACES
+--                            a byte of the vector RAM, at 000 to 7FF
+--     picture TIME WAITED RUNS PLACES
 --                            a strobe; how many seconds since the one before the program waited;
 --                            and 1 if the generator still runs, else 0
---     reset TIME             the processor fetched its reset vector, the first time at the start
---     watchdog GAP TIME      the longest time without a write of the watchdog, and when it began
+--     room TIME PLACES       an instruction that was put into a frame found no room
+--     reset TIME PLACES      the processor fetched its reset vector, the first time at the start;
+--                            the places are those of the last NMI before it, if there was one
+--     watchdog GAP TIME PLACES
+--                            the longest time without a write of the watchdog, and when it began
+--     pressed CAME ALL       presses that came, of those of the file of buttons
+--     watched NAME BYTES     what stood there at the end
 --     ended TIME
 --     fault TEXT             why nothing was judged
 --
--- DVG_BUTTONS names a file of buttons, if there is one. A program waits from one write of the
--- watchdog or read of the flag to the next, if that comes within WAIT seconds, some 100 cycles.
-if dvg_loaded then return end
-dvg_loaded = true
+-- Times are seconds. PLACES are the address of the instruction that did it, and of the JSRs that
+-- led there, the last one first, as far as the stack shows them.
+--
+-- DVG_BUTTONS names a file of buttons, if there is one, and DVG_LABELS the list of ld65. DVG_WATCH
+-- has names of that list, each with `:` and how many bytes there are, if it isn't one. A program
+-- waits from one write of the watchdog or read of the flag to the next, if that comes within WAIT
+-- seconds, some 100 cycles.
+if _G.dvg_loaded then return end
+_G.dvg_loaded = true
 
 local WAIT = 100 / 1512000
+local MOST_CALLS = 4
+local JSR = 0x20
 local folder = debug.getinfo(1, "S").source:match("^@(.*/)")
 local out = os.getenv("DVG_OUT")
 local log = assert(io.open(out .. "/judge.log", "w"))
 local pictures = assert(io.open(out .. "/pictures", "wb"))
-local space = manager.machine.devices[":maincpu"].spaces["program"]
+local cpu = manager.machine.devices[":maincpu"]
+local space = cpu.spaces["program"]
 local machine = manager.machine
 local waited, waits_since = 0, 0
 local written, gap, gap_since = 0, 0, 0
+local gap_places, written_places, interrupted = "", "", ""
 
 local function now() return machine.time:as_double() end
 local function tell(...) log:write(string.format(...), "\n") end
 
+-- The places of an instruction, where the stack's last byte is the one above `s`.
+local function places_of(pc, s)
+  local places = { string.format("%04X", pc) }
+  while #places <= MOST_CALLS and s < 0x1fe do
+    local call = space:read_u16(s + 1) - 2
+    if call < 0x6000 or call >= 0x7ffa or space:read_u8(call) ~= JSR then break end
+    places[#places + 1] = string.format("%04X", call)
+    s = s + 2
+  end
+  return table.concat(places, " ")
+end
+
+local function places() return places_of(cpu.state["PC"].value, cpu.state["SP"].value) end
+
 local function note_gap(time)
-  if time - written > gap then gap, gap_since = time - written, written end
+  if time - written > gap then
+    gap, gap_since, gap_places = time - written, written, written_places
+  end
   written = time
 end
 
@@ -37,36 +69,84 @@ local function wait(time)
   waits_since = time
 end
 
+-- The labels of ld65's list, if there is one. Where a name is there twice, the first one counts: it
+-- is the driver's, or one that is exported.
+local labels = {}
+local function read_labels(path)
+  local file = io.open(path)
+  if not file then return end
+  for line in file:lines() do
+    local at, name = line:match("^al (%x+) %.(.+)$")
+    if at and not labels[name] then labels[name] = tonumber(at, 16) end
+  end
+  file:close()
+end
+read_labels(os.getenv("DVG_LABELS") or "")
+
+local function tell_watched()
+  for text in (os.getenv("DVG_WATCH") or ""):gmatch("%S+") do
+    local name, count = text:match("^([^:]+):(%d+)$")
+    name, count = name or text, tonumber(count or "1")
+    local bytes = {}
+    for i = 0, count - 1 do
+      bytes[#bytes + 1] = labels[name] and string.format("%02X", space:read_u8(labels[name] + i))
+    end
+    tell("watched %s %s", name, labels[name] and table.concat(bytes, " ") or "?")
+  end
+end
+
 -- Before torn.lua's own, which ends the emulator.
 emu.register_stop(function()
   note_gap(now())
-  tell("watchdog %.6f %.6f", gap, gap_since)
+  tell("watchdog %.6f %.6f %s", gap, gap_since, gap_places)
+  if _G.dvg_pressed then tell("pressed %d %d", _G.dvg_pressed()) end
+  tell_watched()
   tell("ended %.6f", now())
   log:close()
   pictures:close()
 end)
 
-dvg_judges = {
+_G.dvg_judges = {
+  space:install_write_tap(0x4000, 0x47ff, "written", function(at, data)
+    tell("wrote %03X %02X %.6f %s", at - 0x4000, data, now(), places())
+  end),
   space:install_write_tap(0x3400, 0x35ff, "watchdog", function()
     local time = now()
     note_gap(time)
+    written_places = places()
     wait(time)
   end),
   space:install_read_tap(0x2002, 0x2002, "flag read", function()
-    if not dvg_looks then wait(now()) end
+    if not _G.dvg_looks then wait(now()) end
   end),
   space:install_write_tap(0x3000, 0x3000, "picture", function()
-    dvg_looks = true
-    tell("picture %.6f %.6f %d", now(), waited, space:read_u8(0x2002) >> 7)
-    dvg_looks = false
+    _G.dvg_looks = true
+    tell("picture %.6f %.6f %d %s", now(), waited, space:read_u8(0x2002) >> 7, places())
+    _G.dvg_looks = false
     pictures:write(space:read_range(0x4000, 0x47ff, 8))
     waited = 0
   end),
+  space:install_read_tap(0x7ffa, 0x7ffa, "NMI", function()
+    local s = cpu.state["SP"].value
+    interrupted = places_of(space:read_u16(s + 2), s + 3)
+  end),
   space:install_read_tap(0x7ffc, 0x7ffc, "reset vector", function()
-    tell("reset %.6f", now())
+    tell("reset %.6f %s", now(), interrupted)
     note_gap(now())
+    written_places, interrupted = "", ""
   end),
 }
+
+-- The byte before dvg_labs is the RTS by which a routine refuses what has no room, with C set; the
+-- others that return there have C clear.
+if labels.dvg_labs then
+  local full = labels.dvg_labs - 1
+  _G.dvg_room = space:install_read_tap(full, full, "no room", function()
+    if cpu.state["PC"].value == full and cpu.state["P"].value & 1 ~= 0 then
+      tell("room %.6f %s", now(), places())
+    end
+  end)
+end
 
 local buttons = os.getenv("DVG_BUTTONS") or ""
 if buttons ~= "" then
@@ -75,5 +155,5 @@ if buttons ~= "" then
   if not done then tell("fault %s", fault) end
 end
 
-dvg_loaded = false
+_G.dvg_loaded = false
 dofile(folder .. "torn.lua")

@@ -4,23 +4,30 @@
 
 OUT is the folder that judge.lua wrote into, ROM the bytes of the vector ROM, and RATE how many
 pictures a second are wanted. The program is ./dvg of this repository, or the one that DVG names.
-Each line that begins with BAD is a reason for status 1.
+DVG_LABELS names ld65's list of the program's labels, and DVG_EQUATES the names of the vector ROM:
+by them places are told. OUT/premises is what `premises` of this folder said, if it was asked. Each
+line that begins with BAD is a reason for status 1.
 
 Of each picture the words are those that stood in the vector RAM at its strobe. `dvg picture` draws
-them, and time.awk tells how long the generator of the arcade emulator takes.
+them, and time.awk tells how long the generator of the arcade emulator takes. A frame is what was
+written from the flip before its own one on: a run reads no other word of the vector RAM.
 """
 import os
 import re
 import subprocess
 import sys
 
+from places import Places, read_labels, read_shapes
+
 HERE = os.path.dirname(os.path.realpath(__file__))
 TOP = os.path.dirname(os.path.dirname(HERE))
 DVG = os.environ.get('DVG') or os.path.join(TOP, 'dvg')
-HERTZ, WATCHDOG = 1512000, 0.087
-RAM, HALF, LABS, JUMP = 2048, 1024, 10, 14
+HERTZ, WATCHDOG, LONGEST_WAIT = 1512000, 0.087, 0.25
+RAM, HALF, HALF_WORDS, WORDS, LABS, HALT, FLIP = 2048, 1024, 512, 1024, 10, 11, 1
 BROKE = {'1': 'a call inside of four calls', '2': 'a return outside of any call',
          '3': 'no memory is there: does a call name a shape, and has the frame its HALT?'}
+places = Places(read_labels(os.environ.get('DVG_LABELS', '')))
+shapes = read_shapes(os.environ.get('DVG_EQUATES', ''))
 bad = 0
 
 
@@ -30,103 +37,176 @@ def say(is_good, text):
     print(text if is_good else 'BAD: ' + text)
 
 
+def by(where, how=' by '):
+    """`by` and a place, or nothing where none is known."""
+    told = places.tell(where)
+    return how + told if told else ''
+
+
 class Log:
-    """judge.log: pictures are pairs of a time and how many seconds the program waited."""
+    """judge.log. Its events are `wrote`, `picture`, `room` and `reset`, in their order, each with
+    its numbers and its places; `pictures` are triples of a time, how many seconds the program
+    waited, and how many resets came before."""
 
     def __init__(self, path):
-        self.pictures, self.early, self.resets, self.faults = [], [], [], []
-        self.gap = self.gap_since = self.ended = 0.0
-        with open(path) as file:
-            for line in file:
-                kind, _, rest = line.rstrip('\n').partition(' ')
-                self.take(kind, rest)
+        self.events, self.pictures, self.early, self.resets, self.room = [], [], [], [], []
+        self.faults, self.watched, self.pressed = [], [], None
+        self.gap, self.gap_since, self.gap_places, self.ended = 0.0, 0.0, [], None
+        with open(path, errors='replace') as file:
+            for number, line in enumerate(file, 1):
+                try:
+                    self.take(line.split())
+                except (ValueError, IndexError):
+                    self.faults.append('judge.log line %d is no event' % number)
+        if self.ended is None:
+            self.faults.append('judge.log has no end: the emulator failed')
 
-    def take(self, kind, rest):
+    def take(self, words):
+        kind, rest = words[0], words[1:]
         if kind == 'fault':
-            self.faults.append(rest)
-            return
-        numbers = [float(number) for number in rest.split()]
-        if kind == 'picture':
-            self.pictures.append(tuple(numbers[:2]))
-            if numbers[2]:
-                self.early.append(numbers[0])
-        elif kind == 'reset':
-            self.resets.append(numbers[0])
-        elif kind == 'watchdog':
-            self.gap, self.gap_since = numbers
+            self.faults.append(' '.join(rest))
+        elif kind == 'watched':
+            self.watched.append(' '.join(rest))
+        elif kind == 'pressed':
+            self.pressed = int(rest[0]), int(rest[1])
         elif kind == 'ended':
-            self.ended = numbers[0]
+            self.ended = float(rest[0])
+        elif kind == 'watchdog':
+            self.gap, self.gap_since = float(rest[0]), float(rest[1])
+            self.gap_places = [int(at, 16) for at in rest[2:]]
+        else:
+            self.take_event(kind, rest)
+
+    def take_event(self, kind, rest):
+        count = {'wrote': 3, 'picture': 3, 'room': 1, 'reset': 1}.get(kind)
+        if not count or len(rest) < count:
+            raise ValueError(kind)
+        where = [int(at, 16) for at in rest[count:]]
+        if kind == 'wrote':
+            at, value = int(rest[0], 16), int(rest[1], 16)
+            self.events.append((kind, range(RAM)[at], value, float(rest[2]), where))
+            return
+        time = float(rest[0])
+        self.events.append((kind, time, where))
+        if kind == 'picture':
+            self.pictures.append((time, float(rest[1]), len(self.resets)))
+            if int(rest[2]):
+                self.early.append((time, where))
+        elif kind == 'reset':
+            self.resets.append((time, where))
+        else:
+            self.room.append((time, where))
 
 
-def judge_halves(out):
-    with open(os.path.join(out, 'torn.log')) as log:
-        done = subprocess.run([DVG, 'torn'], stdin=log, stdout=subprocess.PIPE,
-                              stderr=subprocess.STDOUT, universal_newlines=True)
-    say(done.returncode == 0, done.stdout.strip().replace('\n', '; '))
+def judge_premises(out):
+    path = os.path.join(out, 'premises')
+    if os.path.exists(path):
+        with open(path, errors='replace') as file:
+            said = file.read().strip().replace('\n', '; ')
+        say(not said.startswith('broken'), 'the premises of the proof: ' + said)
+
+
+def judge_halves(out, log):
+    path = os.path.join(out, 'torn.log')
+    with open(path, errors='replace') as file:
+        lines = file.readlines()
+    with open(path, 'rb') as file:
+        done = subprocess.run([DVG, 'torn'], stdin=file, stdout=subprocess.PIPE,
+                              stderr=subprocess.STDOUT)
+    said = done.stdout.decode(errors='replace').strip()
+    torn = re.match(r'torn at line (\d+): (wrote \w+ \w+)\n?', said)
+    if torn:
+        number = sum(line.startswith('wrote') for line in lines[:int(torn.group(1))])
+        writes = [event for event in log.events if event[0] == 'wrote'][number - 1:number]
+        for _, _, _, time, where in writes:
+            said = 'torn: %s%s, at %.3f s\n%s' % (torn.group(2), by(where), time, said[torn.end():])
+    say(done.returncode == 0, said.replace('\n', '; '))
 
 
 def judge_resets(log):
     later = log.resets[1:]
     if later:
-        say(False, '%d resets, the first at %.3f s: did the watchdog wait too long?'
-            % (len(later), later[0]))
+        times = ', '.join('%.3f' % time for time, _ in later[:5])
+        say(False, '%d resets, at %s s%s%s: did the watchdog wait too long?'
+            % (len(later), times, ' and so on' if later[5:] else '',
+               by(later[0][1], '; the first one came in ')))
     else:
         say(True, 'no reset')
-    say(log.gap <= WATCHDOG,
-        'the watchdog: %.1f milliseconds at most without a write, from %.3f s on; '
-        'the board resets after %.0f' % (log.gap * 1000, log.gap_since, WATCHDOG * 1000))
+    is_good = log.gap <= WATCHDOG
+    say(is_good,
+        'the watchdog: %.1f milliseconds at most without a write, from %.3f s on%s; '
+        'the board resets after %.0f'
+        % (log.gap * 1000, log.gap_since,
+           '' if is_good else by(log.gap_places, ', when it was written by '), WATCHDOG * 1000))
 
 
 def judge_rate(log, rate):
-    times = [time for time, _ in log.pictures]
+    times = [time for time, _, _ in log.pictures]
+    if log.early:
+        time, where = log.early[0]
+        say(False, '%d strobes while the generator ran, the first%s, at %.3f s'
+            % (len(log.early), by(where), time))
     pauses = [(later - time, time) for time, later in zip(times, times[1:])]
-    if not pauses:
+    if not pauses or times[-1] <= times[0]:
         say(False, '%d pictures: was dvg_reset called, and then a frame published?' % len(times))
         return
-    if log.early:
-        say(False, '%d strobes while the generator ran, the first at %.3f s'
-            % (len(log.early), log.early[0]))
     pause, since = max(pauses)
     each_second = (len(times) - 1) / (times[-1] - times[0])
     stands = log.ended - times[-1]
     if stands > max(pause, 0.1):
         pause, since = stands, times[-1]
-    say(each_second >= rate and pause < 0.25,
-        '%.1f pictures a second, wanted are %d; the longest wait for one is %.1f milliseconds, '
+    say(each_second >= rate and pause < LONGEST_WAIT,
+        '%.1f pictures a second, wanted are %g; the longest wait for one is %.1f milliseconds, '
         'from %.3f s on' % (each_second, rate, pause * 1000, since))
-    frames = [(waited, later - time, later) for (time, _), (later, waited)
-              in zip(log.pictures, log.pictures[1:])]
-    waited, whole, at = min(frames)
-    print('cycles left in the busiest frame: %d of %d, at %.3f s'
-          % (waited * HERTZ, whole * HERTZ, at))
+    frames = [(waited, later - time, later)
+              for (time, _, resets), (later, waited, resets_then)
+              in zip(log.pictures, log.pictures[1:]) if resets == resets_then]
+    if frames:
+        waited, whole, at = min(frames)
+        print('cycles left in the busiest frame: %.0f of %.0f, at %.3f s'
+              % (waited * HERTZ, whole * HERTZ, at))
 
 
 def word(memory, k):
     return memory[2 * k] + 256 * memory[2 * k + 1]
 
 
-def what_is_bad(memory, said):
-    """Why a picture isn't good, or None: its words, and what `dvg picture --all` said of them."""
+def instructions(said):
+    """Those of a run, as pairs of an address and a text."""
+    return [(int(line[:3], 16), line[4:].split(' at ')[0]) for line in said
+            if re.match('[0-9A-F]{3} [A-Z]', line)]
+
+
+def size_of(text):
+    return 2 if text.split()[0] in ('VCTR', 'LABS') else 1
+
+
+def what_is_bad(memory, rom):
+    """Why a picture isn't good, or None; and what `dvg picture --all` said of it."""
     first = word(memory, 0)
     if first not in (0xE001, 0xE201):
-        return 'word zero is %04X, and no jump to a half: E001 or E201' % first
+        return 'word zero is %04X, and no jump to a half: E001 or E201' % first, []
     begin = first & 0xFFF
     if word(memory, begin) >> 12 != LABS:
         return ('the frame begins at %03X with %04X, and not with a LABS'
-                % (begin, word(memory, begin)))
-    end = next(line.split() for line in said if re.match('picture|broke|endless', line))
-    if end[0] == 'picture':
-        return None
-    if end[0] == 'endless':
-        return 'it never ends'
-    run = [line.split(' at ')[0] for line in said if re.match('[0-9A-F]{3} [A-Z]', line)]
-    after = ' after ' + run[-1] if run else ''
-    return 'it breaks at %s%s: %s' % (end[1], after, BROKE[end[2]])
+                % (begin, word(memory, begin))), []
+    said = drawn(memory, rom)
+    ends = [line.split() for line in said if re.match('picture|broke|endless', line)]
+    if not ends:
+        return 'dvg doesn\'t draw it: ' + ' '.join(said[:1]), []
+    if ends[0][0] == 'picture':
+        return None, said
+    if ends[0][0] == 'endless':
+        return 'it never ends', said
+    run = instructions(said)
+    after = ' after %03X %s' % run[-1] if run else ''
+    return 'it breaks at %s%s: %s' % (ends[0][1], after, BROKE.get(ends[0][2], '')), said
 
 
 def drawn(memory, rom):
-    done = subprocess.run([DVG, 'picture', '--all'], input=memory + rom, stdout=subprocess.PIPE)
-    return done.stdout.decode().splitlines()
+    done = subprocess.run([DVG, 'picture', '--all'], input=memory + rom, stdout=subprocess.PIPE,
+                          stderr=subprocess.STDOUT)
+    return done.stdout.decode(errors='replace').splitlines()
 
 
 def times_of(texts):
@@ -137,48 +217,178 @@ def times_of(texts):
     return [(int(time), int(vectors), int(others)) for vectors, others, time in found]
 
 
-def judge_pictures(out, log, rom, rate):
-    with open(os.path.join(out, 'pictures'), 'rb') as file:
-        memories = file.read()
-    first_at = {}
-    for number, (time, _) in enumerate(log.pictures):
-        memory = memories[number * RAM:(number + 1) * RAM]
+class Frames:
+    """Who wrote each byte of the vector RAM, and which of them are of the frame that is shown."""
+
+    def __init__(self):
+        self.writes = []
+        self.last = [-1] * RAM      # the number of the last write of each byte
+        self.begun = 0              # the first write of the frame that is being made
+        self.shown = 0              # and of the one that is shown
+        self.is_new = False
+
+    def write(self, at, time, where):
+        self.last[at] = len(self.writes)
+        self.writes.append((time, where))
+        if at == FLIP:
+            self.shown, self.begun, self.is_new = self.begun, len(self.writes), True
+
+    def reset(self):
+        self.begun = len(self.writes)
+
+    def has(self, k):
+        """Whether word k was written for the frame that is shown."""
+        return min(self.last[2 * k], self.last[2 * k + 1]) >= self.shown
+
+    def end(self, begin):
+        """The last word of the half that was written for it, or the one before its first."""
+        return max((k for k in range(begin, begin - 1 + HALF_WORDS) if self.has(k)),
+                   default=begin - 1)
+
+    def put(self, k):
+        """By whom word k was put, and when."""
+        number = self.last[2 * k]
+        if number < 0:
+            return ''
+        time, where = self.writes[number]
+        return ', put%s, at %.3f s' % (by(where), time)
+
+
+class Pictures:
+    """Judges each picture; those of the same words are drawn once."""
+
+    def __init__(self, memories, rom):
+        self.memories, self.rom, self.known, self.frames = memories, rom, {}, Frames()
+        self.count, self.good, self.bad_ones, self.garbage = 0, [], [], []
+        self.fullest = 0, 0.0
+
+    def take(self, time):
+        memory = self.memories[self.count * RAM:(self.count + 1) * RAM]
+        self.count += 1
+        if len(memory) < RAM:
+            self.bad_ones.append((time, 'its words are missing'))
+            return
         half = HALF if memory[1:2] == b'\xE2' else 0
         key = memory[:2] + memory[half + 2:half + HALF]
-        first_at.setdefault(key, (time, memory))
-    good, bad_ones = [], []
-    for time, memory in first_at.values():
-        said = drawn(memory, rom)
-        why = what_is_bad(memory, said)
+        if key not in self.known:
+            why, said = what_is_bad(memory, self.rom)
+            self.known[key] = why, instructions(said)
+            if not why:
+                self.good.append((time, '\n'.join(said)))
+        why, run = self.known[key]
+        begin = half // 2 + 1
+        if self.frames.is_new:
+            self.frames.is_new = False
+            self.fullest = max(self.fullest, (self.frames.end(begin) - begin + 1, -time))
+        self.look_for_garbage(memory, run, time)
+        why = self.what_is_old(memory, begin, run) or why
         if why:
-            bad_ones.append((time, why))
+            self.bad_ones.append((time, why))
+
+    def look_for_garbage(self, memory, run, time):
+        """Words that are taken for a vector, and are the place of a shape: calls without C000."""
+        for at, _ in run:
+            if 0 < at < WORDS and word(memory, at) in shapes:
+                self.garbage.append((time, at, word(memory, at), self.frames.put(at)))
+                return
+
+    def what_is_old(self, memory, begin, run):
+        """What a run reads that wasn't written for its frame, or None."""
+        before = None
+        for at, text in run:
+            for k in range(at, at + size_of(text)):
+                if 0 < k < WORDS and not self.frames.has(k):
+                    return self.tell_old(memory, begin, k, before)
+            if 0 < at < WORDS:
+                before = at, text
+        return None
+
+    def tell_old(self, memory, begin, k, before):
+        end = self.frames.end(begin)
+        if k == end + 1 and end >= begin:
+            what = 'HALT' if word(memory, end) >> 12 == HALT else 'end'
+            text = 'it goes on past its %s at %03X' % (what, end)
         else:
-            good.append((time, '\n'.join(said)))
-    if good:
-        spent = [(found, at) for found, (at, _) in zip(times_of([text for _, text in good]), good)]
+            text = 'it reads %03X, which was not written for it' % k
+        if before:
+            at, _ = before
+            text += '; before that stands %04X at %03X%s' % (word(memory, at), at,
+                                                             self.frames.put(at))
+        return text
+
+
+def judge_pictures(out, log, rom, rate):
+    with open(os.path.join(out, 'pictures'), 'rb') as file:
+        pictures = Pictures(file.read(), rom)
+    for event in log.events:
+        if event[0] == 'wrote':
+            pictures.frames.write(event[1], event[3], event[4])
+        elif event[0] == 'picture':
+            pictures.take(event[1])
+        elif event[0] == 'reset':
+            pictures.frames.reset()
+    tell_longest(pictures, rate)
+    tell_fullest(pictures, log)
+    if pictures.garbage:
+        time, at, value, put = pictures.garbage[0]
+        say(False, 'a call without its opcode: %04X at %03X is where %s stands, and its call is '
+            '%04X%s; so in %d pictures' % (value, at, shapes[value], value | 0xC000, put,
+                                           len(pictures.garbage)))
+    if pictures.bad_ones:
+        say(False, '%d bad pictures of %d; the first at %.3f s: %s'
+            % (len(pictures.bad_ones), pictures.count, *pictures.bad_ones[0]))
+    else:
+        print('%d pictures are good, of which %d differ' % (pictures.count, len(pictures.known)))
+
+
+def tell_longest(pictures, rate):
+    good = pictures.good
+    spent = [(found, at) for found, (at, _) in zip(times_of([text for _, text in good]), good)]
+    if spent:
         (time, vectors, others), at = max(spent)
         say(time <= 1000000 / rate, 'the longest picture: %d microseconds, %d vectors, '
             '%d other instructions, at %.3f s' % (time, vectors, others, at))
-    if bad_ones:
-        say(False, '%d bad pictures of %d; the first at %.3f s: %s'
-            % (len(bad_ones), len(first_at), *bad_ones[0]))
-    else:
-        print('%d pictures are good, of which %d differ' % (len(log.pictures), len(first_at)))
 
 
-def main():
-    out, rom_path, rate = sys.argv[1], sys.argv[2], int(sys.argv[3])
+def tell_fullest(pictures, log):
+    words, time = pictures.fullest
+    why = ''
+    if log.room:
+        time_of_it, where = log.room[0]
+        why = '; no room was left for what was put%s, at %.3f s' % (by(where[1:]), time_of_it)
+    elif words == HALF_WORDS - 1:
+        why = '; it is full'
+    say(not why, 'the fullest frame: %d of %d words, at %.3f s%s'
+        % (words, HALF_WORDS - 1, -time, why))
+
+
+def judge(out, rom_path, rate):
     log = Log(os.path.join(out, 'judge.log'))
     if log.faults:
         say(False, log.faults[0])
-        sys.exit(1)
+        return
     with open(rom_path, 'rb') as file:
         rom = file.read()
-    judge_halves(out)
+    judge_premises(out)
+    judge_halves(out, log)
     judge_resets(log)
     judge_rate(log, rate)
     judge_pictures(out, log, rom, rate)
+    if log.pressed:
+        print('%d of %d presses of the file of buttons came' % log.pressed)
+    for text in log.watched:
+        print('watched: ' + text)
     print('judged %.0f seconds: %s' % (log.ended, 'bad' if bad else 'good'))
+
+
+def main():
+    if len(sys.argv) != 4 or not re.fullmatch(r'\d*\.?\d+', sys.argv[3]) or not float(sys.argv[3]):
+        print('judge: OUT ROM RATE, where RATE is pictures a second', file=sys.stderr)
+        sys.exit(64)
+    try:
+        judge(sys.argv[1], sys.argv[2], float(sys.argv[3]))
+    except OSError as fault:
+        say(False, 'nothing was judged: %s' % fault)
     sys.exit(bad != 0)
 
 

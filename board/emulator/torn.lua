@@ -6,8 +6,8 @@
 -- which is looked for in the HALT flag before each write and each start. A reset of the machine is
 -- logged where the processor fetches its reset vector. This emulator's generator runs ahead of its
 -- processor by up to a millisecond, so it is no judge of interleavings closer than that.
-if dvg_loaded then return end
-dvg_loaded = true
+if _G.dvg_loaded then return end
+_G.dvg_loaded = true
 
 local log = assert(io.open(os.getenv("DVG_OUT") .. "/torn.log", "w"))
 local space = manager.machine.devices[":maincpu"].spaces["program"]
@@ -16,14 +16,15 @@ local is_open = false
 local function tell(...) log:write(string.format(...), "\n") end
 
 -- Bit 7 of 2002 is clear where the generator is halted. Other scripts see by dvg_looks that it
--- isn't the program that reads it.
+-- isn't the program that reads it. The emulator gives the script that it starts globals of its own,
+-- and a script that is called by dofile those of _G: so what both share is named by _G.
 local function look()
-  dvg_looks = true
+  _G.dvg_looks = true
   if is_open and (space:read_u8(0x2002) & 0x80) == 0 then
     tell("halted")
     is_open = false
   end
-  dvg_looks = false
+  _G.dvg_looks = false
 end
 
 dvg_taps = {
