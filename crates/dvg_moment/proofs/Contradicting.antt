@@ -1,5 +1,5 @@
 -- When a reading contradicts what was told.
-use Rattle.std.proofs.Common.{◌≡◌, ◌≢◌, ℕ, ◌+◌, ◌*◌, ◌/◌, ◌%◌, ◌<◌, ◌⊎◌, inl, inr, refl, sym, ◌∙◌, ap, Some, None, Bool, true, false, get_or, arith}
+use Rattle.std.proofs.Common.{◌≡◌, ◌≢◌, ℕ, ◌+◌, ◌*◌, ◌/◌, ◌%◌, ◌<◌, ◌⊎◌, inl, inr, refl, sym, ◌∙◌, ap, subst, Some, None, Bool, true, false, get_or, arith}
 use Rattle.std.specs.Prelude.{◌==◌, ◌&&◌, if◌then◌else◌, not, IsTrue, ◌↔◌}
 use Rattle.std.proofs.lemmas.Bool.{cases_lt}
 use Rattle.std.proofs.lemmas.Bool.Decides.{eqb_tells}
@@ -8,9 +8,8 @@ use Rattle.std.proofs.lemmas.Option.{none-some, same_Some}
 use Rattle.dvg_log.specs.declared.entry.Entry.TheVariants.{Low}
 use Rattle.dvg_log.specs.Log.{Log, waiting}
 use Rattle.dvg_moment.specs.declared.judge.MomentJudge.{MomentJudge}
-use Rattle.dvg_moment.specs.Moment.{waits, word_reads, reads, told, Contradicts}
+use Rattle.dvg_moment.specs.Moment.{waits, word_reads, reads, told, WaitsAsAnother, Contradicts}
 use Rattle.dvg_moment.specs.Judging.{StandsAfter}
-use Rattle.dvg_moment.specs.own.Steps.{is_some_of}
 use Rattle.dvg_moment.proofs.Standing.{low_waits}
 use Rattle.dvg_moment.proofs.Reading.{equal, low_reads, low_at, some_read, high_reads}
 
@@ -19,18 +18,11 @@ abbrev pub IsAnother : MomentJudge → (at byte : ℕ) → Type 0
 IsAnother judge at byte = (other : ℕ) × (get_or judge.told at None ≡ Some other) × (byte ≢ other)
 
 module _ (judge : MomentJudge) (log : Log) (s : StandsAfter judge log) where
-  within : (at other : ℕ) → get_or judge.told at None ≡ Some other → (at < 0x800) × (told log at ≡ Some other)
-  within at other e = elim (cases_lt at 0x800) [
+  within : (at other : ℕ) → get_or judge.told at None ≡ Some other → (at < 0x2000) × (told log at ≡ Some other)
+  within at other e = elim (cases_lt at 0x2000) [
     | inl l ↦ (l, sym (s.tells at l) ∙ e)
     | inr l ↦ absurd (none-some other (sym (get_or_past judge.told at None (let n = s.sizes.0 in omega arith)) ∙ e))
   ]
-
-  -- what is known was told
-  pub told_known : (at byte : ℕ) → get_or judge.told at None ≡ Some byte → (at < 0x800) × (told log at ≢ None)
-  told_known at byte e = let w = within at byte e in (w.0, λ n. none-some byte (sym n ∙ w.1))
-
-  pub none_told : (at : ℕ) → get_or judge.told at None ≡ None → ¬ ((at < 0x800) × (told log at ≢ None))
-  none_told at e t = t.1 (sym (s.tells at t.0) ∙ e)
 
   pub low_contradicts : (address byte : ℕ) → IsAnother judge (2 * address) byte ↔ Contradicts log (Low address byte)
   low_contradicts address byte = (
@@ -43,7 +35,9 @@ module _ (judge : MomentJudge) (log : Log) (s : StandsAfter judge log) where
 
   -- what a fetch that completes a word contradicts
   abbrev pub Word : (address word : ℕ) → Type 0
-  Word address word = (a byte other : ℕ) × (a < 0x800) × (word_reads (waits (waiting log) address) address word a ≡ Some byte) × (told log a ≡ Some other) × (byte ≢ other)
+  Word address word =
+      ((a byte other : ℕ) × (a < 0x2000) × (word_reads (waits (waiting log) address) address word a ≡ Some byte) × (told log a ≡ Some other) × (byte ≢ other))
+      ⊎ WaitsAsAnother (waiting log) address (word % 256)
 
   low_part : (address word : ℕ) → word_reads false address word (2 * address) ≡ Some (word % 256)
   low_part address word = rw (apart (eqb_tells (2 * address) (2 * address + 1)), equal (2 * address) (2 * address) refl) refl
@@ -66,9 +60,9 @@ module _ (judge : MomentJudge) (log : Log) (s : StandsAfter judge log) where
       by false f at = (refl, at, same_Some _ _ f)
 
   here : (address word at byte other : ℕ) → word_reads (waits (waiting log) address) address word at ≡ Some byte → get_or judge.told at None ≡ Some other → byte ≢ other → Word address word
-  here address word at byte other r e n = let w = within at other e in (at, byte, other, w.0, r, w.1, n)
+  here address word at byte other r e n = let w = within at other e in inl (at, byte, other, w.0, r, w.1, n)
 
-  there : (at a byte other : ℕ) → a ≡ at → a < 0x800 → told log a ≡ Some other → byte ≢ other → IsAnother judge at byte
+  there : (at a byte other : ℕ) → a ≡ at → a < 0x2000 → told log a ≡ Some other → byte ≢ other → IsAnother judge at byte
   there at a byte other e l t n = (other, ap (λ b. get_or judge.told b None) (sym e) ∙ (s.tells a l ∙ t), n)
 
   pub high_contradicts : (address word : ℕ) → IsAnother judge (2 * address + 1) (word / 256) → Word address word
@@ -77,10 +71,13 @@ module _ (judge : MomentJudge) (log : Log) (s : StandsAfter judge log) where
   pub low_too : (address word : ℕ) → waits (waiting log) address ≡ false → IsAnother judge (2 * address) (word % 256) → Word address word
   low_too address word f k = here address word (2 * address) (word % 256) k.0 (rw f (low_part address word)) k.1 k.2
 
-  pub word_contradicts : (address word : ℕ) → Word address word → IsAnother judge (2 * address + 1) (word / 256) ⊎ ((waits (waiting log) address ≡ false) × IsAnother judge (2 * address) (word % 256))
-  word_contradicts address word c = elim (parts (waits (waiting log) address) address word c.0 c.1 c.4) [
+  pub word_contradicts : (address word : ℕ) → Word address word
+      → IsAnother judge (2 * address + 1) (word / 256) ⊎ ((waits (waiting log) address ≡ false) × IsAnother judge (2 * address) (word % 256))
+      ⊎ WaitsAsAnother judge.low address (word % 256)
+  word_contradicts address word (inr k) = inr (inr (subst (λ low. WaitsAsAnother low address (word % 256)) (sym s.waits) k))
+  word_contradicts address word (inl c) = elim (parts (waits (waiting log) address) address word c.0 c.1 c.4) [
     | inl h ↦ inl (there (2 * address + 1) c.0 (word / 256) c.2 h.0 c.3 c.5 (λ e. c.6 (sym h.1 ∙ e)))
-    | inr h ↦ inr (h.0, there (2 * address) c.0 (word % 256) c.2 h.1 c.3 c.5 (λ e. c.6 (sym h.2 ∙ e)))
+    | inr h ↦ inr (inl (h.0, there (2 * address) c.0 (word % 256) c.2 h.1 c.3 c.5 (λ e. c.6 (sym h.2 ∙ e))))
   ]
 
   -- what the judge answers
@@ -88,15 +85,16 @@ module _ (judge : MomentJudge) (log : Log) (s : StandsAfter judge log) where
   pub low_answer : (address byte : ℕ) (answer : Bool) → IsTrue answer ↔ IsAnother judge (2 * address) byte → IsTrue answer ↔ Contradicts log (Low address byte)
   low_answer address byte answer a = let c = low_contradicts address byte in ((λ t. c.0 (a.0 t)), λ k. a.1 (c.1 k))
 
-  pub low_found : (address word : ℕ) → is_some_of judge.low address ≡ false → IsAnother judge (2 * address) (word % 256) → Word address word
+  pub low_found : (address word : ℕ) → waits judge.low address ≡ false → IsAnother judge (2 * address) (word % 256) → Word address word
   low_found address word f k = low_too address word (sym (low_waits judge log address s) ∙ f) k
 
   pub high_answer : (address word : ℕ) (answer : Bool) → IsTrue answer ↔ IsAnother judge (2 * address + 1) (word / 256)
-      → (is_some_of judge.low address ≡ false → ¬ IsAnother judge (2 * address) (word % 256)) → IsTrue answer ↔ Word address word
-  high_answer address word answer a none = (
+      → ¬ WaitsAsAnother judge.low address (word % 256) → (waits judge.low address ≡ false → ¬ IsAnother judge (2 * address) (word % 256)) → IsTrue answer ↔ Word address word
+  high_answer address word answer a same none = (
     (λ t. high_contradicts address word (a.0 t)),
     λ k. elim (word_contradicts address word k) [
       | inl h ↦ a.1 h
-      | inr h ↦ absurd (none (low_waits judge log address s ∙ h.0) h.1)
+      | inr (inl h) ↦ absurd (none (low_waits judge log address s ∙ h.0) h.1)
+      | inr (inr k) ↦ absurd (same k)
     ],
   )

@@ -2,7 +2,7 @@
 use Rattle.std.proofs.Common.{◌≡◌, ◌≢◌, ℕ, ◌+◌, ◌*◌, ◌/◌, ◌%◌, ◌<◌, ◌≤◌, ◌⊎◌, inl, inr, List, [], ◌∷◌, ◌++◌, length, refl, sym, ◌∙◌, ap, subst, Option, Some, None, Bool, true, false, get_or, replicate, arith}
 use Rattle.std.specs.Prelude.{◌==◌, ◌&&◌, not, if◌then◌else◌, IsTrue, ◌↔◌, option_map, slice_set}
 use Rattle.std.specs.Option.{option_or}
-use Rattle.std.proofs.lemmas.Bool.{false≢true, true≢false}
+use Rattle.std.proofs.lemmas.Bool.{false≢true, true≢false, lt-ltb, le-ltb}
 use Rattle.std.proofs.lemmas.Bool.Decides.{eqb_tells}
 use Rattle.std.proofs.lemmas.List.{length-set, get_or-replicate, length-replicate}
 use Rattle.std.proofs.lemmas.Option.{none-some, same_Some}
@@ -23,11 +23,11 @@ use Rattle.dvg_moment.proofs.Latest.{whole_on, moment_before, is_latest, past_on
 use Rattle.dvg_moment.proofs.Steps.{IsSized, set_here, set_there, mark_set, HasReadOf, only, none_read, one_read, read_on, stands_on}
 
 -- before the first line
-pub at_first : (judge : MomentJudge) → judge.told ≡ replicate 0x800 None → judge.read ≡ replicate 0x800 false → judge.changed ≡ replicate 0x800 false
+pub at_first : (judge : MomentJudge) → judge.told ≡ replicate 0x2000 None → judge.read ≡ replicate 0x800 false → judge.changed ≡ replicate 0x800 false
     → judge.low ≡ None → judge.phase ≡ Closed → StandsAfter judge []
 at_first judge t r c l p = record {
-  sizes = (ap length t ∙ length-replicate {A = Option ℕ} 0x800 None, ap length r ∙ length-replicate 0x800 false, ap length c ∙ length-replicate 0x800 false);
-  tells = λ a k. ap (λ items. get_or items a None) t ∙ get_or-replicate 0x800 a None None k;
+  sizes = (ap length t ∙ length-replicate {A = Option ℕ} 0x2000 None, ap length r ∙ length-replicate 0x800 false, ap length c ∙ length-replicate 0x800 false);
+  tells = λ a k. ap (λ items. get_or items a None) t ∙ get_or-replicate 0x2000 a None None k;
   marks = λ a k. ((λ m. false≢true (sym (get_or-replicate 0x800 a false false k) ∙ (sym (ap (λ items. get_or items a false) r) ∙ m))), λ h. absurd h);
   waits = l;
   closed = ((λ e. refl), λ e. p);
@@ -46,7 +46,7 @@ module _ (log : Log) (event : Happening) (entry : Shown) (goes : entry ≢ Start
     (tells : (a : ℕ) → told ((event ⟼ entry) ∷ log) a ≡ option_or (reads log entry a) (told log a))
     (marks : (a : ℕ) → HasRead a ((event ⟼ entry) ∷ log) ↔ ((reads log entry a ≢ None) ⊎ HasRead a log))
     (old mid : MomentJudge) (f : HasReadOf old mid (reads log entry)) (s : StandsAfter old log) where
-  mid_tells : (a : ℕ) → a < 0x800 → get_or mid.told a None ≡ told ((event ⟼ entry) ∷ log) a
+  mid_tells : (a : ℕ) → a < 0x2000 → get_or mid.told a None ≡ told ((event ⟼ entry) ∷ log) a
   mid_tells a l = f.tells a l ∙ (ap (option_or (reads log entry a)) (s.tells a l) ∙ sym (tells a))
 
   mid_marks : (a : ℕ) → a < 0x800 → IsTrue (is_marked mid.read a) ↔ HasRead a ((event ⟼ entry) ∷ log)
@@ -65,7 +65,7 @@ module _ (log : Log) (event : Happening) (entry : Shown) (goes : entry ≢ Start
   )
 
   -- the run stays as it is
-  pub goes_on : (low : Option ℕ) → (open_run ((event ⟼ entry) ∷ log) ≡ None) ↔ (open_run log ≡ None) → low ≡ option_map (λ low. low.0) (waiting ((event ⟼ entry) ∷ log))
+  pub goes_on : (low : Option (ℕ × ℕ)) → (open_run ((event ⟼ entry) ∷ log) ≡ None) ↔ (open_run log ≡ None) → low ≡ waiting ((event ⟼ entry) ∷ log)
       → StandsAfter (record mid { low = low }) ((event ⟼ entry) ∷ log)
   goes_on low opened waits = record {
     sizes = f.sizes;
@@ -82,7 +82,7 @@ module _ (log : Log) (event : Happening) (entry : Shown) (goes : entry ≢ Start
     sizes = f.sizes;
     tells = mid_tells;
     marks = mid_marks;
-    waits = sym (ap (option_map (λ low. low.0)) waits);
+    waits = sym waits;
     closed = ((λ e. closed), λ o. refl);
     stands = tt;
   }
@@ -132,10 +132,10 @@ started_stands judge log s = record {
 -- bytes are read
 
 pub low_stands : (judge : MomentJudge) (log : Log) (address byte : ℕ) → StandsAfter judge log
-    → StandsAfter (record (after_read judge (2 * address) byte) { low = Some address }) ((Fetch ⟼ Low address byte) ∷ log)
+    → StandsAfter (record (after_read judge (2 * address) byte) { low = Some (address, byte) }) ((Fetch ⟼ Low address byte) ∷ log)
 low_stands judge log address byte s =
     goes_on log Fetch (Low address byte) (λ e. cc) (λ a c. c) (λ a. refl) (λ a. ((λ h. h), λ h. h)) judge (after_read judge (2 * address) byte)
-    (one_read judge (2 * address) byte s.sizes) s (Some address) ((λ o. o), λ o. o) refl
+    (one_read judge (2 * address) byte s.sizes) s (Some (address, byte)) ((λ o. o), λ o. o) refl
 
 or_none : (read : Option ℕ) → option_or read None ≡ read
 or_none None = refl
@@ -171,23 +171,19 @@ word_read judge false address word s =
     read_on judge mid (after_read mid (2 * address + 1) (word / 256)) (only (2 * address) (word % 256)) (only (2 * address + 1) (word / 256)) (word_reads false address word)
     first (one_read mid (2 * address + 1) (word / 256) first.sizes) (both_read address word)
 
-same_low : (low : Option (ℕ × ℕ)) (address : ℕ) → is_some_of (option_map (λ low. low.0) low) address ≡ waits low address
-same_low None address = refl
-same_low (Some low) address = refl
-
-pub low_waits : (judge : MomentJudge) (log : Log) (address : ℕ) → StandsAfter judge log → is_some_of judge.low address ≡ waits (waiting log) address
-low_waits judge log address s = ap (λ low. is_some_of low address) s.waits ∙ same_low (waiting log) address
+pub low_waits : (judge : MomentJudge) (log : Log) (address : ℕ) → StandsAfter judge log → waits judge.low address ≡ waits (waiting log) address
+low_waits judge log address s = ap (λ low. waits low address) s.waits
 
 word_reads_of : (judge : MomentJudge) (log : Log) (address word : ℕ) → StandsAfter judge log
-    → HasReadOf judge (after_word (is_some_of judge.low address) judge address word) (word_reads (waits (waiting log) address) address word)
+    → HasReadOf judge (after_word (waits judge.low address) judge address word) (word_reads (waits (waiting log) address) address word)
 word_reads_of judge log address word s =
-    subst (λ low. HasReadOf judge (after_word (is_some_of judge.low address) judge address word) (word_reads low address word)) (low_waits judge log address s)
-    (word_read judge (is_some_of judge.low address) address word s.sizes)
+    subst (λ low. HasReadOf judge (after_word (waits judge.low address) judge address word) (word_reads low address word)) (low_waits judge log address s)
+    (word_read judge (waits judge.low address) address word s.sizes)
 
 pub fetched_stands : (judge : MomentJudge) (log : Log) (address word : ℕ) → StandsAfter judge log
-    → StandsAfter (record (after_word (is_some_of judge.low address) judge address word) { low = None }) ((Fetch ⟼ Fetched address word) ∷ log)
+    → StandsAfter (record (after_word (waits judge.low address) judge address word) { low = None }) ((Fetch ⟼ Fetched address word) ∷ log)
 fetched_stands judge log address word s =
-    goes_on log Fetch (Fetched address word) (λ e. cc) (λ a c. c) (λ a. refl) (λ a. ((λ h. h), λ h. h)) judge (after_word (is_some_of judge.low address) judge address word)
+    goes_on log Fetch (Fetched address word) (λ e. cc) (λ a c. c) (λ a. refl) (λ a. ((λ h. h), λ h. h)) judge (after_word (waits judge.low address) judge address word)
     (word_reads_of judge log address word s) s None (opened (open_run log)) refl
   where
     opened : (run : Option (List (ℕ × ℕ))) → (option_map (λ fetches. (address, word) ∷ fetches) run ≡ None) ↔ (run ≡ None)
@@ -195,14 +191,14 @@ fetched_stands judge log address word s =
     opened (Some fetches) = ((λ o. absurd (none-some _ (sym o))), λ o. absurd (none-some _ (sym o)))
 
 module _ (judge : MomentJudge) (log : Log) (address word : ℕ) (strokes : List Stroke) (s : StandsAfter judge log) where
-  pub done_stands : StandsAfter (after_end (after_word (is_some_of judge.low address) judge address word)) ((Fetch ⟼ Done address word strokes) ∷ log)
+  pub done_stands : StandsAfter (after_end (after_word (waits judge.low address) judge address word)) ((Fetch ⟼ Done address word strokes) ∷ log)
   done_stands =
-      ends log Fetch (Done address word strokes) (λ e. cc) (λ a c. c) (λ a. refl) (λ a. ((λ h. h), λ h. h)) judge (after_word (is_some_of judge.low address) judge address word)
+      ends log Fetch (Done address word strokes) (λ e. cc) (λ a c. c) (λ a. refl) (λ a. ((λ h. h), λ h. h)) judge (after_word (waits judge.low address) judge address word)
       (word_reads_of judge log address word s) s refl refl
 
-  pub done_torn : ((after_word (is_some_of judge.low address) judge address word).phase ≡ Torn) ↔ ¬ IsOfOneMoment told log Fetch (Done address word strokes)
+  pub done_torn : ((after_word (waits judge.low address) judge address word).phase ≡ Torn) ↔ ¬ IsOfOneMoment told log Fetch (Done address word strokes)
   done_torn =
-      is_torn_then log Fetch (Done address word strokes) (λ e. cc) (λ a c. c) (λ a. refl) (λ a. ((λ h. h), λ h. h)) judge (after_word (is_some_of judge.low address) judge address word)
+      is_torn_then log Fetch (Done address word strokes) (λ e. cc) (λ a c. c) (λ a. refl) (λ a. ((λ h. h), λ h. h)) judge (after_word (waits judge.low address) judge address word)
       (word_reads_of judge log address word s) s
 
 -- nothing is read
@@ -216,10 +212,10 @@ module _ (judge : MomentJudge) (log : Log) (s : StandsAfter judge log) where
   passed_stands =
       goes_on log Tick (Acted Idle) (λ e. cc) (λ a c. c) (λ a. refl) (λ a. ((λ h. h), λ h. h)) judge judge (none_read judge (λ a. None) s.sizes (λ a l. refl)) s judge.low ((λ o. o), λ o. o) s.waits
 
-  pub reset_stands : (bytes : List ℕ) → StandsAfter (after_end (record judge { told = replicate 0x800 None })) ((ResetAll bytes ⟼ Cleared) ∷ log)
+  pub reset_stands : (bytes : List ℕ) → StandsAfter (after_end (record judge { told = replicate 0x2000 None })) ((ResetAll bytes ⟼ Cleared) ∷ log)
   reset_stands bytes = record {
-    sizes = (length-replicate {A = Option ℕ} 0x800 None, s.sizes.1, s.sizes.2);
-    tells = λ a l. get_or-replicate 0x800 a None None l;
+    sizes = (length-replicate {A = Option ℕ} 0x2000 None, s.sizes.1, s.sizes.2);
+    tells = λ a l. get_or-replicate 0x2000 a None None l;
     marks = λ a l. ((λ m. inr ((s.marks a l).0 m)), λ h. elim h [ inl r ↦ absurd (r refl) | inr k ↦ (s.marks a l).1 k ]);
     waits = refl;
     closed = ((λ e. refl), λ o. refl);
@@ -232,9 +228,9 @@ module _ (judge : MomentJudge) (log : Log) (at byte : ℕ) (s : StandsAfter judg
   abbrev line : Line
   line = Tick ⟼ Acted (Wrote at byte)
 
-  written_tells : at < 0x800 → (a : ℕ) → a < 0x800 → get_or (slice_set judge.told at (Some byte)) a None ≡ told (line ∷ log) a
+  written_tells : at < 0x800 → (a : ℕ) → a < 0x2000 → get_or (slice_set judge.told at (Some byte)) a None ≡ told (line ∷ log) a
   written_tells l a k = elim (eqb_tells a at) [
-    | inl t ↦ rw t.0 (set_here judge.told at a (Some byte) None t.1 (let n = s.sizes.0 in omega arith))
+    | inl t ↦ rw (t.0, lt-ltb a 0x800 (let e = t.1 in omega arith)) (set_here judge.told at a (Some byte) None t.1 (let n = s.sizes.0 in omega arith))
     | inr t ↦ rw t.0 (set_there judge.told at a (Some byte) None t.1 ∙ s.tells a k)
   ]
 
@@ -260,7 +256,7 @@ module _ (judge : MomentJudge) (log : Log) (at byte : ℕ) (s : StandsAfter judg
   pub beyond_stands : 0x800 ≤ at → StandsAfter judge (line ∷ log)
   beyond_stands b = record {
     sizes = s.sizes;
-    tells = λ a l. elim (eqb_tells a at) [ inl t ↦ absurd (let e = t.1 in omega arith) | inr t ↦ rw t.0 (s.tells a l) ];
+    tells = λ a l. elim (eqb_tells a at) [ inl t ↦ rw (t.0, le-ltb a 0x800 (let e = t.1 in omega arith)) (s.tells a l) | inr t ↦ rw t.0 (s.tells a l) ];
     marks = written_marks;
     waits = s.waits;
     closed = s.closed;
@@ -324,33 +320,36 @@ module _ (judge : MomentJudge) (log : Log) (at byte : ℕ) (s : StandsAfter judg
   pub write_stands : at < 0x800 → StandsAfter (after_write (is_some_of (get_or judge.told at None) byte) judge at byte) (line ∷ log)
   write_stands l = by (get_or judge.told at None) refl
     where
+      tells : get_or judge.told at None ≡ told log at
+      tells = s.tells at (omega arith)
+
       other : told log at ≢ Some byte → StandsAfter (after_write false judge at byte) (line ∷ log)
       other n = changes l n judge.phase (is_marked judge.read at) refl refl s.stands
 
       by : (known : Option ℕ) → get_or judge.told at None ≡ known → StandsAfter (after_write (is_some_of known byte) judge at byte) (line ∷ log)
-      by None e = other (λ t. none-some byte (sym e ∙ (s.tells at l ∙ t)))
+      by None e = other (λ t. none-some byte (sym e ∙ (tells ∙ t)))
       by (Some known) e = elim (eqb_tells known byte) [
-        | inl t ↦ rw t.0 (again l (sym (s.tells at l) ∙ (e ∙ ap Some t.1)))
-        | inr t ↦ rw t.0 (other (λ g. t.1 (same_Some _ _ (sym e ∙ (s.tells at l ∙ g)))))
+        | inl t ↦ rw t.0 (again l (sym tells ∙ (e ∙ ap Some t.1)))
+        | inr t ↦ rw t.0 (other (λ g. t.1 (same_Some _ _ (sym e ∙ (tells ∙ g)))))
       ]
 
 -- what was left by the judge's calls
 
 pub low_left : (judge new : MomentJudge) (log : Log) (address a byte : ℕ) → StandsAfter judge log → a ≡ address → new ≡ after_read judge (2 * a) byte
-    → StandsAfter (record new { low = Some address }) ((Fetch ⟼ Low address byte) ∷ log)
+    → StandsAfter (record new { low = Some (address, byte) }) ((Fetch ⟼ Low address byte) ∷ log)
 low_left judge new log address a byte s e f =
-    subst (λ left. StandsAfter (record left { low = Some address }) ((Fetch ⟼ Low address byte) ∷ log)) (sym (f ∙ ap (λ b. after_read judge (2 * b) byte) e)) (low_stands judge log address byte s)
+    subst (λ left. StandsAfter (record left { low = Some (address, byte) }) ((Fetch ⟼ Low address byte) ∷ log)) (sym (f ∙ ap (λ b. after_read judge (2 * b) byte) e)) (low_stands judge log address byte s)
 
-pub fetched_left : (judge new : MomentJudge) (log : Log) (address word : ℕ) → StandsAfter judge log → new ≡ after_word (is_some_of judge.low address) judge address word
+pub fetched_left : (judge new : MomentJudge) (log : Log) (address word : ℕ) → StandsAfter judge log → new ≡ after_word (waits judge.low address) judge address word
     → StandsAfter (record new { low = None }) ((Fetch ⟼ Fetched address word) ∷ log)
 fetched_left judge new log address word s e = subst (λ left. StandsAfter (record left { low = None }) ((Fetch ⟼ Fetched address word) ∷ log)) (sym e) (fetched_stands judge log address word s)
 
-pub done_left : (judge mid new : MomentJudge) (log : Log) (address word : ℕ) (strokes : List Stroke) → StandsAfter judge log → mid ≡ after_word (is_some_of judge.low address) judge address word
+pub done_left : (judge mid new : MomentJudge) (log : Log) (address word : ℕ) (strokes : List Stroke) → StandsAfter judge log → mid ≡ after_word (waits judge.low address) judge address word
     → new ≡ after_end mid → StandsAfter new ((Fetch ⟼ Done address word strokes) ∷ log)
 done_left judge mid new log address word strokes s e f =
     subst (λ left. StandsAfter left ((Fetch ⟼ Done address word strokes) ∷ log)) (sym (f ∙ ap after_end e)) (done_stands judge log address word strokes s)
 
-pub done_answer : (judge mid : MomentJudge) (log : Log) (address word : ℕ) (strokes : List Stroke) (answer : Bool) → StandsAfter judge log → mid ≡ after_word (is_some_of judge.low address) judge address word
+pub done_answer : (judge mid : MomentJudge) (log : Log) (address word : ℕ) (strokes : List Stroke) (answer : Bool) → StandsAfter judge log → mid ≡ after_word (waits judge.low address) judge address word
     → IsTrue answer ↔ (mid.phase ≡ Torn) → IsTrue answer ↔ ¬ IsOfOneMoment told log Fetch (Done address word strokes)
 done_answer judge mid log address word strokes answer s e a =
     let t = done_torn judge log address word strokes s in

@@ -1,5 +1,5 @@
 -- How a judge's steps keep up with a log.
-use Rattle.std.proofs.Common.{◌≡◌, ◌≢◌, ℕ, ◌<◌, ◌⊎◌, inl, inr, List, [], ◌∷◌, ◌++◌, length, refl, sym, ◌∙◌, ap, subst, Option, Some, None, Bool, true, false, nat_lt, get_or, arith}
+use Rattle.std.proofs.Common.{◌≡◌, ◌≢◌, ℕ, ◌<◌, ◌⊎◌, inl, inr, List, [], ◌∷◌, ◌++◌, length, refl, sym, ◌∙◌, ap, subst, Option, Some, None, Bool, true, false, nat_lt, ◌≤◌, get_or, arith}
 use Rattle.std.specs.Prelude.{◌==◌, ◌||◌, if◌then◌else◌, IsTrue, ◌↔◌, slice_set}
 use Rattle.std.specs.Option.{option_or}
 use Rattle.std.proofs.lemmas.Bool.{cases_lt, lt-ltb, le-ltb, false≢true, true≢false}
@@ -20,7 +20,7 @@ use Rattle.dvg_moment.specs.own.Steps.{phase_after, after_read}
 use Rattle.dvg_moment.proofs.Latest.{whole_on, past_on, past_torn, torn_on}
 
 abbrev pub IsSized : MomentJudge → Type 0
-IsSized judge = (length judge.told ≡ 0x800) × (length judge.read ≡ 0x800) × (length judge.changed ≡ 0x800)
+IsSized judge = (length judge.told ≡ 0x2000) × (length judge.read ≡ 0x800) × (length judge.changed ≡ 0x800)
 
 -- a byte of a table, after one was written
 
@@ -39,10 +39,10 @@ mark_set marks at a l = elim (eqb_tells a at) [
   )
 ]
 
--- bytes were read: of each byte of the RAM as which, if at all
+-- bytes were read: each as which, if at all, and those of the RAM are marked
 pub record HasReadOf (old new : MomentJudge) (r : ℕ → Option ℕ) : Type 0 where
   pub sizes : IsSized new
-  pub tells : (a : ℕ) → a < 0x800 → get_or new.told a None ≡ option_or (r a) (get_or old.told a None)
+  pub tells : (a : ℕ) → a < 0x2000 → get_or new.told a None ≡ option_or (r a) (get_or old.told a None)
   pub marks : (a : ℕ) → a < 0x800 → IsTrue (is_marked new.read a) ↔ ((r a ≢ None) ⊎ IsTrue (is_marked old.read a))
   pub changed : new.changed ≡ old.changed
   pub any : Bool
@@ -63,29 +63,32 @@ only_there at byte a n = elim (eqb_tells a at) [ inl t ↦ absurd (n t.1) | inr 
 only_at : (at byte a : ℕ) → only at byte a ≢ None → a ≡ at
 only_at at byte a r = elim (eqb_tells a at) [ inl t ↦ t.1 | inr t ↦ absurd (r (only_there at byte a t.1)) ]
 
+same_phase : (phase : Phase) → phase ≡ phase_after phase false
+same_phase Closed = refl
+same_phase Whole = refl
+same_phase Past = refl
+same_phase Torn = refl
+
 -- nothing was read
-pub none_read : (judge : MomentJudge) (r : ℕ → Option ℕ) → IsSized judge → ((a : ℕ) → a < 0x800 → r a ≡ None) → HasReadOf judge judge r
+pub none_read : (judge : MomentJudge) (r : ℕ → Option ℕ) → IsSized judge → ((a : ℕ) → a < 0x2000 → r a ≡ None) → HasReadOf judge judge r
 none_read judge r s n = record {
   sizes = s;
   tells = λ a l. sym (ap (λ read. option_or read (get_or judge.told a None)) (n a l));
-  marks = λ a l. ((λ m. inr m), λ m. elim m [ inl f ↦ absurd (f (n a l)) | inr f ↦ f ]);
+  marks = λ a l. ((λ m. inr m), λ m. elim m [ inl f ↦ absurd (f (n a (omega arith))) | inr f ↦ f ]);
   changed = refl;
   any = false;
-  phase = same judge.phase;
+  phase = same_phase judge.phase;
   found = λ e. absurd (false≢true e);
-  spared = λ e a l f. absurd (f (n a l));
+  spared = λ e a l f. absurd (f (n a (omega arith)));
 }
-  where
-    same : (phase : Phase) → phase ≡ phase_after phase false
-    same Closed = refl
-    same Whole = refl
-    same Past = refl
-    same Torn = refl
 
 pub one_read : (judge : MomentJudge) (at byte : ℕ) → IsSized judge → HasReadOf judge (after_read judge at byte) (only at byte)
-one_read judge at byte s = elim (cases_lt at 0x800) [
-  | inl l ↦ subst (λ new. HasReadOf judge new (only at byte)) (sym (taken (lt-ltb at 0x800 l))) (inside l)
-  | inr l ↦ subst (λ new. HasReadOf judge new (only at byte)) (sym (left (le-ltb at 0x800 l))) (none_read judge (only at byte) s (λ a k. only_there at byte a (λ e. omega (arith, e))))
+one_read judge at byte s = elim (cases_lt at 0x2000) [
+  | inl l ↦ elim (cases_lt at 0x800) [
+    | inl k ↦ subst (λ new. HasReadOf judge new (only at byte)) (sym (taken (lt-ltb at 0x2000 l) (lt-ltb at 0x800 k))) (inside l k)
+    | inr k ↦ subst (λ new. HasReadOf judge new (only at byte)) (sym (told_alone (lt-ltb at 0x2000 l) (le-ltb at 0x800 k))) (outside l k)
+  ]
+  | inr l ↦ subst (λ new. HasReadOf judge new (only at byte)) (sym (left (le-ltb at 0x2000 l))) (none_read judge (only at byte) s (λ a k. only_there at byte a (λ e. omega (arith, e))))
 ]
   where
     marked : MomentJudge
@@ -95,19 +98,40 @@ one_read judge at byte s = elim (cases_lt at 0x800) [
       phase = phase_after judge.phase (is_marked judge.changed at);
     }
 
-    taken : nat_lt at 0x800 ≡ true → after_read judge at byte ≡ marked
-    taken t = rw t refl
+    unmarked : MomentJudge
+    unmarked = record judge { told = slice_set judge.told at (Some byte) }
 
-    left : nat_lt at 0x800 ≡ false → after_read judge at byte ≡ judge
+    taken : nat_lt at 0x2000 ≡ true → nat_lt at 0x800 ≡ true → after_read judge at byte ≡ marked
+    taken t u = rw (t, u) refl
+
+    told_alone : nat_lt at 0x2000 ≡ true → nat_lt at 0x800 ≡ false → after_read judge at byte ≡ unmarked
+    told_alone t u = rw (t, u) refl
+
+    left : nat_lt at 0x2000 ≡ false → after_read judge at byte ≡ judge
     left t = rw t refl
 
-    inside : at < 0x800 → HasReadOf judge marked (only at byte)
-    inside l = record {
+    set_tells : at < 0x2000 → (a : ℕ) → get_or (slice_set judge.told at (Some byte)) a None ≡ option_or (only at byte a) (get_or judge.told a None)
+    set_tells l a = elim (eqb_tells a at) [
+      | inl t ↦ set_here judge.told at a (Some byte) None t.1 (let n = s.0 in omega arith) ∙ sym (ap (λ read. option_or read (get_or judge.told a None)) (only_here at byte a t.1))
+      | inr t ↦ set_there judge.told at a (Some byte) None t.1 ∙ sym (ap (λ read. option_or read (get_or judge.told a None)) (only_there at byte a t.1))
+    ]
+
+    outside : at < 0x2000 → 0x800 ≤ at → HasReadOf judge unmarked (only at byte)
+    outside l b = record {
+      sizes = (length-set judge.told at (Some byte) ∙ s.0, s.1, s.2);
+      tells = λ a k. set_tells l a;
+      marks = λ a k. ((λ m. inr m), λ m. elim m [ inl r ↦ absurd (let e = only_at at byte a r in omega arith) | inr f ↦ f ]);
+      changed = refl;
+      any = false;
+      phase = same_phase judge.phase;
+      found = λ e. absurd (false≢true e);
+      spared = λ e a k r. absurd (let f = only_at at byte a r in omega arith);
+    }
+
+    inside : at < 0x2000 → at < 0x800 → HasReadOf judge marked (only at byte)
+    inside m l = record {
       sizes = (length-set judge.told at (Some byte) ∙ s.0, length-set judge.read at true ∙ s.1, s.2);
-      tells = λ a k. elim (eqb_tells a at) [
-        | inl t ↦ set_here judge.told at a (Some byte) None t.1 (let n = s.0 in omega arith) ∙ sym (ap (λ read. option_or read (get_or judge.told a None)) (only_here at byte a t.1))
-        | inr t ↦ set_there judge.told at a (Some byte) None t.1 ∙ sym (ap (λ read. option_or read (get_or judge.told a None)) (only_there at byte a t.1))
-      ];
+      tells = λ a k. set_tells m a;
       marks = λ a k.
           let m = mark_set judge.read at a (let n = s.1 in omega arith) in (
             (λ f. elim (m.0 f) [ inl e ↦ inl (λ none. none-some byte (sym none ∙ only_here at byte a e)) | inr g ↦ inr g ]),

@@ -1,6 +1,6 @@
 -- A line is read by its entry, whatever the event; but a reset ends a run, and one of the whole system voids what was told.
 use Rattle.std.proofs.Common.{◌≡◌, ◌≢◌, ℕ, ◌<◌, List, [], ◌∷◌, ◌++◌, refl, sym, ap, subst, Option, None, Bool, true, false, ◌∙◌}
-use Rattle.std.specs.Prelude.{IsTrue, ◌↔◌, option_map, Vec}
+use Rattle.std.specs.Prelude.{IsTrue, ◌↔◌, Vec}
 use Rattle.std.proofs.lemmas.Bool.{false≢true}
 use Rattle.std.proofs.lemmas.List.{get_or-replicate, length-replicate}
 use Rattle.dvg_gen.specs.declared.stroke.Stroke.{Stroke}
@@ -106,17 +106,17 @@ module _ (judge : MomentJudge) (entry : Shown) (log : Log) (s : StandsAfter judg
     sizes = s.sizes;
     tells = s.tells;
     marks = s.marks;
-    waits = sym (ap (option_map (λ low. low.0)) (none_waits entry log));
+    waits = sym (none_waits entry log);
     closed = ((λ e. none_open entry log n), λ o. refl);
     stands = tt;
   }
 
   all_ends : (bytes : List ℕ) → entry ≢ Started → StandsAfter (after_end (void judge)) ((ResetAll bytes ⟼ entry) ∷ log)
   all_ends bytes n = record {
-    sizes = (length-replicate {A = Option ℕ} 0x800 None, s.sizes.1, s.sizes.2);
-    tells = λ a l. get_or-replicate 0x800 a None None l;
+    sizes = (length-replicate {A = Option ℕ} 0x2000 None, s.sizes.1, s.sizes.2);
+    tells = λ a l. get_or-replicate 0x2000 a None None l;
     marks = s.marks;
-    waits = sym (ap (option_map (λ low. low.0)) (all_waits entry bytes log));
+    waits = sym (all_waits entry bytes log);
     closed = ((λ e. all_open entry bytes log n), λ o. refl);
     stands = tt;
   }
@@ -127,8 +127,8 @@ module _ (judge : MomentJudge) (log : Log) (s : StandsAfter judge ((Tick ⟼ Sta
 
   all_starts : (bytes : List ℕ) → StandsAfter (void judge) ((ResetAll bytes ⟼ Started) ∷ log)
   all_starts bytes = record {
-    sizes = (length-replicate {A = Option ℕ} 0x800 None, s.sizes.1, s.sizes.2);
-    tells = λ a l. get_or-replicate 0x800 a None None l;
+    sizes = (length-replicate {A = Option ℕ} 0x2000 None, s.sizes.1, s.sizes.2);
+    tells = λ a l. get_or-replicate 0x2000 a None None l;
     marks = s.marks;
     waits = s.waits;
     closed = s.closed;

@@ -55,4 +55,4 @@ late_of_one = (
 
 -- byte 2 is read as 1, and was written as 5
 pub reads_another : Contradicts ((Tick ⟼ Acted (Wrote 2 5)) ∷ (Strobe ⟼ Started) ∷ []) (Fetched 1 0x0101)
-reads_another = (2, 1, 5, omega arith, refl, refl, λ e. cc)
+reads_another = inl (2, 1, 5, omega arith, refl, refl, λ e. cc)

@@ -1,6 +1,6 @@
 -- What a judge keeps of a log, and what it answers.
 use Rattle.std.specs.Prelude.{◌≡◌, ◌≢◌, ℕ, ◌<◌, ◌++◌, List, [], ◌∷◌, length, slice_index_or, None}
-use Rattle.std.specs.Prelude.{option_map, Bool, false, IsTrue, ◌↔◌}
+use Rattle.std.specs.Prelude.{Bool, false, IsTrue, ◌↔◌}
 use Rattle.dvg_log.specs.Log.{Line, Log, waiting, open_run}
 use Rattle.dvg_moment.specs.declared.judge.Phase.{Phase}
 use Rattle.dvg_moment.specs.declared.judge.Phase.TheVariants.{Closed, Whole, Past, Torn}
@@ -31,11 +31,12 @@ StandsSo changed Whole log = StillStands told log
 StandsSo changed Past log = IsPast changed log
 StandsSo changed Torn log = ¬ OfOneMoment told log
 
--- the judge was given this log: of each byte of the RAM it knows what was told, and whether the newest run has read it
+-- the judge was given this log: of each byte it knows what was told, at the addresses that words of 12 bits have, and of
+-- those of the RAM whether the newest run has read it
 pub record StandsAfter (judge : MomentJudge) (log : Log) : Type 0 where
-  pub sizes : (length judge.told ≡ 0x800) × (length judge.read ≡ 0x800) × (length judge.changed ≡ 0x800)
-  pub tells : (a : ℕ) → a < 0x800 → slice_index_or judge.told a None ≡ told log a
+  pub sizes : (length judge.told ≡ 0x2000) × (length judge.read ≡ 0x800) × (length judge.changed ≡ 0x800)
+  pub tells : (a : ℕ) → a < 0x2000 → slice_index_or judge.told a None ≡ told log a
   pub marks : (a : ℕ) → a < 0x800 → IsTrue (is_marked judge.read a) ↔ HasRead a log
-  pub waits : judge.low ≡ option_map (λ low. low.0) (waiting log)
+  pub waits : judge.low ≡ waiting log
   pub closed : (judge.phase ≡ Closed) ↔ (open_run log ≡ None)
   pub stands : StandsSo judge.changed judge.phase log

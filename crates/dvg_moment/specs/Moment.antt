@@ -1,5 +1,5 @@
 -- Runs of one moment, in any log.
-use Rattle.std.specs.Prelude.{◌≡◌, ◌≢◌, ℕ, ◌+◌, ◌*◌, ◌/◌, ◌%◌, ◌<◌, ◌==◌, ◌&&◌, ◌++◌, List, [], ◌∷◌, Option}
+use Rattle.std.specs.Prelude.{◌≡◌, ◌≢◌, ℕ, ◌+◌, ◌*◌, ◌/◌, ◌%◌, ◌<◌, ◌==◌, nat_lt, ◌&&◌, ◌++◌, List, [], ◌∷◌, Option}
 use Rattle.std.specs.Prelude.{Some, None, ◌⊎◌, Bool, false, not, if◌then◌else◌, slice_index}
 use Rattle.std.specs.Option.{option_or}
 use Rattle.dvg_driver.specs.declared.action.Action.TheVariants.{Wrote}
@@ -35,17 +35,31 @@ reads log (Fetched address word) a = word_reads (waits (waiting log) address) ad
 reads log (Done address word drew) a = word_reads (waits (waiting log) address) address word a
 reads log entry a = None
 
--- what a log alone tells of a byte: what was written or read there last, since the last reset of the whole system
+-- what a log alone tells of a byte: what was written or read there last, since the last reset of the whole system; from
+-- 800 on there is no RAM, and what is written there changes nothing
 abbrev pub told : Known
 told [] a = None
 told ((ResetAll bytes ⟼ entry) ∷ log) a = None
-told ((event ⟼ Acted (Wrote b byte)) ∷ log) a = if a == b then Some byte else told log a
+told ((event ⟼ Acted (Wrote b byte)) ∷ log) a = if a == b && nat_lt a 0x800 then Some byte else told log a
 told ((event ⟼ entry) ∷ log) a = option_or (reads log entry a) (told log a)
 
--- a line reads a byte of the RAM as another than the log told
-abbrev pub Contradicts : Log → Shown → Type 0
-Contradicts log entry = (a byte other : ℕ) × (a < 0x800) × (reads log entry a ≡ Some byte)
+-- a line reads a byte as another than the log told, of the RAM or of the ROM: at an address that words of 12 bits have
+abbrev pub ReadsAnother : Log → Shown → Type 0
+ReadsAnother log entry = (a byte other : ℕ) × (a < 0x2000) × (reads log entry a ≡ Some byte)
     × (told log a ≡ Some other) × (byte ≢ other)
+
+-- the low byte that waits for its high byte at this address is another one
+abbrev pub WaitsAsAnother : Option (ℕ × ℕ) → (address byte : ℕ) → Type 0
+WaitsAsAnother None address byte = ⊥
+WaitsAsAnother (Some low) address byte = (low.0 ≡ address) × (low.1 ≢ byte)
+
+-- a line contradicts the log: it reads another byte than was told, or completes a word whose low byte was read as another
+abbrev pub Contradicts : Log → Shown → Type 0
+Contradicts log (Fetched address word) = ReadsAnother log (Fetched address word)
+    ⊎ WaitsAsAnother (waiting log) address (word % 256)
+Contradicts log (Done address word drew) = ReadsAnother log (Done address word drew)
+    ⊎ WaitsAsAnother (waiting log) address (word % 256)
+Contradicts log entry = ReadsAnother log entry
 
 -- a byte of the RAM changes where one is written that isn't known to be what stood there
 abbrev pub Changes : Known → ℕ → Log → Shown → Type 0

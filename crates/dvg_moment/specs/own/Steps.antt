@@ -18,13 +18,13 @@ abbrev pub phase_after : Phase → (some_changed : Bool) → Phase
 phase_after Past true = Torn
 phase_after phase some_changed = phase
 
--- a byte was read
+-- a byte was read, of the RAM or from 800 on
 abbrev pub after_read : MomentJudge → (at byte : ℕ) → MomentJudge
-after_read judge at byte = if nat_lt at 0x800 then record judge {
+after_read judge at byte = if nat_lt at 0x2000 then (if nat_lt at 0x800 then record judge {
   told = slice_set judge.told at (Some byte);
   read = slice_set judge.read at true;
   phase = phase_after judge.phase (is_marked judge.changed at);
-} else judge
+} else record judge { told = slice_set judge.told at (Some byte) }) else judge
 
 -- a word was completed, whose low byte may have been read before
 abbrev pub after_word : (low_waits : Bool) → MomentJudge → (address word : ℕ) → MomentJudge
@@ -54,7 +54,7 @@ after_end judge = record judge { phase = Closed; low = None }
 
 -- nothing is told any more
 abbrev pub void : MomentJudge → MomentJudge
-void judge = record judge { told = replicate 0x800 None }
+void judge = record judge { told = replicate 0x2000 None }
 
 -- the run ended, unless one began
 abbrev pub after_reset : (starts : Bool) → MomentJudge → MomentJudge

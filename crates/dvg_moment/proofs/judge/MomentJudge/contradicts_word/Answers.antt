@@ -6,7 +6,7 @@ use Rattle.dvg_moment.proofs.judge.MomentJudge.contradicts_word.Goals.{else-not-
 
 pub returns-then-is_told_as_another-clause-fetched : goal.returns-then-is_told_as_another-clause-fetched
 returns-then-is_told_as_another-clause-fetched c = λ log stands.
-    let low = subst (λ a. IsTrue c.is_told_as_another.result ↔ IsAnother c.args.self.now (2 * a) (c.args.word % 256)) c.from-low.ensures c.is_told_as_another.ensures in
+    let low = subst (λ a. IsTrue c.is_told_as_another.result ↔ IsAnother c.args.self.now (2 * a) (c.args.word % 256)) c.from-at.ensures c.is_told_as_another.ensures in
     ((λ t. low_found c.args.self.now log stands c.args.address c.args.word (sym c.waits.ensures ∙ c.if-not-waits.true) (low.0 c.if-is_told_as_another.true)), λ k. refl)
 
 pub returns-then-is_told_as_another-clause-done : goal.returns-then-is_told_as_another-clause-done
@@ -15,10 +15,11 @@ returns-then-is_told_as_another-clause-done c = λ strokes log stands. returns-t
 pub returns-clause-fetched : goal.returns-clause-fetched
 returns-clause-fetched c = λ log stands.
     high_answer c.args.self.now log stands c.args.address c.args.word c.is_told_as_another-2.result
-    (subst (λ a. IsTrue c.is_told_as_another-2.result ↔ IsAnother c.args.self.now (2 * a + 1) (c.args.word / 256)) c.from-low.ensures c.is_told_as_another-2.ensures)
+    (subst (λ a. IsTrue c.is_told_as_another-2.result ↔ IsAnother c.args.self.now (2 * a + 1) (c.args.word / 256)) c.from-at.ensures c.is_told_as_another-2.ensures)
+    (λ k. true≢false (sym (c.waits_as_another.ensures.1 k) ∙ c.if-waits_as_another.false))
     (λ f. elim c.else-not-waits.branch [
       | else-not-waits-via-then-not-waits+else-is_told_as_another w ↦ (λ k.
-          let low = subst (λ a. IsTrue w.is_told_as_another.result ↔ IsAnother c.args.self.now (2 * a) (c.args.word % 256)) c.from-low.ensures w.is_told_as_another.ensures in
+          let low = subst (λ a. IsTrue w.is_told_as_another.result ↔ IsAnother c.args.self.now (2 * a) (c.args.word % 256)) c.from-at.ensures w.is_told_as_another.ensures in
           true≢false (sym (low.1 k) ∙ w.if-is_told_as_another.false))
       | else-not-waits-via-else-not-waits w ↦ (λ k. true≢false (sym w.if-not-waits.false ∙ (c.waits.ensures ∙ f)))
     ])
