@@ -1,7 +1,8 @@
-# Brings packages of any suite of Debian as files. board/install, packaging/install and page/toolchain
-# read this by `.`. Nothing of the system changes, its lists neither, and root isn't needed.
+# Brings packages of any suite of Debian as files. board/install, packaging/install and
+# page/toolchain read this by `.`. Nothing of the system changes, its lists neither, and root isn't
+# needed.
 #
-#     open_suite FOLDER KIND SUITE    makes FOLDER, for packages (`deb`) or their sources (`deb-src`)
+#     open_suite FOLDER KIND SUITE    makes FOLDER, for packages, `deb`, or their sources, `deb-src`
 #     of_suite FOLDER apt-get WORD..  runs apt-get or apt-cache over that suite alone
 #
 # They come from where this machine's own sources have Debian: from a mirror, if they name one. A

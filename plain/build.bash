@@ -1,5 +1,5 @@
-# What ./dvg, ./prove, ./lib and ./test have in common. Each of them sets `name`, its own, and `top`,
-# the folder of the repository.
+# What ./dvg, ./prove, ./lib and ./test have in common. Each of them sets `name`, its own, and
+# `top`, the folder of the repository.
 #
 # Whether something is built of the sources that are there is told by their content. Beside what is
 # built lies a file with the ending `.sources`: a digest of the sources, and one of what was built.
@@ -126,9 +126,9 @@ drop_statements() {
     done
 }
 
-# Makes the archive of the library for C over the libraries that `rt ci` has built of sources of this
-# digest. So `dvg_c` alone is proved again. `rt lib` would prove all below it again, too, since it
-# takes no library that has statements alone. Fails where other libraries than those are there.
+# Makes the archive of the library for C over the libraries that `rt ci` has built of sources of
+# this digest. So `dvg_c` alone is proved again. `rt lib` would prove all below it again, too, since
+# it takes no library that has statements alone. Fails where other libraries than those are there.
 archive_of_statements() {
     local kit crate words=(--crate-name dvg_c src/lib.rt --crate-type staticlib --links dvg_c=)
     kit=$(dirname "$(dirname "$(readlink -f "$(command -v rt)")")")

@@ -9,9 +9,10 @@
 //!
 //! 1. It takes away: `ghost` items, fields and uses; the clauses `requires` and `ensures`; `impl
 //!    Model` and the use of `Model`; `tactic` attributes; `Drop` among derives; `derive_where` with
-//!    a parameter; the module `laws`, also that of another crate, and those of `FOR_LAWS`; the `use`
-//!    of one law of another crate, and its calls, each a statement; modules of tests; and names that
-//!    are imported for contracts alone. A comment right before one of these items goes with it.
+//!    a parameter; the module `laws`, also that of another crate, and those of `FOR_LAWS`; the
+//!    `use` of one law of another crate, and its calls, each a statement; modules of tests; and
+//!    names that are imported for contracts alone. A comment right before one of these items goes
+//!    with it.
 //! 2. It writes otherwise: `derive_where(X)` as `derive(X)`; `rattlefmt::skip` as `rustfmt::skip`;
 //!    the signature of `Display::fmt`, and of functions that a `Formatter<W>` is handed to; `main`,
 //!    which gets its runtime by a line of its own; `to_ascii_lowercase` with an allocator, which
@@ -573,8 +574,8 @@ impl<'a> Eraser<'a> {
 
     // --- Functions ---
 
-    /// A function's head. Those of `Display::fmt`, of what it hands its `Formatter` to, and of `main`
-    /// are written otherwise.
+    /// A function's head. Those of `Display::fmt`, of what it hands its `Formatter` to, and of
+    /// `main` are written otherwise.
     fn function(&mut self, end: usize) -> Result<(), Refused> {
         if self.takes_formatter() {
             self.formatting()

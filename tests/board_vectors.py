@@ -1,10 +1,11 @@
 #!/usr/bin/env python3
-"""Writes steps of the 6502 of board_cpu.h as two files of proofs, which the prover computes by the definition.
+"""Writes steps of the 6502 of board_cpu.h as two files of proofs, which the prover computes by the
+definition.
 
     board_definition vectors COUNT | board_vectors.py FOLDER
 
-MoveVectors.antt has the steps of loads, stores and transfers, and ComputeVectors.antt those of all other
-opcodes. tests/board makes both anew, and compares them with those of crates/dvg_6502/proofs.
+MoveVectors.antt has the steps of loads, stores and transfers, and ComputeVectors.antt those of all
+other opcodes. tests/board makes both anew, and compares them with those of crates/dvg_6502/proofs.
 """
 import os
 import sys
@@ -15,7 +16,8 @@ MOVES = "a9 a5 b5 ad b1 a2 a6 a0 a4 85 95 8d 91 86 84 aa 8a 98".split()
 # Of each file, what its steps do.
 FILES = {
     "MoveVectors": "that move a byte: loads, stores and transfers",
-    "ComputeVectors": "that compute a byte, a flag or the next place: logic, counts, shifts, branches, jumps",
+    "ComputeVectors": "that compute a byte, a flag or the next place: logic, counts, shifts, "
+                      "branches, jumps",
 }
 
 HEAD = """-- Steps {does}.

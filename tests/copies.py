@@ -116,7 +116,8 @@ def homes_of(crate):
 
 
 def functions_of(crate, path, text):
-    """The functions with a body in a file of this text, whose path in its crate begins with src/."""
+    """The functions with a body in a file of this text, whose path in its crate begins with
+    src/."""
     homes = homes_of(crate)
     for head in HEAD.finditer(text):
         places = body_of(text, head)

@@ -2,12 +2,12 @@
  *
  *     core_beam STROKES SEED STEPS LEAST SETTLE
  *
- * The last three are the parameters of the beam. Each stroke of the core must be walked once, before
- * the core goes on: dark for SETTLE clocks at its beginning, then lit with its intensity for as many
- * steps as dvg_beam.v says, each position within 1/512 of a unit of the line, from its beginning to
- * its end. Else the beam must be dark. At each HALT what was walked must be the strokes of the
- * port's picture. Starts and resets also come while a stroke is walked. Prints what was played, or
- * the first difference (status 1). */
+ * The last three are the parameters of the beam. Each stroke of the core must be walked once,
+ * before the core goes on: dark for SETTLE clocks at its beginning, then lit with its intensity for
+ * as many steps as dvg_beam.v says, each position within 1/512 of a unit of the line, from its
+ * beginning to its end. Else the beam must be dark. At each HALT what was walked must be the
+ * strokes of the port's picture. Starts and resets also come while a stroke is walked. Prints what
+ * was played, or the first difference (status 1). */
 #include "Vcore_beam.h"
 #include "core_screen.h"
 
@@ -26,7 +26,8 @@ static struct {
 /* One coordinate after some steps lies within 1/512 of a unit of the line. */
 static void agree_on_line(const char *what, uint32_t from, uint32_t to, uint32_t found)
 {
-    int64_t off = signed_of(to - from) * (int64_t)walk.lit - signed_of(found - from) * (int64_t)walk.steps;
+    int64_t off = signed_of(to - from) * (int64_t)walk.lit
+        - signed_of(found - from) * (int64_t)walk.steps;
     agree(what, off < (int64_t)walk.steps && off > -(int64_t)walk.steps, true);
 }
 
@@ -202,9 +203,11 @@ int main(int argc, char **argv)
             play_run(beam, port);
         }
     }
-    printf("%" PRIu64 " strokes in %" PRIu64 " clocks agree: %" PRIu64 " runs, %" PRIu64 " HALTs, %" PRIu64
-           " positions, %" PRIu64 " of the most steps, %" PRIu64 " dots, %" PRIu64 " cut by a start or reset\n",
-        counts.strokes, clocks, counts.runs, counts.halts, counts.lit, counts.longest, counts.dots, counts.amid);
+    printf("%" PRIu64 " strokes in %" PRIu64 " clocks agree: %" PRIu64 " runs, %" PRIu64
+           " HALTs, %" PRIu64 " positions, %" PRIu64 " of the most steps, %" PRIu64
+           " dots, %" PRIu64 " cut by a start or reset\n",
+        counts.strokes, clocks, counts.runs, counts.halts, counts.lit, counts.longest, counts.dots,
+        counts.amid);
     dvg_free(port);
     return 0;
 }

@@ -31,7 +31,8 @@ static void agree(const char *what, uint64_t circuit, uint64_t port)
     if (circuit == port) {
         return;
     }
-    printf("clock %" PRIu64 ", number %" PRIu64 ": %s: the circuit %" PRIX64 ", the port %" PRIX64 "\n",
+    printf("clock %" PRIu64 ", number %" PRIu64 ": %s: the circuit %" PRIX64 ", the port %" PRIX64
+           "\n",
         clocks, done_so_far, what, circuit, port);
     exit(1);
 }

@@ -11,7 +11,8 @@
 #include "core_bench.h"
 
 static struct {
-    uint64_t writes, reads, looks, starts, resets, at_its_place, rom_bytes, halts, strokes, breaks[4];
+    uint64_t writes, reads, looks, starts, resets, at_its_place, rom_bytes, halts, strokes,
+        breaks[4];
 } counts;
 
 static uint8_t ram[DVG_RAM_BYTES], rom[DVG_LARGE_ROM_BYTES];
@@ -200,12 +201,13 @@ int main(int argc, char **argv)
         play_clock(board, port);
     }
     printf("%" PRIu64 " fetches in %" PRIu64 " clocks agree: %" PRIu64 " bytes written, %" PRIu64
-           " of them the one that is answered, %" PRIu64 " read, %" PRIu64 " looks at the flag,\n %" PRIu64
-           " starts, %" PRIu64 " resets, %" PRIu64 " ROM bytes, %" PRIu64 " HALTs with %" PRIu64
+           " of them the one that is answered, %" PRIu64 " read, %" PRIu64
+           " looks at the flag,\n %" PRIu64 " starts, %" PRIu64 " resets, %" PRIu64
+           " ROM bytes, %" PRIu64 " HALTs with %" PRIu64
            " strokes, broken runs %" PRIu64 " %" PRIu64 " %" PRIu64 "\n",
         done_so_far, clocks, counts.writes, counts.at_its_place, counts.reads, counts.looks,
-        counts.starts, counts.resets, counts.rom_bytes, counts.halts, counts.strokes, counts.breaks[1],
-        counts.breaks[2], counts.breaks[3]);
+        counts.starts, counts.resets, counts.rom_bytes, counts.halts, counts.strokes,
+        counts.breaks[1], counts.breaks[2], counts.breaks[3]);
     dvg_free(port);
     return 0;
 }

@@ -1,6 +1,6 @@
 #!/usr/bin/env -S python3 -B
-"""Tests core/cells: what it writes is what two other readers of the Verilog make of it, and it refuses
-what it doesn't know.
+"""Tests core/cells: what it writes is what two other readers of the Verilog make of it, and it
+refuses what it doesn't know.
 
     core_cells.py FOLDER [CLOCKS]      a folder to work in, and how many clocks [default: 10000]
     core_cells.py FOLDER --write       writes the clocks that the prover computes
@@ -79,9 +79,12 @@ def function_of(text, name, arguments):
     lines = [f"def {name}({arguments}):"]
     for wire, term in re.findall(r"let (\w+) : ℕ = (.*) in\n", body):
         lines.append(f"    w_{wire} = {as_python(term)}")
-    fields = [(n, t) for n, t in re.findall(r"(?m)^      (\w+) = (.*);$", body) if n not in ("ram", "core")]
+    fields = [(n, t) for n, t in re.findall(r"(?m)^      (\w+) = (.*);$", body)
+              if n not in ("ram", "core")]
     last = body.rstrip("\n").rpartition("\n")[2].strip()
-    value = "{" + ", ".join(f"'{n}': {as_python(t)}" for n, t in fields) + "}" if fields else as_python(last)
+    value = as_python(last)
+    if fields:
+        value = "{" + ", ".join(f"'{n}': {as_python(t)}" for n, t in fields) + "}"
     scope = dict(MEANING)
     exec("\n".join([*lines, f"    return {value}"]), scope)
     return scope[name]
@@ -133,21 +136,26 @@ class Board:
     def __init__(self, text, core):
         arguments = "board, board_core, bus"
         self.core = core
-        self.clock, self.pins = function_of(text, "clock", arguments), function_of(text, "pins", arguments)
-        self.q, self.takes = function_of(text, "q", arguments), function_of(text, "takes", arguments)
-        enable, place, byte = re.search(r"ram = memwr (\S+|\(.*?\)) (\S+|\(.*?\)) (\S+|\(.*?\)) board", text).groups()
+        self.clock = function_of(text, "clock", arguments)
+        self.pins = function_of(text, "pins", arguments)
+        self.q = function_of(text, "q", arguments)
+        self.takes = function_of(text, "takes", arguments)
+        term = r"(\S+|\(.*?\))"
+        enable, place, byte = re.search(rf"ram = memwr {term} {term} {term} board", text).groups()
         head, _, _ = text.rpartition("    record {")
-        writes = f"{head}    record {{\n      on = {enable};\n      at = {place};\n      byte = {byte};\n    }}\n"
+        writes = (f"{head}    record {{\n      on = {enable};\n      at = {place};\n"
+                  f"      byte = {byte};\n    }}\n")
         self.write = function_of(writes, "clock", arguments)
         self.now = zeros_of(text, "Board") | {"ram": [(37 * a + 11) % 256 for a in range(2048)]}
 
     def any_pins(self):
         k, core = random.randrange(100), self.core.now
         near = 0x4000 + (2 * core["at"] + core["high"] + random.randrange(3)) % 2048
-        a = random.choice([0x2002, 0x3000, random.randrange(65536), 0x4000 + random.randrange(2048)] + 4 * [near])
+        a = random.choice([0x2002, 0x3000, random.randrange(65536), 0x4000 + random.randrange(2048)]
+                          + 4 * [near])
         pins = {"reset": int(once_in(400)), "hold": int(k % 16 == 1), "access": int(k < 40),
-                "write": int(k % 3 == 0), "a": a, "d": random.randrange(256), "big": int(once_in(2)),
-                "rom": random.randrange(256)}
+                "write": int(k % 3 == 0), "a": a, "d": random.randrange(256),
+                "big": int(once_in(2)), "rom": random.randrange(256)}
         if a == 0x3000 and core["is_open"] and k % 4:
             pins["a"] = 0x4001
         if not core["is_open"] and k % 2 == 0:
@@ -183,9 +191,11 @@ def readers(folder, defines, files):
     """The other readers of the Verilog: a name and a program each."""
     bench = f"{texts.TOP}/tests/core_clocks.v"
     run("iverilog", "-g2005", *defines, "-o", f"{folder}/icarus", bench, *files)
-    run("verilator", "--binary", "--timing", "-Wno-fatal", *defines, "--Mdir", f"{folder}/verilated",
-        "-o", "verilated", "--top-module", "core_clocks", bench, *files)
-    return ("Icarus", ["vvp", "-n", f"{folder}/icarus"]), ("Verilator", [f"{folder}/verilated/verilated"])
+    run("verilator", "--binary", "--timing", "-Wno-fatal", *defines,
+        "--Mdir", f"{folder}/verilated", "-o", "verilated", "--top-module", "core_clocks",
+        bench, *files)
+    return (("Icarus", ["vvp", "-n", f"{folder}/icarus"]),
+            ("Verilator", [f"{folder}/verilated/verilated"]))
 
 
 def expect_clocks(suite, what, circuit, programs, folder, count):
@@ -200,9 +210,12 @@ def expect_clocks(suite, what, circuit, programs, folder, count):
         _, said, _ = run(*program, f"+pins={folder}/pins", f"+count={count}")
         found = [line for line in said.splitlines() if re.fullmatch(r"\d+( \d+)+", line)]
         differ = next((k for k in range(count) if found[k:k + 1] != lines[k:k + 1]), None)
-        parts = ("none", "none") if differ is None else (lines[differ], "".join(found[differ:differ + 1]))
+        parts = ("none", "none")
+        if differ is not None:
+            parts = lines[differ], "".join(found[differ:differ + 1])
         suite.expect(f"{what}: {name}, clock {differ}", [("pins", *parts)])
-    print(f"{what}: {count} clocks by the cells are those of {' and '.join(name for name, _ in programs)}")
+    names = " and ".join(name for name, _ in programs)
+    print(f"{what}: {count} clocks by the cells are those of {names}")
 
 
 # How many clocks the prover computes.
@@ -218,7 +231,8 @@ clocks =
 
 
 def vectors(name, circuit, program, folder):
-    """Clocks of Icarus Verilog for the prover: a list of numbers each, the driven pins and then the others."""
+    """Clocks of Icarus Verilog for the prover: a list of numbers each, the driven pins and then the
+    others."""
     random.seed(61)
     driven = []
     for _ in range(VECTORS):
@@ -231,7 +245,8 @@ def vectors(name, circuit, program, folder):
     assert len(shown) == VECTORS
     rows = ([str(pins[it]) for it in circuit.WIDTHS] + line for pins, line in zip(driven, shown))
     lines = "".join(f"    ({' ∷ '.join(row)} ∷ []) ∷\n" for row in rows)
-    return HEAD.format(name=name) + lines + "    []\n\npub pass : all_pass clocks ≡ true\npass = refl\n"
+    end = "    []\n\npub pass : all_pass clocks ≡ true\npass = refl\n"
+    return HEAD.format(name=name) + lines + end
 
 
 def expect_vectors(suite, name, text):
@@ -383,7 +398,8 @@ def expect_pieces(suite, folder):
 def circuits():
     """Each circuit by its cells, with its name and what the benches are told of it."""
     core, board = (run(CELLS, name)[1] for name in ("dvg_core", "dvg_board"))
-    return [("dvg_core", [], lambda: Core(core)), ("dvg_board", ["-DBOARD"], lambda: Board(board, Core(core)))]
+    return [("dvg_core", [], lambda: Core(core)),
+            ("dvg_board", ["-DBOARD"], lambda: Board(board, Core(core)))]
 
 
 def main(folder, word="10000"):
@@ -395,7 +411,8 @@ def main(folder, word="10000"):
         programs = readers(place, defines, files)
         text = vectors(name, circuit(), programs[0][1], place)
         if word == "--write":
-            with open(f"{texts.TOP}/crates/{name}/proofs/ClockVectors.antt", "w", encoding="utf-8") as file:
+            with open(f"{texts.TOP}/crates/{name}/proofs/ClockVectors.antt", "w",
+                      encoding="utf-8") as file:
                 file.write(text)
             continue
         expect_vectors(suite, name, text)

@@ -11,7 +11,8 @@
 #include "core_bench.h"
 
 static struct {
-    uint64_t frames, writes, looks, peeks, pictures, strokes, rom_bytes, beside_a_write, at_its_place;
+    uint64_t frames, writes, looks, peeks, pictures, strokes, rom_bytes, beside_a_write,
+        at_its_place;
     uint64_t dropped;
 } counts;
 
@@ -136,10 +137,13 @@ static void push_draft(dvg *device)
     for (uint32_t left = 1 + below(20); left; left--) {
         switch (below(5)) {
         case 0: dvg_labs(device, below(4096), below(4096), below(16)); break;
-        case 1: dvg_svec(device, 2 + below(4), (int)below(7) - 3, (int)below(7) - 3, below(16)); break;
+        case 1:
+            dvg_svec(device, 2 + below(4), (int)below(7) - 3, (int)below(7) - 3, below(16));
+            break;
         case 2: dvg_call_rom(device, 0x800 + below(1024)); break;
         default:
-            dvg_vctr(device, below(10), (int)below(2047) - 1023, (int)below(2047) - 1023, below(16));
+            dvg_vctr(device, below(10), (int)below(2047) - 1023, (int)below(2047) - 1023,
+                below(16));
         }
     }
     dvg_halt(device);
@@ -210,7 +214,7 @@ static void play_other(uint32_t number)
         done_so_far++;
     } else if (number < 190) {
         both(dvg_reset_processor);
-    } else if (number < 195) {                          /* all is reset, and the RAM keeps its bytes */
+    } else if (number < 195) {                          /* all is reset, but for the RAM */
         step({true, false, false, false, 0, 0}, nothing, nothing);
         dvg_reset_all(world, ram);
         dvg_reset_processor(driver);
@@ -265,10 +269,12 @@ int main(int argc, char **argv)
         }
     }
     printf("%" PRIu64 " events in %" PRIu64 " clocks agree: %" PRIu64 " frames taken, %" PRIu64
-           " bytes written, %" PRIu64 " looks at the flag, %" PRIu64 " peeks,\n %" PRIu64 " pictures with %" PRIu64
-           " strokes, %" PRIu64 " ROM bytes, %" PRIu64 " fetches in the clock of a write (%" PRIu64
+           " bytes written, %" PRIu64 " looks at the flag, %" PRIu64 " peeks,\n %" PRIu64
+           " pictures with %" PRIu64 " strokes, %" PRIu64 " ROM bytes, %" PRIu64
+           " fetches in the clock of a write (%" PRIu64
            " of the byte written), %" PRIu64 " strobes dropped\n",
-        done_so_far, clocks, counts.frames, counts.writes, counts.looks, counts.peeks, counts.pictures,
-        counts.strokes, counts.rom_bytes, counts.beside_a_write, counts.at_its_place, counts.dropped);
+        done_so_far, clocks, counts.frames, counts.writes, counts.looks, counts.peeks,
+        counts.pictures, counts.strokes, counts.rom_bytes, counts.beside_a_write,
+        counts.at_its_place, counts.dropped);
     return 0;
 }

@@ -5,8 +5,8 @@
  *
  * PROGRAM has the bytes from 6800 to 7FFF; ROM those of the vector ROM, which the circuit reads
  * from rom.hex. An NMI comes 246 times a second of the board's clock. Each access of the processor
- * is a cycle of the bus, also the dummy reads; the cycles of an instruction that are left come after
- * them, as reads of the next instruction. LOG is for `dvg torn`: each byte that the processor
+ * is a cycle of the bus, also the dummy reads; the cycles of an instruction that are left come
+ * after them, as reads of the next instruction. LOG is for `dvg torn`: each byte that the processor
  * writes into the RAM and each one that the core fetches, in the order in which the RAM makes them.
  *
  * Beside it the port's generator is handed the RAM and the ROM. Compared are where each fetch is,

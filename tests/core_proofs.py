@@ -56,7 +56,8 @@ def make_room(room, crate):
 
 def refusal(room, crate, planted):
     """What refuses a crate that has the cells of this Verilog: laws and a proof, or None."""
-    made = subprocess.run([f"{texts.TOP}/core/cells", crate, planted], capture_output=True, text=True)
+    made = subprocess.run([f"{texts.TOP}/core/cells", crate, planted], capture_output=True,
+                          text=True)
     if made.returncode:
         return made.stderr.strip().rpartition("\n")[2]
     with open(f"{room}/{CELLS[crate]}", "w", encoding="utf-8") as file:
@@ -74,11 +75,13 @@ def refusal(room, crate, planted):
 
 
 def try_cells(suite, name, crate, planted, room, wanted):
-    """Has a crate checked with the cells of this Verilog. The verdict must be one that is wanted."""
+    """Has a crate checked with the cells of this Verilog. The verdict must be one that is
+    wanted."""
     start = time.monotonic()
     make_room(room, crate)
     why = refusal(room, crate, planted)
-    print(f"{name}: {f'refused by {why}' if why else 'proved'}, {time.monotonic() - start:.0f} s", flush=True)
+    print(f"{name}: {f'refused by {why}' if why else 'proved'}, {time.monotonic() - start:.0f} s",
+          flush=True)
     found = "proved" if why is None else "not judged" if why.startswith("NOTHING") else "refused"
     suite.expect(name, [("verdict", found if found in wanted else wanted[0], found)])
 
@@ -86,7 +89,8 @@ def try_cells(suite, name, crate, planted, room, wanted):
 def main(folder, *numbers):
     suite = texts.Suite()
     for crate in CELLS:
-        try_cells(suite, f"{crate} as it is", crate, f"{texts.TOP}/core", f"{folder}/room", ["proved"])
+        try_cells(suite, f"{crate} as it is", crate, f"{texts.TOP}/core", f"{folder}/room",
+                  ["proved"])
     with open(f"{folder}/mistakes", encoding="utf-8") as lines:
         mistakes = [line.rstrip("\n").split(" ", 2) for line in lines]
     for number, bench, name in mistakes:

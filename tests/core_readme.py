@@ -1,6 +1,6 @@
 #!/usr/bin/env -S python3 -B
-"""Runs the commands of core/README.md, one after the other in one folder, and compares what comes out
-with what stands there. The last line is 'N passed, M failed'."""
+"""Runs the commands of core/README.md, one after the other in one folder, and compares what comes
+out with what stands there. The last line is 'N passed, M failed'."""
 
 import os
 import tempfile

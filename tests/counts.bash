@@ -1,5 +1,5 @@
-# What suites in bash have in common: where they are, a folder for what is thrown away, and counts of
-# what passes, fails and is skipped.
+# What suites in bash have in common: where they are, a folder for what is thrown away, and counts
+# of what passes, fails and is skipped.
 set -u
 export LC_ALL=C
 tests=$(dirname "$(readlink -f "$0")") || exit 1

@@ -364,8 +364,8 @@ static void test_moves(dvg *none)
 /* --- A saved state --- */
 
 /* A state of two parts: its fields, and where its beam is. */
-static const uint8_t state_bytes[] = {'D', 'V', 'G', 1, 2, 0, 0, 0, 35, 0, 0x34, 0x02, 1, 0xA0, 0xE2, 0x7C,
-                                      35, 2, 0x01, 0, 0x80, 0, 0, 0x04};
+static const uint8_t state_bytes[] = {'D', 'V', 'G', 1, 2, 0, 0, 0, 35, 0, 0x34, 0x02, 1, 0xA0,
+                                      0xE2, 0x7C, 35, 2, 0x01, 0, 0x80, 0, 0, 0x04};
 static const uint64_t state_parts[] = {0x7CE2A00102340023, 0x0400008000010223, DVG_NOTHING};
 
 static void test_saving(dvg *none)

@@ -276,8 +276,10 @@ def test_saving():
             other.close()
         for kind, other in (
             (g.BadState, b""), (g.BadState, saved[:-8]), (g.BadState, saved[:-1]),
-            (g.BadState, saved[:3] + b"\2" + saved[4:]), (g.BadState, saved[:9] + b"\1" + saved[10:]),
-            (g.BadState, saved[:16] + b"\x0f" + saved[17:]), (g.BadState, saved[:17] + b"\4" + saved[18:]),
+            (g.BadState, saved[:3] + b"\2" + saved[4:]),
+            (g.BadState, saved[:9] + b"\1" + saved[10:]),
+            (g.BadState, saved[:16] + b"\x0f" + saved[17:]),
+            (g.BadState, saved[:17] + b"\4" + saved[18:]),
             (g.BadState, saved[:8] + b"#\0\0\x10" + saved[12:]), (g.NoBytes, 7),
         ):
             expect_raises(kind, lambda: generator.restore(other), f"{other!r} is no saved state")

@@ -5,9 +5,9 @@
  *
  *   embed_save COUNT SEED
  *
- * Generator number i, from 0, comes from SEED + i alone. It is linked with the archive, and compiled
- * with a sanitizer: then what a device does with memory is watched, too. The last line of what is
- * written is 'N passed, M failed'.
+ * Generator number i, from 0, comes from SEED + i alone. It is linked with the archive, and
+ * compiled with a sanitizer: then what a device does with memory is watched, too. The last line of
+ * what is written is 'N passed, M failed'.
  */
 #include "dvg.h"
 

@@ -327,7 +327,8 @@ static void tell_parts(dvg *pair)
     for (int count = below(8); count > 0; count--) {
         uint64_t place = (uint64_t)about(0, 0x1FFFFF) << 16 | (uint64_t)about(0, 0x1FFFFF) << 38;
         int kind = below(below(20) == 0 ? 256 : 4);
-        uint64_t fields = kind == 0   ? (uint64_t)random_word() << 38 | (uint64_t)about(0, 4095) << 16
+        uint64_t fields = kind == 0 ? (uint64_t)random_word() << 38
+                                          | (uint64_t)about(0, 4095) << 16
                           : kind == 1 ? (uint64_t)about(0, 4095) << 16
                                       : place | (uint64_t)below(16) << 60;
         pair_turn(pair, DVG_REQUEST_TELL_STATE | (uint64_t)kind << 8 | fields);

@@ -237,8 +237,8 @@ fn vector(alloc: &Refusing) -> Option<String> {
     told(Ok::<_, ()>(vector))
 }
 
-/// What came of a job, with the allocator that it had: its answer, how many requests there were, and
-/// whether all memory came back as it went, none of it from Rust's heap.
+/// What came of a job, with the allocator that it had: its answer, how many requests there were,
+/// and whether all memory came back as it went, none of it from Rust's heap.
 fn run(job: Job, first: usize, last: usize) -> (Option<String>, usize, bool) {
     let alloc = Refusing::new(first, last);
     REQUESTS.store(0, Relaxed);

@@ -572,8 +572,8 @@ struct Counts {
     judged: usize,
 }
 
-/// What is found in a log: each line of the text, whether a run is torn there or else it contradicts,
-/// and what is counted.
+/// What is found in a log: each line of the text, whether a run is torn there or else it
+/// contradicts, and what is counted.
 fn to_find(log: &[Line]) -> (Vec<(usize, bool)>, Counts) {
     let naive = Naive::new(log);
     let (mut found, mut counts) = (Vec::new(), Counts::default());

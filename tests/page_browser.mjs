@@ -31,8 +31,8 @@ function expect(what, wanted, found) {
   }
 }
 
-// What a page comes to show after a change that it isn't asked for at once: another size, a frame of
-// an animation. It is looked at again until it fits.
+// What a page comes to show after a change that it isn't asked for at once: another size, a frame
+// of an animation. It is looked at again until it fits.
 async function expectSoon(what, wanted, look) {
   let found;
   await comesTo(async () => fits(wanted, found = await look()));
@@ -67,8 +67,8 @@ const VERDICTS = {
 let browser, tab;
 const asked = [];
 
-// Keeps which texts these parts of a page had, one after the other: a step of the tour may have gone
-// by before it is looked at.
+// Keeps which texts these parts of a page had, one after the other: a step of the tour may have
+// gone by before it is looked at.
 const KEEP_TEXTS = `addEventListener('DOMContentLoaded', () => {
   window.texts = {};
   for (const id of ['tour-title', 'run']) {
@@ -518,7 +518,8 @@ async function testRunning() {
   await set('count', 4000);
   await tab.choose('how', 'chance');
   await tab.click('run');
-  await expectSoon('it runs, and ends', /(^|,)Stop,Run$/, () => tab.value('window.texts.run.join()'));
+  await expectSoon('it runs, and ends', /(^|,)Stop,Run$/,
+      () => tab.value('window.texts.run.join()'));
   expect('after as many events', /^event 4000 /, await tab.text('counts'));
   await tab.click('compare');
   expect('the log is that of play', /^the same: 4000 events/, await tab.text('compared'));
@@ -676,8 +677,8 @@ async function testLongLog() {
   const task = await workOf(async () => { moves = await tab.value(MOVE_OVER_IT); }) / 360;
   const walk = await workOf(() => tab.value(
     'for (let k = 0; k < 50; k++) document.getElementById("back").click()')) / 50;
-  console.log(`browser: ${movesText(moves)}; the page's thread works ${task.toFixed(1)} ms for each `
-    + `on average, with layout and paint; ${walk.toFixed(1)} ms for a step back`);
+  console.log(`browser: ${movesText(moves)}; the page's thread works ${task.toFixed(1)} ms for`
+    + ` each on average, with layout and paint; ${walk.toFixed(1)} ms for a step back`);
   expect('a wheel moves the rows', true, moves.moved > 1000);
   expect('and they are drawn anew', true, moves.drawn);
   expect('a frame works less than ten times 8 ms', true, task <= 80);

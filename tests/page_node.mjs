@@ -665,7 +665,8 @@ function testTears() {
 // --- The 6502, and the driver in its code ---
 
 // Steps of the 6502 of tests/board, of each instruction that the definition of crates/dvg_6502
-// knows, fewer where fewer events are asked for: after each the registers, the flags and the last two bytes written are the same.
+// knows, fewer where fewer events are asked for: after each the registers, the flags and the last
+// two bytes written are the same.
 const STEPS_OF_EACH = events < 20000 ? 100 : 2400;
 
 function runVector(row) {
@@ -721,7 +722,8 @@ function testTwin() {
   let ticks = 0;
   for (const cut of [false, true]) {
     for (const [how, make] of Object.entries(HOWS)) {
-      const board = runBoard(make(7), events < 20000 ? 2500 : events, cut), twin = new Twin(lines, tableOf);
+      const board = runBoard(make(7), events < 20000 ? 2500 : events, cut);
+      const twin = new Twin(lines, tableOf);
       twin.follow(board, board.length);
       expect(`${how}, cut ${cut}: the code does the same`, null, twin.differs);
       const ram = twin.memory.slice(0x4000, 0x4800);

@@ -9,7 +9,8 @@ use plain_std::prelude::Box;
 use std::alloc::{GlobalAlloc, Layout, System};
 use std::sync::atomic::{AtomicUsize, Ordering::Relaxed};
 
-/// The heap of this program. Growths are counted from 1, and those of `FIRST` to `LAST` are refused.
+/// The heap of this program. Growths are counted from 1, and those of `FIRST` to `LAST` are
+/// refused.
 struct Refusing;
 
 static GROWTHS: AtomicUsize = AtomicUsize::new(0);

@@ -36,7 +36,8 @@ def words(text):
     return cut(text)[0]
 
 
-# What is written otherwise of the signature of Display::fmt, and of what its Formatter is handed to.
+# What is written otherwise of the signature of Display::fmt, and of what its Formatter is handed
+# to.
 GENERIC = words("<W: fmt::Write>")
 FORMATTER, PLAIN_FORMATTER = words("fmt::Formatter<W>"), words("fmt::Formatter<'_>")
 LOWERCASE = words(".to_ascii_lowercase(")

@@ -76,7 +76,8 @@ def faults_in(text):
 def limit(texts, path, constant):
     """The value of a constant of a Rust source: a number, or a sum of constants of dvg_mem."""
     value = re.search(rf"const {constant}: \w+ = ([\w +]+);", texts[path]).group(1)
-    return sum(int(it.replace("_", "")) if it[0].isdigit() else limit(texts, "dvg_mem/src/lib.rt", it)
+    return sum(int(it.replace("_", "")) if it[0].isdigit()
+               else limit(texts, "dvg_mem/src/lib.rt", it)
                for it in value.split(" + "))
 
 
@@ -156,7 +157,8 @@ MISTAKES = {
     "dvg_log/src/trace.rt": ("MOST_EVENTS: usize = 65_536;", "MOST_EVENTS: usize = 131_072;"),
     "requests": ("16 => Request::Wants,", "21 => Request::Wants,"),
     "replies": ("Entry::Still => packed(16,", "Entry::Still => packed(17,"),
-    "dvg_device/src/device.rt": ("= MEMORY_BYTES + LARGE_ROM_BYTES;", "= LARGE_ROM_BYTES + LARGE_ROM_BYTES;"),
+    "dvg_device/src/device.rt": ("= MEMORY_BYTES + LARGE_ROM_BYTES;",
+                                 "= LARGE_ROM_BYTES + LARGE_ROM_BYTES;"),
 }
 
 

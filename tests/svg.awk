@@ -19,11 +19,17 @@ function refuse(text) {
 }
 
 # Where the shorter way to an end leads, which may be beyond the edge.
-function way(from, to) { return to - from > field / 2 ? to - field : from - to > field / 2 ? to + field : to }
+function way(from, to) {
+    if (to - from > field / 2) return to - field
+    return from - to > field / 2 ? to + field : to
+}
 
 function draw(x0, y0, x1, y1, z) {
-    shape = (x0 == x1 && y0 == y1) ? "<circle cx=\"%d\" cy=\"%d\" r=\"" (side / 1024) "\"" : "<line x1=\"%d\" y1=\"%d\" x2=\"%d\" y2=\"%d\""
-    shapes[++most] = sprintf(shape, x0, y0, x1, y1) sprintf(" opacity=\"%d.%02d\"/>", z == 15, (z + 5) * 5 % 100)
+    if (x0 == x1 && y0 == y1)
+        shape = sprintf("<circle cx=\"%d\" cy=\"%d\" r=\"%d\"", x0, y0, side / 1024)
+    else
+        shape = sprintf("<line x1=\"%d\" y1=\"%d\" x2=\"%d\" y2=\"%d\"", x0, y0, x1, y1)
+    shapes[++most] = shape sprintf(" opacity=\"%d.%02d\"/>", z == 15, (z + 5) * 5 % 100)
 }
 
 BEGIN { field = 4096 * 512; side = (units ? units : 1024) * 512 }
@@ -53,9 +59,11 @@ END {
     if (refused) exit 1
     if (left > 0) refuse("a picture is cut off")
     if (pictures < (picture ? picture : 1)) refuse("no such picture")
-    print "<svg xmlns=\"http://www.w3.org/2000/svg\" width=\"1024\" height=\"1024\" viewBox=\"-256 -256 " side " " side "\">"
+    print "<svg xmlns=\"http://www.w3.org/2000/svg\" width=\"1024\" height=\"1024\"" \
+        " viewBox=\"-256 -256 " side " " side "\">"
     print "<rect x=\"-256\" y=\"-256\" width=\"" side "\" height=\"" side "\"/>"
-    print "<g transform=\"matrix(1 0 0 -1 0 " (side - 512) ")\" fill=\"#fff\" stroke=\"#fff\" stroke-width=\"" (side / 512) "\" stroke-linecap=\"round\">"
+    print "<g transform=\"matrix(1 0 0 -1 0 " (side - 512) ")\" fill=\"#fff\" stroke=\"#fff\"" \
+        " stroke-width=\"" (side / 512) "\" stroke-linecap=\"round\">"
     for (i = 1; i <= most; i++) print shapes[i]
     print "</g>\n</svg>"
 }

@@ -66,7 +66,8 @@ async function lookAtStrokes(tab) {
   await expectSeen(tab, 'dots in the corners', [[0, 0], [1023, 0], [0, 1023], [1023, 1023]]
     .map(([x, y]) => `labs ${x} ${y} 0\nvctr 0 0 0 15\n`).join('') + 'halt\n',
   [[0, 0], [1023, 0], [0, 1023], [1023, 1023]], [[512, 0], [0, 512]]);
-  await expectSeen(tab, 'a stroke from left of the screen', 'labs 4046 300 0\nvctr 9 200 0 15\nhalt\n',
+  await expectSeen(tab, 'a stroke from left of the screen',
+    'labs 4046 300 0\nvctr 9 200 0 15\nhalt\n',
     [[0, 300], [150, 300]], [[153, 300], [1023, 300]]);
   await expectSeen(tab, 'a stroke from below', 'labs 300 4046 0\nvctr 9 0 200 15\nhalt\n',
     [[300, 0], [300, 150]], [[300, 153], [300, 1023]]);

@@ -35,7 +35,8 @@ def run_slowly(command, streams, tells, last):
     half a second, until something is told, or PARTS of them, and then the last bytes. What the
     terminal showed, what came from the other streams, the status, and how many parts there were."""
     ours, theirs = pty.openpty()
-    outputs = {name: theirs if name in streams else subprocess.PIPE for name in ("stdout", "stderr")}
+    outputs = {name: theirs if name in streams else subprocess.PIPE
+               for name in ("stdout", "stderr")}
     shown, parts, begun = b"", 0, time.monotonic()
     with subprocess.Popen(command, stdin=subprocess.PIPE, **outputs) as process:
         while not TOLD.search(shown) if tells else parts < PARTS:

@@ -69,7 +69,8 @@ def read_cases(path):
 
 
 def add_line(command, line, empty):
-    """A line below a command, after this many empty ones: it goes on with it, or shows what comes."""
+    """A line below a command, after this many empty ones: it goes on with it, or shows what
+    comes."""
     if re.match("> |>$", line) and not command.shown and not empty:
         command.script += "\n" + line[2:]
     else:

@@ -49,7 +49,8 @@ def items(text):
 
 
 def modules_of(text):
-    """The modules that a file names, each with whether it is public; those of tests are left out."""
+    """The modules that a file names, each with whether it is public; those of tests are left
+    out."""
     text = re.sub(r"#\[cfg\(test\)\]\nmod.*", "", text)
     return [(name, bool(public)) for public, name in re.findall(r"^(pub )?mod (\w+);", text, re.M)]
 

@@ -94,7 +94,8 @@ void *memmove(void *to, const void *from, size_t count)
     return to;
 }
 
-/* The kernel leaves the count of the arguments at the top of the stack, and pointers to them above. */
+/* The kernel leaves the count of the arguments at the top of the stack, and above it pointers to
+ * them. */
 __attribute__((used, noreturn)) static void begin(long *top)
 {
     _exit(main((int)*top, (char **)(top + 1)));

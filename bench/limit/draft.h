@@ -76,9 +76,9 @@ INLINE u32 take_vctr(struct cursor *cursor)
     return scale << 12 | down << 10 | dy | (z << 12 | left << 10 | dx) << 16;
 }
 
-/* The bounds of each byte of ` S DX DY Z` with its line end, and what a byte of a short vector's word
- * has of signs and of digits before they are added: by whether DX is negative, DY is, and Z has two
- * digits. */
+/* The bounds of each byte of ` S DX DY Z` with its line end, and what a byte of a short vector's
+ * word has of signs and of digits before they are added: by whether DX is negative, DY is, and Z
+ * has two digits. */
 struct form {
     u8 least[16];
     u8 most[16];
@@ -87,7 +87,8 @@ struct form {
 
 #define ANY "\377\377\377\377"
 #define FORM(least, most, left, down, two) \
-    {least "\n", most, SVEC + (down << 10) + (160 * two) + (left << 2) - ('0' << 8) - ('0' << 4) - '0'}
+    {least "\n", most,
+        SVEC + (down << 10) + (160 * two) + (left << 2) - ('0' << 8) - ('0' << 4) - '0'}
 
 static const struct form forms[8] = {
     FORM(" 2 0 0 0", " 5 3 3 9\n\377\377\377" ANY, 0, 0, 0),

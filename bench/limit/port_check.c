@@ -1,6 +1,6 @@
 /* Compares the limit's port with the library behind include/dvg.h: both get the same random
- * requests, and must answer the same. The arguments are how many rounds of requests there are, and a
- * seed. The last line is 'N passed, M failed', of requests. */
+ * requests, and must answer the same. The arguments are how many rounds of requests there are, and
+ * a seed. The last line is 'N passed, M failed', of requests. */
 #include "dvg.h"
 
 #include <inttypes.h>

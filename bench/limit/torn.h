@@ -236,8 +236,8 @@ INLINE const u8 *take_other(const u8 *line, u32 *draws, struct seen *counts)
     return NULL;
 }
 
-/* Judges lines up to one that has capitals or a CR, or says nothing that a line may say, and answers
- * the place where it stops. The lines that are counted begin before. */
+/* Judges lines up to one that has capitals or a CR, or says nothing that a line may say, and
+ * answers the place where it stops. The lines that are counted begin before. */
 APART const u8 *judge_usual(const u8 *lines, const u8 *line, const u8 *end)
 {
     u32 draws = drawn;
@@ -270,8 +270,8 @@ APART const u8 *judge_usual(const u8 *lines, const u8 *line, const u8 *end)
     return line;
 }
 
-/* Judges a line that has capitals or a CR at its end as the same line without these, and answers the
- * place after it. Ends the program where that says nothing that a line may say. */
+/* Judges a line that has capitals or a CR at its end as the same line without these, and answers
+ * the place after it. Ends the program where that says nothing that a line may say. */
 RARE const u8 *judge_unusual(const u8 *lines, const u8 *line)
 {
     static u8 usual[2 * LONGEST_LINE];

@@ -1,5 +1,5 @@
-# Writes 16 title pictures. Their letters are a part of each frame, which calls them twice, once half
-# as large.
+# Writes 16 title pictures. Their letters are a part of each frame, which calls them twice, once
+# half as large.
 function write(turn) {
     print ".frame title_" turn
     print "labs 340 500 0"

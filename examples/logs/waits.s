@@ -1,6 +1,7 @@
 ; The same game loop, which waits for the generator before it writes into the half that was drawn.
-; What it logged of the same frames is waits.log. Before the loop the program waits in this way, too;
-; then it sets $4000 to $01, the low byte of word zero, and free to $E0: half 0 is written first.
+; What it logged of the same frames is waits.log. Before the loop the program waits in this way,
+; too; then it sets $4000 to $01, the low byte of word zero, and free to $E0: half 0 is written
+; first.
 
 loop:   jsr build       ; writes the next frame into the half that free names
         lda free        ; E0 or E2

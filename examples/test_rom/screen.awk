@@ -1,5 +1,5 @@
-# Writes the shapes of the test picture: its border with a grid, a bar of each intensity, and a bar of
-# each scale, each twice as long as the one above it.
+# Writes the shapes of the test picture: its border with a grid, a bar of each intensity, and a bar
+# of each scale, each twice as long as the one above it.
 function line(scale, dx, dy, z) { print "  vctr " scale " " dx " " dy " " z }
 
 BEGIN {

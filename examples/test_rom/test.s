@@ -1,8 +1,9 @@
-; A ROM to put in first. It shows a test picture (border and grid, digits and letters, each intensity,
-; scales from an eighth to four times), and of each switch whether it is closed. Buttons make sounds:
-; left the saucer, right its fire, hyperspace an extra ship, thrust and fire their own, the diagnostic
-; step a thump, and a struck door an explosion. A start button lights its lamp, and a coin switch
-; holds its counter. It runs with and without the NMI, so also while the self-test switch is closed.
+; A ROM to put in first. It shows a test picture (border and grid, digits and letters, each
+; intensity, scales from an eighth to four times), and of each switch whether it is closed. Buttons
+; make sounds: left the saucer, right its fire, hyperspace an extra ship, thrust and fire their own,
+; the diagnostic step a thump, and a struck door an explosion. A start button lights its lamp, and a
+; coin switch holds its counter. It runs with and without the NMI, so also while the self-test
+; switch is closed.
 ;
 ; With -D DELUXE=1 it is for Asteroids Deluxe: left, right, shields and fire are the four voices of
 ; its POKEY, the step has no sound, and the eight switches that the POKEY reads are shown, too.

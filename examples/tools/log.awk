@@ -13,14 +13,16 @@ function refuse(text) {
     exit 1
 }
 
-# Notes which events of the trace reset the generator. Several may stand in one line, and an offer has several lines.
+# Notes which events of the trace reset the generator. Several may stand in one line, and an offer
+# has several lines.
 BEGIN {
     while (trace != "" && (got = getline line < trace) > 0) {
         count = split(line, part, " ")
         if (count == 0 || part[1] ~ /^#/) continue
         if (part[1] == "offer") offering = 1
         if (part[1] == "end") offering = 0
-        if (offering || part[1] !~ /^(end|redraw|tick|strobe|fetch|resetgen|resetcpu|resetall)$/) continue
+        if (offering) continue
+        if (part[1] !~ /^(end|redraw|tick|strobe|fetch|resetgen|resetcpu|resetall)$/) continue
         if (part[1] == "resetgen" || part[1] == "resetall") resets[events + 0] = 1
         events += count == 2 && part[1] != "resetall" ? part[2] : 1
     }

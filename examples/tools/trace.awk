@@ -3,8 +3,8 @@
 #     awk -f trace.awk <DRAFT | ./dvg play
 #     ./dvg lay --draft <SKETCH | awk -f trace.awk | ./dvg play --svg >PICTURES.svg
 #
-# Of several drafts, each between `offer` and `end`, as `dvg lay --draft` writes them, the trace draws
-# each once, in order.
+# Of several drafts, each between `offer` and `end`, as `dvg lay --draft` writes them, the trace
+# draws each once, in order.
 #
 # Lines `map` and `rom` come first, then `tick 2`, by which the driver boots: it looks at byte 001
 # and reads the HALT flag. After the draft come as many ticks as its W words take: 2W for their

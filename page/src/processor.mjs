@@ -1,5 +1,5 @@
-/* The 6502, as far as the driver's proved routines use it: what it doesn't know it refuses. A bus is
- * told each byte that it reads and writes. It counts no cycles. */
+/* The 6502, as far as the driver's proved routines use it: what it doesn't know it refuses. A bus
+ * is told each byte that it reads and writes. It counts no cycles. */
 import { hex } from './hex.mjs';
 
 /* The instructions by their opcodes: a name, and how it finds its operand. */

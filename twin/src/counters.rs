@@ -1,5 +1,5 @@
-//! Counters of whole units in plain Rust, for the plain twin. They count an instruction's own fields,
-//! as hardware does, and know nothing of the exact beam.
+//! Counters of whole units in plain Rust, for the plain twin. They count an instruction's own
+//! fields, as hardware does, and know nothing of the exact beam.
 
 /// Where the counters are, in units below 4,096.
 #[derive(Clone, Copy)]

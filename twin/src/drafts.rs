@@ -11,8 +11,12 @@ const UNGIVEN: u16 = 0xD000;
 /// Writes the line of an operation.
 fn write_op(op: Op, writer: &mut impl Write) -> io::Result<()> {
     match op {
-        Op::Draw(Instr::Vctr { scale, dx, dy, z }) => writeln!(writer, "vctr {scale} {dx} {dy} {z}"),
-        Op::Draw(Instr::Svec { scale, dx, dy, z }) => writeln!(writer, "svec {scale} {dx} {dy} {z}"),
+        Op::Draw(Instr::Vctr { scale, dx, dy, z }) => {
+            writeln!(writer, "vctr {scale} {dx} {dy} {z}")
+        }
+        Op::Draw(Instr::Svec { scale, dx, dy, z }) => {
+            writeln!(writer, "svec {scale} {dx} {dy} {z}")
+        }
         Op::Draw(Instr::Labs { x, y, scale }) => writeln!(writer, "labs {x} {y} {scale}"),
         Op::Call(n) => writeln!(writer, "call {n}"),
         Op::Jump(n) => writeln!(writer, "jump {n}"),

@@ -94,7 +94,8 @@ fn survey(text: &[u8]) -> Vec<Seen<'_>> {
     seen
 }
 
-/// The text of a line: printable ASCII without blanks at its ends, and the first of it if it's long.
+/// The text of a line: printable ASCII without blanks at its ends, and the first of it if it's
+/// long.
 fn shown(line: &[u8]) -> String {
     let line = line.strip_suffix(b"\r").unwrap_or(line);
     let printed: String = line

@@ -297,8 +297,8 @@ impl MomentJudge {
     }
 }
 
-/// Writes by moments what is said of the log that a reader gives, the first torn run or all. Whether
-/// it is whole.
+/// Writes by moments what is said of the log that a reader gives, the first torn run or all.
+/// Whether it is whole.
 pub fn judge_moments(
     reader: &mut impl Read,
     writer: &mut impl Write,

@@ -85,7 +85,8 @@ fn first_difference<'a>(one: &'a str, other: &'a str) -> (&'a str, &'a str) {
 fn print_totals(counts: &Counts) {
     println!(
         "{} events; {} schedules finish {} pictures of {} frames; \
-         of the offers {} accepted, {} refused, {} busy; {} writes amid runs; strobes and resets: {} amid runs, {} between a flip and its strobe; \
+         of the offers {} accepted, {} refused, {} busy; {} writes amid runs; \
+         strobes and resets: {} amid runs, {} between a flip and its strobe; \
          {} events between the two bytes of a word, {} of them flips amid word zero; \
          {} strobes sent in time",
         counts.events,

@@ -1,6 +1,6 @@
-//! What the sources use of Rattle's port of `clap`: commands with subcommands, and flags and options
-//! with a long name. Help, refusals and tips are spelled as `clap` spells them. Where memory is
-//! refused, that is answered.
+//! What the sources use of Rattle's port of `clap`: commands with subcommands, and flags and
+//! options with a long name. Help, refusals and tips are spelled as `clap` spells them. Where
+//! memory is refused, that is answered.
 #![no_std]
 
 extern crate alloc;

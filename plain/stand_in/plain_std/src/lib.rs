@@ -1,8 +1,8 @@
 //! What the sources use of Rattle's standard library, over Rust's. Tested, not proved.
 //!
 //! A call that takes memory is handed an allocator and answers a `Result`. All memory comes from
-//! Rust's global allocator, or, with the feature `allocator-api2`, from the one that is handed over.
-//! `core` and `alloc` are enough. The feature `io` adds readers and writers, and needs Rust's
+//! Rust's global allocator, or, with the feature `allocator-api2`, from the one that is handed
+//! over. `core` and `alloc` are enough. The feature `io` adds readers and writers, and needs Rust's
 //! own `std`; `program` adds a program's streams and words; `c` adds what a library for C needs
 //! where `io` isn't there; `serde` has vectors and boxes written and read by that crate.
 #![no_std]
