@@ -7,11 +7,12 @@ use Rattle.dvg_log.specs.Log.{Log, ram, open_run}
 use Rattle.dvg_core.specs.Cells.{bit, both, none, some, mux, joined, part}
 use Rattle.dvg_core.specs.Core.{halted}
 use Rattle.dvg_board.specs.Board.{Board, Bus, q, clock}
-use Rattle.dvg_board.specs.Clocks.{IsBus, after, cores, reads}
+use Rattle.dvg_board.specs.Clocks.{IsBus, after, reads}
 use Rattle.dvg_board.specs.Logs.{OfEachBoard}
 use Rattle.dvg_board.specs.Answers.{uses_ram, Answers, AnswersNext}
 use Rattle.dvg_board.proofs.System.{pin_is}
-use Rattle.dvg_board.proofs.Board.{core_is, holds, on_of, writes_of, place_of, asks_of, not_one}
+use Rattle.dvg_board.proofs.Cores.{cores, core_is}
+use Rattle.dvg_board.proofs.Board.{holds, on_of, writes_of, place_of, asks_of, not_one}
 
 never : {A : Type 0} → false ≡ true → A
 never e = cc

@@ -1,5 +1,5 @@
 -- The board: its arbiter, its map and its RAM, and what each clock keeps. Its logs are legal.
-use Rattle.std.proofs.Common.{◌≡◌, ℕ, zero, suc, ◌+◌, ◌-◌, ◌*◌, ◌/◌, ◌%◌, ◌<◌, ◌≤◌, ◌⊎◌, Bool, true, false, not, List, [], ◌∷◌, length, Option, Some, None, refl, sym, ap, ◌∙◌, subst, arith, inl, inr}
+use Rattle.std.proofs.Common.{◌≡◌, ℕ, zero, suc, ◌+◌, ◌-◌, ◌*◌, ◌/◌, ◌%◌, ◌<◌, ◌≤◌, ◌⊎◌, Bool, true, false, not, List, ◌∷◌, length, Option, Some, None, refl, sym, ap, ◌∙◌, subst, arith, inl, inr}
 use Rattle.std.specs.Prelude.{nat_eq, nat_lt, nat_le, ◌&&◌, ◌==◌, if◌then◌else◌, slice_index, slice_set, option_map}
 use Rattle.std.proofs.lemmas.Bool.{eqb-true, ltb-true, ltb-false, le-ltb, lt-ltb}
 use Rattle.std.proofs.lemmas.Bool.Decides.{eqb_tells, leb_tells}
@@ -30,10 +30,11 @@ use Rattle.dvg_log.specs.Legal.{IsLegal}
 use Rattle.dvg_log.specs.Headline.{KeepsHeadline}
 use Rattle.dvg_theorem.proofs.Headline.{headline}
 use Rattle.dvg_board.specs.Memory.{memwr}
-use Rattle.dvg_board.specs.Board.{Board, Bus, pins, clock}
-use Rattle.dvg_board.specs.Fetches.{entry, entry_by, entry_of, says}
-use Rattle.dvg_board.specs.Clocks.{IsBus, after, cores, IsServed, reads, writes, sends, looks, changes}
+use Rattle.dvg_board.specs.Board.{Board, Bus, pins, takes, clock}
+use Rattle.dvg_board.specs.Fetches.{drew, entry, entry_by, entry_of, says}
+use Rattle.dvg_board.specs.Clocks.{IsBus, after, IsServed, reads, writes, sends, looks, changes}
 use Rattle.dvg_board.specs.Logs.{did, core_line, answered, FitsIf, IsSilent, IsBoard, powers, clocks, acts, FitsScript, OfEachBoard, HoldsRam}
+use Rattle.dvg_board.proofs.Cores.{cores, core_is, entry_is}
 use Rattle.dvg_board.proofs.System.{Keeps, idle, fetch, reset_line, reset_all, start_line, acted_line, silent_line, keeps_new}
 
 differ : {A : Type 0} {n : ℕ} → n ≡ 0 → n ≡ 1 → A
@@ -280,6 +281,10 @@ takes_of zero r s r_is s_is p_is = absurd (omega arith)
 takes_of (suc (suc n)) r s r_is s_is p_is = absurd (omega arith)
 takes_of (suc zero) zero zero r_is s_is p_is = refl
 
+takes_none : (p r s : ℕ) → p ≡ 0 → both (both p (none r)) (none s) ≡ 0
+takes_none zero r s p_is = refl
+takes_none (suc p) r s p_is = absurd (omega arith)
+
 sends_needs : (acc wr at reset : Bool) → both (both (if acc then 0 else if wr then 0 else 1) (bit at)) (if reset then 1 else 0) ≡ 1
     → (not acc && (not wr && at)) ≡ true
 sends_needs true wr at reset e = not_one e
@@ -309,10 +314,6 @@ pub record Holds (R image : List ℕ) (held : ℕ → ℕ) (log : Log) (older : 
   -- a byte that was read is the RAM's as it stands
   pub ready : (after held older).pending ≡ 1 → (after held older).core.at < 1024
       → (after held older).read ≡ (after held older).ram (2 * (after held older).core.at + (after held older).core.high)
-
-pub core_is : (held : ℕ → ℕ) (older : List Bus) → (after held older).core ≡ core.after (cores held older)
-core_is held [] = refl
-core_is held (bus ∷ older) = ap (λ c. cells.clock c (pins (after held older) bus)) (core_is held older)
 
 module _ (R image : List ℕ) (log : Log) (cs : List Pins) (k : Keeps R image log cs) where
   acted : (action : Action) → IsLife (Did action ∷ life image log) → Tells action (nat_eq (halted (core.after cs)) 1)
@@ -398,40 +399,41 @@ module _ (R image : List ℕ) (held : ℕ → ℕ) (log : Log) (older : List Bus
 
   -- the core's line
   abbrev shown : Shown
-  shown = entry log1 cs (pins board bus)
+  shown = entry held log1 older bus
 
   abbrev log2 : Log
   log2 = answered image held older bus whole log
 
-  abbrev line : (reset starting pending : ℕ) → Log
+  abbrev line : (reset starting takes : ℕ) → Log
   line r s p = core_line r s p whole (ram image log1) shown log1
 
   core_keeps : Keeps R image log1 cs → Keeps R image log2 cs'
   core_keeps k = elim (zero_or_one bus.reset is.reset) [
-    | inr one ↦ subst (λ r. Keeps R image (line r board.starting board.pending) cs') (sym one) (resets one whole)
-    | inl off ↦ subst (λ r. Keeps R image (line r board.starting board.pending) cs') (sym off)
+    | inr one ↦ subst (λ r. Keeps R image (line r board.starting (takes board bus)) cs') (sym one) (resets one whole)
+    | inl off ↦ subst (λ r. Keeps R image (line r board.starting (takes board bus)) cs') (sym off)
         (elim (zero_or_one board.starting h.starting) [
-          | inr one ↦ subst (λ s. Keeps R image (line 0 s board.pending) cs') (sym one)
+          | inr one ↦ subst (λ s. Keeps R image (line 0 s (takes board bus)) cs') (sym one)
               (start_line R image log1 cs (pins board bus) k are off one (sent1 one))
-          | inl still_off ↦ subst (λ s. Keeps R image (line 0 s board.pending) cs') (sym still_off)
+          | inl still_off ↦ subst (λ s. Keeps R image (line 0 s (takes board bus)) cs') (sym still_off)
               (elim (zero_or_one board.pending h.pending) [
-                | inr one ↦ subst (λ p. Keeps R image (line 0 0 p) cs') (sym one)
-                    (fetch R image log1 cs (pins board bus) k are off still_off one (answers off still_off one))
-                | inl none ↦ subst (λ p. Keeps R image (line 0 0 p) cs') (sym none)
+                | inr one ↦ subst (λ t. Keeps R image (line 0 0 t) cs') (sym (takes_of board.pending bus.reset board.starting off still_off one))
+                    (subst (λ e. Keeps R image ((Fetch ⟼ e) ∷ log1) cs') (sym (entry_is held log1 older bus))
+                    (fetch R image log1 cs (pins board bus) k are off still_off one (answers off still_off one)))
+                | inl none ↦ subst (λ t. Keeps R image (line 0 0 t) cs') (sym (takes_none board.pending bus.reset board.starting none))
                     (idle R image log1 cs (pins board bus) k are off still_off none)
               ])
         ])
   ]
     where
       resets : bus.reset ≡ 1 → (whole : Bool)
-          → Keeps R image (core_line 1 board.starting board.pending whole (ram image log1) shown log1) cs'
+          → Keeps R image (core_line 1 board.starting (takes board bus) whole (ram image log1) shown log1) cs'
       resets one true = reset_all R image log1 cs (pins board bus) k are one (ram image log1) (subst IsImage (sym ram1) h.is_image)
       resets one false = reset_line R image log1 cs (pins board bus) k are one
 
   ram2 : ram image log2 ≡ ram image log
-  ram2 = core_ram image (nat_eq bus.reset 0) (nat_eq board.starting 0) (nat_eq board.pending 0) whole shown log1
-      (entry_ram image (halted (core.after cs)) (core.after cs).at (met (low_byte log1) (byte_of (pins board bus)))
-      (says (core.after cs').done (core.after cs').fault (core.drew cs')) log1) ∙ ram1
+  ram2 = core_ram image (nat_eq bus.reset 0) (nat_eq board.starting 0) (nat_eq (takes board bus) 0) whole shown log1
+      (entry_ram image (halted board.core) board.core.at (met (low_byte log1) (byte_of (pins board bus)))
+      (says (clock board bus).core.done (clock board bus).core.fault (drew held (bus ∷ older))) log1) ∙ ram1
 
   -- what the processor changes
   abbrev log3 : Log

@@ -1,3 +1,4 @@
+pub mod Cores
 pub mod System
 pub mod Board
 pub mod Answered

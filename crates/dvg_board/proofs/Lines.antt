@@ -7,12 +7,11 @@ use Rattle.dvg_log.specs.declared.event.Event.TheVariants.{Strobe, Fetch, ResetG
 use Rattle.dvg_log.specs.Entries.{Shown}
 use Rattle.dvg_log.specs.declared.entry.Entry.TheVariants.{Started, Low, Still, Cleared}
 use Rattle.dvg_log.specs.Log.{◌⟼◌, Log, ram, low_byte, life}
-use Rattle.dvg_core.specs.Core.{Pins, halted}
-use Rattle.dvg_core.specs.Refines.{byte_of, drew}
-use Rattle.dvg_core.specs.Refines as core
-use Rattle.dvg_board.specs.Board.{Board, Bus, pins}
-use Rattle.dvg_board.specs.Fetches.{entry, entry_by, entry_of, says}
-use Rattle.dvg_board.specs.Clocks.{after, cores, looks}
+use Rattle.dvg_core.specs.Core.{halted}
+use Rattle.dvg_core.specs.Refines.{byte_of}
+use Rattle.dvg_board.specs.Board.{Board, Bus, pins, takes, clock}
+use Rattle.dvg_board.specs.Fetches.{drew, entry, entry_by, entry_of, says}
+use Rattle.dvg_board.specs.Clocks.{after, looks}
 use Rattle.dvg_board.specs.Logs.{did, answered}
 use Rattle.dvg_board.proofs.Board.{looks_ram, entry_ram, core_ram}
 
@@ -60,25 +59,22 @@ module _ (image : List ℕ) (held : ℕ → ℕ) (older : List Bus) (bus : Bus) 
   abbrev looked : Log
   looked = did (looks board bus) log
 
-  abbrev cs : List Pins
-  cs = cores held older
-
-  abbrev cs' : List Pins
-  cs' = pins board bus ∷ cs
+  abbrev now : Board
+  now = clock board bus
 
   abbrev answer : Reply
-  answer = says (core.after cs').done (core.after cs').fault (drew cs')
+  answer = says now.core.done now.core.fault (drew held (bus ∷ older))
 
   pub answered_ram : ram image (answered image held older bus whole log) ≡ ram image log
   answered_ram =
-      core_ram image (nat_eq bus.reset 0) (nat_eq board.starting 0) (nat_eq board.pending 0) whole
-      (entry looked cs (pins board bus)) looked
-      (entry_ram image (halted (core.after cs)) (core.after cs).at (met (low_byte looked) (byte_of (pins board bus))) answer looked)
+      core_ram image (nat_eq bus.reset 0) (nat_eq board.starting 0) (nat_eq (takes board bus) 0) whole
+      (entry held looked older bus) looked
+      (entry_ram image (halted board.core) board.core.at (met (low_byte looked) (byte_of (pins board bus))) answer looked)
       ∙ looks_ram image board bus log
 
   pub answered_life : life image (answered image held older bus whole log)
       ≡ (if nat_eq bus.reset 0 then life image looked else if whole then [] else life image looked)
   answered_life =
-      core_life image (nat_eq bus.reset 0) (nat_eq board.starting 0) (nat_eq board.pending 0) whole (ram image looked)
-      (entry looked cs (pins board bus)) looked
-      (entry_life image (halted (core.after cs)) (core.after cs).at (met (low_byte looked) (byte_of (pins board bus))) answer looked)
+      core_life image (nat_eq bus.reset 0) (nat_eq board.starting 0) (nat_eq (takes board bus) 0) whole (ram image looked)
+      (entry held looked older bus) looked
+      (entry_life image (halted board.core) board.core.at (met (low_byte looked) (byte_of (pins board bus))) answer looked)

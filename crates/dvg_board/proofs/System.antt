@@ -30,7 +30,8 @@ use Rattle.dvg_core.specs.Refines
 use Rattle.dvg_core.specs.Refines.{ArePins, after, drew, byte_of, Tells as Clocked, Said}
 use Rattle.dvg_core.proofs.Fitting.{Fits as Fitting, Stepped}
 use Rattle.dvg_core.proofs.Whole.{one as stepped}
-use Rattle.dvg_board.specs.Fetches.{entry_of, entry_by, entry, says}
+use Rattle.dvg_board.specs.Fetches.{entry_of, entry_by, says}
+use Rattle.dvg_board.proofs.Cores.{entry_at}
 use Rattle.dvg_board.specs.Logs.{IsSilent, FitsScript}
 
 -- the core stands after the log's history, and the log knows whether a run is open
@@ -252,11 +253,11 @@ module _ (R image : List ℕ) (log : Log) (clocks : List Pins) (pins : Pins) (k 
     abbrev answer : Reply
     answer = says (after now).done (after now).fault (drew now)
 
-    pub fetch : Next (entry log clocks pins)
+    pub fetch : Next (entry_at log clocks pins)
     fetch = by did.history' did.low' did.found did.tells did.stands did.said
       where
         by : (h : List Told) (l : Option ℕ) (f : Option Met) → Clocked pins hist low h l f → (stands : Stand h l)
-            → Said f (after now) (drew now) stands.run → Next (entry log clocks pins)
+            → Said f (after now) (drew now) stands.run → Next (entry_at log clocks pins)
         by h l f (Refines.resets is) stands said = differ reset is
         by h l f (Refines.starts r is) stands said = differ start is
         by h l f (Refines.idles r s is) stands said = differ is valid

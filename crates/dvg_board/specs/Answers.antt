@@ -2,8 +2,7 @@
 use Rattle.std.specs.Prelude.{◌≡◌, ℕ, ◌/◌, ◌%◌, ◌&&◌, Bool, true, false, not, nat_eq, if◌then◌else◌, List, slice_index}
 use Rattle.std.specs.Prelude.{is_none}
 use Rattle.dvg_log.specs.Log.{Log, ram, open_run}
-use Rattle.dvg_core.specs.Core.{halted}
-use Rattle.dvg_board.specs.Board.{Board, Bus, q, clock}
+use Rattle.dvg_board.specs.Board.{Board, Bus, q, clock, halted}
 use Rattle.dvg_board.specs.Clocks.{IsBus, after, reads, sends}
 
 -- the processor uses the RAM in this clock
@@ -22,7 +21,7 @@ pub record Answers (image : List ℕ) (board : Board) (log : Log) (bus : Bus) : 
   pub starts : sends bus ≡ true → bus.reset ≡ 0 → (clock board bus).starting ≡ 1
   -- while a run is open, a byte is read for it in each clock in which the processor leaves the RAM, nobody holds, and
   -- nothing else happens to the core; the core is answered in the next clock
-  pub serves : uses_ram bus ≡ false → halted board.core ≡ 0 → bus.hold ≡ 0 → bus.reset ≡ 0 → board.starting ≡ 0
+  pub serves : uses_ram bus ≡ false → halted board ≡ 0 → bus.hold ≡ 0 → bus.reset ≡ 0 → board.starting ≡ 0
       → board.pending ≡ 0 → (clock board bus).pending ≡ 1
 
 -- so it is in each clock with pins that are bits, bytes and an address

@@ -70,6 +70,61 @@ takes board bus =
     let n21 : ℕ = none board.starting in
     both n9 n21
 
+-- the pin `at`
+abbrev pub at : Board → ℕ
+at board =
+    board.core.at
+
+-- the pin `high`
+abbrev pub high : Board → ℕ
+high board =
+    board.core.high
+
+-- the pin `halted`
+abbrev pub halted : Board → ℕ
+halted board =
+    (cells.halted board.core)
+
+-- the pin `done`
+abbrev pub done : Board → ℕ
+done board =
+    board.core.done
+
+-- the pin `fault`
+abbrev pub fault : Board → ℕ
+fault board =
+    board.core.fault
+
+-- the pin `stroke`
+abbrev pub stroke : Board → ℕ
+stroke board =
+    board.core.stroke
+
+-- the pin `x0`
+abbrev pub x0 : Board → ℕ
+x0 board =
+    board.core.x0
+
+-- the pin `y0`
+abbrev pub y0 : Board → ℕ
+y0 board =
+    board.core.y0
+
+-- the pin `x`
+abbrev pub x : Board → ℕ
+x board =
+    board.core.x
+
+-- the pin `y`
+abbrev pub y : Board → ℕ
+y board =
+    board.core.y
+
+-- the pin `z`
+abbrev pub z : Board → ℕ
+z board =
+    board.core.z
+
 -- what drives the core's pins
 abbrev pub pins : Board → Bus → Pins
 pins board bus =

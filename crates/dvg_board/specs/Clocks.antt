@@ -5,8 +5,8 @@ use Rattle.dvg_mem.specs.Memory.{first_word}
 use Rattle.dvg_driver.specs.declared.action.Action.{Action}
 use Rattle.dvg_driver.specs.declared.action.Action.TheVariants.{Peek, Wrote, Read, Sent}
 use Rattle.dvg_core.specs.Cells.{bit}
-use Rattle.dvg_core.specs.Core.{Pins, halted}
-use Rattle.dvg_board.specs.Board.{Board, Bus, powered, pins, takes, clock}
+use Rattle.dvg_board.specs.Board.{Board, Bus, powered, takes, clock}
+use Rattle.dvg_board.specs.Board as pin
 
 -- the pins of a clock are bits, bytes and an address
 pub record IsBus (bus : Bus) : Type 0 where
@@ -20,16 +20,11 @@ abbrev pub after : (ℕ → ℕ) → List Bus → Board
 after held [] = powered held
 after held (bus ∷ clocks) = clock (after held clocks) bus
 
--- the same clocks as the pins of its core have them
-abbrev pub cores : (ℕ → ℕ) → List Bus → List Pins
-cores held [] = []
-cores held (bus ∷ clocks) = pins (after held clocks) bus ∷ cores held clocks
-
--- the jumper is set for the ROM, and where the core takes a byte of the ROM, it is the ROM's
+-- the jumper is set for the ROM, and where `takes`, `at` and `high` ask for a byte of the ROM, it is the ROM's
 pub record IsServed (R : List ℕ) (board : Board) (bus : Bus) : Type 0 where
   pub big : bus.big ≡ bit (not (length R == 2048))
-  pub rom : takes board bus ≡ 1 → first_word R ≤ board.core.at → board.core.at < 0xC00
-      → bus.rom ≡ slice_index R (2 * (board.core.at - first_word R) + board.core.high)
+  pub rom : takes board bus ≡ 1 → first_word R ≤ pin.at board → pin.at board < 0xC00
+      → bus.rom ≡ slice_index R (2 * (pin.at board - first_word R) + pin.high board)
 
 -- the processor reads at this address
 abbrev pub reads : Bus → ℕ → Bool
@@ -43,10 +38,10 @@ writes bus = not (nat_eq bus.access 0) && (not (nat_eq bus.write 0) && nat_eq (b
 abbrev pub sends : Bus → Bool
 sends bus = not (nat_eq bus.access 0) && (not (nat_eq bus.write 0) && nat_eq bus.a 0x3000)
 
--- what it looks at: the flag, or byte 001
+-- what it looks at: the flag, which is the pin `halted`, or byte 001
 abbrev pub looks : Board → Bus → Option Action
 looks board bus =
-    if reads bus 0x2002 then Some (Read (nat_eq (halted board.core) 1))
+    if reads bus 0x2002 then Some (Read (nat_eq (pin.halted board) 1))
     else if reads bus 0x4001 then Some Peek else None
 
 -- what it changes

@@ -4,4 +4,5 @@ pub mod Fetches
 pub mod Clocks
 pub mod Logs
 pub mod Answers
+pub mod Shown
 pub mod Example

@@ -11,9 +11,9 @@ use Rattle.dvg_log.specs.Entries.{Shown}
 use Rattle.dvg_log.specs.declared.entry.Entry.TheVariants.{Acted, Started, Cleared}
 use Rattle.dvg_log.specs.Log.{◌⟼◌, Log, ram, life}
 use Rattle.dvg_log.specs.Legal.{Fits}
-use Rattle.dvg_board.specs.Board.{Bus, pins}
+use Rattle.dvg_board.specs.Board.{Bus, takes}
 use Rattle.dvg_board.specs.Fetches.{entry}
-use Rattle.dvg_board.specs.Clocks.{IsBus, after, cores, IsServed, looks, changes}
+use Rattle.dvg_board.specs.Clocks.{IsBus, after, IsServed, looks, changes}
 
 -- with the line of what the processor did, if it did something
 abbrev pub did : Option Action → Log → Log
@@ -21,11 +21,11 @@ did None log = log
 did (Some action) log = (Tick ⟼ Acted action) ∷ log
 
 -- with the core's line: a reset, which may be one of the whole system over the RAM as it stands, else a start, else the
--- answer to a fetch, if one is pending
-abbrev pub core_line : (reset start pending : ℕ) → (whole : Bool) → List ℕ → Shown → Log → Log
-core_line reset start pending whole bytes shown log =
+-- answer to a fetch, if `takes` is high
+abbrev pub core_line : (reset start takes : ℕ) → (whole : Bool) → List ℕ → Shown → Log → Log
+core_line reset start takes whole bytes shown log =
     if nat_eq reset 0 then
-    if nat_eq start 0 then if nat_eq pending 0 then log else (Fetch ⟼ shown) ∷ log
+    if nat_eq start 0 then if nat_eq takes 0 then log else (Fetch ⟼ shown) ∷ log
     else (Strobe ⟼ Started) ∷ log
     else if whole then (ResetAll bytes ⟼ Cleared) ∷ log
     else (ResetGen ⟼ Cleared) ∷ log
@@ -35,8 +35,7 @@ abbrev pub answered : List ℕ → (ℕ → ℕ) → List Bus → Bus → Bool �
 answered image held older bus whole log =
     let board = after held older in
     let looked = did (looks board bus) log in
-    core_line bus.reset board.starting board.pending whole (ram image looked)
-    (entry looked (cores held older) (pins board bus)) looked
+    core_line bus.reset board.starting (takes board bus) whole (ram image looked) (entry held looked older bus) looked
 
 -- what is asked of a line of the processor, over a ROM, a first image and the log before it
 abbrev pub Driver : Type 1

@@ -12,6 +12,7 @@ ghost use Rattle.dvg_log.specs.Log.{Throughout};
 ghost use Rattle.dvg_board.specs.Answers.{AnswersNext};
 ghost use Rattle.dvg_board.specs.Example.{SomeBoard};
 ghost use Rattle.dvg_board.specs.Logs.{HoldsRam, OfEachBoard};
+ghost use Rattle.dvg_board.specs.Shown.{ShowsCore};
 
 /// For every ROM, first content of the RAM and list of clocks, whatever pins, resets, holds and
 /// pace of accesses they have, where the accesses of the processor are those of the driver's
@@ -29,6 +30,11 @@ pub fn board_keeps()
 /// the core, and the core is served in each clock in which the RAM is free for it.
 pub fn board_answers()
     ensures { OfEachBoard (λ R image held log clocks. AnswersNext image held log clocks) }
+{}
+
+/// The pins `at` to `z` are those of the core.
+pub fn board_shows()
+    ensures { ShowsCore }
 {}
 
 /// There is such a board: over a RAM and a ROM of zeros the driver boots, writes a frame, publishes

@@ -20,13 +20,14 @@ use Rattle.dvg_6502.proofs.Joined.{board_keeps as code_keeps}
 use Rattle.dvg_core.specs.Core.{halted}
 use Rattle.dvg_6502.specs.Processor.{Access}
 use Rattle.dvg_6502.specs.Routines.{Shows}
-use Rattle.dvg_board.specs.Board.{Bus, pins, q, clock}
+use Rattle.dvg_board.specs.Board.{Bus, takes, q, clock}
 use Rattle.dvg_board.specs.Fetches.{entry}
-use Rattle.dvg_board.specs.Clocks.{IsBus, IsServed, after, cores, reads, writes, sends, looks, changes}
+use Rattle.dvg_board.specs.Clocks.{IsBus, IsServed, after, reads, writes, sends, looks, changes}
 use Rattle.dvg_board.specs.Logs.{Driver, did, answered, FitsIf, IsSilent, IsBoard, powers, clocks, acts, FitsScript, HoldsRam}
 use Rattle.dvg_board.proofs.System.{pin_is}
 use Rattle.dvg_board.proofs.Board as board
-use Rattle.dvg_board.proofs.Board.{core_is, holds}
+use Rattle.dvg_board.proofs.Cores.{cores, core_is}
+use Rattle.dvg_board.proofs.Board.{holds}
 use Rattle.dvg_board.proofs.Answered.{answers_next, third}
 
 -- each line of the processor is an access, or an answer, of the machine code
@@ -71,7 +72,7 @@ did_before R image log None l = l
 did_before R image log (Some action) l = l.2
 
 module _ (R image bytes : List ℕ) (shown : Shown) (log : Log) where
-  abbrev line_by : (reset start pending whole : Bool) → Log
+  abbrev line_by : (reset start takes whole : Bool) → Log
   line_by r s p w =
       if r then if s then if p then log else (Fetch ⟼ shown) ∷ log else (Strobe ⟼ Started) ∷ log
       else if w then (ResetAll bytes ⟼ Cleared) ∷ log
@@ -119,18 +120,18 @@ module _ (R image : List ℕ) (held : ℕ → ℕ) (log : Log) (older : List Bus
   one_clock bus whole is served look change =
       let looked = did (looks (after held older) bus) log in
       let now = answered image held older bus whole log in
-      let shown = entry looked (cores held older) (pins (after held older) bus) in
+      let shown = entry held looked older bus in
       let script = clocks bus whole k.script is served (made_if R image log (looks (after held older) bus) look)
       (made_if R image now (changes bus) change) in
       let legal3 : IsLegal R image (did (changes bus) now) = board.legal R image held (did (changes bus) now) (bus ∷ older) script in
       let legal2 : IsLegal R image now = did_before R image now (changes bus) legal3 in
       let legal1 : IsLegal R image looked =
       line_before R image (ram image looked) shown looked (nat_eq bus.reset 0) (nat_eq (after held older).starting 0)
-      (nat_eq (after held older).pending 0) whole legal2 in
+      (nat_eq (takes (after held older) bus) 0) whole legal2 in
       let boards1 = did_boards R image log (looks (after held older) bus) look legal1 k.boards in
       let boards2 : IsBoards R image now =
       line_boards R image (ram image looked) shown looked (nat_eq bus.reset 0) (nat_eq (after held older).starting 0)
-      (nat_eq (after held older).pending 0) whole legal2 boards1 in
+      (nat_eq (takes (after held older) bus) 0) whole legal2 boards1 in
       record { script = script; boards = did_boards R image now (changes bus) change legal3 boards2 }
 
   one_silent : (event : Happening) (shown : Shown) → IsEvent event → IsSilent event shown → FitsCode R image log event shown
