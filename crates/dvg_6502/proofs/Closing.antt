@@ -14,7 +14,8 @@ use Rattle.dvg_6502.specs.Board.{IsLoaded, seen, goal_in, is_own, is_ram}
 use Rattle.dvg_6502.specs.Holds.{Holds, publish_byte}
 use Rattle.dvg_6502.specs.Routines.{Enters}
 use Rattle.dvg_6502.specs.Build.{IsBuilding, Opens, Closes, OpenTakes, PairTakes, LabsTakes, CloseTakes}
-use Rattle.dvg_6502.specs.Build.{Idles, IdleTicks}
+use Rattle.dvg_6502.specs.Build.{Idles, IdleTicks, RunReturns}
+use Rattle.dvg_6502.specs.Amid.{is_kept, is_code, are_steady}
 use Rattle.dvg_6502.proofs.Running.{Comes, by, at, returned}
 use Rattle.dvg_6502.proofs.Memory.{AreSmall, page_in, laid, page_of, loaded, put_small, same_out, state_is, small_page}
 use Rattle.dvg_6502.proofs.StoredByte.{carried}
@@ -24,7 +25,7 @@ use Rattle.dvg_6502.proofs.BuildRun.{is_full}
 use Rattle.dvg_6502.proofs.Alike.{alike_if, Keeping}
 use Rattle.dvg_6502.proofs.Masks.{opened, mixed}
 use Rattle.dvg_6502.proofs.PairRun.{Place, pair_room, labs_run, open_takes, close_ends}
-use Rattle.dvg_6502.proofs.Building.{BuildsSo, builds_so, goal_low, goal_high, place_low, on_word, put_far, laid_out, laid_at}
+use Rattle.dvg_6502.proofs.Building.{BuildsSo, builds_so, goal_low, goal_high, place_low, on_word, put_far, laid_out, laid_at, page_at}
 
 -- an address of the vector RAM is one where a byte is stored
 pub place_of : (p q : ℕ) → q ≡ p → 0x4002 ≤ p → p < 0x4800 → Place q
@@ -560,31 +561,47 @@ close_steadily cpu half flipped enters building =
 pub close_takes : CloseTakes
 close_takes cpu half flipped enters building = (close_steadily cpu half flipped enters building).0
 
--- a tick that changes nothing
+-- a tick that changes nothing, and a call of dvg_run that does
 module _ (a x y s : ℕ) (n z c v : Bool) (mem flags : ℕ → ℕ) where
-  abbrev resting : ℕ → Cpu
-  resting phase = at 0x686A a x y s n z c v
-      (laid (page_of phase (mem 0x11) (mem 0x12) (mem 0x13) (mem 0x14) (mem 0x15) (mem 0x16) (mem 0x17) (mem 0x18) (mem 0x19)
-      (mem 0x1A)) mem) flags []
+  abbrev resting : (entry phase : ℕ) → Cpu
+  resting entry phase = at entry a x y s n z c v (laid (page_at phase mem) mem) flags []
 
-  idles2 : Idles (resting 2)
-  idles2 = record {
-    steps = 7;
-    returns = returned s (run s 7 (resting 2)) refl refl;
-    shows = refl;
-    kept = refl;
-  }
+  idles : (entry phase n : ℕ) → let end = run s n (resting entry phase) in
+      end.mem end.pc ≡ 0x60 → end.s ≡ s → seen end.log ≡ [] → end.mem ≡ (resting entry phase).mem
+      → ((tables : ℕ → Bool) → are_steady (is_kept tables) s n (resting entry phase) ≡ true) → is_code end.pc ≡ true
+      → (did : Idles (resting entry phase)) × (did.steps ≡ n)
+  idles entry phase n opcode level quiet same steady there =
+      let back = returned s (run s n (resting entry phase)) opcode level in (
+        record {
+          steps = n;
+          returns = back;
+          shows = quiet;
+          kept = same;
+          alike = alike_if (resting entry phase) n back steady there;
+        },
+        refl,
+      )
 
-  idles7 : Idles (resting 7)
-  idles7 = record {
-    steps = 15;
-    returns = returned s (run s 15 (resting 7)) refl refl;
-    shows = refl;
-    kept = refl;
-  }
+  tick2 : (did : Idles (resting 0x686A 2)) × (did.steps ≡ 7)
+  tick2 = idles 0x686A 2 7 refl refl refl refl (λ tables. refl) refl
+
+  tick7 : (did : Idles (resting 0x686A 7)) × (did.steps ≡ 15)
+  tick7 = idles 0x686A 7 15 refl refl refl refl (λ tables. refl) refl
+
+  run2 : (did : Idles (resting 0x6809 2)) × (did.steps ≤ 6)
+  run2 = let it = idles 0x6809 2 4 refl refl refl refl (λ tables. refl) refl in (it.0, omega (arith, it.1))
+
+  run7 : (did : Idles (resting 0x6809 7)) × (did.steps ≤ 6)
+  run7 = let it = idles 0x6809 7 6 refl refl refl refl (λ tables. refl) refl in (it.0, omega (arith, it.1))
 
 pub idle_ticks : IdleTicks
 idle_ticks cpu enters (inl is) = subst Idles (entered cpu 0x686A 2 enters is)
-    (idles2 cpu.a cpu.x cpu.y cpu.s cpu.n cpu.z cpu.c cpu.v cpu.mem cpu.flags)
+    (tick2 cpu.a cpu.x cpu.y cpu.s cpu.n cpu.z cpu.c cpu.v cpu.mem cpu.flags).0
 idle_ticks cpu enters (inr is) = subst Idles (entered cpu 0x686A 7 enters is)
-    (idles7 cpu.a cpu.x cpu.y cpu.s cpu.n cpu.z cpu.c cpu.v cpu.mem cpu.flags)
+    (tick7 cpu.a cpu.x cpu.y cpu.s cpu.n cpu.z cpu.c cpu.v cpu.mem cpu.flags).0
+
+pub run_returns : RunReturns
+run_returns cpu enters (inl is) = subst (λ (k : Cpu). (did : Idles k) × (did.steps ≤ 6)) (entered cpu 0x6809 2 enters is)
+    (run2 cpu.a cpu.x cpu.y cpu.s cpu.n cpu.z cpu.c cpu.v cpu.mem cpu.flags)
+run_returns cpu enters (inr is) = subst (λ (k : Cpu). (did : Idles k) × (did.steps ≤ 6)) (entered cpu 0x6809 7 enters is)
+    (run7 cpu.a cpu.x cpu.y cpu.s cpu.n cpu.z cpu.c cpu.v cpu.mem cpu.flags)

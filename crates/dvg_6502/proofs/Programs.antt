@@ -53,7 +53,7 @@ some_may_come R None room = tt
 some_may_come R (Some frame) room = shortest_fits R frame.0 room
 
 -- the call, with another draft
-abbrev call_with : Call → List OpKind → Call
+abbrev pub call_with : Call → List OpKind → Call
 call_with call G = record call { routine = renamed call.routine G }
 
 -- drafts for calls, after which this comes later
@@ -120,7 +120,7 @@ ticks_come_back from others (older ∷ olds) session =
     )
 
 -- the draft doesn't matter to whether a call is over
-busy_renamed : (routine : Routine) (G : List OpKind) (mem : ℕ → ℕ)
+pub busy_renamed : (routine : Routine) (G : List OpKind) (mem : ℕ → ℕ)
     → finds_busy (renamed routine G) mem ≡ finds_busy routine mem
 busy_renamed Reset G mem = refl
 busy_renamed Tick G mem = refl
@@ -132,7 +132,7 @@ busy_renamed (Open F) G mem = refl
 busy_renamed (Puts part) G mem = refl
 busy_renamed Close G mem = refl
 
-over_renamed : (call : Call) (G : List OpKind) → is_over (call_with call G) ≡ is_over call
+pub over_renamed : (call : Call) (G : List OpKind) → is_over (call_with call G) ≡ is_over call
 over_renamed call G = ap (λ (t : Bool). at_return call.from.s (after call)
     || ((nat_eq call.steps 1 && t) || is_leaving call.from.s (after call))) (busy_renamed call.routine G call.from.mem)
 
@@ -601,7 +601,7 @@ module _ (R : List ℕ) (from : Cpu) (steps : ℕ) (others : ℕ → ℕ → ℕ
             still_none true = refl
             still_none false = refl
 
-as_they_are : (calls : List Call) → with_drafts calls [] ≡ calls
+pub as_they_are : (calls : List Call) → with_drafts calls [] ≡ calls
 as_they_are [] = refl
 as_they_are (call ∷ calls) = refl
 

@@ -16,7 +16,7 @@ use Rattle.dvg_frame.specs.Bytes.{addressed}
 use Rattle.dvg_6502.specs.Amid.{ComesOut, guards, is_kept, is_work}
 use Rattle.dvg_6502.specs.Calls.{AreShown}
 use Rattle.dvg_6502.specs.Processor.{Cpu, Access, Writes, run, at_return, stack_place}
-use Rattle.dvg_6502.specs.Code.{dvg_ticks, dvg_tick, dvg_open, dvg_put, dvg_pair, dvg_labs, dvg_vector, dvg_close}
+use Rattle.dvg_6502.specs.Code.{dvg_ticks, dvg_tick, dvg_run, dvg_open, dvg_put, dvg_pair, dvg_labs, dvg_vector, dvg_close}
 use Rattle.dvg_6502.specs.Board.{IsLoaded, seen, is_own, is_ram, phase_in, free_in, publish_in, place_in, pages_in}
 use Rattle.dvg_6502.specs.Board.{goal_in}
 use Rattle.dvg_6502.specs.Holds.{Holds, publish_byte}
@@ -146,16 +146,23 @@ abbrev pub CloseTakes : Type 0
 CloseTakes = (cpu : Cpu) (half : Half) (flipped : Bool) → Enters cpu dvg_close
     → IsBuilding cpu.mem half flipped (0 ∷ 0xB0 ∷ []) → Closes cpu half flipped
 
--- a tick that changes nothing: the call returns with S as it was, touches no hardware, and leaves memory as it was
+-- a call that changes nothing: it returns with S as it was, touches no hardware, and leaves memory as it was; the same
+-- amid others
 pub record Idles (cpu : Cpu) : Type 0 where
   pub steps : ℕ
   pub returns : at_return cpu.s (run cpu.s steps cpu) ≡ true
   pub shows : seen (run cpu.s steps cpu).log ≡ []
   pub kept : (run cpu.s steps cpu).mem ≡ cpu.mem
+  pub alike : (also : ℕ → Bool) → ComesOut (guards (is_kept also) cpu.s) cpu
 
 -- where the driver rests, and while a frame is being built, a tick changes nothing
 abbrev pub IdleTicks : Type 0
 IdleTicks = (cpu : Cpu) → Enters cpu dvg_tick → (phase_in cpu.mem ≡ 2) ⊎ (phase_in cpu.mem ≡ 7) → Idles cpu
+
+-- nor does dvg_run there, which returns at once
+abbrev pub RunReturns : Type 0
+RunReturns = (cpu : Cpu) → Enters cpu dvg_run → (phase_in cpu.mem ≡ 2) ⊎ (phase_in cpu.mem ≡ 7)
+    → (did : Idles cpu) × (did.steps ≤ 6)
 
 -- ticks that change nothing: the call returns with S as it was, touches no hardware, and leaves memory as it was, but for
 -- its count, which is 0, and two bytes of the stack below S

@@ -9,7 +9,7 @@ ghost use Rattle.dvg_6502.specs.Programs.{Hindsight};
 ghost use Rattle.dvg_6502.specs.Joined.{BoardKeeps, SomeBuilding, SomeCalls, SomeLogs, SomeTicks};
 ghost use Rattle.dvg_6502.specs.Routines.{OfferRefuses, OfferTakes, RedrawRefuses, RedrawTakes};
 ghost use Rattle.dvg_6502.specs.Routines.{ResetRefines, TickRefines};
-ghost use Rattle.dvg_6502.specs.Build.{BuildsScript, BuiltAccepted, CloseTakes, IdleTicks, IdleTicksAll};
+ghost use Rattle.dvg_6502.specs.Build.{BuildsScript, BuiltAccepted, CloseTakes, IdleTicks, IdleTicksAll, RunReturns};
 ghost use Rattle.dvg_6502.specs.Build.{LabsTakes, OpenTakes, PairTakes, PutTakes, VectorRefuses, VectorTakes};
 ghost use Rattle.dvg_6502.specs.Moves.{SomeVectors, VectorDraws};
 ghost use Rattle.dvg_6502.specs.Whole.{BuildsFrame, BuildsLife, SomeFrame};
@@ -71,7 +71,8 @@ pub fn some_calls()
     ensures logs { SomeLogs }
 {}
 
-/// A call of `dvg_ticks` returns, also amid interrupts, with its count at 0.
+/// A call of `dvg_ticks` returns, also amid interrupts, with its count at 0. It changes at most the
+/// driver's bytes, the hardware, and two bytes of the stack.
 pub fn ticks_return()
     ensures { TicksReturn }
 {}
@@ -107,7 +108,8 @@ pub fn board_keeps()
 /// The routines that build a frame, one by one: what they put is written where the frame goes on, as
 /// the script's next writes, and after `dvg_close` word zero is to come. `dvg_vector` puts the
 /// canonical words of a vector, or the one word of the short vector that draws the same. Where there
-/// is no such vector, no frame or no room, it is refused. Ticks do nothing while a frame is being built.
+/// is no such vector, no frame or no room, it is refused. Ticks do nothing while a frame is being built,
+/// and `dvg_run` returns at once. Each leaves alone the memory that it isn't said to change.
 pub fn builds()
     ensures opens { OpenTakes }
     ensures puts { PutTakes }
@@ -119,6 +121,7 @@ pub fn builds()
     ensures some_vectors { SomeVectors }
     ensures closes { CloseTakes }
     ensures idles { IdleTicks }
+    ensures runs { RunReturns }
     ensures idles_all { IdleTicksAll }
     ensures script { BuildsScript }
 {}

@@ -2,4 +2,5 @@ mod Ram
 mod Published
 pub mod System
 mod Machine
+mod Hindsight
 mod Example

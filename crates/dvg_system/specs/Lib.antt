@@ -1,2 +1,3 @@
 pub mod Machine
+pub mod Hindsight
 pub mod Example

@@ -1,6 +1,6 @@
 -- One machine: a 6502 that runs the driver's machine code, on the bus of a board of cells.
 use Rattle.std.specs.Prelude.{◌≡◌, ℕ, ◌+◌, ◌<◌, Bool, true, false, if◌then◌else◌, nat_eq, List, [], ◌∷◌, slice_index}
-use Rattle.std.specs.Prelude.{Some, None}
+use Rattle.std.specs.Prelude.{Option, Some, None}
 use Rattle.dvg_mem.specs.Memory.{IsImage, IsRom}
 use Rattle.dvg_frame.specs.declared.op.OpKind.{OpKind}
 use Rattle.dvg_frame.specs.Ops.{IsDraft}
@@ -13,7 +13,7 @@ use Rattle.dvg_6502.specs.Processor.{Cpu, Access, Reads, Writes}
 use Rattle.dvg_6502.specs.Board.{seen}
 use Rattle.dvg_6502.specs.Build.{IsBuilt}
 use Rattle.dvg_6502.specs.Calls
-use Rattle.dvg_6502.specs.Calls.{Routine, Call, is_over, answer, IsSession, IsLifeOf}
+use Rattle.dvg_6502.specs.Calls.{Routine, Call, Brings, is_over, answer, IsSessionBy, IsLifeOf}
 use Rattle.dvg_board.specs.Board.{Board, Bus, q, clock}
 use Rattle.dvg_board.specs.Clocks.{IsBus, IsServed, after, looks, changes}
 use Rattle.dvg_board.specs.Logs.{did, answered}
@@ -74,32 +74,39 @@ with_answer image routine c log = log
 abbrev pub told : List ℕ → Call → Log → Log
 told image call log = if is_over call then with_answer image call.routine (answer call) log else log
 
--- a machine so far: the processor's calls, the log, and the board's clocks, each the newest first
-pub data IsMachine (R image : List ℕ) (held : ℕ → ℕ) : List Call → Log → List Bus → Type 0 where
+-- a machine so far: the processor's calls, the log, and the board's clocks, each the newest first; what a call brings,
+-- and what is checked of it, is as it is asked
+pub data IsMachineBy (brings : Routine → Cpu → Option (ℕ × List ℕ) → Type 0) (checks : Routine → Type 0)
+    (R image : List ℕ) (held : ℕ → ℕ) : List Call → Log → List Bus → Type 0 where
   -- power-up, with any RAM
-  powers : IsRom R → IsImage image → ((a : ℕ) → a < 2048 → held a ≡ slice_index image a) → IsMachine R image held [] [] []
+  powers : IsRom R → IsImage image → ((a : ℕ) → a < 2048 → held a ≡ slice_index image a) → IsMachineBy brings checks R image held [] [] []
   -- a clock in which the processor leaves the board alone
   waits : {calls : List Call} {log : Log} {older : List Bus} (bus : Bus) (whole : Bool)
-      → IsMachine R image held calls log older → IsBus bus → IsServed R (after held older) bus
+      → IsMachineBy brings checks R image held calls log older → IsBus bus → IsServed R (after held older) bus
       → IsIdle (after held older) bus
-      → IsMachine R image held (calls_after bus whole calls) (answered image held older bus whole log) (bus ∷ older)
+      → IsMachineBy brings checks R image held (calls_after bus whole calls) (answered image held older bus whole log) (bus ∷ older)
   -- a call begins
   begins : {calls : List Call} {log : Log} {older : List Bus} (routine : Routine) (from : Cpu) (others : ℕ → ℕ → ℕ)
-      → IsMachine R image held calls log older → IsSession (begun routine from others ∷ calls) → IsChecked R routine
+      → IsMachineBy brings checks R image held calls log older → IsSessionBy brings (begun routine from others ∷ calls)
+      → checks routine
       → SharesRam routine from.mem (after held older)
-      → IsMachine R image held (begun routine from others ∷ calls) (with_reset routine log) older
+      → IsMachineBy brings checks R image held (begun routine from others ∷ calls) (with_reset routine log) older
   -- it takes steps without an access of the hardware
   steps : {call : Call} {calls : List Call} {log : Log} {older : List Bus} (n : ℕ)
-      → IsMachine R image held (call ∷ calls) log older → is_over call ≡ false → IsSession (later n call ∷ calls)
+      → IsMachineBy brings checks R image held (call ∷ calls) log older → is_over call ≡ false → IsSessionBy brings (later n call ∷ calls)
       → accesses_of (later n call) ≡ accesses_of call
-      → IsMachine R image held (later n call ∷ calls) (told image (later n call) log) older
+      → IsMachineBy brings checks R image held (later n call ∷ calls) (told image (later n call) log) older
   -- it takes steps up to an access, which is made on the bus in one clock
   accesses : {call : Call} {calls : List Call} {log : Log} {older : List Bus} (n : ℕ) (access : Access) (bus : Bus)
-      → IsMachine R image held (call ∷ calls) log older → IsSession (later n call ∷ calls)
+      → IsMachineBy brings checks R image held (call ∷ calls) log older → IsSessionBy brings (later n call ∷ calls)
       → accesses_of (later n call) ≡ access ∷ accesses_of call → IsBus bus → IsServed R (after held older) bus
       → Makes (after held older) bus access
-      → IsMachine R image held (later n call ∷ calls) (did (changes bus) (answered image held older bus false log))
+      → IsMachineBy brings checks R image held (later n call ∷ calls) (did (changes bus) (answered image held older bus false log))
       (bus ∷ older)
+
+-- the machines that the laws speak of
+abbrev pub IsMachine : (R image : List ℕ) (held : ℕ → ℕ) → List Call → Log → List Bus → Type 0
+IsMachine R image held = IsMachineBy Brings (IsChecked R) R image held
 
 -- this holds of each machine: over each ROM, first image and first content of the RAM, of its calls, log and clocks
 abbrev pub OfEachMachine : (List ℕ → List ℕ → (ℕ → ℕ) → List Call → Log → List Bus → Type 0) → Type 0

@@ -8,6 +8,7 @@ ghost use Rattle.dvg_log.specs.Log.{Throughout, life};
 ghost use Rattle.dvg_board.specs.Clocks.{after};
 ghost use Rattle.dvg_board.specs.Logs.{HoldsRam};
 ghost use Rattle.dvg_system.specs.Example.{SomeMachine};
+ghost use Rattle.dvg_system.specs.Hindsight.{HindsightKeeps};
 ghost use Rattle.dvg_system.specs.Machine.{AcceptsPublished, AreDone, HaveRam, OfEachMachine};
 
 /// For every ROM, first content of the RAM, and run of a machine whose processor calls the driver's
@@ -27,6 +28,13 @@ pub fn machine_keeps()
         (λ R image held calls log clocks. AreDone calls (life image log)) }
     ensures shared { OfEachMachine
         (λ R image held calls log clocks. HaveRam calls (after held clocks)) }
+{}
+
+/// The same holds of programs that build frames and know of no draft beforehand: where each call puts
+/// the words of an operation, there are the drafts that were built, with which a machine is one as
+/// above. Its clocks are the same, and its calls but for these drafts.
+pub fn hindsight_keeps()
+    ensures { HindsightKeeps }
 {}
 
 /// There is such a machine: over a RAM and a ROM of zeros the machine code boots, takes a table,

@@ -1,6 +1,6 @@
 use Rattle.std.proofs.Common.{refl}
 use Rattle.dvg_6502.proofs.Building.{put_takes}
-use Rattle.dvg_6502.proofs.Closing.{open_is_taken, pair_takes, labs_takes, close_takes, idle_ticks}
+use Rattle.dvg_6502.proofs.Closing.{open_is_taken, pair_takes, labs_takes, close_takes, idle_ticks, run_returns}
 use Rattle.dvg_6502.proofs.VectorBuilds.{vector_takes, vector_refuses}
 use Rattle.dvg_6502.proofs.VectorDraws.{vector_draws}
 use Rattle.dvg_6502.proofs.BuildScript.{builds_script}
@@ -19,6 +19,7 @@ returns c = record {
   some_vectors = (refl, refl, refl);
   closes = close_takes;
   idles = idle_ticks;
+  runs = run_returns;
   idles_all = idle_ticks_all;
   script = builds_script;
 }
