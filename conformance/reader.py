@@ -6,12 +6,16 @@ import os
 import sys
 
 PLACES = 4096 * 512
-MOST = 1000  # words of a run: those of the files are shorter
+MOST = 64  # words that a run fetches at most: a wrong DVG is stopped there
 RAM, ROM = range(0x000, 0x400), range(0x800, 0xC00)
 
 
 class Broke(Exception):
     """What a run breaks by."""
+
+
+class Started(Exception):
+    """A start strobe arrives amid a run."""
 
 
 class Generator:
@@ -21,7 +25,11 @@ class Generator:
         self.memory = memory
         self.x = self.y = self.scale = 0
         self.whole_x = self.whole_y = 0
-        self.at, self.first, self.calls = 0, 0, []
+
+    def start(self, until):
+        """A start strobe: a run begins, that another one ends after so many words, and perhaps a
+        low byte; or none, where there is no `until`."""
+        self.at, self.first, self.calls, self.until = 0, 0, [], until
         self.words, self.lines, self.strokes, self.units = 0, [], [], []
 
     def peek(self):
@@ -30,8 +38,16 @@ class Generator:
             raise Broke('no memory there')
         return self.memory[self.at]
 
+    def look_for_start(self):
+        """Raises Started where the strobe arrives that ends this run."""
+        if self.until and self.words == self.until[0]:
+            if self.until[1]:
+                self.lines.append('low %03X %02X' % (self.at, self.peek() & 0xFF))
+            raise Started
+
     def take(self):
         """Fetches that word, and goes on to the one after it."""
+        self.look_for_start()
         word = self.peek()
         if self.words == MOST:
             raise Broke('no end')
@@ -58,6 +74,7 @@ class Generator:
 
     def step(self):
         """One instruction. Returns whether the run goes on."""
+        self.look_for_start()
         self.first = self.at
         opcode = self.peek() >> 12
         if opcode == 0xC and len(self.calls) == 4:
@@ -88,15 +105,38 @@ class Generator:
                       word >> 4 & 15)
         return opcode != 0xB
 
-    def run(self):
+    def run(self, until):
         """All lines of a run."""
+        self.start(until)
         try:
             while self.step():
                 pass
             end = 'halted'
         except Broke as why:
             end = 'broke %03X %s' % (self.at, why)
+        except Started:
+            return self.lines
         return self.lines + [end] + self.strokes + self.units
+
+
+def starts(theirs):
+    """When start strobes arrive in these lines: for each run after how many words, and whether a low
+    byte came, too; None where it ends by itself."""
+    runs = '\n'.join(theirs).split('\nstarted')
+    for run in runs[:-1]:
+        if '\nhalted' in run:
+            yield None
+        else:
+            yield run.count('fetched'), '\nlow' in '\n' + run
+    yield None
+
+
+def play(memory, theirs):
+    """All lines of a file."""
+    mine, generator = [], Generator(memory)
+    for number, until in enumerate(starts(theirs)):
+        mine += ['started'] * (number > 0) + generator.run(until)
+    return mine
 
 
 def signed(word, sign, size):
@@ -123,12 +163,12 @@ def main():
     wrong = 0
     for name in names:
         path = os.path.join(folder, name)
-        try:
-            mine = Generator(read_memory(path + '.hex')).run()
-        except KeyError as address:
-            mine = ['fetched %03X, which no run fetches' % address.args]
         with open(path + '.run', encoding='ascii') as file:
             theirs = file.read().splitlines()
+        try:
+            mine = play(read_memory(path + '.hex'), theirs)
+        except KeyError as address:
+            mine = ['fetched %03X, which no run fetches' % address.args]
         if mine != theirs:
             wrong += 1
             number = next((i for i, pair in enumerate(zip(mine, theirs)) if pair[0] != pair[1]),

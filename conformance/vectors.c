@@ -5,8 +5,46 @@
 #include "dvg.h"
 #include <stdio.h>
 #include <stdlib.h>
+#include <string.h>
 
 #define MOST_RUN 64 /* words: a longer run isn't written */
+#define TO_THE_END 0xFFFF
+#define MOST_STARTS 4
+
+/* The first runs, by hand: a memory as words with the addresses from which on they stand, and after
+ * how many bytes a start strobe ends a run, before the last one. */
+static const struct {
+    const char *memory;
+    unsigned starts[MOST_STARTS];
+} by_hand[] = {
+    /* dots, long and short */
+    {"A064 0064 5000 9000 F070 0000 1000 F470 B000", {0}},
+    /* a LABS with scale 0, after one with another */
+    {"A100 3100 2040 7040 A100 0200 2040 7040 A200 F200 2040 7040 A300 0300 F1F1 B000", {0}},
+    /* minus zero, long and short */
+    {"A400 0400 5400 7400 9400 F400 F474 FC7C 5000 7400 5400 7000 B000", {0}},
+    /* bit 11, which says nothing, and in a LABS does */
+    {"A800 0800 5810 7820 5C10 7820 5810 7C20 A7FF 0FFF 4901 2A02 B000", {0}},
+    /* sums of scales that are over 9, and those that are over 15 */
+    {"A200 5200 4010 7010 5010 7010 6010 7010 A210 F210 1010 7010 9010 7010 A220 A220 4010 7010 "
+     "F1F1 FFFF B000", {0}},
+    /* each bit of a short vector, alone */
+    {"A080 1080 F0F1 F0F2 F1F0 F2F0 F0F5 F5F0 F8F1 F0F9 F8F9 F9F8 F011 F021 F041 F081 F3FB B000",
+     {0}},
+    /* beyond each edge, with fractions, which a LABS takes away */
+    {"A000 0000 9001 7001 9401 7401 9401 7401 AFFF 0FFF 93FF 73FF 0003 7005 AFFF 0FFF 0001 1001 "
+     "BFFF", {0}},
+    /* calls, returns and jumps: 12 bits of each address, the last call first, low bits of a HALT */
+    {"C010 5001 7001 E800 @010 C020 5002 7002 D000 @020 5003 7003 DFFF @800 C900 5004 7004 E00A "
+     "@900 F1F1 D123 @00A B5A5", {0}},
+    /* a second run begins where the first one ended, with its scale */
+    {"5010 7020 5410 0420 A123 2456 3008 7008 B000", {TO_THE_END, TO_THE_END}},
+    /* starts amid runs: with four calls open, before a second word, and before a high byte */
+    {"C010 @010 C020 @020 C030 @030 C040 @040 5010 7020 5020 7010 D000 @031 D000 @021 D000 "
+     "@011 D000 @001 B000", {8, 10, 15}},
+};
+
+#define BY_HAND (sizeof by_hand / sizeof by_hand[0])
 
 /* A memory of 4,096 words, what was fetched of it, and what ended the run. */
 struct vector {
@@ -56,6 +94,20 @@ static void make_memory(struct vector *vector, bool calls)
     }
 }
 
+/* Writes the memory of a run by hand over another one. */
+static void take_by_hand(struct vector *vector, const char *text)
+{
+    unsigned at = 0;
+    char *end;
+    for (; *text != '\0'; text = end + strspn(end, " ")) {
+        if (*text == '@') {
+            at = (unsigned)strtoul(text + 1, &end, 16);
+        } else {
+            vector->words[at++] = (uint16_t)strtoul(text, &end, 16);
+        }
+    }
+}
+
 /* A place in whole units after a move along an axis. */
 static uint32_t counted(uint32_t place, uint32_t from, uint32_t to)
 {
@@ -80,14 +132,13 @@ static void note_move(dvg *port, unsigned number, uint8_t byte)
     made[number].units = units;
 }
 
-/* Runs it from power on. From word `most` on a HALT is handed, so that strokes can be asked for. */
-static void run(dvg *port, struct vector *vector, unsigned most)
+/* Starts a run, and hands it so many bytes at most. From word `most` on a HALT is handed, so that
+ * strokes can be asked for. */
+static void start(dvg *port, struct vector *vector, unsigned most, unsigned bytes)
 {
     vector->count = 0;
-    unit_x = unit_y = 0;
-    dvg_open_generator(port);
     vector->last = dvg_strobe(port);
-    while (vector->count < MOST_RUN && vector->last.next >= 0) {
+    for (; vector->count < MOST_RUN && vector->last.next >= 0 && bytes > 0; bytes--) {
         unsigned address = (unsigned)vector->last.next / 2;
         bool high = vector->last.next % 2 != 0;
         uint16_t word = vector->count >= most ? 0xB000 : vector->words[address];
@@ -104,6 +155,20 @@ static void run(dvg *port, struct vector *vector, unsigned most)
             vector->count++;
         }
     }
+}
+
+/* Power comes on. */
+static void begin(dvg *port)
+{
+    unit_x = unit_y = 0;
+    dvg_open_generator(port);
+}
+
+/* Runs it from power on. */
+static void run(dvg *port, struct vector *vector, unsigned most)
+{
+    begin(port);
+    start(port, vector, most, TO_THE_END);
 }
 
 /* Whether the run ended, between two instructions, within the words that are written. */
@@ -128,6 +193,9 @@ static void write_memory(FILE *file, const struct vector *vector)
     }
     if (dvg_break_of(vector->last) == DVG_BREAK_STACK_OVER
         || dvg_break_of(vector->last) == DVG_BREAK_STACK_UNDER) {
+        fprintf(file, "@%03X %04X\n", vector->last.address, vector->words[vector->last.address]);
+    }
+    if (vector->last.kind == DVG_LOW) {
         fprintf(file, "@%03X %04X\n", vector->last.address, vector->words[vector->last.address]);
     }
 }
@@ -157,16 +225,25 @@ static void write_units(FILE *file, unsigned count)
     }
 }
 
-/* What comes of it: the words fetched, each with its move, how the run ended, the strokes. */
-static void write_run(FILE *file, dvg *port, const struct vector *vector)
+/* The words that were fetched, each with its move. */
+static void write_fetched(FILE *file, const struct vector *vector)
 {
-    static struct vector again;
-    uint64_t number;
     unsigned i;
     for (i = 0; i < vector->count; i++) {
         fprintf(file, "fetched %03X %04X\n", vector->at[i], vector->word[i]);
         write_move(file, i);
     }
+    if (vector->last.kind == DVG_LOW) {
+        fprintf(file, "low %03X %02X\n", vector->last.address, vector->last.value);
+    }
+}
+
+/* What comes of it: the words fetched, each with its move, how the run ended, the strokes. */
+static void write_run(FILE *file, dvg *port, const struct vector *vector)
+{
+    static struct vector again;
+    uint64_t number;
+    write_fetched(file, vector);
     if (vector->last.kind == DVG_DONE) {
         fputs("halted\n", file);
     } else {
@@ -189,6 +266,28 @@ static FILE *open_file(const char *folder, unsigned long number, const char *end
     char name[1024];
     snprintf(name, sizeof name, "%s/%05lu.%s", folder, number, ending);
     return fopen(name, "w");
+}
+
+/* Writes a run by hand, which has other starts before the last one. */
+static void write_by_hand(FILE *memory, FILE *text, dvg *port, struct vector *vector,
+                          unsigned long number)
+{
+    const unsigned *starts = by_hand[number].starts;
+    take_by_hand(vector, by_hand[number].memory);
+    begin(port);
+    for (; *starts != 0; starts++) {
+        start(port, vector, MOST_RUN, *starts);
+        write_memory(memory, vector);
+        if (vector->last.kind == DVG_DONE) {
+            write_run(text, port, vector);
+        } else {
+            write_fetched(text, vector);
+        }
+        fputs("started\n", text);
+    }
+    start(port, vector, MOST_RUN, TO_THE_END);
+    write_memory(memory, vector);
+    write_run(text, port, vector);
 }
 
 int main(int count, char **arguments)
@@ -214,9 +313,13 @@ int main(int count, char **arguments)
             make_memory(&vector, number % 8 == 7);
             run(port, &vector, MOST_RUN);
         } while (!is_whole(port, &vector));
-        run(port, &vector, MOST_RUN);
-        write_memory(memory, &vector);
-        write_run(text, port, &vector);
+        if (number < BY_HAND) {
+            write_by_hand(memory, text, port, &vector, number);
+        } else {
+            run(port, &vector, MOST_RUN);
+            write_memory(memory, &vector);
+            write_run(text, port, &vector);
+        }
         if (fclose(memory) != 0 || fclose(text) != 0) {
             fputs("write failed\n", stderr);
             return 2;

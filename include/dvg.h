@@ -652,8 +652,8 @@ static inline dvg_answer dvg_driver_tick(dvg *device, bool halted, uint8_t byte1
 /* Of a world or a generator: a start strobe arrives. DVG_STARTED, also amid a run, which is
  * abandoned with its strokes; of a world also DVG_NO_STROBE. A generator alone says with it, and
  * with the answer to each byte, which byte it wants next, so a run takes one turn a byte. This runs
- * over the 8,192 bytes at `memory` until it halts or breaks, or memory is refused; count the bytes where
- * a list may have no end:
+ * over the 8,192 bytes at `memory` until it halts or breaks, or memory is refused; count the bytes
+ * where a list may have no end:
  *
  *     dvg_answer answer = dvg_strobe(device);
  *     while (answer.next >= 0) {
@@ -848,9 +848,9 @@ static inline bool dvg_is_saved(const uint8_t *bytes, size_t size)
 }
 
 /* Opens a generator alone, in place of what is open, that goes on as the one whose saved state
- * these bytes are. They may be any: DVG_OPENED; DVG_NO_STATE: they are no saved state, or one of another
- * version; DVG_NO_MEMORY. Where the answer isn't DVG_OPENED, what was open stays as it was. Nothing
- * finds out that a byte was changed where another state is saved so. */
+ * these bytes are. They may be any: DVG_OPENED; DVG_NO_STATE: they are no saved state, or one of
+ * another version; DVG_NO_MEMORY. Where the answer isn't DVG_OPENED, what was open stays as it was.
+ * Nothing finds out that a byte was changed where another state is saved so. */
 static inline dvg_answer dvg_restore(dvg *device, const uint8_t *bytes, size_t size)
 {
     dvg_answer answer = dvg_answer_of(DVG_NO_STATE);

@@ -576,7 +576,8 @@ class Storm:
         return chance.choice(makers)()
 
     def thing(self, chance):
-        return chance.choice(self.things) if self.things else None
+        things = list(self.things)  # which another thread changes meanwhile
+        return chance.choice(things) if things else None
 
     def words(self, chance, kind, name):
         """The words of a call: those of the table, or some of any kind."""
@@ -608,7 +609,7 @@ class Storm:
             thing.__init__(*(self.value(chance) for _ in range(chance.randrange(2))))
         elif choice < 0.21:
             with thing:
-                thing.own = chance.choice(self.things)
+                thing.own = self.thing(chance)
         elif choice < 0.22:
             gc.collect()
         elif choice < 0.24:

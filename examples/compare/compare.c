@@ -2,7 +2,8 @@
  * what each wants, how each run ends, and the strokes. Tested, not proved.
  *
  *     compare [BYTES [SEED]]    random memories, until as many bytes were compared; 1,000,000
- *     compare --image FILE..    images: the 2,048 bytes of a RAM, and 2,048 or 4,096 of a ROM
+ *     compare --image FILE..    images: the 2,048 bytes of a RAM, and 2,048 or 4,096 of a ROM; one
+ *                               run of each, of 65,536 words at most
  *     compare --units ..        either of them, with strokes in whole units
  *     compare --moves ..        any of them, with each move, also an unseen one, as soon as it is
  *                               made
@@ -11,13 +12,16 @@
  * Without --moves strokes are compared after a HALT. So each run gets one: after some words the kit
  * hands both sides B000 in place of the memory's words. A fifth call, a return without a call and
  * a word without memory break a run of the port, where hardware goes on: the comparison of that
- * run stops there, and its strokes up to there are compared. With --wrap no call and no return
- * breaks a run. A first difference is shrunk.
+ * run stops there, and its strokes up to there are compared. Where yours goes on there, it is run
+ * on alone, and must not stop by the same later: that is a difference, too. With --wrap no call and
+ * no return breaks a run. What isn't compared is printed with the verdict. A first difference is
+ * shrunk.
  *
  * In whole units the rate multipliers round each move along an axis, a half away from zero, also of
  * a vector that isn't drawn, and a LABS sets the place.
  *
- * Status 0: no difference; 1: a difference; 2: memory or a file failed; 64: arguments. */
+ * Status 0: no difference; 1: a difference, or the run of an image had no end within 65,536 words;
+ * 2: memory or a file failed; 64: arguments. */
 #include "mine.h"
 #include <dvg.h>
 #include <stdio.h>
@@ -25,8 +29,9 @@
 #include <string.h>
 
 #define WORDS 4096
-#define MOST_STROKES 1024
-#define MOST_RUN 200 /* words of a run, before it is handed a HALT */
+#define MOST_RUN 200 /* words of a random run, before it is handed a HALT */
+#define MOST_FETCHED (DVG_MOST_WORDS + 4) /* words of any run, with that HALT */
+#define MOST_STROKES MOST_FETCHED
 #define HALT 0xB000
 #define HOLE (-1)
 
@@ -42,10 +47,14 @@ struct outcome {
     bool differs;
     char where[200];       /* the first difference, in words */
     unsigned long bytes;   /* bytes that were compared */
-    unsigned words;        /* words of the run that ended whole, in order: their addresses, words */
-    unsigned at[MOST_RUN + 4], word[MOST_RUN + 4];
+    unsigned words;        /* words of the newest run that ended whole */
+    unsigned compared;     /* words of the run that were compared: of one that broke, up to there */
     enum dvg_break broke;
+    unsigned broke_at;     /* the word address where */
 };
+
+/* The words that the newest run fetched, in order: their addresses, and they. */
+static unsigned fetched_at[MOST_FETCHED], fetched_word[MOST_FETCHED];
 
 static dvg *port;
 static int32_t port_next; /* the byte address that the port wants next; -1 where it is halted */
@@ -192,24 +201,36 @@ static void compare_strokes(struct outcome *outcome, unsigned number)
     }
 }
 
+/* How a DVG stands that broke so. */
+static enum mine_state state_of_break(dvg_break why)
+{
+    return why == DVG_BREAK_STACK_OVER    ? MINE_STACK_OVER
+           : why == DVG_BREAK_STACK_UNDER ? MINE_STACK_UNDER
+                                          : MINE_HOLE;
+}
+
 /* How the port stands after this answer. */
 static enum mine_state state_of(dvg_answer answer)
 {
     switch (answer.kind) {
     case DVG_DONE: return MINE_HALTED;
-    case DVG_BROKE:
-        return dvg_break_of(answer) == DVG_BREAK_STACK_OVER    ? MINE_STACK_OVER
-               : dvg_break_of(answer) == DVG_BREAK_STACK_UNDER ? MINE_STACK_UNDER
-                                                               : MINE_HOLE;
+    case DVG_BROKE: return state_of_break(dvg_break_of(answer));
     default: return MINE_RUNS;
     }
+}
+
+/* The byte that a test has at an address, or HOLE. */
+static int byte_of(const struct test *test, const struct outcome *outcome, unsigned address,
+                   bool high)
+{
+    int32_t word = outcome->words >= test->most ? HALT : test->words[address];
+    return word == HOLE ? HOLE : high ? word >> 8 : word & 0xFF;
 }
 
 /* Hands both the byte that the port wants. Returns the port's answer. */
 static dvg_answer hand_byte(const struct test *test, struct outcome *outcome)
 {
-    int32_t word = outcome->words >= test->most ? HALT : test->words[port_next / 2];
-    int byte = word == HOLE ? HOLE : port_next % 2 != 0 ? word >> 8 : word & 0xFF;
+    int byte = byte_of(test, outcome, (unsigned)port_next / 2, port_next % 2 != 0);
     unsigned before = port_drawn;
     note_move(byte);
     dvg_answer answer = byte == HOLE ? dvg_generator_hole(port)
@@ -218,11 +239,12 @@ static dvg_answer hand_byte(const struct test *test, struct outcome *outcome)
     mine_byte(byte);
     outcome->bytes++;
     if (answer.kind == DVG_FETCHED || answer.kind == DVG_DONE) {
-        outcome->at[outcome->words] = answer.address;
-        outcome->word[outcome->words] = answer.value;
+        fetched_at[outcome->words] = answer.address;
+        fetched_word[outcome->words] = answer.value;
         outcome->words++;
     }
     outcome->broke = dvg_break_of(answer);
+    outcome->broke_at = answer.address;
     if (by_moves && outcome->broke == DVG_BREAK_NONE) {
         compare_strokes(outcome, before);
     }
@@ -230,6 +252,25 @@ static dvg_answer hand_byte(const struct test *test, struct outcome *outcome)
         compare_wanted(outcome, state_of(answer));
     }
     return answer;
+}
+
+/* Runs mine on alone where the port broke and mine goes on, as hardware does: then what broke the
+ * port doesn't stop it later. It is handed as many words as a random run has at most, and -1 where
+ * no memory answers. */
+static void run_on(const struct test *test, struct outcome *outcome)
+{
+    struct mine_wanted mine = mine_wants();
+    unsigned bytes, broke_after = outcome->words;
+    for (bytes = 0; bytes < 2 * MOST_RUN && mine.state == MINE_RUNS; bytes++) {
+        mine_byte(byte_of(test, outcome, mine.address & (WORDS - 1), mine.high));
+        mine = mine_wants();
+    }
+    if (mine.state == state_of_break(outcome->broke)) {
+        outcome->differs = true;
+        snprintf(outcome->where, sizeof outcome->where,
+                 "port: %s after %u words; mine: goes on there, and %u bytes later: %s",
+                 dvg_break_text(outcome->broke), broke_after, bytes, state_text(mine.state));
+    }
 }
 
 /* Starts both, and hands them `most_bytes` bytes at most, or until the run ends. */
@@ -250,6 +291,9 @@ static void run_once(const struct test *test, struct outcome *outcome, bool powe
     if (state == MINE_HALTED && !outcome->differs) {
         halts++;
         compare_strokes(outcome, 0);
+    }
+    if (state > MINE_HALTED && !outcome->differs && mine_wants().state == MINE_RUNS) {
+        run_on(test, outcome);
     }
 }
 
@@ -274,14 +318,19 @@ static void run(const struct test *test, struct outcome *outcome)
         run_once(test, outcome, true, test->interrupted);
     }
     if (!outcome->differs) {
-        run_once(test, outcome, test->interrupted == 0, 2 * MOST_RUN + 8);
+        run_once(test, outcome, test->interrupted == 0, 2 * test->most + 8);
     }
+    outcome->compared = outcome->words;
     if (!outcome->differs && outcome->broke != DVG_BREAK_NONE) {
+        struct outcome broken = *outcome;
         *(outcome->broke == DVG_BREAK_HOLE ? &stopped_at_hole : &stopped_at_stack) += 1;
         again = *test;
         again.most = outcome->words;
         begin_port();
-        run_once(&again, outcome, true, 2 * MOST_RUN + 8);
+        run_once(&again, outcome, true, 2 * again.most + 8);
+        outcome->broke = broken.broke;
+        outcome->broke_at = broken.broke_at;
+        outcome->compared = broken.compared;
     }
 }
 
@@ -315,7 +364,7 @@ static void take_fetched(struct test *test)
         candidate.words[i] = HALT;
     }
     for (i = 0; i < outcome.words; i++) {
-        candidate.words[outcome.at[i]] = test->words[outcome.at[i]];
+        candidate.words[fetched_at[i]] = test->words[fetched_at[i]];
     }
     take(test, &candidate);
 }
@@ -331,10 +380,10 @@ static void take_row(struct test *test)
         candidate.words[i] = HALT;
     }
     for (i = 0; i < outcome.words; i++) {
-        unsigned opcode = outcome.word[i] >> 12;
-        bool follows = i > 0 && outcome.at[i] == outcome.at[i - 1] + 1;
-        if (follows || opcode < 0xB || opcode == 0xF) {
-            candidate.words[place++] = (int32_t)outcome.word[i];
+        unsigned opcode = fetched_word[i] >> 12;
+        bool follows = i > 0 && fetched_at[i] == fetched_at[i - 1] + 1;
+        if ((follows || opcode < 0xB || opcode == 0xF) && place < WORDS) {
+            candidate.words[place++] = (int32_t)fetched_word[i];
         }
     }
     take(test, &candidate);
@@ -466,7 +515,7 @@ static void report(struct test *test)
     }
     printf("fetched:");
     for (i = 0; i < outcome.words; i++) {
-        printf(" %03X:%04X", outcome.at[i], outcome.word[i]);
+        printf(" %03X:%04X", fetched_at[i], fetched_word[i]);
     }
     printf("\n%s\n", outcome.where);
 }
@@ -526,13 +575,32 @@ static bool read_image(struct test *test, const char *name)
         test->words[i] = there ? bytes[from] | bytes[from + 1] << 8 : HOLE;
     }
     test->interrupted = 0;
-    test->most = MOST_RUN;
+    test->most = DVG_MOST_WORDS;
     return true;
+}
+
+/* Says of an image without a difference how many words were compared, and what wasn't. Returns
+ * whether its run has an end. */
+static bool is_whole(const struct test *test, const struct outcome *outcome, const char *name)
+{
+    printf("%s: no difference in %u words", name, outcome->compared);
+    if (outcome->broke != DVG_BREAK_NONE) {
+        bool wrap_goes_on = outcome->broke != DVG_BREAK_HOLE;
+        printf("; not compared: what follows the %s at %03X%s",
+               wrap_goes_on ? dvg_break_text(outcome->broke) : "word without memory",
+               outcome->broke_at, wrap_goes_on ? ", which --wrap compares" : "");
+    }
+    if (outcome->compared > test->most) {
+        printf("; not compared: what follows them: it has no end within %u words", test->most);
+    }
+    printf("\n");
+    return outcome->compared <= test->most;
 }
 
 static int compare_images(struct test *test, char **names)
 {
     struct outcome outcome;
+    bool uncompared = false;
     for (; *names != NULL; names++) {
         if (!read_image(test, *names)) {
             fprintf(stderr, "%s: no image of 4,096 or 6,144 bytes\n", *names);
@@ -544,12 +612,12 @@ static int compare_images(struct test *test, char **names)
             report(test);
             return 1;
         }
-        printf("%s: no difference in %lu bytes\n", *names, outcome.bytes);
+        uncompared |= !is_whole(test, &outcome, *names);
     }
-    return 0;
+    return uncompared;
 }
 
-static int compare_random(struct test *test, unsigned long most_bytes)
+static int compare_random(struct test *test, unsigned long most_bytes, uint64_t seed)
 {
     struct outcome outcome;
     unsigned long bytes = 0, tests = 0;
@@ -559,14 +627,15 @@ static int compare_random(struct test *test, unsigned long most_bytes)
         bytes += outcome.bytes;
         tests++;
         if (outcome.differs) {
-            printf("test %lu ", tests);
+            printf("after %lu bytes of seed %llu, test %lu ", bytes,
+                   (unsigned long long)seed, tests);
             report(test);
             return 1;
         }
     }
     printf("no difference: %lu bytes, %lu memories, %lu halts\n", bytes, tests, halts);
-    printf("stopped where hardware goes on: %lu at the stack, %lu without memory\n",
-           stopped_at_stack, stopped_at_hole);
+    printf("not compared: what follows %lu stops at the stack%s, %lu words without memory\n",
+           stopped_at_stack, wraps ? "" : ", which --wrap compares", stopped_at_hole);
     return 0;
 }
 
@@ -592,6 +661,7 @@ int main(int count, char **arguments)
 {
     static struct test test;
     unsigned long bytes;
+    uint64_t seed;
     bool images;
     int status;
     for (; count > 1 && is_option(arguments[1]); count--) {
@@ -605,11 +675,12 @@ int main(int count, char **arguments)
               " FILE..\n", stderr);
         return 64;
     }
+    seed = random_state;
     random_state *= 0x9E3779B97F4A7C15u;
     if (dvg_new(&port) != 0) {
         return 2;
     }
-    status = images ? compare_images(&test, arguments + 2) : compare_random(&test, bytes);
+    status = images ? compare_images(&test, arguments + 2) : compare_random(&test, bytes, seed);
     dvg_free(port);
     return status;
 }
