@@ -9,6 +9,7 @@ schedules of that 6502 alone. One line a mistake; the last one is 'N of M mistak
 """
 import concurrent.futures
 import os
+import signal
 import subprocess
 import sys
 
@@ -16,6 +17,7 @@ DVG, DRIVER, WORK = [os.path.abspath(path) for path in sys.argv[1:4]]
 IS_SIM65 = sys.argv[4:] == ['sim65']
 SCHEDULES = os.path.join(WORK, 'schedules_sim65' if IS_SIM65 else 'schedules')
 SOURCES = {name: open(os.path.join(DRIVER, name)).read() for name in ('driver.s', 'dvg.inc')}
+# So many seconds of a processor a program may take: more means that it doesn't end.
 LIMIT = 60
 
 # What is done, the text that stands once in the driver, and what stands there instead.
@@ -249,10 +251,11 @@ def planted(mistake):
 
 
 def run(command, folder):
-    try:
-        return subprocess.run(command, cwd=folder, capture_output=True, text=True, timeout=LIMIT)
-    except subprocess.TimeoutExpired:
+    limited = ['sh', '-c', f'ulimit -t {LIMIT}; exec "$@"', 'sh', *command]
+    done = subprocess.run(limited, cwd=folder, capture_output=True, text=True)
+    if done.returncode in (-signal.SIGXCPU, -signal.SIGKILL):
         return subprocess.CompletedProcess(command, 1, "it doesn't end\n", '')
+    return done
 
 
 def assemble(folder, sources):
