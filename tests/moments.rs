@@ -17,6 +17,9 @@ use twin::torn::judge_moments;
 /// The bytes of the RAM.
 const RAM_BYTES: usize = 0x800;
 
+/// The bytes of the words that have an address of 12 bits.
+const ALL_BYTES: usize = 0x2000;
+
 /// How many failures are printed with their logs.
 const PRINTED: u64 = 5;
 
@@ -49,11 +52,11 @@ impl Chance {
     }
 }
 
-/// The word address of the low byte that waits before a line.
-fn waiting(log: &[Line]) -> Option<u16> {
+/// The low byte that waits before a line, after its word address.
+fn waiting(log: &[Line]) -> Option<(u16, u8)> {
     for line in log.iter().rev() {
         match line {
-            Low(address, _) => return Some(*address),
+            Low(address, byte) => return Some((*address, *byte)),
             Wrote(..) => {}
             _ => return None,
         }
@@ -68,7 +71,7 @@ fn reads(log: &[Line], at: usize) -> Vec<(usize, u8)> {
         Fetched(address, word) | Done(address, word) => {
             let [low, high] = word.to_le_bytes();
             let first = 2 * usize::from(address);
-            if waiting(&log[..at]) == Some(address) {
+            if waiting(&log[..at]).is_some_and(|waits| waits.0 == address) {
                 vec![(first + 1, high)]
             } else {
                 vec![(first, low), (first + 1, high)]
@@ -102,7 +105,11 @@ impl Naive<'_> {
         for line in (0..at).rev() {
             match self.log[line] {
                 Reset => return None,
-                Wrote(address, byte) if usize::from(address) == byte_address => return Some(byte),
+                Wrote(address, byte)
+                    if usize::from(address) == byte_address && byte_address < RAM_BYTES =>
+                {
+                    return Some(byte);
+                }
                 _ => {}
             }
             for (address, byte) in &self.reads[line] {
@@ -123,11 +130,19 @@ impl Naive<'_> {
         (address < RAM_BYTES && self.told(at, address) != Some(byte)).then_some(address)
     }
 
-    /// Whether line `at` reads a byte of the RAM as another than was told.
+    /// Whether line `at` reads a byte as another than was told, of the RAM or of the ROM, or a word
+    /// of another low byte than the one that waits.
     fn contradicts(&self, at: usize) -> bool {
-        self.reads[at].iter().any(|(address, byte)| {
-            *address < RAM_BYTES && self.told(at, *address).is_some_and(|told| told != *byte)
-        })
+        let parted = match (self.log[at], waiting(&self.log[..at])) {
+            (Fetched(address, word) | Done(address, word), Some((waits, byte))) => {
+                waits == address && u16::from(byte) != word % 0x100
+            }
+            _ => false,
+        };
+        parted
+            || self.reads[at].iter().any(|(address, byte)| {
+                *address < ALL_BYTES && self.told(at, *address).is_some_and(|told| told != *byte)
+            })
     }
 
     /// The line that began the run which is open after so many lines.
@@ -210,7 +225,9 @@ fn log(chance: &mut Chance) -> Vec<Line> {
         if kind < system.writes {
             let address = 2 * base + chance.below(2 * system.words) as usize;
             let byte = chance.below(system.values) as u8;
-            memory[address] = byte;
+            if address < RAM_BYTES {
+                memory[address] = byte;
+            }
             log.push(Wrote(address as u16, byte));
         } else if kind < system.writes + 5 {
             log.push([Started, Started, Started, Ended, Reset][chance.below(5) as usize]);
@@ -233,9 +250,16 @@ fn read(chance: &mut Chance, system: &System, memory: &[u8], word: usize, log: &
     if chance.below(100) < system.wrong {
         bytes[chance.below(2) as usize] ^= 1;
     }
-    if let Some(Low(address, byte)) = log.last().copied() {
-        let high = memory[2 * usize::from(address) + 1];
-        log.push(Fetched(address, u16::from_le_bytes([byte, high])));
+    if let Some((address, byte)) = waiting(log)
+        && chance.below(8) > 0
+    {
+        let first = 2 * usize::from(address);
+        let low = if chance.below(100) < system.wrong {
+            [byte ^ 1, memory[first]][chance.below(2) as usize]
+        } else {
+            byte
+        };
+        log.push(Fetched(address, u16::from_le_bytes([low, memory[first + 1]])));
     } else if chance.below(100) < system.apart {
         log.push(Low(word as u16, bytes[0]));
     } else if chance.below(8) == 0 {
@@ -250,7 +274,7 @@ fn read(chance: &mut Chance, system: &System, memory: &[u8], word: usize, log: &
 struct Worked(&'static str, &'static [Line], bool, bool);
 
 /// Words 1 and 2 are a display list in one buffer, at bytes 2 to 5.
-const WORKED: [Worked; 16] = [
+const WORKED: [Worked; 23] = [
     Worked(
         "both words change between their readings",
         &[
@@ -413,6 +437,59 @@ const WORKED: [Worked; 16] = [
         &[Started, Fetched(1, 0x0101), Done(1, 0x0102)],
         false,
         true,
+    ),
+    Worked(
+        "a word isn't of the low byte that was read of it",
+        &[Started, Low(1, 0x00), Done(1, 0xB001)],
+        false,
+        true,
+    ),
+    Worked(
+        "it is, though another was written since",
+        &[Started, Low(1, 0x00), Wrote(2, 0x01), Done(1, 0xB000)],
+        false,
+        false,
+    ),
+    Worked(
+        "it is of the byte that was written since",
+        &[Started, Low(1, 0x00), Wrote(2, 0x01), Done(1, 0xB001)],
+        false,
+        true,
+    ),
+    Worked(
+        "a word of the ROM is read as two things",
+        &[Started, Fetched(0x900, 0x0001), Done(0x900, 0x0002)],
+        false,
+        true,
+    ),
+    Worked(
+        "the same, with a reset of the whole system between",
+        &[
+            Started,
+            Fetched(0x900, 0x0001),
+            Reset,
+            Started,
+            Done(0x900, 0x0002),
+        ],
+        false,
+        false,
+    ),
+    Worked(
+        "what is written outside the RAM tells nothing",
+        &[
+            Started,
+            Fetched(0x400, 0x0101),
+            Wrote(0x800, 5),
+            Done(0x400, 0x0101),
+        ],
+        false,
+        false,
+    ),
+    Worked(
+        "of a word address past FFF nothing is kept",
+        &[Started, Fetched(0x1000, 0x0001), Done(0x1000, 0x0002)],
+        false,
+        false,
     ),
 ];
 

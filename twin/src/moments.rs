@@ -7,6 +7,9 @@ use std::collections::HashMap;
 /// The bytes of the RAM.
 const RAM_BYTES: usize = 0x800;
 
+/// The bytes of the words that have an address of 12 bits.
+const ALL_BYTES: usize = 0x2000;
+
 /// A line of a log.
 #[derive(Clone, Copy, Debug, PartialEq, Eq)]
 pub enum Line {
@@ -52,7 +55,8 @@ pub struct Moments {
     lines: u64,
     told: HashMap<usize, u8>,
     changed: HashMap<usize, u64>,
-    waits: Option<u16>,
+    /// The low byte that waits for its high byte, after its word address.
+    waits: Option<(u16, u8)>,
     run: Option<Run>,
 }
 
@@ -71,13 +75,28 @@ impl Moments {
                 let [low, high] = word.to_le_bytes();
                 let at = 2 * usize::from(address);
                 let mut bytes = vec![(at + 1, high)];
-                if self.waits != Some(address) {
+                if self.waiting(address).is_none() {
                     bytes.push((at, low));
                 }
                 bytes
             }
             _ => Vec::new(),
         }
+    }
+
+    /// The low byte of a word that waits, if it does.
+    fn waiting(&self, address: u16) -> Option<u8> {
+        let (at, byte) = self.waits?;
+        (at == address).then_some(byte)
+    }
+
+    /// Whether a line tells another low byte of a word than the line before did.
+    fn splits(&self, line: Line) -> bool {
+        let (Line::Fetched(address, word) | Line::Done(address, word)) = line else {
+            return false;
+        };
+        let [low, _] = word.to_le_bytes();
+        self.waiting(address).unwrap_or(low) != low
     }
 
     /// Reads a byte. Whether it is another than was told.
@@ -87,7 +106,7 @@ impl Moments {
             run.least = run.least.max(changed);
             run.read.insert(at, self.lines);
         }
-        at < RAM_BYTES && self.told.insert(at, byte).is_some_and(|told| told != byte)
+        at < ALL_BYTES && self.told.insert(at, byte).is_some_and(|told| told != byte)
     }
 
     fn write(&mut self, at: usize, byte: u8) {
@@ -112,7 +131,7 @@ impl Moments {
     /// written.
     pub fn tell(&mut self, line: Line) -> (Standing, bool) {
         self.lines += 1;
-        let mut contradicts = false;
+        let mut contradicts = self.splits(line);
         for (at, byte) in self.read_by(line) {
             contradicts |= self.read(at, byte);
         }
@@ -137,7 +156,7 @@ impl Moments {
                 self.end();
                 self.run = Some(Run::default());
             }
-            Line::Low(address, _) => self.waits = Some(address),
+            Line::Low(address, byte) => self.waits = Some((address, byte)),
             Line::Fetched(..) => self.waits = None,
             Line::Wrote(address, byte) => self.write(usize::from(address), byte),
             Line::Ended => {

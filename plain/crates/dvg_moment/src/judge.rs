@@ -4,6 +4,9 @@ use dvg_log::{Entry, Event, OwnEntry, OwnEvent};
 use dvg_mem::MEMORY_BYTES;
 use std::alloc::Allocator;
 
+// The byte addresses of the words that have an address of 12 bits.
+const TOLD_BYTES: usize = 0x2000;
+
 // How the open run stands.
 #[derive(Clone, Copy, Debug, PartialEq, Eq, Hash)]
 enum Phase {
@@ -30,14 +33,14 @@ enum Phase {
 /// time.
 #[derive(Clone, Copy, Debug)]
 pub struct MomentJudge {
-    // What the log told of each byte of the RAM.
-    told: [Option<u8>; MEMORY_BYTES],
-    // Which of them the newest run has read.
+    // What the log told of each byte that is at an address.
+    told: [Option<u8>; TOLD_BYTES],
+    // Which bytes of the RAM the newest run has read.
     read: [bool; MEMORY_BYTES],
     // Which of them changed since the moment, where that is past.
     changed: [bool; MEMORY_BYTES],
-    // The word address of the low byte that waits.
-    low: Option<u16>,
+    // The low byte that waits for its high byte, after its word address.
+    low: Option<(u16, u8)>,
     phase: Phase,
 }
 
@@ -45,7 +48,7 @@ impl MomentJudge {
     /// Returns a judge that was told no line.
     pub fn new() -> MomentJudge {
         MomentJudge {
-            told: [None; MEMORY_BYTES],
+            told: [None; TOLD_BYTES],
             read: [false; MEMORY_BYTES],
             changed: [false; MEMORY_BYTES],
             low: None,
@@ -53,33 +56,40 @@ impl MomentJudge {
         }
     }
 
-    // Returns what was told of the byte at the byte address `at`. `None` outside the RAM, too.
+    // Returns what was told of the byte at the byte address `at`. `None` from 2000 on, too.
     fn known(&self, at: usize) -> Option<u8> {
-        if at < MEMORY_BYTES {
-            self.told[at]
-        } else {
-            None
-        }
+        if at < TOLD_BYTES { self.told[at] } else { None }
     }
 
     // Returns whether the low byte of the word at `address` waits for its high byte.
     fn waits(&self, address: u16) -> bool {
         match self.low {
-            Some(low) => low == address,
+            Some(low) => low.0 == address,
             None => false,
         }
     }
 
-    // Marks the byte address `at` as read, and keeps that `byte` stood there. Outside the RAM
-    // nothing changes.
+    // Returns whether the low byte of the word at `address` waits, and isn't `byte`.
+    fn waits_as_another(&self, address: u16, byte: u8) -> bool {
+        match self.low {
+            Some(low) => low.0 == address && low.1 != byte,
+            None => false,
+        }
+    }
+
+    // Keeps that `byte` stood at the byte address `at`, and marks it as read, if it is of the RAM.
+    // From 2000 on nothing changes.
     fn read_byte(&mut self, at: usize, byte: u8) {
+        if at >= TOLD_BYTES {
+            return;
+        }
+        self.told[at] = Some(byte);
         if at >= MEMORY_BYTES {
             return;
         }
         if self.phase == Phase::Past && self.changed[at] {
             self.phase = Phase::Torn;
         }
-        self.told[at] = Some(byte);
         self.read[at] = true;
     }
 
@@ -123,7 +133,7 @@ impl MomentJudge {
 
     // Makes void what was told.
     fn forget(&mut self) {
-        self.told = [None; MEMORY_BYTES];
+        self.told = [None; TOLD_BYTES];
     }
 
     // Returns whether the run is known to be of no moment.
@@ -157,7 +167,7 @@ impl MomentJudge {
     /// address `address`.
     pub fn low(&mut self, address: u16, byte: u8) {
         self.read_byte(2 * usize::from(address), byte);
-        self.low = Some(address);
+        self.low = Some((address, byte));
     }
 
     /// Takes a line that says that a fetch completed `word`, at the word address `address`, and the
@@ -203,7 +213,11 @@ impl MomentJudge {
     /// Returns whether the log told of the byte at the byte address `address`. `false` outside the
     /// RAM. Where it didn't, a write is a change, whatever stood there.
     pub fn is_told(&self, address: u16) -> bool {
-        match self.known(usize::from(address)) {
+        let at = usize::from(address);
+        if at >= MEMORY_BYTES {
+            return false;
+        }
+        match self.known(at) {
             Some(_) => true,
             None => false,
         }
@@ -281,18 +295,25 @@ impl MomentJudge {
     }
 
     /// Returns whether a fetch that brings `byte`, the low byte of the word at the word address
-    /// `address`, contradicts what was told: then somebody writes who isn't in the log.
+    /// `address`, contradicts what was told of that byte last, be it of the RAM or of the ROM: then
+    /// somebody writes who isn't in the log, or the log isn't right. `false` from the word address
+    /// 1000 on, which no word has.
     pub fn contradicts_low(&self, address: u16, byte: u8) -> bool {
         self.is_told_as_another(2 * usize::from(address), byte)
     }
 
     /// Like `contradicts_low`, for a fetch that completes `word`, at the word address `address`,
-    /// whether or not it ends the run.
+    /// whether or not it ends the run. If the low byte was told before, by `low`, it is that one
+    /// which the word has to have, also where another was written since.
     pub fn contradicts_word(&self, address: u16, word: u16) -> bool {
-        let low = 2 * usize::from(address);
-        if !self.waits(address) && self.is_told_as_another(low, (word % 0x100) as u8) {
+        let low = (word % 0x100) as u8;
+        if self.waits_as_another(address, low) {
             return true;
         }
-        self.is_told_as_another(low + 1, (word / 0x100) as u8)
+        let at = 2 * usize::from(address);
+        if !self.waits(address) && self.is_told_as_another(at, low) {
+            return true;
+        }
+        self.is_told_as_another(at + 1, (word / 0x100) as u8)
     }
 }
