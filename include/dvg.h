@@ -888,7 +888,8 @@ static inline dvg_answer dvg_restore(dvg *device, const uint8_t *bytes, size_t s
  * vector memory and each fetch. Each of these answers how the newest run stands then: DVG_NO_RUN;
  * DVG_ONE_MOMENT; DVG_NO_MOMENT, from the line on at which no moment is left; and where the line is
  * a HALT, DVG_WHOLE or DVG_TORN. In the value 1 says that the line reads what was not written:
- * somebody writes who isn't in the log.
+ * another byte than the log told last of it, of the RAM, of the ROM, or of the low byte that was
+ * told of this very word. Then somebody writes who isn't in the log.
  *
  * Asked of a judge, dvg_reset_generator and dvg_reset_processor say that this reset was done, and
  * answer as these do. The first one also serves where a run ends by a fault. */

@@ -1414,8 +1414,10 @@ class MomentJudge(_Device):
         WHOLE        the line is the HALT of a run of one moment
         TORN         the line is the HALT of a run of no moment
 
-    Its value is 1 where the line reads what was not written, so that somebody writes who isn't in
-    the log; else 0. What it says is proved, as the judge of the library is.
+    Its value is 1 where the line reads what was not written: another byte than the log told last of
+    it, of the RAM, of the ROM, or of the low byte that was told of this very word. Then somebody
+    writes who isn't in the log. Else it is 0. What it says is proved, as the judge of the library
+    is.
     """
 
     def __init__(self) -> None:

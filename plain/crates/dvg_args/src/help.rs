@@ -268,11 +268,12 @@ With `--moments` it is `torn at line N: ..` for the first run that comes to its
 HALT and is of no moment: no byte that it reads may change between its moment and
 its reading, and by line N, which is shown, no such moment was left. It is
 `line N reads what was not written: ..` for the first line that reads another byte
-than the log told last; else `whole: R runs, H halted`. Where no run halted that
-fetched something, it is `no run to judge: ..`. `halted` tells no word, so the log
-before it is judged. After `reset`, which may be one of the whole system, nothing
-is known of memory. A byte that is written before the log tells what stood there
-counts as changed.
+than the log told last of it: of the RAM, of the ROM, or of the low byte that was
+told of this very word. Else it is `whole: R runs, H halted`, where H runs came to
+a line `halted`. Where none of these fetched something, it is `no run to judge:
+..`. `halted` tells no word, so the log before it is judged. After `reset`, which
+may be one of the whole system, nothing is known of memory. A byte that is written
+before the log tells what stood there counts as changed.
 
 With `--moments --all` there is a line `torn at line N: ..` for each such run, and
 at the end `in all: R runs, H halted, T torn`, or what is said where none is torn.
