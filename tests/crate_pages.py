@@ -1,0 +1,133 @@
+"""The README.md of each crate beside the crate's sources, for tests/documents. Each crate has one,
+of at most 16 lines. What it names is there: a contract, in a line '- `NAME` (`CLAUSE`, .., FILE):',
+is a function of that file with these clauses; a name `A::B` is a function of the crate A, or of a
+type or a module A; and a path is one of the crate, or of the one that is named before it."""
+
+import glob
+import os
+import re
+
+MOST_LINES = 16
+# How many contracts a page has where the crate has as many public functions.
+CONTRACTS = 3
+
+CONTRACT = re.compile(r"(?m)^- `([\w:]+)` \(((?:`\w+`, )*)([\w/.]+)\):")
+NAME = re.compile(r"`(\w+(?:::\w+)+)`")
+PATH = re.compile(r"(?:(\w+)'s )?(?<![\w/])((?:src|specs|proofs)/[\w/.]*\w)")
+
+
+def read(path):
+    with open(path, encoding="utf-8") as file:
+        return file.read()
+
+
+def read_files(top, crates):
+    """The texts of all sources of these crates, and the names of their definitions and proofs."""
+    texts = {}
+    for crate in crates:
+        folder = f"{top}/crates/{crate}"
+        for path in glob.glob(f"{folder}/**/*", recursive=True):
+            if path.endswith((".rt", ".antt")) or os.path.isdir(path):
+                name = f"{crate}/{os.path.relpath(path, folder)}"
+                texts[name] = read(path) if path.endswith(".rt") else ""
+    return texts
+
+
+def read_pages(top, crates):
+    """The README.md of each of these crates, which is empty where there is none."""
+    paths = {crate: f"{top}/crates/{crate}/README.md" for crate in crates}
+    return {crate: read(path) if os.path.exists(path) else "" for crate, path in paths.items()}
+
+
+def clauses_of(text, function):
+    """The clauses of each function of this name in a text: a set of names for each."""
+    found = []
+    for head in re.finditer(rf"\bfn {function}\b", text):
+        body = re.split(r"\n *(?:pub |unsafe |extern |const )*fn \w", text[head.end():])[0]
+        found.append(set(re.findall(r"\bensures\*? (\w+) \{", body)))
+    return found
+
+
+def is_there(files, crate, parts, path=None):
+    """Whether a crate has what these parts of a name say, in the file of this path or in any: its
+    last part is a function, and one before it a type or a module."""
+    texts = {name: text for name, text in files.items() if name.startswith(f"{crate}/src/")
+             and (path is None or name == f"{crate}/{path}")}
+    *owners, function = parts
+    return any(re.search(rf"\bfn {function}\b", text) and all(
+        re.search(rf"\b(?:impl|trait|struct|enum)\b.*\b{owner}\b", text)
+        or re.search(rf"/{owner}(?:\.rt|/)", name) for owner in owners)
+        for name, text in texts.items())
+
+
+def wrong_contracts(files, crate, page):
+    for name, clauses, path in CONTRACT.findall(page):
+        wanted = set(re.findall(r"\w+", clauses))
+        if not is_there(files, crate, name.split("::"), path):
+            yield f"{name} isn't in {path}"
+        elif not any(wanted <= has for has in
+                     clauses_of(files[f"{crate}/{path}"], name.split("::")[-1])):
+            yield f"{name} has no such clauses: {' '.join(sorted(wanted))}"
+
+
+def wrong_names(files, crates, page, crate=None):
+    """The names of a text that aren't there, each with a crate in front, or of this crate."""
+    for name in NAME.findall(page):
+        first, *rest = name.split("::")
+        if first in crates:
+            if not is_there(files, first, rest):
+                yield f"there is no {name}"
+        elif crate and not is_there(files, crate, [first, *rest]):
+            yield f"there is no {name}"
+
+
+def wrong_paths(files, crate, page):
+    for owner, path in PATH.findall(page):
+        if f"{owner or crate}/{path}" not in files:
+            yield f"there is no {owner or crate}/{path}"
+
+
+def differences(crates, pages, files, counts):
+    """What is wrong with the pages of these crates. Of those that have contracts, `counts` says how
+    many public functions they have."""
+    found = []
+    for crate in crates:
+        page = pages[crate]
+        wrong = [] if page.startswith(f"# {crate}\n") else ["it has no README.md of its name"]
+        if page.count("\n") > MOST_LINES:
+            wrong.append(f"it has more than {MOST_LINES} lines")
+        if len(CONTRACT.findall(page)) < min(CONTRACTS, counts.get(crate, 0)):
+            wrong.append("it has too few contracts")
+        wrong += [*wrong_contracts(files, crate, page), *wrong_names(files, crates, page, crate),
+                  *wrong_paths(files, crate, page)]
+        found += [f"crates/{crate}/README.md: {what}" for what in wrong]
+    return found
+
+
+# Mistakes in a page: the crate, what stands there, and what is put in its place.
+PLANTED = [
+    ("no page", "dvg_code", "# dvg_code", "# dvg_coding"),
+    ("a page that is too long", "dvg_world", "# dvg_world\n", "# dvg_world\n" + 16 * "\n"),
+    ("a contract of no function", "dvg_world", "`World::fetch` (", "`World::fetched` ("),
+    ("a contract of another file", "dvg_world", "src/runs.rt)", "src/world.rt)"),
+    ("a clause that isn't there", "dvg_gen", "(`moves`, ", "(`moved`, "),
+    ("a clause of another function", "dvg_gen", "(`moves`, ", "(`refused`, "),
+    ("a contract of another type", "dvg_gen", "`WrappingGenerator::feed` (", "`Beam::feed` ("),
+    ("too few contracts", "dvg_mem", "- `Store::write`", "`Store::write`"),
+    ("a law of another module", "dvg_theorem", "`laws::headline`", "`lows::headline`"),
+    ("a function of another crate", "dvg", "`dvg_tool::perform`", "`dvg_args::perform`"),
+    ("a file that isn't there", "dvg_read", "specs/Texts.antt", "specs/Text.antt"),
+    ("a file of another crate", "dvg_theorem", "dvg_log's specs", "dvg_gen's specs"),
+]
+
+
+def missed_mistakes(crates, pages, files, counts):
+    """The planted mistakes that aren't found, or change nothing. Each makes a page wrong in one way
+    more."""
+    missed = []
+    for what, crate, before, after in PLANTED:
+        turned = {**pages, crate: pages[crate].replace(before, after)}
+        found = differences([crate], turned, files, counts)
+        if turned == pages or not found:
+            missed.append(what)
+    return missed
