@@ -1,7 +1,7 @@
 -- The board: its arbiter, its map and its RAM, and what each clock keeps. Its logs are legal.
 use Rattle.std.proofs.Common.{◌≡◌, ℕ, zero, suc, ◌+◌, ◌-◌, ◌*◌, ◌/◌, ◌%◌, ◌<◌, ◌≤◌, ◌⊎◌, Bool, true, false, not, List, ◌∷◌, length, Option, Some, None, refl, sym, ap, ◌∙◌, subst, arith, inl, inr}
 use Rattle.std.specs.Prelude.{nat_eq, nat_lt, nat_le, ◌&&◌, ◌==◌, if◌then◌else◌, slice_index, slice_set, option_map}
-use Rattle.std.proofs.lemmas.Bool.{eqb-true, ltb-true, ltb-false, le-ltb, lt-ltb}
+use Rattle.std.proofs.lemmas.Bool.{false≢true, eqb-true, ltb-true, ltb-false, le-ltb, lt-ltb}
 use Rattle.std.proofs.lemmas.Bool.Decides.{eqb_tells, leb_tells}
 use Rattle.std.proofs.lemmas.List.{length-set, get_or-set_same, get_or-set_other}
 use Rattle.std.proofs.lemmas.List.Elements.{All-set, All-get_or}
@@ -16,7 +16,7 @@ use Rattle.dvg_log.specs.Events.{Happening}
 use Rattle.dvg_log.specs.declared.event.Event.TheVariants.{Offer, Redraw, Tick, Strobe, Fetch, ResetGen, ResetCpu, ResetAll}
 use Rattle.dvg_log.specs.Entries.{Shown}
 use Rattle.dvg_log.specs.declared.entry.Entry.TheVariants.{Offered, Refused, Busy, Asked, NothingPublished, Acted, Started, Low, Still, Cleared}
-use Rattle.dvg_log.specs.Log.{◌⟼◌, Log, ram, strobed, low_byte}
+use Rattle.dvg_log.specs.Log.{◌⟼◌, Log, ram, strobed, low_byte, open_run}
 use Rattle.dvg_core.specs.Cells.{bit, both, either, eq, lt, mux, none, some, part, joined}
 use Rattle.dvg_core.specs.Core.{Core, Pins, halted}
 use Rattle.dvg_core.specs.Core as cells
@@ -29,13 +29,15 @@ use Rattle.dvg_log.specs.Log.{Throughout, life}
 use Rattle.dvg_log.specs.Legal.{IsLegal}
 use Rattle.dvg_log.specs.Headline.{KeepsHeadline}
 use Rattle.dvg_theorem.proofs.Headline.{headline}
+use Rattle.dvg_theorem.proofs.Kept.{kept}
+use Rattle.dvg_theorem.proofs.Words.{words_are_whole}
 use Rattle.dvg_board.specs.Memory.{memwr}
 use Rattle.dvg_board.specs.Board.{Board, Bus, pins, takes, clock}
 use Rattle.dvg_board.specs.Fetches.{drew, entry, entry_by, entry_of, says}
 use Rattle.dvg_board.specs.Clocks.{IsBus, after, IsServed, reads, writes, sends, looks, changes}
-use Rattle.dvg_board.specs.Logs.{did, core_line, answered, FitsIf, IsSilent, IsBoard, powers, clocks, acts, FitsScript, OfEachBoard, HoldsRam}
+use Rattle.dvg_board.specs.Logs.{did, core_line, answered, FitsIf, IsSilent, IsBoard, powers, clocks, tests, acts, FitsScript, OfEachBoard, HoldsRam}
 use Rattle.dvg_board.proofs.Cores.{cores, core_is, entry_is}
-use Rattle.dvg_board.proofs.System.{Keeps, idle, fetch, reset_line, reset_all, start_line, acted_line, silent_line, keeps_new}
+use Rattle.dvg_board.proofs.System.{Keeps, idle, fetch, reset_line, reset_all, shut_line, start_line, acted_line, silent_line, keeps_new}
 
 differ : {A : Type 0} {n : ℕ} → n ≡ 0 → n ≡ 1 → A
 differ is_zero is_one = absurd (omega arith)
@@ -339,6 +341,15 @@ on_ram_bit true y = omega arith
 on_ram_bit false true = omega arith
 on_ram_bit false false = omega arith
 
+-- a run is open only where a strobe was sent
+unsent_shut : (R image : List ℕ) (log : Log) → IsLegal R image log → strobed log ≡ false → open_run log ≡ None
+unsent_shut R image log legal unsent = by (open_run log) refl
+  where
+    by : (run : Option (List (ℕ × ℕ))) → open_run log ≡ run → run ≡ None
+    by None e = refl
+    by (Some fetches) e =
+        absurd (false≢true (sym unsent ∙ (kept R image log legal (words_are_whole R image log legal)).1.started fetches e))
+
 set_image : (L : List ℕ) (b : Bool) (a byte : ℕ) → byte < 256 → IsImage L → IsImage (if b then slice_set L a byte else L)
 set_image L true a byte small is = record { count = length-set L a byte ∙ is.count; bytes = All-set (λ byte. byte < 256) L a byte small is.bytes }
 set_image L false a byte small is = is
@@ -452,27 +463,31 @@ module _ (R image : List ℕ) (held : ℕ → ℕ) (log : Log) (older : List Bus
   named_is : nat_eq (part 11 5 bus.a) 8 ≡ nat_eq (bus.a / 0x800) 8
   named_is = let small = is.a in let same : part 11 5 bus.a ≡ bus.a / 0x800 = omega arith in ap (λ n. nat_eq n 8) same
 
-  same3 : (a : ℕ) → a < 2048 → (clock board bus).ram a ≡ slice_index (ram image log3) a
-  same3 a small =
+  -- the RAM after the clock, in a log that says the same of it
+  abbrev IsWritten : Log → Type 0
+  IsWritten to = ram image to ≡ (if writes bus then slice_set L (bus.a % 0x800) bus.d else L)
+
+  same_in : (to : Log) → IsWritten to → (a : ℕ) → a < 2048 → (clock board bus).ram a ≡ slice_index (ram image to) a
+  same_in to wrote a small =
       let count = h.is_image.count in
       ap (λ (r : ℕ → ℕ). r a) (ram_is board bus)
       ∙ written board bus L count h.same (nat_eq bus.access 0) (nat_eq bus.write 0) (nat_eq (part 11 5 bus.a) 8) a small
       ∙ ap (λ on. slice_index (if not (nat_eq bus.access 0) && (not (nat_eq bus.write 0) && on) then slice_set L (bus.a % 2048) bus.d else L) a) named_is
-      ∙ ap (λ l. slice_index l a) (sym ram3)
+      ∙ ap (λ l. slice_index l a) (sym wrote)
 
-  image3 : IsImage (ram image log3)
-  image3 = subst IsImage (sym ram3) (set_image L (writes bus) (bus.a % 0x800) bus.d is.d h.is_image)
+  image_in : (to : Log) → IsWritten to → IsImage (ram image to)
+  image_in to wrote = subst IsImage (sym wrote) (set_image L (writes bus) (bus.a % 0x800) bus.d is.d h.is_image)
+
+  sends_is : (clock board bus).starting ≡ 1
+      → both (both (if nat_eq bus.access 0 then 0 else if nat_eq bus.write 0 then 0 else 1) (bit (nat_eq bus.a 12288))) (if nat_eq bus.reset 0 then 1 else 0) ≡ 1
+  sends_is e = e
+
+  sends_at : (clock board bus).starting ≡ 1 → sends bus ≡ true
+  sends_at e = sends_needs (nat_eq bus.access 0) (nat_eq bus.write 0) (nat_eq bus.a 12288) (nat_eq bus.reset 0) (sends_is e)
 
   sent3 : (clock board bus).starting ≡ 1 → strobed log3 ≡ true
   sent3 e = sent_sends (writes bus) (sends bus) (bus.a % 0x800) bus.d log2 (writes_off (sends_at e)) (sends_at e)
     where
-      sends_is : (clock board bus).starting ≡ 1
-          → both (both (if nat_eq bus.access 0 then 0 else if nat_eq bus.write 0 then 0 else 1) (bit (nat_eq bus.a 12288))) (if nat_eq bus.reset 0 then 1 else 0) ≡ 1
-      sends_is e = e
-
-      sends_at : (clock board bus).starting ≡ 1 → sends bus ≡ true
-      sends_at e = sends_needs (nat_eq bus.access 0) (nat_eq bus.write 0) (nat_eq bus.a 12288) (nat_eq bus.reset 0) (sends_is e)
-
       writes_off : sends bus ≡ true → writes bus ≡ false
       writes_off e =
           let at : bus.a ≡ 0x3000 = eqb-true bus.a 0x3000 (third_of (nat_eq bus.access 0) (nat_eq bus.write 0) (nat_eq bus.a 0x3000) e) in
@@ -529,19 +544,38 @@ module _ (R image : List ℕ) (held : ℕ → ℕ) (log : Log) (older : List Bus
           read_is board bus ∙ free.0 ∙ ap board.ram place
           ∙ sym (ap (λ (r : ℕ → ℕ). r byte_at) (ram_is board bus) ∙ free.1 byte_at)
 
-  pub step : FitsIf (FitsScript R image log) (looks board bus) → FitsIf (FitsScript R image log2) (changes bus)
-      → Holds R image held log3 (bus ∷ older)
-  step look change = record {
-    keeps = changes_keeps (core_keeps (looks_keeps look)) change;
-    same = same3;
-    is_image = image3;
+  -- of a log that says the same of the RAM, and where a strobe that is sent was sent
+  holds_in : (to : Log) → IsWritten to → ((clock board bus).starting ≡ 1 → strobed to ≡ true) → Keeps R image to cs'
+      → Holds R image held to (bus ∷ older)
+  holds_in to wrote sent keeps = record {
+    keeps = keeps;
+    same = same_in to wrote;
+    is_image = image_in to wrote;
     starting = bit_small (both (both bus.access bus.write) (eq bus.a 12288)) (none bus.reset);
-    sent = sent3;
+    sent = sent;
     pending = bit_small (both (both (none (halted board.core)) (none bus.hold)) (none (either (either bus.reset board.starting) board.pending)))
         (none (both bus.access (eq (part 11 5 bus.a) 8)));
     read = read3;
     ready = ready3;
   }
+
+  pub step : FitsIf (FitsScript R image log) (looks board bus) → FitsIf (FitsScript R image log2) (changes bus)
+      → Holds R image held log3 (bus ∷ older)
+  step look change = holds_in log3 ram3 sent3 (changes_keeps (core_keeps (looks_keeps look)) change)
+
+  -- before a strobe was sent no run is open, and none begins
+  pub test : strobed log ≡ false → sends bus ≡ false
+      → Holds R image held ((ResetAll (ram image (did (changes bus) log)) ⟼ Cleared) ∷ log) (bus ∷ older)
+  test unsent quiet =
+      let bytes = ram image (did (changes bus) log) in
+      let to : Log = (ResetAll bytes ⟼ Cleared) ∷ log in
+      let wrote : IsWritten to = changes_ram image bus log in
+      let off : board.starting ≡ 0 = elim (zero_or_one board.starting h.starting) [
+        | inl e ↦ e
+        | inr e ↦ absurd (false≢true (sym unsent ∙ h.sent e))
+      ] in
+      holds_in to wrote (λ e. absurd (false≢true (sym quiet ∙ sends_at e)))
+      (shut_line R image log cs (pins board bus) h.keeps are (unsent_shut R image log h.keeps.legal unsent) off bytes (image_in to wrote))
 
 -- what needs no access changes no memory and no strobe
 silent : (R image : List ℕ) (log : Log) (event : Happening) (shown : Shown) → IsSilent event shown → FitsScript R image log event shown
@@ -570,6 +604,7 @@ OnBoard R image held log older = IsBoard FitsScript R image held log older
 rom_of : {R image : List ℕ} {held : ℕ → ℕ} {log : Log} {older : List Bus} → OnBoard R image held log older → IsRom R
 rom_of (powers rom is_image same) = rom
 rom_of (clocks bus whole is_board is served look change) = rom_of is_board
+rom_of (tests bus is_board unsent is served quiet) = rom_of is_board
 rom_of (acts is_board is_event is_silent as_asked) = rom_of is_board
 
 pub holds : {R image : List ℕ} {held : ℕ → ℕ} {log : Log} {older : List Bus} → OnBoard R image held log older
@@ -586,6 +621,8 @@ holds {R} {image} {held} (powers rom is_image same) = record {
 }
 holds {R} {image} {held} (clocks {log = log} {older = older} bus whole is_board is served look change) =
     step R image held log older bus whole (holds is_board) (rom_of is_board) is served look change
+holds {R} {image} {held} (tests {log = log} {older = older} bus is_board unsent is served quiet) =
+    test R image held log older bus false (holds is_board) (rom_of is_board) is served unsent quiet
 holds {R} {image} {held} (acts {log = log} {older = older} {event = event} {entry = shown} is_board is_event is_silent fits) =
     let h = holds is_board in
     let kept = silent R image log event shown is_silent fits in

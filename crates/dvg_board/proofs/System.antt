@@ -1,6 +1,6 @@
 -- The core in the world: what one more line of a log, or one more clock, keeps of a core and the log of its clocks.
 use Rattle.std.proofs.Common.{◌≡◌, ℕ, Bool, true, false, not, List, [], ◌∷◌, Option, Some, None, refl, sym, ap, ◌∙◌, subst, arith}
-use Rattle.std.specs.Prelude.{nat_eq, if◌then◌else◌, is_some, is_none, option_map}
+use Rattle.std.specs.Prelude.{nat_eq, if◌then◌else◌, is_some, is_none, option_map, IsSome}
 use Rattle.dvg_mem.specs.Memory.{IsImage, IsRom, fetched_byte}
 use Rattle.dvg_gen.specs.declared.stroke.Stroke.{Stroke}
 use Rattle.dvg_gen.specs.declared.taken.GenFault.{GenFault}
@@ -10,7 +10,7 @@ use Rattle.dvg_gen.specs.Machine.{HasTaken}
 use Rattle.dvg_gen.specs.Run.{Visit, Adds, first, one, two, Fate, Goes, Finished, Breaks, fate, wanted, strokes}
 use Rattle.dvg_gen.specs.Told.{Told, Start, Reset, Fed, Newest, Leaves, takes, meets_hole, goes_on, Reply, More, Drew, Fails, reply, reply_by, wants}
 use Rattle.dvg_gen.specs.Told as told
-use Rattle.dvg_gen.proofs.Standing.{stands_new, open_goes}
+use Rattle.dvg_gen.proofs.Standing.{stands_new, stands_reset, open_goes}
 use Rattle.dvg_gen.proofs.Same.{leaves_same}
 use Rattle.dvg_driver.specs.Script.{Did, IsLife}
 use Rattle.dvg_driver.specs.Stands.{Tells}
@@ -269,6 +269,10 @@ module _ (R image : List ℕ) (log : Log) (clocks : List Pins) (pins : Pins) (k 
             subst Next (sym (running_is (halted (after clocks)) at (met low (byte_of pins)) answer (closed_pin true is_open)))
             (of_met is_open (met low (byte_of pins)) refl stands said)
 
+none_waits : (low : Option ℕ) (opened : Bool) → (IsSome low → opened ≡ true) → opened ≡ false → low ≡ None
+none_waits None opened waits closed = refl
+none_waits (Some byte) opened waits closed = never (sym closed ∙ waits refl)
+
 -- resets and starts
 module _ (R image : List ℕ) (log : Log) (clocks : List Pins) (pins : Pins) (k : Keeps R image log clocks) (are : ArePins pins) where
   stands_reset' : pins.reset ≡ 1 → HasTaken (machine_of (after (pins ∷ clocks)) (drew (pins ∷ clocks))) (Reset ∷ history R image log) None
@@ -305,6 +309,43 @@ module _ (R image : List ℕ) (log : Log) (clocks : List Pins) (pins : Pins) (k 
     opened = ap not (sym (reset_shuts stands.run stands.leaves));
     legal = (tt, is_image, k.legal);
   }
+
+  abbrev Stand' : List Told → Option ℕ → Type 0
+  Stand' h l = HasTaken (machine_of (after (pins ∷ clocks)) (drew (pins ∷ clocks))) h l
+
+  -- while no run is open and none begins, a clock leaves the core as a reset does
+  stands_shut : k.stands.run.is_open ≡ false → pins.start ≡ 0
+      → HasTaken (machine_of (after (pins ∷ clocks)) (drew (pins ∷ clocks))) (Reset ∷ history R image log) None
+  stands_shut shut off = by (did R image log clocks pins k are).history' (did R image log clocks pins k are).low' (did R image log clocks pins k are).found
+      (did R image log clocks pins k are).tells (did R image log clocks pins k are).stands
+    where
+      is_shut : (run : Newest) → Leaves (history R image log) run → run.is_open ≡ false
+      is_shut run leaves = ap (λ (r : Newest). r.is_open) (leaves_same leaves k.stands.leaves) ∙ shut
+
+      ended : (l : Option ℕ) (stands : Stand' (history R image log) l) → stands.run.is_open ≡ false
+          → Stand' (Reset ∷ history R image log) None
+      ended l stands closed =
+          stands_reset (machine_of (after (pins ∷ clocks)) (drew (pins ∷ clocks))) _ (history R image log) l stands
+          (stands.low ∙ none_waits l stands.run.is_open stands.waits closed) refl (stands.stands.is_open ∙ closed)
+
+      by : (h : List Told) (l : Option ℕ) (f : Option Met) → Clocked pins (history R image log) (low_byte log) h l f
+          → Stand' h l → Stand' (Reset ∷ history R image log) None
+      by h l f (Refines.resets r) stands = stands
+      by h l f (Refines.starts r on) stands = differ off on
+      by h l f (Refines.idles r s v) stands = ended l stands (is_shut stands.run stands.leaves)
+      by h l f (Refines.ignores r s v leaves closed) stands = ended l stands (is_shut stands.run stands.leaves)
+      by h l f (Refines.fetches {run = run} r s v leaves opened) stands = never (sym (is_shut run leaves) ∙ opened)
+
+  pub shut_line : open_run log ≡ None → pins.start ≡ 0 → (bytes : List ℕ) → IsImage bytes
+      → Keeps R image ((ResetAll bytes ⟼ Cleared) ∷ log) (pins ∷ clocks)
+  shut_line none off bytes is_image =
+      let shut : k.stands.run.is_open ≡ false = not_not k.stands.run.is_open true (sym k.opened ∙ ap is_none none) in
+      let stands = stands_shut shut off in record {
+        stands = stands;
+        fits = (did R image log clocks pins k are).fits;
+        opened = ap not (sym (reset_shuts stands.run stands.leaves));
+        legal = (tt, is_image, k.legal);
+      }
 
   stands_start' : pins.reset ≡ 0 → pins.start ≡ 1 → HasTaken (machine_of (after (pins ∷ clocks)) (drew (pins ∷ clocks))) (Start ∷ history R image log) None
   stands_start' off is = by (did R image log clocks pins k are).history' (did R image log clocks pins k are).low' (did R image log clocks pins k are).found

@@ -1,5 +1,5 @@
 -- The log of a board: the lines of its clocks, in the order in which its RAM is used.
-use Rattle.std.specs.Prelude.{◌≡◌, ℕ, ◌<◌, Bool, nat_eq, if◌then◌else◌, List, [], ◌∷◌, slice_index, Option, Some, None}
+use Rattle.std.specs.Prelude.{◌≡◌, ℕ, ◌<◌, Bool, false, nat_eq, if◌then◌else◌, List, [], ◌∷◌, slice_index, Option, Some, None}
 use Rattle.dvg_mem.specs.Memory.{IsImage, IsRom}
 use Rattle.dvg_driver.specs.declared.action.Action.{Action}
 use Rattle.dvg_driver.specs.declared.action.Action.TheVariants.{Idle}
@@ -9,11 +9,11 @@ use Rattle.dvg_log.specs.declared.event.Event.TheVariants.{Offer, Redraw, Tick, 
 use Rattle.dvg_log.specs.declared.event.Event.TheVariants.{ResetAll}
 use Rattle.dvg_log.specs.Entries.{Shown}
 use Rattle.dvg_log.specs.declared.entry.Entry.TheVariants.{Acted, Started, Cleared}
-use Rattle.dvg_log.specs.Log.{◌⟼◌, Log, ram, life}
+use Rattle.dvg_log.specs.Log.{◌⟼◌, Log, ram, life, strobed}
 use Rattle.dvg_log.specs.Legal.{Fits}
 use Rattle.dvg_board.specs.Board.{Bus, takes}
 use Rattle.dvg_board.specs.Fetches.{entry}
-use Rattle.dvg_board.specs.Clocks.{IsBus, after, IsServed, looks, changes}
+use Rattle.dvg_board.specs.Clocks.{IsBus, after, IsServed, sends, looks, changes}
 
 -- with the line of what the processor did, if it did something
 abbrev pub did : Option Action → Log → Log
@@ -62,6 +62,11 @@ pub data IsBoard (D : Driver) (R image : List ℕ) (held : ℕ → ℕ) : Log �
       → IsBus bus → IsServed R (after held older) bus → FitsIf (D R image log) (looks (after held older) bus)
       → FitsIf (D R image (answered image held older bus whole log)) (changes bus)
       → IsBoard D R image held (did (changes bus) (answered image held older bus whole log)) (bus ∷ older)
+  -- before the first strobe since power-up or a reset of the whole system, a clock in which the processor does anything
+  -- but send one: such a reset again, over what the RAM then holds
+  tests : {log : Log} {older : List Bus} (bus : Bus) → IsBoard D R image held log older → strobed log ≡ false → IsBus bus
+      → IsServed R (after held older) bus → sends bus ≡ false
+      → IsBoard D R image held ((ResetAll (ram image (did (changes bus) log)) ⟼ Cleared) ∷ log) (bus ∷ older)
   -- what needs no access
   acts : {log : Log} {older : List Bus} {event : Happening} {entry : Shown} → IsBoard D R image held log older
       → IsEvent event → IsSilent event entry → D R image log event entry

@@ -17,7 +17,7 @@ use Rattle.dvg_driver.specs.Place.{Place, Writing, next_place}
 use Rattle.dvg_driver.proofs.Places.{life_place, place_before}
 use Rattle.dvg_log.specs.declared.event.Event.TheVariants.{Offer, Redraw}
 use Rattle.dvg_log.specs.declared.entry.Entry.TheVariants.{Offered, Busy, Asked, NothingPublished}
-use Rattle.dvg_log.specs.Log.{◌⟼◌, Log, Throughout, ram, life, free_half}
+use Rattle.dvg_log.specs.Log.{◌⟼◌, Log, Throughout, ram, life, strobed, free_half}
 use Rattle.dvg_log.specs.Legal.{IsLegal}
 use Rattle.dvg_log.specs.Headline.{KeepsHeadline}
 use Rattle.dvg_theorem.proofs.Bytes.{byte}
@@ -35,9 +35,9 @@ use Rattle.dvg_6502.proofs.Sessions.{calls_live}
 use Rattle.dvg_core.specs.Core.{halted}
 use Rattle.dvg_board.specs.Board.{Board, Bus, q, clock}
 use Rattle.dvg_board.specs.Clocks.{IsBus, IsServed, after, reads, writes, sends, looks, changes}
-use Rattle.dvg_board.specs.Logs.{did, answered, FitsIf, IsBoard, powers, clocks, acts, HoldsRam}
+use Rattle.dvg_board.specs.Logs.{did, answered, FitsIf, IsBoard, powers, clocks, tests, acts, HoldsRam}
 use Rattle.dvg_board.proofs.Board.{changes_ram}
-use Rattle.dvg_board.proofs.Lines.{answered_ram, answered_life}
+use Rattle.dvg_board.proofs.Lines.{answered_ram, answered_life, answered_sent}
 use Rattle.dvg_system.specs.Machine
 use Rattle.dvg_system.specs.Machine.{accesses_of, begun, later, Makes, IsIdle, IsChecked, SharesRam, calls_after, with_reset, with_answer, told}
 use Rattle.dvg_system.specs.Machine.{IsMachine, OfEachMachine, AreDone, HaveRam, AcceptsPublished}
@@ -55,18 +55,18 @@ record Newest (R image : List ℕ) (log : Log) (call : Call) (olds : List Call) 
       → last_write (accesses_of call) (0x4000 + a) (call.from.mem (0x4000 + a)) ≡ slice_index (ram image log) a
 
 abbrev Known : List ℕ → List ℕ → Log → List Call → Type 0
-Known R image log [] = life image log ≡ []
+Known R image log [] = (life image log ≡ []) × (strobed log ≡ false)
 Known R image log (call ∷ olds) = Newest R image log call olds
 
 record Runs (R image : List ℕ) (held : ℕ → ℕ) (list : List Call) (log : Log) (older : List Bus) : Type 0 where
   board : IsBoard FitsCode R image held log older
   known : Known R image log list
 
--- lines that change neither the RAM nor the life
+-- lines that change neither the RAM nor the life, and send no strobe
 same_known : (R image : List ℕ) (list : List Call) (log log' : Log) → ram image log' ≡ ram image log
-    → life image log' ≡ life image log → Known R image log list → Known R image log' list
-same_known R image [] log log' r l k = l ∙ k
-same_known R image (call ∷ olds) log log' r l k = record {
+    → life image log' ≡ life image log → strobed log' ≡ strobed log → Known R image log list → Known R image log' list
+same_known R image [] log log' r l s k = (l ∙ k.0, s ∙ k.1)
+same_known R image (call ∷ olds) log log' r l s k = record {
   session = k.session;
   checked = k.checked;
   makes = subst (IsLifeOf (call ∷ olds)) (sym l) k.makes;
@@ -75,11 +75,12 @@ same_known R image (call ∷ olds) log log' r l k = record {
 
 -- the lines of a clock, where a reset of the whole system ends the calls
 known_after : (R image : List ℕ) (r w : Bool) (list : List Call) (log log' : Log) → ram image log' ≡ ram image log
-    → life image log' ≡ (if r then life image log else if w then [] else life image log) → Known R image log list
+    → life image log' ≡ (if r then life image log else if w then [] else life image log)
+    → strobed log' ≡ (if r then strobed log else if w then false else strobed log) → Known R image log list
     → Known R image log' (if r then list else if w then [] else list)
-known_after R image true w list log log' e l k = same_known R image list log log' e l k
-known_after R image false true list log log' e l k = l
-known_after R image false false list log log' e l k = same_known R image list log log' e l k
+known_after R image true w list log log' e l s k = same_known R image list log log' e l s k
+known_after R image false true list log log' e l s k = (l, s)
+known_after R image false false list log log' e l s k = same_known R image list log log' e l s k
 
 waits_runs : (R image : List ℕ) (held : ℕ → ℕ) (list : List Call) (log : Log) (older : List Bus) (bus : Bus) (whole : Bool)
     → Runs R image held list log older → IsBus bus → IsServed R (after held older) bus → IsIdle (after held older) bus
@@ -92,6 +93,8 @@ waits_runs R image held list log older bus whole runs is served idle =
       known = known_after R image (nat_eq bus.reset 0) whole list log now (answered_ram image held older bus whole log)
           (answered_life image held older bus whole log
           ∙ ap (λ d. if nat_eq bus.reset 0 then life image (did d log) else if whole then [] else life image (did d log)) idle.0)
+          (answered_sent image held older bus whole log
+          ∙ ap (λ d. if nat_eq bus.reset 0 then strobed (did d log) else if whole then false else strobed (did d log)) idle.0)
           runs.known;
     }
 
@@ -643,9 +646,12 @@ module _ (R image : List ℕ) (held : ℕ → ℕ) (log : Log) (older : List Bus
 
 runs_of : {R image : List ℕ} {held : ℕ → ℕ} {list : List Call} {log : Log} {older : List Bus}
     → IsMachine R image held list log older → Runs R image held list log older
-runs_of (Machine.powers rom is_image same) = record { board = powers rom is_image same; known = refl }
+runs_of (Machine.powers rom is_image same) = record { board = powers rom is_image same; known = (refl, refl) }
 runs_of {R} {image} {held} (Machine.waits {calls = list} {log = log} {older = older} bus whole on is served idle) =
     waits_runs R image held list log older bus whole (runs_of on) is served idle
+runs_of (Machine.tests bus on is served quiet) =
+    let runs = runs_of on in
+    record { board = tests bus runs.board runs.known.1 is served quiet; known = (refl, refl) }
 runs_of {R} {image} {held} (Machine.begins {calls = list} {log = log} {older = older} routine from others on session checked shares) =
     begins_runs R image held log older from others routine list (runs_of on) session checked shares
 runs_of {R} {image} {held} (Machine.steps {call = call} {calls = olds} {log = log} {older = older} n on unfinished session same) =
@@ -668,7 +674,7 @@ pub done : OfEachMachine (λ R image held list log older. AreDone list (life ima
 done R image held list log older on = by list (runs_of on).known
   where
     by : (list : List Call) → Known R image log list → AreDone list (life image log)
-    by [] k = k
+    by [] k = k.0
     by (call ∷ olds) k = k.makes
 
 pub shared : OfEachMachine (λ R image held list log older. HaveRam list (after held older))

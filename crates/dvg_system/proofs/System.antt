@@ -10,7 +10,7 @@ use Rattle.dvg_log.specs.Events.{Happening, IsEvent}
 use Rattle.dvg_log.specs.declared.event.Event.TheVariants.{Tick, Strobe, Fetch, ResetGen, ResetAll}
 use Rattle.dvg_log.specs.Entries.{Shown}
 use Rattle.dvg_log.specs.declared.entry.Entry.TheVariants.{Acted, Started, Cleared}
-use Rattle.dvg_log.specs.Log.{◌⟼◌, Log, Throughout, ram, life, open_run}
+use Rattle.dvg_log.specs.Log.{◌⟼◌, Log, Throughout, ram, life, strobed, open_run}
 use Rattle.dvg_log.specs.Legal.{IsLegal, Fits}
 use Rattle.dvg_log.specs.Headline.{KeepsHeadline}
 use Rattle.dvg_6502.specs.Processor.{Reads, Writes}
@@ -23,7 +23,7 @@ use Rattle.dvg_6502.specs.Routines.{Shows}
 use Rattle.dvg_board.specs.Board.{Bus, takes, q, clock}
 use Rattle.dvg_board.specs.Fetches.{entry}
 use Rattle.dvg_board.specs.Clocks.{IsBus, IsServed, after, reads, writes, sends, looks, changes}
-use Rattle.dvg_board.specs.Logs.{Driver, did, answered, FitsIf, IsSilent, IsBoard, powers, clocks, acts, FitsScript, HoldsRam}
+use Rattle.dvg_board.specs.Logs.{Driver, did, answered, FitsIf, IsSilent, IsBoard, powers, clocks, tests, acts, FitsScript, HoldsRam}
 use Rattle.dvg_board.proofs.System.{pin_is}
 use Rattle.dvg_board.proofs.Board as board
 use Rattle.dvg_board.proofs.Cores.{cores, core_is}
@@ -134,6 +134,15 @@ module _ (R image : List ℕ) (held : ℕ → ℕ) (log : Log) (older : List Bus
       (nat_eq (takes (after held older) bus) 0) whole legal2 boards1 in
       record { script = script; boards = did_boards R image now (changes bus) change legal3 boards2 }
 
+  one_test : (bus : Bus) → strobed log ≡ false → IsBus bus → IsServed R (after held older) bus → sends bus ≡ false
+      → Keeps R image held ((ResetAll (ram image (did (changes bus) log)) ⟼ Cleared) ∷ log) (bus ∷ older)
+  one_test bus unsent is served quiet =
+      let bytes = ram image (did (changes bus) log) in
+      let script = tests bus k.script unsent is served quiet in
+      let legal : IsLegal R image ((ResetAll bytes ⟼ Cleared) ∷ log) =
+      board.legal R image held ((ResetAll bytes ⟼ Cleared) ∷ log) (bus ∷ older) script in
+      record { script = script; boards = (legal.0, legal.1, k.boards) }
+
   one_silent : (event : Happening) (shown : Shown) → IsEvent event → IsSilent event shown → FitsCode R image log event shown
       → Keeps R image held ((event ⟼ shown) ∷ log) older
   one_silent event shown is_event silent f =
@@ -146,6 +155,8 @@ keeps : {R image : List ℕ} {held : ℕ → ℕ} {log : Log} {older : List Bus}
 keeps (powers rom is_image same) = record { script = powers rom is_image same; boards = (rom, is_image) }
 keeps {R} {image} {held} (clocks {log = log} {older = older} bus whole on is served look change) =
     one_clock R image held log older (keeps on) bus whole is served look change
+keeps {R} {image} {held} (tests {log = log} {older = older} bus on unsent is served quiet) =
+    one_test R image held log older (keeps on) bus unsent is served quiet
 keeps {R} {image} {held} (acts {log = log} {older = older} {event = event} {entry = shown} on is_event silent f) =
     one_silent R image held log older (keeps on) event shown is_event silent f
 

@@ -6,16 +6,16 @@ use Rattle.dvg_frame.specs.declared.op.OpKind.{OpKind}
 use Rattle.dvg_frame.specs.Ops.{IsDraft}
 use Rattle.dvg_frame.specs.Faults.{Accepts}
 use Rattle.dvg_driver.specs.Script.{Item, has_flip}
-use Rattle.dvg_log.specs.declared.event.Event.TheVariants.{Offer, Redraw, ResetCpu}
+use Rattle.dvg_log.specs.declared.event.Event.TheVariants.{Offer, Redraw, ResetCpu, ResetAll}
 use Rattle.dvg_log.specs.declared.entry.Entry.TheVariants.{Offered, Busy, Asked, NothingPublished, Cleared}
-use Rattle.dvg_log.specs.Log.{◌⟼◌, Log, life, published}
+use Rattle.dvg_log.specs.Log.{◌⟼◌, Log, ram, life, published}
 use Rattle.dvg_6502.specs.Processor.{Cpu, Access, Reads, Writes}
 use Rattle.dvg_6502.specs.Board.{seen}
 use Rattle.dvg_6502.specs.Build.{IsBuilt}
 use Rattle.dvg_6502.specs.Calls
 use Rattle.dvg_6502.specs.Calls.{Routine, Call, Brings, is_over, answer, IsSessionBy, IsLifeOf}
 use Rattle.dvg_board.specs.Board.{Board, Bus, q, clock}
-use Rattle.dvg_board.specs.Clocks.{IsBus, IsServed, after, looks, changes}
+use Rattle.dvg_board.specs.Clocks.{IsBus, IsServed, after, sends, looks, changes}
 use Rattle.dvg_board.specs.Logs.{did, answered}
 
 -- what a call has accessed of the hardware, the newest first
@@ -85,6 +85,12 @@ pub data IsMachineBy (brings : Routine → Cpu → Option (ℕ × List ℕ) → 
       → IsMachineBy brings checks R image held calls log older → IsBus bus → IsServed R (after held older) bus
       → IsIdle (after held older) bus
       → IsMachineBy brings checks R image held (calls_after bus whole calls) (answered image held older bus whole log) (bus ∷ older)
+  -- a clock before the first call since power-up or a reset of the whole system, in which the processor does anything
+  -- but send a strobe, as a test of the RAM: such a reset again, over what the RAM then holds
+  tests : {log : Log} {older : List Bus} (bus : Bus) → IsMachineBy brings checks R image held [] log older → IsBus bus
+      → IsServed R (after held older) bus → sends bus ≡ false
+      → IsMachineBy brings checks R image held [] ((ResetAll (ram image (did (changes bus) log)) ⟼ Cleared) ∷ log)
+      (bus ∷ older)
   -- a call begins
   begins : {calls : List Call} {log : Log} {older : List Bus} (routine : Routine) (from : Cpu) (others : ℕ → ℕ → ℕ)
       → IsMachineBy brings checks R image held calls log older → IsSessionBy brings (begun routine from others ∷ calls)
