@@ -48,7 +48,7 @@ static uint8_t memory[MEMORY];
 static cpu processor;
 static context contexts[3], *now = contexts;
 static uint64_t run_ends;
-static int code_end, was_reset, ticks_in_main, ticks_in_nmi, instructions;
+static int code_end, has_called, was_reset, ticks_in_main, ticks_in_nmi, instructions;
 static int table_from, table_to;        /* the table that is being written */
 static int tables, tables_low, tables_high, shapes[1024], shape_count;
 static char shape_names[1024][32];
@@ -184,11 +184,12 @@ static int is_hardware(int at)
 
 uint8_t bus_fetch(uint16_t at) { return memory[at % MEMORY]; }
 
+/* Before the first call a program may test the vector RAM and look at the flag: no run is open. */
 uint8_t bus_read(uint16_t at, int dummy)
 {
     (void)dummy;
     at %= MEMORY;
-    if (is_hardware(at) && !now->in_driver) fail("%s reads %04X", whose(), at);
+    if (is_hardware(at) && !now->in_driver && has_called) fail("%s reads %04X", whose(), at);
     if (at == FLAG) return processor.cycles < run_ends ? 0xFF : 0x7F;
     if (at >= INPUTS && at < INPUTS_END) return read_input(at);
     return memory[at];
@@ -198,7 +199,7 @@ uint8_t bus_read(uint16_t at, int dummy)
 static void check_write(int at)
 {
     int is_operand = at >= OPERANDS && at < OPERANDS_END;
-    if (is_hardware(at)) fail("%s writes %04X", whose(), at);
+    if (is_hardware(at) && (has_called || at == STROBE)) fail("%s writes %04X", whose(), at);
     if (at >= 0x5000) fail("%s writes %04X, which is ROM", whose(), at);
     if (at >= VARIABLES && at < VARIABLES_END && was_reset && (is_nmi() || !is_operand))
         fail("%s writes the driver's byte %02X", whose(), at);
@@ -309,6 +310,7 @@ static void begin_call(void)
     while (routine < ROUTINES && label(names[routine]) != processor.pc) routine++;
     if (routine == ROUTINES) fail("%s jumps to %04X, amid the driver", whose(), processor.pc);
     check_call((enum routine)routine);
+    has_called = 1;
     now->in_driver = 1;
     now->routine = (enum routine)routine;
     now->at_entry = processor;

@@ -25,7 +25,7 @@ use Rattle.dvg_theorem.proofs.Drawing.{in_ram}
 use Rattle.dvg_theorem.proofs.Kept.{KeptBy, kept, same_place, sized}
 use Rattle.dvg_theorem.proofs.ToCome.{IsWrite, to_half, to_zero, to_one, is_write}
 use Rattle.dvg_theorem.proofs.Words.{words_are_whole}
-use Rattle.dvg_6502.specs.Processor.{Cpu, Access, Reads, Writes, at_return}
+use Rattle.dvg_6502.specs.Processor.{Cpu, Access, Reads, Writes}
 use Rattle.dvg_6502.specs.Amid.{amid, is_code}
 use Rattle.dvg_6502.specs.Board.{seen}
 use Rattle.dvg_6502.specs.Routines.{Enters, Shows}
