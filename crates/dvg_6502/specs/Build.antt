@@ -159,7 +159,7 @@ pub record Idles (cpu : Cpu) : Type 0 where
 abbrev pub IdleTicks : Type 0
 IdleTicks = (cpu : Cpu) → Enters cpu dvg_tick → (phase_in cpu.mem ≡ 2) ⊎ (phase_in cpu.mem ≡ 7) → Idles cpu
 
--- nor does dvg_run there, which returns at once
+-- there a call of dvg_run returns at once, and changes nothing either
 abbrev pub RunReturns : Type 0
 RunReturns = (cpu : Cpu) → Enters cpu dvg_run → (phase_in cpu.mem ≡ 2) ⊎ (phase_in cpu.mem ≡ 7)
     → (did : Idles cpu) × (did.steps ≤ 6)

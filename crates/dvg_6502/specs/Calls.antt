@@ -257,7 +257,7 @@ RedrawAnswers = (life : List Item) → (IsAnswered Redraw false life → (has_fl
 abbrev pub is_ticked : (s b : ℕ) → Bool
 is_ticked s b = is_own b || (nat_eq b 0x1F || (is_hardware b || (nat_eq b (stack_place s) || nat_eq b (stack_place (s + 255)))))
 
--- it leaves each other byte as it was, if those who interrupt it do so
+-- a call of dvg_ticks leaves each other byte as it was, if those who interrupt it do so
 abbrev pub SparesTicked : Call → Type 0
 SparesTicked call = (b : ℕ) → is_ticked call.from.s b ≡ false
     → AreHarmless (λ now k. nat_eq k b) call.from.s call.others call.steps call.from

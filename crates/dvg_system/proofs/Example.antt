@@ -4,9 +4,13 @@ use Rattle.std.proofs.Common.{◌≡◌, ℕ, zero, suc, ◌+◌, ◌<◌, Bool,
 use Rattle.std.proofs.Common.{refl, sym, ap, ◌∙◌, subst, arith, lit<, inl, eqb-true, leb-true}
 use Rattle.std.proofs.Common.{length-append}
 use Rattle.std.proofs.lemmas.List.{length-replicate, get_or-replicate}
-use Rattle.std.proofs.lemmas.List.Elements.{All-replicate}
+use Rattle.std.proofs.lemmas.List.Elements.{All-cons, All-nil, All-replicate}
 use Rattle.std.proofs.lemmas.Bool.{ne_eqb}
-use Rattle.std.specs.Prelude.{nat_eq, nat_le, nat_lt, ◌&&◌, ◌||◌, if◌then◌else◌}
+use Rattle.std.specs.Prelude.{nat_eq, nat_le, nat_lt, ◌&&◌, ◌||◌, if◌then◌else◌, pos}
+use Rattle.dvg_code.specs.declared.instr.Instr.TheVariants.{Labs as Place, Svec}
+use Rattle.dvg_frame.specs.declared.op.OpKind.{OpKind}
+use Rattle.dvg_frame.specs.declared.op.OpKind.TheVariants.{Draw, Halt}
+use Rattle.dvg_frame.specs.Ops.{IsOp}
 use Rattle.dvg_mem.specs.Memory.{IsImage, IsRom}
 use Rattle.dvg_driver.specs.declared.action.Action.TheVariants.{Peek, Read}
 use Rattle.dvg_log.specs.declared.event.Event.TheVariants.{Offer, Tick, ResetCpu}
@@ -18,7 +22,9 @@ use Rattle.dvg_6502.specs.Board.{IsLoaded, seen}
 use Rattle.dvg_6502.specs.Calls as calls
 use Rattle.dvg_6502.specs.Calls.{Routine, Call, IsSession, Follows, Brings, UnlessReset, is_table, is_over, is_refused, is_leaving}
 use Rattle.dvg_6502.specs.Calls.{entry, frame_of}
+use Rattle.dvg_6502.specs.Build.{IsPut}
 use Rattle.dvg_6502.specs.Joined.{stroke}
+use Rattle.dvg_6502.specs.Routines.{Labs, Put}
 use Rattle.dvg_6502.proofs.Running.{run_more}
 use Rattle.dvg_6502.proofs.Growing.{GoesOn, run_on, seen_append}
 use Rattle.dvg_6502.proofs.Memory.{in_page, both_true, le_not, out_of_page}
@@ -33,7 +39,7 @@ use Rattle.dvg_board.specs.Logs.{did, answered}
 use Rattle.dvg_board.specs.Example.{zeros}
 use Rattle.dvg_board.proofs.Example.{held, quiet as no_access, reading, writing, is_quiet, is_reading, is_writing, served}
 use Rattle.dvg_system.specs.Machine.{Makes, IsChecked, SharesRam, with_reset, with_answer, IsMachine, powers, waits, begins, steps, accesses}
-use Rattle.dvg_system.specs.Example.{SomeMachine}
+use Rattle.dvg_system.specs.Example.{SomeBuilder, SomeMachine}
 
 -- a log that goes on another one of the same length is the same
 none_more : (pre log : List Access) → length (pre ++ log) ≡ length log → pre ≡ []
@@ -223,17 +229,17 @@ ready r from olds session none load at is fits = record {
       (ap (λ (c : Cpu). c.mem) at.is ∙ e);
 }
 
--- a call that isn't dvg_reset, with this X, where the flag gives this byte
-module _ (r : Routine) (x flag : ℕ) (was : Ready) where
+-- a call that isn't dvg_reset, with this A and X, where the flag gives this byte
+module _ (r : Routine) (a x flag : ℕ) (was : Ready) where
   abbrev from : Cpu
-  from = entered (entry r) x 0xFF flag was.mem
+  from = record (entered (entry r) x 0xFF flag was.mem) { a = a }
 
-  module _ (few : x < 256) (brings : Brings r from (frame_of was.list)) (checked : IsChecked zeros r)
+  module _ (few_a : a < 256) (few : x < 256) (brings : Brings r from (frame_of was.list)) (checked : IsChecked zeros r)
       (shares : SharesRam r was.mem (after held was.older)) (unless : (P : Type 0) → P → UnlessReset r P)
       (begins_so : with_reset r was.log ≡ was.log) where
     session : (n : ℕ) → IsSession (quiet r n from ∷ was.list)
     session n = (
-      enters (entry r) x 0xFF flag was.mem few (omega arith) was.loaded,
+      record { entry = refl; log = refl; loaded = was.loaded; a = few_a; x = few; s = lit< tt },
       brings,
       still_harmless (guards (is_kept (is_table (quiet r n from) was.list)) 0xFF) 0xFF n from,
       unless _ (was.follows (quiet r n from) refl, was.session),
@@ -296,10 +302,10 @@ reset = ready calls.Reset reset_from [] reset_session refl start_loaded (lives c
 
 -- a tick that peeks at byte 001, and one that reads the flag
 abbrev peeked : Ready
-peeked = calls_for calls.Tick 0 0 reset (lit< tt) tt tt tt (λ P is. is) refl 0 refl refl
+peeked = calls_for calls.Tick 0 0 0 reset (lit< tt) (lit< tt) tt tt tt (λ P is. is) refl 0 refl refl
 
 abbrev looked : Ready
-looked = calls_for calls.Tick 0 0 peeked (lit< tt) tt tt tt (λ P is. is) refl 0 refl refl
+looked = calls_for calls.Tick 0 0 0 peeked (lit< tt) (lit< tt) tt tt tt (λ P is. is) refl 0 refl refl
 
 -- an offer of the table, whose frame the check accepts
 checked : IsChecked zeros (calls.Offer stroke)
@@ -307,19 +313,58 @@ checked = let lines = some_logs zeros zeros is_rom is_image in
     (lines.1, (code_keeps zeros zeros ((Offer stroke ⟼ Offered) ∷ (Tick ⟼ Acted (Read true)) ∷ (Tick ⟼ Acted Peek) ∷ []) lines).0.0.0)
 
 abbrev offered : Ready
-offered = calls_for (calls.Offer stroke) 0x50 0 looked (lit< tt) has_table checked tt (λ P is. is) refl 0 refl refl
+offered = calls_for (calls.Offer stroke) 0 0x50 0 looked (lit< tt) (lit< tt) has_table checked tt (λ P is. is) refl 0 refl refl
 
 -- dvg_run, up to the strobe, and then 21 clocks
 abbrev ran : Ready
-ran = calls_for calls.Run 0 0 offered (lit< tt) tt tt tt (λ P is. is) refl 21 refl refl
+ran = calls_for calls.Run 0 0 0 offered (lit< tt) (lit< tt) tt tt tt (λ P is. is) refl 21 refl refl
 
 -- a redraw
 abbrev asked : Ready
-asked = calls_for calls.Redraw 0 0 ran (lit< tt) tt tt tt (λ P is. is) refl 0 refl refl
+asked = calls_for calls.Redraw 0 0 0 ran (lit< tt) (lit< tt) tt tt tt (λ P is. is) refl 0 refl refl
 
 -- a tick that finds the generator running, and then 3 clocks
 abbrev again : Ready
-again = calls_for calls.Tick 0 0x80 asked (lit< tt) tt tt tt (λ P is. is) refl 3 refl refl
+again = calls_for calls.Tick 0 0 0x80 asked (lit< tt) (lit< tt) tt tt tt (λ P is. is) refl 3 refl refl
 
 pub some_machine : SomeMachine
 some_machine = (_, drop 3 again.log, again.older, again.on)
+
+-- after the boot a frame is built: a LABS, a short vector, and the HALT
+abbrev line : List OpKind
+line = Draw (Place 512 512 0) ∷ Draw (Svec 4 (pos 1) (pos 0) 7) ∷ Halt ∷ []
+
+line_checked : IsChecked zeros (calls.Open line)
+line_checked = (
+  record {
+    count = omega arith;
+    ops = All-cons IsOp (Draw (Place 512 512 0)) (Draw (Svec 4 (pos 1) (pos 0) 7) ∷ Halt ∷ []) ((omega arith, omega arith, omega arith), refl)
+        (All-cons IsOp (Draw (Svec 4 (pos 1) (pos 0) 7)) (Halt ∷ [])
+        ((omega arith, omega arith, omega arith, omega arith, omega arith), refl)
+        (All-cons IsOp Halt [] tt (All-nil IsOp)));
+  },
+  (512, 512, 0, Draw (Svec 4 (pos 1) (pos 0) 7) ∷ [], refl, All-cons (IsPut zeros) (Draw (Svec 4 (pos 1) (pos 0) 7)) [] refl (All-nil (IsPut zeros)),
+      omega arith),
+)
+
+abbrev opened : Ready
+opened = calls_for (calls.Open line) 0 0 0 looked (lit< tt) (lit< tt)
+    (record { alike = refl; some = omega arith; fits = omega arith }) line_checked tt (λ P is. is) refl 0 refl refl
+
+abbrev placed : Ready
+placed = calls_for (calls.Puts Labs) 0 0 0 opened (lit< tt) (lit< tt)
+    (λ room. (0x79 ∷ 0xF0 ∷ 0x00 ∷ 0xB0 ∷ [], refl, omega arith)) tt tt (λ P is. is) refl 0 refl refl
+
+abbrev drawn : Ready
+drawn = calls_for (calls.Puts Put) 0x79 0xF0 0 placed (lit< tt) (lit< tt)
+    (λ room. (0x00 ∷ 0xB0 ∷ [], refl, omega arith)) tt tt (λ P is. is) refl 0 refl refl
+
+abbrev closed : Ready
+closed = calls_for calls.Close 0 0 0 drawn (lit< tt) (lit< tt) refl tt tt (λ P is. is) refl 0 refl refl
+
+-- dvg_run, up to the strobe, and then 22 clocks
+abbrev shown : Ready
+shown = calls_for calls.Run 0 0 0 closed (lit< tt) (lit< tt) tt tt tt (λ P is. is) refl 22 refl refl
+
+pub some_builder : SomeBuilder
+some_builder = (_, drop 1 shown.log, shown.older, shown.on)

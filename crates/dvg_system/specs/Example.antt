@@ -1,4 +1,4 @@
--- An example: a machine that draws a frame.
+-- Examples: machines that draw a frame, which was offered, or built.
 use Rattle.std.specs.Prelude.{List, [], ◌∷◌, slice_index, false}
 use Rattle.dvg_gen.specs.declared.stroke.Stroke.{Stroke}
 use Rattle.dvg_driver.specs.declared.action.Action.TheVariants.{Read}
@@ -19,3 +19,13 @@ stroke = record { x0 = 262144; y0 = 262144; x1 = 313344; y1 = 262144; z = 7 }
 abbrev pub SomeMachine : Type 0
 SomeMachine = (calls : List Call) × (log : Log) × (clocks : List Bus) × IsMachine zeros zeros (slice_index zeros) calls
     ((Fetch ⟼ Done 0x205 0xB000 (stroke ∷ [])) ∷ (Fetch ⟼ Low 0x205 0x00) ∷ (Tick ⟼ Acted (Read false)) ∷ log) clocks
+
+-- the stroke of `labs 512 512 0`, `svec 4 1 0 7`
+abbrev pub short : Stroke
+short = record { x0 = 262144; y0 = 262144; x1 = 266240; y1 = 262144; z = 7 }
+
+-- and there is one that calls dvg_open, dvg_labs, dvg_put and dvg_close, whose newest line is that of a run to the HALT
+-- of the frame that was built, which drew this
+abbrev pub SomeBuilder : Type 0
+SomeBuilder = (calls : List Call) × (log : Log) × (clocks : List Bus) × IsMachine zeros zeros (slice_index zeros) calls
+    ((Fetch ⟼ Done 0x204 0xB000 (short ∷ [])) ∷ log) clocks

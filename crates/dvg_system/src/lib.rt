@@ -7,7 +7,7 @@ ghost use Rattle.dvg_log.specs.Legal.{IsLegal};
 ghost use Rattle.dvg_log.specs.Log.{Throughout, life};
 ghost use Rattle.dvg_board.specs.Clocks.{after};
 ghost use Rattle.dvg_board.specs.Logs.{HoldsRam};
-ghost use Rattle.dvg_system.specs.Example.{SomeMachine};
+ghost use Rattle.dvg_system.specs.Example.{SomeBuilder, SomeMachine};
 ghost use Rattle.dvg_system.specs.Hindsight.{HindsightKeeps};
 ghost use Rattle.dvg_system.specs.Machine.{AcceptsPublished, AreDone, HaveRam, OfEachMachine};
 
@@ -39,7 +39,9 @@ pub fn hindsight_keeps()
 
 /// There is such a machine: over a RAM and a ROM of zeros the machine code boots, takes a table,
 /// writes and publishes its frame, and sends a strobe; the core draws it, and a read of the flag
-/// meanwhile finds it running.
+/// meanwhile finds it running. And there is one whose code builds a frame, call by call, which the
+/// core draws.
 pub fn some_machine()
-    ensures { SomeMachine }
+    ensures offers { SomeMachine }
+    ensures builds { SomeBuilder }
 {}
