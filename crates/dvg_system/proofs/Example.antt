@@ -1,6 +1,6 @@
 -- The first picture of a machine: the driver boots and takes a table, writes and publishes its frame, and the core draws
 -- it; a redraw is asked for meanwhile, and finds the core running. The prover runs both ends, step by step.
-use Rattle.std.proofs.Common.{◌≡◌, ℕ, zero, suc, ◌+◌, ◌<◌, Bool, true, false, List, [], ◌∷◌, ◌++◌, length, Option, Some, None, drop}
+use Rattle.std.proofs.Common.{◌≡◌, ℕ, zero, suc, ◌+◌, ◌<◌, Bool, true, false, List, [], ◌∷◌, ◌++◌, length, Option, Some, None, drop, take}
 use Rattle.std.proofs.Common.{refl, sym, ap, ◌∙◌, subst, arith, lit<, inl, eqb-true, leb-true}
 use Rattle.std.proofs.Common.{length-append}
 use Rattle.std.proofs.lemmas.List.{length-replicate, get_or-replicate}
@@ -343,16 +343,27 @@ line_checked = (
         ((omega arith, omega arith, omega arith, omega arith, omega arith), refl)
         (All-cons IsOp Halt [] tt (All-nil IsOp)));
   },
-  (512, 512, 0, Draw (Svec 4 (pos 1) (pos 0) 7) ∷ [], refl, All-cons (IsPut zeros) (Draw (Svec 4 (pos 1) (pos 0) 7)) [] refl (All-nil (IsPut zeros)),
-      omega arith),
+  (
+    512,
+    512,
+    0,
+    Draw (Svec 4 (pos 1) (pos 0) 7) ∷ [],
+    refl,
+    All-cons (IsPut zeros) (Draw (Svec 4 (pos 1) (pos 0) 7)) [] refl (All-nil (IsPut zeros)),
+    omega arith,
+  ),
 )
 
 abbrev opened : Ready
 opened = calls_for (calls.Open line) 0 0 0 looked (lit< tt) (lit< tt)
     (record { alike = refl; some = omega arith; fits = omega arith }) line_checked tt (λ P is. is) refl 0 refl refl
 
+-- an NMI ticks, before dvg_open has returned
+abbrev ticked : Ready
+ticked = calls_for calls.Tick 0 0 0 opened (lit< tt) (lit< tt) tt tt tt (λ P is. is) refl 0 refl refl
+
 abbrev placed : Ready
-placed = calls_for (calls.Puts Labs) 0 0 0 opened (lit< tt) (lit< tt)
+placed = calls_for (calls.Puts Labs) 0 0 0 ticked (lit< tt) (lit< tt)
     (λ room. (0x79 ∷ 0xF0 ∷ 0x00 ∷ 0xB0 ∷ [], refl, omega arith)) tt tt (λ P is. is) refl 0 refl refl
 
 abbrev drawn : Ready
@@ -367,4 +378,14 @@ abbrev shown : Ready
 shown = calls_for calls.Run 0 0 0 closed (lit< tt) (lit< tt) tt tt tt (λ P is. is) refl 22 refl refl
 
 pub some_builder : SomeBuilder
-some_builder = (_, drop 1 shown.log, shown.older, shown.on)
+some_builder = (
+  shown.list,
+  drop 1 shown.log,
+  shown.older,
+  shown.on,
+  (take 4 shown.list, looked.list, first ticked.list, first opened.list, refl, refl, refl),
+)
+  where
+    first : List Call → Call
+    first [] = quiet calls.Reset 0 reset_from
+    first (call ∷ list) = call

@@ -1,11 +1,11 @@
 -- Examples: machines that draw a frame, which was offered, or built.
-use Rattle.std.specs.Prelude.{List, [], ◌∷◌, slice_index, false}
+use Rattle.std.specs.Prelude.{◌≡◌, List, [], ◌∷◌, ◌++◌, slice_index, false}
 use Rattle.dvg_gen.specs.declared.stroke.Stroke.{Stroke}
 use Rattle.dvg_driver.specs.declared.action.Action.TheVariants.{Read}
 use Rattle.dvg_log.specs.declared.event.Event.TheVariants.{Fetch, Tick}
 use Rattle.dvg_log.specs.declared.entry.Entry.TheVariants.{Done, Low, Acted}
 use Rattle.dvg_log.specs.Log.{◌⟼◌, Log}
-use Rattle.dvg_6502.specs.Calls.{Call}
+use Rattle.dvg_6502.specs.Calls.{Call, Tick as Ticks, has_returned}
 use Rattle.dvg_board.specs.Board.{Bus}
 use Rattle.dvg_board.specs.Example.{zeros}
 use Rattle.dvg_system.specs.Machine.{IsMachine}
@@ -24,8 +24,13 @@ SomeMachine = (calls : List Call) × (log : Log) × (clocks : List Bus) × IsMac
 abbrev pub short : Stroke
 short = record { x0 = 262144; y0 = 262144; x1 = 266240; y1 = 262144; z = 7 }
 
--- and there is one that calls dvg_open, dvg_labs, dvg_put and dvg_close, whose newest line is that of a run to the HALT
--- of the frame that was built, which drew this
+-- among these calls is a tick of an NMI, which comes before the one that it interrupts has returned
+abbrev pub HasTickAmid : List Call → Type 0
+HasTickAmid calls = (later olds : List Call) × (tick older : Call) × (calls ≡ later ++ tick ∷ older ∷ olds)
+    × (tick.routine ≡ Ticks) × (has_returned older ≡ false)
+
+-- and there is one that calls dvg_open, amid which an NMI ticks, dvg_labs, dvg_put and dvg_close, whose newest line is
+-- that of a run to the HALT of the frame that was built, which drew this
 abbrev pub SomeBuilder : Type 0
 SomeBuilder = (calls : List Call) × (log : Log) × (clocks : List Bus) × IsMachine zeros zeros (slice_index zeros) calls
-    ((Fetch ⟼ Done 0x204 0xB000 (short ∷ [])) ∷ log) clocks
+    ((Fetch ⟼ Done 0x204 0xB000 (short ∷ [])) ∷ log) clocks × HasTickAmid calls
