@@ -15,8 +15,8 @@ use Rattle.dvg_log.specs.Log.{◌⟼◌, Log, ram}
 use Rattle.dvg_log.specs.Legal.{IsLegal}
 use Rattle.dvg_theorem.proofs.Rows.{first_picture}
 use Rattle.dvg_core.specs.Cells.{bit}
-use Rattle.dvg_board.specs.Board.{Board, Bus, pins}
-use Rattle.dvg_board.specs.Clocks.{IsBus, after, cores, IsServed, looks, changes}
+use Rattle.dvg_board.specs.Board.{Board, Bus, takes}
+use Rattle.dvg_board.specs.Clocks.{IsBus, after, IsServed, looks, changes}
 use Rattle.dvg_board.specs.Fetches.{entry}
 use Rattle.dvg_board.specs.Logs.{did, core_line, answered, FitsIf, IsBoard, powers, clocks, acts, FitsScript}
 use Rattle.dvg_board.specs.Example.{zeros, SomeBoard}
@@ -94,9 +94,9 @@ undone : (action : Option Action) (log : Log) → IsLegal zeros zeros (did actio
 undone None log legal = (tt, legal)
 undone (Some action) log legal = (legal.0.0, legal.2)
 
-before_line : (reset start pending : ℕ) (bytes : List ℕ) (shown : Shown) (log : Log)
-    → IsLegal zeros zeros (core_line reset start pending false bytes shown log) → IsLegal zeros zeros log
-before_line reset start pending bytes shown log = by (nat_eq reset 0) (nat_eq start 0) (nat_eq pending 0)
+before_line : (reset start takes : ℕ) (bytes : List ℕ) (shown : Shown) (log : Log)
+    → IsLegal zeros zeros (core_line reset start takes false bytes shown log) → IsLegal zeros zeros log
+before_line reset start takes bytes shown log = by (nat_eq reset 0) (nat_eq start 0) (nat_eq takes 0)
   where
     by : (r s p : Bool)
         → IsLegal zeros zeros (if r then if s then if p then log else (Fetch ⟼ shown) ∷ log else (Strobe ⟼ Started) ∷ log
@@ -115,9 +115,9 @@ board_of (Takes F ∷ steps) is legal = acts (board_of steps is legal.2) legal.1
 board_of (Clock bus ∷ steps) is legal =
     let board = after held (clocks_of steps) in
     let changed = undone (changes bus) (answered zeros held (clocks_of steps) bus false (log_of steps)) legal in
-    let looked = undone (looks board bus) (log_of steps) (before_line bus.reset board.starting board.pending
+    let looked = undone (looks board bus) (log_of steps) (before_line bus.reset board.starting (takes board bus)
     (ram zeros (did (looks board bus) (log_of steps)))
-    (entry (did (looks board bus) (log_of steps)) (cores held (clocks_of steps)) (pins board bus)) _ changed.1) in
+    (entry held (did (looks board bus) (log_of steps)) (clocks_of steps) bus) _ changed.1) in
     let both = both_true _ (are_driven steps) is in
     let reset = both_true (nat_lt bus.reset 2) _ both.0 in
     let a = both_true (nat_lt bus.a 65536) _ reset.1 in

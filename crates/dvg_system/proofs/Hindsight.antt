@@ -3,7 +3,9 @@ use Rattle.std.proofs.Common.{◌≡◌, ℕ, zero, suc, ◌+◌, ◌*◌, ◌�
 use Rattle.std.proofs.Common.{◌∙◌, subst, arith}
 use Rattle.std.specs.Prelude.{nat_eq, nat_le, nat_lt, ◌&&◌, ◌||◌, if◌then◌else◌}
 use Rattle.dvg_frame.specs.declared.op.OpKind.{OpKind}
-use Rattle.dvg_log.specs.Log.{Log}
+use Rattle.dvg_log.specs.declared.event.Event.TheVariants.{ResetAll}
+use Rattle.dvg_log.specs.declared.entry.Entry.TheVariants.{Cleared}
+use Rattle.dvg_log.specs.Log.{◌⟼◌, Log, ram}
 use Rattle.dvg_6502.specs.Processor.{Cpu, turn, at_return}
 use Rattle.dvg_6502.specs.Amid.{Guard, AreHarmless, changed, guards, is_kept}
 use Rattle.dvg_6502.specs.Tables.{table_of}
@@ -164,6 +166,7 @@ all_tell : {R image : List ℕ} {held : ℕ → ℕ} {list : List Call} {log : L
 all_tell (Machine.powers rom is_image same) = tt
 all_tell {R} (Machine.waits {calls = list} bus whole on is served idle) =
     still_tell R (nat_eq bus.reset 0) whole list (all_tell on)
+all_tell (Machine.tests bus on is served sends) = tt
 all_tell (Machine.begins routine from others on session checked shares) = (session, all_tell on)
 all_tell (Machine.steps n on unfinished session same) = (session, (all_tell on).1)
 all_tell (Machine.accesses n access bus on session more is served made) = (session, (all_tell on).1)
@@ -275,6 +278,10 @@ rebuilt {R} {image} {held} (Machine.waits {calls = list} {older = older} bus who
       subst (λ l. IsMachine R image held l (answered image held older bus whole machine.0) (bus ∷ older)) prior.3
           (Machine.waits bus whole machine.1 is served idle),
     )
+rebuilt {R} {image} {held} (Machine.tests bus on is served sends) [] named good =
+    let machine = rebuilt on [] named good in
+    ((ResetAll (ram image (did (changes bus) machine.0)) ⟼ Cleared) ∷ machine.0, Machine.tests bus machine.1 is served sends)
+rebuilt (Machine.tests bus on is served sends) (to ∷ tos) named good = absurd named
 rebuilt (Machine.begins routine from others on session checked shares) [] named good = absurd named
 rebuilt {R} {image} {held} (Machine.begins {calls = list} {older = older} routine from others on session checked shares) (to ∷ tos)
     named good =
