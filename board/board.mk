@@ -8,20 +8,33 @@
 #                build/shapes.equates.
 #     MACHINE    the arcade emulator's name of the board: asteroid, or astdelux for Asteroids Deluxe
 #     DEFINES    options of ca65 for the program, DRIVER those for the driver
-#     SECONDS    how long the emulator runs, in seconds of its own time; SHOTS when pictures are
-#                taken; WATCHED how many seconds `make watch` goes on
+#     DVG        the program dvg, where it isn't the one of this repository
 #
-# `make` makes the ROM set build/roms. `make emulator` runs it without a screen, and compares its
-# bus log with the proved driver's actions, and its snapshots with the strokes of its frames.
-# `make torn` has it judged by `dvg torn`. `make judge` runs it for JUDGED seconds without a
-# screen, and says all that is bad: RATE is how many pictures a second are wanted. `make film`
-# does so, too, and makes a moving picture of it, build/film.svg, from the first second of FILM to
-# the last one. `make emulator` and `make judge` play the buttons of the file BUTTONS, if there is
-# one. `make play` runs the ROM set with a screen, and `make record` records what is pressed there
-# as BUTTONS. `make watch` draws the frames of the sketches as build/picture.svg, again whenever a
-# file of them changes, and build/watch.html shows them. `make eproms` writes what is burned into
-# build/eproms. `make test-rom` does so for examples/test_rom. DVG names the program dvg, where it
-# isn't the one of this repository.
+# `make help` prints the lines below.
+#
+#: make           makes the ROM set, build/roms
+#: make premises  looks whether the program keeps to the premises of the driver's proof
+#: make judge     the same, and runs it in the emulator without a screen, and says all that is bad
+#: make film      the same, and makes a moving picture of it, build/film.svg
+#: make sound     runs it without a screen, writes what it sounds like into build/sound/sound.wav,
+#:                and says of each second whether anything was heard
+#: make emulator  runs it without a screen, and compares what it does with the proved driver, and
+#:                what it shows with its frames
+#: make torn      runs it without a screen, and has it judged by dvg torn
+#: make play      runs it with a screen
+#: make record    the same, and records what is pressed there as BUTTONS
+#: make watch     draws frames and shapes of the sketches again whenever one of their files changes:
+#:                open build/watch.html in a browser
+#: make eproms    writes what is burned into build/eproms; make test-rom does so for a test ROM
+#: make clean     takes build away
+#:
+#: JUDGED   how many seconds premises, judge, film and sound run, of the board's time [20]
+#: SECONDS  the same of emulator and torn [5]; SHOTS: when pictures are taken [1.5 2.5 3.5 4.5]
+#: RATE     how many pictures a second judge wants [30]
+#: FILM     the seconds of the film, the first and the last one [3 12]
+#: WATCH    labels whose bytes judge prints at the end, as: lives score:4
+#: BUTTONS  the file of presses that all but play and torn play [buttons.txt, if it is there]
+#: WATCHED  how many seconds watch goes on
 
 # Relative where the makefile includes this file so: make takes no path with a blank in it.
 BOARD := $(dir $(lastword $(MAKEFILE_LIST)))
@@ -78,11 +91,13 @@ build/sketch: $(SKETCH) $(BOARD)outline.awk build/options
 
 build/tables.inc: build/sketch $(BOARD)tables.awk
 	"$(DVG)" lay --table <build/sketch >build/tables
+	@awk -f $(BOARD)names.awk build/tables
 	@awk -f $(BOARD)tables.awk build/tables >$@
 
 # A program may call each name of the ROM, so each is checked in a frame that calls it.
 build/shapes.equates: build/sketch
 	"$(DVG)" lay --equates <build/sketch >$@
+	@awk -f $(BOARD)names.awk $@
 	@awk '{ print ".frame\nlabs 0 0 0\ncallrom " $$1 "\nhalt" }' $@ | cat build/sketch - >build/calls
 	"$(DVG)" lay <build/calls >build/called
 
@@ -93,9 +108,12 @@ build/rom: build/sketch
 build/rom.lines: build/rom
 	"$(DVG)" rom <build/rom >$@
 
-# The stamp tells build/watch.html that there is a new one.
-build/picture.svg: build/sketch
+# The stamp tells build/watch.html that there is a new one. Where no frame is in the sketches, the
+# picture is that of the shapes.
+build/picture.svg: build/sketch build/rom build/shapes.equates $(BOARD)shapes.py
 	@"$(DVG)" render <build/sketch >build/drawn.svg
+	@python3 $(BOARD)shapes.py build/rom build/shapes.equates >build/shapes.svg
+	@grep -q '^\.frame' build/sketch || mv build/shapes.svg build/drawn.svg
 	@mv build/drawn.svg $@
 	@echo "show($$(date +%s))" >build/stamp.js
 	@echo "drawn at $$(date +%T)"
@@ -138,9 +156,17 @@ judge: build/roms/$(MACHINE) build/premises build/driver.proved
 	@DVG_LABELS="$(labels)" DVG_EQUATES=build/shapes.equates \
 	    python3 $(BOARD)emulator/judge.py build/judge build/rom $(RATE)
 
+sound: build/roms/$(MACHINE)
+	@DVG_BUTTONS="$(played)" DVG_WAV=sound.wav \
+	    $(BOARD)emulator/run build/roms build/sound $(JUDGED) $(BOARD)emulator/press.lua
+	@python3 $(BOARD)emulator/sound.py build/sound/sound.wav
+
 film: judge
 	python3 $(BOARD)emulator/film.py build/judge build/rom $(FILM) >build/film.new
 	@mv build/film.new build/film.svg
+
+help:
+	@sed -n 's/^#: \{0,1\}//p' $(BOARD)board.mk
 
 find_screen = @[ "$$(uname)" != Linux ] || [ -n "$$DISPLAY$$WAYLAND_DISPLAY" ] || { \
     echo '$@: no screen is here; make emulator takes pictures, make judge plays' >&2 && exit 1; }
@@ -167,4 +193,4 @@ clean:
 
 .SECONDARY:
 .DELETE_ON_ERROR:
-.PHONY: emulator torn premises judge film play record watch eproms test-rom clean
+.PHONY: help emulator torn premises judge sound film play record watch eproms test-rom clean

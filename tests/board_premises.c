@@ -7,8 +7,8 @@
  * build/shapes.equates, and BUTTONS a file of buttons (docs/GAME.md). The program runs by the 6502
  * of board_cpu.h, and an NMI comes each 6,144 cycles, at chance between two instructions, and also
  * amid another NMI; but not amid the first cycles after power-on, in which a program can't have set
- * a byte yet, nor while the self-test switch is closed. Prints how much was seen, or the first thing
- * that is against a premise, and the place of the instruction (status 1). */
+ * a byte yet, nor while the self-test switch is closed. Prints how much was seen, or the first
+ * thing that is against a premise, and the place of the instruction (status 1). */
 #include <stdarg.h>
 #include <stdio.h>
 #include <stdlib.h>
@@ -17,12 +17,12 @@
 #include "board_labels.h"
 
 enum {
-    CODE = 0x6800, PROGRAM_BYTES = 0x2000, ROM = 0x6000, VARIABLES = 0x10, OPERANDS = 0x1B, OPERANDS_END = 0x1F,
+    CODE = 0x6800, PROGRAM_BYTES = 0x2000, VARIABLES = 0x10, OPERANDS = 0x1B, OPERANDS_END = 0x1F,
     VARIABLES_END = 0x21, FLAG = 0x2002, STROBE = 0x3000, VECTOR_RAM = 0x4000, MEMORY = 0x8000,
     BEGUN = 8, NMI_CYCLES = 6144, NMI_MOST_CYCLES = 6048, NMI_MOST_TICKS = 53,
     CYCLES_A_SECOND = 1512000, LEAST_STACK = 0x60,
     INPUTS = 0x2000, CLOCK = 0x2001, TEST = 0x2007, SWITCHES = 0x2800, INPUTS_END = 0x3000,
-    JSR_OPCODE = 0x20, MOST_CALLS = 3
+    ROM = 0x6000, JSR_OPCODE = 0x20, MOST_CALLS = 3
 };
 enum { IDLE = 2, BUILD = 7, WRITING = 0x80 };
 enum routine { RESET, RUN, TICKS, TICK, OFFER, REDRAW, OPEN, PUT, PAIR, SET, VECTOR, COPY, CLOSE };
@@ -53,6 +53,7 @@ static int table_from, table_to;        /* the table that is being written */
 static int tables, tables_low, tables_high, shapes[1024], shape_count;
 static char shape_names[1024][32];
 static int instruction;                 /* where it stands that runs, or that comes next */
+static int begins_anew;                 /* it went to its reset vector, and calls dvg_reset next */
 static long calls, nmis, nested, frames_built, frames_offered;
 static uint64_t seed;
 
@@ -201,7 +202,8 @@ static void check_write(int at)
     int is_operand = at >= OPERANDS && at < OPERANDS_END;
     if (is_hardware(at) && (has_called || at == STROBE)) fail("%s writes %04X", whose(), at);
     if (at >= 0x5000) fail("%s writes %04X, which is ROM", whose(), at);
-    if (at >= VARIABLES && at < VARIABLES_END && was_reset && (is_nmi() || !is_operand))
+    if (at >= VARIABLES && at < VARIABLES_END && was_reset && !begins_anew &&
+        (is_nmi() || !is_operand))
         fail("%s writes the driver's byte %02X", whose(), at);
     if (at >= table_from && at < table_to && memory[VARIABLES] == WRITING)
         fail("%s writes %04X, of the table that is being written", whose(), at);
@@ -285,7 +287,7 @@ static int does_tick(enum routine routine)
 static void check_call(enum routine routine)
 {
     const cpu *c = &processor;
-    if (!was_reset && (routine != RESET || is_nmi()))
+    if ((!was_reset || begins_anew) && (routine != RESET || is_nmi()))
         fail("%s calls %s before dvg_reset has returned", whose(), names[routine]);
     if (c->p & DECIMAL) fail("D is set");
     if (now == contexts + 2 && contexts[1].in_driver)
@@ -324,7 +326,10 @@ static void end_call(void)
     now->in_driver = 0;
     if (processor.s != (uint8_t)(now->at_entry.s + 2) || processor.pc != now->back)
         fail("%s doesn't return to where it was called", names[now->routine]);
-    if (now->routine == RESET) was_reset = 1;
+    if (now->routine == RESET) {
+        was_reset = 1;
+        begins_anew = 0;
+    }
     if (now->routine == OPEN && is_taken) instructions = 0;
     frames_offered += now->routine == OFFER && is_taken;
     frames_built += now->routine == CLOSE && is_taken;
@@ -379,6 +384,7 @@ static void run_one(void)
 {
     int inside = is_driver(processor.pc);
     instruction = processor.pc;
+    if (!is_nmi() && processor.pc == word_at(MEMORY - 4)) begins_anew = 1;
     press_buttons();
     if (inside && !now->in_driver) begin_call();
     else if (!inside && now->in_driver) end_call();

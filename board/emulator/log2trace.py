@@ -235,8 +235,11 @@ def write_replay(actions, head, out_trace, out_expected):
     made = replay(actions, read_rom(head))
     write_lines(out_trace, head + made.trace)
     write_lines(out_expected, made.expected)
-    print('%d of %d actions, %d frames, %d redraws, %d pictures, %d resets, %d within a frame'
-          % (made.trace.count('tick'), len(actions), made.frames, made.trace.count('redraw'),
+    count = made.trace.count('tick')
+    told = 'all %d actions' % count if count == len(actions) else (
+        'the first %d actions of %d, as many as a trace has room for' % (count, len(actions)))
+    print('%s; %d frames, %d redraws, %d pictures, %d resets, %d within a frame'
+          % (told, made.frames, made.trace.count('redraw'),
              made.pictures, made.resets, made.cut))
     if not made.frames:
         sys.exit('log2trace.py: the log has no frame that was written to its end')
