@@ -3,8 +3,8 @@
     sound.py WAV
 
 Heard is what goes up and down by more than a 500th of the whole range: a sound that is off may
-leave a level, which is still. Where a script ends the emulator, the sizes in the head of WAV are 0: they
-are mended. Status 1 where WAV can't be read.
+leave a level, which is still. Where a script ends the emulator, the sizes in the head of WAV are
+0: they are mended. Status 1 where WAV can't be read.
 """
 import array
 import os
