@@ -68,7 +68,7 @@ build/$(PROGRAM).program: build/$(PROGRAM).o build/driver.o $(CONFIG) build/opti
 find_ca65 = @command -v ca65 >/dev/null || { \
     echo 'make: ca65 is not found; board/install installs it' >&2 && exit 1; }
 
-build/$(PROGRAM).o: $(PROGRAM).s $(wildcard $(BOARD)*.inc) build/tables.inc \
+build/$(PROGRAM).o: $(PROGRAM).s $(wildcard $(BOARD)*.inc $(BOARD)parts/*.inc) build/tables.inc \
     build/shapes.equates build/options
 	$(find_ca65)
 	ca65 -g -I $(BOARD) -I build $(DEFINES) -o $@ $(PROGRAM).s

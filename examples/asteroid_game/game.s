@@ -10,6 +10,8 @@
 .include "shapes.equates"
 .include "letters.inc"
 
+SCORE_DIGITS = 5
+
 SHIP   = 0                  ; the objects: the ship, rocks and shots
 ROCKS  = 1
 SHOTS  = 13
@@ -49,14 +51,12 @@ thrusting: .res 1
 boom:      .res 1           ; how loud the explosion is, 0 to 15
 pitch:     .res 1           ; of the explosion, as EXPLOSION has it
 fired:     .res 1           ; pictures for which the sound of a shot is still on
-chance:    .res 1
 which:     .res 1
 rock:      .res 1
 reach:     .res 1
 scratch:   .res 2
-place_of:  .res 1           ; the digit that is printed
-score:     .res 4           ; its digits but the last, which is 0; the greatest first
-high:      .res 4
+score:     .res SCORE_DIGITS ; the last digit is always 0
+high:      .res SCORE_DIGITS
 
 x_low:     .res COUNT
 x_high:    .res COUNT
@@ -68,6 +68,11 @@ dy_low:    .res COUNT
 dy_high:   .res COUNT
 life:      .res COUNT       ; 0: it isn't there. Of a shot: the pictures that it has still to fly
 size:      .res SHOTS       ; of a rock: 0 small, 1, 2 large
+
+.include "parts/near.inc"
+.include "parts/random.inc"
+.include "parts/score.inc"
+.include "parts/sine.inc"
 
 .segment "CODE"
 
@@ -399,17 +404,6 @@ sign:   sty scratch
         rol scratch
 slow:   rts
 
-; A number by chance. Keeps X and Y.
-random: lda chance
-        asl a
-        bcc kept
-        eor #$1D
-kept:   adc clock
-        bne some
-        lda #$A7
-some:   sta chance
-        rts
-
 move:   ldx #COUNT - 1
 next:   lda life,x
         beq still
@@ -500,17 +494,10 @@ bare:   lda held
         beq coasts
         ldy direction
         push dx_low + SHIP, dx_high + SHIP, pushes_low, pushes_high
-        jsr sine
+        lda direction
+        jsr sine_of
         push dy_low + SHIP, dy_high + SHIP, pushes_low, pushes_high
 coasts: rts
-
-; Y: where the sine of `direction` stands in a table of cosines.
-sine:   lda direction
-        clc
-        adc #12             ; a sine is the cosine of a quarter turn less
-        and #15
-        tay
-        rts
 
 hyperspace:
         lda pressed
@@ -562,7 +549,8 @@ found:  lda #32
         lda cosines_high,y
         adc dx_high + SHIP
         sta dx_high,x
-        jsr sine
+        lda direction
+        jsr sine_of
         clc
         lda cosines_low,y
         adc dy_low + SHIP
@@ -608,19 +596,6 @@ hit_ship:
         jmp shatter
 missed: rts
 
-; The distance of the objects X and Y along one axis must be less than `reach`.
-.macro within axis
-        .local plus
-        lda axis,x
-        sec
-        sbc axis,y
-        bcs plus
-        eor #$FF
-        adc #1
-plus:   cmp reach
-        bcs far
-.endmacro
-
 ; C set: the rock Y is near the object X; A is how far the object itself reaches, in four units.
 find_rock:
         sta scratch
@@ -635,8 +610,8 @@ rock_:  lda life,y
         clc
         adc scratch
         sta reach
-        within x_high
-        within y_high
+        unless_near x_high, reach, far
+        unless_near y_high, reach, far
         sec
         rts
 far:    dey
@@ -657,7 +632,8 @@ shatter:
         sta boom
         lda points,x
         tax
-count:  jsr add_one
+count:  ldy #SCORE_DIGITS - 2
+        jsr add_one
         dex
         bne count
         ldx rock
@@ -692,22 +668,6 @@ broken: pla
 dust:   lda #0
         sta life,x
         beq broken          ; always
-
-; Ten points more.
-add_one:
-        ldy #3
-carry:  lda score,y
-        clc
-        adc #1
-        cmp #10
-        bcc fits
-        lda #0
-        sta score,y
-        dey
-        bpl carry
-        rts
-fits:   sta score,y
-        rts
 
 ; --- Sounds, lamps and the coin counter ---
 
@@ -933,27 +893,6 @@ burst_: lda pause
         ldy #SHAPE_BURST
         jmp put_shape
 
-; The four digits from X of the zero page on, and a 0; zeros at the left aren't shown.
-print_number:
-        stx place_of
-        lda #BLANK
-        sta scratch + 1     ; what a 0 looks like
-        lda #4
-        sta scratch
-digits: ldx place_of
-        ldy $00,x
-        bne shown
-        ldy scratch + 1
-        jmp put
-shown:  lda #0
-        sta scratch + 1
-put:    jsr put_letter
-        inc place_of
-        dec scratch
-        bne digits
-        ldy #0
-        jmp put_letter
-
 ; --- Tables ---
 
 .segment "DATA"
@@ -976,17 +915,8 @@ shapes_high:
         .hibytes OTHERS, SHIPS_A, SHIPS_B, FLAMES_A, FLAMES_B
         .assert shapes_high - shapes_low = SHAPE_FLAME + 16, error, "the list has other shapes"
 
-.define COSINES_A 1152, 1064, 815, 441, 0, -441, -815, -1064
-.define COSINES_B -1152, -1064, -815, -441, 0, 441, 815, 1064
-.define PUSHES 24, 22, 17, 9, 0, -9, -17, -22, -24, -22, -17, -9, 0, 9, 17, 22
-cosines_low:
-        .lobytes COSINES_A, COSINES_B
-cosines_high:
-        .hibytes COSINES_A, COSINES_B
-pushes_low:
-        .lobytes PUSHES
-pushes_high:
-        .hibytes PUSHES
+        cosine_table cosines_low, cosines_high, 1152
+        cosine_table pushes_low, pushes_high, 24
 
 ; By the size of a rock: small, middle, large.
 scales: .byte $F0, $00, $10

@@ -8,6 +8,10 @@
 .include "shapes.equates"
 .include "letters.inc"
 
+SCORE_DIGITS = 1
+.include "parts/near.inc"
+.include "parts/score.inc"
+
 LEFT_WALL  = 100
 RIGHT_WALL = 900
 TOP_WALL   = 852
@@ -18,7 +22,7 @@ BALL_WIDTH = 12
 
 .segment "ZEROPAGE"
 beats:  .res 1              ; NMIs since the last new picture, each 4 ms
-score:  .res 1
+score:  .res SCORE_DIGITS
 bat_x:  .res 2              ; the lower left corner
 ball_x: .res 2
 ball_y: .res 2
@@ -155,20 +159,13 @@ no_top: bit dy + 1
         bcs flies
         compare ball_y, BAT_Y
         bcc flies
-        sec                 ; is its corner above the bat?
-        lda ball_x
-        sbc bat_x
-        tax
-        lda ball_x + 1
-        sbc bat_x + 1
-        bne flies
-        cpx #BAT_WIDTH
-        bcs flies
+        unless_after ball_x, bat_x, BAT_WIDTH, flies
         negate dy
         lda score
         cmp #9
         bcs flies
-        inc score
+        ldy #0
+        jsr add_one
 flies:  rts
 missed: jmp serve
 
@@ -193,8 +190,8 @@ draw:   jsr dvg_open
         draw_at bat_x, bat_y, bat
         draw_at ball_x, ball_y, ball
         say title
-        ldy score
-        jsr put_letter
+        ldx #score
+        jsr print_number
         jmp dvg_close
 
 nmi:    inc beats
