@@ -120,8 +120,8 @@ class Generator:
 
 
 def starts(theirs):
-    """When start strobes arrive in these lines: for each run after how many words, and whether a low
-    byte came, too; None where it ends by itself."""
+    """When start strobes arrive in these lines: for each run after how many words, and whether a
+    low byte came, too; None where it ends by itself."""
     runs = '\n'.join(theirs).split('\nstarted')
     for run in runs[:-1]:
         if '\nhalted' in run:

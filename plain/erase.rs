@@ -105,30 +105,31 @@ const SERDE: &str =
     "#[cfg_attr(feature = \"serde\", derive(serde::Serialize, serde::Deserialize))]\n";
 
 /// The types that serde writes and reads, and by which other type it does: that is checked when it
-/// is read. Where none is named, each value of the type is one.
+/// is read. One in `crate::rust` is read alone, and has the form of the type itself. Where none is
+/// named, each value of the type is one.
 const KEPT: [(&str, &str); 22] = [
-    ("enum Action", ""),
+    ("enum Action", "crate::rust::ActionForm"),
     ("enum Area", ""),
-    ("struct Beam", ""),
+    ("struct Beam", "crate::rust::BeamForm"),
     ("struct Code", "Instr"),
     ("enum CodeFault", ""),
-    ("struct Counters", ""),
+    ("struct Counters", "crate::rust::CountersForm"),
     ("struct DraftFull", ""),
     ("enum DriverFault", ""),
-    ("enum Entry", ""),
+    ("enum Entry", "crate::rust::EntryForm<S>"),
     ("enum Event", ""),
-    ("enum FrameFault", ""),
+    ("enum FrameFault", "crate::rust::FrameFaultForm"),
     ("enum GenFault", ""),
     ("enum Half", ""),
     ("enum Instr", ""),
     ("enum Listed", ""),
     ("enum MemFault", ""),
-    ("struct Move", ""),
+    ("struct Move", "crate::rust::MoveForm"),
     ("struct Op", "OpKind"),
     ("enum OpKind", ""),
     ("struct OutOfMemory", ""),
-    ("enum Place", ""),
-    ("struct Stroke", ""),
+    ("enum Place", "crate::rust::PlaceForm"),
+    ("struct Stroke", "crate::rust::StrokeForm"),
 ];
 
 /// What stands at the end of a library with a file `rust.rs` beside its sources.
@@ -866,6 +867,9 @@ fn kept(head: &str) -> String {
     match KEPT.iter().find(|(kept, _)| *kept == head) {
         None => String::new(),
         Some((_, "")) => SERDE.to_owned(),
+        Some((_, by)) if by.starts_with("crate::") => {
+            format!("{SERDE}#[cfg_attr(feature = \"serde\", serde(try_from = \"{by}\"))]\n")
+        }
         Some((_, by)) => {
             let by = format!("serde(try_from = \"{by}\", into = \"{by}\")");
             format!("{SERDE}#[cfg_attr(feature = \"serde\", {by})]\n")
@@ -1275,9 +1279,12 @@ mod tests {
         );
         stays("#[derive(Debug, Clone)]\npub(crate) struct World {\n}\n");
         leaves(
-            "#[derive(Debug)]\npub enum Action {\n}\n",
-            &format!("#[derive(Debug)]\n{SERDE}pub enum Action {{\n}}\n"),
+            "#[derive(Debug)]\npub enum Area {\n}\n",
+            &format!("#[derive(Debug)]\n{SERDE}pub enum Area {{\n}}\n"),
         );
+        let by = "serde(try_from = \"crate::rust::StrokeForm\")";
+        let by = format!("#[cfg_attr(feature = \"serde\", {by})]\n");
+        leaves("struct Stroke;\n", &format!("{SERDE}{by}struct Stroke;\n"));
         let by = "serde(try_from = \"Instr\", into = \"Instr\")";
         let by = format!("#[cfg_attr(feature = \"serde\", {by})]\n");
         leaves("struct Code;\n", &format!("{SERDE}{by}struct Code;\n"));

@@ -1,5 +1,5 @@
-/* Plays the runs of a folder, as conformance/README.md has them, with a DVG that has the functions of
- * examples/compare/mine.h, and says after how many bytes of all runs it differs first.
+/* Plays the runs of a folder, as conformance/README.md has them, with a DVG that has the functions
+ * of examples/compare/mine.h, and says after how many bytes of all runs it differs first.
  *
  *     player FOLDER COUNT
  *

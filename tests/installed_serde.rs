@@ -44,6 +44,15 @@ impl Counts {
         );
     }
 
+    /// A text is read, and what was read is written as that text.
+    fn expect_form_of<T: Serialize + DeserializeOwned>(&mut self, text: &str) {
+        let written = serde_json::from_str::<T>(text).and_then(|read| serde_json::to_string(&read));
+        self.expect(
+            written.as_deref().is_ok_and(|written| written == text),
+            &format!("{text} is read, and written as {written:?}"),
+        );
+    }
+
     /// A text is refused, with a message that has these words.
     fn expect_refused<T: DeserializeOwned + Debug>(&mut self, text: &str, why: &str) {
         let read = serde_json::from_str::<T>(text);
@@ -168,9 +177,90 @@ fn test_refused(counts: &mut Counts) {
             counts.expect_refused::<Rom>(&text, why);
         }
     }
+    test_ranges(counts);
     counts.expect_refused::<Image>("[256]", "invalid value: integer `256`, expected u8");
     counts.expect_refused::<OpKind>(r#""Stop""#, "unknown variant `Stop`");
     counts.expect_refused::<Stroke>(r#"{"x0":1,"y0":2,"x1":3,"y1":4}"#, "missing field `z`");
+}
+
+/// Of each field that has a range, the last value is read, and one too large is refused; the first
+/// value, and one too small, where that isn't 0.
+fn test_ranges(counts: &mut Counts) {
+    let place = "a position is below 2,097,152";
+    for at in 0..4 {
+        let mut places = ["0"; 4];
+        let mut form = |place: &'static str, z: u8| {
+            places[at] = place;
+            let [x0, y0, x1, y1] = places;
+            format!(r#""x0":{x0},"y0":{y0},"x1":{x1},"y1":{y1},"z":{z}"#)
+        };
+        let (last, over) = (form("2097151", 15), form("2097152", 15));
+        counts.expect_form_of::<Stroke>(&format!("{{{last}}}"));
+        counts.expect_refused::<Stroke>(&format!("{{{over}}}"), place);
+        let rest = r#","placed":false,"address":4095"#;
+        counts.expect_form_of::<Move>(&format!("{{{last}{rest}}}"));
+        counts.expect_refused::<Move>(&format!("{{{over}{rest}}}"), place);
+    }
+    let stroke = |z: u8| format!(r#"{{"x0":0,"y0":0,"x1":0,"y1":0,"z":{z}}}"#);
+    let made = |z: u8, placed: bool, address: u16| {
+        format!(
+            r#"{{"x0":0,"y0":0,"x1":0,"y1":0,"z":{z},"placed":{placed},"address":{address}}}"#
+        )
+    };
+    let beam = |x: u32, y: u32, scale: u8| format!(r#"{{"x":{x},"y":{y},"scale":{scale}}}"#);
+    let counters = |x: u16, y: u16| format!(r#"{{"x":{x},"y":{y}}}"#);
+    counts.expect_form_of::<Stroke>(&stroke(1));
+    counts.expect_refused::<Stroke>(&stroke(0), "the intensity of a stroke is 1 to 15");
+    counts.expect_refused::<Stroke>(&stroke(16), "the intensity of a stroke is 1 to 15");
+    counts.expect_form_of::<Move>(&made(0, true, 0));
+    counts.expect_refused::<Move>(&made(16, false, 0), "the intensity of a move is 0 to 15");
+    counts.expect_refused::<Move>(&made(1, true, 0), "and of a LABS 0");
+    counts.expect_refused::<Move>(&made(0, false, 4096), "a word address is below 4,096");
+    counts.expect_form_of::<Beam>(&beam(2_097_151, 2_097_151, 15));
+    counts.expect_refused::<Beam>(&beam(2_097_152, 0, 0), place);
+    counts.expect_refused::<Beam>(&beam(0, 2_097_152, 0), place);
+    counts.expect_refused::<Beam>(&beam(0, 0, 16), "the global scale is 0 to 15");
+    counts.expect_form_of::<Counters>(&counters(4095, 4095));
+    counts.expect_refused::<Counters>(&counters(4096, 0), "in whole units is below 4,096");
+    counts.expect_refused::<Counters>(&counters(0, 4096), "in whole units is below 4,096");
+    let of_ram = "a byte address of the RAM is below 2,048";
+    counts.expect_form_of::<Action>(r#"{"Wrote":[2047,255]}"#);
+    counts.expect_refused::<Action>(r#"{"Wrote":[2048,0]}"#, of_ram);
+    counts.expect_refused::<Entry>(r#"{"Acted":{"Wrote":[2048,0]}}"#, of_ram);
+    for (form, over) in [
+        (r#"{"Low":[4095,255]}"#, r#"{"Low":[4096,0]}"#),
+        (r#"{"Fetched":[4095,65535]}"#, r#"{"Fetched":[4096,0]}"#),
+        (r#"{"Done":[4095,49151,[]]}"#, r#"{"Done":[4096,45056,[]]}"#),
+        (r#"{"Broke":[4095,"Hole"]}"#, r#"{"Broke":[4096,"Hole"]}"#),
+        (
+            r#"{"Refused":{"OutOfRom":{"InRom":4095}}}"#,
+            r#"{"Refused":{"OutOfRom":{"InRom":4096}}}"#,
+        ),
+    ] {
+        counts.expect_form_of::<Entry>(form);
+        counts.expect_refused::<Entry>(over, "a word address is below 4,096");
+    }
+    for word in [45055, 49152] {
+        let text = format!(r#"{{"Done":[0,{word},[]]}}"#);
+        counts.expect_refused::<Entry>(&text, "the last word of a finished run is a HALT");
+    }
+    let drew = stroke(16);
+    let text = format!(r#"{{"Done":[0,45056,[{drew}]]}}"#);
+    counts.expect_refused::<Entry>(&text, "the intensity of a stroke");
+    let operation = "the number of an operation is below 511";
+    counts.expect_form_of::<Place>(r#"{"InFrame":510}"#);
+    counts.expect_refused::<Place>(r#"{"InFrame":511}"#, operation);
+    for fault in ["Target", "RunsOff"] {
+        counts.expect_form_of::<FrameFault>(&format!(r#"{{"{fault}":510}}"#));
+        counts.expect_refused::<FrameFault>(&format!(r#"{{"{fault}":511}}"#), operation);
+    }
+    for fault in ["OutOfRom", "TooDeep", "NoCaller"] {
+        counts.expect_form_of::<FrameFault>(&format!(r#"{{"{fault}":{{"InFrame":510}}}}"#));
+        counts.expect_refused::<FrameFault>(
+            &format!(r#"{{"{fault}":{{"InFrame":511}}}}"#),
+            operation,
+        );
+    }
 }
 
 /// Images and ROMs are the lists of their bytes.

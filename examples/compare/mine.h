@@ -34,8 +34,8 @@ struct mine_wanted mine_wants(void);
  * in 1/512 of a screen unit, 0 to 2,097,151; with --units in whole ones, 0 to 4,095.
  *
  * With --moves call it also for what isn't seen, with z 0: for each vctr, svec and labs, once its
- * last byte has come and before the next one is wanted. A labs goes from where the beam was to where
- * it puts the beam. Without --moves calls with z 0 are passed
+ * last byte has come and before the next one is wanted. A labs goes from where the beam was to
+ * where it puts the beam. Without --moves calls with z 0 are passed
  * over. */
 void drew(uint32_t x0, uint32_t y0, uint32_t x1, uint32_t y1, unsigned z);
 

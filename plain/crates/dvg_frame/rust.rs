@@ -1,5 +1,5 @@
-//! What Rust's users have beside the sources: conversions, defaults, and drafts as serde writes and
-//! reads them. By hand; tested, not proved.
+//! What Rust's users have beside the sources: conversions, defaults, drafts as serde writes and reads
+//! them, and what it reads of faults and places, looked at. By hand; tested, not proved.
 use crate::checking::Checker;
 use crate::draft::{Draft, DraftFull};
 use crate::op::{Op, OpKind};
@@ -60,10 +60,16 @@ impl Default for Checker {
     }
 }
 
-/// A draft is the list of its operations, and is refused where there are more than 511.
+#[cfg(feature = "serde")]
+pub(crate) use forms::{FrameFaultForm, PlaceForm};
+
+/// A draft is the list of its operations, and is refused where there are more than 511. A fault and
+/// a place are looked at when they are read: operations are numbered up to 510.
 #[cfg(feature = "serde")]
 mod forms {
     use crate::draft::Draft;
+    use crate::fault::FrameFault;
+    use crate::place::Place;
     use core::fmt;
     use serde::de::{Deserialize, Deserializer, Error, SeqAccess, Visitor};
     use serde::ser::{Serialize, Serializer};
@@ -95,6 +101,63 @@ mod forms {
                 draft.push(op).map_err(Error::custom)?;
             }
             Ok(draft)
+        }
+    }
+
+    const OPERATION: &str = "the number of an operation is below 511";
+
+    #[derive(serde::Deserialize)]
+    #[serde(rename = "Place")]
+    pub(crate) enum PlaceForm {
+        InFrame(u16),
+        InRom(u16),
+    }
+
+    impl TryFrom<PlaceForm> for Place {
+        type Error = &'static str;
+
+        fn try_from(form: PlaceForm) -> Result<Place, &'static str> {
+            match form {
+                PlaceForm::InFrame(511..) => Err(OPERATION),
+                PlaceForm::InFrame(op) => Ok(Place::InFrame(op)),
+                PlaceForm::InRom(0x1000..) => Err("a word address is below 4,096"),
+                PlaceForm::InRom(address) => Ok(Place::InRom(address)),
+            }
+        }
+    }
+
+    #[derive(serde::Deserialize)]
+    #[serde(rename = "FrameFault")]
+    pub(crate) enum FrameFaultForm {
+        Empty,
+        NoLabs,
+        TooLong,
+        Target(u16),
+        RunsOff(u16),
+        OutOfRom(Place),
+        TooDeep(Place),
+        NoCaller(Place),
+        Loops,
+    }
+
+    impl TryFrom<FrameFaultForm> for FrameFault {
+        type Error = &'static str;
+
+        fn try_from(form: FrameFaultForm) -> Result<FrameFault, &'static str> {
+            Ok(match form {
+                FrameFaultForm::Target(511..) | FrameFaultForm::RunsOff(511..) => {
+                    return Err(OPERATION);
+                }
+                FrameFaultForm::Empty => FrameFault::Empty,
+                FrameFaultForm::NoLabs => FrameFault::NoLabs,
+                FrameFaultForm::TooLong => FrameFault::TooLong,
+                FrameFaultForm::Target(op) => FrameFault::Target(op),
+                FrameFaultForm::RunsOff(op) => FrameFault::RunsOff(op),
+                FrameFaultForm::OutOfRom(place) => FrameFault::OutOfRom(place),
+                FrameFaultForm::TooDeep(place) => FrameFault::TooDeep(place),
+                FrameFaultForm::NoCaller(place) => FrameFault::NoCaller(place),
+                FrameFaultForm::Loops => FrameFault::Loops,
+            })
         }
     }
 }

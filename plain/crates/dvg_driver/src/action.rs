@@ -3,6 +3,7 @@
 /// write or sends the strobe afterwards.
 #[derive(Clone, Copy, Debug, PartialEq, Eq, Hash)]
 #[cfg_attr(feature = "serde", derive(serde::Serialize, serde::Deserialize))]
+#[cfg_attr(feature = "serde", serde(try_from = "crate::rust::ActionForm"))]
 pub enum Action {
     /// It looked at byte 001 of the RAM, which names the current half.
     Peek,

@@ -6,6 +6,7 @@ use thiserror::Error;
 /// choice).
 #[derive(Clone, Copy, Debug, PartialEq, Eq, Error, Hash)]
 #[cfg_attr(feature = "serde", derive(serde::Serialize, serde::Deserialize))]
+#[cfg_attr(feature = "serde", serde(try_from = "crate::rust::FrameFaultForm"))]
 pub enum FrameFault {
     /// 1: there is no operation.
     #[error("there is no operation")]

@@ -4,6 +4,7 @@ use std::fmt;
 /// Where a draft's run can be.
 #[derive(Clone, Copy, Debug, PartialEq, Eq, Hash)]
 #[cfg_attr(feature = "serde", derive(serde::Serialize, serde::Deserialize))]
+#[cfg_attr(feature = "serde", serde(try_from = "crate::rust::PlaceForm"))]
 pub enum Place {
     /// At this operation of the draft.
     InFrame(u16),

@@ -11,6 +11,7 @@ pub(crate) const CIRCLE: u32 = 2_097_152;
 /// one. Nothing is rounded or clipped (this project's own choice).
 #[derive(Clone, Copy, Debug, PartialEq, Eq, Hash)]
 #[cfg_attr(feature = "serde", derive(serde::Serialize, serde::Deserialize))]
+#[cfg_attr(feature = "serde", serde(try_from = "crate::rust::BeamForm"))]
 pub struct Beam {
     /// The position along x, below 2,097,152.
     pub x: u32,

@@ -7,6 +7,7 @@ use crate::moving::Move;
 /// away from zero. So they can differ from the exact position.
 #[derive(Clone, Copy, Debug, PartialEq, Eq, Hash)]
 #[cfg_attr(feature = "serde", derive(serde::Serialize, serde::Deserialize))]
+#[cfg_attr(feature = "serde", serde(try_from = "crate::rust::CountersForm"))]
 pub struct Counters {
     /// The position along x, below 4,096.
     pub x: u16,

@@ -6,6 +6,7 @@ use dvg_code::{Code, Instr};
 /// a LABS placed it. Positions are in 1/512 of a screen unit, below 2,097,152.
 #[derive(Clone, Copy, Debug, PartialEq, Eq, Hash)]
 #[cfg_attr(feature = "serde", derive(serde::Serialize, serde::Deserialize))]
+#[cfg_attr(feature = "serde", serde(try_from = "crate::rust::MoveForm"))]
 pub struct Move {
     /// Where it begins along x.
     pub x0: u32,

@@ -11,6 +11,7 @@ use std::alloc::Global;
 /// `S` is what a finished run drew.
 #[derive(Clone, Copy, Debug, PartialEq, Eq, Hash)]
 #[cfg_attr(feature = "serde", derive(serde::Serialize, serde::Deserialize))]
+#[cfg_attr(feature = "serde", serde(try_from = "crate::rust::EntryForm<S>"))]
 pub enum Entry<S = Vec<Stroke>> {
     /// The draft was checked, and the driver took its frame.
     Offered,

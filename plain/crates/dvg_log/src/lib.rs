@@ -15,3 +15,6 @@ pub use entry::{Entry, OwnEntry};
 pub use event::{Event, OwnEvent, SpelledEvent, TraceEvent};
 pub use runs::Runs;
 pub use trace::{MOST_EVENTS, Trace};
+
+#[path = "../rust.rs"]
+mod rust;
