@@ -9,13 +9,14 @@ use std::process::ExitCode;
 use std::ptr::NonNull;
 use std::sync::atomic::{AtomicBool, AtomicUsize, Ordering::Relaxed};
 
-use gerbilargent::allocator_api2::alloc::{AllocError, Allocator, Global};
+use gerbilargent::alloc::Vec;
+use gerbilargent::alloc::allocator_api2::alloc::{AllocError, Allocator, Global};
 use gerbilargent::dump::Dump;
 use gerbilargent::named::read_sketch;
 use gerbilargent::read::read_trace;
 use gerbilargent::{
     Action, Banked, Code, Draft, Entry, Flat, Generator, Image, Instr, Op, OpKind, Rom, Store,
-    Taken, Vec, World, draw_trace, log_trace,
+    Taken, World, draw_trace, log_trace,
 };
 
 /// Rust's heap, whose requests are counted while `COUNTS` is set.

@@ -2,10 +2,11 @@
 use std::fmt::Debug;
 use std::process::ExitCode;
 
+use gerbilargent::alloc::{Box, Vec};
 use gerbilargent::{
-    Action, Area, Beam, Box, Code, CodeFault, Counters, Draft, DraftFull, DriverFault, Entry,
-    Event, FrameFault, GenFault, Global, Half, Image, Instr, Listed, MemFault, Move, Op, OpKind,
-    OutOfMemory, Place, Rom, Stroke, Vec,
+    Action, Area, Beam, Code, CodeFault, Counters, Draft, DraftFull, DriverFault, Entry, Event,
+    FrameFault, GenFault, Global, Half, Image, Instr, Listed, MemFault, Move, Op, OpKind,
+    OutOfMemory, Place, Rom, Stroke,
 };
 use serde::Serialize;
 use serde::de::DeserializeOwned;

@@ -3,12 +3,31 @@
 use std::collections::HashSet;
 use std::error::Error;
 
+use gerbilargent::alloc::{AllocError, AllocFailed, Vec};
 use gerbilargent::{
-    Action, AllocError, AllocFailed, BadCode, BadOp, Code, CodeFault, Draft, DraftFull, Driver,
-    DriverFault, Entry, Flat, FrameFault, GenFault, Generator, Global, Image, Instr, Judge,
-    MemFault, MomentJudge, Op, OpKind, OutOfMemory, Rom, Stopped, Stroke, Vec, World,
-    WrappingGenerator, dump, read, sketch,
+    Action, BadCode, BadOp, Code, CodeFault, Draft, DraftFull, Driver, DriverFault, Entry, Flat,
+    FrameFault, GenFault, Generator, Global, Image, Instr, Judge, MemFault, MomentJudge, Op,
+    OpKind, OutOfMemory, Rom, Stopped, Stroke, World, WrappingGenerator, dump, read, sketch,
 };
+
+/// All names of the crate at once leave std's as they are, and so does the prelude.
+mod all_names {
+    use gerbilargent::*;
+    use std::error::Error;
+
+    pub fn draws_nothing() -> Result<Vec<Box<dyn Error>>, Box<dyn Error>> {
+        let mut errors: Vec<Box<dyn Error>> = Vec::new();
+        let world = World::<Flat>::new(Global, Rom::new(Global, &[0; 2048])?, &zeros()?)?;
+        errors.extend(vec![1, 2].iter().filter(|one| **one > 2).map(|_| Box::from("none")));
+        assert!(world.picture().is_empty());
+        Ok(errors)
+    }
+
+    fn zeros() -> Result<Image, String> {
+        use gerbilargent::prelude::*;
+        Image::new(Global, &[0; 2048]).map_err(|_| String::from("refused"))
+    }
+}
 
 /// A frame of one vector. None where a field is out of its range, or the draft is full.
 fn one_vector() -> Option<Draft> {
@@ -87,7 +106,7 @@ fn count() -> Result<usize, Box<dyn Error>> {
     }
     assert!(vector == [2, 4, 6, 8, 10] && vector.clone() == vector && Vec::<u8>::default() == []);
     assert_eq!(Vec::from(vec![2, 4, 6, 8, 10]), vector);
-    assert!(gerbilargent::AllocFailed(3).to_string() == "out of memory");
+    assert!(AllocFailed(3).to_string() == "out of memory");
     Ok(std::vec::Vec::from(vector).len())
 }
 
@@ -135,6 +154,7 @@ fn convert() -> Result<(), Box<dyn Error>> {
 fn main() -> Result<(), Box<dyn Error>> {
     convert()?;
     copy()?;
+    assert!(all_names::draws_nothing()?.is_empty());
     println!("{:?} {}", draw()?, count()?);
     Ok(())
 }

@@ -8,8 +8,7 @@
 //! picture.
 //!
 //! ```
-//! use gerbilargent::{Action, Code, Draft, Entry, Flat, Global, Image, Instr, Op, OpKind};
-//! use gerbilargent::{Rom, World};
+//! use gerbilargent::prelude::*;
 //!
 //! # fn draw() -> Option<()> {
 //! let mut draft = Draft::new();
@@ -44,11 +43,23 @@ pub use dvg_gen::*;
 pub use dvg_mem::*;
 pub use dvg_moment::*;
 pub use dvg_world::*;
-pub use plain_std::alloc::{AllocError, AllocFailed, Allocator, Box, Global, Vec};
+pub use plain_std::alloc::Global;
 
-/// The crate by which an allocator of one's own is written.
-#[cfg(feature = "allocator-api2")]
-pub use plain_std::alloc::allocator_api2;
+/// Allocators, what they refuse by, and the vector and the box that name theirs. They stand apart,
+/// so that `use gerbilargent::*` leaves std's `Vec` and `Box` as they are.
+pub mod alloc {
+    pub use plain_std::alloc::{AllocError, AllocFailed, Allocator, Box, Global, Vec};
+
+    /// The crate by which an allocator of one's own is written.
+    #[cfg(feature = "allocator-api2")]
+    pub use plain_std::alloc::allocator_api2;
+}
+
+/// The names that a first program needs: `use gerbilargent::prelude::*`.
+pub mod prelude {
+    pub use crate::{Action, Code, Draft, Driver, Entry, Event, Flat, Generator, Global, Image};
+    pub use crate::{Instr, Judge, MomentJudge, Op, OpKind, Rom, Stroke, World};
+}
 
 /// What a dump of the vector memory draws.
 pub use dvg_dump as dump;
