@@ -3,12 +3,19 @@
 #
 # Whether something is built of the sources that are there is told by their content. Beside what is
 # built lies a file with the ending `.sources`: a digest of the sources, and one of what was built.
+# What is built of them is taken before a tool is looked for.
+#
+# Variables that count: BUILD is the folder of all that is built of the plain form, where the tree
+# can't be written. CC, CFLAGS, CPPFLAGS, LDFLAGS and RUSTFLAGS are those of the compilers, and
+# TARGET is the one of ./lib, by its name in Rust. With others of these it is built anew.
 
 program=$top/crates/dvg/out/dvg
 library=$top/crates/dvg_c/out/libdvg_c.a
 plain=$top/plain
 # The plain form of the sources that are there, and what cargo builds of it.
-workspace=$plain/target/made
+plain_built=${BUILD:+$(mkdir -p "$BUILD" && readlink -f "$BUILD")/plain}
+plain_built=${plain_built:-$plain/target}
+workspace=$plain_built/made
 target=$workspace/target
 
 # The name by which a program that is linked with the shared library looks for it, and the version
@@ -155,6 +162,21 @@ digest_of_plain() {
         plain/stand_in
 }
 
+# The variables that say how something is built, where any is set.
+flags() {
+    local name
+    for name in CC CFLAGS CPPFLAGS LDFLAGS RUSTFLAGS CARGO_ENCODED_RUSTFLAGS TARGET; do
+        [ -z "${!name-}" ] || printf '%s=%s\n' "$name" "${!name}"
+    done
+}
+
+# The digest of all that the plain form is made of, and of how.
+digest_of_build() {
+    local set_flags
+    set_flags=$(flags)
+    echo "$(digest_of_plain)${set_flags:+-$(digest <<<"$set_flags")}"
+}
+
 # Whether a file is there and is built of the sources of this digest.
 is_of() {
     [ -r "$1" ] && [ -r "$1.sources" ] && [ "$(cat "$1.sources")" = "$2 $(digest <"$1")" ]
@@ -202,8 +224,8 @@ run_guarded() {
 # Waits until no other script builds, and keeps others from it until `unlock` or the end.
 lock() {
     has flock || return 0
-    mkdir -p "$plain/target"
-    exec 9>"$plain/target/lock"
+    mkdir -p "$plain_built"
+    exec 9>"$plain_built/lock"
     run_guarded flock 9
 }
 
@@ -211,29 +233,32 @@ unlock() {
     exec 9>&-
 }
 
-# Builds a crate of the workspace: the arguments are the profile and the crate.
+# Builds a crate of the workspace: the arguments are the profile, the crate, and more options.
 run_cargo() {
     run_guarded env -u CARGO_BUILD_TARGET cargo build --offline --locked --quiet \
-        --target-dir "$target" --manifest-path "$workspace/Cargo.toml" --profile "$1" -p "$2" >&2
+        --target-dir "$target" --manifest-path "$workspace/Cargo.toml" --profile "$1" -p "$2" \
+        "${@:3}" >&2
 }
 
 # Builds the plain form of a crate by cargo, and says once that this is done. The arguments are the
-# profile, the crate, what it is, and what proves it.
+# profile, the crate, what it is, what proves it, and more options of cargo.
 build_plain() {
     say "building $3 by cargo, in seconds: it is the same code, not proved on this machine"
     say "$4 proves it, in some 17 minutes"
     run_guarded "$plain/generate" --to "$workspace" >&2 ||
         give_up 'the plain form of the sources could not be made'
-    run_cargo "$1" "$2" ||
-        give_up "$3 could not be built: it wants Rust 1.87 or later"
+    run_cargo "$1" "$2" "${@:5}" ||
+        give_up "$3 could not be built: cargo says why, above; Rust 1.87 or later is wanted"
 }
 
-# Builds the plain program, where that isn't done, and sets `found` to it.
+# Builds the plain program, where that isn't done, and sets `found` to it. Fails where there is none
+# of these sources, and no cargo.
 find_plain() {
     local sources
     found=$target/quick/dvg
-    sources=$(digest_of_plain)
+    sources=$(digest_of_build)
     is_of "$found" "$sources" && return
+    has cargo || return
     lock
     if ! is_of "$found" "$sources"; then
         build_plain quick dvg 'the program' ./prove
@@ -243,17 +268,15 @@ find_plain() {
 }
 
 # Sets `found` to the program that ./dvg runs: the proved one, where it was proved of the sources
-# that are there; else the plain one; and where there is no cargo, the proved one again, which is
-# then proved first.
+# that are there; else the plain one, which is built where it isn't of them; and where there is no
+# cargo, the proved one again, which is then proved first.
 find_program() {
     found=$program
     if [ -x "$program" ] && is_of "$program" "$(digest_of_proofs)"; then
         return
     fi
-    if has cargo; then
-        find_plain
-        return
-    fi
+    find_plain && return
+    found=$program
     has rt || give_up_without_tools
     run_guarded "$top/prove" >&2 || exit
 }
