@@ -1,7 +1,8 @@
 """The README.md of each crate beside the crate's sources, for tests/documents. Each crate has one,
 of at most 16 lines. What it names is there: a contract, in a line '- `NAME` (`CLAUSE`, .., FILE):',
 is a function of that file with these clauses; a name `A::B` is a function of the crate A, or of a
-type or a module A; and a path is one of the crate, or of the one that is named before it."""
+type or a module A; and a path is one of the crate, or of the one that is named before it, or of
+the repository."""
 
 import glob
 import os
@@ -14,6 +15,9 @@ CONTRACTS = 3
 CONTRACT = re.compile(r"(?m)^- `([\w:]+)` \(((?:`\w+`, )*)([\w/.]+)\):")
 NAME = re.compile(r"`(\w+(?:::\w+)+)`")
 PATH = re.compile(r"(?:(\w+)'s )?(?<![\w/])((?:src|specs|proofs)/[\w/.]*\w)")
+# Folders at the top whose files a page may name.
+FOLDERS = ["bench", "core", "docs", "include", "tests"]
+FILE = re.compile(rf"(?<![\w/])((?:{'|'.join(FOLDERS)})/[\w/.]*\w)")
 
 
 def read(path):
@@ -22,8 +26,10 @@ def read(path):
 
 
 def read_files(top, crates):
-    """The texts of all sources of these crates, and the names of their definitions and proofs."""
-    texts = {}
+    """The texts of all sources of these crates, and the names of their definitions and proofs, and
+    of the files of FOLDERS."""
+    texts = {os.path.relpath(path, top): "" for folder in FOLDERS
+             for path in glob.glob(f"{top}/{folder}/**/*", recursive=True)}
     for crate in crates:
         folder = f"{top}/crates/{crate}"
         for path in glob.glob(f"{folder}/**/*", recursive=True):
@@ -85,6 +91,7 @@ def wrong_paths(files, crate, page):
     for owner, path in PATH.findall(page):
         if f"{owner or crate}/{path}" not in files:
             yield f"there is no {owner or crate}/{path}"
+    yield from (f"there is no {path}" for path in FILE.findall(page) if path not in files)
 
 
 def differences(crates, pages, files, counts):
@@ -118,6 +125,7 @@ PLANTED = [
     ("a function of another crate", "dvg", "`dvg_tool::perform`", "`dvg_args::perform`"),
     ("a file that isn't there", "dvg_read", "specs/Texts.antt", "specs/Text.antt"),
     ("a file of another crate", "dvg_theorem", "dvg_log's specs", "dvg_gen's specs"),
+    ("a case that isn't there", "dvg_code", "tests/cases/list.md", "tests/cases/lists.md"),
 ]
 
 
