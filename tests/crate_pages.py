@@ -94,21 +94,25 @@ def wrong_paths(files, crate, page):
     yield from (f"there is no {path}" for path in FILE.findall(page) if path not in files)
 
 
+def page_differences(crates, crate, page, files, count):
+    """What is wrong with the page of a crate, which has this many public functions with clauses.
+    `crates` are those that a name may begin with."""
+    if not page.startswith(f"# {crate}\n"):
+        yield "it has no README.md of its name"
+    if page.count("\n") > MOST_LINES:
+        yield f"it has more than {MOST_LINES} lines"
+    if len(CONTRACT.findall(page)) < min(CONTRACTS, count):
+        yield "it has too few contracts"
+    yield from wrong_contracts(files, crate, page)
+    yield from wrong_names(files, crates, page, crate)
+    yield from wrong_paths(files, crate, page)
+
+
 def differences(crates, pages, files, counts):
     """What is wrong with the pages of these crates. Of those that have contracts, `counts` says how
     many public functions they have."""
-    found = []
-    for crate in crates:
-        page = pages[crate]
-        wrong = [] if page.startswith(f"# {crate}\n") else ["it has no README.md of its name"]
-        if page.count("\n") > MOST_LINES:
-            wrong.append(f"it has more than {MOST_LINES} lines")
-        if len(CONTRACT.findall(page)) < min(CONTRACTS, counts.get(crate, 0)):
-            wrong.append("it has too few contracts")
-        wrong += [*wrong_contracts(files, crate, page), *wrong_names(files, crates, page, crate),
-                  *wrong_paths(files, crate, page)]
-        found += [f"crates/{crate}/README.md: {what}" for what in wrong]
-    return found
+    return [f"crates/{crate}/README.md: {what}" for crate in crates for what in
+            page_differences(crates, crate, pages[crate], files, counts.get(crate, 0))]
 
 
 # Mistakes in a page: the crate, what stands there, and what is put in its place.
@@ -130,12 +134,11 @@ PLANTED = [
 
 
 def missed_mistakes(crates, pages, files, counts):
-    """The planted mistakes that aren't found, or change nothing. Each makes a page wrong in one way
-    more."""
+    """The planted mistakes that aren't found, or change nothing."""
     missed = []
     for what, crate, before, after in PLANTED:
-        turned = {**pages, crate: pages[crate].replace(before, after)}
-        found = differences([crate], turned, files, counts)
-        if turned == pages or not found:
+        turned = pages[crate].replace(before, after)
+        found = list(page_differences(crates, crate, turned, files, counts.get(crate, 0)))
+        if turned == pages[crate] or not found:
             missed.append(what)
     return missed
