@@ -55,7 +55,7 @@ impl<'s, 'r, 'a, A: Allocator + Copy> Model for LaidNames<'s, 'r, 'a, A> {
     ghost view = { λ named. named.sections.now };
 
     ghost invariant = { λ named.
-      Tells (IsAddress (laid_sections named.sections.now)) named.addresses };
+        Tells (IsAddress (laid_sections named.sections.now)) named.addresses };
 }
 
 impl<'s, 'r, 'a, A: Allocator + Copy> LaidNames<'s, 'r, 'a, A> {
