@@ -13,13 +13,13 @@ use Rattle.dvg_io.specs.declared.fault.ToolFault.TheVariants.{Text, Reader, Writ
 use Rattle.dvg_io.specs.Watching.{BeginsToWrite}
 use Rattle.dvg_io.proofs.Known.{Appends-trans}
 use Rattle.dvg_io.proofs.Went.{second_begun}
-use Rattle.dvg_logs.specs.AllTears.{AllTakes, AllTears, AreSaid, AreTears, EndsAll, IsTear, JudgesAll, of_all, texts_of}
+use Rattle.dvg_logs.specs.AllTears.{AllTakes, AllTears, AreSaid, AreTears, EndsAll, IsTear, JudgesAll, TellsAs, of_all, texts_of}
 use Rattle.dvg_logs.specs.LogReading.{GoesOn, HasJudged, HasRead, StopsAt, number_of}
 use Rattle.dvg_logs.specs.LogTexts.{IsFoundAt, IsWhole}
 use Rattle.dvg_logs.specs.MomentLines.{StandsSo}
 use Rattle.dvg_logs.specs.MomentLogs.{AreDecided, Decides, Ends}
 use Rattle.dvg_logs.specs.Tears.{TakesUpTo}
-use Rattle.dvg_logs.specs.Telling.{EndsSo, EndsWhole, HasTold, IsTold, TellsAs, TellsLast, TellsTear, failed_by}
+use Rattle.dvg_logs.specs.Telling.{EndsSo, EndsWhole, HasTold, IsTold, TellsLast, TellsTear, failed_by}
 use Rattle.dvg_logs.specs.declared.log_reading.JudgedLines.{JudgedLines}
 use Rattle.dvg_logs.specs.declared.log_reading.LogReading.{LogReading}
 use Rattle.dvg_logs.specs.declared.moment_lines.MomentLines.{MomentLines}

@@ -87,3 +87,19 @@ AllTakes base (Err (Text fault)) input old new = TakesAtFault fault input old ne
 AllTakes base (Err Writer) input old new = (tears : List MomentVerdict) × (one : MomentVerdict) × (decided : Option ℕ)
     × IsNext base input one tears decided × TakesTo decided input old new
 AllTakes base (Err _) input old new = Unit {0}
+
+-- both at once, of the same torn runs: what it answers, what it took, and what went out; so where writing fails, what was
+-- taken goes up to the line whose text failed
+abbrev pub TellsAs : (base : Option ℕ) → Result MomentVerdict ToolFault → (input : List ℕ) → (old new : Option (List ℕ))
+    → (before after : Option (List ℕ)) → Type 0
+TellsAs base (Ok verdict) input old new before after = (tears : List MomentVerdict) × (decided : Option ℕ)
+    × JudgesAll base input tears verdict decided × TakesTo decided input old new
+    × Appends before after (texts_of (verdict ∷ tears))
+TellsAs base (Err (Text fault)) input old new before after = (tears : List MomentVerdict)
+    × HasAllFault base input tears fault × TakesAtFault fault input old new × Appends before after (texts_of tears)
+TellsAs base (Err Reader) input old new before after = (tears : List MomentVerdict) × AreTears tears
+    × ((n : ℕ) × AreSaid base tears (lines input) n) × Appends before after (texts_of tears)
+TellsAs base (Err Writer) input old new before after = (tears : List MomentVerdict) × (one : MomentVerdict)
+    × (decided : Option ℕ) × IsNext base input one tears decided × TakesTo decided input old new
+    × BeginsToWrite (texts_of (one ∷ tears)) before after
+TellsAs base (Err Memory) input old new before after = ⊥

@@ -8,11 +8,10 @@ use Rattle.dvg_print.specs.MomentVerdicts.{moment_verdict_text}
 use Rattle.dvg_io.specs.declared.fault.ToolFault.{ToolFault}
 use Rattle.dvg_io.specs.declared.fault.ToolFault.TheVariants.{Text, Reader, Writer, Memory}
 use Rattle.dvg_io.specs.Watching.{BeginsToWrite, one_more}
-use Rattle.dvg_logs.specs.AllTears.{AreSaid, AreTears, HasAllFault, IsNext, IsTear, JudgesAll, texts_of}
+use Rattle.dvg_logs.specs.AllTears.{AreTears, IsTear, JudgesAll, texts_of}
 use Rattle.dvg_logs.specs.LogReading.{HasJudged, HasRead, StopsAt, number_of}
 use Rattle.dvg_logs.specs.MomentLines.{StandsSo}
 use Rattle.dvg_logs.specs.MomentLogs.{AreDecided, Decides}
-use Rattle.dvg_logs.specs.Tears.{TakesAtFault, TakesTo}
 use Rattle.dvg_logs.specs.declared.log_reading.LogStop.{LogStop}
 use Rattle.dvg_logs.specs.declared.log_reading.LogStop.TheVariants.{Found, Syntax, TooLong}
 use Rattle.dvg_logs.specs.declared.tears_all.Telling.{Telling}
@@ -89,18 +88,3 @@ IsToldAnswer (Err _) = ⊥
 abbrev pub failed_by : Option (Result MomentVerdict ToolFault) → ℕ → ℕ
 failed_by (Some (Err Writer)) old = one_more old
 failed_by _ old = old
-
--- the answer to an input, what went out, and what was taken
-abbrev pub TellsAs : (base : Option ℕ) → Result MomentVerdict ToolFault → (input : List ℕ) → (old new : Option (List ℕ))
-    → (before after : Option (List ℕ)) → Type 0
-TellsAs base (Ok verdict) input old new before after = (tears : List MomentVerdict) × (decided : Option ℕ)
-    × JudgesAll base input tears verdict decided × TakesTo decided input old new
-    × Appends before after (texts_of (verdict ∷ tears))
-TellsAs base (Err (Text fault)) input old new before after = (tears : List MomentVerdict)
-    × HasAllFault base input tears fault × TakesAtFault fault input old new × Appends before after (texts_of tears)
-TellsAs base (Err Reader) input old new before after = (tears : List MomentVerdict) × AreTears tears
-    × ((n : ℕ) × AreSaid base tears (lines input) n) × Appends before after (texts_of tears)
-TellsAs base (Err Writer) input old new before after = (tears : List MomentVerdict) × (one : MomentVerdict)
-    × (decided : Option ℕ) × IsNext base input one tears decided × TakesTo decided input old new
-    × BeginsToWrite (texts_of (one ∷ tears)) before after
-TellsAs base (Err Memory) input old new before after = ⊥

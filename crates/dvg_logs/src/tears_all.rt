@@ -1,7 +1,7 @@
 //! The engine `torn --moments --all`.
 ghost use Rattle.std.specs.Prelude.{◌≡◌, ◌↔◌, ◌≤◌, IfSome, IsErrOf, IsTrue};
 ghost use Rattle.dvg_io.specs.Watching.{failures_of, stream_of};
-ghost use Rattle.dvg_logs.specs.AllTears.{AllTakes, AllTears, IsTear, of_all};
+ghost use Rattle.dvg_logs.specs.AllTears.{AllTakes, AllTears, IsTear, TellsAs, of_all};
 
 use crate::judging::PIECE;
 use crate::log_reading::{LogReading, LogStop};
@@ -221,6 +221,12 @@ pub fn torn_all<R: Read, W: Write>(
     ensures took { IfSome (R.remaining (stream_of reader.old)) (λ input.
         AllTakes base result input (R.remaining (stream_of reader.old))
         (R.remaining (stream_of reader.new))) }
+
+    // Both at once: what went out and what was taken are of the same torn runs.
+    ensures tells { IfSome (R.remaining (stream_of reader.old)) (λ input.
+        TellsAs base result input (R.remaining (stream_of reader.old))
+        (R.remaining (stream_of reader.new)) (W.contents (stream_of writer.old))
+        (W.contents (stream_of writer.new))) }
 
     // Whatever the reader and the writer are.
     ensures no_memory { ¬ IsErrOf result ToolFault.Memory }
