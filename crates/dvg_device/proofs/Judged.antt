@@ -1,23 +1,33 @@
 -- What a judge says of a line that it was told.
-use Rattle.std.proofs.Common.{◌≡◌, ◌≢◌, ℕ, ◌∷◌, Bool, false, Option, Some, None, refl, sym, ◌∙◌, subst}
+use Rattle.std.proofs.Common.{◌≡◌, ◌≢◌, ℕ, ◌+◌, ◌*◌, ◌/◌, ◌∷◌, Bool, false, Option, Some, None, refl, sym, ◌∙◌, subst}
 use Rattle.std.specs.Prelude.{IsTrue, ◌↔◌}
 use Rattle.std.proofs.lemmas.Bool.{false≢true}
 use Rattle.std.proofs.lemmas.Option.{none-some}
 use Rattle.dvg_log.specs.Entries.{Shown}
 use Rattle.dvg_log.specs.Events.{Happening}
-use Rattle.dvg_log.specs.Log.{Line, ◌⟼◌, Log}
+use Rattle.dvg_log.specs.declared.entry.Entry.TheVariants.{Fetched, Done}
+use Rattle.dvg_log.specs.Log.{Line, ◌⟼◌, Log, waiting}
 use Rattle.dvg_moment.specs.declared.judge.MomentJudge.{MomentJudge}
 use Rattle.dvg_moment.specs.Judging.{StandsAfter}
-use Rattle.dvg_moment.specs.Moment.{reads}
+use Rattle.dvg_moment.specs.Moment.{reads, waits, Contradicts}
+use Rattle.dvg_moment.proofs.Reading.{high_reads}
 use Rattle.dvg_device.specs.declared.reply.Reply.{Reply}
 use Rattle.dvg_device.specs.declared.reply.Reply.TheVariants.{Judged}
 use Rattle.dvg_device.specs.declared.reply.RunState.{RunState}
 use Rattle.dvg_device.specs.Judges.{IsJudged, IsTold, IsWrong, RunIs, Says, StandsNow}
 
--- a line that reads nothing isn't wrong
+-- what reads nothing contradicts nothing
+silent : (log : Log) (entry : Shown) → ((a : ℕ) → reads log entry a ≡ None) → ¬ Contradicts log entry
+silent log (Fetched address word) none c =
+    none-some (word / 256) (sym (none (2 * address + 1)) ∙ high_reads (waits (waiting log) address) address word)
+silent log (Done address word drew) none c =
+    none-some (word / 256) (sym (none (2 * address + 1)) ∙ high_reads (waits (waiting log) address) address word)
+silent log entry none c = none-some c.1 (sym (none c.0) ∙ c.4)
+
+-- so it isn't wrong
 pub reads_nothing : (log : Log) (event : Happening) (entry : Shown) → ((a : ℕ) → reads log entry a ≡ None)
     → IsTrue false ↔ IsWrong log (event ⟼ entry)
-reads_nothing log event entry none = ((λ f. absurd (false≢true f)), λ c. absurd (none-some c.1 (sym (none c.0) ∙ c.4)))
+reads_nothing log event entry none = ((λ f. absurd (false≢true f)), λ c. absurd (silent log entry none c))
 
 -- no run is open where it isn't that one is
 pub none_of : {A : Type 0} (there : Option A) → ¬ (there ≢ None) → there ≡ None

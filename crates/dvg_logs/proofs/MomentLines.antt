@@ -13,7 +13,7 @@ use Rattle.dvg_logs.specs.declared.log_line.LogLine.{LogLine}
 use Rattle.dvg_logs.specs.declared.log_line.LogLine.TheVariants as code
 use Rattle.dvg_log.specs.Log.{◌⟼◌, Line, Log, open_run}
 use Rattle.dvg_moment.specs.Judging.{IsTorn}
-use Rattle.dvg_moment.specs.Moment.{Contradicts, OfOneMoment, reads, told}
+use Rattle.dvg_moment.specs.Moment.{OfOneMoment, reads, told}
 use Rattle.dvg_moment.proofs.Latest.{past_on, still_of_one, torn_on}
 use Rattle.dvg_print.specs.declared.moment_verdict.Reading.{Reading}
 use Rattle.dvg_print.specs.declared.moment_verdict.Reading.TheVariants as of
@@ -112,10 +112,6 @@ halted_on line log false count is so few = so ∙ sym (halted_same line log (sym
 
 pub judged_on : (line : Line) (log : Log) (halts read before : Bool) → halts ≡ halts_run line log → read ≡ has_read log → before ≡ has_judged log → ((halts && read) || before) ≡ has_judged (line ∷ log)
 judged_on line log halts read before is has so = rw (is, has, so) refl
-
--- what reads nothing contradicts nothing
-pub silent_sound : (log : Log) (entry : Shown) → ((a : ℕ) → reads log entry a ≡ None) → ¬ Contradicts log entry
-silent_sound log entry none is = none-some is.1 (sym (none is.0) ∙ is.4)
 
 -- ---- what is said of lines that decide
 
