@@ -36,8 +36,8 @@ pub enum MomentVerdict {
         line: usize,
         reading: Reading,
     },
-    /// This line read another byte than the log told last: its number, counted from 1, and what it
-    /// read.
+    /// This line read another byte than the log told last of it, of the RAM, of the ROM, or of the
+    /// low byte that was told of this very word: its number, counted from 1, and what it read.
     Contradicts {
         line: usize,
         reading: Reading,
