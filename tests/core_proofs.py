@@ -21,7 +21,8 @@ from importlib.util import module_from_spec, spec_from_loader
 import texts
 
 CELLS = {"dvg_core": "specs/Core.antt", "dvg_board": "specs/Board.antt"}
-LAWS = {"dvg_core": ["core_refines"], "dvg_board": ["board_keeps", "board_answers"]}
+LAWS = {"dvg_core": ["core_refines"],
+        "dvg_board": ["board_keeps", "board_answers", "board_shows"]}
 
 
 def load(name):

@@ -1,4 +1,4 @@
-use Rattle.std.proofs.lemmas.List.Elements.{All_from_recursion}
+use Rattle.std.proofs.lemmas.List.Elements.{All-from_recursion}
 use Rattle.dvg_device.specs.Laws.{Fits}
 use Rattle.dvg_device.specs.States.{parts_of, word_of}
 use Rattle.dvg_device.proofs.Restored.{all_fit}
@@ -12,4 +12,4 @@ pub returns-clause-passed : goal.returns-clause-passed
 returns-clause-passed c = λ part fits. passed_on (word_of part) (word_small part fits)
 
 pub returns-clause-fit : goal.returns-clause-fit
-returns-clause-fit c = λ machine can. All_from_recursion Fits (parts_of machine) (all_fit machine can)
+returns-clause-fit c = λ machine can. All-from_recursion Fits (parts_of machine) (all_fit machine can)
