@@ -34,6 +34,7 @@ use Rattle.dvg_6502.specs.Calls.{Routine, Call, IsSession, IsSessionBy, Brings, 
 use Rattle.dvg_6502.proofs.Sessions.{calls_live}
 use Rattle.dvg_core.specs.Core.{halted}
 use Rattle.dvg_board.specs.Board.{Board, Bus, q, clock}
+use Rattle.dvg_board.specs.Answers.{AnswersNext}
 use Rattle.dvg_board.specs.Clocks.{IsBus, IsServed, after, reads, writes, sends, looks, changes}
 use Rattle.dvg_board.specs.Logs.{did, answered, FitsIf, IsBoard, powers, clocks, tests, acts, HoldsRam}
 use Rattle.dvg_board.proofs.Board.{changes_ram}
@@ -684,6 +685,9 @@ shared R image held list log older on = by list (runs_of on).known
     by [] k = tt
     by (call ∷ olds) k = λ a small.
         call_ram call olds k.session a small ∙ k.shares a small ∙ sym (memory R image held list log older on a small)
+
+pub answers : OfEachMachine (λ R image held list log older. AnswersNext image held log older)
+answers R image held list log older on = system.answers R image held log older (runs_of on).board
 
 pub accepted : OfEachMachine (λ R image held list log older. AcceptsPublished R log)
 accepted R image held list log older on F is = published_accepts R image log F (legal R image held list log older on) is

@@ -21,6 +21,7 @@ use Rattle.dvg_core.specs.Core.{halted}
 use Rattle.dvg_6502.specs.Processor.{Access}
 use Rattle.dvg_6502.specs.Routines.{Shows}
 use Rattle.dvg_board.specs.Board.{Bus, takes, q, clock}
+use Rattle.dvg_board.specs.Answers.{AnswersNext}
 use Rattle.dvg_board.specs.Fetches.{entry}
 use Rattle.dvg_board.specs.Clocks.{IsBus, IsServed, after, reads, writes, sends, looks, changes}
 use Rattle.dvg_board.specs.Logs.{Driver, did, answered, FitsIf, IsSilent, IsBoard, powers, clocks, tests, acts, FitsScript, HoldsRam}
@@ -172,6 +173,9 @@ headline R image held log older on = board.keeps_headline R image held log older
 
 pub memory : OfEachSystem (λ R image held log older. HoldsRam image held log older)
 memory R image held log older on = board.memory R image held log older (keeps_script on)
+
+pub answers : OfEachSystem (λ R image held log older. AnswersNext image held log older)
+answers R image held log older on = answers_next R image held log older (keeps_script on)
 
 flag_is : (closed : Bool) → closed ≡ not (nat_le 128 (if closed then 0 else 128))
 flag_is true = refl

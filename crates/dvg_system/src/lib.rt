@@ -5,6 +5,7 @@
 ghost use Rattle.dvg_log.specs.Headline.{KeepsHeadline};
 ghost use Rattle.dvg_log.specs.Legal.{IsLegal};
 ghost use Rattle.dvg_log.specs.Log.{Throughout, life};
+ghost use Rattle.dvg_board.specs.Answers.{AnswersNext};
 ghost use Rattle.dvg_board.specs.Clocks.{after};
 ghost use Rattle.dvg_board.specs.Logs.{HoldsRam};
 ghost use Rattle.dvg_system.specs.Example.{SomeBuilder, SomeMachine};
@@ -15,7 +16,8 @@ ghost use Rattle.dvg_system.specs.Machine.{AcceptsPublished, AreDone, HaveRam, O
 /// routines, and whose board's clocks make the processor's accesses and answer its reads: the log
 /// of these clocks is legal, each of its lines keeps the headline, and the check accepts what is
 /// published. The RAM holds what the log says. The driver's lines are what the calls do, and what
-/// they have in memory at 4000 to 47FF is the RAM.
+/// they have in memory at 4000 to 47FF is the RAM. What a read finds, by the RAM and the flag, is what
+/// the log has, and the core is served.
 pub fn machine_keeps()
     ensures legal { OfEachMachine (λ R image held calls log clocks. IsLegal R image log) }
     ensures headline { OfEachMachine
@@ -28,6 +30,8 @@ pub fn machine_keeps()
         (λ R image held calls log clocks. AreDone calls (life image log)) }
     ensures shared { OfEachMachine
         (λ R image held calls log clocks. HaveRam calls (after held clocks)) }
+    ensures answers { OfEachMachine
+        (λ R image held calls log clocks. AnswersNext image held log clocks) }
 {}
 
 /// The same holds of programs that build frames and know of no draft beforehand: where each call puts
