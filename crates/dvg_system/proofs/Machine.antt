@@ -34,15 +34,15 @@ use Rattle.dvg_6502.specs.Calls.{Routine, Call, IsSession, IsSessionBy, Brings, 
 use Rattle.dvg_6502.proofs.Sessions.{calls_live}
 use Rattle.dvg_core.specs.Core.{halted}
 use Rattle.dvg_board.specs.Board.{Board, Bus, q, clock}
-use Rattle.dvg_board.specs.Answers.{AnswersNext}
+use Rattle.dvg_board.specs.Answers.{AnswersNext, uses_ram}
 use Rattle.dvg_board.specs.Clocks.{IsBus, IsServed, after, reads, writes, sends, looks, changes}
 use Rattle.dvg_board.specs.Logs.{did, answered, FitsIf, IsBoard, powers, clocks, tests, acts, HoldsRam}
 use Rattle.dvg_board.proofs.Board.{changes_ram}
 use Rattle.dvg_board.proofs.Lines.{answered_ram, answered_life, answered_sent}
 use Rattle.dvg_system.specs.Machine
 use Rattle.dvg_system.specs.Machine.{accesses_of, begun, later, Makes, IsIdle, IsChecked, SharesRam, calls_after, with_reset, with_answer, told}
-use Rattle.dvg_system.specs.Machine.{IsMachine, OfEachMachine, AreDone, HaveRam, AcceptsPublished}
-use Rattle.dvg_system.proofs.Ram.{last_write, in_ram as ram_place, call_ram}
+use Rattle.dvg_system.specs.Machine.{IsMachine, OfEachMachine, AreDone, HaveRam, FindsRam, AcceptsPublished}
+use Rattle.dvg_system.proofs.Ram.{last_write, in_ram as ram_place, call_ram, call_finds}
 use Rattle.dvg_system.proofs.Published.{published_accepts}
 use Rattle.dvg_system.proofs.System as system
 use Rattle.dvg_system.proofs.System.{FitsCode, ShowsIf, made_lives, shows_next}
@@ -688,6 +688,26 @@ shared R image held list log older on = by list (runs_of on).known
 
 pub answers : OfEachMachine (λ R image held list log older. AnswersNext image held log older)
 answers R image held list log older on = system.answers R image held log older (runs_of on).board
+
+pub finds : OfEachMachine (λ R image held list log older. FindsRam list (after held older))
+finds R image held list log older on = by list on (runs_of on).known
+  where
+    by : (list : List Call) → IsMachine R image held list log older → Known R image log list
+        → FindsRam list (after held older)
+    by [] on k = tt
+    by (call ∷ olds) on k = λ n a byte small session newest bus is access write at. (
+      access,
+      write,
+      at,
+      λ next.
+          let page : bus.a / 0x800 ≡ 8 = omega arith in
+          let place : bus.a % 0x800 ≡ a = omega arith in
+          let uses : uses_ram bus ≡ true =
+          ap (λ n. not (nat_eq n 0) && nat_eq (bus.a / 0x800) 8) access ∙ ap (λ n. nat_eq n 8) page in
+          (answers R image held (call ∷ olds) log older on bus is).byte next uses write
+          ∙ ap (slice_index (ram image log)) place ∙ sym (k.shares a small)
+          ∙ sym (call_finds (later n call) olds session a byte small (accesses_of call) newest),
+    )
 
 pub accepted : OfEachMachine (λ R image held list log older. AcceptsPublished R log)
 accepted R image held list log older on F is = published_accepts R image log F (legal R image held list log older on) is

@@ -6,7 +6,7 @@ use Rattle.std.proofs.lemmas.Bool.Decides.{eqb_tells}
 use Rattle.dvg_6502.specs.Processor.{Cpu, Access, Reads, Writes, Instr, Mode, Register, Immediate, ZeroPage, ZeroPageX, Absolute, IndirectIndexed}
 use Rattle.dvg_6502.specs.Processor.{A, X, Y, Load, Store, Transfer, And, Or, Xor, Compare, TestBits, Change, Step, ShiftLeft}
 use Rattle.dvg_6502.specs.Processor.{RotateLeft, ShiftLeftA, ShiftRightA, SetCarry, Branch, Jump, Call, Return, Unknown}
-use Rattle.dvg_6502.specs.Processor.{reads, reading, writing, setting, found, operand, address, of_register, next, bit_of, stack_place}
+use Rattle.dvg_6502.specs.Processor.{flag_place, reads, reading, writing, setting, found, operand, address, of_register, next, bit_of, stack_place}
 use Rattle.dvg_6502.specs.Processor.{does, step, turn, at_return, decoded, opcodes}
 use Rattle.dvg_6502.specs.Amid.{amid, changed, AreHarmless, Guard, guards, is_kept, is_code, is_work}
 use Rattle.dvg_6502.specs.Board.{seen, is_hardware, is_ram, is_own}
@@ -26,18 +26,38 @@ is_not b a high low = elim (eqb_tells b a) [
   | inr t ↦ t.0
 ]
 
--- at a place above the stack
-module _ (b old : ℕ) (high : 0x200 ≤ b) where
+-- at a place above the stack, which isn't the flag's
+module _ (b old : ℕ) (high : 0x200 ≤ b) (other : nat_eq b flag_place ≡ false) where
+  -- each read there found what was written last
+  abbrev pub AreFound : List Access → Type 0
+  AreFound [] = Unit {0}
+  AreFound (Reads a byte ∷ log) = (a ≡ b → byte ≡ last_write log b old) × AreFound log
+  AreFound (Writes a byte ∷ log) = AreFound log
+
   abbrev Has : Cpu → Type 0
-  Has cpu = cpu.mem b ≡ last_write (seen cpu.log) b old
+  Has cpu = (cpu.mem b ≡ last_write (seen cpu.log) b old) × AreFound (seen cpu.log)
 
   seen_read : (t : Bool) (a byte : ℕ) (log : List Access)
       → last_write (if t then Reads a byte ∷ log else log) b old ≡ last_write log b old
   seen_read true a byte log = refl
   seen_read false a byte log = refl
 
+  found_read : (t : Bool) (a byte : ℕ) (log : List Access) → (a ≡ b → byte ≡ last_write log b old) → AreFound log
+      → AreFound (if t then Reads a byte ∷ log else log)
+  found_read true a byte log is are = (is, are)
+  found_read false a byte log is are = are
+
+  found_written : (t : Bool) (a byte : ℕ) (log : List Access) → AreFound log
+      → AreFound (if t then Writes a byte ∷ log else log)
+  found_written true a byte log are = are
+  found_written false a byte log are = are
+
   read_keeps : (a : ℕ) (cpu : Cpu) → Has cpu → Has (reads a cpu)
-  read_keeps a cpu h = h ∙ sym (seen_read (is_hardware a) a (found a cpu) (seen cpu.log))
+  read_keeps a cpu h = (
+    h.0 ∙ sym (seen_read (is_hardware a) a (found a cpu) (seen cpu.log)),
+    found_read (is_hardware a) a (found a cpu) (seen cpu.log)
+        (λ e. ap (λ n. found n cpu) e ∙ ap (λ (t : Bool). if t then cpu.flags 0 else cpu.mem b) other ∙ h.0) h.1,
+  )
 
   written : (t : Bool) (a byte x : ℕ) (log : List Access) → nat_le 0x200 a ≡ t → x ≡ last_write log b old
       → (if nat_eq b a then byte else x) ≡ last_write (if t then Writes a byte ∷ log else log) b old
@@ -45,7 +65,10 @@ module _ (b old : ℕ) (high : 0x200 ≤ b) where
   written false a byte x log e h = ap (λ (t : Bool). if t then byte else x) (is_not b a high e) ∙ h
 
   write_keeps : (a byte : ℕ) (cpu : Cpu) → Has cpu → Has (writing a byte cpu)
-  write_keeps a byte cpu h = written (nat_le 0x200 a) a byte (cpu.mem b) (seen cpu.log) refl h
+  write_keeps a byte cpu h = (
+    written (nat_le 0x200 a) a byte (cpu.mem b) (seen cpu.log) refl h.0,
+    found_written (nat_le 0x200 a) a byte (seen cpu.log) h.1,
+  )
 
   setting_keeps : (r : Register) (byte : ℕ) (cpu : Cpu) → Has cpu → Has (setting r byte cpu)
   setting_keeps A byte cpu h = h
@@ -98,7 +121,7 @@ module _ (b old : ℕ) (high : 0x200 ≤ b) where
   amid_keeps guard s zero others cpu is alone h = h
   amid_keeps guard s (suc n) others cpu is alone h =
       amid_keeps guard s n (λ k. others (suc k)) (turn s (changed (others 0) cpu)) is alone.1
-      (turn_keeps s (changed (others 0) cpu) (alone.0 b (is cpu.s) ∙ h))
+      (turn_keeps s (changed (others 0) cpu) (alone.0 b (is cpu.s) ∙ h.0, h.1))
 
 pub left_true : (t u : Bool) → t ≡ true → (t || u) ≡ true
 left_true true u is = refl
@@ -121,12 +144,31 @@ kept_ram : (tables : ℕ → Bool) (b : ℕ) → is_ram b ≡ true → is_kept t
 kept_ram tables b is = right_true (is_own b) _ (right_true (is_work b) _ (right_true (is_code b) _
     (left_true (is_hardware b) _ (left_true (is_ram b) _ is))))
 
+no_flag : (a : ℕ) → nat_eq (0x4000 + a) flag_place ≡ false
+no_flag a = elim (eqb_tells (0x4000 + a) flag_place) [ inl t ↦ absurd (omega (arith, t.1)) | inr t ↦ t.0 ]
+
+call_has : (call : calls.Call) (olds : List calls.Call) → IsSession (call ∷ olds) → (a : ℕ) → a < 2048
+    → ((calls.after call).mem (0x4000 + a)
+    ≡ last_write (accesses_of call) (0x4000 + a) (call.from.mem (0x4000 + a)))
+    × AreFound (0x4000 + a) (call.from.mem (0x4000 + a)) (omega arith) (no_flag a) (accesses_of call)
+call_has call olds session a small =
+    amid_keeps (0x4000 + a) (call.from.mem (0x4000 + a)) (omega arith) (no_flag a)
+    (guards (is_kept (is_table call olds)) call.from.s) call.from.s call.steps call.others call.from
+    (λ now. left_true (is_kept (is_table call olds) (0x4000 + a)) _ (kept_ram (is_table call olds) (0x4000 + a) (in_ram a small)))
+    session.2 (
+      sym (ap (λ l. last_write (seen l) (0x4000 + a) (call.from.mem (0x4000 + a))) session.0.log),
+      subst (λ l. AreFound (0x4000 + a) (call.from.mem (0x4000 + a)) (omega arith) (no_flag a) (seen l)) (sym session.0.log) tt,
+    )
+
 pub call_ram : (call : calls.Call) (olds : List calls.Call) → IsSession (call ∷ olds) → (a : ℕ) → a < 2048
     → (calls.after call).mem (0x4000 + a)
     ≡ last_write (accesses_of call) (0x4000 + a) (call.from.mem (0x4000 + a))
-call_ram call olds session a small =
-    amid_keeps (0x4000 + a) (call.from.mem (0x4000 + a)) (omega arith)
-    (guards (is_kept (is_table call olds)) call.from.s) call.from.s call.steps call.others call.from
-    (λ now. left_true (is_kept (is_table call olds) (0x4000 + a)) _ (kept_ram (is_table call olds) (0x4000 + a) (in_ram a small)))
-    session.2
-    (sym (ap (λ l. last_write (seen l) (0x4000 + a) (call.from.mem (0x4000 + a))) session.0.log))
+call_ram call olds session a small = (call_has call olds session a small).0
+
+-- what its newest read finds
+pub call_finds : (call : calls.Call) (olds : List calls.Call) → IsSession (call ∷ olds) → (a byte : ℕ) → a < 2048
+    → (log : List Access) → accesses_of call ≡ Reads (0x4000 + a) byte ∷ log
+    → byte ≡ last_write log (0x4000 + a) (call.from.mem (0x4000 + a))
+call_finds call olds session a byte small log newest =
+    (subst (AreFound (0x4000 + a) (call.from.mem (0x4000 + a)) (omega arith) (no_flag a)) newest
+    (call_has call olds session a small).1).0 refl

@@ -129,6 +129,13 @@ abbrev pub HaveRam : List Call → Board → Type 0
 HaveRam [] board = Unit {0}
 HaveRam (call ∷ calls) board = (a : ℕ) → a < 2048 → (Calls.after call).mem (0x4000 + a) ≡ board.ram a
 
+-- where the newest call reads the vector RAM next, what it finds there is on `q` in the next clock
+abbrev pub FindsRam : List Call → Board → Type 0
+FindsRam [] board = Unit {0}
+FindsRam (call ∷ calls) board = (n a byte : ℕ) → a < 2048 → IsSession (later n call ∷ calls)
+    → accesses_of (later n call) ≡ Reads (0x4000 + a) byte ∷ accesses_of call → (bus : Bus) → IsBus bus
+    → bus.access ≡ 1 → bus.write ≡ 0 → bus.a ≡ 0x4000 + a → Makes board bus (Reads (0x4000 + a) byte)
+
 -- the check accepts what is published
 abbrev pub AcceptsPublished : List ℕ → Log → Type 0
 AcceptsPublished R log = (F : List OpKind) → published log ≡ Some F → Accepts F R

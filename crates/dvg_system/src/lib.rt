@@ -10,14 +10,15 @@ ghost use Rattle.dvg_board.specs.Clocks.{after};
 ghost use Rattle.dvg_board.specs.Logs.{HoldsRam};
 ghost use Rattle.dvg_system.specs.Example.{SomeBuilder, SomeMachine};
 ghost use Rattle.dvg_system.specs.Hindsight.{HindsightKeeps};
-ghost use Rattle.dvg_system.specs.Machine.{AcceptsPublished, AreDone, HaveRam, OfEachMachine};
+ghost use Rattle.dvg_system.specs.Machine.{AcceptsPublished, AreDone, FindsRam};
+ghost use Rattle.dvg_system.specs.Machine.{HaveRam, OfEachMachine};
 
 /// For every ROM, first content of the RAM, and run of a machine whose processor calls the driver's
 /// routines, and whose board's clocks make the processor's accesses and answer its reads: the log
 /// of these clocks is legal, each of its lines keeps the headline, and the check accepts what is
 /// published. The RAM holds what the log says. The driver's lines are what the calls do, and what
-/// they have in memory at 4000 to 47FF is the RAM. What a read finds, by the RAM and the flag, is what
-/// the log has, and the core is served.
+/// they have in memory at 4000 to 47FF is the RAM: where a call reads it next, what it finds is on
+/// `q` in the clock after. What `q` gives is what the log has, and the core is served.
 pub fn machine_keeps()
     ensures legal { OfEachMachine (λ R image held calls log clocks. IsLegal R image log) }
     ensures headline { OfEachMachine
@@ -30,13 +31,15 @@ pub fn machine_keeps()
         (λ R image held calls log clocks. AreDone calls (life image log)) }
     ensures shared { OfEachMachine
         (λ R image held calls log clocks. HaveRam calls (after held clocks)) }
+    ensures finds { OfEachMachine
+        (λ R image held calls log clocks. FindsRam calls (after held clocks)) }
     ensures answers { OfEachMachine
         (λ R image held calls log clocks. AnswersNext image held log clocks) }
 {}
 
-/// The same holds of programs that build frames and know of no draft beforehand: where each call puts
-/// the words of an operation, there are the drafts that were built, with which a machine is one as
-/// above. Its clocks are the same, and its calls but for these drafts.
+/// The same holds of programs that build frames and know of no draft beforehand: where each call
+/// puts the words of an operation, there are the drafts that were built, with which a machine is one
+/// as above. Its clocks are the same, and its calls but for these drafts.
 pub fn hindsight_keeps()
     ensures { HindsightKeeps }
 {}

@@ -1,4 +1,4 @@
-use Rattle.dvg_system.proofs.Machine.{legal, headline, accepted, memory, done, shared, answers}
+use Rattle.dvg_system.proofs.Machine.{legal, headline, accepted, memory, done, shared, finds, answers}
 use Rattle.dvg_system.proofs.machine_keeps.Goals as goal
 
 pub returns : goal.returns
@@ -9,5 +9,6 @@ returns c = record {
   memory = memory;
   done = done;
   shared = shared;
+  finds = finds;
   answers = answers;
 }
