@@ -8,7 +8,7 @@ use Rattle.dvg_frame.specs.Bytes.{addressed}
 use Rattle.dvg_driver.specs.Script.{Item, word_zero}
 use Rattle.dvg_driver.specs.Place.{Place, Start, Booting, Resting, Writing, Waiting, Sending, place_of_life}
 use Rattle.dvg_driver.specs.Stands.{Stage, StandsAfter, byte1_of}
-use Rattle.dvg_6502.specs.Processor.{Cpu, Access, run}
+use Rattle.dvg_6502.specs.Processor.{Cpu, Access, run, at_return}
 use Rattle.dvg_6502.specs.Board.{IsLoaded, is_own, is_ram, is_hardware, goal_in}
 use Rattle.dvg_6502.specs.Holds.{Holds, HoldsPlace}
 use Rattle.dvg_6502.specs.Routines.{IsBusy}
@@ -18,7 +18,9 @@ use Rattle.dvg_6502.proofs.Memory.{laid, page_of, phase_is}
 use Rattle.dvg_6502.proofs.Standing.{Stood, stood_on}
 use Rattle.dvg_6502.proofs.Going.{Claim, GoesTo, stood_in, goes_as, idle_stretch, finish}
 use Rattle.dvg_6502.proofs.TickCall.{TickMakes, GoesByTicks, stood_ticks}
-use Rattle.dvg_6502.proofs.DvgRun.{run_goes}
+use Rattle.dvg_6502.proofs.TicksRun.{Leaves}
+use Rattle.dvg_6502.proofs.Growing.{same_end}
+use Rattle.dvg_6502.proofs.DvgRun.{run_spares, run_goes}
 use Rattle.dvg_6502.proofs.Offering.{not_idle}
 
 -- the driver's bytes alone matter to what is being built
@@ -166,6 +168,11 @@ module _ (q a x y s : ℕ) (n z c v : Bool) (mem flags : ℕ → ℕ) (log : Lis
       (idle_stretch s (from 0x6809) 6 begin stop life (place_now begin stop (Some frame) (laid page mem) life built) refl
       (λ tables. refl)) (returned s (run s 6 (from 0x6809)) refl refl) refl built
 
+  runs_spare : (k : ℕ) → at_return s (run s k (from 0x6809)) ≡ true
+      → Leaves s (run s k (from 0x6809)).mem (from 0x6809).mem
+  runs_spare k back b own past out not0 not1 = ap (λ (c : Cpu). c.mem b)
+      (same_end s k 6 (from 0x6809) back (returned s (run s 6 (from 0x6809)) refl refl))
+
 holds_ticks : (begin stop : ℕ) (frame : Option (ℕ × List ℕ)) (q : ℕ) (cpu : Cpu) (life : List Item) → cpu.pc ≡ 0x686A
     → holds_in begin stop frame cpu.mem life → TickMakes (holds_in begin stop frame) q cpu begin stop life
 holds_ticks begin stop None q cpu life at_pc stood =
@@ -214,3 +221,13 @@ run_goes_on k cpu begin stop (Some frame) life at_pc small built =
     subst (λ (j : Cpu). GoesTo (holds_in begin stop (Some frame)) cpu.s k j begin stop life) is
     (runs cpu.s cpu.a cpu.x cpu.y cpu.s cpu.n cpu.z cpu.c cpu.v cpu.mem cpu.flags cpu.log begin stop frame life
     (subst (λ (m : ℕ → ℕ). Built m frame life) (ap (λ (k : Cpu). k.mem) (sym is)) built) k)
+
+-- what dvg_run leaves of memory, up to its return
+pub run_leaves : (k : ℕ) (cpu : Cpu) (begin stop : ℕ) (frame : Option (ℕ × List ℕ)) (life : List Item)
+    → cpu.pc ≡ 0x6809 → cpu.s < 256 → holds_in begin stop frame cpu.mem life
+    → at_return cpu.s (run cpu.s k cpu) ≡ true → Leaves cpu.s (run cpu.s k cpu).mem cpu.mem
+run_leaves k cpu begin stop None life at_pc small stood back = run_spares k cpu begin stop life at_pc small stood back
+run_leaves k cpu begin stop (Some frame) life at_pc small built back =
+    let is = phase_is cpu 0x6809 7 at_pc built.building.phase built.loaded in
+    subst (λ (j : Cpu). at_return cpu.s (run cpu.s k j) ≡ true → Leaves cpu.s (run cpu.s k j).mem j.mem) is
+    (runs_spare cpu.s cpu.a cpu.x cpu.y cpu.s cpu.n cpu.z cpu.c cpu.v cpu.mem cpu.flags cpu.log begin stop frame life k) back

@@ -2,14 +2,14 @@
 use Rattle.std.proofs.Common.{◌≡◌, ◌≢◌, ℕ, zero, suc, inl, inr, ◌+◌, ◌-◌, ◌%◌, ◌/◌, ◌<◌, ◌≤◌, Bool, true, false, not}
 use Rattle.std.proofs.Common.{List, [], ◌∷◌, ◌++◌, refl, sym, ap, ◌∙◌, subst, arith, eqb-true}
 use Rattle.std.proofs.lemmas.Bool.{eqb-false}
-use Rattle.std.specs.Prelude.{nat_eq, nat_le, ◌⊎◌, ◌&&◌, if◌then◌else◌}
+use Rattle.std.specs.Prelude.{nat_eq, nat_le, ◌⊎◌, ◌&&◌, ◌||◌, if◌then◌else◌}
 use Rattle.std.proofs.Math.Path.{fun_ext}
 use Rattle.dvg_mem.specs.declared.half.Half.{Half}
 use Rattle.dvg_mem.specs.Areas.{other}
 use Rattle.dvg_driver.specs.Script.{Item, word_zero}
 use Rattle.dvg_driver.specs.Place.{Place, Start, Booting, Resting, Writing, Waiting, Sending, place_of_life}
 use Rattle.dvg_6502.specs.Processor.{Cpu, Access, Reads, Writes, put, run, at_return}
-use Rattle.dvg_6502.specs.Board.{IsLoaded, seen, goal_in}
+use Rattle.dvg_6502.specs.Board.{IsLoaded, seen, goal_in, is_ram}
 use Rattle.dvg_6502.specs.Amid.{is_kept, is_code, are_steady}
 use Rattle.dvg_6502.specs.Holds.{HoldsPlace, IsFeeding, publish_byte}
 use Rattle.dvg_6502.proofs.Running.{at, run_more, returned, steady_more}
@@ -18,6 +18,9 @@ use Rattle.dvg_6502.proofs.StoredByte.{phase_then}
 use Rattle.dvg_6502.proofs.Standing.{Stood}
 use Rattle.dvg_6502.proofs.Going.{Goes, Stretch, stood_in, idle_stretch, finish, go_on, append_items, append_logs, shown_both}
 use Rattle.dvg_6502.proofs.TickCall.{Turned, tick_call}
+use Rattle.dvg_6502.proofs.TicksRun.{Leaves}
+use Rattle.dvg_6502.proofs.Building.{laid_out, put_far}
+use Rattle.dvg_6502.proofs.Growing.{Splits, split, stays, same_end}
 use Rattle.dvg_6502.proofs.BurstRun.{Reaches, pc_then}
 use Rattle.dvg_6502.proofs.BurstWord as word
 use Rattle.dvg_6502.proofs.BurstWord.{Bursts}
@@ -32,6 +35,7 @@ pub record Round (q : ℕ) (cpu : Cpu) (begin stop : ℕ) (life : List Item) : T
   pub steps : ℕ
   pub some : 1 ≤ steps
   pub made : Stretch begin stop q cpu steps life
+  pub spared : Leaves q (run q steps cpu).mem cpu.mem
   pub next : (((at_return q (run q steps cpu) ≡ true) × (is_code (run q steps cpu).pc ≡ true))
       × Stood (run q steps cpu).mem begin stop (made.items ++ life))
       ⊎ ((at_return q (run q steps cpu) ≡ false)
@@ -54,7 +58,8 @@ open_here false q cpu begin stop life here = open_at q cpu 0xB1 (ap cpu.mem here
 module _ (q : ℕ) (q_small : q < 256) (cpu : Cpu) (begin stop : ℕ) (life : List Item) (steps : ℕ) (some : 1 ≤ steps)
     (made : Stretch begin stop q cpu steps life)
     (at_pc : (run q steps cpu).pc ≡ 0x6815) (at_q : (run q steps cpu).s ≡ q)
-    (stood : Stood (run q steps cpu).mem begin stop (made.items ++ life)) where
+    (stood : Stood (run q steps cpu).mem begin stop (made.items ++ life))
+    (spared : Leaves q (run q steps cpu).mem cpu.mem) where
   abbrev mid : Cpu
   mid = run q steps cpu
 
@@ -106,6 +111,9 @@ module _ (q : ℕ) (q_small : q < 256) (cpu : Cpu) (begin stop : ℕ) (life : Li
           (ap (are_steady (is_kept tables) q 1) (run_more q steps turned.steps cpu
           ∙ sym (state_is fin 0x6818 q turned.pc turned.stack turned.stood.loaded)));
     };
+    spared = λ b own not out not0 not1. ap (λ (c : Cpu). c.mem b) whole
+        ∙ sym (ap (λ (m : ℕ → ℕ). m b) (known fin.mem turned.stood.loaded)) ∙ turned.spared b own out not0 not1
+        ∙ spared b own not out not0 not1;
     next = inr (
       ap (at_return q) whole ∙ open_here true q head begin stop (items ++ life) there,
       (
@@ -137,6 +145,7 @@ module _ (q : ℕ) (q_small : q < 256) (a x y : ℕ) (n z c v : Bool) (mem flags
     steps = 4;
     some = omega arith;
     made = idle_stretch q (from 2) 4 begin stop life (stood.stage.place, stood.stands.place) refl (λ tables. refl);
+    spared = λ b own not out not0 not1. refl;
     next = inl ((returned q (run q 4 (from 2)) refl refl, refl), stood_as 2 is);
   }
 
@@ -147,6 +156,7 @@ module _ (q : ℕ) (q_small : q < 256) (a x y : ℕ) (n z c v : Bool) (mem flags
   ticks phase is pc s memory quiet steady = ticked q q_small (from phase) begin stop life 6 (omega arith)
       (idle_stretch q (from phase) 6 begin stop life (stood.stage.place, stood.stands.place) quiet steady) pc s
       (subst (λ (m : ℕ → ℕ). Stood m begin stop life) (sym memory) (stood_as phase is))
+      (λ b own not out not0 not1. ap (λ (m : ℕ → ℕ). m b) memory)
 
   -- a table is being written: a tick where its next byte is a high one, and else the loop
   abbrev told : Bool → Cpu
@@ -167,6 +177,7 @@ module _ (q : ℕ) (q_small : q < 256) (a x y : ℕ) (n z c v : Bool) (mem flags
         some = omega arith;
         made = idle_stretch q (from 0x80) 6 begin stop life (stood.stage.place, stood.stands.place) (ap (λ (k : Cpu). seen k.log) six)
             (λ tables. refl);
+        spared = λ b own not out not0 not1. ap (λ (k : Cpu). k.mem b) six;
         next = inr (ap (at_return q) six, (false, subst (λ (k : Cpu). Bursts q k begin stop life) (sym six) bursts));
       }
     where
@@ -334,6 +345,21 @@ module _ (q : ℕ) (q_small : q < 256) (a x y : ℕ) (n z c v : Bool) (mem flags
   even_after : after % 2 ≡ 0
   even_after = omega (arith, even, y_small)
 
+  -- outside of the vector RAM memory is as it was
+  word_spared : Leaves q word_end.mem low.mem
+  word_spared b own not out not0 not1 =
+      let ram = not_ram (is_ram b) _ out in
+      let one = word.one q y mem begin stop life load phase even stood in
+      let two = word.two q y mem begin stop life load phase even stood in
+      ap (λ (m : ℕ → ℕ). m b) reach.memory
+      ∙ laid_out (word.page2 q y mem begin stop life load phase even stood) (put g1 w1 (put g0 b0 mem)) mem load b own
+      (put_far g1 w1 (put g0 b0 mem) b ram two.low two.high ∙ put_far g0 b0 mem b ram one.low one.high)
+      ∙ ap (λ (m : ℕ → ℕ). m b) (known mem load)
+    where
+      not_ram : (t u : Bool) → (t || u) ≡ false → t ≡ false
+      not_ram true u is = absurd (cc)
+      not_ram false u is = refl
+
   -- more words
   goes_on : pc_then ends last ≡ 0x6822 → phase_then ends last (publish_byte set) ≡ 0x80 → Round q low begin stop life
   unfolding made
@@ -341,6 +367,7 @@ module _ (q : ℕ) (q_small : q < 256) (a x y : ℕ) (n z c v : Bool) (mem flags
     steps = reach.steps;
     some = some reach.steps reach.place;
     made = made;
+    spared = word_spared;
     next = inr (open_here false q word_end begin stop (item1 ∷ item0 ∷ life) bursts, (false, bursts));
   }
     where
@@ -365,7 +392,7 @@ module _ (q : ℕ) (q_small : q < 256) (a x y : ℕ) (n z c v : Bool) (mem flags
       (subst (λ (m : ℕ → ℕ). Stood m begin stop (item1 ∷ item0 ∷ life)) (sym reach.memory)
       (place_free after final begin stop (item1 ∷ item0 ∷ life)
       (word.final_loaded q y mem begin stop life load phase even stood) (ap (λ p. nat_eq p 0x80) is
-      ∙ not_writing set) stood2))
+      ∙ not_writing set) stood2)) word_spared
     where
       not_writing : (t : Bool) → nat_eq (publish_byte t) 0x80 ≡ false
       not_writing true = refl
@@ -418,3 +445,46 @@ pub run_goes : (k : ℕ) (cpu : Cpu) (begin stop : ℕ) (life : List Item) → c
     → Stood cpu.mem begin stop life → Goes cpu.s k cpu begin stop life
 run_goes k cpu begin stop life at_pc s_small stood =
     rounds (suc k) k (omega arith) true cpu.s cpu begin stop life s_small (at_pc, refl, stood)
+
+-- what rounds leave of memory, up to the return
+rounds_spare : (fuel k : ℕ) → k < fuel → (there : Bool) (q : ℕ) (cpu : Cpu) (begin stop : ℕ) (life : List Item) → q < 256
+    → Here there q cpu begin stop life → at_return q (run q k cpu) ≡ true → Leaves q (run q k cpu).mem cpu.mem
+rounds_spare zero k less there q cpu begin stop life q_small here back = absurd (omega arith)
+rounds_spare (suc fuel) k less there q cpu begin stop life q_small here back =
+    by (round there q cpu begin stop life q_small here) (rounds_spare fuel)
+  where
+    by : (one : Round q cpu begin stop life)
+        → ((j : ℕ) → j < fuel → (there : Bool) (q : ℕ) (cpu : Cpu) (begin stop : ℕ) (life : List Item) → q < 256
+        → Here there q cpu begin stop life → at_return q (run q j cpu) ≡ true → Leaves q (run q j cpu).mem cpu.mem)
+        → Leaves q (run q k cpu).mem cpu.mem
+    by one more = ends one.next
+      where
+        goes : (at_return q (run q one.steps cpu) ≡ false)
+            → ((there : Bool) × Here there q (run q one.steps cpu) begin stop (one.made.items ++ life))
+            → Splits k one.steps → Leaves q (run q k cpu).mem cpu.mem
+        goes unfinished next (inl within) =
+            let on = ap (λ j. run q j cpu) within.1 ∙ run_more q k within.0 cpu ∙ stays q within.0 (run q k cpu) back in
+            absurd (let e = sym unfinished ∙ ap (at_return q) on ∙ back in cc)
+        goes unfinished next (inr above) =
+            let some = one.some in
+            let same : run q k cpu ≡ run q above.0 (run q one.steps cpu) = ap (λ j. run q j cpu) above.1
+            ∙ run_more q one.steps above.0 cpu in
+            let rest = more above.0 (omega (arith, less, above.1, some)) next.0 q (run q one.steps cpu) begin stop
+            (one.made.items ++ life) q_small next.1 (sym (ap (at_return q) same) ∙ back) in
+            λ b own past out not0 not1. ap (λ (c : Cpu). c.mem b) same ∙ rest b own past out not0 not1
+            ∙ one.spared b own past out not0 not1
+
+        ends : (((at_return q (run q one.steps cpu) ≡ true) × (is_code (run q one.steps cpu).pc ≡ true))
+            × Stood (run q one.steps cpu).mem begin stop (one.made.items ++ life))
+            ⊎ ((at_return q (run q one.steps cpu) ≡ false)
+            × ((there : Bool) × Here there q (run q one.steps cpu) begin stop (one.made.items ++ life)))
+            → Leaves q (run q k cpu).mem cpu.mem
+        ends (inl done) = λ b own past out not0 not1.
+            ap (λ (c : Cpu). c.mem b) (same_end q k one.steps cpu back done.0.0) ∙ one.spared b own past out not0 not1
+        ends (inr next) = goes next.0 next.1 (split k one.steps)
+
+pub run_spares : (k : ℕ) (cpu : Cpu) (begin stop : ℕ) (life : List Item) → cpu.pc ≡ 0x6809 → cpu.s < 256
+    → Stood cpu.mem begin stop life → at_return cpu.s (run cpu.s k cpu) ≡ true
+    → Leaves cpu.s (run cpu.s k cpu).mem cpu.mem
+run_spares k cpu begin stop life at_pc s_small stood back =
+    rounds_spare (suc k) k (omega arith) true cpu.s cpu begin stop life s_small (at_pc, refl, stood) back

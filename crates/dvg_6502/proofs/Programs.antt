@@ -19,11 +19,11 @@ use Rattle.dvg_6502.specs.Routines.{Enters, Part, Put, Pair, Labs, Vector, begin
 use Rattle.dvg_6502.specs.Moves.{number, is_vector, is_short, in_256s, vector, vector_bytes}
 use Rattle.dvg_6502.specs.Calls.{Routine, Reset, Tick, Ticks, Run, Offer, Redraw, Open, Puts, Close, Call, after}
 use Rattle.dvg_6502.specs.Calls.{is_over, answer, finds_busy, is_leaving, is_taken, is_offered, entry, bounds, taken_bounds, put_on, frame_of, frame_after, Brings}
-use Rattle.dvg_6502.specs.Calls.{IsLeftAlone, IsRoomFor, Follows, UnlessReset, IsSessionBy, IsSession, TicksReturn, is_ticked, call_of}
+use Rattle.dvg_6502.specs.Calls.{IsLeftAlone, IsRoomFor, Follows, UnlessReset, IsSessionBy, IsSession, TicksReturn, RunSpares, is_ticked, call_of}
 use Rattle.dvg_6502.specs.Build.{IsPut}
 use Rattle.dvg_6502.specs.Programs.{IsLabs, Tells, renamed, with_drafts, BuildsOnly, AreBuilt, Hindsight}
 use Rattle.dvg_6502.proofs.TicksRun.{Leaves, ticks_go, ticks_return}
-use Rattle.dvg_6502.proofs.Built.{holds_in, holds_goes}
+use Rattle.dvg_6502.proofs.Built.{holds_in, holds_goes, run_goes_on, run_leaves}
 use Rattle.dvg_6502.proofs.BuildCalls.{puts_room, puts_over, close_some}
 use Rattle.dvg_6502.proofs.Sessions.{came_of, before_call, spared, unless_map}
 use Rattle.dvg_6502.proofs.VectorDraws.{vector_draws}
@@ -118,6 +118,18 @@ ticks_come_back from others (older ∷ olds) session =
       (λ b out alone. spared call (older ∷ olds) steady (session done.0).2 b alone
           ∙ leaves from.s (run from.s done.0 from).mem from.mem done.3 b out),
     )
+
+pub run_spares_rest : RunSpares
+run_spares_rest from steps others [] session back b out alone = absurd session.3.0
+run_spares_rest from steps others (older ∷ olds) session back b out alone =
+    let ends = bounds (older ∷ olds) in
+    let call = call_of Run from steps others in
+    let was = before_call call (older ∷ olds) session.3.0 session.0.loaded session.3.1 in
+    let goes = run_goes_on steps from ends.0 ends.1 (frame_of (older ∷ olds)) was.life session.0.entry session.0.s was.holds in
+    let plain = sym (came_of call (older ∷ olds) session).returned ∙ back in
+    spared call (older ∷ olds) goes.steady session.2 b alone
+    ∙ leaves from.s (run from.s steps from).mem from.mem
+    (run_leaves steps from ends.0 ends.1 (frame_of (older ∷ olds)) was.life session.0.entry session.0.s was.holds plain) b out
 
 -- the draft doesn't matter to whether a call is over
 pub busy_renamed : (routine : Routine) (G : List OpKind) (mem : ℕ → ℕ)

@@ -253,11 +253,11 @@ abbrev pub RedrawAnswers : Type 0
 RedrawAnswers = (life : List Item) → (IsAnswered Redraw false life → (has_flip life ≡ true) × IsWhole life)
     × (IsAnswered Redraw true life → has_flip life ≡ true → ¬ IsWhole life)
 
--- a byte that dvg_ticks may change: the driver's, its count, the hardware, and two of the stack below S
+-- a byte that dvg_ticks or dvg_run may change: the driver's, the count, the hardware, and two of the stack below S
 abbrev pub is_ticked : (s b : ℕ) → Bool
 is_ticked s b = is_own b || (nat_eq b 0x1F || (is_hardware b || (nat_eq b (stack_place s) || nat_eq b (stack_place (s + 255)))))
 
--- a call of dvg_ticks leaves each other byte as it was, if those who interrupt it do so
+-- the call leaves each other byte as it was, if those who interrupt it do so
 abbrev pub SparesTicked : Call → Type 0
 SparesTicked call = (b : ℕ) → is_ticked call.from.s b ≡ false
     → AreHarmless (λ now k. nat_eq k b) call.from.s call.others call.steps call.from
@@ -270,3 +270,9 @@ TicksReturn = (from : Cpu) (others : ℕ → ℕ → ℕ) (calls : List Call)
     → ((n : ℕ) → IsSession (call_of Ticks from n others ∷ calls))
     → (n : ℕ) × (has_returned (call_of Ticks from n others) ≡ true)
     × ((after (call_of Ticks from n others)).mem 0x1F ≡ 0) × SparesTicked (call_of Ticks from n others)
+
+-- where a call of dvg_run has returned, the rest of memory is spared
+abbrev pub RunSpares : Type 0
+RunSpares = (from : Cpu) (steps : ℕ) (others : ℕ → ℕ → ℕ) (calls : List Call)
+    → IsSession (call_of Run from steps others ∷ calls) → has_returned (call_of Run from steps others) ≡ true
+    → SparesTicked (call_of Run from steps others)

@@ -3,7 +3,7 @@
 //! There is no code here. Each law is the contract of a function that does nothing.
 #![tactic(auto)]
 
-ghost use Rattle.dvg_6502.specs.Calls.{CallsLive, OfferAnswers, OneLife, OpenAnswers, RedrawAnswers, TicksReturn};
+ghost use Rattle.dvg_6502.specs.Calls.{CallsLive, OfferAnswers, OneLife, OpenAnswers, RedrawAnswers, RunSpares, TicksReturn};
 ghost use Rattle.dvg_6502.specs.Decided.{CallsDecide, Decides, LabsIsPair, StaysBuilding, StaysIdle};
 ghost use Rattle.dvg_6502.specs.Programs.{Hindsight};
 ghost use Rattle.dvg_6502.specs.Joined.{BoardKeeps, SomeBuilding, SomeCalls, SomeLogs, SomeTicks};
@@ -75,6 +75,11 @@ pub fn some_calls()
 /// driver's bytes, the hardware, and two bytes of the stack.
 pub fn ticks_return()
     ensures { TicksReturn }
+{}
+
+/// A call of `dvg_run` that has returned changed at most the same bytes, also amid interrupts.
+pub fn run_spares()
+    ensures { RunSpares }
 {}
 
 /// Calls make at most one life.
