@@ -13,7 +13,7 @@ use Rattle.dvg_6502.specs.Processor.{Cpu, Access, Reads, Writes}
 use Rattle.dvg_6502.specs.Board.{seen}
 use Rattle.dvg_6502.specs.Build.{IsBuilt}
 use Rattle.dvg_6502.specs.Calls
-use Rattle.dvg_6502.specs.Calls.{Routine, Call, Brings, is_over, answer, IsSessionBy, IsLifeOf}
+use Rattle.dvg_6502.specs.Calls.{Routine, Call, Brings, is_over, answer, IsSession, IsSessionBy, IsLifeOf}
 use Rattle.dvg_board.specs.Board.{Board, Bus, q, clock}
 use Rattle.dvg_board.specs.Clocks.{IsBus, IsServed, after, sends, looks, changes}
 use Rattle.dvg_board.specs.Logs.{did, answered}
