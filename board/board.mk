@@ -84,7 +84,6 @@ build/driver.proved: build/driver.o $(BOARD)driver.cfg
 # What looks whether a program keeps to the premises of the proof, where a C compiler is here.
 build/premises: $(wildcard $(BOARD)../tests/board_*.[ch])
 	@! command -v $(CC) >/dev/null || $(CC) -O2 -o $@ $(BOARD)../tests/board_premises.c
-	@touch $@
 
 build/sketch: $(SKETCH) $(BOARD)outline.awk build/options
 	$(if $(SKETCH),awk -f $(BOARD)outline.awk $(SKETCH),echo .rom) >$@

@@ -2,9 +2,10 @@
 
     board_judge_inputs.py JUDGE OUT ROM COUNT
 
-JUDGE is judge.py, OUT a folder that judge.lua wrote into, and ROM the vector ROM. Files are cut,
-have bytes and lines changed by chance, or are missing. Each run must end with status 0, 1 or 64,
-with a line that begins with BAD or a verdict, and without a Python traceback.
+JUDGE is judge.py, OUT a folder that judge.lua wrote into, and ROM the vector ROM. Some logs are
+wrong by hand; and COUNT times files are cut, have bytes and lines changed by chance, or are missing.
+Each run must end with status 0, 1 or 64, with a line that begins with BAD or a verdict, and without
+a Python traceback.
 """
 import os
 import random
@@ -15,6 +16,10 @@ import tempfile
 
 judge, out, rom = (os.path.abspath(path) for path in sys.argv[1:4])
 count = int(sys.argv[4])
+BY_HAND = ['', '\n', 'picture\n', 'wrote FFF 00 1 \n', 'wrote 000 GG 1\n', 'ended\n',
+           'watchdog 1\n', 'reset x\n', 'ended 1\n', 'picture 1 1 0\nended 1\n',
+           'picture 1 1 0\npicture 1 1 0\nended 1\n', 'room 1\nended 1\n', 'unknown 1\nended 1\n',
+           'reset 1\nreset 2 6AF8\nended 3\n', 'wrote 001 E2 1 6AF8\npicture 1 1 1 6AF8\nended 2\n']
 FILES = ['judge.log', 'torn.log', 'pictures', 'premises', 'rom']
 chance = random.Random(1979)
 
@@ -79,6 +84,14 @@ def main():
             is_good, said = ask(folder, rate)
             if not is_good:
                 wrong.append('RATE %s: %s' % (rate, said))
+        for text in BY_HAND:
+            with open(os.path.join(folder, 'judge.log'), 'w') as file:
+                file.write(text)
+            is_good, said = ask(folder)
+            if not is_good:
+                wrong.append('%r: %s' % (text, said[-600:]))
+        with open(os.path.join(folder, 'judge.log'), 'wb') as file:
+            file.write(kept['judge.log'])
         for number in range(count):
             names = chance.sample(FILES, chance.choice((1, 1, 2)))
             for name in names:
@@ -96,7 +109,7 @@ def main():
                     file.write(kept[name])
     for text in wrong[:3]:
         print(text)
-    print('%d inputs, %d wrong' % (count, len(wrong)))
+    print('%d inputs, %d wrong' % (count + len(BY_HAND), len(wrong)))
     sys.exit(bool(wrong))
 
 

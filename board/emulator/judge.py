@@ -14,6 +14,7 @@ written from the flip before its own one on: a run reads no other word of the ve
 """
 import os
 import re
+import signal
 import subprocess
 import sys
 
@@ -382,6 +383,7 @@ def judge(out, rom_path, rate):
 
 
 def main():
+    signal.signal(signal.SIGPIPE, signal.SIG_DFL)
     if len(sys.argv) != 4 or not re.fullmatch(r'\d*\.?\d+', sys.argv[3]) or not float(sys.argv[3]):
         print('judge: OUT ROM RATE, where RATE is pictures a second', file=sys.stderr)
         sys.exit(64)

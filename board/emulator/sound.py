@@ -8,6 +8,7 @@ leave a level, which is still. Where a script ends the emulator, the sizes in th
 """
 import array
 import os
+import signal
 import struct
 import sys
 
@@ -49,6 +50,7 @@ def heights(path):
 
 
 def main():
+    signal.signal(signal.SIGPIPE, signal.SIG_DFL)
     try:
         found = heights(sys.argv[1])
     except (OSError, ValueError) as fault:
