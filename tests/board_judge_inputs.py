@@ -4,8 +4,8 @@
 
 JUDGE is judge.py, OUT a folder that judge.lua wrote into, and ROM the vector ROM. Some logs are
 wrong by hand; and COUNT times files are cut, have bytes and lines changed by chance, or are
-missing. Each run must end with status 0, 1 or 64, with a line that begins with BAD or a verdict, and without
-a Python traceback.
+missing. Each run must end with status 0, 1 or 64, with a line that begins with BAD or a verdict,
+and without a Python traceback.
 """
 import os
 import random
