@@ -52,17 +52,23 @@ COPIED = """
     struct WordBytes, struct Worklist, struct World, struct WrappingGenerator
 """
 COPIED = {tuple(item.split()) for item in COPIED.split(",")}
-# The types that serde writes and reads, some by another type, which is checked.
+# The types that serde writes and reads, some by another type, which is checked, and some that are
+# read by a form of their own, which is looked at.
 SERDE = '#[cfg_attr(feature = "serde", derive(serde::Serialize, serde::Deserialize))]'
 BY = '#[cfg_attr(feature = "serde", serde(try_from = "{0}", into = "{0}"))]'
 CHECKED = {("struct", "Code"): "Instr", ("struct", "Op"): "OpKind"}
+READ_BY = '#[cfg_attr(feature = "serde", serde(try_from = "crate::rust::{0}"))]'
+LOOKED_AT = {
+    ("enum", "Action"): "ActionForm", ("struct", "Beam"): "BeamForm",
+    ("struct", "Counters"): "CountersForm", ("enum", "Entry"): "EntryForm<S>",
+    ("enum", "FrameFault"): "FrameFaultForm", ("struct", "Move"): "MoveForm",
+    ("enum", "Place"): "PlaceForm", ("struct", "Stroke"): "StrokeForm",
+}
 KEPT = """
-    enum Action, enum Area, struct Beam, enum CodeFault, struct Counters, struct DraftFull,
-    enum DriverFault, enum Entry, enum Event, enum FrameFault, enum GenFault, enum Half, enum Instr,
-    enum Listed, enum MemFault, struct Move, enum OpKind, struct OutOfMemory, enum Place,
-    struct Stroke
+    enum Area, enum CodeFault, struct DraftFull, enum DriverFault, enum Event, enum GenFault,
+    enum Half, enum Instr, enum Listed, enum MemFault, enum OpKind, struct OutOfMemory
 """
-KEPT = {tuple(item.split()) for item in KEPT.split(",")} | CHECKED.keys()
+KEPT = {tuple(item.split()) for item in KEPT.split(",")} | CHECKED.keys() | LOOKED_AT.keys()
 # What stands at the end of a library with a file by hand beside its sources.
 BESIDE = ['#[path = "../rust.rs"]', "mod rust;", ""]
 BESIDE_WITH_ITEMS = ['#[path = "../rust.rs"]', "mod rust;", "pub use rust::*;", ""]
@@ -147,6 +153,7 @@ class Source:
         lines = f"#[derive({', '.join(missing)})]" if missing and head in COPIED else ""
         lines += SERDE if head in KEPT else ""
         lines += BY.format(CHECKED[head]) if head in CHECKED else ""
+        lines += READ_BY.format(LOOKED_AT[head]) if head in LOOKED_AT else ""
         visibility = len(self.left) - len(self.visibility())
         self.left[visibility:visibility] = words(lines)
         self.left.append(self.tokens[self.at])
