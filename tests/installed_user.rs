@@ -133,9 +133,14 @@ fn name_errors() {
     is_error::<sketch::SketchFault>();
 }
 
+/// What may go to another thread.
+fn is_send<T: Send>() {}
+
 /// What has a default, is converted and is hashed as std's types are.
 fn convert() -> Result<(), Box<dyn Error>> {
     name_errors();
+    is_send::<World<Flat>>();
+    is_send::<(Driver, Generator<Global>, WrappingGenerator<Global>, Judge, MomentJudge)>();
     let _ = (Driver::default(), Judge::default(), MomentJudge::default());
     assert!(Generator::<Global>::default().halted());
     let labs = Instr::Labs { x: 1, y: 2, scale: 3 };
