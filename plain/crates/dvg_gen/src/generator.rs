@@ -196,8 +196,8 @@ impl<A: Allocator + Copy> Generator<A> {
     }
 
     /// Brings the generator into `state`, with `strokes` as what its run drew so far, and returns
-    /// `true`. So it goes on as the one whose `state` and `strokes` these were. Nothing is said of a
-    /// run that goes on with other strokes. The picture stays as it was. Returns `false` exactly
+    /// `true`. So it goes on as the one whose `state` and `strokes` these were. Of a run that goes
+    /// on with other strokes nothing is said. The picture stays as it was. Returns `false` exactly
     /// where `state` isn't valid, and then nothing has changed.
     pub fn resume(&mut self, state: &GeneratorState, strokes: Vec<Stroke, A>) -> bool {
         if !state.is_valid() {
