@@ -18,9 +18,9 @@ pub fn core_refines()
     ensures { CoreRefines }
 {}
 
-/// The converse: each history of starts, resets, words and holes that leaves a run, by the definition
-/// of the generator, has clocks since power-up that make it. So the core can do all that the
-/// definition can.
+/// The converse: each history of starts, resets, words and holes that leaves a run, by the
+/// definition of the generator, has clocks since power-up that make it. So the core can do all that
+/// the definition can.
 pub fn has_clocks()
     ensures { HasClocks }
 {}

@@ -38,8 +38,8 @@ pub fn machine_keeps()
 {}
 
 /// The same holds of programs that build frames and know of no draft beforehand: where each call
-/// puts the words of an operation, there are the drafts that were built, with which a machine is one
-/// as above. Its clocks are the same, and its calls but for these drafts.
+/// puts the words of an operation, there are the drafts that were built, with which a machine is
+/// one as above. Its clocks are the same, and its calls but for these drafts.
 pub fn hindsight_keeps()
     ensures { HindsightKeeps }
 {}
