@@ -31,7 +31,8 @@ AT_ONCE = 100
 
 
 def line(row):
-    """A step: numbers of its memory, the opcode in hex, the state before and after, and the bytes that it writes."""
+    """A step: numbers of its memory, the opcode in hex, the state before and after, and the bytes
+    that it writes."""
     written = dict.fromkeys([(row[22], row[23]), (row[24], row[25])])
     writes = "".join(f"({place}, {byte}) ∷ " for place, byte in written if place != "65536")
     numbers = [row[0], f"0x{int(row[1]):02X}"] + row[2:22]

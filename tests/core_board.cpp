@@ -54,7 +54,8 @@ static bool in_rom(uint32_t at)
 static void choose_pins(Vdvg_board &board)
 {
     static const uint16_t others[] = {
-        0x2002, 0x2002, 0x2002, 0x3000, 0x3000, 0x3001, 0x2003, 0x3800, 0x4800, 0xA002, 0xB000, 0xC000};
+        0x2002, 0x2002, 0x2002, 0x3000, 0x3000, 0x3001,
+        0x2003, 0x3800, 0x4800, 0xA002, 0xB000, 0xC000};
     board.reset = once_in(900);
     board.hold = below(100) < hold_in_100;
     board.access = below(100) < access_in_100;
@@ -115,7 +116,8 @@ static dvg_answer tell_port(const Vdvg_board &board, dvg *port)
 }
 
 /* What this clock leaves for the next one. `event` is whether an event moves the core in it. Where
- * nothing answers a read, `q` is what it is without one: the byte that the RAM reads for the core. */
+ * nothing answers a read, `q` is what it is without one: the byte that the RAM reads for the
+ * core. */
 static void perform(const Vdvg_board &board, bool event)
 {
     bool on_ram = board.access && board.a >= 0x4000 && board.a < 0x4800;

@@ -6,11 +6,12 @@ refuses what it doesn't know.
     core_cells.py FOLDER --write       writes the clocks that the prover computes
 
 The cells are computed here, by the meaning that each kind has, over random clocks since power-up of
-dvg_core and of dvg_board. The pins after each clock must be those that Icarus Verilog has, and those of
-Verilator. Some clocks of Icarus Verilog are given to the prover, too, which computes them by the
-definition of the cells: proofs/ClockVectors.antt of both crates must be what is written here. A board
-whose pins are made of several wires is computed, too. Then texts are planted in the Verilog that
-core/cells must refuse, each by a line that says why. The last line is 'N passed, M failed'."""
+dvg_core and of dvg_board. The pins after each clock must be those that Icarus Verilog has, and
+those of Verilator. Some clocks of Icarus Verilog are given to the prover, too, which computes them
+by the definition of the cells: proofs/ClockVectors.antt of both crates must be what is written
+here. A board whose pins are made of several wires is computed, too. Then texts are planted in the
+Verilog that core/cells must refuse, each by a line that says why. The last line is 'N passed, M
+failed'."""
 
 import os
 import random
@@ -256,10 +257,13 @@ def expect_vectors(suite, name, text):
     suite.expect(f"crates/{name}/proofs/ClockVectors.antt", [("what to do", "", anew)])
 
 
-# What is planted: the module, what is taken away, what is put there, and what core/cells says of it.
+# What is planted: the module, what is taken away, what is put there, and what core/cells says of
+# it.
 AFTER, FULL = "wire [11:0] after   = at + 12'd1;", "wire        full    = depth == 3'd4;"
-SHOWS, CLOCK, RESET = "assign halted = !is_open;", "always @(posedge clk)", "input  wire        reset,"
-TAKES, Q = "assign takes = pending && !reset && !starting;", "assign q     = flag ? {ran, 7'b0} : read;"
+SHOWS, CLOCK = "assign halted = !is_open;", "always @(posedge clk)"
+RESET, INITIAL = "input  wire        reset,", "    initial {read"
+TAKES = "assign takes = pending && !reset && !starting;"
+Q = "assign q     = flag ? {ran, 7'b0} : read;"
 CORE, WRITES = ".clk(clk), .reset(reset), .start(starting)", "if (writes) ram[place] <= d;"
 REFUSED = [
     ("dvg_core", "at + 12'd1", "at * 12'd3", "$mul: this kind isn't known"),
@@ -296,12 +300,13 @@ REFUSED = [
     ("dvg_core", RESET, f"{RESET}\n    input  wire        \\a+b ,", "a+b is no name"),
     # The memory
     ("dvg_board", "reg [7:0] ram [0:2047];", "reg [7:0] ram [0:4095];", "the memory"),
-    ("dvg_board", "    initial {read", "    initial ram[5] = 8'd7;\n    initial {read", "$meminit_v2: this kind"),
+    ("dvg_board", INITIAL, f"    initial ram[5] = 8'd7;\n{INITIAL}", "$meminit_v2: this kind"),
     ("dvg_board", WRITES, "if (writes) ram[place][3:0] <= d[3:0];", "an enable"),
     ("dvg_board", WRITES, "ram[place] <= d; if (writes) ran <= 1'b0;", "an enable"),
     ("dvg_board", WRITES, "if (writes) ram[a] <= d;", "$memwr_v2: widths"),
     ("dvg_board", WRITES, "if (writes) ran <= 1'b0;", "memories: 1, and one is written"),
-    ("dvg_board", WRITES, f"if (looks) ram[a[10:0]] <= 8'd0;\n        {WRITES}", "$memwr_v2: there are 2"),
+    ("dvg_board", WRITES, f"if (looks) ram[a[10:0]] <= 8'd0;\n        {WRITES}",
+     "$memwr_v2: there are 2"),
     ("dvg_board", CLOCK, "always @(negedge clk)", "the other edge"),
     # The board
     ("dvg_board", "reset || starting || pending", "reset ^ starting ^ pending", "$xor: this kind"),
@@ -309,7 +314,8 @@ REFUSED = [
     ("dvg_board", ".valid(pending)", ".valid(1'bx)", "dvg_core: a bit that is x"),
     ("dvg_board", CORE, ".clk(a[0]), .reset(reset), .start(starting)", "dvg_core: another clock"),
     ("dvg_board", CORE, ".clk(clk), .start(starting)", "dvg_core: reset isn't connected"),
-    ("dvg_board", CORE, ".clk(clk), .reset(reset), .begins(starting)", "does not have a port named 'begins'"),
+    ("dvg_board", CORE, ".clk(clk), .reset(reset), .begins(starting)",
+     "does not have a port named 'begins'"),
     ("dvg_board", "dvg_core core (", "other core (", "Module `\\other' referenced"),
 ]
 
@@ -320,7 +326,8 @@ FILES = [
     ("dvg_core", "dvg_core", "// nothing\n", "yosys: ERROR: Module `dvg_core' not found!"),
     ("dvg_core", "dvg_core", "module dvg_core(; endmodule\n", "ERROR: syntax error"),
     ("dvg_core", "dvg_core", "module dvg_core(); endmodule\n", "no input clk of one bit"),
-    ("dvg_core", "dvg_core", "module dvg_core(input [1:0] clk); endmodule\n", "no input clk of one bit"),
+    ("dvg_core", "dvg_core", "module dvg_core(input [1:0] clk); endmodule\n",
+     "no input clk of one bit"),
     ("dvg_core", "dvg_core", "module dvg_core(input clk); endmodule\n", "no output"),
     ("dvg_board", "dvg_board", "module dvg_board(); endmodule\n", "the board has no dvg_core"),
 ]
@@ -369,7 +376,8 @@ def expect_refusals(suite, folder):
         write_files(copy, here | {file: text})
         expect_refusal(suite, f"{file}.v is {text}", says, module, copy)
     expect_refusal(suite, "no folder", "yosys: ERROR: Can't open", "dvg_core", f"{folder}/none")
-    expect_refusal(suite, "no yosys", "yosys isn't here", "dvg_core", f"{texts.TOP}/core", PATH=folder)
+    expect_refusal(suite, "no yosys", "yosys isn't here", "dvg_core", f"{texts.TOP}/core",
+                   PATH=folder)
 
 
 # A board whose pin `takes` is a register's, by another name, and whose pin `q` is of several cells.
@@ -390,7 +398,8 @@ def expect_pieces(suite, folder):
     if status:
         return
     bench = f"{texts.TOP}/tests/core_clocks.v"
-    run("iverilog", "-g2005", "-DBOARD", "-o", f"{copy}/icarus", bench, *(f"{copy}/{n}.v" for n in here))
+    files = [f"{copy}/{name}.v" for name in here]
+    run("iverilog", "-g2005", "-DBOARD", "-o", f"{copy}/icarus", bench, *files)
     expect_clocks(suite, "pins of several wires", Board(board, Core(core)),
                   [("Icarus", ["vvp", "-n", f"{copy}/icarus"])], copy, 2000)
 

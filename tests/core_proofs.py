@@ -3,11 +3,11 @@
 
     core_proofs.py FOLDER [NUMBER..]      a folder in which core_mistakes.py planted them
 
-Of each mistake core/cells writes the cells anew, in a copy of dvg_core or of dvg_board, and the prover must
-refuse a law of the crate, without its examples and the clocks of Icarus Verilog. The Verilog as it is must
-be proved there. A mistake that does no harm may be refused, too, as a proof may name a wire; one of
-dvg_bus.v isn't tried, as that isn't proved. What the
-crates stand on must be proved: `./prove dvg_board`. The last line is 'N passed, M failed'."""
+Of each mistake core/cells writes the cells anew, in a copy of dvg_core or of dvg_board, and the
+prover must refuse a law of the crate, without its examples and the clocks of Icarus Verilog. The
+Verilog as it is must be proved there. A mistake that does no harm may be refused, too, as a proof
+may name a wire; one of dvg_bus.v isn't tried, as that isn't proved. What the crates stand on must
+be proved: `./prove dvg_board`. The last line is 'N passed, M failed'."""
 
 import os
 import re

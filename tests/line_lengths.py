@@ -16,7 +16,8 @@ DATA = re.compile(
 EXEMPT = re.compile(
     r"\.antt$|^plain/crates/|^docs/DEFINITIONS\.md$"
     r"|^page/(dvg\.html|dvg\.wasm\.made|driver\.listing)$"
-    r"|^tests/(tool_)?cases/.*\.md$|^crates/[^/]+/(wrong-bodies|must-fail)/")
+    r"|^tests/(tool_)?cases/.*\.md$|^tests/compare_mistakes$"
+    r"|^crates/[^/]+/(wrong-bodies|must-fail)/")
 
 
 def too_long(path, text):

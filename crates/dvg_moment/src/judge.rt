@@ -154,8 +154,8 @@ impl MomentJudge {
     // Writes `byte` in the RAM at `at`: a change, unless just that was told of it.
     fn write_byte(&mut self, at: usize, byte: u8)
         requires { at < 0x800 }
-        ensures { self.new
-            ≡ after_write (is_some_of (slice_index_or self.old.told at None) byte) self.old at byte }
+        ensures { self.new ≡ after_write
+            (is_some_of (slice_index_or self.old.told at None) byte) self.old at byte }
     {
         match self.known(at) {
             Some(known) if known == byte => {}
