@@ -3,14 +3,17 @@
 //! There is no code here. Each law is the contract of a function that does nothing.
 #![tactic(auto)]
 
-ghost use Rattle.dvg_6502.specs.Calls.{CallsLive, OfferAnswers, OneLife, OpenAnswers, RedrawAnswers, RunSpares, TicksReturn};
-ghost use Rattle.dvg_6502.specs.Decided.{CallsDecide, Decides, LabsIsPair, StaysBuilding, StaysIdle};
+ghost use Rattle.dvg_6502.specs.Calls.{CallsLive, OfferAnswers, OneLife, OpenAnswers};
+ghost use Rattle.dvg_6502.specs.Calls.{RedrawAnswers, RunSpares, TicksReturn};
+ghost use Rattle.dvg_6502.specs.Decided.{CallsDecide, Decides, LabsIsPair, StaysBuilding};
+ghost use Rattle.dvg_6502.specs.Decided.{StaysIdle};
 ghost use Rattle.dvg_6502.specs.Programs.{Hindsight};
 ghost use Rattle.dvg_6502.specs.Joined.{BoardKeeps, SomeBuilding, SomeCalls, SomeLogs, SomeTicks};
 ghost use Rattle.dvg_6502.specs.Routines.{OfferRefuses, OfferTakes, RedrawRefuses, RedrawTakes};
 ghost use Rattle.dvg_6502.specs.Routines.{ResetRefines, TickRefines};
-ghost use Rattle.dvg_6502.specs.Build.{BuildsScript, BuiltAccepted, CloseTakes, IdleTicks, IdleTicksAll, RunReturns};
-ghost use Rattle.dvg_6502.specs.Build.{LabsTakes, OpenTakes, PairTakes, PutTakes, VectorRefuses, VectorTakes};
+ghost use Rattle.dvg_6502.specs.Build.{BuildsScript, BuiltAccepted, CloseTakes, IdleTicks};
+ghost use Rattle.dvg_6502.specs.Build.{IdleTicksAll, LabsTakes, OpenTakes, PairTakes, PutTakes};
+ghost use Rattle.dvg_6502.specs.Build.{RunReturns, VectorRefuses, VectorTakes};
 ghost use Rattle.dvg_6502.specs.Moves.{SomeVectors, VectorDraws};
 ghost use Rattle.dvg_6502.specs.Whole.{BuildsFrame, BuildsLife, SomeFrame};
 ghost use Rattle.dvg_6502.specs.Tables.{CheckedExpressible, TableLaw, TableMisses};
@@ -53,10 +56,11 @@ pub fn redraw()
 {}
 
 /// Over all calls since a reset, with any memory at first, also interrupted ones, where nobody else
-/// writes the driver's bytes, its code, the hardware or a table that is being written: the accesses of
-/// the hardware, in their order, with the frames and redraws that were taken, are a life of the script.
-/// A frame that the program builds counts as taken at `dvg_open`. The next call may begin as soon as the
-/// answer of the one before is decided, so the ticks of an NMI are calls like the others.
+/// writes the driver's bytes, its code, the hardware or a table that is being written: the accesses
+/// of the hardware, in their order, with the frames and redraws that were taken, are a life of the
+/// script. A frame that the program builds counts as taken at `dvg_open`. The next call may begin
+/// as soon as the answer of the one before is decided, so the ticks of an NMI are calls like the
+/// others.
 pub fn calls_live()
     ensures { CallsLive }
 {}
@@ -94,8 +98,8 @@ pub fn hindsight()
     ensures { Hindsight }
 {}
 
-/// Of all calls, an offer or `dvg_open` is taken exactly where the life is whole, and a redraw where
-/// it has a flip, too.
+/// Of all calls, an offer or `dvg_open` is taken exactly where the life is whole, and a redraw
+/// where it has a flip, too.
 pub fn answers()
     ensures offer { OfferAnswers }
     ensures opens { OpenAnswers }
@@ -110,11 +114,12 @@ pub fn board_keeps()
     ensures { BoardKeeps }
 {}
 
-/// The routines that build a frame, one by one: what they put is written where the frame goes on, as
-/// the script's next writes, and after `dvg_close` word zero is to come. `dvg_vector` puts the
-/// canonical words of a vector, or the one word of the short vector that draws the same. Where there
-/// is no such vector, no frame or no room, it is refused. Ticks do nothing while a frame is being built,
-/// and `dvg_run` returns at once. Each leaves alone the memory that it isn't said to change.
+/// The routines that build a frame, one by one: what they put is written where the frame goes on,
+/// as the script's next writes, and after `dvg_close` word zero is to come. `dvg_vector` puts the
+/// canonical words of a vector, or the one word of the short vector that draws the same. Where
+/// there is no such vector, no frame or no room, it is refused. Ticks do nothing while a frame is
+/// being built, and `dvg_run` returns at once. Each leaves alone the memory that it isn't said to
+/// change.
 pub fn builds()
     ensures opens { OpenTakes }
     ensures puts { PutTakes }
@@ -131,25 +136,25 @@ pub fn builds()
     ensures script { BuildsScript }
 {}
 
-/// Calls of these routines, one after the other, build a whole frame, also amid interrupts that leave
-/// the driver's bytes alone. Where it is a draft's, these are the script's writes of that draft. There
-/// are such calls.
+/// Calls of these routines, one after the other, build a whole frame, also amid interrupts that
+/// leave the driver's bytes alone. Where it is a draft's, these are the script's writes of that
+/// draft. There are such calls.
 pub fn builds_frame()
     ensures writes { BuildsFrame }
     ensures life { BuildsLife }
     ensures some { SomeFrame }
 {}
 
-/// The check accepts each frame of a LABS, then vectors, LABSs and calls of shapes, then the HALT, of at
-/// most 511 words, if it accepts the frames that call these shapes once.
+/// The check accepts each frame of a LABS, then vectors, LABSs and calls of shapes, then the HALT,
+/// of at most 511 words, if it accepts the frames that call these shapes once.
 pub fn built_accepted()
     ensures { BuiltAccepted }
 {}
 
-/// After its look at the phase, if that refuses, and after its store of the phase, a call of the main
-/// program takes its code alone: ticks of an NMI may act there, and it returns the same C. So does each
-/// of the calls whose answer is decided. Before that the driver is idle, or a frame is being built, so
-/// that ticks do nothing. `dvg_labs` is `dvg_pair` from its look on.
+/// After its look at the phase, if that refuses, and after its store of the phase, a call of the
+/// main program takes its code alone: ticks of an NMI may act there, and it returns the same C. So
+/// does each of the calls whose answer is decided. Before that the driver is idle, or a frame is
+/// being built, so that ticks do nothing. `dvg_labs` is `dvg_pair` from its look on.
 pub fn decides()
     ensures places { Decides }
     ensures calls { CallsDecide }

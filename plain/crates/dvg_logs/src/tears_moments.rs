@@ -20,10 +20,10 @@ pub(crate) fn write_verdict<W: Write>(
 /// project's own choice):
 ///
 /// - `torn at line N: ..`, where a run of no moment comes to its HALT: after line N, which is
-///   shown, no moment of it was left. No byte that a run reads may change between its moment and its
-///   reading;
-/// - `line N reads what was not written: ..`, where a line reads another byte than the log told last
-///   of it, of the RAM, of the ROM, or of the low byte that was told of this very word;
+///   shown, no moment of it was left. No byte that a run reads may change between its moment and
+///   its reading;
+/// - `line N reads what was not written: ..`, where a line reads another byte than the log told
+///   last of it, of the RAM, of the ROM, or of the low byte that was told of this very word;
 /// - `whole: R runs, H halted`, where no line does either: R runs began, and H of them came to
 ///   their HALT;
 /// - `no run to judge:` and the same, where none of these had fetched something.
