@@ -3,4 +3,5 @@ mod Published
 pub mod System
 mod Machine
 mod Hindsight
+mod Waiting
 mod Example

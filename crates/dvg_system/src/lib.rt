@@ -11,7 +11,7 @@ ghost use Rattle.dvg_board.specs.Logs.{HoldsRam};
 ghost use Rattle.dvg_system.specs.Example.{SomeBuilder, SomeMachine};
 ghost use Rattle.dvg_system.specs.Hindsight.{HindsightKeeps};
 ghost use Rattle.dvg_system.specs.Machine.{AcceptsPublished, AreDone, FindsRam};
-ghost use Rattle.dvg_system.specs.Machine.{HaveRam, OfEachMachine};
+ghost use Rattle.dvg_system.specs.Machine.{GoesOn, HaveRam, OfEachMachine};
 
 /// For every ROM, first content of the RAM, and run of a machine whose processor calls the driver's
 /// routines, and whose board's clocks make the processor's accesses and answer its reads: the log
@@ -42,6 +42,12 @@ pub fn machine_keeps()
 /// one as above. Its clocks are the same, and its calls but for these drafts.
 pub fn hindsight_keeps()
     ensures { HindsightKeeps }
+{}
+
+/// Such a machine can always go on: its board can have a clock more, with neither a reset nor a
+/// hold, in which the processor leaves it alone, and the ROM answers.
+pub fn goes_on()
+    ensures { OfEachMachine GoesOn }
 {}
 
 /// There is such a machine: over a RAM and a ROM of zeros the machine code boots, takes a table,
