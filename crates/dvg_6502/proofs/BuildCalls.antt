@@ -16,7 +16,7 @@ use Rattle.dvg_6502.specs.Board.{seen, goal_in}
 use Rattle.dvg_6502.specs.Holds.{HoldsPlace, IsFeeding}
 use Rattle.dvg_6502.specs.Routines.{Enters, Part, Put, Pair, Labs, Vector, begins, put_by}
 use Rattle.dvg_6502.specs.Calls.{Puts, Close, AreShown, Brings, IsRoomFor, put_on}
-use Rattle.dvg_6502.specs.Build.{IsBuilding, put_items, written}
+use Rattle.dvg_6502.specs.Build.{IsBuilding, PutsRefuse, OpenRefuses, CloseRefuses, put_items, written}
 use Rattle.dvg_6502.proofs.Running.{returned}
 use Rattle.dvg_6502.proofs.Memory.{both_true}
 use Rattle.dvg_6502.proofs.Growing.{same_end}
@@ -26,8 +26,8 @@ use Rattle.dvg_6502.proofs.Going.{GoesTo, append_items, finish}
 use Rattle.dvg_6502.proofs.BuildScript.{builds_script}
 use Rattle.dvg_6502.proofs.Building.{BuildsSo, goal_is, goal_low, put_steadily}
 use Rattle.dvg_6502.proofs.Closing.{ClosesSo, pair_steadily, labs_steadily, close_steadily}
-use Rattle.dvg_6502.proofs.Refusing.{Refuses, put_refused, pair_refused, labs_refused, full_put, full_pair, full_labs}
-use Rattle.dvg_6502.proofs.Refusing.{close_refused}
+use Rattle.dvg_6502.proofs.Refusing.{Refuses, refused_so, put_refused, pair_refused, labs_refused, full_put, full_pair, full_labs}
+use Rattle.dvg_6502.proofs.Refusing.{open_refused, close_refused}
 use Rattle.dvg_6502.proofs.VectorBuilds.{vector_steadily, refuses_so, no_vector, not_building_vector, full_vector}
 use Rattle.dvg_6502.proofs.Built.{Built, holds_in, place_now, holds_on}
 
@@ -202,6 +202,18 @@ part_full Labs cpu left enters phase even some fits above =
     (le-leb 0xFC (cpu.mem 0x13) (omega (arith, small, even, some, fits, above)))
 part_full Vector cpu left enters phase even some fits above =
     refuses_so cpu enters (full_vector cpu enters left phase even some fits above)
+
+pub puts_refuse : PutsRefuse
+puts_refuse part cpu enters (inl other) = refused_so cpu (part_refused part cpu enters other)
+puts_refuse part cpu enters (inr room) =
+    let built = room.3 in
+    refused_so cpu (part_full part cpu (length room.2) enters built.phase built.even built.some built.fits room.4)
+
+pub open_refuses : OpenRefuses
+open_refuses cpu enters other = refused_so cpu (open_refused cpu enters other)
+
+pub close_refuses : CloseRefuses
+close_refuses cpu enters other = refused_so cpu (close_refused cpu enters other)
 
 -- a call that puts a part: no frame is being built, there is room, or there is none
 pub puts_none : (part : Part) (cpu : Cpu) (begin stop : ℕ) (life : List Item) → Enters cpu (begins part)

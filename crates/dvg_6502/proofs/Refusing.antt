@@ -1,12 +1,15 @@
 -- Calls that are refused: they return with C set, and leave the driver as it is.
 use Rattle.std.proofs.Common.{◌≡◌, ◌≢◌, ℕ, suc, ◌+◌, ◌-◌, ◌%◌, ◌<◌, ◌≤◌, Bool, true, false, List, [], ◌∷◌, refl, sym, ap, ◌∙◌}
 use Rattle.std.proofs.Common.{subst, arith, leb-true}
-use Rattle.std.specs.Prelude.{nat_eq, nat_le, nat_lt, bit_and, bit_or, bit_xor}
+use Rattle.std.specs.Prelude.{nat_eq, nat_le, nat_lt, ◌||◌, bit_and, bit_or, bit_xor}
+use Rattle.std.proofs.lemmas.Bool.{eqb-false}
 use Rattle.dvg_6502.specs.Processor.{Cpu, Access, Reads, Writes, put, run}
 use Rattle.dvg_6502.specs.Board.{IsLoaded, seen, is_own}
 use Rattle.dvg_6502.specs.Amid.{is_kept, are_steady}
 use Rattle.dvg_6502.specs.Routines.{Enters, Pair, Labs, put_by}
+use Rattle.dvg_6502.specs.Build.{IsRefused, is_changed}
 use Rattle.dvg_6502.specs.Decided.{is_labs, LabsIsPair}
+use Rattle.dvg_6502.proofs.Alike.{alike_if}
 use Rattle.dvg_6502.proofs.AmidRun.{came_out}
 use Rattle.dvg_6502.proofs.Running.{Comes, by, at, returned, comes}
 use Rattle.dvg_6502.proofs.Memory.{laid, page_of, page_in, known, loaded, put_small, both_true, state_is}
@@ -26,6 +29,25 @@ pub record Refuses (cpu : Cpu) : Type 0 where
   pub loaded : IsLoaded memory
   pub own : (b : ℕ) → is_own b ≡ true → memory b ≡ cpu.mem b
   pub far : (b : ℕ) → 0x200 ≤ b → memory b ≡ cpu.mem b
+  pub kept : (b : ℕ) → is_changed cpu.pc b ≡ false → memory b ≡ cpu.mem b
+
+-- what its record says
+pub refused_so : (cpu : Cpu) → Refuses cpu → IsRefused cpu
+refused_so cpu did =
+    let comes = did.comes in
+    let back = returned cpu.s (run cpu.s comes.steps cpu) comes.returns comes.stack in
+    record {
+      steps = comes.steps;
+      returns = back;
+      carry = comes.carry;
+      shows = comes.accesses;
+      kept = λ b out. ap (λ (m : ℕ → ℕ). m b) comes.memory ∙ did.kept b out;
+      alike = alike_if cpu comes.steps back (λ tables. comes.steady tables refl) comes.there;
+    }
+
+neither : (t u : Bool) → (t || u) ≡ false → (t ≡ false) × (u ≡ false)
+neither true u is = absurd (cc)
+neither false u is = (refl, is)
 
 pub refused_steady : (tables : ℕ → Bool) (cpu : Cpu) (k : ℕ) → Refuses cpu → are_steady (is_kept tables) cpu.s k cpu ≡ true
 refused_steady tables cpu k did = steady_all (is_kept tables) cpu.s did.comes.steps k cpu (did.comes.steady tables refl)
@@ -106,6 +128,7 @@ module _ (cpu : Cpu) (entry : ℕ) (enters : Enters cpu entry) where
     loaded = enters.loaded;
     own = λ b is. refl;
     far = λ b is. refl;
+    kept = λ b is. refl;
   }
 
 pub offer_refused : (cpu : Cpu) → Enters cpu 0x68FE → nat_eq (cpu.mem 0x10) 2 ≡ false → Refuses cpu
@@ -168,6 +191,11 @@ module _ (cpu : Cpu) (enters : Enters cpu 0x6979) where
     own = λ b is. let high = leb-true (suc b) 0x1B (both_true (nat_le 0x10 b) (nat_lt b 0x1B) is).1 in
         same b (λ e. absurd (omega arith)) (λ e. absurd (omega arith));
     far = λ b is. same b (λ e. absurd (omega arith)) (λ e. absurd (omega arith));
+    kept = λ b is.
+        let at_labs : ((nat_eq b 0x1C || nat_eq b 0x1E) || false) ≡ false =
+        subst (λ entry. is_changed entry b ≡ false) enters.entry is in
+        let high = neither (nat_eq b 0x1C) (nat_eq b 0x1E) (neither (nat_eq b 0x1C || nat_eq b 0x1E) false at_labs).0 in
+        same b (eqb-false b 0x1C high.0) (eqb-false b 0x1E high.1);
   }
     where
       same : (b : ℕ) → b ≢ 0x1C → b ≢ 0x1E → laid (page_in cpu.mem) set b ≡ cpu.mem b

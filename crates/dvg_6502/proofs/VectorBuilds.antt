@@ -9,7 +9,7 @@ use Rattle.dvg_6502.specs.Code.{code, dvg_vector}
 use Rattle.dvg_6502.specs.Board.{IsLoaded, seen, goal_in, is_own}
 use Rattle.dvg_6502.specs.Amid.{is_work}
 use Rattle.dvg_6502.specs.Routines.{Enters, Vector, put_by}
-use Rattle.dvg_6502.specs.Build.{IsBuilding, IsRefused, VectorTakes, VectorRefuses}
+use Rattle.dvg_6502.specs.Build.{IsBuilding, VectorTakes, VectorRefuses, is_changed}
 use Rattle.dvg_6502.proofs.Running.{Comes, by, at, returned, comes}
 use Rattle.dvg_6502.proofs.Memory.{laid, page_of, page_in, known, loaded, in_page, in_code, AreSmall, are_small, both_true}
 use Rattle.dvg_6502.proofs.Memory.{le_not}
@@ -20,7 +20,7 @@ use Rattle.dvg_6502.proofs.Building as building
 use Rattle.dvg_6502.proofs.Building.{BuildsSo, builds_so}
 use Rattle.dvg_6502.proofs.Closing as closing
 use Rattle.dvg_6502.proofs.Closing.{entered, comes_back}
-use Rattle.dvg_6502.proofs.Refusing.{Refuses, pair_refuses, pair_full}
+use Rattle.dvg_6502.proofs.Refusing.{Refuses, refused_so, pair_refuses, pair_full}
 use Rattle.dvg_6502.proofs.VectorRun.{worked, Led}
 use Rattle.dvg_6502.proofs.VectorCall.{Comes as Coming, no_word, one_word, two_words, vector_comes}
 
@@ -295,20 +295,8 @@ module _ (cpu : Cpu) (enters : Enters cpu dvg_vector) where
         (worked_bytes did.0 cpu.mem did.1 enters.loaded.bytes);
     own = λ b is. kept_out did.0 b (own_not_work b is);
     far = λ b is. kept_out did.0 b (past_work b (omega (arith, is)));
+    kept = λ b is. kept_out did.0 b (subst (λ entry. is_changed entry b ≡ false) enters.entry is);
   }
-
-  refused_so : Refusal → IsRefused cpu
-  refused_so did =
-      let comes = did.2 in
-      let back = returned cpu.s (run cpu.s comes.steps cpu) comes.returns comes.stack in
-      record {
-        steps = comes.steps;
-        returns = back;
-        carry = comes.carry;
-        shows = comes.accesses;
-        kept = λ b out. ap (λ (m : ℕ → ℕ). m b) comes.memory ∙ kept_out did.0 b out;
-        alike = alike_if cpu comes.steps back (λ tables. comes.steady tables refl) comes.there;
-      }
 
   -- there is no such vector, no frame is being built, or there is no room
   pub no_vector : put_by Vector cpu ≡ [] → Refusal
@@ -373,8 +361,9 @@ vector_takes cpu half flipped rest enters some built more =
     (vector_steadily cpu enters half flipped rest more some built).0
 
 pub vector_refuses : VectorRefuses
-vector_refuses cpu enters (inl is) = refused_so cpu enters (no_vector cpu enters is)
-vector_refuses cpu enters (inr (inl other)) = refused_so cpu enters (not_building_vector cpu enters other)
+vector_refuses cpu enters (inl is) = refused_so cpu (refuses_so cpu enters (no_vector cpu enters is))
+vector_refuses cpu enters (inr (inl other)) = refused_so cpu (refuses_so cpu enters (not_building_vector cpu enters other))
 vector_refuses cpu enters (inr (inr room)) =
     let built = room.3 in
-    refused_so cpu enters (full_vector cpu enters (length room.2) built.phase built.even built.some built.fits room.4)
+    refused_so cpu (refuses_so cpu enters
+    (full_vector cpu enters (length room.2) built.phase built.even built.some built.fits room.4))

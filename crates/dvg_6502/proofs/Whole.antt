@@ -16,7 +16,8 @@ use Rattle.dvg_6502.specs.Amid.{ComesOut, guards, is_kept_building}
 use Rattle.dvg_6502.specs.Board.{seen, is_own, goal_in}
 use Rattle.dvg_6502.specs.Holds.{Holds, IsFeeding}
 use Rattle.dvg_6502.specs.Routines.{Enters, Part, Put, Pair, Labs, Vector, begins, put_by}
-use Rattle.dvg_6502.specs.Build.{IsBuilding, Builds, IsRefused, Closes, written}
+use Rattle.dvg_6502.specs.Code.{dvg_vector}
+use Rattle.dvg_6502.specs.Build.{IsBuilding, Builds, IsRefused, Closes, is_changed, written}
 use Rattle.dvg_6502.specs.Whole.{Done, end_of, IsDone, Parts, memory_after}
 use Rattle.dvg_6502.specs.Whole.{AreDone, bytes_put, seen_of, BuildsFrame, BuildsLife}
 use Rattle.dvg_6502.proofs.Growing.{same_end}
@@ -85,9 +86,9 @@ of_builds cpu half flipped now rest did = record {
   alike = did.alike (λ b. false);
 }
 
-of_refusal : (cpu : Cpu) (half : Half) (flipped : Bool) (rest : List ℕ) → IsRefused cpu → IsBuilding cpu.mem half flipped rest
-    → Does cpu half flipped [] rest
-of_refusal cpu half flipped rest did building = record {
+of_refusal : (cpu : Cpu) (half : Half) (flipped : Bool) (rest : List ℕ) → cpu.pc ≡ dvg_vector → IsRefused cpu
+    → IsBuilding cpu.mem half flipped rest → Does cpu half flipped [] rest
+of_refusal cpu half flipped rest entry did building = record {
   steps = did.steps;
   returns = did.returns;
   shows = did.shows;
@@ -97,7 +98,7 @@ of_refusal cpu half flipped rest did building = record {
 }
   where
     own : (b : ℕ) → is_own b ≡ true → (run cpu.s did.steps cpu).mem b ≡ cpu.mem b
-    own b is = did.kept b (own_not_work b is)
+    own b is = did.kept b (subst (λ entry. is_changed entry b ≡ false) (sym entry) (own_not_work b is))
 
 part_does : (part : Part) (cpu : Cpu) (half : Half) (flipped : Bool) (rest : List ℕ) → Enters cpu (begins part)
     → IsBuilding cpu.mem half flipped (put_by part cpu ++ rest) → 2 ≤ length rest
@@ -112,7 +113,7 @@ part_does Vector cpu half flipped rest enters building more = by (put_by Vector 
   where
     by : (now : List ℕ) → put_by Vector cpu ≡ now → Does cpu half flipped (put_by Vector cpu) rest
     by [] is = subst (λ l. Does cpu half flipped l rest) (sym is)
-        (of_refusal cpu half flipped rest (vector_refuses cpu enters (inl is))
+        (of_refusal cpu half flipped rest enters.entry (vector_refuses cpu enters (inl is))
         (subst (λ l. IsBuilding cpu.mem half flipped (l ++ rest)) is building))
     by (byte ∷ bytes) is = of_builds cpu half flipped (put_by Vector cpu) rest (vector_takes cpu half flipped rest enters
         (let e = ap length is in omega (arith, e)) building more)

@@ -20,7 +20,7 @@ use Rattle.dvg_6502.specs.Code.{dvg_ticks, dvg_tick, dvg_run, dvg_open, dvg_put,
 use Rattle.dvg_6502.specs.Board.{IsLoaded, seen, is_own, is_ram, phase_in, free_in, publish_in, place_in, pages_in}
 use Rattle.dvg_6502.specs.Board.{goal_in}
 use Rattle.dvg_6502.specs.Holds.{Holds, publish_byte}
-use Rattle.dvg_6502.specs.Routines.{Enters, Vector, put_by}
+use Rattle.dvg_6502.specs.Routines.{Enters, Part, Vector, begins, put_by}
 
 -- a frame is being built, of which these bytes are to come; the HALT's are the last ones
 pub record IsBuilding (mem : ℕ → ℕ) (half : Half) (flipped : Bool) (rest : List ℕ) : Type 0 where
@@ -87,20 +87,33 @@ VectorTakes = (cpu : Cpu) (half : Half) (flipped : Bool) (rest : List ℕ) → E
     → let now = put_by Vector cpu in
     1 ≤ length now → IsBuilding cpu.mem half flipped (now ++ rest) → 2 ≤ length rest → Builds cpu half flipped now rest
 
--- the call returns with C set and S as it was, touches no hardware, and changes of memory at most dvg_y, dvg_x, left and
--- length; the same amid others, and what else they leave alone is as without them
+-- the call returns with C set and S as it was, touches no hardware, and leaves memory as it was, but for what it may
+-- change; the same amid others, and what else they leave alone is as without them
 pub record IsRefused (cpu : Cpu) : Type 0 where
   pub steps : ℕ
   pub returns : at_return cpu.s (run cpu.s steps cpu) ≡ true
   pub carry : (run cpu.s steps cpu).c ≡ true
   pub shows : seen (run cpu.s steps cpu).log ≡ []
-  pub kept : (b : ℕ) → is_work b ≡ false → (run cpu.s steps cpu).mem b ≡ cpu.mem b
+  pub kept : (b : ℕ) → is_changed cpu.pc b ≡ false → (run cpu.s steps cpu).mem b ≡ cpu.mem b
   pub alike : (also : ℕ → Bool) → ComesOut (guards (is_kept also) cpu.s) cpu
 
 -- there is no room for so many bytes and the HALT
 abbrev pub HasNoRoom : (ℕ → ℕ) → ℕ → Type 0
 HasNoRoom mem count = (half : Half) × (flipped : Bool) × (rest : List ℕ) × IsBuilding mem half flipped rest
     × (1022 < 256 * pages_in mem + place_in mem + count)
+
+-- where no frame is being built, or there is no room, dvg_put, dvg_pair, dvg_labs and dvg_vector are refused
+abbrev pub PutsRefuse : Type 0
+PutsRefuse = (part : Part) (cpu : Cpu) → Enters cpu (begins part)
+    → (nat_eq (phase_in cpu.mem) 7 ≡ false) ⊎ HasNoRoom cpu.mem (length (put_by part cpu)) → IsRefused cpu
+
+-- where the driver doesn't rest, dvg_open is refused
+abbrev pub OpenRefuses : Type 0
+OpenRefuses = (cpu : Cpu) → Enters cpu dvg_open → nat_eq (phase_in cpu.mem) 2 ≡ false → IsRefused cpu
+
+-- where no frame is being built, dvg_close is refused
+abbrev pub CloseRefuses : Type 0
+CloseRefuses = (cpu : Cpu) → Enters cpu dvg_close → nat_eq (phase_in cpu.mem) 7 ≡ false → IsRefused cpu
 
 -- where there is no such vector, no frame is being built, or there is no room, dvg_vector is refused
 abbrev pub VectorRefuses : Type 0

@@ -11,9 +11,10 @@ ghost use Rattle.dvg_6502.specs.Programs.{Hindsight};
 ghost use Rattle.dvg_6502.specs.Joined.{BoardKeeps, SomeBuilding, SomeCalls, SomeLogs, SomeTicks};
 ghost use Rattle.dvg_6502.specs.Routines.{OfferRefuses, OfferTakes, RedrawRefuses, RedrawTakes};
 ghost use Rattle.dvg_6502.specs.Routines.{ResetRefines, TickRefines};
-ghost use Rattle.dvg_6502.specs.Build.{BuildsScript, BuiltAccepted, CloseTakes, IdleTicks};
-ghost use Rattle.dvg_6502.specs.Build.{IdleTicksAll, LabsTakes, OpenTakes, PairTakes, PutTakes};
-ghost use Rattle.dvg_6502.specs.Build.{RunReturns, VectorRefuses, VectorTakes};
+ghost use Rattle.dvg_6502.specs.Build.{BuildsScript, BuiltAccepted, CloseRefuses, CloseTakes};
+ghost use Rattle.dvg_6502.specs.Build.{IdleTicks, IdleTicksAll, LabsTakes, OpenRefuses, OpenTakes};
+ghost use Rattle.dvg_6502.specs.Build.{PairTakes, PutTakes, PutsRefuse, RunReturns, VectorRefuses};
+ghost use Rattle.dvg_6502.specs.Build.{VectorTakes};
 ghost use Rattle.dvg_6502.specs.Moves.{SomeVectors, VectorDraws};
 ghost use Rattle.dvg_6502.specs.Whole.{BuildsFrame, BuildsLife, SomeFrame};
 ghost use Rattle.dvg_6502.specs.Tables.{CheckedExpressible, TableLaw, TableMisses};
@@ -117,9 +118,9 @@ pub fn board_keeps()
 /// The routines that build a frame, one by one: what they put is written where the frame goes on,
 /// as the script's next writes, and after `dvg_close` word zero is to come. `dvg_vector` puts the
 /// canonical words of a vector, or the one word of the short vector that draws the same. Where
-/// there is no such vector, no frame or no room, it is refused. Ticks do nothing while a frame is
-/// being built, and `dvg_run` returns at once. Each leaves alone the memory that it isn't said to
-/// change.
+/// there is no such vector, no frame or no room, a call is refused. Ticks do nothing while a frame
+/// is being built, and `dvg_run` returns at once. Each leaves alone the memory that it isn't said to
+/// change, also where it is refused.
 pub fn builds()
     ensures opens { OpenTakes }
     ensures puts { PutTakes }
@@ -127,6 +128,9 @@ pub fn builds()
     ensures labs { LabsTakes }
     ensures vector { VectorTakes }
     ensures no_vector { VectorRefuses }
+    ensures no_room { PutsRefuse }
+    ensures no_rest { OpenRefuses }
+    ensures no_frame { CloseRefuses }
     ensures vector_draws { VectorDraws }
     ensures some_vectors { SomeVectors }
     ensures closes { CloseTakes }

@@ -379,11 +379,13 @@ shown = calls_for calls.Run 0 0 0 closed (lit< tt) (lit< tt) tt tt tt (λ P is. 
 
 pub some_builder : SomeBuilder
 some_builder = (
+  line,
   shown.list,
   drop 1 shown.log,
   shown.older,
   shown.on,
-  (take 4 shown.list, looked.list, first ticked.list, first opened.list, refl, refl, refl),
+  refl,
+  (take 4 shown.list, looked.list, first ticked.list, first opened.list, refl, refl, refl, refl),
 )
   where
     first : List Call → Call

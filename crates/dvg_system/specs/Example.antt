@@ -1,11 +1,13 @@
 -- Examples: machines that draw a frame, which was offered, or built.
-use Rattle.std.specs.Prelude.{◌≡◌, List, [], ◌∷◌, ◌++◌, slice_index, false}
+use Rattle.std.specs.Prelude.{◌≡◌, List, [], ◌∷◌, ◌++◌, map, slice_index, false}
+use Rattle.dvg_frame.specs.declared.op.OpKind.{OpKind}
 use Rattle.dvg_gen.specs.declared.stroke.Stroke.{Stroke}
 use Rattle.dvg_driver.specs.declared.action.Action.TheVariants.{Read}
 use Rattle.dvg_log.specs.declared.event.Event.TheVariants.{Fetch, Tick}
 use Rattle.dvg_log.specs.declared.entry.Entry.TheVariants.{Done, Low, Acted}
 use Rattle.dvg_log.specs.Log.{◌⟼◌, Log}
-use Rattle.dvg_6502.specs.Calls.{Call, Tick as Ticks, has_returned}
+use Rattle.dvg_6502.specs.Calls.{Call, Routine, Reset, Tick as Ticks, Run, Open, Puts, Close, has_returned}
+use Rattle.dvg_6502.specs.Routines.{Labs, Put}
 use Rattle.dvg_board.specs.Board.{Bus}
 use Rattle.dvg_board.specs.Example.{zeros}
 use Rattle.dvg_system.specs.Machine.{IsMachine}
@@ -24,13 +26,17 @@ SomeMachine = (calls : List Call) × (log : Log) × (clocks : List Bus) × IsMac
 abbrev pub short : Stroke
 short = record { x0 = 262144; y0 = 262144; x1 = 266240; y1 = 262144; z = 7 }
 
--- among these calls is a tick of an NMI, which comes before the one that it interrupts has returned
-abbrev pub HasTickAmid : List Call → Type 0
-HasTickAmid calls = (later olds : List Call) × (tick older : Call) × (calls ≡ later ++ tick ∷ older ∷ olds)
-    × (tick.routine ≡ Ticks) × (has_returned older ≡ false)
+-- what is called to build a frame after a boot, and to show it, the newest call first; a tick comes after dvg_open
+abbrev pub building : List OpKind → List Routine
+building F = Run ∷ Close ∷ Puts Put ∷ Puts Labs ∷ Ticks ∷ Open F ∷ Ticks ∷ Ticks ∷ Reset ∷ []
 
--- and there is one that calls dvg_open, amid which an NMI ticks, dvg_labs, dvg_put and dvg_close, whose newest line is
--- that of a run to the HALT of the frame that was built, which drew this
+-- among these calls is a tick of an NMI, which comes before dvg_open of this draft has returned
+abbrev pub HasTickAmid : List OpKind → List Call → Type 0
+HasTickAmid F calls = (later olds : List Call) × (tick older : Call) × (calls ≡ later ++ tick ∷ older ∷ olds)
+    × (tick.routine ≡ Ticks) × (older.routine ≡ Open F) × (has_returned older ≡ false)
+
+-- and there is one whose calls build a frame so, whose newest line is that of a run to HALT, which drew this
 abbrev pub SomeBuilder : Type 0
-SomeBuilder = (calls : List Call) × (log : Log) × (clocks : List Bus) × IsMachine zeros zeros (slice_index zeros) calls
-    ((Fetch ⟼ Done 0x204 0xB000 (short ∷ [])) ∷ log) clocks × HasTickAmid calls
+SomeBuilder = (F : List OpKind) × (calls : List Call) × (log : Log) × (clocks : List Bus)
+    × IsMachine zeros zeros (slice_index zeros) calls ((Fetch ⟼ Done 0x204 0xB000 (short ∷ [])) ∷ log) clocks
+    × (map (λ call. call.routine) calls ≡ building F) × HasTickAmid F calls

@@ -1,5 +1,6 @@
 use Rattle.std.proofs.Common.{refl}
 use Rattle.dvg_6502.proofs.Building.{put_takes}
+use Rattle.dvg_6502.proofs.BuildCalls.{puts_refuse, open_refuses, close_refuses}
 use Rattle.dvg_6502.proofs.Closing.{open_is_taken, pair_takes, labs_takes, close_takes, idle_ticks, run_returns}
 use Rattle.dvg_6502.proofs.VectorBuilds.{vector_takes, vector_refuses}
 use Rattle.dvg_6502.proofs.VectorDraws.{vector_draws}
@@ -15,6 +16,9 @@ returns c = record {
   labs = labs_takes;
   vector = vector_takes;
   no_vector = vector_refuses;
+  no_room = puts_refuse;
+  no_rest = open_refuses;
+  no_frame = close_refuses;
   vector_draws = vector_draws;
   some_vectors = (refl, refl, refl);
   closes = close_takes;
