@@ -4,13 +4,13 @@ use Rattle.std.proofs.Common.{◌∷◌, ◌++◌, length, refl, sym, ap, ◌∙
 use Rattle.std.proofs.Math.Path.{fun_ext}
 use Rattle.std.specs.Prelude.{nat_eq, nat_le, nat_lt, ◌⊎◌, if◌then◌else◌, slice_index}
 use Rattle.dvg_mem.specs.declared.half.Half.{Half}
-use Rattle.dvg_6502.specs.Processor.{Cpu, Access, Writes, run}
+use Rattle.dvg_6502.specs.Processor.{Cpu, Access, Writes}
 use Rattle.dvg_6502.specs.Code.{code, dvg_vector}
 use Rattle.dvg_6502.specs.Board.{IsLoaded, seen, goal_in, is_own}
 use Rattle.dvg_6502.specs.Amid.{is_work}
 use Rattle.dvg_6502.specs.Routines.{Enters, Vector, put_by}
 use Rattle.dvg_6502.specs.Build.{IsBuilding, VectorTakes, VectorRefuses, is_changed}
-use Rattle.dvg_6502.proofs.Running.{Comes, by, at, returned, comes}
+use Rattle.dvg_6502.proofs.Running.{Comes, by, at, comes}
 use Rattle.dvg_6502.proofs.Memory.{laid, page_of, page_in, known, loaded, in_page, in_code, AreSmall, are_small, both_true}
 use Rattle.dvg_6502.proofs.Memory.{le_not}
 use Rattle.dvg_6502.proofs.Alike.{alike_if}

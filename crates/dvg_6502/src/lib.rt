@@ -119,8 +119,8 @@ pub fn board_keeps()
 /// as the script's next writes, and after `dvg_close` word zero is to come. `dvg_vector` puts the
 /// canonical words of a vector, or the one word of the short vector that draws the same. Where
 /// there is no such vector, no frame or no room, a call is refused. Ticks do nothing while a frame
-/// is being built, and `dvg_run` returns at once. Each leaves alone the memory that it isn't said to
-/// change, also where it is refused.
+/// is being built, and `dvg_run` returns at once. Each leaves alone the memory that it isn't said
+/// to change, also where it is refused.
 pub fn builds()
     ensures opens { OpenTakes }
     ensures puts { PutTakes }
