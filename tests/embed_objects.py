@@ -25,6 +25,9 @@ import threading
 import time
 from pathlib import Path
 
+import counts
+from counts import expect
+
 TOP = Path(__file__).resolve().parent.parent
 sys.path.insert(0, os.environ.get("DVG_MODULE", str(TOP / "python")))
 import gerbilargent as g  # noqa: E402
@@ -32,17 +35,6 @@ from gerbilargent import Draft, Driver, Entry, Event, Generator, Kind  # noqa: E
 from gerbilargent import MomentJudge, World  # noqa: E402
 
 os.environ.setdefault("DVG_LIBRARY", str(TOP / "build" / "libdvg.so"))
-passed = failed = 0
-
-
-def expect(holds, what):
-    """Counts a test."""
-    global passed, failed
-    if holds:
-        passed += 1
-    else:
-        failed += 1
-        print(f"FAILED: {what}")
 
 
 def raised(call, *words):
@@ -658,7 +650,7 @@ def storm(seconds, seed):
     end = time.monotonic() + seconds
     calls, rounds, errors = 0, 0, collections.Counter()
     made = library.made
-    while time.monotonic() < end and not failed:
+    while time.monotonic() < end and not counts.failed:
         one = Storm(seed + rounds)
         one.rage(400)
         expect(not one.wrong, f"round {one.seed} raised {one.wrong[:3]}")
@@ -666,7 +658,7 @@ def storm(seconds, seed):
         expect_none_left(f"round {one.seed}")
         calls, rounds, errors = calls + one.calls, rounds + 1, errors + one.errors
     kinds = len([name for name in errors if issubclass(getattr(g, name, int), g.Error)])
-    expect(kinds >= 12 or failed, f"of the refusals {kinds} came: {dict(errors)}")
+    expect(kinds >= 12 or counts.failed, f"of the refusals {kinds} came: {dict(errors)}")
     print(f"storm: seed {seed}, {rounds} rounds, {calls} calls, {library.made - made} devices, "
           f"{sum(errors.values())} refusals of {kinds} kinds")
 
@@ -680,5 +672,4 @@ for test in (
 if len(sys.argv) > 1:
     sys.setswitchinterval(1e-4)
     storm(float(sys.argv[1]), int(sys.argv[2]) if len(sys.argv) > 2 else 1979)
-print(f"{passed} passed, {failed} failed")
-sys.exit(failed != 0)
+counts.finish()

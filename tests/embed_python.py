@@ -19,6 +19,9 @@ import sys
 import tempfile
 from pathlib import Path
 
+import counts
+from counts import expect
+
 TOP = Path(__file__).resolve().parent.parent
 sys.path.insert(0, str(TOP / "python"))
 import gerbilargent as g  # noqa: E402
@@ -28,17 +31,6 @@ os.environ.setdefault("DVG_LIBRARY", str(TOP / "build" / "libdvg.so"))
 PROGRAM = sys.argv[1]
 DRAW = sys.argv[2] if len(sys.argv) > 2 else None
 SEED = int(sys.argv[3]) if len(sys.argv) > 3 else 1979
-passed = failed = 0
-
-
-def expect(holds, what):
-    """Counts a test."""
-    global passed, failed
-    if holds:
-        passed += 1
-    else:
-        failed += 1
-        print(f"FAILED: {what}")
 
 
 def expect_same(wanted, found, what):
@@ -1103,5 +1095,4 @@ test_logs(300)
 test_svg(20)
 test_script()
 test_texts()
-print(f"{passed} passed, {failed} failed")
-sys.exit(failed != 0)
+counts.finish()

@@ -10,20 +10,10 @@ import sys
 import time
 from pathlib import Path
 
+import counts
 import gerbilargent as g
+from counts import expect
 from gerbilargent import Draft, Event, World
-
-passed = failed = 0
-
-
-def expect(holds, what):
-    """Counts a test."""
-    global passed, failed
-    if holds:
-        passed += 1
-    else:
-        failed += 1
-        print(f"FAILED: {what}")
 
 
 def refuses(kind, call):
@@ -76,5 +66,4 @@ g.ctypes.CDLL = load
 expect(not loads, f"the library is loaded once, and then {len(loads)} times more")
 expect(opened < 1e-2, f"a world takes {opened * 1e3:.1f} ms, ten times what is wanted")
 print(f"a world in {opened * 1e3:.2f} ms")
-print(f"{passed} passed, {failed} failed")
-sys.exit(failed != 0)
+counts.finish()
