@@ -14,7 +14,8 @@ use Rattle.dvg_theorem.proofs.Headline.{headline}
 use Rattle.dvg_6502.specs.Build.{IsBuilt}
 use Rattle.dvg_6502.specs.Joined.{IsMade, FitsBoard, IsBoards, BoardKeeps}
 use Rattle.dvg_6502.proofs.BuiltFrame.{built_accepted}
-use Rattle.dvg_6502.proofs.Sessions.{calls_live, one_life, offer_answers, open_answers, redraw_answers}
+use Rattle.dvg_6502.proofs.Sessions.{calls_live, one_life}
+use Rattle.dvg_6502.proofs.Answering.{offer_answers, open_answers, redraw_answers}
 
 made_lives : (items : List Item) → IsMade items → IsLife items
 made_lives items made = let lives = calls_live made.0 made.1 in

@@ -47,6 +47,7 @@ pub mod BuildCalls
 pub mod Whole
 pub mod Interrupted
 pub mod Sessions
+pub mod Answering
 pub mod Idling
 pub mod Drafts
 pub mod Programs

@@ -11,21 +11,19 @@ use Rattle.dvg_frame.specs.Bytes.{addressed, bytes}
 use Rattle.dvg_frame.specs.Layout.{laid}
 use Rattle.dvg_driver.specs.declared.action.Action.{Action}
 use Rattle.dvg_driver.specs.declared.action.Action.TheVariants.{Peek, Wrote, Read, Sent, Idle}
-use Rattle.dvg_driver.specs.Script.{Item, Offered, Asked, Did, IsWhole, has_flip, frame_writes, word_zero}
+use Rattle.dvg_driver.specs.Script.{Item, Offered, Asked, Did, frame_writes, word_zero}
 use Rattle.dvg_driver.specs.Place.{Place, Start, Resting, Writing, Waiting, place_of_life, next_place}
 use Rattle.dvg_driver.specs.Stands.{Stage, StandsAfter, KnowsHalf, byte1_of}
-use Rattle.dvg_driver.proofs.Places.{whole_rests, some_same}
-use Rattle.dvg_driver.proofs.Shapes.{place_life, rests_whole}
+use Rattle.dvg_driver.proofs.Shapes.{place_life}
 use Rattle.dvg_6502.specs.Processor.{Cpu, Access, Reads, Writes, run, turn, at_return}
 use Rattle.dvg_6502.specs.Amid.{Guard, AreHarmless, changed, guards, is_kept, is_work, is_code, are_steady, all_in}
 use Rattle.dvg_6502.specs.Board.{IsLoaded, seen, tells_halted, goal_in, is_own, is_ram, is_hardware}
-use Rattle.dvg_6502.specs.Holds.{Holds, HoldsPlace}
+use Rattle.dvg_6502.specs.Holds.{Holds}
 use Rattle.dvg_6502.specs.Tables.{HasTable, table_of}
 use Rattle.dvg_6502.specs.Routines.{Enters, Shows, Answers, Part, begins, put_by}
 use Rattle.dvg_6502.specs.Calls
 use Rattle.dvg_6502.specs.Calls.{Routine, Call, call_of, after, is_over, is_taken, is_table, is_offered, bounds, frame_of}
-use Rattle.dvg_6502.specs.Calls.{IsSession, Adds, AreShown, IsLifeOf, put_on, CallsLive, OneLife, IsAnswered, OfferAnswers}
-use Rattle.dvg_6502.specs.Calls.{OpenAnswers, RedrawAnswers}
+use Rattle.dvg_6502.specs.Calls.{IsSession, Adds, AreShown, IsLifeOf, put_on, CallsLive, OneLife}
 use Rattle.dvg_6502.proofs.Growing.{GoesOn, within, same_end}
 use Rattle.dvg_6502.proofs.Running.{returned}
 use Rattle.dvg_6502.proofs.Acting.{Covers}
@@ -38,7 +36,7 @@ use Rattle.dvg_6502.proofs.AmidRun.{came_out}
 use Rattle.dvg_6502.proofs.Offering.{resets_steadily, reset_refines, takes_steadily, offer_is_taken, redraw_is_taken}
 use Rattle.dvg_6502.proofs.Offering.{redraw_is_refused, redraw_takes_steadily, redraw_refuses_steadily}
 use Rattle.dvg_6502.proofs.Building.{goal_is}
-use Rattle.dvg_6502.proofs.Closing.{open_steadily, open_is_taken}
+use Rattle.dvg_6502.proofs.Closing.{open_steadily}
 use Rattle.dvg_6502.proofs.Standing.{Stood}
 use Rattle.dvg_6502.proofs.Refusing.{Refuses, refused_steady, offer_refused, open_refused, redraw_refused}
 use Rattle.dvg_6502.proofs.Built.{stage_at, holds_in, place_now, holds_on, by_rest, holds_goes, run_goes_on}
@@ -79,14 +77,14 @@ quiet_before s k n cpu is quiet = by (within s k n cpu is)
     by (inr on) = none_before on.0 (seen (run s k cpu).log) (sym quiet ∙ on.1)
 
 -- an answer: a call that touches no hardware, and returns with this C and this memory
-record Quietly (cpu : Cpu) (c : Bool) (mem : ℕ → ℕ) : Type 0 where
-  steps : ℕ
-  returns : at_return cpu.s (run cpu.s steps cpu) ≡ true
-  carry : (run cpu.s steps cpu).c ≡ c
-  shows : seen (run cpu.s steps cpu).log ≡ []
-  memory : (run cpu.s steps cpu).mem ≡ mem
+pub record Quietly (cpu : Cpu) (c : Bool) (mem : ℕ → ℕ) : Type 0 where
+  pub steps : ℕ
+  pub returns : at_return cpu.s (run cpu.s steps cpu) ≡ true
+  pub carry : (run cpu.s steps cpu).c ≡ c
+  pub shows : seen (run cpu.s steps cpu).log ≡ []
+  pub memory : (run cpu.s steps cpu).mem ≡ mem
 
-abbrev of_answer : (cpu : Cpu) (c : Bool) (begin stop : ℕ) (new : Stage) → (did : Answers cpu c begin stop new)
+abbrev pub of_answer : (cpu : Cpu) (c : Bool) (begin stop : ℕ) (new : Stage) → (did : Answers cpu c begin stop new)
     → Quietly cpu c (run cpu.s did.steps cpu).mem
 of_answer cpu c begin stop new did = record {
   steps = did.steps;
@@ -96,7 +94,7 @@ of_answer cpu c begin stop new did = record {
   memory = refl;
 }
 
-abbrev of_refusal : (cpu : Cpu) → (did : Refuses cpu) → Quietly cpu true did.memory
+abbrev pub of_refusal : (cpu : Cpu) → (did : Refuses cpu) → Quietly cpu true did.memory
 of_refusal cpu did = record {
   steps = did.comes.steps;
   returns = returned cpu.s (run cpu.s did.comes.steps cpu) did.comes.returns did.comes.stack;
@@ -736,129 +734,3 @@ one_life (call ∷ calls) one other a b =
     a.2 ∙ ap (λ l. l ++ a.1) (one_added call.routine call a.0 b.0 a.3 b.3)
     ∙ ap (λ l. b.0 ++ l) (one_since call.routine a.1 b.1 (λ l. IsLifeOf calls l) (one_life calls a.1 b.1) a.4 b.4)
     ∙ sym b.2
-
--- where a life is whole, the driver rests
-module _ (from : Cpu) (begin stop : ℕ) (life : List Item) where
-  not_at_rest : (writes : List (ℕ × ℕ)) (first : Bool) → Writing writes ≡ Resting first → ⊥
-  not_at_rest writes first is = absurd (cc)
-
-  at_rest : IsWhole life → (frame : Option (ℕ × List ℕ)) → holds_in begin stop frame from.mem life
-      → (stood : Stood from.mem begin stop life) × ((first : Bool)
-      × Holds from.mem begin stop (record { place = Resting first; half = stood.stage.half; flipped = stood.stage.flipped }))
-  at_rest whole None stood =
-      let rests = whole_rests life whole in
-      let is : stood.stage.place ≡ Resting rests.0 = some_same (sym stood.stands.place ∙ rests.1) in (
-        stood,
-        (
-          rests.0,
-          record {
-            flipped = stood.holds.flipped;
-            place = subst (λ place. HoldsPlace from.mem begin stop place stood.stage.half stood.stage.flipped) is
-                stood.holds.place;
-          },
-        ),
-      )
-  at_rest whole (Some frame) built =
-      let rests = whole_rests life whole in
-      absurd (not_at_rest (addressed (goal_in from.mem - 0x4000) frame.1 ++ word_zero (other built.half) (not built.flipped))
-      rests.0 (some_same (sym built.stands.place ∙ rests.1)))
-
--- what an answer of a call is, and what it may be
-abbrev held_at : (routine : Routine) (c : Bool) (life : List Item) → IsAnswered routine c life → Type 0
-held_at routine c life a = holds_in (bounds a.calls).0 (bounds a.calls).1 (frame_of a.calls) a.from.mem life
-
--- what an answer of a call is, and what it may be
-module _ (r : Routine) (c : Bool) (life : List Item) (no_reset : (P : Type 0) → Calls.UnlessReset r P → P)
-    (a : IsAnswered r c life) where
-  abbrev asked : Call
-  asked = call_of r a.from a.steps a.others
-
-  held : holds_in (bounds a.calls).0 (bounds a.calls).1 (frame_of a.calls) a.from.mem life
-  held = let both = no_reset (Calls.Follows asked a.calls × IsSession a.calls) a.session.3 in
-      let was = before_call asked a.calls both.0 a.session.0.loaded both.1 in
-      subst (λ l. holds_in (bounds a.calls).0 (bounds a.calls).1 (frame_of a.calls) a.from.mem l)
-      (one_life a.calls was.life life was.is_life a.makes) was.holds
-
-  -- its C
-  carried : (d : Bool) (mem : ℕ → ℕ) → Quietly a.from d mem → c ≡ d
-  carried d mem did =
-      let is = came_of asked a.calls a.session in
-      sym a.carry ∙ is.carry a.over
-      ∙ ap (λ (k : Cpu). k.c) (same_end a.from.s is.n did.steps a.from (sym is.over ∙ a.over) did.returns) ∙ did.carry
-
-  -- where it is taken, the driver rests, so that the life is whole
-  rests : c ≡ false → (nat_eq (a.from.mem 0x10) 2 ≡ false → Refuses a.from)
-      → (stood : Stood a.from.mem (bounds a.calls).0 (bounds a.calls).1 life)
-      × ((first : Bool) × (stood.stage.place ≡ Resting first))
-  rests taken refused = by_rest a.from.mem (bounds a.calls).0 (bounds a.calls).1 (frame_of a.calls) life
-      ((stood : Stood a.from.mem (bounds a.calls).0 (bounds a.calls).1 life)
-      × ((first : Bool) × (stood.stage.place ≡ Resting first)))
-      (λ busy. let did = refused busy in
-      absurd (let e = sym (carried true did.memory (of_refusal a.from did)) ∙ taken in cc))
-      (λ none stood first is held. (stood, (first, is))) held
-
-  whole : c ≡ false → (nat_eq (a.from.mem 0x10) 2 ≡ false → Refuses a.from) → IsWhole life
-  whole taken refused = let at = rests taken refused in
-      rests_whole life at.1.0 (at.0.stands.place ∙ ap Some at.1.1)
-
-  -- where the life is whole, the driver rests
-  rested : IsWhole life → (stood : Stood a.from.mem (bounds a.calls).0 (bounds a.calls).1 life) × ((first : Bool)
-      × Holds a.from.mem (bounds a.calls).0 (bounds a.calls).1
-      (record { place = Resting first; half = stood.stage.half; flipped = stood.stage.flipped }))
-  rested whole = at_rest a.from (bounds a.calls).0 (bounds a.calls).1 life whole (frame_of a.calls) held
-
-pub offer_answers : OfferAnswers
-offer_answers F life = (
-  (λ a. whole (Calls.Offer F) false life (λ P is. is) a refl (offer_refused a.from a.session.0)),
-  (λ a is_whole.
-      let rest = rested (Calls.Offer F) true life (λ P is. is) a is_whole in
-      let did = offer_is_taken a.from (bounds a.calls).0 (bounds a.calls).1 rest.0.stage.half rest.0.stage.flipped
-      rest.1.0 F a.session.0 rest.1.1 a.session.1 in
-      absurd (let e = carried (Calls.Offer F) true life (λ P is. is) a false _ (of_answer a.from false _ _ _ did) in cc)),
-)
-
-pub open_answers : OpenAnswers
-open_answers F life = (
-  (λ a. whole (Calls.Open F) false life (λ P is. is) a refl (open_refused a.from a.session.0)),
-  (λ a is_whole.
-      let rest = rested (Calls.Open F) true life (λ P is. is) a is_whole in
-      let did = open_is_taken a.from (bounds a.calls).0 (bounds a.calls).1 rest.0.stage.half rest.0.stage.flipped
-      rest.1.0 (table_of F) a.session.0 rest.1.1 a.session.1.some a.session.1.fits in
-      absurd (let e = carried (Calls.Open F) true life (λ P is. is) a false (run a.from.s did.steps a.from).mem (record {
-        steps = did.steps;
-        returns = did.returns;
-        carry = did.carry;
-        shows = did.shows;
-        memory = refl;
-      }) in cc)),
-)
-
-module _ (life : List Item) where
-  redraw_taken : (a : IsAnswered Calls.Redraw false life) → (has_flip life ≡ true) × IsWhole life
-  redraw_taken a = (
-    by at.0.stage.flipped refl,
-    whole Calls.Redraw false life (λ P is. is) a refl (redraw_refused a.from a.session.0),
-  )
-    where
-      at : (stood : Stood a.from.mem (bounds a.calls).0 (bounds a.calls).1 life)
-          × ((first : Bool) × (stood.stage.place ≡ Resting first))
-      at = rests Calls.Redraw false life (λ P is. is) a refl (redraw_refused a.from a.session.0)
-
-      by : (flipped : Bool) → at.0.stage.flipped ≡ flipped → has_flip life ≡ true
-      by false unset =
-          let did = redraw_is_refused a.from _ _ at.0.stage a.session.0 at.0.holds
-          (λ set. absurd (let e = sym unset ∙ set in cc)) in
-          absurd (let e = carried Calls.Redraw false life (λ P is. is) a true _ (of_answer a.from true _ _ at.0.stage did) in cc)
-      by true set = at.0.stands.flipped ∙ set
-
-  redraw_untaken : (a : IsAnswered Calls.Redraw true life) → has_flip life ≡ true → ¬ IsWhole life
-  redraw_untaken a flip is_whole =
-      let rest = rested Calls.Redraw true life (λ P is. is) a is_whole in
-      let flipped : rest.0.stage.flipped ≡ true = sym rest.0.stands.flipped ∙ flip in
-      let did = redraw_is_taken a.from (bounds a.calls).0 (bounds a.calls).1 rest.0.stage.half rest.1.0 a.session.0
-      (subst (λ (t : Bool). Holds a.from.mem (bounds a.calls).0 (bounds a.calls).1
-      (record { place = Resting rest.1.0; half = rest.0.stage.half; flipped = t })) flipped rest.1.1) in
-      absurd (let e = carried Calls.Redraw true life (λ P is. is) a false _ (of_answer a.from false _ _ _ did) in cc)
-
-pub redraw_answers : RedrawAnswers
-redraw_answers life = (redraw_taken life, redraw_untaken life)
