@@ -1,7 +1,7 @@
 -- The first picture of a machine: the driver boots and takes a table, writes and publishes its frame, and the core draws
 -- it; a redraw is asked for meanwhile, and finds the core running. The prover runs both ends, step by step.
 use Rattle.std.proofs.Common.{◌≡◌, ℕ, zero, suc, ◌+◌, ◌<◌, Bool, true, false, List, [], ◌∷◌, ◌++◌, length, Option, Some, None, drop, take}
-use Rattle.std.proofs.Common.{refl, sym, ap, ◌∙◌, subst, arith, lit<, inl, eqb-true, leb-true}
+use Rattle.std.proofs.Common.{refl, sym, ap, ◌∙◌, subst, arith, lit<, eqb-true, leb-true}
 use Rattle.std.proofs.Common.{length-append}
 use Rattle.std.proofs.lemmas.List.{length-replicate, get_or-replicate}
 use Rattle.std.proofs.lemmas.List.Elements.{All-cons, All-nil, All-replicate}
@@ -9,9 +9,9 @@ use Rattle.std.proofs.lemmas.Bool.{ne_eqb}
 use Rattle.std.specs.Prelude.{nat_eq, nat_le, nat_lt, ◌&&◌, ◌||◌, if◌then◌else◌, pos}
 use Rattle.dvg_code.specs.declared.instr.Instr.TheVariants.{Labs as Place, Svec}
 use Rattle.dvg_frame.specs.declared.op.OpKind.{OpKind}
-use Rattle.dvg_frame.specs.declared.op.OpKind.TheVariants.{Draw, Halt}
+use Rattle.dvg_frame.specs.declared.op.OpKind.TheVariants.{Draw, CallRom, Halt}
 use Rattle.dvg_frame.specs.Ops.{IsOp}
-use Rattle.dvg_mem.specs.Memory.{IsImage, IsRom}
+use Rattle.dvg_mem.specs.Memory.{IsImage}
 use Rattle.dvg_driver.specs.declared.action.Action.TheVariants.{Peek, Read}
 use Rattle.dvg_log.specs.declared.event.Event.TheVariants.{Offer, Tick, ResetCpu}
 use Rattle.dvg_log.specs.declared.entry.Entry.TheVariants.{Offered, Acted, Cleared}
@@ -33,13 +33,14 @@ use Rattle.dvg_6502.proofs.Quiet.{entered, enters, quiet, follows, written, fit,
 use Rattle.dvg_6502.proofs.ExampleWorld.{start, start_loaded}
 use Rattle.dvg_6502.proofs.Example.{some_logs, has_table}
 use Rattle.dvg_6502.proofs.Joined.{board_keeps as code_keeps}
-use Rattle.dvg_board.specs.Board.{Board, Bus, q, clock}
+use Rattle.dvg_board.specs.Board.{Board, Bus, high, q, clock}
 use Rattle.dvg_board.specs.Clocks.{IsBus, after, changes}
 use Rattle.dvg_board.specs.Logs.{did, answered}
 use Rattle.dvg_board.specs.Example.{zeros}
-use Rattle.dvg_board.proofs.Example.{held, quiet as no_access, reading, writing, is_quiet, is_reading, is_writing, served}
+use Rattle.dvg_board.proofs.Example.{held}
+use Rattle.dvg_system.proofs.Returns.{no_access, reading, writing, is_quiet, is_reading, is_writing, served, is_rom, one_call}
 use Rattle.dvg_system.specs.Machine.{Makes, IsChecked, SharesRam, with_reset, with_answer, IsMachine, powers, waits, begins, steps, accesses}
-use Rattle.dvg_system.specs.Example.{SomeBuilder, SomeMachine}
+use Rattle.dvg_system.specs.Example.{SomeBuilder, SomeMachine, returns}
 
 -- a log that goes on another one of the same length is the same
 none_more : (pre log : List Access) → length (pre ++ log) ≡ length log → pre ≡ []
@@ -69,9 +70,9 @@ is_bus board (Reads a byte) is = is_reading a (leb-true (suc a) 65536 (both_true
 is_bus board (Writes a byte) is = let two = both_true (nat_lt a 65536) (nat_lt byte 256) is in
     is_writing a byte (leb-true (suc a) 65536 two.0) (leb-true (suc byte) 256 two.1)
 
-is_small : (access : Access) → (bus_of access).big ≡ 0
-is_small (Reads a byte) = refl
-is_small (Writes a byte) = refl
+drives : (access : Access) → ((bus_of access).big ≡ 0) × ((bus_of access).rom ≡ 0xD0)
+drives (Reads a byte) = (refl, refl)
+drives (Writes a byte) = (refl, refl)
 
 makes : (board : Board) (access : Access) → answers board access ≡ true → Makes board (bus_of access) access
 makes board (Reads a byte) is = (
@@ -84,11 +85,11 @@ makes board (Reads a byte) is = (
 makes board (Writes a byte) is = (refl, refl, refl, refl)
 
 abbrev On : List Call → Log → List Bus → Type 0
-On list log older = IsMachine zeros zeros held list log older
+On list log older = IsMachine returns zeros held list log older
 
--- the core fetches from the RAM
-abbrev is_low : List Bus → Bool
-is_low older = nat_lt (after held older).core.at 0x400
+-- the pin `high` is a bit
+abbrev is_bit : List Bus → Bool
+is_bit older = nat_lt (high (after held older)) 2
 
 -- a machine amid a call, after so many of its steps
 record Amid (r : Routine) (from : Cpu) (olds : List Call) : Type 0 where
@@ -142,14 +143,14 @@ module _ (r : Routine) (from : Cpu) (olds : List Call) (session : (n : ℕ) → 
 
     -- one with an access
     abbrev fits : Access → List Access → Bool
-    fits access log = nat_eq (length log) (length (seen at.cpu.log)) && (answers (after held at.older) access && is_low at.older)
+    fits access log = nat_eq (length log) (length (seen at.cpu.log)) && (answers (after held at.older) access && is_bit at.older)
 
     abbrev goes_on : (access : Access) (log : List Access) → seen new.log ≡ access ∷ log → (t : Bool)
         → fits access log ≡ t → Option (Amid r from olds)
     goes_on access log is false e = None
     goes_on access log is true e =
         let one = both_true (nat_eq (length log) (length (seen at.cpu.log))) _ e in
-        let two = both_true (answers (after held at.older) access) (is_low at.older) one.1 in
+        let two = both_true (answers (after held at.older) access) (is_bit at.older) one.1 in
         let bus = bus_of access in
         Some (record {
           n = at.n + 1;
@@ -162,7 +163,7 @@ module _ (r : Routine) (from : Cpu) (olds : List Call) (session : (n : ℕ) → 
               (subst (λ l. GoesOn l (seen at.cpu.log)) is seen_on) (eqb-true (length log) (length (seen at.cpu.log)) one.0))
               ∙ ap (λ (c : Cpu). access ∷ seen c.log) (sym now_is))
               (is_bus (after held at.older) access two.0)
-              (served (after held at.older) bus (is_small access) (leb-true (suc (after held at.older).core.at) 0x400 two.1))
+              (served (after held at.older) bus (drives access) (leb-true (suc (high (after held at.older))) 2 two.1))
               (makes (after held at.older) access two.0);
         })
 
@@ -178,7 +179,7 @@ module _ (r : Routine) (from : Cpu) (olds : List Call) (session : (n : ℕ) → 
     next false e false same = accessing (seen new.log) refl
 
     -- a clock without an access
-    abbrev rests : (t : Bool) → is_low at.older ≡ t → Amid r from olds
+    abbrev rests : (t : Bool) → is_bit at.older ≡ t → Amid r from olds
     rests false e = at
     rests true e = record {
       n = at.n;
@@ -187,7 +188,7 @@ module _ (r : Routine) (from : Cpu) (olds : List Call) (session : (n : ℕ) → 
       log = answered zeros held at.older no_access false at.log;
       older = no_access ∷ at.older;
       on = waits no_access false at.on is_quiet
-          (served (after held at.older) no_access refl (leb-true (suc (after held at.older).core.at) 0x400 e)) (refl, refl);
+          (served (after held at.older) no_access (refl, refl) (leb-true (suc (high (after held at.older))) 2 e)) (refl, refl);
     }
 
   abbrev or_stays : Amid r from olds → Option (Amid r from olds) → (Amid r from olds → Amid r from olds) → Amid r from olds
@@ -202,7 +203,7 @@ module _ (r : Routine) (from : Cpu) (olds : List Call) (session : (n : ℕ) → 
 
   abbrev rests_for : ℕ → Amid r from olds → Amid r from olds
   rests_for zero at = at
-  rests_for (suc k) at = rests_for k (rests at (is_low at.older) refl)
+  rests_for (suc k) at = rests_for k (rests at (is_bit at.older) refl)
 
 -- a machine whose newest call is over
 record Ready : Type 0 where
@@ -234,7 +235,7 @@ module _ (r : Routine) (a x flag : ℕ) (was : Ready) where
   abbrev from : Cpu
   from = record (entered (entry r) x 0xFF flag was.mem) { a = a }
 
-  module _ (few_a : a < 256) (few : x < 256) (brings : Brings r from (frame_of was.list)) (checked : IsChecked zeros r)
+  module _ (few_a : a < 256) (few : x < 256) (brings : Brings r from (frame_of was.list)) (checked : IsChecked returns r)
       (shares : SharesRam r was.mem (after held was.older)) (unless : (P : Type 0) → P → UnlessReset r P)
       (begins_so : with_reset r was.log ≡ was.log) where
     session : (n : ℕ) → IsSession (quiet r n from ∷ was.list)
@@ -260,9 +261,6 @@ module _ (r : Routine) (a x flag : ℕ) (was : Ready) where
     abbrev calls_for : (clocks : ℕ) → over r from (end clocks).n (end clocks).cpu ≡ true
         → fit (written (end clocks).cpu.log) ≡ true → Ready
     calls_for clocks is fits = ready r from was.list session refl was.loaded (end clocks) is fits
-
-is_rom : IsRom zeros
-is_rom = record { count = inl (length-replicate {A = ℕ} 2048 0); bytes = All-replicate (λ b. b < 256) 2048 0 (lit< tt) }
 
 is_image : IsImage zeros
 is_image = record { count = length-replicate {A = ℕ} 2048 0; bytes = All-replicate (λ b. b < 256) 2048 0 (lit< tt) }
@@ -308,9 +306,9 @@ abbrev looked : Ready
 looked = calls_for calls.Tick 0 0 0 peeked (lit< tt) (lit< tt) tt tt tt (λ P is. is) refl 0 refl refl
 
 -- an offer of the table, whose frame the check accepts
-checked : IsChecked zeros (calls.Offer stroke)
-checked = let lines = some_logs zeros zeros is_rom is_image in
-    (lines.1, (code_keeps zeros zeros ((Offer stroke ⟼ Offered) ∷ (Tick ⟼ Acted (Read true)) ∷ (Tick ⟼ Acted Peek) ∷ []) lines).0.0.0)
+checked : IsChecked returns (calls.Offer stroke)
+checked = let lines = some_logs returns zeros is_rom is_image in
+    (lines.1, (code_keeps returns zeros ((Offer stroke ⟼ Offered) ∷ (Tick ⟼ Acted (Read true)) ∷ (Tick ⟼ Acted Peek) ∷ []) lines).0.0.0)
 
 abbrev offered : Ready
 offered = calls_for (calls.Offer stroke) 0 0x50 0 looked (lit< tt) (lit< tt) has_table checked tt (λ P is. is) refl 0 refl refl
@@ -330,26 +328,29 @@ again = calls_for calls.Tick 0 0 0x80 asked (lit< tt) (lit< tt) tt tt tt (λ P i
 pub some_machine : SomeMachine
 some_machine = (_, drop 3 again.log, again.older, again.on)
 
--- after the boot a frame is built: a LABS, a short vector, and the HALT
-abbrev line : List OpKind
-line = Draw (Place 512 512 0) ∷ Draw (Svec 4 (pos 1) (pos 0) 7) ∷ Halt ∷ []
+-- after the boot a frame is built: a LABS, a short vector, a call of the ROM, and the HALT
+abbrev vector : OpKind
+vector = Draw (Svec 4 (pos 1) (pos 0) 7)
 
-line_checked : IsChecked zeros (calls.Open line)
+abbrev line : List OpKind
+line = Draw (Place 512 512 0) ∷ vector ∷ CallRom 0x800 ∷ Halt ∷ []
+
+line_checked : IsChecked returns (calls.Open line)
 line_checked = (
   record {
     count = omega arith;
-    ops = All-cons IsOp (Draw (Place 512 512 0)) (Draw (Svec 4 (pos 1) (pos 0) 7) ∷ Halt ∷ []) ((omega arith, omega arith, omega arith), refl)
-        (All-cons IsOp (Draw (Svec 4 (pos 1) (pos 0) 7)) (Halt ∷ [])
-        ((omega arith, omega arith, omega arith, omega arith, omega arith), refl)
-        (All-cons IsOp Halt [] tt (All-nil IsOp)));
+    ops = All-cons IsOp (Draw (Place 512 512 0)) (vector ∷ CallRom 0x800 ∷ Halt ∷ []) ((omega arith, omega arith, omega arith), refl)
+        (All-cons IsOp vector (CallRom 0x800 ∷ Halt ∷ []) ((omega arith, omega arith, omega arith, omega arith, omega arith), refl)
+        (All-cons IsOp (CallRom 0x800) (Halt ∷ []) (omega arith) (All-cons IsOp Halt [] tt (All-nil IsOp))));
   },
   (
     512,
     512,
     0,
-    Draw (Svec 4 (pos 1) (pos 0) 7) ∷ [],
+    vector ∷ CallRom 0x800 ∷ [],
     refl,
-    All-cons (IsPut zeros) (Draw (Svec 4 (pos 1) (pos 0) 7)) [] refl (All-nil (IsPut zeros)),
+    All-cons (IsPut returns) vector (CallRom 0x800 ∷ []) refl
+        (All-cons (IsPut returns) (CallRom 0x800) [] one_call (All-nil (IsPut returns))),
     omega arith,
   ),
 )
@@ -364,28 +365,33 @@ ticked = calls_for calls.Tick 0 0 0 opened (lit< tt) (lit< tt) tt tt tt (λ P is
 
 abbrev placed : Ready
 placed = calls_for (calls.Puts Labs) 0 0 0 ticked (lit< tt) (lit< tt)
-    (λ room. (0x79 ∷ 0xF0 ∷ 0x00 ∷ 0xB0 ∷ [], refl, omega arith)) tt tt (λ P is. is) refl 0 refl refl
+    (λ room. (0x79 ∷ 0xF0 ∷ 0x00 ∷ 0xC8 ∷ 0x00 ∷ 0xB0 ∷ [], refl, omega arith)) tt tt (λ P is. is) refl 0 refl refl
 
 abbrev drawn : Ready
 drawn = calls_for (calls.Puts Put) 0x79 0xF0 0 placed (lit< tt) (lit< tt)
+    (λ room. (0x00 ∷ 0xC8 ∷ 0x00 ∷ 0xB0 ∷ [], refl, omega arith)) tt tt (λ P is. is) refl 0 refl refl
+
+-- the word C800 calls the ROM's first one
+abbrev called : Ready
+called = calls_for (calls.Puts Put) 0x00 0xC8 0 drawn (lit< tt) (lit< tt)
     (λ room. (0x00 ∷ 0xB0 ∷ [], refl, omega arith)) tt tt (λ P is. is) refl 0 refl refl
 
 abbrev closed : Ready
-closed = calls_for calls.Close 0 0 0 drawn (lit< tt) (lit< tt) refl tt tt (λ P is. is) refl 0 refl refl
+closed = calls_for calls.Close 0 0 0 called (lit< tt) (lit< tt) refl tt tt (λ P is. is) refl 0 refl refl
 
--- dvg_run, up to the strobe, and then 22 clocks
+-- dvg_run, up to the strobe, and then 32 clocks
 abbrev shown : Ready
-shown = calls_for calls.Run 0 0 0 closed (lit< tt) (lit< tt) tt tt tt (λ P is. is) refl 22 refl refl
+shown = calls_for calls.Run 0 0 0 closed (lit< tt) (lit< tt) tt tt tt (λ P is. is) refl 32 refl refl
 
 pub some_builder : SomeBuilder
 some_builder = (
   line,
   shown.list,
-  drop 1 shown.log,
+  drop 5 shown.log,
   shown.older,
   shown.on,
   refl,
-  (take 4 shown.list, looked.list, first ticked.list, first opened.list, refl, refl, refl, refl),
+  (take 5 shown.list, looked.list, first ticked.list, first opened.list, refl, refl, refl, refl),
 )
   where
     first : List Call → Call

@@ -4,4 +4,5 @@ pub mod System
 mod Machine
 mod Hindsight
 mod Waiting
+mod Returns
 mod Example

@@ -50,10 +50,10 @@ pub fn goes_on()
     ensures { OfEachMachine GoesOn }
 {}
 
-/// There is such a machine: over a RAM and a ROM of zeros the machine code boots, takes a table,
-/// writes and publishes its frame, and sends a strobe; the core draws it, and a read of the flag
-/// meanwhile finds it running. And there is one whose code builds a frame, call by call, which the
-/// core draws.
+/// There is such a machine: over a RAM of zeros and a ROM of returns the machine code boots, takes
+/// a table, writes and publishes its frame, and sends a strobe; the core draws it, and a read of
+/// the flag meanwhile finds it running. And there is one whose code builds a frame, call by call,
+/// amid which an NMI ticks; the frame calls the ROM, and the core draws it.
 pub fn some_machine()
     ensures offers { SomeMachine }
     ensures builds { SomeBuilder }
