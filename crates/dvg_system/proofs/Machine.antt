@@ -200,7 +200,7 @@ module _ (R image : List ℕ) (held : ℕ → ℕ) (log : Log) (older : List Bus
   begins_runs calls.Close list runs session checked shares = goes_on calls.Close list session checked session.3 runs
       (λ items is. ([], items, refl, begin_adds calls.Close from others session.0, is))
 
-first_is : (one two : Access) → one ∷ [] ≡ two ∷ [] → one ≡ two
+pub first_is : (one two : Access) → one ∷ [] ≡ two ∷ [] → one ≡ two
 first_is one two e = ap (λ l. first l) e
   where
     first : List Access → Access
@@ -208,7 +208,7 @@ first_is one two e = ap (λ l. first l) e
     first (access ∷ rest) = access
 
 -- what the script writes is a byte of the RAM
-written_in_ram : (R image : List ℕ) (log : Log) (a b : ℕ) → IsLegal R image log → IsLife (Did (Wrote a b) ∷ life image log)
+pub written_in_ram : (R image : List ℕ) (log : Log) (a b : ℕ) → IsLegal R image log → IsLife (Did (Wrote a b) ∷ life image log)
     → a < 0x800
 written_in_ram R image log a b legal live =
     let k = kept R image log legal (words_are_whole R image log legal) in
@@ -238,6 +238,43 @@ wrote_ram L size x d a page small = elim (eqb_tells (0x4000 + a) x) [
 
 elsewhere : (x b : ℕ) → x ≡ 0x3000 → nat_eq (0x4000 + b) x ≡ false
 elsewhere x b at = elim (eqb_tells (0x4000 + b) x) [ inl t ↦ absurd (omega (arith, t.1)) | inr t ↦ t.0 ]
+
+-- a call from one of its steps up to a later one, when it has made one access more
+module _ (before now : Call) (access : Access) (more : accesses_of now ≡ access ∷ accesses_of before) where
+  -- the access is an action, and the call adds it
+  abbrev pub Next : Routine → List Item → Type 0
+  Next r items = (action : Action) × Shows action (access ∷ [])
+      × ((other : Action) → Shows other (access ∷ []) → Adds r now (Did other ∷ items))
+
+  shown_next : (items new : List Item) → AreShown items (accesses_of before) → AreShown new (accesses_of now)
+      → (action : Action) × Shows action (access ∷ [])
+      × ((other : Action) → Shows other (access ∷ []) → AreShown (Did other ∷ items) (accesses_of now))
+  shown_next items new old shows = by new (subst (AreShown new) more shows)
+    where
+      further : (other : Action) → Shows other (access ∷ []) → AreShown (Did other ∷ items) (accesses_of now)
+      further other it = subst (AreShown (Did other ∷ items)) (sym more) (it, old)
+
+      by : (new : List Item) → AreShown new (access ∷ accesses_of before)
+          → (action : Action) × Shows action (access ∷ [])
+          × ((other : Action) → Shows other (access ∷ []) → AreShown (Did other ∷ items) (accesses_of now))
+      by [] it = absurd it
+      by (Did action ∷ new) it = (action, it.0, further)
+      by (Script.Offered half F ∷ new) it = absurd it
+      by (Script.Asked ∷ new) it = absurd it
+
+  no_access : {X : Type 0} → accesses_of now ≡ [] → X
+  no_access e = absurd (let both = sym more ∙ e in cc)
+
+  pub next_of : (r : Routine) (items new : List Item) → Adds r before items → Adds r now new → Next r items
+  next_of calls.Reset items new old it = no_access it.0
+  next_of calls.Tick items new old it = shown_next items new old it
+  next_of calls.Ticks items new old it = shown_next items new old it
+  next_of calls.Run items new old it = shown_next items new old it
+  next_of (calls.Offer F) items new old it = no_access it.0
+  next_of calls.Redraw items new old it = no_access it.0
+  next_of (calls.Open F) items new old it = no_access it.0
+  next_of (calls.Puts part) items new old it = shown_next items new old it
+  next_of calls.Close items new old it = shown_next items new old it
 
 -- a call that goes on
 module _ (R image : List ℕ) (held : ℕ → ℕ) (log : Log) (older : List Bus) (from : Cpu) (m n : ℕ) (others : ℕ → ℕ → ℕ) (olds : List Call) where
@@ -438,47 +475,13 @@ module _ (R image : List ℕ) (held : ℕ → ℕ) (log : Log) (older : List Bus
     abbrev Goal : Routine → Type 0
     Goal r = Runs R image held (now r ∷ olds) (did (changes bus) next_log) (bus ∷ older)
 
-    -- the access is an action, and the call adds it
-    abbrev Next : Routine → List Item → Type 0
-    Next r items = (action : Action) × Shows action (access ∷ [])
-        × ((other : Action) → Shows other (access ∷ []) → Adds r (now r) (Did other ∷ items))
-
-    shown_next : (items new : List Item) → AreShown items (seen was.log) → AreShown new (seen end.log)
-        → (action : Action) × Shows action (access ∷ [])
-        × ((other : Action) → Shows other (access ∷ []) → AreShown (Did other ∷ items) (seen end.log))
-    shown_next items new old shows = by new (subst (AreShown new) more shows)
-      where
-        further : (other : Action) → Shows other (access ∷ []) → AreShown (Did other ∷ items) (seen end.log)
-        further other it = subst (AreShown (Did other ∷ items)) (sym more) (it, old)
-
-        by : (new : List Item) → AreShown new (access ∷ seen was.log)
-            → (action : Action) × Shows action (access ∷ [])
-            × ((other : Action) → Shows other (access ∷ []) → AreShown (Did other ∷ items) (seen end.log))
-        by [] it = absurd it
-        by (Did action ∷ new) it = (action, it.0, further)
-        by (Script.Offered half F ∷ new) it = absurd it
-        by (Script.Asked ∷ new) it = absurd it
-
-    no_access : {X : Type 0} → seen end.log ≡ [] → X
-    no_access e = absurd (let both = sym more ∙ e in cc)
-
-    next_of : (r : Routine) (items new : List Item) → Adds r (before r) items → Adds r (now r) new → Next r items
-    next_of calls.Reset items new old it = no_access it.0
-    next_of calls.Tick items new old it = shown_next items new old it
-    next_of calls.Ticks items new old it = shown_next items new old it
-    next_of calls.Run items new old it = shown_next items new old it
-    next_of (calls.Offer F) items new old it = no_access it.0
-    next_of calls.Redraw items new old it = no_access it.0
-    next_of (calls.Open F) items new old it = no_access it.0
-    next_of (calls.Puts part) items new old it = shown_next items new old it
-    next_of calls.Close items new old it = shown_next items new old it
-
     module _ (r : Routine) (runs : Runs R image held (before r ∷ olds) log older) (session : IsSession (now r ∷ olds)) where
       makes : IsLifeOf (before r ∷ olds) (life image log)
       makes = runs.known.makes
 
-      next : Next r makes.0
-      next = let live = calls_live (now r ∷ olds) session in next_of r makes.0 live.1.0 makes.3 live.1.3
+      next : Next (before r) (now r) access more r makes.0
+      next = let live = calls_live (now r ∷ olds) session in
+          next_of (before r) (now r) access more r makes.0 live.1.0 makes.3 live.1.3
 
       goes : (other : Action) → Shows other (access ∷ []) → IsLifeOf (now r ∷ olds) (Did other ∷ life image log)
       goes other shows =

@@ -1,6 +1,6 @@
 -- One machine: a 6502 that runs the driver's machine code, on the bus of a board of cells.
 use Rattle.std.specs.Prelude.{◌≡◌, ℕ, ◌+◌, ◌<◌, Bool, true, false, if◌then◌else◌, nat_eq, List, [], ◌∷◌, slice_index}
-use Rattle.std.specs.Prelude.{Option, Some, None}
+use Rattle.std.specs.Prelude.{Option, Some, None, is_none}
 use Rattle.dvg_mem.specs.Memory.{IsImage, IsRom}
 use Rattle.dvg_frame.specs.declared.op.OpKind.{OpKind}
 use Rattle.dvg_frame.specs.Ops.{IsDraft}
@@ -8,7 +8,7 @@ use Rattle.dvg_frame.specs.Faults.{Accepts}
 use Rattle.dvg_driver.specs.Script.{Item, has_flip}
 use Rattle.dvg_log.specs.declared.event.Event.TheVariants.{Offer, Redraw, ResetCpu, ResetAll}
 use Rattle.dvg_log.specs.declared.entry.Entry.TheVariants.{Offered, Busy, Asked, NothingPublished, Cleared}
-use Rattle.dvg_log.specs.Log.{◌⟼◌, Log, ram, life, published}
+use Rattle.dvg_log.specs.Log.{◌⟼◌, Log, ram, life, open_run, published}
 use Rattle.dvg_6502.specs.Processor.{Cpu, Access, Reads, Writes}
 use Rattle.dvg_6502.specs.Board.{seen}
 use Rattle.dvg_6502.specs.Build.{IsBuilt}
@@ -141,6 +141,19 @@ abbrev pub GoesOn : List ℕ → List ℕ → (ℕ → ℕ) → List Call → Lo
 GoesOn R image held calls log clocks = (bus : Bus) × (bus.reset ≡ 0) × (bus.hold ≡ 0)
     × IsIdle (after held clocks) bus
     × IsMachine R image held calls (answered image held clocks bus false log) (bus ∷ clocks)
+
+-- what is written is a byte, and a read of the flag finds in bit 7 whether a run is open
+abbrev pub FitsPins : Log → Access → Type 0
+FitsPins log (Reads a byte) = a ≡ 0x2002 → byte ≡ (if is_none (open_run log) then 0 else 128)
+FitsPins log (Writes a byte) = byte < 256
+
+-- where the newest call makes an access next, which fits the pins, a clock can come that makes it
+abbrev pub AccessComes : List ℕ → List ℕ → (ℕ → ℕ) → List Call → Log → List Bus → Type 0
+AccessComes R image held [] log clocks = Unit {0}
+AccessComes R image held (call ∷ calls) log clocks = (n : ℕ) (access : Access) → IsSession (later n call ∷ calls)
+    → accesses_of (later n call) ≡ access ∷ accesses_of call → FitsPins log access
+    → (bus : Bus) × IsMachine R image held (later n call ∷ calls)
+    (did (changes bus) (answered image held clocks bus false log)) (bus ∷ clocks)
 
 -- the check accepts what is published
 abbrev pub AcceptsPublished : List ℕ → Log → Type 0

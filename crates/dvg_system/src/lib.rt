@@ -10,7 +10,7 @@ ghost use Rattle.dvg_board.specs.Clocks.{after};
 ghost use Rattle.dvg_board.specs.Logs.{HoldsRam};
 ghost use Rattle.dvg_system.specs.Example.{SomeBuilder, SomeMachine};
 ghost use Rattle.dvg_system.specs.Hindsight.{HindsightKeeps};
-ghost use Rattle.dvg_system.specs.Machine.{AcceptsPublished, AreDone, FindsRam};
+ghost use Rattle.dvg_system.specs.Machine.{AcceptsPublished, AccessComes, AreDone, FindsRam};
 ghost use Rattle.dvg_system.specs.Machine.{GoesOn, HaveRam, OfEachMachine};
 
 /// For every ROM, first content of the RAM, and run of a machine whose processor calls the driver's
@@ -44,10 +44,13 @@ pub fn hindsight_keeps()
     ensures { HindsightKeeps }
 {}
 
-/// Such a machine can always go on: its board can have a clock more, with neither a reset nor a
-/// hold, in which the processor leaves it alone, and the ROM answers.
+/// Such a machine can always go on. Its board can have a clock more, with neither a reset nor a
+/// hold, in which the processor leaves it alone, and the ROM answers. And where the newest call
+/// makes an access next, a clock can come that makes it: what is written has to be a byte, and a
+/// read of the flag to find the flag.
 pub fn goes_on()
-    ensures { OfEachMachine GoesOn }
+    ensures waits { OfEachMachine GoesOn }
+    ensures accesses { OfEachMachine AccessComes }
 {}
 
 /// There is such a machine: over a RAM of zeros and a ROM of returns the machine code boots, takes
