@@ -36,12 +36,13 @@ def title() -> str:
 
 
 def metadata() -> bytes:
-    """What pip shows of it."""
+    """What pip and a registry show of it: its page of docs/ is the description."""
     name, version = title().split("-")
     lines = ["Metadata-Version: 2.1", f"Name: {name}", f"Version: {version}"]
     lines += ["Summary: A frame driver and a model of Atari's Digital Vector Generator"]
     lines += ["Requires-Python: >=3.8", "Classifier: Typing :: Typed"]
-    return "".join(line + "\n" for line in lines).encode()
+    lines += ["Description-Content-Type: text/markdown", ""]
+    return "".join(line + "\n" for line in lines).encode() + (TOP / "docs/PYTHON.md").read_bytes()
 
 
 def write_wheel(folder: str, files: "dict[str, bytes]") -> str:

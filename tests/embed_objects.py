@@ -237,6 +237,27 @@ def test_copies_of_drafts():
     expect_none_left("copies of drafts")
 
 
+def test_copies_of_values():
+    """What stands on no device is copied and pickled as any value."""
+    judge = g.Judge()
+    judge.started()
+    judge.fetched(0, 0xE201)
+    with Generator() as generator:
+        generator.strobe()
+        values = [generator.wanted, generator.beam, generator.fetch(0x90), World().draw(FRAME)]
+    values += [g.judge("started\nfetched 000 E201\nwrote 402 90\n"), g.Picture(1, values[3]),
+               next(iter(FRAME)), g.RunBroke(5, g.Break.HOLE)]
+    for value in values:
+        for other in (copy.copy(value), copy.deepcopy(value), pickle.loads(pickle.dumps(value))):
+            same = other == value or isinstance(value, Exception)
+            expect(type(other) is type(value) and same, f"a copy of {value!r}")
+            expect(str(other) == str(value), f"the text of a copy of {value!r}")
+    for other in (copy.copy(judge), copy.deepcopy(judge), pickle.loads(pickle.dumps(judge))):
+        expect(other.wrote(0x402) and not other.wrote(0x002), "a copy of a judge goes on alike")
+        expect((judge.writes, other.writes) == (0, 2), "and alone")
+    expect_none_left("copies of values")
+
+
 # --- `with`, subclasses, cycles, half-made objects ---
 
 
@@ -667,9 +688,9 @@ def storm(seconds, seed):
 
 
 for test in (
-    test_calls, test_copies, test_copies_of_generators, test_copies_of_drafts, test_with,
-    test_subclasses, test_cycles, test_failing, test_forks, test_ended_threads, test_in_use,
-    test_signals, test_fetching, test_types,
+    test_calls, test_copies, test_copies_of_generators, test_copies_of_drafts,
+    test_copies_of_values, test_with, test_subclasses, test_cycles, test_failing, test_forks,
+    test_ended_threads, test_in_use, test_signals, test_fetching, test_types,
 ):
     test()
 if len(sys.argv) > 1:

@@ -4,10 +4,11 @@
 //! This is the plain form: the proved sources without their contracts, tested and not proved.
 //!
 //! A [`Draft`] is a frame in the making. A [`World`] is both ends over one memory, and has a call
-//! for each event; a [`Driver`] and a [`Generator`] are each end alone. A [`Judge`] says which write
-//! tears a picture of two halves, and a [`MomentJudge`] whether a picture of any system is torn.
-//! [`dump`], [`read`], [`named`] and [`sketch`] have what is read: a memory, and texts. Each of these
-//! has an example on its own page.
+//! for each event; a [`Driver`] and a [`Generator`] are each end alone. A [`Judge`] says which
+//! write tears a picture of two halves, and a [`MomentJudge`] whether a picture of any system is
+//! torn. [`dump`], [`read`], [`named`] and [`sketch`] have what is read: a memory, and texts. The
+//! page of each of these types has an example, and so have [`dump::Dump`], [`read::read_trace`],
+//! [`named::read_sketch`] and [`sketch::draft_of`].
 //!
 //! A place is in 1/512 of a screen unit, 0 to 2,097,151 along both axes, y upwards; a LABS names
 //! whole screen units, 0 to 4,095. An intensity is 0 (nothing is seen) to 15. A word address is 000
