@@ -98,7 +98,7 @@ class Device:
             kind = chance.choice((6, 6, 6, 10, 12, 13, 13, 13, 14, chance.randrange(256)))
             return kind << 8 | chance.randrange(4) << 16 | chance.randrange(3) << 32
         if code in (4, 23, 24):
-            byte = chance.choice((0x00, 0x90, 0xA1, 0xB0, 0xC0, 0xD0, 0xE0, chance.randrange(256)))
+            byte = chance.choice((0x00, 0x90, 0xA1, 0xB0, 0xC0, 0xD0, 0xE0, chance.getrandbits(8)))
             return byte << 16 | (chance.random() < 0.02) << 8
         if code in (27, 28):
             return chance.randrange(8) << 8
@@ -112,7 +112,7 @@ def opens_something(code):
 
 
 def storm(library, rows, kinds, count):
-    """Asks at random. Which answers came, by number and kind, and those that are none of the row."""
+    """Asks at random. Which kinds came, by the request's number, and those that no row has."""
     chance = random.Random(1979)
     device = Device(library, chance)
     came, wrong = collections.defaultdict(set), collections.Counter()

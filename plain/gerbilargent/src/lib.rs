@@ -15,6 +15,9 @@
 //! to FFF (hexadecimal), a byte address of the RAM 0 to 2,047. Words lie in memory with their low
 //! byte first.
 //!
+//! Two features are off unless asked for. `serde` writes and reads what users keep, from operations
+//! to entries. `allocator-api2` gives a world the memory of an allocator of yours.
+//!
 //! ```
 //! use gerbilargent::prelude::*;
 //!
