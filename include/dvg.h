@@ -21,7 +21,8 @@
  *
  *   1. Initialise the pointer before the call: `dvg *device = NULL;`, then `dvg_new(&device)`. Hand
  *      the other functions only a pointer that dvg_new wrote and dvg_free didn't get yet, and touch
- *      what it points to by these functions alone.
+ *      what it points to by these functions alone. dvg_free passes a null pointer over; each other
+ *      call that is handed one is ended by assert, where that is on.
  *   2. Use a device in one call at a time, on any thread: what one thread did to it must be seen
  *      by the next one, as a mutex or a join has it. Never use it in a signal handler, or in the
  *      forked child of a process with threads. No two devices share anything but the heap.
@@ -43,6 +44,7 @@
 #ifndef DVG_H
 #define DVG_H
 
+#include <assert.h>
 #include <stdbool.h>
 #include <stddef.h>
 #include <stdint.h>
@@ -51,8 +53,10 @@
 extern "C" {
 #endif
 
-/* The version of this header. dvg_version answers that of the library. */
+/* The version of this header, as a text, and as a number for #if: of 1.2.3 it is 1002003.
+ * dvg_version answers that of the library. */
 #define DVG_VERSION "0.9.0"
+#define DVG_VERSION_NUMBER 9000
 
 /* The room on the stack that a call needs at most, in KB of 1,024 bytes. */
 #define DVG_STACK_KB 256
@@ -91,7 +95,7 @@ uint32_t dvg_new(dvg **out);
 /* One request, and its answer. */
 uint64_t dvg_turn(dvg *device, uint64_t request);
 
-/* Frees a device, with all that it has. */
+/* Frees a device, with all that it has. A null pointer is passed over. */
 void dvg_free(dvg *device);
 
 /* Asks `count` requests, in order, and writes the answer of each to `answers`, which has room for
@@ -289,10 +293,18 @@ static inline dvg_answer dvg_answer_of(uint64_t number)
     return answer;
 }
 
+/* The device that a call below was handed. A null pointer ends the program by assert, if that is
+ * on: NDEBUG turns it off. dvg_turn and dvg_turns, which are linked, look at nothing. */
+static inline dvg *dvg_there(dvg *device)
+{
+    assert(device != NULL && "a call of dvg.h was handed no device: dvg_new makes one");
+    return device;
+}
+
 /* One request, with its answer taken apart. Of requests for strokes the answer is no such thing. */
 static inline dvg_answer dvg_ask(dvg *device, uint64_t request)
 {
-    return dvg_answer_of(dvg_turn(device, request));
+    return dvg_answer_of(dvg_turn(dvg_there(device), request));
 }
 
 /* The fault that a draft was refused for. */
@@ -952,14 +964,14 @@ static inline dvg_answer dvg_judge_reset(dvg *device)
 /* How many strokes the newest run drew that came to a HALT, since something was opened. */
 static inline uint64_t dvg_strokes(dvg *device)
 {
-    return dvg_turn(device, DVG_REQUEST_STROKES);
+    return dvg_turn(dvg_there(device), DVG_REQUEST_STROKES);
 }
 
 /* The stroke of this number, in the order drawn, from 0. Where there is none, all is 0. */
 static inline dvg_stroke dvg_stroke_at(dvg *device, uint64_t number)
 {
     uint64_t place = number >> 56 == 0 ? number << 8 : UINT64_MAX << 8;
-    uint64_t from = dvg_turn(device, DVG_REQUEST_STROKE_FROM | place);
+    uint64_t from = dvg_turn(dvg_there(device), DVG_REQUEST_STROKE_FROM | place);
     uint64_t to = dvg_turn(device, DVG_REQUEST_STROKE_TO | place);
     dvg_stroke stroke;
     stroke.x0 = (uint32_t)(from & 0xFFFFFFFF);

@@ -36,12 +36,13 @@ def title() -> str:
 
 
 def metadata() -> bytes:
-    """What pip shows of it."""
+    """What pip and a registry show of it: its page of docs/ is the description."""
     name, version = title().split("-")
     lines = ["Metadata-Version: 2.1", f"Name: {name}", f"Version: {version}"]
     lines += ["Summary: A frame driver and a model of Atari's Digital Vector Generator"]
     lines += ["Requires-Python: >=3.8", "Classifier: Typing :: Typed"]
-    return "".join(line + "\n" for line in lines).encode()
+    lines += ["Description-Content-Type: text/markdown", ""]
+    return "".join(line + "\n" for line in lines).encode() + (TOP / "docs/PYTHON.md").read_bytes()
 
 
 def write_wheel(folder: str, files: "dict[str, bytes]") -> str:
@@ -65,24 +66,27 @@ def write_wheel(folder: str, files: "dict[str, bytes]") -> str:
     return wheel
 
 
-def build_library() -> None:
-    """Builds build/libdvg.so."""
+def build_library() -> bytes:
+    """Builds the shared library by ./lib, which says where it is. What it holds."""
     try:
-        run(str(TOP / "lib"))
+        said = run(str(TOP / "lib"))
     except subprocess.CalledProcessError:
         sys.exit("gerbilargent: the library could not be built, as ./lib says above")
+    head = "shared library: "
+    places = [line[len(head):] for line in said.splitlines() if line.startswith(head)]
+    return Path(places[0]).read_bytes()
 
 
 def build_wheel(
     wheel_directory: str, config_settings: Settings = None, metadata_directory: object = None
 ) -> str:
     """Writes the wheel: the module as a package, typed, with the library beside it."""
-    build_library()
+    library = build_library()
     return write_wheel(wheel_directory, {
         "gerbilargent/__init__.py": (TOP / "python/gerbilargent.py").read_bytes(),
         "gerbilargent/__main__.py": MAIN.encode(),
         "gerbilargent/py.typed": b"",
-        "gerbilargent/libdvg.so": (TOP / "build/libdvg.so").read_bytes(),
+        "gerbilargent/libdvg.so": library,
     })
 
 

@@ -2,8 +2,9 @@
 # `top`, the folder of the repository.
 #
 # Whether something is built of the sources that are there is told by their content. Beside what is
-# built lies a file with the ending `.sources`: a digest of the sources, and one of what was built.
-# What is built of them is taken before a tool is looked for.
+# built lies a file with the ending `.sources`: a digest of the sources, one of what was built, and
+# of the plain form the version of the compiler of Rust. What is built of them is taken before a
+# tool is looked for: where there is no compiler, its version doesn't count.
 #
 # Variables that count: BUILD is the folder of all that is built of the plain form, where the tree
 # can't be written. CC, CFLAGS, CPPFLAGS, LDFLAGS and RUSTFLAGS are those of the compilers, and
@@ -177,14 +178,25 @@ digest_of_build() {
     echo "$(digest_of_plain)${set_flags:+-$(digest <<<"$set_flags")}"
 }
 
-# Whether a file is there and is built of the sources of this digest.
-is_of() {
-    [ -r "$1" ] && [ -r "$1.sources" ] && [ "$(cat "$1.sources")" = "$2 $(digest <"$1")" ]
+# The version of the compiler of Rust, as one word; nothing where there is none.
+version_of_rust() {
+    "${RUSTC:-rustc}" -V 2>/dev/null | tr ' ' _
 }
 
-# Says of a file that it is built of the sources of this digest.
+# Whether a file is there and is built of the sources of this digest, and by the compiler that is
+# here, if it says by which it was built.
+is_of() {
+    local of what by here
+    [ -r "$1" ] && [ -r "$1.sources" ] && read -r of what by <"$1.sources" &&
+        [ "$of $what" = "$2 $(digest <"$1")" ] || return
+    [ -z "$by" ] || here=$(version_of_rust)
+    [ -z "$by" ] || [ -z "$here" ] || [ "$here" = "$by" ]
+}
+
+# Says of a file that it is built of the sources of this digest, and by which compiler of Rust: the
+# third argument, which may be missing.
 set_of() {
-    echo "$2 $(digest <"$1")" >"$1.sources.new" && mv -f "$1.sources.new" "$1.sources"
+    echo "$2 $(digest <"$1")${3:+ $3}" >"$1.sources.new" && mv -f "$1.sources.new" "$1.sources"
 }
 
 # Makes the folder $work, which goes when this script ends.
@@ -262,7 +274,7 @@ find_plain() {
     lock
     if ! is_of "$found" "$sources"; then
         build_plain quick dvg 'the program' ./prove
-        set_of "$found" "$sources"
+        set_of "$found" "$sources" "$(version_of_rust)"
     fi
     unlock
 }

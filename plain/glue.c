@@ -1,6 +1,19 @@
 /* What the library for C gives beside its three functions: its version, and many requests in one
- * call. It calls those three, and is tested, not proved. */
+ * call; and that dvg_free takes a null pointer. It calls those three, and is tested, not proved. */
 #include "dvg.h"
+
+/* ./lib has given the function that frees a device this name. Who links this file with an archive
+ * in which that is still called dvg_free leaves this part out: there it wants a device. */
+#ifdef DVG_FREE_IS_RENAMED
+void dvg_free_device(dvg *device);
+
+void dvg_free(dvg *device)
+{
+    if (device != NULL) {
+        dvg_free_device(device);
+    }
+}
+#endif
 
 const char *dvg_version(void)
 {

@@ -33,10 +33,14 @@ in a wrong order is a WrongOrder. A run that broke, and one that came to no end,
 A number that isn't whole is a NoInteger, and a memory that isn't bytes a NoBytes. Python's own are
 a call with other words than it has (TypeError), and what an iterator or a number of yours raises.
 
-Threads. Each object may be used and closed on any thread, in one call at a time. A call that comes
-while another one of the same object runs, also in a signal handler, is an InUse; where two begin at
-once, one waits for the other. Each object is a context manager, and `close` gives its memory back,
-as does its end. It isn't copied or pickled, which is a NotCopied; a Generator is copied.
+Threads. A World, Driver, Generator or MomentJudge may be used and closed on any thread, in one call
+at a time. A call that comes while another one of the same object runs, also in a signal handler, is
+an InUse; where two begin at once, one waits for the other. Each is a context manager, and `close`
+gives its memory back, as does its end.
+
+Copies. A World, a Driver and a MomentJudge are neither copied nor pickled, which is a NotCopied. A
+Generator is copied, and isn't pickled. All else here is copied and pickled as any value of Python:
+a Draft, a Judge, and what is returned.
 
 Run as a script it draws a first picture: `python3 python/gerbilargent.py --help`.
 """

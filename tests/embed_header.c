@@ -534,7 +534,9 @@ static void test_drawing(dvg *none)
 
 int main(void)
 {
-    dvg *none = NULL;
+    /* A device that nobody looks into. */
+    static char no_device;
+    dvg *none = (dvg *)&no_device;
     test_events(none);
     test_judge(none);
     test_operations(none);

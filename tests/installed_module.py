@@ -8,6 +8,7 @@ times what is wanted. The last line is 'N passed, M failed'.
 
 import sys
 import time
+from importlib.metadata import distribution
 from pathlib import Path
 
 import counts
@@ -42,6 +43,8 @@ def frames(count):
 
 here = Path(g.__file__).parent
 expect(g.__version__ == sys.argv[1], f"the version is {g.__version__}")
+about = distribution("gerbilargent").read_text("METADATA") or ""
+expect("\n# The library for Python\n" in about, "its page of docs/ is what a registry shows")
 expect((here / "py.typed").exists(), "it says that it is typed")
 expect(g.library_path() == here / "libdvg.so", "its library lies beside it")
 frame = Draft().labs(512, 400).vctr(9, -100, 100, 7).halt()

@@ -70,6 +70,7 @@ int main(void)
     uint64_t requests[MOST], answers[MOST];
     size_t dones = 0, k;
     int round, same = 0;
+    char number[40];
     srand(1979);
     for (round = 0; round < ROUNDS; round++) {
         size_t count = 1 + (size_t)(rand() % MOST), asked;
@@ -84,6 +85,9 @@ int main(void)
     expect(dones > 1000, "pictures are finished among these");
     expect(dvg_turns(many, requests, answers, 0) == 0, "of no requests none is asked");
     expect(strcmp(dvg_version(), DVG_VERSION) == 0, "the library has the version of its header");
+    snprintf(number, sizeof number, "%d.%d.%d", DVG_VERSION_NUMBER / 1000000,
+             DVG_VERSION_NUMBER / 1000 % 1000, DVG_VERSION_NUMBER % 1000);
+    expect(strcmp(number, DVG_VERSION) == 0, "the number of the version says the same");
     printf("%s\n", dvg_version());
     dvg_free(one);
     dvg_free(many);

@@ -160,6 +160,6 @@ fn main() -> Result<(), Box<dyn Error>> {
     convert()?;
     copy()?;
     assert!(all_names::draws_nothing()?.is_empty());
-    println!("{:?} {}", draw()?, count()?);
+    println!("{:?} {} {}", draw()?, count()?, gerbilargent::VERSION);
     Ok(())
 }

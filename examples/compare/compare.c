@@ -8,6 +8,7 @@
  *     compare --moves ..        any of them, with each move, also an unseen one, as soon as it is
  *                               made
  *     compare --wrap ..         any of them, beside a generator of the port whose stack wraps
+ *     compare --write FILE ..   any of them; the memory that differs, shrunk, becomes an image
  *
  * Without --moves strokes are compared after a HALT. So each run gets one: after some words the kit
  * hands both sides B000 in place of the memory's words. A fifth call, a return without a call and
@@ -64,6 +65,7 @@ static dvg_stroke port_strokes[MOST_STROKES]; /* of the port, in that run */
 static unsigned port_drawn;
 static uint32_t unit_x, unit_y; /* the port's beam in whole units */
 static bool in_units, by_moves, wraps;
+static const char *image_name; /* what --write names, or a null pointer */
 static uint64_t random_state;
 static unsigned long stopped_at_stack, stopped_at_hole, halts;
 
@@ -579,6 +581,50 @@ static bool read_image(struct test *test, const char *name)
     return true;
 }
 
+/* Whether a word from 400 to 7FF lacks memory: then the smaller ROM is behind the RAM. */
+static bool lacks_low_rom(const struct test *test)
+{
+    unsigned i = 0x400;
+    while (i < 0x800 && test->words[i] != HOLE) {
+        i++;
+    }
+    return i < 0x800;
+}
+
+/* Writes the words of a test as an image of this name. Returns whether it could. */
+static bool write_image(const struct test *test, const char *name)
+{
+    unsigned rom = lacks_low_rom(test) ? 0x800 : 0x400, i;
+    FILE *file = fopen(name, "wb");
+    if (file == NULL) {
+        return false;
+    }
+    for (i = 0; i < 0xC00; i = i == 0x3FF ? rom : i + 1) {
+        int32_t word = test->words[i] == HOLE ? HALT : test->words[i];
+        fputc((int)(word & 0xFF), file);
+        fputc((int)(word >> 8), file);
+    }
+    return fclose(file) == 0;
+}
+
+/* Writes a test that differs where --write has it, and says whether that shows a difference, too: a
+ * run that a strobe ends, and a place that no image has, don't. */
+static void write_shrunk(const struct test *test)
+{
+    static struct test again;
+    struct outcome outcome;
+    if (image_name == NULL) {
+        return;
+    }
+    if (!write_image(test, image_name) || !read_image(&again, image_name)) {
+        fprintf(stderr, "%s: can't be written\n", image_name);
+        return;
+    }
+    run(&again, &outcome);
+    printf("%s: %s\n", image_name,
+           outcome.differs ? "differs, too: --image" : "doesn't differ: no image shows this");
+}
+
 /* Says of an image without a difference how many words were compared, and what wasn't. Returns
  * whether its run has an end. */
 static bool is_whole(const struct test *test, const struct outcome *outcome, const char *name)
@@ -610,6 +656,7 @@ static int compare_images(struct test *test, char **names)
         if (outcome.differs) {
             printf("%s ", *names);
             report(test);
+            write_shrunk(test);
             return 1;
         }
         uncompared |= !is_whole(test, &outcome, *names);
@@ -630,6 +677,7 @@ static int compare_random(struct test *test, unsigned long most_bytes, uint64_t 
             printf("after %lu bytes of seed %llu, test %lu ", bytes,
                    (unsigned long long)seed, tests);
             report(test);
+            write_shrunk(test);
             return 1;
         }
     }
@@ -639,15 +687,19 @@ static int compare_random(struct test *test, unsigned long most_bytes, uint64_t 
     return 0;
 }
 
-/* Whether a word of the command line is an option, which is taken. */
-static bool is_option(const char *word)
+/* Takes the option that the words of a command line begin with. Returns how many words that has. */
+static int take_option(char **words)
 {
-    bool units = strcmp(word, "--units") == 0;
-    bool moves = strcmp(word, "--moves") == 0;
-    bool wrap = strcmp(word, "--wrap") == 0;
+    bool units = strcmp(words[0], "--units") == 0;
+    bool moves = strcmp(words[0], "--moves") == 0;
+    bool wrap = strcmp(words[0], "--wrap") == 0;
     in_units |= units;
     by_moves |= moves;
     wraps |= wrap;
+    if (strcmp(words[0], "--write") == 0 && words[1] != NULL) {
+        image_name = words[1];
+        return 2;
+    }
     return units || moves || wrap;
 }
 
@@ -663,16 +715,16 @@ int main(int count, char **arguments)
     unsigned long bytes;
     uint64_t seed;
     bool images;
-    int status;
-    for (; count > 1 && is_option(arguments[1]); count--) {
-        arguments++;
+    int status, taken;
+    for (; count > 1 && (taken = take_option(arguments + 1)) > 0; count -= taken) {
+        arguments += taken;
     }
     bytes = count > 1 ? (unsigned long)number_of(arguments[1]) : 1000000;
     images = count > 2 && strcmp(arguments[1], "--image") == 0;
     random_state = count > 2 ? number_of(arguments[2]) : 1;
     if (!images && (count > 3 || bytes == 0 || random_state == 0)) {
-        fputs("compare [--units] [--moves] [--wrap] [BYTES [SEED]], both above 0, or .. --image"
-              " FILE..\n", stderr);
+        fputs("compare [--units] [--moves] [--wrap] [--write FILE] [BYTES [SEED]], both above 0,"
+              " or .. --image FILE..\n", stderr);
         return 64;
     }
     seed = random_state;

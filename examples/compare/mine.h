@@ -35,8 +35,7 @@ struct mine_wanted mine_wants(void);
  *
  * With --moves call it also for what isn't seen, with z 0: for each vctr, svec and labs, once its
  * last byte has come and before the next one is wanted. A labs goes from where the beam was to
- * where it puts the beam. Without --moves calls with z 0 are passed
- * over. */
+ * where it puts the beam. Without --moves calls with z 0 are passed over. */
 void drew(uint32_t x0, uint32_t y0, uint32_t x1, uint32_t y1, unsigned z);
 
 /* For a DVG that runs a whole list at once, and reads its words itself: at_once.c has yours 1 to 3,

@@ -3,9 +3,20 @@
 //!
 //! This is the plain form: the proved sources without their contracts, tested and not proved.
 //!
-//! A `Draft` is a frame in the making. A `World` is both ends over one memory, and has a call for
-//! each event; a `Driver` and a `Generator` are each end alone. A `Judge` says which write tears a
-//! picture.
+//! A [`Draft`] is a frame in the making. A [`World`] is both ends over one memory, and has a call
+//! for each event; a [`Driver`] and a [`Generator`] are each end alone. A [`Judge`] says which
+//! write tears a picture of two halves, and a [`MomentJudge`] whether a picture of any system is
+//! torn. [`dump`], [`read`], [`named`] and [`sketch`] have what is read: a memory, and texts. The
+//! page of each of these types has an example, and so have [`dump::Dump`], [`read::read_trace`],
+//! [`named::read_sketch`] and [`sketch::draft_of`].
+//!
+//! A place is in 1/512 of a screen unit, 0 to 2,097,151 along both axes, y upwards; a LABS names
+//! whole screen units, 0 to 4,095. An intensity is 0 (nothing is seen) to 15. A word address is 000
+//! to FFF (hexadecimal), a byte address of the RAM 0 to 2,047. Words lie in memory with their low
+//! byte first.
+//!
+//! Two features are off unless asked for. `serde` writes and reads what users keep, from operations
+//! to entries. `allocator-api2` gives a world the memory of an allocator of yours.
 //!
 //! ```
 //! use gerbilargent::prelude::*;
@@ -37,13 +48,149 @@
 #![no_std]
 
 pub use dvg_code::*;
-pub use dvg_driver::*;
-pub use dvg_frame::*;
-pub use dvg_gen::*;
 pub use dvg_mem::*;
-pub use dvg_moment::*;
-pub use dvg_world::*;
+// What has an example below is named there; the pages of rustdoc show it where no `*` brings it,
+// too.
+pub use dvg_driver::{Action, DriverFault};
+pub use dvg_frame::{BadOp, Checked, Checker, Cursor, DraftFull, Frame, FrameFault, MAX_OPS, Op};
+pub use dvg_frame::{OpKind, Place, check};
+pub use dvg_gen::{Beam, Counters, GenFault, GeneratorState, Move, STACK_DEPTH, Step};
+pub use dvg_gen::{Stroke, Taken, WrappingGenerator};
+pub use dvg_world::{Desk, Drawn, Entries, Entry, EntryRun, EntryRuns, Event, Logged, MOST_EVENTS};
+pub use dvg_world::{OwnEntry, OwnEvent, Picture, Stopped, Trace, TraceEvent, draw_trace};
+pub use dvg_world::{first_torn, log_trace, run, run_trace};
 pub use plain_std::alloc::Global;
+
+/// The version of this crate, as `"1.2.3"`: that of all crates of the repository, of the header for
+/// C and of the module for Python.
+pub const VERSION: &str = env!("CARGO_PKG_VERSION");
+
+/// A frame in the making: operations, of which an offer checks the whole.
+///
+/// ```
+/// use gerbilargent::prelude::*;
+///
+/// # fn made() -> Option<()> {
+/// let mut draft = Draft::new();
+/// let vector = Instr::Vctr { scale: 9, dx: -100, dy: 100, z: 7 };
+/// let operation = Op::new(OpKind::Draw(Code::new(vector)?))?;
+/// assert_eq!(draft.push(operation), Ok(0)); // It is operation 0.
+/// assert_eq!(draft.push(Op::new(OpKind::Halt)?), Ok(1));
+/// assert_eq!(draft.ops().len(), 2);
+///
+/// let wide = Instr::Vctr { scale: 9, dx: 1024, dy: 0, z: 7 };
+/// assert_eq!(Code::new(wide), None); // A field is out of its range.
+/// # Some(())
+/// # }
+/// # made().unwrap();
+/// ```
+///
+#[doc(inline)]
+pub use dvg_frame::Draft;
+
+/// Both ends over one memory, with a call for each event.
+///
+/// ```
+/// use gerbilargent::{prelude::*, read::read_draft};
+///
+/// let draft = read_draft(b"labs 512 400 0\nvctr 9 -100 100 7\nhalt\n")?.draft;
+/// let (rom, ram) = (Rom::new(Global, &[0; 2048])?, Image::new(Global, &[0; 2048])?);
+/// let mut world = World::<Flat>::new(Global, rom, &ram)?;
+/// while world.tick() != Entry::Acted(Action::Idle) {}
+/// assert_eq!(world.offer(&draft), Entry::Offered);
+/// assert_eq!(world.offer(&draft), Entry::Busy); // It writes the first one.
+/// while world.tick() != Entry::Acted(Action::Sent) {}
+/// assert_eq!(world.strobe(), Entry::Started);
+/// while !matches!(world.fetch()?, Entry::Done(..)) {}
+/// let drawn = Stroke { x0: 262144, y0: 204800, x1: 210944, y1: 256000, z: 7 };
+/// assert_eq!(world.picture(), [drawn]);
+/// # Ok::<(), Box<dyn std::error::Error>>(())
+/// ```
+///
+#[doc(inline)]
+pub use dvg_world::World;
+
+/// The driver alone, over a RAM of yours.
+///
+/// ```
+/// use gerbilargent::{check, prelude::*, read::read_draft};
+///
+/// let draft = read_draft(b"labs 512 400 0\nhalt\n")?.draft;
+/// let rom = Rom::new(Global, &[0; 2048])?;
+/// let mut ram = [0; 2048];
+/// let halted = true; // No generator runs here.
+/// let mut driver = Driver::new();
+/// while driver.tick(halted, ram[1]) != Action::Idle {}
+/// driver.offer(check(&draft, &rom)?)?;
+/// loop {
+///     match driver.tick(halted, ram[1]) {
+///         Action::Wrote(at, byte) => ram[usize::from(at)] = byte,
+///         Action::Sent => break, // Now a strobe is sent to the generator.
+///         _ => {}
+///     }
+/// }
+/// assert_eq!(ram[..2], [0x01, 0xE2]); // Word zero jumps to the frame at 201,
+/// assert_eq!(ram[0x402..0x408], [0x90, 0xA1, 0x00, 0x02, 0x00, 0xB0]); // which is this one.
+/// # Ok::<(), Box<dyn std::error::Error>>(())
+/// ```
+///
+#[doc(inline)]
+pub use dvg_driver::Driver;
+
+/// The generator alone, over a memory of yours.
+///
+/// ```
+/// use gerbilargent::prelude::*;
+///
+/// let memory = [0x90, 0xA1, 0x00, 0x02, 0x64, 0x90, 0x64, 0x74, 0x00, 0xB0];
+/// let mut generator = Generator::new(Global);
+/// generator.start();
+/// while let Some(word) = generator.wants() {
+///     let at = 2 * usize::from(word) + usize::from(generator.wants_high());
+///     generator.feed(memory.get(at).copied())?; // None where no memory answers.
+/// }
+/// let drawn = Stroke { x0: 262144, y0: 204800, x1: 210944, y1: 256000, z: 7 };
+/// assert_eq!(generator.picture(), [drawn]);
+/// # Ok::<(), Box<dyn std::error::Error>>(())
+/// ```
+///
+/// Count the bytes of a memory that isn't yours: its run may have no end.
+///
+#[doc(inline)]
+pub use dvg_gen::Generator;
+
+/// Judges a log of two halves, line by line.
+///
+/// ```
+/// use gerbilargent::Judge;
+///
+/// let mut judge = Judge::new();
+/// judge.started();
+/// judge.fetched(0x000, 0xE201); // The run draws the half at 201.
+/// assert!(!judge.wrote(0x002)); // This byte is in the other half,
+/// assert!(judge.wrote(0x402)); // and this one tears the picture.
+/// ```
+///
+#[doc(inline)]
+pub use dvg_world::Judge;
+
+/// Judges a log of any system, line by line.
+///
+/// ```
+/// use gerbilargent::MomentJudge;
+///
+/// let mut judge = MomentJudge::new();
+/// judge.started();
+/// judge.fetched(0x000, 0xE001); // Word 0 is read, and then it changes,
+/// judge.wrote(0x000, 0x02);
+/// judge.wrote(0x002, 0x90);
+/// assert!(!judge.is_torn());
+/// judge.low(0x001, 0x90); // and what is read now wasn't there before that.
+/// assert!(judge.is_torn());
+/// ```
+///
+#[doc(inline)]
+pub use dvg_moment::MomentJudge;
 
 /// Allocators, what they refuse by, and the vector and the box that name theirs. They stand apart,
 /// so that `use gerbilargent::*` leaves std's `Vec` and `Box` as they are.
@@ -62,10 +209,100 @@ pub mod prelude {
 }
 
 /// What a dump of the vector memory draws.
-pub use dvg_dump as dump;
+pub mod dump {
+    pub use dvg_dump::{DumpFault, Ending, Follower, LARGE_DUMP_BYTES, MOST_WORDS, Outcome, Ran};
+    pub use dvg_dump::{SMALL_DUMP_BYTES, Traced};
+
+    /// A memory that was dumped, and what it draws.
+    ///
+    /// ```
+    /// use gerbilargent::{Global, dump::{Dump, Ending}};
+    ///
+    /// let mut ram_then_rom = [0; 4096];
+    /// let words = [0x90, 0xA1, 0x00, 0x02, 0x64, 0x90, 0x64, 0x74, 0x00, 0xB0];
+    /// ram_then_rom[..10].copy_from_slice(&words);
+    /// match Dump::new(Global, &ram_then_rom)?.run()? {
+    ///     Ending::Finished { words, strokes } => assert_eq!((words, strokes.len()), (5, 1)),
+    ///     Ending::Broke { address, fault } => panic!("{fault} at {address:03X}"),
+    ///     Ending::Endless => panic!("no end within 65,536 words"),
+    /// }
+    /// # Ok::<(), Box<dyn std::error::Error>>(())
+    /// ```
+    ///
+    #[doc(inline)]
+    pub use dvg_dump::Dump;
+}
+
 /// Sketches as texts: drafts with names, and shapes in a ROM.
-pub use dvg_named as named;
+pub mod named {
+    pub use dvg_named::{
+        Doing, FrameSpan, Head, JoinedFrames, MAX_TOKENS, NamedFrame, RomName, Row,
+    };
+    pub use dvg_named::{Sketch, Source, read_head, read_row, tokens_of};
+
+    /// Reads a sketch: its frames, and the shapes in its ROM.
+    ///
+    /// ```
+    /// use gerbilargent::{Global, named::read_sketch};
+    ///
+    /// let text = b"labs 512 400 0\ncall rock\nhalt\nrock: vctr 9 -100 100 7\nreturn\n";
+    /// let sketch = read_sketch(Global, text)?;
+    /// let frames = sketch.frames(Global)?;
+    /// assert_eq!((frames.len(), frames[0].ops.len()), (1, 5));
+    /// assert_eq!(sketch.rom.len(), 2048); // Its shapes: here there are none.
+    /// # Ok::<(), Box<dyn std::error::Error>>(())
+    /// ```
+    ///
+    #[doc(inline)]
+    pub use dvg_named::read_sketch;
+}
+
 /// Drafts, ROMs and traces as texts.
-pub use dvg_read as read;
-/// Drafts whose operations call each other by name.
-pub use dvg_sketch as sketch;
+pub mod read {
+    pub use dvg_read::{DraftText, LineFault, MOST_EVENTS, MOST_TEXT_BYTES, RomWords, TextFault};
+    pub use dvg_read::{TextLines, TraceText, Unread, digit_of, fill_with_returns, hex, is_passed};
+    pub use dvg_read::{put_word, read_draft, read_op_parts, read_rom_parts};
+
+    /// Reads a trace: its events, and its ROM.
+    ///
+    /// ```
+    /// use gerbilargent::{prelude::*, read::read_trace, run_trace};
+    ///
+    /// let text = b"tick 2\noffer\nlabs 512 400 0\nhalt\nend\ntick 10\nstrobe\nfetch 8\n";
+    /// let trace = read_trace(Global, text)?;
+    /// let (rom, ram) = (Rom::new(Global, &trace.rom)?, Image::new(Global, &[0; 2048])?);
+    /// let entries = run_trace::<Flat>(Global, rom, &ram, &trace.events).map_err(|_| "refused")?;
+    /// assert_eq!(entries.len(), 22); // One for each event,
+    /// assert!(matches!(entries[21], Entry::Done(0x203, 0xB000, _))); // and the last is a HALT.
+    /// # Ok::<(), Box<dyn std::error::Error>>(())
+    /// ```
+    ///
+    #[doc(inline)]
+    pub use dvg_read::read_trace;
+}
+
+/// Drafts whose operations call each other by name. Its `Step` is one of a sketch; that of the root
+/// is what a generator's fetch led to.
+pub mod sketch {
+    pub use dvg_sketch::{SketchFault, Step};
+
+    /// Makes a draft of steps that call each other by name.
+    ///
+    /// ```
+    /// use gerbilargent::prelude::*;
+    /// use gerbilargent::sketch::{Step, draft_of};
+    ///
+    /// let draw = |instr| Code::new(instr).and_then(|code| Op::new(OpKind::Draw(code)));
+    /// let labs = draw(Instr::Labs { x: 512, y: 400, scale: 0 }).ok_or("out of range")?;
+    /// let (halt, back) = (Op::new(OpKind::Halt).unwrap(), Op::new(OpKind::Return).unwrap());
+    /// let steps = [
+    ///     Step::Op(labs), Step::Call("rock"), Step::Op(halt), Step::Name("rock"), Step::Op(back),
+    /// ];
+    /// let draft = draft_of(&steps)?;
+    /// assert_eq!(Some(draft.op(1)), Op::new(OpKind::Call(3)));
+    /// # Ok::<(), Box<dyn std::error::Error>>(())
+    /// ```
+    ///
+    #[doc(inline)]
+    pub use dvg_sketch::draft_of;
+}

@@ -1,0 +1,150 @@
+/* Hands each call of include/dvg.h a null pointer for a device: dvg_free must do nothing, and each
+ * other one must be ended by the header's assert, which says so. Each call is made in a process of
+ * its own.
+ *
+ *     embed_null           tests them. The last line is 'N passed, M failed'
+ *     embed_null --names   prints the calls
+ *
+ * It is linked with the archive of ./lib. */
+#define _POSIX_C_SOURCE 200809L
+#include "dvg.h"
+
+#include <signal.h>
+#include <stdio.h>
+#include <stdlib.h>
+#include <string.h>
+#include <sys/wait.h>
+#include <unistd.h>
+
+/* Of dvg_turn and dvg_turns, which are linked, nothing is said, and dvg_save isn't tried. */
+#define CALLS \
+    CALL(dvg_ask(NULL, DVG_REQUEST_TICK)) \
+    CALL(dvg_stage_byte(NULL, 0, 1)) \
+    CALL(dvg_stage_bytes(NULL, bytes, 9)) \
+    CALL(dvg_unstage(NULL)) \
+    CALL(dvg_stage_ram(NULL, bytes)) \
+    CALL(dvg_ask_staged(NULL, line, DVG_REQUEST_TICK)) \
+    CALL(dvg_open_world(NULL, bytes, bytes, DVG_ROM_BYTES)) \
+    CALL(dvg_open_driver(NULL, bytes, DVG_ROM_BYTES)) \
+    CALL(dvg_open_generator(NULL)) \
+    CALL(dvg_open_wrapping(NULL)) \
+    CALL(dvg_open_judge(NULL)) \
+    CALL(dvg_shut(NULL)) \
+    CALL(dvg_push(NULL, true, 0, 9, 7, 0, 0)) \
+    CALL(dvg_clear(NULL)) \
+    CALL(dvg_vctr(NULL, 9, 1, 1, 7)) \
+    CALL(dvg_svec(NULL, 2, 1, 1, 7)) \
+    CALL(dvg_labs(NULL, 0, 0, 0)) \
+    CALL(dvg_call(NULL, 0)) \
+    CALL(dvg_jump(NULL, 0)) \
+    CALL(dvg_call_rom(NULL, 0x800)) \
+    CALL(dvg_jump_rom(NULL, 0x800)) \
+    CALL(dvg_return(NULL)) \
+    CALL(dvg_halt(NULL)) \
+    CALL(dvg_offer(NULL)) \
+    CALL(dvg_redraw(NULL)) \
+    CALL(dvg_tick(NULL)) \
+    CALL(dvg_driver_tick(NULL, true, 0)) \
+    CALL(dvg_strobe(NULL)) \
+    CALL(dvg_fetch(NULL)) \
+    CALL(dvg_wants(NULL)) \
+    CALL(dvg_generator_fetch(NULL, 0)) \
+    CALL(dvg_generator_hole(NULL)) \
+    CALL(dvg_generator_move(NULL, 0, &move)) \
+    CALL(dvg_held_by(NULL, &held)) \
+    CALL(dvg_return_to(NULL, 0)) \
+    CALL(dvg_reset_generator(NULL)) \
+    CALL(dvg_reset_processor(NULL)) \
+    CALL(dvg_reset_all(NULL, bytes)) \
+    CALL(dvg_restore(NULL, saved, sizeof saved)) \
+    CALL(dvg_judge_line(NULL, DVG_STARTED, 0, 0)) \
+    CALL(dvg_judge_answer(NULL, line)) \
+    CALL(dvg_judge_started(NULL)) \
+    CALL(dvg_judge_wrote(NULL, 0, 0)) \
+    CALL(dvg_judge_low(NULL, 0, 0)) \
+    CALL(dvg_judge_fetched(NULL, 0, 0)) \
+    CALL(dvg_judge_done(NULL, 0, 0)) \
+    CALL(dvg_judge_reset(NULL)) \
+    CALL(dvg_strokes(NULL)) \
+    CALL(dvg_stroke_at(NULL, 0)) \
+    CALL(dvg_hand_from(NULL, 0, bytes, bytes, DVG_ROM_BYTES)) \
+    CALL(dvg_generator_fetch_from(NULL, bytes, bytes, DVG_ROM_BYTES)) \
+    CALL(dvg_draw(NULL, bytes, bytes, DVG_ROM_BYTES, 9, NULL, NULL))
+
+#define CALL(call) #call,
+static const char *const names[] = {CALLS};
+#undef CALL
+
+static const uint8_t bytes[DVG_LARGE_ROM_BYTES];
+static const uint8_t saved[16] = {'D', 'V', 'G', DVG_SAVED_VERSION, 1, 0, 0, 0, 35};
+static const dvg_answer line = {DVG_STARTED, 0, 0, -1};
+
+/* Makes the call of this number. */
+static void make(int number)
+{
+    dvg_move move;
+    dvg_held held;
+    int here = 0;
+#define CALL(call) \
+    if (here++ == number) { \
+        (void)(call); \
+    }
+    CALLS
+#undef CALL
+}
+
+/* Makes the call in a child. Writes the first bytes of its standard error to `said`, a text of
+ * `size` bytes, and returns the status that it ended with. */
+static int made_apart(int number, char *said, size_t size)
+{
+    int ends[2], status = 0;
+    ssize_t got;
+    size_t length = 0;
+    pid_t child;
+    if (pipe(ends) != 0 || (child = fork()) < 0) {
+        exit(2);
+    }
+    if (child == 0) {
+        dup2(ends[1], 2);
+        make(number);
+        _exit(0);
+    }
+    close(ends[1]);
+    while (length + 1 < size && (got = read(ends[0], said + length, size - 1 - length)) > 0) {
+        length += (size_t)got;
+    }
+    said[length] = '\0';
+    close(ends[0]);
+    waitpid(child, &status, 0);
+    return status;
+}
+
+/* Whether the call is ended by the assert. */
+static bool is_ended(int number)
+{
+    char said[400];
+    int status = made_apart(number, said, sizeof said);
+    return WIFSIGNALED(status) && WTERMSIG(status) == SIGABRT
+           && strstr(said, "dvg.h was handed no device") != NULL;
+}
+
+int main(int count, char **words)
+{
+    const int calls = (int)(sizeof names / sizeof *names);
+    int failed = 0;
+    if (count > 1 && strcmp(words[1], "--names") == 0) {
+        for (int number = 0; number < calls; number++) {
+            puts(names[number]);
+        }
+        return 0;
+    }
+    dvg_free(NULL);
+    for (int number = 0; number < calls; number++) {
+        if (!is_ended(number)) {
+            failed++;
+            printf("FAILED: %s isn't ended by assert\n", names[number]);
+        }
+    }
+    printf("%d passed, %d failed\n", calls + 1 - failed, failed);
+    return failed != 0;
+}

@@ -1,0 +1,170 @@
+"""Compares the table of requests in docs/C.md with include/dvg.h and with what the library does.
+
+    embed_requests.py LIBRARY [TABLE [COUNT]]    docs/C.md, 600,000 requests
+
+Each request of the header has its row, with its number. Random requests are asked of a device in
+which each thing is open by turns: each answer must be one of its row, `closed` where nothing is
+open, and `unknown` where it is none of what is open. Each answer that a row names must come. The
+last line is 'N passed, M failed'.
+"""
+
+import collections
+import ctypes
+import random
+import re
+import sys
+from pathlib import Path
+
+import counts
+from counts import expect
+
+TOP = Path(__file__).resolve().parent.parent
+ROW = re.compile(r"\| (\d+) \| `(\w+)` \| ([^|]*) \| ([^|]*) \| ([^|]*) \|")
+OPENS = ("nothing", "world", "driver", "generator", "wrapping", "judge")
+NUMBERS = ("a number", "a place")
+
+
+class Row(collections.namedtuple("Row", "name of answers")):
+    """A request: its name, what it is asked of, and the kinds of its answers."""
+
+    def wanted(self, what):
+        """The kinds that may come while this is open."""
+        if what in self.of:
+            return self.answers
+        return ("CLOSED" if what == "nothing" else "UNKNOWN", *set(self.answers) & {"UNKNOWN"})
+
+
+def read_rows(text):
+    """The rows of the table by their numbers."""
+    rows = {}
+    for number, name, of, _fields, answers in ROW.findall(text):
+        opens = OPENS if of == "any" else tuple(of.split(", "))
+        rows[int(number)] = Row(name, opens, tuple(re.sub("`", "", answers).split(", ")))
+    return rows
+
+
+def read_enum(header, name):
+    """The names of an enumeration of the header, by their numbers."""
+    body = re.search(rf"enum {name} {{(.*?)}}", header, re.S).group(1)
+    return {int(number): text for text, number in re.findall(r"DVG_(\w+) = (\d+)", body)}
+
+
+class Device:
+    """A device, asked at random. `open` is what is open in it."""
+
+    def __init__(self, library, chance):
+        self.library, self.chance, self.open = library, chance, "nothing"
+        self.device = ctypes.c_void_p()
+        library.dvg_new(ctypes.byref(self.device))
+
+    def ask(self, request):
+        return self.library.dvg_turn(self.device, request)
+
+    def begin(self, what, large):
+        """Shuts what is open, and opens this."""
+        self.ask(15)
+        ram, rom = 0x0A | 2048 << 24, 0x0A | (4096 if large else 2048) << 24 | 0xD0 << 16
+        for request in {
+            "nothing": (), "world": (ram, rom, 12, 11), "driver": (rom, 13, 11),
+            "generator": (14,), "wrapping": (30,), "judge": (21,),
+        }[what]:
+            self.ask(request)
+        self.open = what
+
+    def push_some(self):
+        """A draft that is often right."""
+        self.ask(9)
+        self.ask(0x0190020000000208 if self.chance.random() < 0.9 else 0x0008)
+        for _ in range(self.chance.choice((1, 1, 1, 1, 515))):
+            self.ask(0x0064FF9C07090008)
+        self.ask(0x0808)
+
+    def tell_itself(self):
+        """Tells the state of the generator that is open, now and then with a changed bit."""
+        part, number = self.ask(28), 0
+        while part & 0xFF == 35:
+            number += 1
+            self.ask(part ^ (self.chance.random() < 0.3) << self.chance.randrange(8, 64))
+            part = self.ask(28 | number << 8)
+
+    def fields(self, code):
+        """Random fields for a request."""
+        chance = self.chance
+        if code in (10,):
+            return chance.randrange(256) << 16 | chance.choice((0, 1, 2048, 4096, 65535)) << 24
+        if code == 8:
+            return chance.choice((0x0808, 0x0064FF9C07090008, chance.getrandbits(64))) & ~0xFF
+        if code == 22:
+            kind = chance.choice((6, 6, 6, 10, 12, 13, 13, 13, 14, chance.randrange(256)))
+            return kind << 8 | chance.randrange(4) << 16 | chance.randrange(3) << 32
+        if code in (4, 23, 24):
+            byte = chance.choice((0x00, 0x90, 0xA1, 0xB0, 0xC0, 0xD0, 0xE0, chance.getrandbits(8)))
+            return byte << 16 | (chance.random() < 0.02) << 8
+        if code in (27, 28):
+            return chance.randrange(8) << 8
+        if code == 35:
+            return chance.choice((0, 0x100, 0x200, 0x0400008000010200, chance.getrandbits(64)))
+        return chance.getrandbits(56) << 8 if chance.random() < 0.5 else 0
+
+
+def opens_something(code):
+    return code in (12, 13, 14, 15, 21, 29, 30)
+
+
+def storm(library, rows, kinds, count):
+    """Asks at random. Which kinds came, by the request's number, and those that no row has."""
+    chance = random.Random(1979)
+    device = Device(library, chance)
+    came, wrong = collections.defaultdict(set), collections.Counter()
+    codes = sorted(rows) + [1] * 2 + [2] * 8 + [4] * 12 + [3] * 4 + [22] * 8
+    for asked in range(count):
+        if asked % 200 == 0:
+            device.begin(chance.choice(OPENS), chance.random() < 0.5)
+        if chance.random() < 0.02:
+            device.push_some()
+        code = chance.choice(codes)
+        if device.open == "judge" and chance.random() < 0.8:
+            code = 22
+        if code == 29:
+            device.tell_itself()
+        if opens_something(code) and chance.random() < 0.8:
+            continue
+        row, before = rows[code], device.open
+        number = device.ask(code | device.fields(code))
+        if row.answers[0] in NUMBERS:
+            continue
+        kind = kinds.get(number & 0xFF, "none")
+        came[code].add(kind)
+        if kind not in row.wanted(before):
+            wrong[f"{row.name} of {before}: {kind}"] += 1
+        if opens_something(code) and kind in ("OPENED", "CLOSED"):
+            device.begin(before, True)
+    return came, wrong
+
+
+def main(library, table, count):
+    header = (TOP / "include/dvg.h").read_text(encoding="utf-8")
+    requests = read_enum(header, "dvg_request")
+    kinds = read_enum(header, "dvg_kind")
+    rows = read_rows(Path(table).read_text(encoding="utf-8"))
+    named = {number: row.name for number, row in rows.items()}
+    wanted = {number: name[len("REQUEST_"):] for number, name in requests.items()}
+    expect(named == wanted, f"the requests: {set(named.items()) ^ set(wanted.items())}")
+    known = set(kinds.values()) | set(NUMBERS)
+    for row in rows.values():
+        odd = [kind for kind in row.answers if kind not in known]
+        expect(not odd and set(row.of) <= set(OPENS), f"{row.name}: {odd or row.of} is none")
+    came, wrong = storm(library, rows, kinds, count)
+    expect(not wrong, f"answers that no row names: {dict(wrong)}")
+    for number, row in rows.items():
+        missing = set(row.answers) - came[number] - {"NO_MEMORY"} - set(NUMBERS)
+        expect(not missing, f"{row.name} was never answered {sorted(missing)}")
+    counts.finish()
+
+
+if __name__ == "__main__":
+    shared = ctypes.CDLL(sys.argv[1])
+    shared.dvg_turn.argtypes = [ctypes.c_void_p, ctypes.c_uint64]
+    shared.dvg_turn.restype = ctypes.c_uint64
+    main(shared, sys.argv[2] if len(sys.argv) > 2 else TOP / "docs/C.md",
+         int(sys.argv[3]) if len(sys.argv) > 3 else 600000)
