@@ -393,7 +393,7 @@ async function testAbandoned() {
   expect('that is said', /cut short rather than torn/, await tab.text('how-text'));
   await tab.value('document.getElementById("rows").focus()');
   let told = '';
-  for (let k = 0; k < 200 && !/ended the run after it early/.test(told); k++) {
+  for (let k = 0; k < 200 && !/cut the run after it short/.test(told); k++) {
     for (let step = 0; step < 5; step++) await tab.key('ArrowLeft', 8);
     told = await tab.text('picture-text');
   }
@@ -1046,8 +1046,12 @@ async function testTour() {
   await tab.open(address);
   const early = await tab.text('counts');
   await expectSoon('it moves', true, async () => early !== await tab.text('counts'));
-  await expectTour('the tour begins by itself, then the wire is cut, and a picture is torn',
-    '1 of 3: Whole', '2 of 3: Cut', '3 of 3: Torn');
+  await expectTour('the tour begins by itself', '1 of 3: Whole');
+  await expectUncut('in the tour');
+  await expectTour('then the wire is cut', '1 of 3: Whole', '2 of 3: Cut');
+  await comesWith('left', 'Abandoned');
+  await expectUncut('with the wire cut');
+  await expectTour('and a picture is torn', '1 of 3: Whole', '2 of 3: Cut', '3 of 3: Torn');
   expect('so says its button', 'Mend the HALT wire', await tab.text('wire'));
   expect('so say both verdicts', VERDICTS.cut, await verdicts());
   expect('the run has ended', 'Run', await tab.text('run'));
@@ -1378,6 +1382,21 @@ async function testPlain() {
     await tab.value('document.getElementById("plain").checked'));
 }
 
+// The frames of docs/LESSON.md, cut and run, are torn; mended and run, they are whole.
+async function testLessonFrames() {
+  const [a, b] = readFileSync(`${top}docs/LESSON.md`, 'utf8').match(/(^ {4}.*\n)+/gm)
+    .map((block) => block.replace(/^ {4}/gm, ''));
+  await openPage();
+  await set('textA', a);
+  await set('textB', b);
+  for (const id of ['wire', 'once', 'moments-go']) await tab.click(id);
+  expect('the frames of the lesson are torn', VERDICTS.cut, await verdicts());
+  expect('and red', true, (await tab.value(REDS)).red > 100);
+  expect('the frames are named', 'Being drawn: frame A', await tab.text('wanted-text'));
+  for (const id of ['wire', 'once']) await tab.click(id);
+  expect('mended they are whole', VERDICTS.mended, await verdicts());
+}
+
 // A fault in one editor moves nothing of the other, and its text is clear of the ring of the focus.
 async function testEditorsStill() {
   for (const width of [400, 1280]) {
@@ -1459,7 +1478,7 @@ const tests = {
     testLink, testFiles, testDrops, testUnjudged, testLongLog,
   testHttp, testInView, testGrey, testCode, testTour, testMend,
     testWidths, testColors, testMotion, testKeys, testRows,
-    testLive, testPlain, testEditorsStill, testReadAloud, testSpeed,
+  testLive, testPlain, testLessonFrames, testEditorsStill, testReadAloud, testSpeed,
 };
 for (const [name, test] of Object.entries(tests)) {
   if (chosen.length > 0 && !chosen.includes(name)) continue;

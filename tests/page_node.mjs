@@ -12,7 +12,7 @@ import { COMMAND, Engine, OPTION } from '../page/src/engine.mjs';
 import { Board } from '../page/src/board.mjs';
 import { AREA, SIGN, areaOf, drawnHalf } from '../page/src/signs.mjs';
 import { hex } from '../page/src/hex.mjs';
-import { playSteps, stepsOf, traceOf } from '../page/src/traces.mjs';
+import { playSteps, replay, stepsOf, traceOf } from '../page/src/traces.mjs';
 import { Chance, Proportions, reelOf } from '../page/src/chance.mjs';
 import { Drawer, momentOf } from '../page/src/moments.mjs';
 import { fragmentOf, plainFragment, stateOf } from '../page/src/links.mjs';
@@ -401,6 +401,11 @@ function testMended() {
       board.setWire(true);
       board.setWire(false);
       expect(`${what}: cut and mended at once, the counts stay`, end, board.runs.since.at);
+      const again = new Board(engine, romOf(engine, ''));
+      for (const count of [3500, board.length]) replay(board, again, count);
+      expect(`${what}: so it is on another board`, traceOf(board) + board.log(),
+        traceOf(again) + again.log());
+      again.free();
       board.free();
     }
   }
@@ -422,7 +427,8 @@ function testSince(what, board, from, changed) {
   const word = torn.length > 0 ? 'Torn' : 'Whole', moments = momentsVerdict(board, since);
   if (now.length > 0) expect(`${what}: by moments`, `${word} by moments${text}: ${number}`,
     `${moments.word}${moments.text}`.replace(/s?\.$/, ''));
-  expect(`${what}: the sum`, `In all ${all.length} of ${board.pictures.length} torn.`, moments.sum);
+  expect(`${what}: the sum`, now.length === board.pictures.length ? ''
+    : `In all ${all.length} of ${board.pictures.length} torn.`, moments.sum);
   const halves = halvesVerdict(board, since);
   const drew = board.runs.since.drew > 0 ? 'In time' : '';
   expect(`${what}: by halves`, early.length > 0 ? 'Early' : drew, halves.word);
@@ -467,6 +473,9 @@ function testJudged() {
     const what = `judged by moments: ${JSON.stringify(log.slice(0, 60))}`;
     expect(what, wanted, recording.pictures.filter(({ judged }) => judged).length);
     expect(`${what}: its colour`, wanted === 0, verdict.color === '');
+    const halves = runProgram(['torn'], log).split(/ at | drew |:/)[0];
+    expect(`${what}: and by halves`, { torn: 'Early', 'not torn': 'In time', 'no run': '' }[halves],
+      halvesVerdict(recording, sinceOf(recording)).word);
     const said = runProgram(['torn', '--moments'], log);
     const [, count] = /, ([0-9]+) judged$/m.exec(said) ?? [];
     if (count !== undefined) expect(`${what}: so says the program`, Number(count), wanted);
@@ -670,6 +679,20 @@ function testLessons() {
   });
 }
 
+// docs/LESSON.md says of events of the lessons what the page says of them.
+function testLessonPage() {
+  const page = readFileSync(`${top}docs/LESSON.md`, 'utf8');
+  const told = [...page.matchAll(/lesson ([0-9]), event ([0-9]+): ([^.;|]+)/g)];
+  expect('docs/LESSON.md tells events', true, told.length > 5);
+  for (const [what, lesson, event, words] of told) {
+    const { rom, steps, oneHalf } = stepsOf(stateOfLesson(Number(lesson) - 1).trace);
+    const board = new Board(engine, romOf(engine, rom), false, oneHalf);
+    playSteps(board, steps);
+    expect(`docs/LESSON.md: ${what}`, eventText(board.entryAt(Number(event))), words);
+    board.free();
+  }
+}
+
 // What a lesson says of an event, by the word that stands for it.
 const MENTIONED = { published: /^wrote 001/, sent: /^sent/, reached: /^started/, redraw: /^sent/,
   flip: /^wrote 001/, writes: /^wrote/ };
@@ -758,6 +781,9 @@ function testDriverTexts() {
     !/^(the (driver|generator|processor|whole system)|a strobe|no strobe) [a-z]/.test(words)
     || /undefined|no memory/.test(words))).join());
   expect('of many kinds', true, told.size > 15);
+  for (const half of ['half 0', 'half 1']) {
+    expect(`${half} is published`, true, told.has(`the driver publishes ${half}`));
+  }
   const texts = new Set();
   for (let at = 0; at <= 6000; at += 7) texts.add(driverText(driverOf(board, at))[0]);
   expect('the driver in words', true, texts.size >= 6 && !texts.has(undefined));
@@ -915,6 +941,7 @@ testBuses();
 testSketches();
 testTears();
 testLessons();
+testLessonPage();
 // These two take longer than all others.
 testCases();
 testSketchCases();

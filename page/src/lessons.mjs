@@ -85,7 +85,7 @@ export const LESSONS = [
     steps: [...PUBLISHED, 'strobe', 'fetch 20', 'offer B', 'tick 10', 'strobe', 'fetch 2', 'tick 5',
       'fetch 18'],
     sentences: paragraphs(`
-      A strobe comes too early: the driver has written only ten bytes of a house, and hasn't
+      A strobe comes too soon: the driver has written only ten bytes of a house, and hasn't
       published it.
 
       Word zero still leads to half 1, so the triangle is drawn once more, whole.
@@ -104,8 +104,8 @@ export const LESSONS = [
       It takes one frame after the other, and from event 58 on it writes a house into the
       very half that is being drawn: the picture is neither the triangle nor the house.
 
-      This is what dvg torn finds in a log, and what the proved driver does in no order of
-      events, as long as the wire is whole.`),
+      Such early bytes are what dvg torn finds in a log, and the proved driver writes none,
+      in whichever order events come, as long as the wire is whole.`),
   },
   {
     title: 'One half alone', at: 63, shows: '62 done 009 B000 3',

@@ -351,7 +351,7 @@ function whyNoRun() {
 /* What Run does, and for how long; or why it can't. */
 function showRunText() {
   const left = running ? schedule.left : countNow(), time = durationText(left / rateNow());
-  const said = running ? `${counted(left, 'event')} to go, in ${time}: what is grey waits for Stop.`
+  const said = running ? `${counted(left, 'event')} to go; grey waits for Stop.`
     : `Run: ${counted(left, 'event')}, in ${time}.`;
   setText(byId('run-text'), whyNoRun() || said);
   setText(byId('how-text'), (board.oneHalf ? ONE_HALF_TEXT : '') + HOW_TEXT[byId('how').value]);

@@ -20,7 +20,7 @@ export const TOUR_STEPS = [
   {
     title: 'Torn', cut: true, least: 0,
     text: `This picture is torn: it began as one frame and went on as a later one; faint are both,
-      whole. Red came too early; the ring marks where the tear begins. With the wire, the driver
+      whole. Red came early; the ring marks where the tear begins. With the wire, the driver
       would have waited until the picture was done. Mend it, press Run, and see.`,
   },
 ];

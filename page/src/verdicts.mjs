@@ -14,15 +14,15 @@ export function sinceOf({ wires, runs }) {
     : { at: runs.since.at, text: ` since it was ${wire.cut ? 'cut' : 'mended'}` };
 }
 
-/* By moments: a word with its colour, what it says of so many pictures, where to look, and what
- * there is in all. A picture is judged whose run fetched more than word zero. */
+/* By moments: a word with its colour, what it says of so many pictures, where to look, and the sum
+ * of all, where there are more. A picture is judged whose run fetched more than word zero. */
 export function momentsVerdict({ pictures, runs }, since) {
   const all = pictures.filter(({ judged }) => judged), torn = all.filter((one) => one.torn);
   const now = all.filter(({ from }) => from >= since.at), tornNow = now.filter((one) => one.torn);
   const { contradictions, contradicts } = runs;
   const more = contradictions === 0 ? '' : ` ${counted(contradictions, 'fetch', 'fetches')} read `
     + 'what was not written: somebody writes who isn\'t in the log.';
-  const sum = since.at === 0 ? '' : `In all ${torn.length} of ${all.length} torn.`;
+  const sum = all.length === now.length ? '' : `In all ${torn.length} of ${all.length} torn.`;
   const begin = ` by moments${since.text}: `, count = counted(now.length, 'picture');
   if (now.length === 0) {
     return { word: '', color: '', text: `By moments: no run to judge${since.text}.${more}`, sum };
@@ -40,7 +40,7 @@ export function momentsVerdict({ pictures, runs }, since) {
 /* By halves: the same of the bytes that came early, where a run drew a half. */
 export function halvesVerdict({ early, runs }, since) {
   const counts = since.at === 0 ? runs.all : runs.since;
-  const sum = since.at === 0 ? '' : `In all ${counted(early, 'byte')} early.`;
+  const sum = early === counts.early ? '' : `In all ${counted(early, 'byte')} early.`;
   if (counts.early > 0) {
     return { word: 'Early', color: 'early', at: counts.first, sum,
       text: ` by halves${since.text}: ${counted(counts.early, 'byte')}.` };

@@ -47,14 +47,13 @@ function seenText({ early, seen, torn }) {
 
 export function runText(run, strokes) {
   if (run === null) return 'The generator is halted.';
-  const half = run.half === 0 ? '' : ` from ${areaName(run.half)}`;
-  const words = counted(run.words.length, 'word');
-  return `A run draws${half}: ${words}, ${counted(strokes, 'stroke')} so far.`;
+  const half = run.half === 0 ? '' : ` ${areaName(run.half)}`;
+  return `A run draws${half}: ${counted(strokes, 'stroke')} so far.`;
 }
 
 /* Of an abandoned run, which drew so many strokes. */
 export function leftText(strokes) {
-  return `A strobe or a reset ended the run after it early: the tube shows the ${strokes} strokes `
+  return `A strobe or a reset cut the run after it short: the tube shows the ${strokes} strokes `
     + 'that it came to. ';
 }
 
@@ -137,8 +136,9 @@ export function eventText({ event, text, wrote, value, fetched, word, strokes })
   }
   if (text.startsWith('broke')) return 'the generator can\'t go on, and breaks off';
   if (fetched !== undefined) {
-    return `the generator reads ${word === undefined ? 'a byte' : 'a word'} of `
-      + `${areaName(areaOf(fetched))}`;
+    const name = areaName(areaOf(fetched));
+    if (fetched === 0 && word !== undefined) return `the generator has read ${name}`;
+    return `the generator reads ${word === undefined ? 'a byte' : 'a word'} of ${name}`;
   }
   if (text.startsWith('refused')) return 'the driver refuses a frame';
   return DID[text] ?? CLEARED[event.name];
