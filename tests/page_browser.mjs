@@ -393,11 +393,11 @@ async function testAbandoned() {
   expect('that is said', /cut short rather than torn/, await tab.text('how-text'));
   await tab.value('document.getElementById("rows").focus()');
   let told = '';
-  for (let k = 0; k < 200 && !/cut the run after it short/.test(told); k++) {
+  for (let k = 0; k < 200 && !/The run after it was cut short/.test(told); k++) {
     for (let step = 0; step < 5; step++) await tab.key('ArrowLeft', 8);
     told = await tab.text('picture-text');
   }
-  expect('how far it came', /the tube shows the [0-9]+ strokes/, told);
+  expect('how far it came', /the tube shows its [0-9]+ strokes?\./, told);
   const left = () => tab.value(`(() => {
     const [{ className }] = document.getElementById('left').children;
     return className + document.getElementById('left').textContent;
@@ -516,7 +516,7 @@ async function testCutWire() {
   expect('one of them is no frame', true, number >= 0);
   await tab.click(`#torn-list li:nth-child(${number + 1}) button`);
   expect('it is shown',
-    /torn: [0-9]+ bytes? came early, .* It is no frame that was offered/,
+    /torn: [0-9]+ early bytes?, of which .* It is no frame that was offered/,
     await tab.text('picture-text'));
   const torn = await tab.value(REDS);
   expect('a torn picture is red', true, torn.red > 100);
@@ -575,9 +575,11 @@ async function testLessonsNow() {
       (await tab.value('document.querySelector("#log .now").textContent')).replace('   torn', ''));
     const text = await tab.text('picture-text');
     if (k >= 5) expect(`lesson ${title}: the picture is torn`,
-      /torn: 16 bytes came early, .* It is no frame that was offered/, text);
+      /torn: 16 early bytes, of which 6 show\. It is no frame that was offered/, text);
     else expect(`lesson ${title}: nothing is torn`, NOT_TORN, await tab.text('judged'));
     expect(`lesson ${title}: something is lit`, true, await litOf('screen') > 500);
+    if (k < 5) expect(`lesson ${title}: whether it is dim`, k === 2 || k === 3,
+      await litOf('screen', 400) < 20);
     if (k === 6) await testBeside();
   }
 }
@@ -743,8 +745,7 @@ async function testDrops() {
       await openPage();
       await tab.drop('screen', put('call.dump', dump));
       await comes('file-title', 'The dump call.dump');
-      await tab.value('scrollTo(0, 400)');
-      await tab.drop('screen', put(name, bytes));
+      await tab.drop('memory', put(name, bytes));
       expect(`${width}: ${name} is told`, true, await comes('file-title', name));
       expect(`${width}: ${name}: what became of it`, text, await tab.text('file-text'));
       expect(`${width}: ${name}: whether that is bad`, isBad ? 'bad' : '',
@@ -1050,7 +1051,10 @@ async function testTour() {
   await expectUncut('in the tour');
   await expectTour('then the wire is cut', '1 of 3: Whole', '2 of 3: Cut');
   await comesWith('left', 'Abandoned');
+  await comesWith('picture-text', ', torn: ');
   await expectUncut('with the wire cut');
+  expect('while it runs, no tear is told', false,
+    await tab.value('document.getElementById("tear").checkVisibility()'));
   await expectTour('and a picture is torn', '1 of 3: Whole', '2 of 3: Cut', '3 of 3: Torn');
   expect('so says its button', 'Mend the HALT wire', await tab.text('wire'));
   expect('so say both verdicts', VERDICTS.cut, await verdicts());
@@ -1126,13 +1130,15 @@ async function expectUncut(what) {
     .map((one) => Math.max(0, one.scrollHeight - one.clientHeight)).join(' ')`));
 }
 
-// How many pixels of a canvas aren't dark.
-function litOf(id) {
+// How many pixels of a canvas are lit: the sum of their three colours is more than this.
+function litOf(id, least = 120) {
   return tab.value(`(() => {
     const canvas = document.getElementById('${id}'),
       { data } = canvas.getContext('2d').getImageData(0, 0, canvas.width, canvas.height);
     let lit = 0;
-    for (let k = 0; k < data.length; k += 4) if (data[k] + data[k + 1] + data[k + 2] > 120) lit++;
+    for (let k = 0; k < data.length; k += 4) {
+      if (data[k] + data[k + 1] + data[k + 2] > ${least}) lit++;
+    }
     return lit;
   })()`);
 }
@@ -1414,7 +1420,7 @@ async function testEditorsStill() {
     expect(`${width}: its text is clear of the ring`, true, await tab.value(`(() => {
       const [text, said] = ['textA', 'saidA'].map((id) => document.getElementById(id));
       const { outlineWidth, outlineOffset } = getComputedStyle(text);
-      const ring = parseFloat(outlineWidth) + parseFloat(outlineOffset);
+      const ring = parseFloat(outlineWidth) + Math.max(0, parseFloat(outlineOffset));
       return document.activeElement === text && ring > 0
         && text.getBoundingClientRect().bottom + ring < said.getBoundingClientRect().top;
     })()`));

@@ -493,8 +493,8 @@ function testOneHalf() {
     for (let seed = 1; seed <= seeds; seed++) {
       const board = runBoard(HOWS[how](seed), 20000, false, '', true);
       const what = `one half, ${how}, seed ${seed}`;
-      expect(`${what}: nothing comes into the other`, false,
-        board.entries.some(({ wrote, fetched }) => wrote >= 0x400 || (fetched & 0xE00) === 0x200));
+      expect(`${what}: nothing is written into the other`, false,
+        board.entries.some(({ wrote }) => wrote >= 0x400));
       expect(`${what}: bytes are early`, true, board.early > 0);
       testOneMoment(what, board);
       const { steps, oneHalf } = stepsOf(traceOf(board));

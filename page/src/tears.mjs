@@ -78,10 +78,11 @@ export function besideOf(engine, board, { from, at }) {
 /* The tear in words. */
 export function tearText({ wrong, word: { event, read } }, picture) {
   const then = picture.torn ? 'there the tear begins' : 'so it shows, though the run is consistent';
+  const { length } = picture.strokes;
+  const red = length === 0 ? 'The run drew no stroke.' : `${wrong.length} of ${length} strokes are `
+    + 'red: they aren\'t of the frame that the run began with.';
   return `Event ${event} wrote a byte while the generator drew`
-    + `${picture.early > 0 ? ' from that half' : ''}. Event ${read} read it: ${then}. `
-    + `${wrong.length} of ${picture.strokes.length} strokes are red: they aren't of the frame that `
-    + 'the run began with.';
+    + `${picture.early > 0 ? ' from that half' : ''}. Event ${read} read it: ${then}. ${red}`;
 }
 
 /* The byte that came in between, as a log has it. */

@@ -34,15 +34,14 @@ export function pictureText(picture, number, named) {
   const frame = named === null ? '' : ` It is ${named}.`;
   const { early, torn } = picture;
   if (early === 0) return `${begin}, ${torn ? 'torn: its run is mixed.' : `whole.${frame}`}`;
-  const bytes = counted(early, 'byte');
-  return `${begin}, ${torn ? 'torn' : 'early'}: ${bytes} came early, ${seenText(picture)}.${frame}`;
+  const bytes = `${counted(early, 'early byte')}, ${seenText(picture)}`;
+  return `${begin}, ${torn ? 'torn' : 'whole'}: ${bytes}.${frame}`;
 }
 
-/* How much of what came early a picture shows. */
-function seenText({ early, seen, torn }) {
-  if (seen === 0) return `and ${early === 1 ? 'it doesn\'t show' : 'none of them shows'}`;
-  const shows = early === 1 ? 'it shows' : `${seen} of them ${seen === 1 ? 'shows' : 'show'}`;
-  return `and ${shows}${torn ? '' : ', though the run is consistent'}`;
+/* How many of its early bytes a picture shows. */
+function seenText({ early, seen }) {
+  if (seen === 0) return early === 1 ? 'which doesn\'t show' : 'none of which shows';
+  return early === 1 ? 'which shows' : `of which ${seen} ${seen === 1 ? 'shows' : 'show'}`;
 }
 
 export function runText(run, strokes) {
@@ -53,8 +52,7 @@ export function runText(run, strokes) {
 
 /* Of an abandoned run, which drew so many strokes. */
 export function leftText(strokes) {
-  return `A strobe or a reset cut the run after it short: the tube shows the ${strokes} strokes `
-    + 'that it came to. ';
+  return `The run after it was cut short: the tube shows its ${counted(strokes, 'stroke')}. `;
 }
 
 /* What the ways are to choose events. */
