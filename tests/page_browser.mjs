@@ -56,11 +56,18 @@ const NOT_TORN = new RegExp(`^not torn: ${SEEN}$`);
 const TORN = new RegExp(
   `^torn at line [0-9]+: wrote [0-9A-F]{3} [0-9A-F]{2} \\(event [0-9]+\\), so far: ${SEEN}$`);
 
-// The verdicts by moments and by halves, each by its word and the colour of that.
+// The verdicts by moments and by halves, each by its word and the colour of that: of all runs, and
+// of those since the wire was cut, and since it was mended.
+const SOME = '[1-9][0-9]*';
 const VERDICTS = {
   whole: /^Whole\/good by moments: .* In time\/good by halves: each byte\.$/,
   torn: /^Torn\/bad by moments: [1-9][0-9]* of .* Early\/early by halves: [1-9][0-9]* bytes?\.$/,
   early: /^Whole\/good by moments: .* Early\/early by halves: [1-9][0-9]* bytes?\.$/,
+  cut: new RegExp(`^Torn/bad by moments since it was cut: (${SOME}) of ${SOME} pictures?\\. `
+    + `Early/early by halves since it was cut: ${SOME} bytes\\.$`),
+  mended: new RegExp(`^Whole/good by moments since it was mended: (${SOME}) of \\1 pictures?\\. `
+    + 'In time/good by halves since it was mended: each byte\\.$'),
+  none: /^\/By moments: no run to judge\. \/By halves: no run drew a half\.$/,
 };
 
 // The browser, its tab, and what earlier tabs asked of the network.
@@ -166,6 +173,11 @@ function textsOf(selector) {
   return tab.value(`[...document.querySelectorAll('${selector}')].map((one) => one.textContent)`);
 }
 
+// The words of the first of these, with one blank between two.
+async function wordsOf(selector) {
+  return (await textsOf(selector))[0].trim().replace(/\s+/g, ' ');
+}
+
 // Whether an element comes to have a text, or one with these words.
 function comes(id, text) {
   return tab.until(`document.getElementById('${id}').textContent === ${JSON.stringify(text)}`);
@@ -207,10 +219,15 @@ async function taken(name) {
 async function testBeginning() {
   await tab.size(1600, 1000);
   await openPage();
-  expect('what is proved is said',
-    /runs the erased form of the proved sources, as\s+WebAssembly: it is tested, not proved\./,
-    await tab.value('document.querySelector(".proved").textContent'));
-  expect('a newcomer sees a picture', /^Picture [0-9]+, .* whole\. It is frame (\w+ of )?[AB]\./,
+  expect('what is proved is said', /that is proved\. This page is tested, not proved\.$/,
+    await wordsOf('header p'));
+  expect('and what the page runs',
+    /runs the erased form of the proved sources, as WebAssembly: it is tested, not proved\./,
+    await wordsOf('footer'));
+  expect('so are the game and its tube',
+    /^On a vector tube, as of Atari's Asteroids \(1979\), a beam draws line by line\. /,
+    await wordsOf('header p'));
+  expect('a newcomer sees a picture', /^Picture [0-9]+, .* whole\. It is frame [0-9]+ of [AB]\./,
     await tab.text('picture-text'));
   expect('and no torn one', NOT_TORN, await tab.text('judged'));
   expect('so say both verdicts', VERDICTS.whole, await verdicts());
@@ -298,14 +315,13 @@ async function testExamples() {
   for (const [name, place] of wanted) {
     await tab.choose('examples', name);
     const log = name.endsWith('.log');
-    expect(`${name} opens`, true, await comesWith(log ? 'file-title' : 'said', log ? name
-      : `${name}: `));
+    expect(`${name} opens`, true, await comes('file-title', log ? `The log ${name}` : name));
     if (log) await tab.click('file-close');
     if (!name.endsWith('.sketch')) continue;
     const frames = runStatus([RENDER, '--check'], readFileSync(place)) === 0;
     expect(`${name}: its ROM is there`, /^[24][0-9]+ bytes/, await tab.text('rom-said'));
-    expect(`${name}: what becomes of it`, frames ? /it stands in editor A/ : /the ROM was loaded/,
-      await tab.text('said'));
+    expect(`${name}: what becomes of it`, frames ? /^It stands in editor A/ : /^The ROM was loaded/,
+      await tab.text('file-text'));
     expect(`${name}: nothing is at fault`, /^ok /, await tab.text('saidA'));
   }
   for (const name of ['attract', 'digits', 'rocks', 'rom_shapes', 'score', 'ship']) {
@@ -329,7 +345,8 @@ async function testSketches() {
   await tab.click('once');
   await tab.click('compare');
   expect('and offered in turn', /^the same/, await tab.text('compared'));
-  expect('each picture is of a frame', /It is frame \w+ of [AB]\./, await tab.text('picture-text'));
+  expect('each picture is of a frame', /It is frame [12] of [AB]\./,
+    await tab.text('picture-text'));
   for (const [what, name, args] of [['a sketch', 'frames.sketch', null],
     ['a table for ca65', 'frames.inc', ['lay', '--table']], ['an SVG', 'frames.svg', [RENDER]]]) {
     await tab.choose('save-asA', what);
@@ -339,14 +356,14 @@ async function testSketches() {
   await tab.choose('examples', 'waits.log');
   expect('an example of a log', true, await comesWith('file-title', 'The log waits.log'));
   await tab.choose('examples', 'flip');
-  expect('an example of a trace', true, await comesWith('said', 'flip: '));
+  expect('an example of a trace', true, await comes('file-title', 'flip'));
 }
 
 async function testStepping() {
   await openPage();
   const pictures = async () => Number(/([0-9]+) pictures?/.exec(await tab.text('counts'))[1]);
   const before = await pictures();
-  expect('what Run does is said', 'Run lets 20000 events happen, in about 21 seconds.',
+  expect('what Run does is said', 'Run: 20000 events, in about 21 seconds.',
     await tab.text('run-text'));
   await tab.click('one-picture');
   expect('one picture more', before + 1, await pictures());
@@ -376,14 +393,26 @@ async function testAbandoned() {
   expect('that is said', /cut short rather than torn/, await tab.text('how-text'));
   await tab.value('document.getElementById("rows").focus()');
   let told = '';
-  for (let k = 0; k < 200 && !/ended the run after it early/.test(told); k++) {
+  for (let k = 0; k < 200 && !/The run after it was cut short/.test(told); k++) {
     for (let step = 0; step < 5; step++) await tab.key('ArrowLeft', 8);
     told = await tab.text('picture-text');
   }
-  expect('how far it came', /the tube shows the [0-9]+ strokes/, told);
+  expect('how far it came', /the tube shows its [0-9]+ strokes?\./, told);
+  const left = () => tab.value(`(() => {
+    const [{ className }] = document.getElementById('left').children;
+    return className + document.getElementById('left').textContent;
+  })()`);
+  expect('what strobes cut short is bad', /^badAbandoned: [1-9][0-9]* runs, cut short\.$/,
+    await left());
   await runSeed(1, 'ignored');
   expect('ignored strobes let pictures be torn', / [1-9][0-9]* torn .* 0 runs abandoned/,
     await tab.text('counts'));
+  expect('nothing is said of abandoned runs', false,
+    await tab.value('document.getElementById("left").checkVisibility()'));
+  await tab.click('wire');
+  await runSeed(2, 'resets');
+  expect('what resets cut short isn\'t', /^Abandoned: [1-9][0-9]* runs?, cut short\.$/,
+    await left());
 }
 
 async function testOneByOne() {
@@ -401,7 +430,7 @@ async function testOneByOne() {
   await happen('strobe');
   await happen('fetch', 12);
   expect('the picture',
-    'Picture 1, finished by event 29: 1 stroke, whole. It is frame A. The generator is halted.',
+    'Picture 1, event 29: 1 stroke, whole. It is frame A. The generator is halted.',
     await tab.text('picture-text'));
   expect('the log', /^18 low 000 01.*19 fetched 000 E201.*28 low 205 00.*29 done 205 B000 1$/s,
     await tab.text('log'));
@@ -469,10 +498,10 @@ async function testCutWire() {
   await tab.click('wire');
   expect('the wire is cut',
     'true', await tab.value('document.getElementById("wire").getAttribute("aria-pressed")'));
-  expect('that is said', /is cut/, await tab.text('wire-text'));
+  expect('that is said', 'Mend the HALT wire', await tab.text('wire'));
   await runSeed(1);
   expect('torn pictures are counted',
-    /[0-9]+ pictures? · [1-9][0-9]* torn · [1-9][0-9]* bytes? written/, await tab.text('counts'));
+    /[0-9]+ pictures? · [1-9][0-9]* torn · [1-9][0-9]* early bytes? /, await tab.text('counts'));
   expect('torn finds it', TORN, await tab.text('judged'));
   expect('so say both verdicts', VERDICTS.torn, await verdicts());
   expect('in two colours', true, await tab.value(`new Set(['moments', 'halves'].map((id) => (
@@ -487,7 +516,7 @@ async function testCutWire() {
   expect('one of them is no frame', true, number >= 0);
   await tab.click(`#torn-list li:nth-child(${number + 1}) button`);
   expect('it is shown',
-    /torn: [0-9]+ bytes? w[a-z]+ written into its half while .* It is no frame that was offered/,
+    /torn: [0-9]+ early bytes?, of which .* It is no frame that was offered/,
     await tab.text('picture-text'));
   const torn = await tab.value(REDS);
   expect('a torn picture is red', true, torn.red > 100);
@@ -502,12 +531,13 @@ async function testCutWire() {
   expect('the RAM shows what came early, and was read', true, words.red > 20);
   expect('the first torn picture is shown', /, torn: /, await tab.text('picture-text'));
   await tab.click('halves-go');
-  expect('the first early byte is shown', /into the half that is being drawn(, and it shows)?\.$/,
+  expect('the first early byte is shown',
+    /into the half that is being drawn(, and it shows)?\. tick: wrote /,
     await tab.text('moment-text'));
   const early = await tab.value(REDS.replace("'screen'", "'memory'"));
   expect('and the RAM shows where', true, early.yellow > 20);
   await tab.click('wire');
-  expect('the wire is whole again', /is whole/, await tab.text('wire-text'));
+  expect('the wire is whole again', 'Cut the HALT wire', (await wordsOf('#wire')));
   await tab.media({});
   await tab.size(1600, 1000);
 }
@@ -544,10 +574,60 @@ async function testLessonsNow() {
     expect(`lesson ${title}: its moment`, `${shows}`,
       (await tab.value('document.querySelector("#log .now").textContent')).replace('   torn', ''));
     const text = await tab.text('picture-text');
-    if (k === 5) expect('the cut wire tears',
-      /torn: 16 bytes were written into its half while .* It is no frame that was offered/, text);
+    if (k >= 5) expect(`lesson ${title}: the picture is torn`,
+      /torn: 16 early bytes, of which 6 show\. It is no frame that was offered/, text);
     else expect(`lesson ${title}: nothing is torn`, NOT_TORN, await tab.text('judged'));
+    expect(`lesson ${title}: something is lit`, true, await litOf('screen') > 500);
+    if (k < 5) expect(`lesson ${title}: whether it is dim`, k === 2 || k === 3,
+      await litOf('screen', 400) < 20);
+    if (k === 6) await testBeside();
   }
+}
+
+// Beside the torn picture of one half alone stands what the same events draw with two: the whole
+// triangle, as it was being drawn.
+async function testBeside() {
+  expect('two halves are told', 'The same events with two halves: whole',
+    await tab.text('beside-text'));
+  const of = (id) => tab.value(`document.getElementById('${id}').toDataURL()`);
+  const [beside, wanted, next] = await Promise.all(['beside', 'wanted', 'next'].map(of));
+  expect('with two halves the frame is whole', true, beside === wanted && beside !== next);
+  expect('it is drawn', true, await litOf('beside') > 200);
+}
+
+// One half alone, run by chance: early bytes and torn pictures, with the wire whole; and beside a
+// torn one what two halves draw, which is whole.
+async function testOneHalf() {
+  await openPage();
+  await tab.choose('half-count', '1');
+  await runSeed(1, 'ignored');
+  expect('one half tears, with the wire whole', VERDICTS.torn, await verdicts());
+  expect('so says its button', 'Cut the HALT wire', await wordsOf('#wire'));
+  expect('it is told', /^Each frame comes into the one half, /, await tab.text('how-text'));
+  await tab.click('moments-go');
+  await testBesideOfSeed();
+  await tab.click('link');
+  await tab.until('document.getElementById("link-text").value.includes("#z=")');
+  const [link, counts] = [await tab.value('document.getElementById("link-text").value'),
+    await tab.text('counts')];
+  await openPage(link);
+  const halves = await tab.value('document.getElementById("half-count").value');
+  expect('a link holds that there is one half', `1 ${counts}`,
+    `${halves} ${await tab.text('counts')}`);
+  await tab.click('compare');
+  expect('play has two', 'the same up to the one half, which no trace has: 0 events, 0 lines',
+    await tab.text('compared'));
+  await tab.choose('half-count', '2');
+  await runSeed(1, 'ignored');
+  expect('two halves don\'t', VERDICTS.whole, await verdicts());
+  expect('nothing stands beside', true, await tab.value(
+    '!document.getElementById("beside").checkVisibility()'));
+}
+
+async function testBesideOfSeed() {
+  expect('beside it stands what two halves draw', true,
+    await comes('beside-text', 'The same events with two halves: whole'));
+  expect('it is drawn', true, await litOf('beside') > 200);
 }
 
 async function testLink() {
@@ -572,7 +652,8 @@ async function testLink() {
   await openPage(`${address}#z=AAAA`);
   expect('a broken link is told', /holds no state/, await tab.text('said'));
   await openPage(`${address}#trace=tick%20x`);
-  expect('a broken trace is told', /syntax at line 1/, await tab.text('said'));
+  expect('a broken trace is told', 'The trace is refused: dvg: syntax at line 1',
+    await tab.text('said'));
   expect('the other tab has no fault', '', tab.faults.join());
   await tab.close();
   tab = first;
@@ -623,25 +704,86 @@ async function testFiles() {
   const rom = new Uint8Array(2048).fill(0xD0);
   rom.set([0, 0xB0]);
   await tab.drop('rows', put('some.rom', rom));
-  expect('a ROM is loaded',
-    true, await comesWith('said', 'some.rom: the ROM'));
+  expect('a ROM is loaded', true, await comesWith('file-text', 'The ROM was loaded'));
   await set('textA', 'labs 0 0 0\njumprom 800');
   expect('a draft may use it', 'ok 3 words 5 fetches', await tab.text('saidA'));
   await tab.drop('screen',
     put('a.trace',
     'map 4096\nrom 400 B000\ntick 2\noffer\nlabs 5 5 0\njumprom 400\nend\n'
       + 'tick 10\nstrobe\nfetch 12\n'));
-  expect('a trace happens',
-    true, await comes('said', 'a.trace: 26 events happened.'));
+  expect('a trace happens', true, await comes('file-text', '26 events happened.'));
   expect('with its larger ROM', /4096 bytes/, await tab.text('rom-said'));
   await tab.drop('screen', put('a.draft', 'labs 1 2 3 # here\nhalt\n'));
   expect('a draft is taken',
     true, await comes('saidA', 'ok 3 words 4 fetches'));
-  await tab.drop('screen', put('other', 'what is this?\n'));
-  expect('another file is told',
-    true, await tab.until('/neither a dump/.test(document.getElementById("said").textContent)'));
   await tab.choose('exampleB', 'rom_shapes');
   expect('an example with a ROM', /^ok /, await tab.text('saidB'));
+}
+
+// What is dropped, by its name, what the panel says of it, and whether that is bad.
+const DROPS = [
+  ['game.s', '; a game\n        lda #0\n', /^This is neither a dump, /, true],
+  ['a.png', Buffer.from('89504E470D0A1A0A0000000D49484452', 'hex'), /^This is neither/, true],
+  ['shapes.sketch', readFileSync(`${top}examples/board/shapes.sketch`),
+    /^Its shapes .* board\/outline\.awk makes a sketch/, true],
+  ['some.rom', Buffer.alloc(2048, 0xD0), /^The ROM was loaded, /, false],
+  ['a.trace', 'tick 3\n', /^3 events happened\.$/, false],
+  ['bad.trace', 'tick 3\ntick x\n', /^The trace is refused: dvg: syntax at line 2$/, true],
+  ['a.sketch', 'labs 1 2 3\nhalt\n', /^It stands in editor A, below\.$/, false],
+  ['bad.sketch', 'labs 1 2 3\nvctr\n', /^It stands in editor A, below, and has a fault: syntax /,
+    true],
+];
+
+// Each drop is told in the panel, in view, and closes what was there before: here a dump. After a
+// ROM or a trace no run drew, and nothing is green.
+async function testDrops() {
+  const dump = new Uint8Array(4096);
+  dump.set([1, 0xE0, 0x90, 0xA1, 0, 2, 0x64, 0x90, 0x64, 0x74, 0, 0xB0]);
+  for (const [width, height] of [[400, 800], [1280, 900]]) {
+    await tab.size(width, height, width === 400);
+    for (const [name, bytes, text, isBad] of DROPS) {
+      await openPage();
+      await tab.drop('screen', put('call.dump', dump));
+      await comes('file-title', 'The dump call.dump');
+      await tab.drop('memory', put(name, bytes));
+      expect(`${width}: ${name} is told`, true, await comes('file-title', name));
+      expect(`${width}: ${name}: what became of it`, text, await tab.text('file-text'));
+      expect(`${width}: ${name}: whether that is bad`, isBad ? 'bad' : '',
+        await tab.value('document.getElementById("file-text").className'));
+      await expectInView(`${width}: ${name}: in view`, '#file-title', '#file-text');
+      expect(`${width}: ${name}: the dump is closed`, 'none',
+        await tab.value('getComputedStyle(document.getElementById("file-lines")).display'));
+      expect(`${width}: ${name}: the board is there`, true,
+        await tab.value('document.getElementById("verdicts").checkVisibility()'));
+      if (/\.(rom|trace)$/.test(name)) expect(`${width}: ${name}: nothing is judged`, VERDICTS.none,
+        await verdicts());
+      await tab.click('file-close');
+      expect(`${width}: ${name} is closed`, false,
+        await tab.value('document.getElementById("file").checkVisibility()'));
+    }
+  }
+  await tab.size(1600, 1000);
+}
+
+// By moments a log is judged where a run came to its HALT and fetched more than word zero: of
+// another one nothing is green but, where it drew a half, that its bytes came in time.
+async function testUnjudged() {
+  await openPage();
+  const [torn, whole] = ['torn', 'whole']
+    .map((name) => readFileSync(`${top}examples/moments/${name}.log`, 'utf8'));
+  const zeroAlone = (log) => log.replace(/^(low|fetched) (?!000).*\n/gm, '');
+  const logs = {
+    'zero.log': [zeroAlone(whole), /^\/By moments: no run to judge\. In time\/good /],
+    'early.log': [zeroAlone(torn), /^\/By moments: no run to judge\. Early\/early /],
+    'open.log': [torn.replace(/^halted\n/gm, ''), /^\/By moments: no run to judge\. Early\/early /],
+    'none.log': [torn.replace(/^(low|fetched) .*\n/gm, ''), VERDICTS.none],
+    'short.log': ['started\nlow 1FF 05\nhalted\n', /^Whole\/good by moments: 1 picture\. /],
+  };
+  for (const [name, [log, wanted]] of Object.entries(logs)) {
+    await tab.drop('screen', put(name, log));
+    await comes('file-title', `The log ${name}`);
+    expect(`${name}: the verdicts`, wanted, await verdicts());
+  }
 }
 
 // Of an opened log: its own verdict, and none other; its rows, in view and focused.
@@ -654,12 +796,14 @@ async function testLogShown(name, log) {
     await tab.value('document.getElementById("judged").className'));
   expect(`${name}: nothing else is green`, good ? 1 : 0, (await textsOf('.good')).filter(
     (text) => /torn|drew/.test(text)).length);
+  expect(`${name}: in time only where a run drew`, /^not torn: .* [1-9][0-9]* drew /.test(said[0]),
+    (await textsOf('#halves strong')).join() === 'In time');
   expect(`${name}: its rows have the focus`, 'rows',
     await tab.value('document.activeElement.id'));
   await expectInView(`${name}: in view`);
   const [, line] = /line ([0-9]+)/.exec(said[0]) ?? [];
-  if (line) expect(`${name}: the torn line is shown`, true,
-    (await tab.text('moment-text')).includes(`line ${line}: wrote`));
+  if (line) expect(`${name}: the torn line is shown`,
+    new RegExp(`, line ${line}: the driver writes .* wrote `), await tab.text('moment-text'));
   expect(`${name}: nothing of it can be run`, true,
     await tab.value('document.getElementById("run").disabled'));
 }
@@ -760,7 +904,7 @@ function outOfView(selectors) {
   })()`);
 }
 
-const SEEN_AT_ONCE = ['#screen', '#rows', '#run', '#wire', '#verdict', '#moment-text'];
+const SEEN_AT_ONCE = ['#screen', '#rows', '#run', '#wire', '#verdicts', '#moment-text'];
 
 // What is always in view is, and so are these parts.
 function expectInView(what, ...more) {
@@ -777,6 +921,7 @@ async function testInView() {
     await expectInView(`${what}: the tour in view`, '#tour-title', '#tour-text', '#tour-end');
     await openPage();
     await expectInView(`${what}: in view`);
+    if (width >= 1280) await expectUncut(`${what}, the opening`);
     writeFileSync(`${work}/page_${width}_first.png`, await tab.screenshot());
     for (const id of ['wire', 'once', 'moments-go']) await tab.click(id);
     await tab.value('scrollTo(0, 0)');
@@ -789,15 +934,22 @@ async function testInView() {
       await comesWith('lesson-title', `${k}. `);
       const text = width < 1280 ? ['#lesson-title'] : ['#lesson-title', '#lesson-text'];
       await expectInView(`${what}: lesson ${k} in view`, ...text);
+      if (width >= 1280) await expectUncut(`${what}, lesson ${k}`);
     }
     writeFileSync(`${work}/page_${width}_lesson.png`, await tab.screenshot());
     await tab.drop('screen', `${top}examples/logs/tears.log`);
     await comesWith('file-title', 'The log tears.log');
     await expectInView(`${what}: a log in view`, '#file-title');
+    if (width >= 1280) await expectUncut(`${what}, a log`);
     writeFileSync(`${work}/page_${width}_log.png`, await tab.screenshot());
   }
   await tab.size(400, 800, true);
   await openPage();
+  const lessonsAt = () => tab.value(
+    'document.querySelector("nav").getBoundingClientRect().top + scrollY');
+  expect('on a phone the lessons come next', true, await lessonsAt() < 600);
+  for (const id of ['wire', 'once', 'moments-go']) await tab.click(id);
+  expect('so they do after a tear', true, await lessonsAt() < 1000);
   await tab.value('document.getElementById("memory").scrollIntoView()');
   await expectInView('on a phone all that stays, however far one scrolls');
   await tab.size(1600, 1000);
@@ -860,9 +1012,9 @@ async function testCode() {
     await tab.click('[data-event="tick"]');
   };
   await tick(1);
-  await acts('a look at byte 001', /: peek\.$/, /lda DVG_RAM \+ 1/);
+  await acts('a look at byte 001', /: peek$/, /lda DVG_RAM \+ 1/);
   await tick(1);
-  await acts('a read of the flag', /: read halted\.$/, /boot: +dvg_if_running none/);
+  await acts('a read of the flag', /: read halted$/, /boot: +dvg_if_running none/);
   await set('times', 1);
   await tab.click('offerA');
   expect('an offer', /dvg_offer:/, (await textsOf('#code-lines span')).join());
@@ -873,7 +1025,7 @@ async function testCode() {
   for (let k = 0; k < 41 && !/: sent/.test(await tab.text('moment-text')); k++) {
     await tab.click('back');
   }
-  await acts('a strobe', /: sent\.$/, /sta DVG_GO/);
+  await acts('a strobe', /: sent$/, /sta DVG_GO/);
   const line = await tab.value(`(() => {
     const [box, one] = ['#code-lines', '#code-lines .ran'].map((name) => (
       document.querySelector(name).getBoundingClientRect()));
@@ -895,33 +1047,40 @@ async function testTour() {
   await tab.open(address);
   const early = await tab.text('counts');
   await expectSoon('it moves', true, async () => early !== await tab.text('counts'));
-  await expectTour('the tour begins by itself, then the wire is cut, and a picture is torn',
-    '1 of 3: Whole', '2 of 3: Cut', '3 of 3: Torn');
+  await expectTour('the tour begins by itself', '1 of 3: Whole');
+  await expectUncut('in the tour');
+  await expectTour('then the wire is cut', '1 of 3: Whole', '2 of 3: Cut');
+  await comesWith('left', 'Abandoned');
+  await comesWith('picture-text', ', torn: ');
+  await expectUncut('with the wire cut');
+  expect('while it runs, no tear is told', false,
+    await tab.value('document.getElementById("tear").checkVisibility()'));
+  await expectTour('and a picture is torn', '1 of 3: Whole', '2 of 3: Cut', '3 of 3: Torn');
   expect('so says its button', 'Mend the HALT wire', await tab.text('wire'));
-  expect('so say both verdicts', VERDICTS.torn, await verdicts());
+  expect('so say both verdicts', VERDICTS.cut, await verdicts());
   expect('the run has ended', 'Run', await tab.text('run'));
   expect('what the colours and the ring mean is said',
     /Red came .* ring marks where the tear begins\. With the wire/, await tab.text('tour-text'));
-  expect('the tear is told',
-    /^Event ([0-9]+) wrote .. over .. into byte .*Event [0-9]+ read that word/,
+  expect('the tear is told', /^Event ([0-9]+) wrote a byte while .*Event [0-9]+ read it: there /,
     await tab.text('tear-text'));
+  expect('and its byte', / It wrote .. over .. into byte /, await tab.text('tear-text'));
   const [red, of] = (await tab.text('tear-text')).match(/[0-9]+ of [0-9]+ strokes/)[0]
     .match(/[0-9]+/g).map(Number);
   expect('parts of two frames are seen', true, red >= 0.2 * of && red <= 0.8 * of);
   const { red: reds, blue } = await tab.value(REDS);
   expect('in two colours', true, reds > 100 && blue > 100);
   for (const id of ['wanted', 'next']) {
-    const lit = await tab.value(LIT.replace('ID', id));
-    expect(`the frame of ${id} is drawn`, true, lit > 200);
+    expect(`the frame of ${id} is drawn`, true, await litOf(id) > 200);
   }
   await expectInView('all of it in view', '#tear-text', '#next');
   writeFileSync(`${work}/page_torn.png`, await tab.screenshot());
   await tab.click('tear-go');
-  expect('the byte is shown', /into the half that is being drawn, and it shows\.$/,
+  expect('the byte is shown', /into the half that is being drawn, and it shows\. tick: wrote /,
     await tab.text('moment-text'));
   expect('and the tear is still told', /^Event ([0-9]+) wrote /, await tab.text('tear-text'));
   await tab.click('tear-back');
   expect('and the picture again', /: done /, await tab.text('moment-text'));
+  await expectUncut('after the tour');
   await tab.click('tour-again');
   expect('once more', /^1 of 3: Whole,2 of 3: Cut,3 of 3: Torn,1 of 3: Whole/,
     await tab.value('window.texts["tour-title"].join()'));
@@ -933,14 +1092,56 @@ async function testTour() {
   await tab.size(1600, 1000);
 }
 
-// How many pixels of a canvas aren't dark.
-const LIT = `(() => {
-  const canvas = document.getElementById('ID'),
-    { data } = canvas.getContext('2d').getImageData(0, 0, canvas.width, canvas.height);
-  let lit = 0;
-  for (let k = 0; k < data.length; k += 4) if (data[k] + data[k + 1] + data[k + 2] > 120) lit++;
-  return lit;
-})()`;
+// After the tour: mended and run, all is green, while it runs and after that; what was red before
+// is told small.
+async function testMend() {
+  await tab.size(1280, 900);
+  await tab.open(address);
+  await expectTour('the tour ends', '1 of 3: Whole', '2 of 3: Cut', '3 of 3: Torn');
+  await tab.click('wire');
+  expect('mended, nothing is judged yet',
+    /^\/By moments: no run to judge since it was mended\. \/By halves: no run drew a half since /,
+    await verdicts());
+  await tab.click('run');
+  await expectSoon('each picture since is whole', VERDICTS.mended, verdicts);
+  expect('no tear is told while it runs', 'false false', await tab.value(
+    '["tear", "tour"].map((id) => document.getElementById(id).checkVisibility()).join(" ")'));
+  await tab.click('run');
+  expect('so it is when it stops', VERDICTS.mended, await verdicts());
+  expect('in green', true, await tab.value(`['moments', 'halves'].every((id) => {
+    const [r, g, b] = getComputedStyle(document.getElementById(id).children[0]).color
+      .match(/[0-9]+/g).map(Number);
+    return g > 1.3 * r && g > 1.3 * b;
+  })`));
+  expect('the sums are told', /^In all ([1-9][0-9]*) of [1-9][0-9]* torn\.$/,
+    await tab.text('moments-sum'));
+  expect('of bytes, too', /^In all ([1-9][0-9]*) bytes early\.$/, await tab.text('halves-sum'));
+  expect('small', true, await tab.value(`['moments-sum', 'moments'].map((id) => (
+    parseFloat(getComputedStyle(document.getElementById(id)).fontSize)))
+    .reduce((sum, verdict) => sum < verdict)`));
+  await expectUncut('after Mend');
+  await tab.size(1600, 1000);
+}
+
+// Nothing of the left column is cut off.
+async function expectUncut(what) {
+  expect(`${what}: the left column is whole`, '0 0', await tab.value(`['.thumb', '.console']
+    .map((name) => document.querySelector(name))
+    .map((one) => Math.max(0, one.scrollHeight - one.clientHeight)).join(' ')`));
+}
+
+// How many pixels of a canvas are lit: the sum of their three colours is more than this.
+function litOf(id, least = 120) {
+  return tab.value(`(() => {
+    const canvas = document.getElementById('${id}'),
+      { data } = canvas.getContext('2d').getImageData(0, 0, canvas.width, canvas.height);
+    let lit = 0;
+    for (let k = 0; k < data.length; k += 4) {
+      if (data[k] + data[k + 1] + data[k + 2] > ${least}) lit++;
+    }
+    return lit;
+  })()`);
+}
 
 // The least contrast of a text with what lies under it.
 const CONTRAST = `(() => {
@@ -979,6 +1180,17 @@ async function testColors() {
 
 async function testMotion() {
   await tab.media({ 'color-scheme': 'dark', 'reduced-motion': 'reduce' });
+  await tab.open(address);
+  expect('with reduced motion no tour begins', false,
+    await tab.value('document.getElementById("tour").checkVisibility()'));
+  await tab.click('still');
+  expect('a tear is shown as a still', '3 of 3: Torn', await tab.text('tour-title'));
+  expect('it is told', /^Event ([0-9]+) wrote a byte while /, await tab.text('tear-text'));
+  expect('it is torn', VERDICTS.cut, await verdicts());
+  expect('and red', true, (await tab.value(REDS)).red > 100);
+  expect('the last step alone was shown', '3 of 3: Torn',
+    await tab.value('window.texts["tour-title"].join()'));
+  expect('nothing ran', true, await tab.value('!window.texts.run.includes("Stop")'));
   await openPage();
   await tab.click('anew');
   await set('count', 3000);
@@ -988,16 +1200,24 @@ async function testMotion() {
   await tab.media({ 'color-scheme': 'dark' });
 }
 
-async function testKeys() {
-  await openPage();
-  const focused =
-    () => tab.value('(({ id, dataset, textContent }) => id || dataset.event || textContent)'
-      + '(document.activeElement)');
-  const seen = [];
-  for (let k = 0; k < 60; k++) {
+// Where the key Tab leads, so many times.
+async function stopsOfTab(count) {
+  const stops = [];
+  for (let k = 0; k < count; k++) {
     await tab.key('Tab');
-    seen.push(await focused());
+    stops.push(await tab.value('(({ id, dataset, textContent }) => id || dataset.event '
+      + '|| textContent)(document.activeElement)'));
   }
+  return stops;
+}
+
+async function testKeys() {
+  await tab.open(address);
+  const [first, ...more] = await stopsOfTab(5);
+  expect('Run is the first stop of Tab', 'run', first);
+  expect('Skip the tour comes soon after that', true, more.includes('tour-end'));
+  await openPage();
+  const seen = await stopsOfTab(60);
   for (const id of ['A first picture', 'wire', 'run', 'once', 'tick', 'offerA', 'compare', 'textA',
     'rows', 'memory', 'link']) {
     expect(`the key Tab leads to ${id}`, true, seen.includes(id));
@@ -1007,17 +1227,18 @@ async function testKeys() {
   expect('Home: before the first event', /^Before the first/, await tab.text('moment-text'));
   await tab.key('ArrowRight');
   await tab.key('ArrowRight');
-  expect('two events on', 'Event 1 of 2600, a tick: read halted.', await tab.text('moment-text'));
+  expect('two events on', 'Event 1 of 2600: the driver is told that the generator is halted. '
+    + 'tick: read halted', await tab.text('moment-text'));
   await tab.key('End');
   expect('End: the newest event', /^Event 2599 of 2600/, await tab.text('moment-text'));
   await tab.value('document.getElementById("memory").focus()');
   await tab.key('ArrowRight');
   await tab.key('ArrowRight');
-  expect('a word is told', /^Word 001, half 0: [0-9A-F]{4}, LABS [0-9]+ [0-9]+ [0-9]+/,
+  expect('a word is told', /^Half 0, word 1: .* places the beam.* Word 001: [0-9A-F]{4}, LABS /,
     await tab.text('word-text'));
   await tab.value('document.getElementById("wire").focus()');
   await tab.key(' ');
-  expect('a key cuts the wire', /is cut/, await tab.text('wire-text'));
+  expect('a key cuts the wire', 'Mend the HALT wire', await tab.text('wire'));
 }
 
 async function testRows() {
@@ -1069,8 +1290,142 @@ async function testRows() {
   await tab.click('now');
   const { left: x, top: at } = await tab.middle('memory');
   await tab.mouse('mouseMoved', x + 3, at + 22);
-  await expectSoon('a word under the pointer', /^Word 000, word zero: E[0-9A-F]{3}, JMPL/,
+  await expectSoon('a word under the pointer', /^Word zero: .* Word 000: E[0-9A-F]{3}, JMPL/,
     () => tab.text('word-text'));
+}
+
+// What is read aloud of an element: its text without what is hidden from that.
+function readOf(id) {
+  return tab.value(`(() => {
+    const copy = document.getElementById('${id}').cloneNode(true);
+    copy.querySelectorAll('[aria-hidden="true"]').forEach((part) => part.remove());
+    return copy.textContent;
+  })()`);
+}
+
+// Verdicts, tour and moment are read aloud, in words, and again only where they change.
+async function testLive() {
+  await tab.open(address);
+  const lives = () => tab.value(`['moments', 'halves', 'tour-text', 'lesson-text', 'moment-text',
+    'file-text'].map((id) => {
+    const live = document.getElementById(id).closest('[aria-live], [role="status"]');
+    return live.getAttribute('aria-live') ?? live.getAttribute('role');
+  }).join()`);
+  expect('while it runs the tour is read aloud', 'off,off,polite,polite,off,status', await lives());
+  await tab.click('tour-end');
+  expect('and then what is shown', 'polite,polite,polite,polite,polite,status', await lives());
+  await tab.value(`{
+    window.changes = [];
+    const all = { childList: true, subtree: true, characterData: true };
+    for (const id of ['verdicts', 'moment-text']) {
+      new MutationObserver(() => changes.push(id)).observe(document.getElementById(id), all);
+    }
+  }`);
+  await tab.click('back');
+  expect('a step back changes the moment alone', 'moment-text',
+    await tab.value('[...new Set(changes)].join()'));
+  for (const step of ['back', 'picture-back', 'now', 'back', 'back']) {
+    await tab.click(step);
+    const read = await readOf('moment-text');
+    expect(`after ${step}: words`, /^Event [0-9]+ of 2600: the (driver|generator) [a-z]+/, read);
+    expect(`after ${step}: nothing hexadecimal`, false, HEXADECIMAL.test(read));
+    expect(`after ${step}: so says the slider`, read,
+      await tab.value('document.getElementById("rows").getAttribute("aria-valuetext")'));
+  }
+}
+
+// A number in hexadecimal: with a letter and a digit, or three or four digits of which the first is
+// zero.
+const HEXADECIMAL = /\b(?=\d*[A-F])(?=[A-F]*\d)[\dA-F]{2,4}\b|\b0[\dA-F]{2,3}\b/;
+
+// With plain words nothing that is seen is hexadecimal, whatever is opened; without them much is.
+async function testPlain() {
+  await openPage();
+  const seen = async () => (await tab.value('document.body.innerText'))
+    .split('\n').filter((line) => HEXADECIMAL.test(line)).join(' | ');
+  const states = {
+    opening: async () => {},
+    'a chosen word': async () => {
+      await tab.value('document.getElementById("memory").focus()');
+      for (let k = 0; k < 4; k++) await tab.key('ArrowRight');
+    },
+    'a tear': async () => { for (const id of ['wire', 'once', 'moments-go']) await tab.click(id); },
+    'an early byte': () => tab.click('halves-go'),
+    'a log': async () => {
+      await tab.drop('screen', `${top}examples/logs/tears.log`);
+      await comes('file-title', 'The log tears.log');
+    },
+    'a dump': async () => {
+      const dump = new Uint8Array(4096);
+      dump.set([1, 0xE0, 0x90, 0xA1, 0, 2, 0x64, 0x90, 0x64, 0x74, 0, 0xB0]);
+      await tab.drop('screen', put('a.dump', dump));
+      await comes('file-title', 'The dump a.dump');
+      await tab.click('back');
+    },
+  };
+  for (const [state, reach] of Object.entries(states)) {
+    await reach();
+    expect(`${state}: something is hexadecimal`, true, await seen() !== '');
+    await tab.click('plain');
+    expect(`${state}: with plain words nothing is`, '', await seen());
+    expect(`${state}: the moment is told`, /^Event [0-9]+ of /, await readOf('moment-text'));
+    await tab.click('plain');
+  }
+  await tab.click('plain');
+  for (let k = 1; k <= LESSONS.length; k++) {
+    await tab.click(`#lessons li:nth-child(${k}) a`);
+    await comesWith('lesson-title', `${k}. `);
+    expect(`lesson ${k}: nothing is hexadecimal`, '', await seen());
+  }
+  await tab.click('link');
+  await tab.until('document.getElementById("link-text").value.includes("#z=")');
+  const link = await tab.value('document.getElementById("link-text").value');
+  await openPage();
+  expect('a page begins without plain words', false,
+    await tab.value('document.getElementById("plain").checked'));
+  await openPage(link);
+  expect('but a link holds them', true,
+    await tab.value('document.getElementById("plain").checked'));
+}
+
+// The frames of docs/LESSON.md, cut and run, are torn; mended and run, they are whole.
+async function testLessonFrames() {
+  const [a, b] = readFileSync(`${top}docs/LESSON.md`, 'utf8').match(/(^ {4}.*\n)+/gm)
+    .map((block) => block.replace(/^ {4}/gm, ''));
+  await openPage();
+  await set('textA', a);
+  await set('textB', b);
+  for (const id of ['wire', 'once', 'moments-go']) await tab.click(id);
+  expect('the frames of the lesson are torn', VERDICTS.cut, await verdicts());
+  expect('and red', true, (await tab.value(REDS)).red > 100);
+  expect('the frames are named', 'Being drawn: frame A', await tab.text('wanted-text'));
+  for (const id of ['wire', 'once']) await tab.click(id);
+  expect('mended they are whole', VERDICTS.mended, await verdicts());
+}
+
+// A fault in one editor moves nothing of the other, and its text is clear of the ring of the focus.
+async function testEditorsStill() {
+  for (const width of [400, 1280]) {
+    await tab.size(width, 900, width === 400);
+    await openPage();
+    const places = () => tab.value(`['textA', 'saidA', 'textB', 'saidB'].map((id) => {
+      const { left, top, width, height } = document.getElementById(id).getBoundingClientRect();
+      return [left, top + scrollY, width, height].map(Math.round).join(' ');
+    }).join()`);
+    await set('textA', 'labs 0 0 0\nhalt');
+    const before = await places();
+    await set('textA', 'labs 512 400 0\nvctr 9 -100 100\nhalt');
+    expect(`${width}: a fault is told`, /^syntax at line 2/, await tab.text('saidA'));
+    expect(`${width}: nothing moves`, before, await places());
+    expect(`${width}: its text is clear of the ring`, true, await tab.value(`(() => {
+      const [text, said] = ['textA', 'saidA'].map((id) => document.getElementById(id));
+      const { outlineWidth, outlineOffset } = getComputedStyle(text);
+      const ring = parseFloat(outlineWidth) + Math.max(0, parseFloat(outlineOffset));
+      return document.activeElement === text && ring > 0
+        && text.getBoundingClientRect().bottom + ring < said.getBoundingClientRect().top;
+    })()`));
+  }
+  await tab.size(1600, 1000);
 }
 
 async function testReadAloud() {
@@ -1125,11 +1480,11 @@ async function testSpeed() {
 
 const tests = {
   testBeginning, testOpening, testTyping, testExamples, testSketches, testStepping, testAbandoned,
-    testOneByOne, testSeeds, testCutWire, testRunning, testLessons,
-    testLink, testFiles, testLongLog,
-  testHttp, testInView, testGrey, testCode, testTour,
+    testOneByOne, testSeeds, testCutWire, testRunning, testLessons, testOneHalf,
+    testLink, testFiles, testDrops, testUnjudged, testLongLog,
+  testHttp, testInView, testGrey, testCode, testTour, testMend,
     testWidths, testColors, testMotion, testKeys, testRows,
-    testReadAloud, testSpeed,
+  testLive, testPlain, testLessonFrames, testEditorsStill, testReadAloud, testSpeed,
 };
 for (const [name, test] of Object.entries(tests)) {
   if (chosen.length > 0 && !chosen.includes(name)) continue;

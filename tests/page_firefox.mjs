@@ -126,7 +126,7 @@ async function testPage(browser) {
   console.log(`firefox: the page opens in ${least} to ${most} ms, ${median} at the median`);
   expect('the tour comes to a tear', true,
     await browser.until('/^3 of 3/.test(document.getElementById("tour-title").textContent)'));
-  expect('the tear is told', /^Event [0-9]+ wrote .. over .. into byte /,
+  expect('the tear is told', /^Event [0-9]+ wrote a byte while .* It wrote .. over .. into byte /,
     await browser.text('tear-text'));
   expect('the verdicts', 'Torn Early', await browser.value(`['moments', 'halves'].map((id) => (
     document.getElementById(id).children[0].textContent)).join(' ')`));

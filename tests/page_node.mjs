@@ -12,7 +12,7 @@ import { COMMAND, Engine, OPTION } from '../page/src/engine.mjs';
 import { Board } from '../page/src/board.mjs';
 import { AREA, SIGN, areaOf, drawnHalf } from '../page/src/signs.mjs';
 import { hex } from '../page/src/hex.mjs';
-import { playSteps, stepsOf, traceOf } from '../page/src/traces.mjs';
+import { playSteps, replay, stepsOf, traceOf } from '../page/src/traces.mjs';
 import { Chance, Proportions, reelOf } from '../page/src/chance.mjs';
 import { Drawer, momentOf } from '../page/src/moments.mjs';
 import { fragmentOf, plainFragment, stateOf } from '../page/src/links.mjs';
@@ -21,7 +21,9 @@ import { Recording, boardOfDump } from '../page/src/recordings.mjs';
 import { logOfBus } from '../page/src/buses.mjs';
 import { readSketch, romOf } from '../page/src/sketches.mjs';
 import { SCENES, SCENE_FRAMES } from '../page/src/playfield.mjs';
-import { tearOf } from '../page/src/tears.mjs';
+import { besideOf, tearOf } from '../page/src/tears.mjs';
+import { halvesVerdict, leftVerdict, momentsVerdict, sinceOf } from '../page/src/verdicts.mjs';
+import { eventText } from '../page/src/words.mjs';
 import { driverOf, driverText, generatorOf } from '../page/src/inside.mjs';
 import { OPCODES, Processor } from '../page/src/processor.mjs';
 import { Twin, bytesOfTable, linesOfListing } from '../page/src/twin.mjs';
@@ -178,8 +180,8 @@ const drafts = [linesOf(example('score')), linesOf(example('rocks'))];
 const reel = () => reelOf([{ lines: drafts[0] }], [{ lines: drafts[1] }]);
 
 // The board after this many events of a schedule.
-function runBoard(make, count, wireCut = false, rom = '') {
-  const board = new Board(engine, romOf(engine, rom), wireCut), schedule = make();
+function runBoard(make, count, wireCut = false, rom = '', oneHalf = false) {
+  const board = new Board(engine, romOf(engine, rom), wireCut, oneHalf), schedule = make();
   while (board.length < count) board.happen(schedule.next(board));
   return board;
 }
@@ -372,6 +374,148 @@ function testProportions() {
   console.log(`wire cut, strobes ignored: ${torn} pictures torn`);
 }
 
+// The wire is cut, and mended: what is counted since, beside a count of the entries. Of the runs
+// that began since it was mended none is torn, and no byte of them is early.
+function testMended() {
+  let whole = 0;
+  for (const [how, make] of Object.entries(HOWS)) {
+    for (let seed = 1; seed <= seeds; seed++) {
+      const what = `mended, ${how}, seed ${seed}`;
+      const board = new Board(engine, romOf(engine, '')), schedule = make(seed)();
+      const run = (count) => {
+        for (let k = 0; k < count; k++) board.happen(schedule.next(board));
+      };
+      run(3000);
+      const from = board.open?.at ?? board.length;
+      board.setWire(true);
+      run(4000);
+      testSince(`${what}, cut`, board, from, 'cut');
+      board.setWire(false);
+      const end = board.length;
+      run(events);
+      testSince(what, board, end, 'mended');
+      expect(`${what}: no byte is early`, 0, board.runs.since.early);
+      const since = board.pictures.filter((picture) => picture.from >= end);
+      expect(`${what}: no picture is torn`, false, since.some(({ torn }) => torn));
+      whole += since.length;
+      board.setWire(true);
+      board.setWire(false);
+      expect(`${what}: cut and mended at once, the counts stay`, end, board.runs.since.at);
+      const again = new Board(engine, romOf(engine, ''));
+      for (const count of [3500, board.length]) replay(board, again, count);
+      expect(`${what}: so it is on another board`, traceOf(board) + board.log(),
+        traceOf(again) + again.log());
+      again.free();
+      board.free();
+    }
+  }
+  console.log(`mended: ${whole} pictures since, each whole`);
+}
+
+// The verdicts of a board count the runs that began with this event or later.
+function testSince(what, board, from, changed) {
+  const since = sinceOf(board), text = ` since it was ${changed}`;
+  expect(`${what}: since when`, `${from}${text}`, `${since.at}${since.text}`);
+  const early = board.entries.filter((entry) => entry.early && entry.run >= from);
+  const first = board.entries.findIndex((entry) => entry.early && entry.run >= from);
+  expect(`${what}: the early bytes`, `${early.length} ${first}`,
+    `${board.runs.since.early} ${board.runs.since.first}`);
+  const now = board.pictures.filter((picture) => picture.from >= from);
+  const torn = now.filter((picture) => picture.torn);
+  const all = board.pictures.filter((picture) => picture.torn);
+  const number = `${torn.length > 0 ? torn.length : now.length} of ${now.length} picture`;
+  const word = torn.length > 0 ? 'Torn' : 'Whole', moments = momentsVerdict(board, since);
+  if (now.length > 0) expect(`${what}: by moments`, `${word} by moments${text}: ${number}`,
+    `${moments.word}${moments.text}`.replace(/s?\.$/, ''));
+  expect(`${what}: the sum`, now.length === board.pictures.length ? ''
+    : `In all ${all.length} of ${board.pictures.length} torn.`, moments.sum);
+  const halves = halvesVerdict(board, since);
+  const drew = board.runs.since.drew > 0 ? 'In time' : '';
+  expect(`${what}: by halves`, early.length > 0 ? 'Early' : drew, halves.word);
+  const left = board.entries.filter(({ text: did, event, run }, k) => (did === 'started'
+    || event.name === 'resetgen' || event.name === 'resetall') && k > 0
+    && board.entries[k - 1].run >= from);
+  expect(`${what}: the runs that were abandoned`, left.length === 0 ? 'none'
+    : `${left.length} ${left.some(({ text: did }) => did === 'started') ? 'bad' : ''}`,
+  leftTold(leftVerdict(board, since)));
+}
+
+function leftTold(left) {
+  return left === null ? 'none' : `${/[0-9]+/.exec(left.text)[0]} ${left.color}`;
+}
+
+// How many runs of a log came to their HALT and fetched more than word zero, by the definition
+// alone.
+function judgedRuns(text) {
+  let judged = 0, isOpen = false, isPast = false;
+  for (const line of text.trimEnd().split('\n')) {
+    if (line === 'started') [isOpen, isPast] = [true, false];
+    if (/^(low|fetched) (?!000)/.test(line)) isPast = true;
+    if (line === 'halted' && isOpen && isPast) judged++;
+    if (line === 'halted' || line === 'reset') isOpen = false;
+  }
+  return judged;
+}
+
+const JUDGED = ['started|low 000 01|fetched 000 E001|halted', 'started|halted', 'halted',
+  'started|fetched 000 E001|low 001 64|halted', 'started|fetched 001 A064|halted|halted',
+  'started|fetched 001 A064|reset|halted', 'fetched 001 A064|started|halted',
+  'started|low 1FF 05|halted|started|fetched 000 E001|halted'];
+
+function testJudged() {
+  const logs = JUDGED.map((log) => `${log.replace(/\|/g, '\n')}\n`);
+  for (const name of readdirSync(`${top}examples/moments`)) {
+    logs.push(readFileSync(`${top}examples/moments/${name}`, 'utf8'));
+  }
+  for (const log of logs) {
+    const recording = new Recording('a log', Buffer.from(log), new Drawer(engine));
+    const verdict = momentsVerdict(recording, sinceOf(recording)), wanted = judgedRuns(log);
+    const what = `judged by moments: ${JSON.stringify(log.slice(0, 60))}`;
+    expect(what, wanted, recording.pictures.filter(({ judged }) => judged).length);
+    expect(`${what}: its colour`, wanted === 0, verdict.color === '');
+    const halves = runProgram(['torn'], log).split(/ at | drew |:/)[0];
+    expect(`${what}: and by halves`, { torn: 'Early', 'not torn': 'In time', 'no run': '' }[halves],
+      halvesVerdict(recording, sinceOf(recording)).word);
+    const said = runProgram(['torn', '--moments'], log);
+    const [, count] = /, ([0-9]+) judged$/m.exec(said) ?? [];
+    if (count !== undefined) expect(`${what}: so says the program`, Number(count), wanted);
+  }
+}
+
+// With one half alone pictures are torn though the wire is whole: each byte comes into half 0, also
+// while that is drawn. What two halves draw by the same events is a frame, and whole.
+function testOneHalf() {
+  let torn = 0;
+  const drawn = drafts.map((lines) => runProgram(['play'],
+    `tick 2\noffer\n${lines.join('\n')}\nend\ntick 1100\nstrobe\nfetch 9999\n`)
+    .split('\n').slice(1, -1).join('\n'));
+  for (const how of ['by chance', 'in proportions, strobes ignored']) {
+    for (let seed = 1; seed <= seeds; seed++) {
+      const board = runBoard(HOWS[how](seed), 20000, false, '', true);
+      const what = `one half, ${how}, seed ${seed}`;
+      expect(`${what}: nothing is written into the other`, false,
+        board.entries.some(({ wrote }) => wrote >= 0x400));
+      expect(`${what}: bytes are early`, true, board.early > 0);
+      testOneMoment(what, board);
+      const { steps, oneHalf } = stepsOf(traceOf(board));
+      const again = new Board(engine, romOf(engine, ''), false, oneHalf);
+      playSteps(again, steps);
+      expect(`${what}: so it is again, by its trace`, board.log(), again.log());
+      for (const picture of board.pictures.filter((one) => one.torn).slice(0, 5)) {
+        torn++;
+        const beside = besideOf(engine, board, picture);
+        expect(`${what}: two halves are whole`, false, beside.torn);
+        expect(`${what}: and draw a frame`, true,
+          drawn.includes(beside.strokes.map((stroke) => stroke.join(' ')).join('\n')));
+      }
+      board.free();
+      again.free();
+    }
+  }
+  expect('one half: pictures are torn', true, torn > 0);
+  console.log(`one half: ${torn} torn pictures, each whole with two`);
+}
+
 // A picture that shows no early byte is that of a draft, and of the torn ones some are of none.
 function testTornPictures(seed, board, torn) {
   const draw = (lines) => engine.run(COMMAND.play,
@@ -506,23 +650,47 @@ function testFiles() {
   is('trace', text('# a trace\nmap 2048\ntick 2\n'));
   is('romtext', text('map 4096\nrom 800 B000\n'));
   is('unknown', text('something else\n'));
+  is('unknown', text('; a game\n  lda #0\n'));
+  is('outline', readFileSync(`${top}examples/board/shapes.sketch`));
+  is('outline', text('house: 60,0 60,40 @20,0\n'));
 }
 
+// The last two lessons tear: by a cut wire, and by one half alone.
 function testLessons() {
   LESSONS.forEach(({ title, sentences, shows, at }, k) => {
-    const state = stateOfLesson(k), { rom, steps } = stepsOf(state.trace),
-      board = new Board(engine, romOf(engine, rom));
+    const state = stateOfLesson(k), { rom, steps, oneHalf } = stepsOf(state.trace),
+      board = new Board(engine, romOf(engine, rom), false, oneHalf);
     playSteps(board, steps);
+    expect(`lesson ${title}: whether there is one half`, k === 6, oneHalf);
     expect(`lesson ${title}: three sentences`, '1 1 1',
       sentences.map((one) => one.match(/[.]( |$)/g).length).join(' '));
     expect(`lesson ${title}: what it shows`, shows, board.linesOf(at - 1)[0]);
-    expect(`lesson ${title}: whether a byte is early`, k === 5, board.early > 0);
-    expect(`lesson ${title}: whether a picture is torn`, k === 5,
+    const { picture, run } = momentOf(board, at), open = new Drawer(engine).strokesOf(run);
+    expect(`lesson ${title}: something is drawn`, true,
+      open.length > 0 || (picture?.strokes.length ?? 0) > 0);
+    expect(`lesson ${title}: an old picture is dim`, k === 2, momentOf(board, at).isOld
+      && run === null);
+    expect(`lesson ${title}: whether a byte is early`, k >= 5, board.early > 0);
+    expect(`lesson ${title}: whether a picture is torn`, k >= 5,
       board.pictures.some(({ torn }) => torn));
     for (const [, number] of sentences.join(' ').matchAll(/event ([0-9]+)/g)) testMention(title,
       Number(number), sentences.join(' '), board);
     board.free();
   });
+}
+
+// docs/LESSON.md says of events of the lessons what the page says of them.
+function testLessonPage() {
+  const page = readFileSync(`${top}docs/LESSON.md`, 'utf8');
+  const told = [...page.matchAll(/lesson ([0-9]), event ([0-9]+): ([^.;|]+)/g)];
+  expect('docs/LESSON.md tells events', true, told.length > 5);
+  for (const [what, lesson, event, words] of told) {
+    const { rom, steps, oneHalf } = stepsOf(stateOfLesson(Number(lesson) - 1).trace);
+    const board = new Board(engine, romOf(engine, rom), false, oneHalf);
+    playSteps(board, steps);
+    expect(`docs/LESSON.md: ${what}`, eventText(board.entryAt(Number(event))), words);
+    board.free();
+  }
 }
 
 // What a lesson says of an event, by the word that stands for it.
@@ -605,12 +773,20 @@ function testInside(name, board, bytes) {
   }
 }
 
-// What the driver did last, in words, is there for each event of it.
+// What the driver did last, in words, is there for each event of it; and so is each event.
 function testDriverTexts() {
   const board = runBoard(HOWS['with resets'](6), 6000);
+  const told = new Set(board.entries.map((entry) => eventText(entry)));
+  expect('each event in words', '', [...told].filter((words) => (
+    !/^(the (driver|generator|processor|whole system)|a strobe|no strobe) [a-z]/.test(words)
+    || /undefined|no memory/.test(words))).join());
+  expect('of many kinds', true, told.size > 15);
+  for (const half of ['half 0', 'half 1']) {
+    expect(`${half} is published`, true, told.has(`the driver publishes ${half}`));
+  }
   const texts = new Set();
-  for (let at = 0; at <= 6000; at += 7) texts.add(driverText(driverOf(board, at)).slice(0, 12));
-  expect('the driver in words', true, texts.size >= 6 && !texts.has('undefined'));
+  for (let at = 0; at <= 6000; at += 7) texts.add(driverText(driverOf(board, at))[0]);
+  expect('the driver in words', true, texts.size >= 6 && !texts.has(undefined));
   board.free();
 }
 
@@ -745,7 +921,10 @@ testProcessor();
 testTwin();
 testSchedules();
 testCutWire();
+testMended();
+testOneHalf();
 testMomentLogs();
+testJudged();
 testRuns();
 testProportions();
 testHalves();
@@ -762,6 +941,7 @@ testBuses();
 testSketches();
 testTears();
 testLessons();
+testLessonPage();
 // These two take longer than all others.
 testCases();
 testSketchCases();

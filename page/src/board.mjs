@@ -13,8 +13,13 @@ export const RAM_BYTES = 2048;
 /* After so many events a copy of the RAM is kept. */
 export const KEPT_EVERY = 1024;
 
+/* What byte 001 is where half 1 is published. */
+const HALF1_PUBLISHED = 0xE2;
+
 export class Board {
-  constructor(engine, rom, wireCut = false) {
+  /* With one half alone each frame comes into half 0, also while that is being drawn. */
+  constructor(engine, rom, wireCut = false, oneHalf = false) {
+    this.oneHalf = oneHalf;
     this.engine = engine;
     this.rom = rom;
     this.map = engine.mapOf(rom.bytes.length);
@@ -29,11 +34,11 @@ export class Board {
     this.areas = new Uint8Array(MOST_EVENTS);
     this.signs = new Uint8Array(MOST_EVENTS);
     this.tornLog = new LogForTorn();
+    this.sent = false;
+    this.runs = new Runs(engine, this.signs);
     this.wires = [];
     this.wireCut = false;
     if (wireCut) this.setWire(true);
-    this.sent = false;
-    this.runs = new Runs(engine, this.signs);
     this.picture = -1;
     this.pictures = [];
     this.abandoned = 0;
@@ -61,8 +66,12 @@ export class Board {
   setWire(cut) {
     if (this.wireCut === cut) return;
     this.wireCut = cut;
-    if (this.wires.at(-1)?.at === this.length) this.wires.pop();
-    else this.wires.push({ at: this.length, cut });
+    if (this.wires.at(-1)?.at === this.length) {
+      this.runs.since = this.wires.pop().before;
+      return;
+    }
+    this.wires.push({ at: this.length, cut, before: this.runs.since });
+    this.runs.countFrom(this.length, cut);
   }
 
   /* One event: its name as a trace has it, the lines of an offered draft, the byte of a reset. */
@@ -109,10 +118,12 @@ export class Board {
 
   tick() {
     const halted = this.open === null;
-    const did = this.driver.tick(this.wireCut || halted, this.ram[1]);
+    const byte1 = this.oneHalf ? HALF1_PUBLISHED : this.ram[1];
+    const did = this.driver.tick(this.wireCut || halted, byte1);
     if (did.kind === KIND.WROTE) return this.write(did.address, did.value);
     if (did.kind === KIND.SENT) {
       this.sent = true;
+      if (this.oneHalf) this.holdDriver();
       return { text: 'sent', row: ROW.DRIVER, sign: SIGN.SENT };
     }
     if (did.kind === KIND.READ) {
@@ -120,6 +131,14 @@ export class Board {
       return { text: did.value ? 'read halted' : 'read running', row: ROW.DRIVER, sign };
     }
     return { text: did.kind === KIND.PEEK ? 'peek' : 'idle' };
+  }
+
+  /* Holds the driver to half 0: before its next frame it is reset, and told that half 1 is
+   * published, and that the generator is halted. So it takes that frame while the one before is
+   * drawn, as with two halves. */
+  holdDriver() {
+    this.driver.resetProcessor();
+    for (let k = 0; k < 2; k++) this.driver.tick(true, HALF1_PUBLISHED);
   }
 
   write(address, value) {
@@ -225,9 +244,10 @@ export class Board {
     return lines.map((line) => `${line}\n`).join('');
   }
 
-  /* How many events happened before the wire was cut. */
+  /* How many events happened before the wire was cut: with one half alone none, as no trace has
+   * either. */
   get beforeCut() {
-    return this.wires.find(({ cut }) => cut)?.at ?? this.length;
+    return this.oneHalf ? 0 : this.wires.find(({ cut }) => cut)?.at ?? this.length;
   }
 }
 

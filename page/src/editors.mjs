@@ -156,12 +156,12 @@ export class DraftEditor extends Editor {
     return this.frames[this.turn++ % this.frames.length].lines;
   }
 
-  /* The frame with these operations, by its name: `frame A`, or `first3 of A`. */
+  /* The frame with these operations, by its number: `frame A`, or `frame 3 of A`. */
   nameOf(text) {
     const at = this.frames.findIndex(({ lines }) => lines.join('\n') === text);
     if (at < 0) return null;
-    if (this.frames.length === 1) return `frame ${this.place.id}`;
-    return `frame ${this.frames[at].name || at} of ${this.place.id}`;
+    const { id } = this.place;
+    return this.frames.length === 1 ? `frame ${id}` : `frame ${at + 1} of ${id}`;
   }
 }
 

@@ -9,6 +9,7 @@ const MOST_HEADER = 20;
 
 const ENTRY = /^(started$|low |fetched |halted$|reset$|wrote )/;
 const EVENT = /^(offer|redraw|tick|strobe|fetch|resetgen|resetcpu|resetall)( |$)/;
+const OUTLINE = /^([A-Za-z_]\w*:)?\s*@?-?\d+,-?\d+(\s|$)/;
 const OPERATION_OR_NAME =
   /^(\.(frame|rom)\b|[A-Za-z_]\w*:|(labs|vctr|svec|call|jump|callrom|jumprom|return|halt)( |$))/i;
 
@@ -25,6 +26,7 @@ export function kindOf(bytes) {
   if (lines.slice(0, MOST_HEADER).some(isAccess)) return 'bus';
   if (ENTRY.test(first)) return 'log';
   if (EVENT.test(first)) return 'trace';
+  if (lines.some((line) => OUTLINE.test(line))) return 'outline';
   if (OPERATION_OR_NAME.test(first)) return 'draft';
   return lines.some((line) => /^(map|rom) /.test(line)) && first === '' ? 'romtext' : 'unknown';
 }

@@ -1,6 +1,7 @@
 /* The machine's inside at a moment: what the generator is at, and what the driver did last. */
 import { areaOf, drawnHalf } from './signs.mjs';
 import { hex } from './hex.mjs';
+import { areaName, operationText } from './words.mjs';
 
 const LABS = 0xA, HALT = 0xB, JSRL = 0xC, RTSL = 0xD;
 
@@ -43,27 +44,30 @@ const DRIVER_TEXTS = {
   peek: 'has looked at byte 001, to see which half was published',
 };
 
-/* The driver in words. */
+/* The driver in words, and what it wrote in hexadecimal. */
 export function driverText(last) {
-  if (last === null) return 'has done nothing yet';
+  if (last === null) return ['has done nothing yet', ''];
   const [, place, value] = /^wrote (...) (..)/.exec(last.text) ?? [];
-  if (place === undefined) return DRIVER_TEXTS[last.text];
-  if (place === '001') return `has published a half: byte 001 is ${value}`;
-  const half = { 1: 'half 0', 2: 'half 1' }[areaOf(parseInt(place, 16) >> 1)] ?? 'word zero';
-  return `writes ${half}: byte ${place} is ${value}`;
+  if (place === undefined) return [DRIVER_TEXTS[last.text], ''];
+  const code = `byte ${place} is ${value}`;
+  if (place === '001') return ['has published a half', code];
+  return [`writes ${areaName(areaOf(parseInt(place, 16) >> 1))}`, code];
 }
 
-/* The rows of the table: what is told, and in which words. `listed` tells an instruction. */
+/* The rows of the table: what is told, in which words, and in hexadecimal. `listed` tells an
+ * instruction as `dvg list` lists it. */
 export function insideRows(board, { at, run }, listed) {
-  const driver = ['The driver', driverText(driverOf(board, at))];
-  if (run === null) return [driver, ['The generator', 'is halted']];
+  const driver = ['The driver', ...driverText(driverOf(board, at))];
+  if (run === null) return [driver, ['The generator', 'is halted', '']];
   const { place, instruction, scale, stack } = generatorOf(run);
-  const half = { 1: 'half 0', 2: 'half 1' }[run.words.length > 0 ? drawnHalf(run.words[0]) : 0];
-  const beam = run.beam === null ? 'word 000' : `word ${hex(run.beam, 3)}`;
+  const half = run.words.length > 0 ? drawnHalf(run.words[0]) : 0;
+  const draws = half === 0 ? 'draws neither half yet' : `draws ${areaName(half)}`;
   return [
-    driver, ['The generator', `draws ${half ?? 'neither half yet'}, and reads ${beam}`],
-    ['Its instruction', place === null ? 'none yet' : `${hex(place, 3)} ${listed(instruction)}`],
-    ['Global scale', String(scale)],
-    ['Stack', stack.length === 0 ? 'empty' : stack.map((word) => hex(word, 3)).join(' ')],
+    driver, ['The generator', draws, `at word ${hex(run.beam ?? 0, 3)}`],
+    ['Its instruction', ...(place === null ? ['none yet', '']
+      : [operationText(instruction[0]), `${hex(place, 3)} ${listed(instruction)}`])],
+    ['Global scale', String(scale), ''],
+    ['Stack', stack.length === 0 ? 'empty' : `${stack.length} deep`,
+      stack.map((word) => hex(word, 3)).join(' ')],
   ];
 }

@@ -1,4 +1,4 @@
-/* Six lessons. Each is a state of the page: two frames, what happened, and the moment that is
+/* Seven lessons. Each is a state of the page: two frames, what happened, and the moment that is
  * shown; and three sentences. `shows` is the entry at that moment. */
 
 const TRIANGLE = 'labs 262 300 0\nvctr 9 500 0 12\nvctr 9 -250 433 12\nvctr 9 -250 -433 12\nhalt';
@@ -14,8 +14,11 @@ halt`;
 
 /* The triangle is written and published, and its strobe is sent: 2 + 1 + 22 events. */
 const PUBLISHED = ['tick 2', 'offer A', 'tick 22'];
+/* The house was drawn before that, from half 1. */
+const HOUSE_DRAWN = ['tick 2', 'offer B', 'tick 38', 'strobe', 'fetch 36'];
+const THEN_PUBLISHED = ['offer A', 'tick 22'];
 /* Both ends by turns. */
-const both = (times) => Array(times).fill(['fetch', 'tick 3']).flat();
+const both = (times, ticks) => Array(times).fill(['fetch', `tick ${ticks}`]).flat();
 
 /* The paragraphs of a text, between which there is an empty line. */
 function paragraphs(text) {
@@ -37,41 +40,43 @@ export const LESSONS = [
       triangle grow.`),
   },
   {
-    title: 'Two frames in turn', at: 53, shows: '52 wrote 014 C8',
-    steps: [...PUBLISHED, 'strobe', 'offer B', ...both(15), 'tick 3', 'fetch 5', 'tick 2', 'strobe',
-      'fetch 36'],
+    title: 'Two frames in turn', at: 67, shows: '66 fetched 206 C4FA',
+    steps: [...PUBLISHED, 'strobe', 'offer B', ...both(16, 2), 'tick 5', 'fetch 4', 'tick 2',
+      'strobe', 'fetch 36'],
     sentences: paragraphs(`
       Half 1 is being drawn, and meanwhile the driver writes a house into half 0: the two
       rows have two colours.
 
       No byte is written in the half that is being drawn, whatever the order of the events.
 
-      The flip in event 73 leads the next run to the house, and the strobe for that run is
+      The flip in event 77 leads the next run to the house, and the strobe for that run is
       sent only after the HALT wire has told that the triangle is done.`),
   },
   {
-    title: 'A lost strobe', at: 28, shows: '27 still',
-    steps: [...PUBLISHED, 'fetch 3', 'redraw', 'tick 2', 'strobe', 'fetch 20'],
+    title: 'A lost strobe', at: 104, shows: '103 still',
+    steps: [...HOUSE_DRAWN, ...THEN_PUBLISHED, 'fetch 3', 'redraw', 'tick 2', 'strobe',
+      'fetch 20'],
     sentences: paragraphs(`
-      Event 24 sent a strobe, and it got lost: the generator stays still, and nothing is
-      drawn.
+      Event 99 sent a strobe for a triangle, and it got lost: the generator stays still, and
+      the house of before is all that is seen, dim.
 
       Nothing is torn by that, as the driver knows of the generator just what the HALT wire
       tells.
 
-      A redraw sends another strobe in event 30, which arrives, and the triangle is drawn
+      A redraw sends another strobe in event 106, which arrives, and the triangle is drawn
       whole.`),
   },
   {
-    title: 'A reset amid a frame', at: 63, shows: '62 read running',
-    steps: [...PUBLISHED, 'strobe', 'offer B', ...both(8), 'resetcpu', 'tick', 'fetch', 'tick',
-      'fetch 11', 'tick'],
+    title: 'A reset amid a frame', at: 139, shows: '138 read running',
+    steps: [...HOUSE_DRAWN, ...THEN_PUBLISHED, 'strobe', 'offer B', ...both(8, 3), 'resetcpu',
+      'tick', 'fetch', 'tick', 'fetch 11', 'tick'],
     sentences: paragraphs(`
-      The processor was reset while the driver wrote a house into half 0 and the generator
-      drew the triangle in half 1: the driver knows nothing any more.
+      The processor was reset while the driver wrote a house into half 1 and the generator
+      began to draw a triangle from half 0, over the dim picture of before: the driver knows
+      nothing any more.
 
-      So it looks at byte 001 to see which half may be drawn, reads the HALT wire, and takes
-      no frame before it has seen the generator halt.
+      So it looks which half is published, reads the HALT wire, and takes no frame before it
+      has seen the generator halt.
 
       The triangle comes out whole.`),
   },
@@ -80,7 +85,7 @@ export const LESSONS = [
     steps: [...PUBLISHED, 'strobe', 'fetch 20', 'offer B', 'tick 10', 'strobe', 'fetch 2', 'tick 5',
       'fetch 18'],
     sentences: paragraphs(`
-      A strobe comes too early: the driver has written only ten bytes of a house, and hasn't
+      A strobe comes too soon: the driver has written only ten bytes of a house, and hasn't
       published it.
 
       Word zero still leads to half 1, so the triangle is drawn once more, whole.
@@ -99,8 +104,21 @@ export const LESSONS = [
       It takes one frame after the other, and from event 58 on it writes a house into the
       very half that is being drawn: the picture is neither the triangle nor the house.
 
-      This is what dvg torn finds in a log, and what the proved driver does in no order of
-      events, as long as the wire is whole.`),
+      Such early bytes are what dvg torn finds in a log, and the proved driver writes none,
+      in whichever order events come, as long as the wire is whole.`),
+  },
+  {
+    title: 'One half alone', at: 63, shows: '62 done 009 B000 3',
+    steps: ['# one half', ...PUBLISHED, 'strobe', 'fetch 9', 'offer B', 'tick 16', 'fetch 11'],
+    sentences: paragraphs(`
+      Here is one half only: from event 36 on the driver writes a house into the very words
+      that the generator reads, and the picture is torn, though the HALT wire is whole.
+
+      The third small picture is of the same events with two halves: there the house came
+      into the other half, and the triangle is whole.
+
+      With one half, the driver would have to wait while a picture is drawn, and the generator
+      while one is written: with two, both work at the same time.`),
   },
 ];
 

@@ -7,13 +7,21 @@ export const RECENT = 240;
 
 const HALT_WORD = 0xB000;
 
-/* The moment after `at` events: the RAM, the byte last written, the open run, the picture. */
+/* The moment after `at` events: the RAM, the byte last written, the open run, the picture, and
+ * whether that is an old one. */
 export function momentOf(board, at) {
   const last = at > 0 ? board.entryAt(at - 1) : null;
   const picture = last === null || last.picture < 0 ? null
     : board.pictures.find((one) => one.at === last.picture);
   return { at, last, ram: ramAt(board, at), written: lastWritten(board, at), run: runAt(board, at),
-    picture, left: leftAt(board, at, picture) };
+    picture, left: leftAt(board, at, picture), isOld: isOld(board, at, picture) };
+}
+
+/* Whether a strobe was sent since a picture was done. */
+function isOld(board, at, picture) {
+  if (picture === null) return false;
+  for (let k = at - 1; k > picture.at; k--) if (board.signs[k] === SIGN.SENT) return true;
+  return false;
 }
 
 /* The run that was abandoned last, if no picture was finished after that, or null. */

@@ -1,32 +1,29 @@
 /* The page: what its buttons do, and what it shows. */
-import { COMMAND, Engine, OPTION } from './engine.mjs';
+import { COMMAND, Engine } from './engine.mjs';
 import { Board, MOST_EVENTS } from './board.mjs';
-import { hex } from './hex.mjs';
+import { byId, setText, tellBoth } from './parts.mjs';
 import { AREA, SIGN, areaOf } from './signs.mjs';
-import { playSteps, stepsOf, traceOf } from './traces.mjs';
+import { playSteps, replay, stepsOf, traceOf } from './traces.mjs';
 import { Drawer, marksOf, momentOf } from './moments.mjs';
 import { generatorOf, insideRows } from './inside.mjs';
-import { strokesOfLines, tearOf, tearText } from './tears.mjs';
+import { besideOf, strokesOfLines, tearCode, tearOf, tearText } from './tears.mjs';
 import { Chance, Proportions, reelOf } from './chance.mjs';
 import { fragmentOf, plainFragment, stateOf } from './links.mjs';
-import { logOfBus } from './buses.mjs';
-import { firstLines, kindOf } from './files.mjs';
-import { Recording, boardOfDump } from './recordings.mjs';
-import { Twin, bytesOfTable, linesOfListing } from './twin.mjs';
-import { readSketch } from './sketches.mjs';
+import { Code } from './code.mjs';
+import { Drops } from './drops.mjs';
 import { LESSONS, stateOfLesson } from './lessons.mjs';
 import { TOUR_RATE, TOUR_STEPS, Tour } from './tour.mjs';
 import { Screen, drawSmall } from './screen.mjs';
 import { Rows } from './rows.mjs';
 import { Memory } from './memory.mjs';
 import { DraftEditor, RomEditor } from './editors.mjs';
+import { listenToFiles, listenToMemory, listenToRows, listenToSizes } from './gestures.mjs';
+import { Verdicts, compareWithPlay } from './verdicts.mjs';
 import {
-  HOW_TEXT, counted, countsText, durationText, halvesVerdict, instructionText, leftText, momentText,
-  leftVerdict, momentsVerdict, pictureText, runText, wordText,
+  HOW_TEXT, ONE_HALF_TEXT, counted, countsText, durationText, instructionText, leftText,
+  momentCode, momentText, pictureText, runText, wordCode, wordText,
 } from './words.mjs';
 import { FILES, FRAMES, LISTING, SCENES, WASM } from './built.mjs';
-
-const byId = (id) => document.getElementById(id);
 
 /* What stands in the editors by a name. */
 const EXAMPLES = { ...SCENES, ...FRAMES };
@@ -43,6 +40,8 @@ const FULL = 'These are 65,536 events, the most that fit: begin anew.';
 const PREVIEW_RATE = 12;
 /* How many events before and after a torn line are shown. */
 const TORN_AROUND = 60;
+/* How many events at a time happen until a still shows a tear. */
+const STILL_EVENTS = 500;
 /* How many pixels an event has in the rows while the tour runs. */
 const ROWS_TOUR_SCALE = 0.4;
 /* While it runs, how often the log is judged, and texts are shown, in milliseconds. */
@@ -51,11 +50,12 @@ const JUDGE_EVERY = 500, TEXTS_EVERY = 100;
 const MOST_PASSED = 200;
 
 let engine, drawer, tube, board, schedule = null, running = false;
+/* What shows a concern of its own: the verdicts, the driver's code, and files that are opened. */
+let verdicts, code, drops;
 /* What is shown: the board, or a recording of what happened elsewhere. */
 let shown;
-/* When the log was judged and of which events, when texts were shown, and whose turn it is to be
- * drawn. */
-let judgedAt = 0, judgedOf = '', textsAt = 0, animatedAt = 0, turn = false;
+/* When texts were shown, when a frame was, and whose turn it is to be drawn. */
+let textsAt = 0, animatedAt = 0, turn = false;
 /* The moment that is shown: how many events have happened by then. */
 let at = 0;
 let lesson = 0;
@@ -66,7 +66,7 @@ const drawings = new Map(), frameTimes = [];
 
 function beginAnew(wireCut = board?.wireCut ?? false) {
   board?.free();
-  board = new Board(engine, editorR.rom, wireCut);
+  board = new Board(engine, editorR.rom, wireCut, byId('half-count').value === '1');
   board.id = performance.now();
   shown = board;
   schedule = null;
@@ -83,13 +83,8 @@ function forgetLater() {
   setRunning(false);
   const { entries, wires } = board, end = at;
   beginAnew(false);
-  const setWires = (now) => wires.filter((wire) => wire.at === now)
-    .forEach(({ cut }) => board.setWire(cut));
-  for (let k = 0; k < end; k++) {
-    setWires(k);
-    happen(entries[k].event);
-  }
-  setWires(end);
+  replay({ entries, wires }, board, end);
+  moveTo(end);
   changed();
 }
 
@@ -204,7 +199,7 @@ function animate() {
   const wanted = Math.max(1, Math.round(rateNow() * passed / 1000));
   schedule.left -= runSome(Math.min(schedule.left, wanted), begin + 3);
   rows.follow(at);
-  if (begin - judgedAt > JUDGE_EVERY) judge();
+  if (begin - verdicts.judgedAt > JUDGE_EVERY) judge();
   show();
   frameTimes.push(performance.now() - begin);
   if (schedule.left <= 0 || board.full) setRunning(false);
@@ -212,24 +207,19 @@ function animate() {
   if (tour.running) tour.pass(begin, board);
 }
 
+function wantsLessMotion() {
+  return matchMedia('(prefers-reduced-motion: reduce)').matches;
+}
+
 /* Someone who wants less motion sees where the run leads, and no animation. */
 function run() {
+  tour.end();
   if (running) setRunning(false);
-  else if (matchMedia('(prefers-reduced-motion: reduce)').matches) runAtOnce();
+  else if (wantsLessMotion()) runAtOnce();
   else setRunning(true);
 }
 
 /* --- Verdicts --- */
-
-/* A verdict: its word, in a colour, what it says, and a button where there is something to show. */
-function showVerdict(id, { word, text, at: event }, color) {
-  const [strong] = byId(id).children;
-  strong.textContent = word;
-  strong.className = color;
-  strong.nextSibling.data = text;
-  byId(`${id}-go`).hidden = event === undefined || event === null;
-  byId(`${id}-go`).onclick = () => goToResult(event);
-}
 
 /* Shows an event; of one that ends a picture the whole run, too. */
 function goToResult(event) {
@@ -240,53 +230,14 @@ function goToResult(event) {
   show();
 }
 
-/* The verdicts by moments and by halves. Of a dump there are none. */
-function showVerdicts(firstEarly) {
-  const moments = momentsVerdict(shown.pictures, shown.runs);
-  const isGood = moments.word === 'Whole' && shown.runs.contradictions === 0;
-  const color = isGood ? 'good' : 'bad';
-  const contradicts = shown.runs.contradictions > 0 ? shown.runs.contradicts : undefined;
-  showVerdict('moments', { at: contradicts, ...moments }, moments.word === '' ? '' : color);
-  showVerdict('halves', { ...halvesVerdict(shown.early), at: firstEarly },
-    shown.early > 0 ? 'early' : 'good');
-  showVerdict('left', leftVerdict(shown.left), '');
-  for (const id of ['moments', 'halves', 'left']) {
-    byId(id).parentElement.hidden = shown.verdict !== undefined;
-  }
-  byId('left').parentElement.hidden ||= shown.left.length === 0;
-}
-
-/* The verdicts, and what `dvg torn` says of the log of what is shown; of a dump what `dvg picture`
- * says. */
 function judge() {
-  judgedAt = performance.now();
-  if (judgedOf === `${shown.id} ${shown.length}`) return;
-  judgedOf = `${shown.id} ${shown.length}`;
-  const got = engine.run(COMMAND.torn, shown.tornBytes);
-  const [said, seen] = (got.output || got.error).trim().split('\n');
-  const line = /^torn at line ([0-9]+)/.exec(said);
-  const event = line ? shown.eventOfLine(Number(line[1])) : null;
-  const place = shown === board ? ` (event ${event})` : '';
-  byId('judge').textContent = shown.verdict ? 'dvg picture' : 'dvg torn';
-  byId('judged').textContent = shown.verdict
-    ?? (event === null ? said : `${said}${place}, ${seen}`);
-  byId('judged').className = event !== null ? 'early' : { 0: 'good' }[got.status] ?? '';
-  showVerdicts(event);
+  verdicts.judge(shown, shown === board);
 }
 
-/* Compares the whole log with what `play --all` writes for the same events, up to a cut wire. */
 function compare() {
-  const events = board.beforeCut;
-  const got = engine.run(COMMAND.play + OPTION, traceOf(board));
-  const here = board.log(events).split('\n'), there = got.output.split('\n');
-  const differs = here.slice(0, -1).findIndex((line, k) => line !== there[k]);
-  const same = got.status === 0 && differs < 0
-    && (events < board.length || here.length === there.length);
-  const cut = events < board.length ? ' up to the cut wire, which no trace has' : '';
+  const { same, text } = compareWithPlay(engine, board);
   byId('compared').className = same ? 'good' : 'bad';
-  byId('compared').textContent = same
-    ? `the same${cut}: ${counted(events, 'event')}, ${counted(here.length - 1, 'line')}`
-    : got.error.trim() || `another log from line ${differs + 1} on`;
+  byId('compared').textContent = text;
 }
 
 /* The strokes that a draft draws by itself, as a text; of the lines of the ROM and the draft. */
@@ -344,9 +295,9 @@ function readColors() {
 /* After something has happened or was chosen. */
 function changed() {
   rows.follow(at);
+  showButtons();
   judge();
   byId('compared').textContent = '';
-  showButtons();
   show();
   showTour();
   showTorn();
@@ -370,17 +321,16 @@ function showTexts(moment) {
   showPictureText(moment);
   if (!running) showWord(moment);
   showLog();
-  byId('counts').textContent = countsText(shown);
-  byId('moment-text').textContent = momentText(shown, at);
+  setText(byId('counts'), countsText(shown));
+  tellBoth(byId('moment-text'), momentText(shown, at), momentCode(shown, at));
   byId('rows').setAttribute('aria-valuemax', shown.length);
   byId('rows').setAttribute('aria-valuenow', at);
   showRunText();
   showInside(moment);
-  showCode();
+  code.show(shown, at, shown === board);
   showInstruction(moment);
-  if (running) return;
-  byId('rows').setAttribute('aria-valuetext', momentText(shown, at));
-  showTear(tornPicture(moment));
+  showTear(running ? null : tornPicture(moment));
+  if (!running) byId('rows').setAttribute('aria-valuetext', momentText(shown, at));
 }
 
 /* The picture whose tear is told: that of the open run, if it will have one, or the newest. */
@@ -401,13 +351,14 @@ function whyNoRun() {
 /* What Run does, and for how long; or why it can't. */
 function showRunText() {
   const left = running ? schedule.left : countNow(), time = durationText(left / rateNow());
-  const said = running ? `${counted(left, 'event')} to go, in ${time}: what is grey waits for Stop.`
-    : `Run lets ${counted(left, 'event')} happen, in ${time}.`;
-  byId('run-text').textContent = whyNoRun() || said;
-  byId('how-text').textContent = HOW_TEXT[byId('how').value];
+  const said = running ? `${counted(left, 'event')} to go; grey waits for Stop.`
+    : `Run: ${counted(left, 'event')}, in ${time}.`;
+  setText(byId('run-text'), whyNoRun() || said);
+  setText(byId('how-text'), (board.oneHalf ? ONE_HALF_TEXT : '') + HOW_TEXT[byId('how').value]);
 }
 
-/* A torn picture: both frames that it is of, and the byte that came in between. */
+/* A torn picture: both frames that it is of, and the byte that came in between. With one half, what
+ * the same events draw with two, too. */
 function showTear(picture) {
   const tear = tearNow(picture);
   byId('tear').hidden = tear === null;
@@ -420,28 +371,40 @@ function showTear(picture) {
   byId('next-text').textContent = tear.draft === null ? 'The memory as the run ended'
     : `Written into it: ${nameOfDraft(tear.draft)}`;
   byId('tear-title').textContent = picture.torn ? 'The tear' : 'What came early, and shows';
-  byId('tear-text').textContent = tear.word === null ? '' : tearText(tear, picture);
+  showBeside(picture);
+  if (tear.word === null) tellBoth(byId('tear-text'), '', '');
+  else tellBoth(byId('tear-text'), tearText(tear, picture), tearCode(tear));
   byId('tear-go').disabled = tear.word === null;
   byId('tear-go').onclick = () => goTo(tear.word.event + 1);
   byId('tear-back').onclick = () => goToResult(picture.at);
+}
+
+function showBeside(picture) {
+  byId('beside').parentElement.hidden = !shown.oneHalf;
+  if (!shown.oneHalf) return;
+  picture.beside ??= besideOf(engine, shown, picture);
+  drawSmall(byId('beside'), picture.beside.strokes, 0);
+  setText(byId('beside-text'),
+    `The same events with two halves: ${picture.beside.torn ? 'torn' : 'whole'}`);
 }
 
 function showTour() {
   byId('tour').hidden = tour.step < 0;
   if (tour.step < 0) return;
   const { title, text } = TOUR_STEPS[tour.step], number = tour.step + 1;
-  byId('tour-title').textContent = `${number} of ${TOUR_STEPS.length}: ${title}`;
-  byId('tour-text').textContent = text.replace(/\s+/g, ' ');
+  setText(byId('tour-title'), `${number} of ${TOUR_STEPS.length}: ${title}`);
+  setText(byId('tour-text'), text.replace(/\s+/g, ' '));
   byId('tour-end').textContent = tour.running ? 'Skip the tour' : 'Close';
   byId('tour-again').hidden = tour.running;
 }
 
 /* A run that was abandoned stays on the tube as far as it came, in place of the picture before. */
-function showScreen({ picture, run: open, left }) {
+function showScreen({ picture, run: open, left, isOld }) {
   if (picture !== null) picture.id ??= performance.now();
   const seen = left === null ? picture : { id: `left ${left.from}`, strokes: tube.strokesOf(left) };
   const id = `${shown.id} ${open?.from}`;
-  screen.draw(seen, open === null ? null : { id, strokes: drawer.strokesOf(open) },
+  const isDim = open !== null || (left === null && isOld);
+  screen.draw(seen, open === null ? null : { id, strokes: drawer.strokesOf(open) }, isDim,
     left === null ? tearNow(picture) : null);
 }
 
@@ -458,7 +421,7 @@ function showPictureText({ picture, run: open, left }) {
   const named = picture === null ? null : nameOf(picture);
   const run = runText(open, drawer.strokesOf(open).length);
   const cut = left === null ? '' : leftText(tube.strokesOf(left).length);
-  text.textContent = `${pictureText(picture, number, named)} ${cut}${run}`;
+  setText(text, `${pictureText(picture, number, named)} ${cut}${run}`);
 }
 
 function showLog() {
@@ -475,64 +438,15 @@ function showLog() {
   }
 }
 
-/* The driver's code beside the board, as long as it is open: a line of the listing each. */
-let twin = null;
-
-function makeCode() {
-  const lines = linesOfListing(LISTING);
-  byId('code-lines').replaceChildren(...lines.map(({ at: place, bytes, source }) => (
-    Object.assign(document.createElement('span'), {
-      textContent: `${bytes.length > 0 ? hex(place, 4) : '    '} ${source}`,
-    }))));
-  return lines;
-}
-
-/* The table of a draft as bytes; null of one that has none. */
-function tableOf(draft) {
-  const got = engine.run(COMMAND.layTable, `${board.rom.text}${draft.join('\n')}\n`);
-  return got.error === '' ? bytesOfTable(got.output) : null;
-}
-
-/* The listing, with the instructions of the event that is shown, and the one that acted. */
-function showCode() {
-  if (!byId('code').open) return;
-  if (shown !== board) {
-    byId('code-text').textContent = 'What happened elsewhere tells no calls of the driver.';
-    return;
-  }
-  if (twin?.of !== board) {
-    const lines = makeCode();
-    twin = Object.assign(new Twin(lines, tableOf), { of: board, lines });
-  }
-  twin.follow(board, at);
-  const ran = new Set(twin.ran), spans = byId('code-lines').children;
-  twin.lines.forEach(({ at: place, bytes }, k) => {
-    const holds = (one) => one >= place && one < place + bytes.length;
-    const now = twin.actor !== null && holds(twin.actor);
-    spans[k].className = [[...ran].some(holds) && 'ran', now && 'now'].filter(Boolean).join(' ');
-  });
-  byId('code-text').textContent = codeText();
-  showLine(byId('code-lines'), byId('code-lines').querySelector('.now, .ran'));
-}
-
-/* Scrolls a box so that a line of it is in sight, and nothing else. */
-function showLine(box, line) {
-  if (line !== null) box.scrollTop = line.offsetTop - box.offsetTop - box.clientHeight / 2;
-}
-
-function codeText() {
-  if (twin.differs !== null) return `The code does otherwise in event ${twin.differs}.`;
-  if (twin.ran.length === 0) return 'This event is none of the driver\'s: none of its code runs.';
-  const count = counted(twin.ran.length, 'instruction');
-  return `Event ${at - 1} takes ${count}${twin.actor === null ? '.' : '; the framed one acts.'}`;
-}
-
 function showInside(moment) {
   const listed = (words) => instructionText(engine, words);
-  byId('inside-rows').replaceChildren(...insideRows(shown, moment, listed).flatMap((row) => (
-    row.map((text, k) => Object.assign(document.createElement(k === 0 ? 'dt' : 'dd'),
-      { textContent: text }))
-  )));
+  byId('inside-rows').replaceChildren(...insideRows(shown, moment, listed)
+    .flatMap(([name, words, hexadecimal]) => {
+      const [term, text] = ['dt', 'dd'].map((tag) => document.createElement(tag));
+      term.textContent = name;
+      tellBoth(text, words, hexadecimal);
+      return [term, text];
+    }));
 }
 
 /* Marks the line of the instruction of a dump that was read last. */
@@ -556,8 +470,8 @@ function showWord(moment) {
     const which = moment.written.address % 2 ? 'high' : 'low';
     marks.push(`its ${which} byte was written last, in event ${moment.written.event}`);
   }
-  byId('word-text').textContent = wordText(engine, moment.ram, word, areaOf(word),
-    marks.map((mark) => `; ${mark}`).join(''));
+  tellBoth(byId('word-text'), wordText(moment.ram, word, areaOf(word),
+    marks.map((mark) => `; ${mark}`).join('')), `${wordCode(engine, moment.ram, word)}.`);
 }
 
 const MOST_TORN_SHOWN = 12;
@@ -583,21 +497,19 @@ function showTorn() {
 function showButtons() {
   const { wireCut } = board;
   byId('wire').setAttribute('aria-pressed', String(wireCut));
-  byId('wire-text').hidden = shown !== board;
-  byId('wire-text').textContent = wireCut
-    ? 'The wire is cut: the driver is told that the generator is always halted.'
-    : 'The wire is whole: the driver is told whether the generator is halted.';
   byId('wire').textContent = wireCut ? 'Mend the HALT wire' : 'Cut the HALT wire';
   byId('run').textContent = running ? 'Stop' : 'Run';
   byId('run').disabled = !running && !canRun();
   byId('once').disabled = running || !canRun();
   byId('one-picture').disabled = running || !canRun();
-  byId('moment-text').setAttribute('aria-live', running ? 'off' : 'polite');
+  for (const id of ['moment-text', 'verdicts']) {
+    byId(id).setAttribute('aria-live', running ? 'off' : 'polite');
+  }
   const ended = board.full || shown !== board;
   byId('offerA').disabled = !editorA.offerable || ended;
   byId('offerB').disabled = !editorB.offerable || ended;
   for (const button of document.querySelectorAll('[data-event]')) button.disabled = ended;
-  for (const id of ['wire', 'anew', 'compare']) byId(id).disabled = shown !== board;
+  for (const id of ['wire', 'anew', 'compare', 'half-count']) byId(id).disabled = shown !== board;
   byId('thumb-why').textContent = whyNoRun();
   byId('compare-why').textContent = shown === board ? '' : 'What happened elsewhere has no trace.';
   byId('forget').hidden = running || shown !== board || at === shown.length;
@@ -637,6 +549,7 @@ function stateNow() {
     trace: traceOf(board), at,
     seed: byId('seed').value, count: byId('count').value, how: byId('how').value,
     scale: rows.scale.toFixed(4), first: rows.first.toFixed(1),
+    plain: byId('plain').checked ? '1' : undefined,
   };
 }
 
@@ -662,7 +575,7 @@ async function loadFragment() {
 /* The opening at rest; and after that the tour, but for someone who wants less motion. */
 function showNewcomer() {
   showOpening();
-  if (!matchMedia('(prefers-reduced-motion: reduce)').matches) startTour();
+  if (!wantsLessMotion()) startTour();
 }
 
 function showOpening() {
@@ -674,7 +587,15 @@ function showOpening() {
 
 function beginTour() {
   showOpening();
-  startTour();
+  if (wantsLessMotion()) showStill();
+  else startTour();
+}
+
+/* The last step of the tour at once, as a still. */
+function showStill() {
+  showOpening();
+  setWire(true);
+  tour.jump(board, () => runSome(STILL_EVENTS));
 }
 
 function startTour() {
@@ -712,11 +633,13 @@ function takeState(state) {
   running = false;
   tour.end();
   byId('file').hidden = true;
+  if (state.plain !== undefined) setPlain(state.plain === '1');
   for (const id of ['seed', 'count', 'how']) byId(id).value = state[id] ?? byId(id).value;
   editorA.value = exampleOr(state.a ?? FIRST.a);
   editorB.value = exampleOr(state.b ?? FIRST.b);
   setRom(state.rom ?? '');
-  loadTrace(state.trace ?? '');
+  const fault = loadTrace(state.trace ?? '');
+  if (fault !== '') tell(`The trace is refused: ${fault}`, true);
   rows.showAll(board.length);
   if (state.scale !== undefined) {
     Object.assign(rows, { scale: Number(state.scale) || 4, first: Number(state.first) || 0 });
@@ -725,20 +648,16 @@ function takeState(state) {
   showLesson(clamp(state.lesson ?? 0, 0, LESSONS.length));
 }
 
-/* Plays a trace, if `play` takes it, over its ROM. */
+/* Plays a trace, if `play` takes it, over its ROM. Returns its fault, or ''. */
 function loadTrace(text) {
-  const got = engine.run(COMMAND.play, text);
-  if (got.error !== '') {
-    tell(`The trace is refused: ${got.error.trim()}`, true);
-    beginAnew(false);
-    return false;
-  }
-  const { rom, steps } = stepsOf(text);
+  const fault = engine.run(COMMAND.play, text).error.trim();
+  const { rom, steps, oneHalf } = stepsOf(fault === '' ? text : '');
+  byId('half-count').value = oneHalf ? '1' : '2';
   if (rom !== '') setRom(rom);
   beginAnew(false);
   playSteps(board, steps);
   moveTo(board.length);
-  return true;
+  return fault;
 }
 
 function setRom(text) {
@@ -847,7 +766,7 @@ function makeExamples() {
   const list = byId('examples');
   for (const name of Object.keys(FILES)) list.append(new Option(name));
   list.addEventListener('change', () => {
-    if (list.value !== '') openFile(new File([FILES[list.value]], list.value));
+    if (list.value !== '') drops.open(new File([FILES[list.value]], list.value));
     list.value = '';
   });
 }
@@ -874,21 +793,29 @@ function showLesson(number) {
 
 /* --- Files --- */
 
-async function openFile(file, kind = null) {
-  const bytes = new Uint8Array(await file.arrayBuffer());
-  const text = () => new TextDecoder().decode(bytes);
-  const open = {
-    dump: () => openDump(file.name, bytes),
-    log: () => openLog(file.name, bytes),
-    bus: () => openLog(`${file.name}, as a log`, new TextEncoder().encode(logOfBus(text()))),
-    rom: () => openRom(file.name, bytes),
-    romtext: () => openRomText(file.name, text()),
-    trace: () => openTrace(file.name, text()),
-    draft: () => openDraft(file.name, text()),
-    unknown: () => tell(`${file.name}: neither a dump, a log, a table of a bus, a ROM, a trace `
-      + 'nor a sketch', true),
-  };
-  open[kind ?? kindOf(bytes)]();
+/* Tells what became of a file in the panel beside the picture, with the board in view. What was
+ * told there before is gone. */
+function tellFile(title, text, isBad = false) {
+  if (shown !== board) backToBoard();
+  setRunning(false);
+  showFile(title, text, [], isBad);
+  byId('lesson').hidden = lesson === 0;
+  changed();
+  byId('rows').focus({ preventScroll: true });
+}
+
+function showFile(title, text, lines, isBad = false) {
+  byId('file').hidden = false;
+  byId('lesson').hidden = true;
+  setText(byId('file-title'), title);
+  setText(byId('file-text'), text);
+  byId('file-text').className = isBad ? 'bad' : '';
+  byId('file-lines').replaceChildren(...lines.map((line) => {
+    return Object.assign(document.createElement('span'), { textContent: line });
+  }));
+  byId('file-lines').hidden = lines.length === 0;
+  byId('file-close').textContent = shown === board ? 'Close' : 'Back to the board';
+  scrollTo({ top: 0 });
 }
 
 /* Shows a recording in place of the board, with its own rows and its own verdict. */
@@ -896,92 +823,53 @@ function showRecording(recording, title, text, lines) {
   setRunning(false);
   recording.id = performance.now();
   shown = recording;
-  byId('file').hidden = false;
-  byId('lesson').hidden = true;
-  byId('file-title').textContent = title;
-  byId('file-text').textContent = text;
-  byId('file-lines').replaceChildren(...lines.map((line) => {
-    return Object.assign(document.createElement('span'), { textContent: line });
-  }));
-  byId('file-lines').hidden = lines.length === 0;
+  showFile(title, text, lines);
   moveTo(shown.length);
   rows.showAll(shown.length);
   changed();
-  scrollTo({ top: 0 });
   byId('rows').focus({ preventScroll: true });
 }
 
+/* Closes what the panel tells of a file. */
 function backToBoard() {
   byId('file').hidden = true;
   byId('lesson').hidden = lesson === 0;
-  shown = board;
-  moveTo(board.length);
-  rows.showAll(board.length);
+  if (shown !== board) {
+    shown = board;
+    moveTo(board.length);
+    rows.showAll(board.length);
+  }
   changed();
 }
 
-/* Shows the run over a dump, word by word, as `dvg picture --all` tells it. */
-function openDump(name, bytes) {
-  const got = engine.run(COMMAND.picture + OPTION, bytes);
-  const lines = got.output.split('\n').filter((line) => line !== '');
-  const verdict = lines.find((line) => /^(picture|broke|endless)/.test(line)) ?? got.error.trim();
-  const recording = Object.assign(boardOfDump(engine, name, bytes), { verdict });
-  showRecording(recording, `The dump ${name}`,
-    'Its run: each instruction where it stands, and where the beam is then. Walk through it by the '
-      + 'arrow keys.', lines);
-}
-
-/* Shows a log, up to the line at fault if it has one, at the first torn line, as `dvg torn` finds
- * it. */
-function openLog(name, bytes) {
-  const got = engine.run(COMMAND.torn, bytes);
-  const fault = /line ([0-9]+)/.exec(got.error);
-  const good = fault === null ? bytes : firstLines(bytes, Number(fault[1]) - 1);
-  const recording = new Recording(name, good, drawer);
-  const count = counted(recording.length, 'event');
-  showRecording(recording, `The log ${name}`, fault === null ? `${count}.`
-    : `${got.error.trim()}. Before that: ${count}.`, []);
-  const early = /^torn at line ([0-9]+)/.exec(got.output);
-  const torn = recording.pictures.find((picture) => picture.torn);
-  if (torn) showTornLine(torn.tornAt);
-  else if (early) showTornLine(recording.eventOfLine(Number(early[1])));
-}
-
-/* The torn line, with the events around it. */
-function showTornLine(event) {
+/* An event of a log, with the events around it. */
+function showLineOfLog(event) {
   goTo(event + 1);
   rows.showSpan(Math.max(0, event - TORN_AROUND), event + TORN_AROUND);
   show();
 }
 
-function openRom(name, bytes) {
-  const got = engine.run(COMMAND.rom, bytes);
-  if (got.status !== 0) tell(`${name}: ${got.error.trim()}`, true);
-  else openRomText(name, got.output);
-}
-
-function openRomText(name, text) {
-  setRunning(false);
-  setRom(text);
-  beginAnew();
-  byId('rom-details').open = true;
-  tell(`${name}: the ROM was loaded, and the board begins anew.`);
-  changed();
-}
-
-function openTrace(name, text) {
-  setRunning(false);
-  if (loadTrace(text)) tell(`${name}: ${counted(board.length, 'event')} happened.`);
-  rows.showAll(board.length);
-  changed();
-}
-
-function openDraft(name, text) {
-  const { frames, rom } = readSketch(engine, text);
-  if (rom !== '' && frames.length === 0) return openRomText(name, rom);
-  useDraft(editorA, text);
-  return tell(`${name}: it stands in editor A.`);
-}
+/* What a file that is opened may ask of the page. */
+const DROP_STAGE = {
+  tell: tellFile,
+  record: showRecording,
+  showLine: showLineOfLog,
+  loadRom: (text) => {
+    setRunning(false);
+    showLesson(0);
+    setRom(text);
+    beginAnew();
+    byId('rom-details').open = true;
+  },
+  loadTrace: (text) => {
+    setRunning(false);
+    showLesson(0);
+    const fault = loadTrace(text);
+    rows.showAll(board.length);
+    return { fault, count: board.length };
+  },
+  useDraft: (text) => useDraft(editorA, text),
+};
 
 /* Puts a draft into an editor, and the ROM that it brings, if it does, into its own. */
 function useDraft(editor, text) {
@@ -992,6 +880,12 @@ function useDraft(editor, text) {
 }
 
 /* --- Listening --- */
+
+function beginAgain() {
+  setRunning(false);
+  beginAnew();
+  changed();
+}
 
 function listenToButtons() {
   const on = (id, act) => byId(id).addEventListener('click', act);
@@ -1006,9 +900,10 @@ function listenToButtons() {
   on('one-picture', runOnePicture);
   on('tour-end', endTour);
   on('tour-again', beginTour);
+  on('still', showStill);
   on('lesson-back', () => openLesson(lesson - 1));
   on('lesson-on', () => openLesson(lesson + 1));
-  on('anew', () => { setRunning(false); beginAnew(); changed(); });
+  on('anew', beginAgain);
   on('compare', compare);
   on('link', () => makeLink().catch((fault) => tell(`No link: ${fault.message}`, true)));
   on('save-trace', () => save('trace.txt', traceOf(board)));
@@ -1024,130 +919,32 @@ function listenToButtons() {
   on('now', () => goTo(shown.length));
   on('forget', forgetLater);
   on('file-close', backToBoard);
-  byId('code').addEventListener('toggle', showCode);
+  byId('code').addEventListener('toggle', () => code.show(shown, at, shown === board));
+  byId('plain').addEventListener('change', () => setPlain(byId('plain').checked));
+  byId('half-count').addEventListener('change', beginAgain);
   for (const id of ['seed', 'how']) byId(id).addEventListener('input', () => { schedule = null; });
   for (const id of ['count', 'speed', 'how']) byId(id).addEventListener('input', showRunText);
 }
 
-const STEPS = {
-  ArrowLeft: -1, ArrowRight: 1, ArrowDown: -1, ArrowUp: 1, PageUp: -100, PageDown: 100,
-  Home: -Infinity, End: Infinity,
-};
-
-function listenToRows() {
-  const canvas = byId('rows');
-  canvas.addEventListener('keydown', (event) => {
-    if (event.ctrlKey || event.altKey || event.metaKey) return;
-    if (event.key === '+' || event.key === '-') {
-      rows.zoom(event.key === '+' ? 2 : 0.5, at, shown.length);
-      show();
-    } else if (event.key in STEPS) goTo(at + STEPS[event.key] * (event.shiftKey ? 10 : 1));
-    else return;
-    event.preventDefault();
-  });
-  canvas.addEventListener('wheel', turnWheel, { passive: false });
-  listenToDrags(canvas);
+/* With plain words nothing is told in hexadecimal. */
+function setPlain(isPlain) {
+  byId('plain').checked = isPlain;
+  document.body.classList.toggle('plain', isPlain);
 }
 
-/* With Ctrl a wheel zooms; sideways, or with Shift, it moves the rows; else it is the page's. */
-function turnWheel(event) {
-  const { ctrlKey, shiftKey, deltaX, deltaY } = event, aside = deltaX || (shiftKey ? deltaY : 0);
-  if (!ctrlKey && aside === 0) return;
-  event.preventDefault();
-  if (ctrlKey) rows.zoom(deltaY < 0 ? 1.25 : 0.8, rows.eventAt(event.offsetX), shown.length);
-  else rows.pan(aside, shown.length);
-  rows.draw(shown, at, colors);
-}
-
-/* A drag moves the rows; a click shows the moment after the event there. */
-function listenToDrags(canvas) {
-  let from = null;
-  canvas.addEventListener('pointerdown', (event) => {
-    from = { x: event.offsetX, first: rows.first, moved: false };
-    canvas.setPointerCapture(event.pointerId);
+function listenToHands() {
+  const zoom = (factor) => { rows.zoom(factor, at, shown.length); show(); };
+  listenToRows(rows, {
+    get length() { return shown.length; },
+    zoom, goTo, walk: (events) => goTo(at + events), drawRows: () => rows.draw(shown, at, colors),
   });
-  canvas.addEventListener('pointermove', (event) => {
-    if (from === null) return;
-    from.moved ||= Math.abs(event.offsetX - from.x) > 4;
-    if (!from.moved) return;
-    rows.pan(from.x - event.offsetX, shown.length, from.first);
-    rows.draw(shown, at, colors);
-  });
-  canvas.addEventListener('pointerup', (event) => {
-    if (from !== null && !from.moved) goTo(rows.eventAt(event.offsetX) + 1);
-    from = null;
-  });
-  canvas.addEventListener('pointercancel', () => { from = null; });
-}
-
-const MOVES = { ArrowLeft: [-1, 0], ArrowRight: [1, 0], ArrowUp: [0, -1], ArrowDown: [0, 1] };
-
-function listenToMemory() {
-  const canvas = byId('memory');
-  const choose = (word) => {
-    memory.chosen = word;
-    show();
-  };
-  canvas.addEventListener('pointermove',
-    (event) => choose(memory.wordAt(event.offsetX, event.offsetY) ?? memory.chosen));
-  canvas.addEventListener('keydown', (event) => {
-    if (!(event.key in MOVES)) return;
-    event.preventDefault();
-    choose(memory.chosen === null ? 0 : memory.move(memory.chosen, ...MOVES[event.key]));
-  });
-}
-
-function listenToFiles() {
-  const { body } = document;
-  document.addEventListener('dragover', (event) => {
-    event.preventDefault();
-    body.classList.add('dropping');
-  });
-  document.addEventListener('dragleave', (event) => {
-    if (event.relatedTarget === null) body.classList.remove('dropping');
-  });
-  document.addEventListener('drop', (event) => {
-    event.preventDefault();
-    body.classList.remove('dropping');
-    const [file] = event.dataTransfer.files;
-    if (file) openFile(file);
-  });
-  document.addEventListener('paste', (event) => {
-    const text = event.clipboardData?.getData('text/plain') ?? '';
-    if (text === '' || /^(INPUT|TEXTAREA)$/.test(event.target.tagName)) return;
-    event.preventDefault();
-    openFile(new File([text], 'what was pasted'));
-  });
-  for (const [id, kind] of [['open', null], ['open-rom', 'rom']]) {
-    byId(id).addEventListener('change', (event) => {
-      const [file] = event.target.files;
-      if (file) openFile(file, kind);
-      event.target.value = '';
-    });
-  }
-}
-
-/* A canvas that is given a size is empty after that, also where it had that size before. */
-function fitCanvas(canvas, width, height) {
-  if (canvas.width !== width) canvas.width = width;
-  if (canvas.height !== height) canvas.height = height;
-}
-
-function listenToSizes() {
-  const canvases = [byId('screen'), byId('rows'), byId('memory')];
-  const fit = () => {
-    const ratio = Math.min(2, devicePixelRatio || 1);
-    for (const canvas of canvases) {
-      fitCanvas(canvas, Math.round(canvas.clientWidth * ratio),
-        Math.round(canvas.clientHeight * ratio));
-    }
+  listenToMemory(memory, show);
+  listenToFiles((file, kind) => drops.open(file, kind));
+  listenToSizes([byId('screen'), byId('rows'), byId('memory')], () => {
     rows.fit();
     memory.fit();
     if (board !== undefined) show();
-  };
-  fit();
-  const observer = new ResizeObserver(fit);
-  for (const canvas of canvases) observer.observe(canvas);
+  });
   matchMedia('(prefers-color-scheme: light)').addEventListener('change', () => {
     readColors();
     show();
@@ -1196,14 +993,14 @@ async function begin() {
   makeEditors();
   makeLessons();
   makeExamples();
-  listenToSizes();
+  listenToHands();
   listenToButtons();
-  listenToRows();
-  listenToMemory();
-  listenToFiles();
   engine = await starting;
   drawer = new Drawer(engine);
   tube = new Drawer(engine);
+  verdicts = new Verdicts(engine, goToResult);
+  code = new Code(engine, LISTING);
+  drops = new Drops(engine, drawer, DROP_STAGE);
   addEventListener('hashchange', loadFragment);
   await loadFragment();
   showPreviews();

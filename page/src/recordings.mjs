@@ -70,6 +70,7 @@ export class Recording {
   get full() { return true; }
   get open() { return this.runs.open; }
   get early() { return this.runs.early; }
+  get oneHalf() { return false; }
 
   eventOfLine(line) {
     return this.lines.number.indexOf(line);

@@ -1,8 +1,14 @@
-/* The runs of a board or of a log, judged two ways: by halves, which bytes were written into the
- * half that is being drawn; and by moments, whether a run is of one moment. Both are what the
- * proved judges say that stand in dvg.wasm. */
+/* The runs of a board or of a log, judged two ways: by halves, which bytes are early, as they were
+ * written into the half that is being drawn; and by moments, whether a run is consistent or mixed.
+ * Both are what the proved judges say that stand in dvg.wasm. */
 import { KIND } from './engine.mjs';
 import { SIGN, drawnHalf } from './signs.mjs';
+
+/* What is counted of the runs that began with an event or later: how many drew a half, how many
+ * bytes came early, and which event wrote the first of these. */
+function countsFrom(at) {
+  return { at, drew: 0, early: 0, first: -1 };
+}
 
 export class Runs {
   /* `signs` has a sign for each event. That of an early byte is changed once the run reads it. */
@@ -11,7 +17,25 @@ export class Runs {
     this.judge = engine.device();
     this.judge.openJudge();
     this.halves = engine.halves();
-    Object.assign(this, { open: null, early: 0, seen: 0, contradicts: -1, contradictions: 0 });
+    const all = countsFrom(0);
+    Object.assign(this, { open: null, all, since: all, seen: 0, contradicts: -1,
+      contradictions: 0 });
+  }
+
+  get early() { return this.all.early; }
+
+  /* Counts anew the runs that begin from here on, as the wire changed; where it was cut, the open
+   * run, too. */
+  countFrom(at, isCut) {
+    const open = isCut ? this.open : null;
+    this.since = countsFrom(open?.at ?? at);
+    if (open !== null && open.half !== 0) this.since.drew = 1;
+  }
+
+  /* The counts that the open run belongs to. */
+  countsNow() {
+    const { all, since } = this;
+    return since !== all && this.open.at >= since.at ? [all, since] : [all];
   }
 
   free() {
@@ -19,8 +43,8 @@ export class Runs {
     this.halves.free();
   }
 
-  /* Tells the judge what an event did; keeps where a run came to be of no moment, and which event
-   * read first what was not written. */
+  /* Tells the judge what an event did; keeps where a run came to be mixed, and which event read
+   * first what was not written. */
   tell(at, kind, address = 0, value = 0) {
     const { kind: state, contradicts } = this.judge.tell(kind, address, value);
     const hasNone = state === KIND.NO_MOMENT || state === KIND.TORN;
@@ -33,7 +57,7 @@ export class Runs {
   begin(at) {
     this.tell(at, KIND.STARTED);
     this.halves.started();
-    this.open = { at, half: 0, words: 0, early: 0, seen: 0, tornAt: -1, low: -1,
+    this.open = { at, half: 0, words: 0, early: 0, seen: 0, tornAt: -1, low: -1, judged: false,
       written: new Map() };
   }
 
@@ -46,7 +70,9 @@ export class Runs {
     const isEarly = this.halves.wrote(address);
     if (isEarly) {
       open.early++;
-      this.early++;
+      for (const counts of this.countsNow()) {
+        if (counts.early++ === 0) counts.first = at;
+      }
     }
     const counts = isEarly || (open.half === 0 && open.words > 0);
     if (counts && changes) open.written.set(address, at);
@@ -56,6 +82,7 @@ export class Runs {
   low(at, word, byte) {
     this.tell(at, KIND.LOW, word, byte);
     if (this.open === null) return;
+    this.open.judged ||= word !== 0;
     this.see(2 * word);
     this.open.low = word;
   }
@@ -69,8 +96,11 @@ export class Runs {
     if (open.low !== word) this.see(2 * word);
     this.see(2 * word + 1);
     open.low = -1;
+    open.judged ||= word !== 0;
     open.words++;
-    if (open.words === 1 && word === 0) open.half = drawnHalf(value);
+    if (open.words > 1 || word !== 0) return;
+    open.half = drawnHalf(value);
+    if (open.half !== 0) this.countsNow().forEach((counts) => { counts.drew++; });
   }
 
   /* The open run reads a byte: if it was written meanwhile, that shows. */
@@ -104,9 +134,10 @@ export class Runs {
   }
 }
 
-/* What is kept of a run that came to its HALT. */
-export function resultOf({ at: from, early, seen, tornAt, words }) {
-  return { from, early, seen, tornAt, words, torn: tornAt >= 0 };
+/* What is kept of a run that came to its HALT. Its picture is torn where it is mixed. It can be
+ * judged by moments where it fetched at a word address other than 000, or is mixed. */
+export function resultOf({ at: from, early, seen, tornAt, judged }) {
+  return { from, early, seen, tornAt, judged: judged || tornAt >= 0, torn: tornAt >= 0 };
 }
 
 /* The sign of a picture. */

@@ -92,26 +92,26 @@ export class Screen {
     this.count = 0;
   }
 
-  /* The newest picture, and over it the strokes so far of the open run, if there is one. Both are
-   * told apart by their ids. Of a run that only grew, the new strokes alone are drawn. A torn
-   * picture has a tear. */
-  draw(picture, open, tear = null) {
+  /* The newest picture, bright or dim, and over it the strokes so far of the open run, if there is
+   * one. Both are told apart by their ids. Of a run that only grew, the new strokes alone are
+   * drawn. A torn picture has a tear. */
+  draw(picture, open, isDim, tear = null) {
     const { width, height } = this.canvas, sofar = open?.strokes ?? [];
-    const key = `${picture?.id} ${open?.id} ${width} ${height} ${tear !== null}`;
-    if (key !== this.key || sofar.length < this.count) this.begin(picture, open !== null, tear);
+    const key = `${picture?.id} ${open?.id} ${isDim} ${width} ${height} ${tear !== null}`;
+    if (key !== this.key || sofar.length < this.count) this.begin(picture, isDim, tear);
     if (sofar.length > this.count) glow(this.context, sofar.slice(this.count), GROWING, 0.9);
     this.key = key;
     this.count = sofar.length;
   }
 
-  /* The picture alone, weaker where a run draws over it. */
-  begin(picture, open, tear) {
+  /* The picture alone. */
+  begin(picture, isDim, tear) {
     const { context } = this, { width, height } = this.canvas;
     this.count = 0;
     context.fillStyle = '#000';
     context.fillRect(0, 0, width, height);
     if (picture === null) return;
-    if (tear === null) glow(context, picture.strokes, BEAM, open ? 0.4 : 1);
+    if (tear === null) glow(context, picture.strokes, BEAM, isDim ? 0.4 : 1);
     else this.drawTear(picture, tear);
   }
 

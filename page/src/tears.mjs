@@ -1,8 +1,10 @@
 /* What a torn picture is made of: which strokes are of the frame that was being drawn, and which
  * byte came in between. */
+import { Board } from './board.mjs';
 import { COMMAND } from './engine.mjs';
 import { ramAt } from './moments.mjs';
 import { hex } from './hex.mjs';
+import { replay } from './traces.mjs';
 
 /* What a run over this memory would draw, as strokes; none where it draws no picture. */
 export function strokesOfMemory(engine, ram, rom) {
@@ -45,8 +47,7 @@ function offeredBefore(board, event) {
 }
 
 /* The byte that shows first of those that were written while the run read: the event that wrote it,
- * what over what, and the event that read it. In a torn picture, the byte after which no moment was
- * left. */
+ * what over what, and the event that read it. In a torn picture, the byte that mixed its run. */
 function tornWord(board, { from, at, tornAt }, ram) {
   const written = new Map();
   for (let k = from + 1; k <= at; k++) {
@@ -63,14 +64,30 @@ function tornWord(board, { from, at, tornAt }, ram) {
   return null;
 }
 
+/* The picture that two halves draw in place of this one of one half alone: by the same events, and
+ * by fetches after that until the run is done which the same strobe began. */
+export function besideOf(engine, board, { from, at }) {
+  const both = new Board(engine, board.rom);
+  replay(board, both, at + 1);
+  while (both.open !== null && !both.full) both.happen({ name: 'fetch' });
+  const picture = both.pictures.find((one) => one.from === from);
+  both.free();
+  return picture ?? { strokes: [], torn: false };
+}
+
 /* The tear in words. */
-export function tearText({ wrong, word: { event, address, value, before, read } }, picture) {
+export function tearText({ wrong, word: { event, read } }, picture) {
+  const then = picture.torn ? 'there the tear begins' : 'so it shows, though the run is consistent';
+  const { length } = picture.strokes;
+  const red = length === 0 ? 'The run drew no stroke.' : `${wrong.length} of ${length} strokes are `
+    + 'red: they aren\'t of the frame that the run began with.';
+  return `Event ${event} wrote a byte while the generator drew`
+    + `${picture.early > 0 ? ' from that half' : ''}. Event ${read} read it: ${then}. ${red}`;
+}
+
+/* The byte that came in between, as a log has it. */
+export function tearCode({ word: { address, value, before } }) {
   const word = `word ${hex(address >> 1, 3)}`, which = address % 2 ? 'high' : 'low';
-  const byte = `${hex(value, 2)} over ${hex(before, 2)} into byte ${hex(address, 3)}`;
-  const then = picture.torn ? 'there the tear begins'
-    : 'so it shows, though all that was read stood in memory at one moment';
-  return `Event ${event} wrote ${byte}, the ${which} byte of ${word}, while the generator drew`
-    + `${picture.early > 0 ? ' from that half' : ''}. Event ${read} read that word: ${then}. `
-    + `${wrong.length} of ${picture.strokes.length} strokes are red: they aren't of the frame that `
-    + 'the run began with.';
+  return `It wrote ${hex(value, 2)} over ${hex(before, 2)} into byte ${hex(address, 3)}, the `
+    + `${which} byte of ${word}.`;
 }

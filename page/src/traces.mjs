@@ -1,8 +1,8 @@
 /* Traces as texts, as `dvg play` reads them. That the HALT wire is cut, or whole again, stands in a
- * remark, which `play` passes over: it has no such wire. */
+ * remark, and so does that there is one half alone: `play` passes over these, and has neither. */
 import { hex } from './hex.mjs';
 
-const CUT = '# wire cut', WHOLE = '# wire whole';
+const CUT = '# wire cut', WHOLE = '# wire whole', ONE_HALF = '# one half';
 const MOST_TIMES = 9999;
 
 /* Events of the same kind that may stand in one line. */
@@ -35,6 +35,7 @@ export function traceOf(board) {
   });
   flush();
   tellWire(board.length);
+  if (board.oneHalf) lines.unshift(ONE_HALF);
   return board.rom.text + lines.map((line) => `${line}\n`).join('');
 }
 
@@ -44,11 +45,12 @@ function linesOf({ name, draft, byte }) {
 }
 
 /* What a trace tells that `play` takes: the text of its ROM, and its steps, of which each is an
- * event that happens so many times, or what becomes of the wire. */
+ * event that happens so many times, or what becomes of the wire; and whether there is one half. */
 export function stepsOf(text) {
   const rom = [], steps = [];
-  let draft = null;
+  let draft = null, oneHalf = false;
   for (const line of text.split('\n')) {
+    oneHalf ||= line === ONE_HALF;
     if (line === CUT || line === WHOLE) steps.push({ wire: line === CUT });
     if (line === '' || line.startsWith('#')) continue;
     const [name, word] = line.split(' ');
@@ -62,7 +64,7 @@ export function stepsOf(text) {
       steps.push({ event: { name, byte: parseInt(word, 16) }, times: 1 });
     } else steps.push({ event: { name }, times: Number(word ?? 1) });
   }
-  return { rom: rom.join('\n'), steps };
+  return { rom: rom.join('\n'), steps, oneHalf };
 }
 
 /* Lets the steps happen on a board. */
@@ -71,4 +73,16 @@ export function playSteps(board, steps) {
     if ('wire' in step) board.setWire(step.wire);
     else for (let k = 0; k < step.times; k++) board.happen(step.event);
   }
+}
+
+/* Lets what happened on a board, up to an event, happen on another one, which has come so far as it
+ * is long. */
+export function replay(board, onto, end) {
+  const setWires = (at) => board.wires.filter((wire) => wire.at === at)
+    .forEach(({ cut }) => onto.setWire(cut));
+  for (let k = onto.length; k < end; k++) {
+    setWires(k);
+    onto.happen(board.entries[k].event);
+  }
+  setWires(end);
 }

@@ -1,7 +1,8 @@
-/* What is shown, in words. */
+/* What is shown, in words. What `dvg` writes of it, in hexadecimal, is told apart from that, by
+ * functions whose names end with `Code`. */
 import { COMMAND } from './engine.mjs';
 import { hex } from './hex.mjs';
-import { AREA, SIGN } from './signs.mjs';
+import { AREA, SIGN, areaOf, drawnHalf } from './signs.mjs';
 
 export function counted(number, one, many = `${one}s`) {
   return `${number} ${number === 1 ? one : many}`;
@@ -12,67 +13,46 @@ export function durationText(seconds) {
   return seconds < 1 ? 'less than a second' : `about ${counted(Math.round(seconds), 'second')}`;
 }
 
-const HALF_NAME = { [AREA.HALF0]: 'half 0', [AREA.HALF1]: 'half 1' };
+const AREA_NAME = {
+  [AREA.ZERO]: 'word zero',
+  [AREA.HALF0]: 'half 0',
+  [AREA.HALF1]: 'half 1',
+  [AREA.ROM]: 'the ROM',
+  [AREA.NONE]: 'neither half',
+};
+
+/* The name of an area, or where there is no memory. */
+export function areaName(area) {
+  return AREA_NAME[area] ?? 'no memory';
+}
 
 /* A picture's state: `named` says which frame it is, where that is known. */
 export function pictureText(picture, number, named) {
   if (picture === null) return 'No picture is finished yet.';
   const strokes = counted(picture.strokes.length, 'stroke');
-  const begin = `Picture ${number}, finished by event ${picture.at}: ${strokes}`;
+  const begin = `Picture ${number}, event ${picture.at}: ${strokes}`;
   const frame = named === null ? '' : ` It is ${named}.`;
   const { early, torn } = picture;
-  if (early === 0 && torn) return `${begin}, torn: it is of no one moment.`;
-  if (early === 0) return `${begin}, whole.${frame}`;
-  const bytes = `${counted(early, 'byte')} ${early === 1 ? 'was' : 'were'}`;
-  return `${begin}, ${torn ? 'torn' : 'early'}: ${bytes} written into its half while it was drawn, `
-    + `${seenText(picture)}.${frame}`;
+  if (early === 0) return `${begin}, ${torn ? 'torn: its run is mixed.' : `whole.${frame}`}`;
+  const bytes = `${counted(early, 'early byte')}, ${seenText(picture)}`;
+  return `${begin}, ${torn ? 'torn' : 'whole'}: ${bytes}.${frame}`;
 }
 
-/* How much of what came early a picture shows. */
-function seenText({ early, seen, torn }) {
-  if (seen === 0) return `and ${early === 1 ? 'it doesn\'t show' : 'none of them shows'}`;
-  const shows = early === 1 ? 'it shows' : `${seen} of them ${seen === 1 ? 'shows' : 'show'}`;
-  return `and ${shows}${torn ? '' : ', as memory stood at one moment'}`;
-}
-
-/* A verdict by moments: its word, and what it says of so many pictures. */
-export function momentsVerdict(pictures, runs) {
-  const judged = pictures.filter(({ words }) => words > 0), torn = judged.filter((one) => one.torn);
-  const { contradictions } = runs;
-  const more = contradictions === 0 ? '' : ` ${counted(contradictions, 'fetch', 'fetches')} read `
-    + 'what was not written: somebody writes who isn\'t in the log.';
-  const count = counted(judged.length, 'picture');
-  if (judged.length === 0) return { word: '', text: `No picture can be judged by moments.${more}` };
-  if (torn.length === 0) {
-    const what = judged.length === 1 ? '1 picture' : `each of ${count}`;
-    return { word: 'Whole', text: ` by moments: ${what}.${more}` };
-  }
-  return { word: 'Torn', text: ` by moments: ${torn.length} of ${count}.${more}`, at: torn[0].at };
-}
-
-/* What is said of the runs that were abandoned, each in one of these events. */
-export function leftVerdict(left) {
-  return { word: left.length === 0 ? '' : 'Abandoned', at: left.at(-1),
-    text: `: ${counted(left.length, 'run')}, cut short.` };
-}
-
-/* A verdict by halves: its word, and how many bytes came early. */
-export function halvesVerdict(early) {
-  return early === 0 ? { word: 'In time', text: ' by halves: each byte.' }
-    : { word: 'Early', text: ` by halves: ${counted(early, 'byte')}.` };
+/* How many of its early bytes a picture shows. */
+function seenText({ early, seen }) {
+  if (seen === 0) return early === 1 ? 'which doesn\'t show' : 'none of which shows';
+  return early === 1 ? 'which shows' : `of which ${seen} ${seen === 1 ? 'shows' : 'show'}`;
 }
 
 export function runText(run, strokes) {
   if (run === null) return 'The generator is halted.';
-  const half = run.half === 0 ? '' : ` from ${HALF_NAME[run.half]}`;
-  const words = counted(run.words.length, 'word');
-  return `A run draws${half}: ${words}, ${counted(strokes, 'stroke')} so far.`;
+  const half = run.half === 0 ? '' : ` ${areaName(run.half)}`;
+  return `A run draws${half}: ${counted(strokes, 'stroke')} so far.`;
 }
 
 /* Of an abandoned run, which drew so many strokes. */
 export function leftText(strokes) {
-  return `A strobe or a reset ended the run after it early: the tube shows the ${strokes} strokes `
-    + 'that it came to. ';
+  return `The run after it was cut short: the tube shows its ${counted(strokes, 'stroke')}. `;
 }
 
 /* What the ways are to choose events. */
@@ -83,20 +63,13 @@ export const HOW_TEXT = {
     + 'rather than torn.',
   ignored: 'A generator that runs ignores a strobe: with the wire cut, pictures are torn.',
 };
+export const ONE_HALF_TEXT = 'Each frame comes into the one half, also while that is being drawn. ';
 
 export function countsText(board) {
-  return [`event ${board.length}`, counted(board.pictures.length, 'picture'),
-    `${board.pictures.filter(({ torn }) => torn).length} torn`,
-    `${counted(board.early, 'byte')} written into the half being drawn`,
-    `${counted(board.abandoned, 'run')} abandoned`].join(' · ');
+  const torn = board.pictures.filter((picture) => picture.torn).length;
+  return [`event ${board.length}`, counted(board.pictures.length, 'picture'), `${torn} torn`,
+    counted(board.early, 'early byte'), `${counted(board.abandoned, 'run')} abandoned`].join(' · ');
 }
-
-const AREA_NAME = {
-  [AREA.ZERO]: 'word zero',
-  [AREA.HALF0]: 'half 0',
-  [AREA.HALF1]: 'half 1',
-  [AREA.NONE]: 'neither half',
-};
 
 /* An instruction of these words, as `dvg list` lists it. */
 export function instructionText(engine, words) {
@@ -104,22 +77,84 @@ export function instructionText(engine, words) {
   return engine.run(COMMAND.list, bytes).output.split('\n')[0].replace(/^000 /, '');
 }
 
-/* What stands at a word of the RAM, as `dvg list` lists it. */
-export function wordText(engine, ram, word, area, marks) {
-  const words = [word, word + 1].filter((one) => 2 * one < ram.length)
-    .map((one) => ram[2 * one] | ram[2 * one + 1] << 8);
-  const value = hex(words[0], 4);
-  const instruction = instructionText(engine, words) || 'the first word of two';
-  return `Word ${hex(word, 3)}, ${AREA_NAME[area]}: ${value}, ${instruction}${marks}`;
+/* The instructions by the high four bits of their first word, in words. */
+const OPERATIONS = { 10: 'places the beam', 11: 'ends the picture: HALT', 12: 'calls a shape',
+  13: 'returns from a shape', 14: 'goes on elsewhere', 15: 'moves the beam a little' };
+
+/* What an instruction does whose first word is this. */
+export function operationText(word) {
+  return OPERATIONS[word >> 12] ?? 'moves the beam';
 }
 
-/* The text of an entry, for the row of moments. */
+/* A word of the RAM, of which that is told, too. */
+export function wordText(ram, word, area, marks) {
+  const value = ram[2 * word] | ram[2 * word + 1] << 8;
+  const number = word === 0 ? '' : `, word ${word & 511}`;
+  return `${areaName(area)}${number}: as an instruction it ${operationText(value)}${marks}.`
+    .replace(/^\w/, (first) => first.toUpperCase());
+}
+
+/* What stands there, as `dvg list` lists it. */
+export function wordCode(engine, ram, word) {
+  const words = [word, word + 1].filter((one) => 2 * one < ram.length)
+    .map((one) => ram[2 * one] | ram[2 * one + 1] << 8);
+  const instruction = instructionText(engine, words) || 'the first word of two';
+  return `Word ${hex(word, 3)}: ${hex(words[0], 4)}, ${instruction}`;
+}
+
+/* What an event did, by its entry. */
+const DID = {
+  offered: 'the driver takes a frame',
+  busy: 'the driver is busy, and takes nothing',
+  asked: 'the driver is asked for another strobe',
+  'nothing published': 'the driver is asked for another strobe, and has published nothing',
+  sent: 'the driver sends a strobe',
+  idle: 'the driver is idle, as no frame is offered',
+  'read halted': 'the driver is told that the generator is halted',
+  'read running': 'the driver is told that the generator runs, and waits',
+  peek: 'the driver looks which half is published',
+  started: 'a strobe arrives, and a run begins',
+  'no strobe': 'no strobe was sent, so none arrives',
+  still: 'the generator is halted, and fetches nothing',
+  halted: 'the run comes to its HALT',
+  reset: 'the generator is reset',
+};
+const CLEARED = {
+  resetgen: 'the generator is reset', resetcpu: 'the processor is reset',
+  resetall: 'the whole system is reset',
+};
+
+/* An event in words. */
+export function eventText({ event, text, wrote, value, fetched, word, strokes }) {
+  const half = wrote === 1 ? drawnHalf(value << 8 | 1) : 0;
+  if (half !== 0) return `the driver publishes ${areaName(half)}`;
+  if (wrote !== undefined) return `the driver writes a byte of ${areaName(areaOf(wrote >> 1))}`;
+  if (strokes !== undefined) {
+    return `the generator reads a HALT: a picture of ${counted(strokes.length, 'stroke')} is done`;
+  }
+  if (text.startsWith('broke')) return 'the generator can\'t go on, and breaks off';
+  if (fetched !== undefined) {
+    const name = areaName(areaOf(fetched));
+    if (fetched === 0 && word !== undefined) return `the generator has read ${name}`;
+    return `the generator reads ${word === undefined ? 'a byte' : 'a word'} of ${name}`;
+  }
+  if (text.startsWith('refused')) return 'the driver refuses a frame';
+  return DID[text] ?? CLEARED[event.name];
+}
+
+/* The event before a moment, in words. */
 export function momentText(board, at) {
   if (at === 0) return `Before the first of ${counted(board.length, 'event')}.`;
   const entry = board.entryAt(at - 1);
   const seen = board.signs[at - 1] === SIGN.SEEN ? ', and it shows' : '';
   const early = entry.early ? `, into the half that is being drawn${seen}` : '';
-  const { name } = entry.event, article = name === 'offer' ? 'an' : 'a';
-  const what = entry.line ? `line ${entry.line}` : `${article} ${name}`;
-  return `Event ${at - 1} of ${board.length}, ${what}: ${entry.text}${early}.`;
+  const line = entry.line ? `, line ${entry.line}` : '';
+  return `Event ${at - 1} of ${board.length}${line}: ${eventText(entry)}${early}.`;
+}
+
+/* The same event as a log has it. */
+export function momentCode(board, at) {
+  if (at === 0) return '';
+  const { line, event, text } = board.entryAt(at - 1);
+  return line ? text : `${event.name}: ${text}`;
 }

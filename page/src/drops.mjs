@@ -1,0 +1,88 @@
+/* What becomes of a file that is dropped, pasted or opened by its name. Each is told in the panel
+ * beside the picture, also one that is refused. */
+import { COMMAND, OPTION } from './engine.mjs';
+import { logOfBus } from './buses.mjs';
+import { firstLines, kindOf } from './files.mjs';
+import { Recording, boardOfDump } from './recordings.mjs';
+import { readSketch } from './sketches.mjs';
+import { counted } from './words.mjs';
+
+const REFUSED = 'This is neither a dump, a log, a table of a bus, a ROM, a trace nor a sketch, so '
+  + 'it was not opened.';
+const OUTLINES = 'Its shapes are told by the points of their outlines, which the page doesn\'t '
+  + 'read. board/outline.awk makes a sketch of them.';
+
+export class Drops {
+  /* `stage` does on the page what a file asks for: `tell` a text in the panel, `record` what
+   * happened elsewhere, `showLine` an event of it, and `loadRom`, `loadTrace`, `useDraft`. */
+  constructor(engine, drawer, stage) {
+    Object.assign(this, { engine, drawer, stage });
+  }
+
+  async open(file, kind = null) {
+    const { name } = file, bytes = new Uint8Array(await file.arrayBuffer());
+    const text = () => new TextDecoder().decode(bytes);
+    const open = {
+      dump: () => this.openDump(name, bytes),
+      log: () => this.openLog(name, bytes),
+      bus: () => this.openLog(`${name}, as a log`, new TextEncoder().encode(logOfBus(text()))),
+      rom: () => this.openRom(name, bytes),
+      romtext: () => this.openRomText(name, text()),
+      trace: () => this.openTrace(name, text()),
+      draft: () => this.openDraft(name, text()),
+      outline: () => this.stage.tell(name, OUTLINES, true),
+      unknown: () => this.stage.tell(name, REFUSED, true),
+    };
+    open[kind ?? kindOf(bytes)]();
+  }
+
+  /* Shows the run over a dump, word by word, as `dvg picture --all` tells it. */
+  openDump(name, bytes) {
+    const got = this.engine.run(COMMAND.picture + OPTION, bytes);
+    const lines = got.output.split('\n').filter((line) => line !== '');
+    const verdict = lines.find((line) => /^(picture|broke|endless)/.test(line)) ?? got.error.trim();
+    const recording = Object.assign(boardOfDump(this.engine, name, bytes), { verdict });
+    this.stage.record(recording, `The dump ${name}`, 'Its run: each instruction where it stands, '
+      + 'and where the beam is then. Walk through it by the arrow keys.', lines);
+  }
+
+  /* Shows a log, up to the line at fault if it has one, where its first picture is torn, or else at
+   * the first early byte. */
+  openLog(name, bytes) {
+    const got = this.engine.run(COMMAND.torn, bytes);
+    const fault = /line ([0-9]+)/.exec(got.error);
+    const good = fault === null ? bytes : firstLines(bytes, Number(fault[1]) - 1);
+    const recording = new Recording(name, good, this.drawer);
+    const count = counted(recording.length, 'event');
+    this.stage.record(recording, `The log ${name}`, fault === null ? `${count}.`
+      : `${got.error.trim()}. Before that: ${count}.`, []);
+    const torn = recording.pictures.find((picture) => picture.torn);
+    const event = torn?.tornAt ?? recording.runs.all.first;
+    if (event >= 0) this.stage.showLine(event);
+  }
+
+  openRom(name, bytes) {
+    const got = this.engine.run(COMMAND.rom, bytes);
+    if (got.status !== 0) this.stage.tell(name, got.error.trim(), true);
+    else this.openRomText(name, got.output);
+  }
+
+  openRomText(name, text) {
+    this.stage.loadRom(text);
+    this.stage.tell(name, 'The ROM was loaded, and the board begins anew.');
+  }
+
+  openTrace(name, text) {
+    const { fault, count } = this.stage.loadTrace(text);
+    this.stage.tell(name, fault === '' ? `${counted(count, 'event')} happened.`
+      : `The trace is refused: ${fault}`, fault !== '');
+  }
+
+  openDraft(name, text) {
+    const { frames, rom, said } = readSketch(this.engine, text);
+    if (rom !== '' && frames.length === 0) return this.openRomText(name, rom);
+    this.stage.useDraft(text);
+    return this.stage.tell(name, frames.length > 0 ? 'It stands in editor A, below.'
+      : `It stands in editor A, below, and has a fault: ${said}`, frames.length === 0);
+  }
+}
