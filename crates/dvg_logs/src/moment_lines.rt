@@ -1,5 +1,5 @@
 //! The lines of a log by moments: each run is of one.
-ghost use Rattle.std.specs.Prelude.{◌≡◌, ◌+◌, ◌%◌, ◌^◌, ◌||◌, cond, nat_lt, IfSome, IsNone, IsTrue};
+ghost use Rattle.std.specs.Prelude.{◌≡◌, ◌+◌, ◌%◌, ◌^◌, ◌&&◌, ◌||◌, cond, nat_lt, IfSome, IsNone, IsTrue};
 ghost use Rattle.dvg_print.specs.declared.moment_verdict.MomentVerdict.TheVariants as say;
 
 use crate::line_judge::LineJudge;
@@ -116,7 +116,7 @@ impl MomentLines {
     {
         let halts = self.judge.is_open();
         self.halted = count_with(self.halted, halts);
-        self.judged = count_with(self.judged, halts && self.is_past_zero);
+        self.judged = count_with(self.judged, is_judged(halts, self.is_past_zero));
         self.judge.ended();
         self.tear = None;
     }
@@ -137,6 +137,13 @@ fn count_with(count: usize, is_one: bool) -> usize
     ensures { result ≡ cond is_one ((count + 1) % 2 ^ 64) count }
 {
     if is_one { count.wrapping_add(1) } else { count }
+}
+
+// Returns whether a run is judged by a line: it `halts` then, and `is_past_zero`.
+fn is_judged(halts: bool, is_past_zero: bool) -> bool
+    ensures { result ≡ (halts && is_past_zero) }
+{
+    halts && is_past_zero
 }
 
 // Returns whether a run has fetched past word zero: it had `before`, or it now fetches at the word

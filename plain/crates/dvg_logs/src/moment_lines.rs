@@ -84,7 +84,7 @@ impl MomentLines {
     fn halt(&mut self) {
         let halts = self.judge.is_open();
         self.halted = count_with(self.halted, halts);
-        self.judged = count_with(self.judged, halts && self.is_past_zero);
+        self.judged = count_with(self.judged, is_judged(halts, self.is_past_zero));
         self.judge.ended();
         self.tear = None;
     }
@@ -100,6 +100,11 @@ impl MomentLines {
 // than that of the lines, so it doesn't wrap.
 fn count_with(count: usize, is_one: bool) -> usize {
     if is_one { count.wrapping_add(1) } else { count }
+}
+
+// Returns whether a run is judged by a line: it `halts` then, and `is_past_zero`.
+fn is_judged(halts: bool, is_past_zero: bool) -> bool {
+    halts && is_past_zero
 }
 
 // Returns whether a run has fetched past word zero: it had `before`, or it now fetches at the word
