@@ -1,5 +1,6 @@
 //! The lines of a log by moments: each run is of one.
-ghost use Rattle.std.specs.Prelude.{◌≡◌, ◌+◌, ◌%◌, ◌^◌, ◌&&◌, ◌||◌, cond, nat_lt, IfSome, IsNone, IsTrue};
+ghost use Rattle.std.specs.Prelude.{◌≡◌, ◌+◌, ◌%◌, ◌^◌, ◌&&◌, ◌||◌, cond, nat_lt};
+ghost use Rattle.std.specs.Prelude.{IfSome, IsNone, IsTrue};
 ghost use Rattle.dvg_print.specs.declared.moment_verdict.MomentVerdict.TheVariants as say;
 
 use crate::line_judge::LineJudge;
