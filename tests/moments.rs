@@ -201,7 +201,7 @@ struct System {
 
 fn system(chance: &mut Chance) -> System {
     System {
-        words: [2, 3, 6, 12][chance.below(4) as usize],
+        words: [1, 2, 3, 6, 12][chance.below(5) as usize],
         values: [2, 3, 200][chance.below(3) as usize],
         writes: [10, 30, 45, 70][chance.below(4) as usize],
         apart: [0, 50, 100][chance.below(3) as usize],
@@ -645,7 +645,7 @@ struct Counts {
     runs: usize,
     /// The runs that came to their HALT.
     halted: usize,
-    /// Those of them that had fetched something.
+    /// Those of them that had fetched past word zero, which is bytes 0 and 1.
     judged: usize,
 }
 
@@ -675,7 +675,8 @@ fn to_find(log: &[Line]) -> (Vec<(usize, bool)>, Counts) {
         counts.judged += usize::from(
             naive.reads[start..lines]
                 .iter()
-                .any(|read| !read.is_empty()),
+                .flatten()
+                .any(|(address, _)| *address > 1),
         );
         if let Some(tear) = (start + 1..=lines).find(|lines| naive.is_torn(start, *lines)) {
             found.push((numbers[tear - 1], true));
@@ -720,7 +721,7 @@ fn to_write(log: &[Line], all: bool) -> String {
     written
         + &match (torn, judged) {
             (0, 0) => format!("no run to judge: {runs} runs, {halted} halted\n"),
-            (0, _) => format!("whole: {runs} runs, {halted} halted\n"),
+            (0, _) => format!("whole: {runs} runs, {halted} halted, {judged} judged\n"),
             _ => format!("in all: {runs} runs, {halted} halted, {torn} torn\n"),
         }
 }

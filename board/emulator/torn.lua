@@ -5,7 +5,8 @@
 -- It logs the starts, the word zero that a run fetches at once, the writes, and the end of a run,
 -- which is looked for in the HALT flag before each write and each start. A reset of the machine is
 -- logged where the processor fetches its reset vector. This emulator's generator runs ahead of its
--- processor by up to a millisecond, so it is no judge of interleavings closer than that.
+-- processor by up to a millisecond, so it is no judge of interleavings closer than that. No other
+-- fetch is logged, so `dvg torn --moments` has no run to judge in it.
 if _G.dvg_loaded then return end
 _G.dvg_loaded = true
 

@@ -232,7 +232,8 @@ struct MomentJudge {
     runs: u64,
     halted: u64,
     judged: u64,
-    has_read: bool,
+    // Whether the newest run has fetched past word zero.
+    is_past_zero: bool,
     // The line after which the open run had no moment.
     tear: Option<String>,
 }
@@ -241,13 +242,15 @@ impl MomentJudge {
     fn start(&mut self) {
         self.moments.tell(Line::Started);
         self.runs += 1;
-        self.has_read = false;
+        self.is_past_zero = false;
         self.tear = None;
     }
 
     /// Takes what a line reads, and its text. Some where it contradicts.
     fn read(&mut self, number: usize, line: Line, text: String) -> Option<Found> {
-        self.has_read = true;
+        if let Line::Low(address, _) | Line::Fetched(address, _) = line {
+            self.is_past_zero |= address > 0;
+        }
         let (standing, contradicts) = self.moments.tell(line);
         if contradicts {
             let said = format!("line {number} reads what was not written: {text}\n");
@@ -263,7 +266,7 @@ impl MomentJudge {
     fn halt(&mut self) -> Option<Found> {
         if self.moments.is_open() {
             self.halted += 1;
-            self.judged += u64::from(self.has_read);
+            self.judged += u64::from(self.is_past_zero);
         }
         self.moments.tell(Line::Ended);
         self.tear.take().map(Found::Torn)
@@ -322,11 +325,11 @@ pub fn judge_moments(
     if let Some(said) = last {
         return write(writer, &said).map(|()| false);
     }
-    let is_whole = torn == 0 && judge.judged > 0;
-    let (runs, halted) = (judge.runs, judge.halted);
+    let (runs, halted, judged) = (judge.runs, judge.halted, judge.judged);
+    let is_whole = torn == 0 && judged > 0;
     let counts = format!("{runs} runs, {halted} halted");
     let said = match (torn, is_whole) {
-        (0, true) => format!("whole: {counts}\n"),
+        (0, true) => format!("whole: {counts}, {judged} judged\n"),
         (0, false) => format!("no run to judge: {counts}\n"),
         _ => format!("in all: {counts}, {torn} torn\n"),
     };

@@ -270,11 +270,13 @@ HALT and is of no moment: no byte that it reads may change between its moment an
 its reading, and by line N, which is shown, no such moment was left. It is
 `line N reads what was not written: ..` for the first line that reads another byte
 than the log told last of it: of the RAM, of the ROM, or of the low byte that was
-told of this very word. Else it is `whole: R runs, H halted`, where H runs came to
-a line `halted`. Where none of these fetched something, it is `no run to judge:
-..`. `halted` tells no word, so the log before it is judged. After `reset`, which
-may be one of the whole system, nothing is known of memory. A byte that is written
-before the log tells what stood there counts as changed.
+told of this very word. Else it is `whole: R runs, H halted, J judged`, where H
+runs came to a line `halted`, and J of these had fetched past word zero: a low byte
+or a word at another word address than 000. Where none had, it is `no run to judge:
+..`, as word zero alone doesn't show what was drawn. `halted` tells no word, so the
+log before it is judged. After `reset`, which may be one of the whole system,
+nothing is known of memory. A byte that is written before the log tells what stood
+there counts as changed.
 
 With `--moments --all` there is a line `torn at line N: ..` for each such run, and
 at the end `in all: R runs, H halted, T torn`, or what is said where none is torn.
@@ -294,7 +296,7 @@ Example:
   $ printf 'started\\nfetched 000 E201\\nhalted\\nwrote 402 90\\n' | dvg torn
   not torn: 1 runs, 1 drew a half, 1 halted, 1 writes
   $ printf 'started\\nlow 1FF 05\\nhalted\\n' | dvg torn --moments
-  whole: 1 runs, 1 halted";
+  whole: 1 runs, 1 halted, 1 judged";
 
 /// How `render` is called.
 pub(crate) const RENDER_USAGE: &str = "dvg render [--check] [--scale N] [--rate N] < SKETCH";

@@ -1,5 +1,5 @@
 -- What lines make of what is known of a log, by the rule of moments.
-use Rattle.std.proofs.Common.{◌≡◌, ◌≢◌, ◌≤◌, ◌<◌, ◌+◌, ◌%◌, ◌^◌, ◌-◌, ℕ, suc, List, [], ◌∷◌, length, Option, Some, None, Bool, true, false, ◌&&◌, ◌||◌, cond, inl, inr, refl, sym, ap, ◌∙◌, arith}
+use Rattle.std.proofs.Common.{◌≡◌, ◌≢◌, ◌≤◌, ◌<◌, ◌+◌, ◌%◌, ◌^◌, ◌-◌, ℕ, suc, List, [], ◌∷◌, length, Option, Some, None, Bool, true, false, ◌&&◌, cond, inl, inr, refl, sym, ap, ◌∙◌, arith}
 use Rattle.std.specs.Prelude.{IsTrue, ◌↔◌, option_map, is_some}
 use Rattle.std.proofs.lemmas.Option.{none-some}
 use Rattle.dvg_log.specs.Entries.{Shown}
@@ -17,7 +17,7 @@ use Rattle.dvg_moment.specs.Moment.{OfOneMoment, reads, told}
 use Rattle.dvg_moment.proofs.Latest.{past_on, still_of_one, torn_on}
 use Rattle.dvg_print.specs.declared.moment_verdict.Reading.{Reading}
 use Rattle.dvg_print.specs.declared.moment_verdict.Reading.TheVariants as of
-use Rattle.dvg_logs.specs.MomentLogs.{AreDecided, IsSound, TornSince, judged_log, halted_of, halts_run, has_judged, has_read, reading_entry}
+use Rattle.dvg_logs.specs.MomentLogs.{AreDecided, IsSound, TornSince, judged_log, halted_of, halts_run, is_past_zero, judged_of, reading_entry}
 use Rattle.dvg_logs.specs.MomentLines.{TearsSo}
 use Rattle.dvg_logs.specs.declared.moment_lines.Tear.{Tear}
 
@@ -92,11 +92,20 @@ halted_same line log none =
 pub halted_more : (line : Line) (log : Log) → halts_run line log ≡ true → halted_of (line ∷ log) ≡ 1 + halted_of log
 halted_more line log one = ap (λ b. cond b 1 0 + halted_of log) one
 
-pub judged_same : (line : Line) (log : Log) → halts_run line log ≡ false → has_judged (line ∷ log) ≡ has_judged log
-judged_same line log none = ap (λ b. (b && has_read log) || has_judged log) none
+-- no more runs are judged than came to their HALT
+pub judged_few : (log : Log) → judged_of log ≤ halted_of log
+judged_few [] = omega arith
+judged_few (line ∷ log) = by_case (halts_run line log) (is_past_zero log) (judged_few log)
+  where
+    by_case : (one past : Bool) → judged_of log ≤ halted_of log → cond (one && past) 1 0 + judged_of log ≤ cond one 1 0 + halted_of log
+    by_case true true few = omega (arith, few)
+    by_case true false few = omega (arith, few)
+    by_case false past few = omega (arith, few)
 
-pub judged_more : (line : Line) (log : Log) → halts_run line log ≡ true → has_judged (line ∷ log) ≡ (has_read log || has_judged log)
-judged_more line log one = ap (λ b. (b && has_read log) || has_judged log) one
+pub judged_same : (line : Line) (log : Log) → halts_run line log ≡ false → judged_of (line ∷ log) ≡ judged_of log
+judged_same line log none =
+    let same : judged_of (line ∷ log) ≡ 0 + judged_of log = ap (λ b. cond (b && is_past_zero log) 1 0 + judged_of log) none in
+    omega (arith, same)
 
 -- whether a run is open
 pub halts_is : (halts : Bool) (run : Option (List (ℕ × ℕ))) → IsTrue halts ↔ (run ≢ None) → halts ≡ is_some run
@@ -110,8 +119,15 @@ pub halted_on : (line : Line) (log : Log) (halts : Bool) (count : ℕ) → halts
 halted_on line log true count is so few = let more = halted_more line log (sym is) in omega (arith, so, more, halted_few log, few)
 halted_on line log false count is so few = so ∙ sym (halted_same line log (sym is))
 
-pub judged_on : (line : Line) (log : Log) (halts read before : Bool) → halts ≡ halts_run line log → read ≡ has_read log → before ≡ has_judged log → ((halts && read) || before) ≡ has_judged (line ∷ log)
-judged_on line log halts read before is has so = rw (is, has, so) refl
+-- and the count of those that are judged
+pub judged_on : (line : Line) (log : Log) (is_one : Bool) (count : ℕ) → is_one ≡ (halts_run line log && is_past_zero log) → count ≡ judged_of log → length log < 2 ^ 64 - 1
+    → cond is_one ((count + 1) % 2 ^ 64) count ≡ judged_of (line ∷ log)
+judged_on line log true count is so few =
+    let more : judged_of (line ∷ log) ≡ 1 + judged_of log = ap (λ b. cond b 1 0 + judged_of log) (sym is) in
+    omega (arith, so, more, judged_few log, halted_few log, few)
+judged_on line log false count is so few =
+    let same : judged_of (line ∷ log) ≡ 0 + judged_of log = ap (λ b. cond b 1 0 + judged_of log) (sym is) in
+    omega (arith, so, same)
 
 -- ---- what is said of lines that decide
 

@@ -1,5 +1,5 @@
 -- Of the text of a log one verdict by moments is given at most, and none where a line tells nothing.
-use Rattle.std.proofs.Common.{◌≡◌, ℕ, List, [], ◌∷◌, length, refl, sym, ap, ◌∙◌, subst, inl, inr, true, false, true≢false, Option, Some, None}
+use Rattle.std.proofs.Common.{◌≡◌, ℕ, List, [], ◌∷◌, length, refl, sym, ap, ◌∙◌, subst, inl, inr, true, false, true≢false, Option, Some, None, arith}
 use Rattle.dvg_log.specs.declared.entry.Entry.TheVariants.{Offered, Refused, Busy, Asked, NothingPublished, Acted, Started, NoStrobe, Low, Fetched, Done, Broke, Still, Cleared}
 use Rattle.dvg_log.specs.declared.event.Event.TheVariants.{Fetch}
 use Rattle.dvg_log.specs.Log.{◌⟼◌, Line, Log, Throughout}
@@ -48,7 +48,7 @@ halt_of n read (event ⟼ Cleared) log since = absurd since
 
 -- a line that decides isn't sound
 pub unsound : (verdict : MomentVerdict) (line : Line) (log : Log) → Decides verdict line log → ¬ Of IsSound log line
-unsound (say.Whole runs halted) line log decides sound = absurd decides
+unsound (say.Whole runs halted judged) line log decides sound = absurd decides
 unsound (say.NoRun runs halted) line log decides sound = absurd decides
 unsound (say.SomeTorn runs halted torn) line log decides sound = absurd decides
 unsound (say.Torn n read) line log decides sound =
@@ -92,12 +92,12 @@ no_halt n m read other line log decides is =
     true≢false (sym (halt_of n read line log decides).halts ∙ (ap halts is ∙ reading_halts other))
 
 pub decides_once : (one other : MomentVerdict) (line : Line) (log : Log) → Decides one line log → Decides other line log → other ≡ one
-decides_once (say.Whole runs halted) other line log a b = absurd a
+decides_once (say.Whole runs halted judged) other line log a b = absurd a
 decides_once (say.NoRun runs halted) other line log a b = absurd a
 decides_once (say.SomeTorn runs halted torn) other line log a b = absurd a
 decides_once (say.Torn n read) (say.SomeTorn runs halted torn) line log a b = absurd b
 decides_once (say.Contradicts n read) (say.SomeTorn runs halted torn) line log a b = absurd b
-decides_once (say.Torn n read) (say.Whole runs halted) line log a b = absurd b
+decides_once (say.Torn n read) (say.Whole runs halted judged) line log a b = absurd b
 decides_once (say.Torn n read) (say.NoRun runs halted) line log a b = absurd b
 decides_once (say.Torn n read) (say.Torn m other) line log a b =
     let since = (halt_of n read line log a).since in
@@ -105,7 +105,7 @@ decides_once (say.Torn n read) (say.Torn m other) line log a b =
     let (at, is) = since_once (judged_log log) m n (Fetch ⟼ reading_entry other) (Fetch ⟼ reading_entry read) also since in
     let same = read_once other read is in rw (at, same) refl
 decides_once (say.Torn n read) (say.Contradicts m other) line log a b = absurd (no_halt n m read other line log a b.0)
-decides_once (say.Contradicts n read) (say.Whole runs halted) line log a b = absurd b
+decides_once (say.Contradicts n read) (say.Whole runs halted judged) line log a b = absurd b
 decides_once (say.Contradicts n read) (say.NoRun runs halted) line log a b = absurd b
 decides_once (say.Contradicts n read) (say.Torn m other) line log a b = absurd (no_halt m n other read line log b a.0)
 decides_once (say.Contradicts n read) (say.Contradicts m other) line log a b =
@@ -124,15 +124,16 @@ found_once {base = base} texts n m one other a b =
 -- ---- what is said at the end
 
 pub ends_once : (one other : MomentVerdict) (log : Log) → Ends one log → Ends other log → other ≡ one
-ends_once (say.Whole r h) (say.Whole s k) log (a, b, c) (x, y, z) = let p : s ≡ r = x ∙ sym a in let q : k ≡ h = y ∙ sym b in rw (p, q) refl
+ends_once (say.Whole r h j) (say.Whole s k i) log (a, b, c, some) (x, y, z, also) =
+    let p : s ≡ r = x ∙ sym a in let q : k ≡ h = y ∙ sym b in let t : i ≡ j = z ∙ sym c in rw (p, q, t) refl
 ends_once (say.NoRun r h) (say.NoRun s k) log (a, b, c) (x, y, z) = let p : s ≡ r = x ∙ sym a in let q : k ≡ h = y ∙ sym b in rw (p, q) refl
-ends_once (say.Whole r h) (say.NoRun s k) log (a, b, c) (x, y, z) = absurd (true≢false (sym c ∙ z))
-ends_once (say.NoRun r h) (say.Whole s k) log (a, b, c) (x, y, z) = absurd (true≢false (sym z ∙ c))
-ends_once (say.Whole r h) (say.Torn n read) log a b = absurd b
-ends_once (say.Whole r h) (say.Contradicts n read) log a b = absurd b
+ends_once (say.Whole r h j) (say.NoRun s k) log (a, b, c, some) (x, y, none) = absurd (omega (arith, c, some, none))
+ends_once (say.NoRun r h) (say.Whole s k i) log (a, b, none) (x, y, z, some) = absurd (omega (arith, z, some, none))
+ends_once (say.Whole r h j) (say.Torn n read) log a b = absurd b
+ends_once (say.Whole r h j) (say.Contradicts n read) log a b = absurd b
 ends_once (say.NoRun r h) (say.Torn n read) log a b = absurd b
 ends_once (say.NoRun r h) (say.Contradicts n read) log a b = absurd b
-ends_once (say.Whole r h) (say.SomeTorn s k t) log a b = absurd b
+ends_once (say.Whole r h j) (say.SomeTorn s k t) log a b = absurd b
 ends_once (say.NoRun r h) (say.SomeTorn s k t) log a b = absurd b
 ends_once (say.SomeTorn s k t) other log a b = absurd a
 ends_once (say.Torn n read) other log a b = absurd a

@@ -87,9 +87,9 @@ tear_of TooLong old new tells on = absurd tells
 -- ---- the end of a log
 
 no_tear : (torn : ℕ) (said : MomentVerdict) (log : Log) → Ends said log → ¬ IsTear (of_all torn said)
-no_tear torn (say.Whole runs halted) log ends tear = by_case (eqb torn 0) tear
+no_tear torn (say.Whole runs halted judged) log ends tear = by_case (eqb torn 0) tear
   where
-    by_case : (none : Bool) → IsTear (cond none (say.Whole runs halted) (say.SomeTorn runs halted torn)) → ⊥
+    by_case : (none : Bool) → IsTear (cond none (say.Whole runs halted judged) (say.SomeTorn runs halted torn)) → ⊥
     by_case true tear = tear
     by_case false tear = tear
 no_tear torn (say.NoRun runs halted) log ends tear = by_case (eqb torn 0) tear

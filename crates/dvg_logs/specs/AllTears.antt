@@ -26,7 +26,8 @@ AreTears = AllByRecursion IsTear
 
 -- where so many runs are torn, this is said at the end in place of what is said where none is
 abbrev pub of_all : ℕ → MomentVerdict → MomentVerdict
-of_all torn (say.Whole runs halted) = if torn == 0 then say.Whole runs halted else say.SomeTorn runs halted torn
+of_all torn (say.Whole runs halted judged) =
+    if torn == 0 then say.Whole runs halted judged else say.SomeTorn runs halted torn
 of_all torn (say.NoRun runs halted) = if torn == 0 then say.NoRun runs halted else say.SomeTorn runs halted torn
 of_all torn verdict = verdict
 

@@ -6,7 +6,7 @@ use Rattle.dvg_log.specs.Log.{◌⟼◌, Log}
 use Rattle.dvg_moment.specs.Judging.{IsTorn, StandsAfter}
 use Rattle.dvg_logs.specs.LogCounts.{begins}
 use Rattle.dvg_logs.specs.MomentLogs as log
-use Rattle.dvg_logs.specs.MomentLogs.{TornSince, halted_of, judged_log, reading_entry}
+use Rattle.dvg_logs.specs.MomentLogs.{TornSince, halted_of, judged_log, judged_of, reading_entry}
 use Rattle.dvg_logs.specs.declared.moment_lines.MomentLines.{MomentLines}
 use Rattle.dvg_logs.specs.declared.moment_lines.Tear.{Tear}
 
@@ -20,6 +20,6 @@ pub record StandsSo (lines : MomentLines) (told : Log) : Type 0 where
   pub stands : StandsAfter lines.judge (judged_log told)
   pub runs : lines.runs ≡ count_by begins told
   pub halted : lines.halted ≡ halted_of told
-  pub some_judged : lines.some_judged ≡ log.has_judged told
-  pub has_read : lines.has_read ≡ log.has_read told
+  pub judged : lines.judged ≡ judged_of told
+  pub is_past_zero : lines.is_past_zero ≡ log.is_past_zero told
   pub tear : TearsSo lines.tear (judged_log told)

@@ -1,5 +1,5 @@
 -- Logs by the rule of moments: what is found in one, and what is said of it.
-use Rattle.std.specs.Prelude.{◌≡◌, ◌⊎◌, ◌+◌, ℕ, Bool, true, false, ◌&&◌, ◌||◌, List, [], ◌∷◌, length, is_some}
+use Rattle.std.specs.Prelude.{◌≡◌, ◌⊎◌, ◌+◌, ◌<◌, ℕ, Bool, false, ◌&&◌, ◌||◌, List, [], ◌∷◌, length, is_some, nat_lt}
 use Rattle.std.specs.Prelude.{if◌then◌else◌}
 use Rattle.std.specs.List.{count_by}
 use Rattle.dvg_log.specs.declared.entry.Entry.TheVariants.{Started, Low, Fetched, Done, Cleared}
@@ -58,13 +58,13 @@ AreDecided (one ∷ said) [] = ⊥
 AreDecided (one ∷ said) ((event ⟼ entry) ∷ log) = (IsSound log event entry × AreDecided (one ∷ said) log)
     ⊎ (Decides one (event ⟼ entry) log × AreDecided said log)
 
--- the newest run has fetched something
-abbrev pub has_read : Log → Bool
-has_read [] = false
-has_read ((event ⟼ Started) ∷ log) = false
-has_read ((event ⟼ Low address byte) ∷ log) = true
-has_read ((event ⟼ Fetched address word) ∷ log) = true
-has_read (line ∷ log) = has_read log
+-- the newest run has fetched past word zero
+abbrev pub is_past_zero : Log → Bool
+is_past_zero [] = false
+is_past_zero ((event ⟼ Started) ∷ log) = false
+is_past_zero ((event ⟼ Low address byte) ∷ log) = nat_lt 0 address || is_past_zero log
+is_past_zero ((event ⟼ Fetched address word) ∷ log) = nat_lt 0 address || is_past_zero log
+is_past_zero (line ∷ log) = is_past_zero log
 
 -- by this line an open run comes to its HALT
 abbrev pub halts_run : Line → Log → Bool
@@ -75,13 +75,14 @@ abbrev pub halted_of : Log → ℕ
 halted_of [] = 0
 halted_of (line ∷ log) = (if halts_run line log then 1 else 0) + halted_of log
 
--- one of these had fetched something
-abbrev pub has_judged : Log → Bool
-has_judged [] = false
-has_judged (line ∷ log) = (halts_run line log && has_read log) || has_judged log
+-- how many of these had fetched past word zero, so they are judged
+abbrev pub judged_of : Log → ℕ
+judged_of [] = 0
+judged_of (line ∷ log) = (if halts_run line log && is_past_zero log then 1 else 0) + judged_of log
 
 -- what is said where no line decides
 abbrev pub Ends : MomentVerdict → Log → Type 0
-Ends (say.Whole runs halted) log = (runs ≡ count_by begins log) × (halted ≡ halted_of log) × (has_judged log ≡ true)
-Ends (say.NoRun runs halted) log = (runs ≡ count_by begins log) × (halted ≡ halted_of log) × (has_judged log ≡ false)
+Ends (say.Whole runs halted judged) log = (runs ≡ count_by begins log) × (halted ≡ halted_of log)
+    × (judged ≡ judged_of log) × (0 < judged)
+Ends (say.NoRun runs halted) log = (runs ≡ count_by begins log) × (halted ≡ halted_of log) × (judged_of log ≡ 0)
 Ends verdict log = ⊥

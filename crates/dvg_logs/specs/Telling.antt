@@ -6,7 +6,7 @@ use Rattle.dvg_read.specs.declared.fault.TextFault.TheVariants as of_text
 use Rattle.dvg_print.specs.declared.moment_verdict.MomentVerdict.{MomentVerdict}
 use Rattle.dvg_print.specs.MomentVerdicts.{moment_verdict_text}
 use Rattle.dvg_io.specs.declared.fault.ToolFault.{ToolFault}
-use Rattle.dvg_io.specs.declared.fault.ToolFault.TheVariants.{Text, Reader, Writer, Memory}
+use Rattle.dvg_io.specs.declared.fault.ToolFault.TheVariants.{Text, Writer}
 use Rattle.dvg_io.specs.Watching.{BeginsToWrite, one_more}
 use Rattle.dvg_logs.specs.AllTears.{AreTears, IsTear, JudgesAll, texts_of}
 use Rattle.dvg_logs.specs.LogReading.{HasJudged, HasRead, StopsAt, number_of}

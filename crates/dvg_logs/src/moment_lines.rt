@@ -1,5 +1,6 @@
 //! The lines of a log by moments: each run is of one.
-ghost use Rattle.std.specs.Prelude.{◌≡◌, ◌+◌, ◌%◌, ◌^◌, ◌&&◌, ◌||◌, cond, IfSome, IsNone, IsTrue};
+ghost use Rattle.std.specs.Prelude.{◌≡◌, ◌+◌, ◌%◌, ◌^◌, ◌&&◌, ◌||◌, cond, nat_lt};
+ghost use Rattle.std.specs.Prelude.{IfSome, IsNone, IsTrue};
 ghost use Rattle.dvg_print.specs.declared.moment_verdict.MomentVerdict.TheVariants as say;
 
 use crate::line_judge::LineJudge;
@@ -22,10 +23,10 @@ pub struct MomentLines {
     runs: usize,
     // Those that came to their HALT.
     halted: usize,
-    // Whether one of these had fetched something.
-    some_judged: bool,
-    // Whether the newest run has fetched something.
-    has_read: bool,
+    // Those of them that had fetched past word zero.
+    judged: usize,
+    // Whether the newest run has fetched past word zero.
+    is_past_zero: bool,
     // Where the open run tore, if it did.
     tear: Option<Tear>,
 }
@@ -49,8 +50,8 @@ impl MomentLines {
             judge: MomentJudge::new(),
             runs: 0,
             halted: 0,
-            some_judged: false,
-            has_read: false,
+            judged: 0,
+            is_past_zero: false,
             tear: None,
         }
     }
@@ -62,7 +63,7 @@ impl MomentLines {
     {
         self.judge.started();
         self.runs = self.runs.wrapping_add(1);
-        self.has_read = false;
+        self.is_past_zero = false;
         self.tear = None;
     }
 
@@ -94,7 +95,7 @@ impl MomentLines {
             → StandsSo self.new (line_of (says.Low address byte) ∷ log) }
     {
         self.judge.low(address, byte);
-        self.has_read = true;
+        self.is_past_zero = reads_past_zero(address, self.is_past_zero);
         self.tear = self.tear_by(number, Reading::Low(address, byte));
     }
 
@@ -105,7 +106,7 @@ impl MomentLines {
             → StandsSo self.new (line_of (says.Fetched address word) ∷ log) }
     {
         self.judge.fetched(address, word);
-        self.has_read = true;
+        self.is_past_zero = reads_past_zero(address, self.is_past_zero);
         self.tear = self.tear_by(number, Reading::Fetched(address, word));
     }
 
@@ -115,8 +116,8 @@ impl MomentLines {
             → StandsSo self.new (line_of says.Halted ∷ log) }
     {
         let halts = self.judge.is_open();
-        self.halted = halted_with(self.halted, halts);
-        self.some_judged = has_judged(halts, self.has_read, self.some_judged);
+        self.halted = count_with(self.halted, halts);
+        self.judged = count_with(self.judged, is_judged(halts, self.is_past_zero));
         self.judge.ended();
         self.tear = None;
     }
@@ -131,24 +132,28 @@ impl MomentLines {
     }
 }
 
-// Returns `halted`, a count of the runs that came to their HALT, with one more where `halts`. It is
-// no greater than that of the lines, so it doesn't wrap.
-fn halted_with(halted: usize, halts: bool) -> usize
-    ensures { result ≡ cond halts ((halted + 1) % 2 ^ 64) halted }
+// Returns `count`, of runs that came to their HALT, with one more where `is_one`. It is no greater
+// than that of the lines, so it doesn't wrap.
+fn count_with(count: usize, is_one: bool) -> usize
+    ensures { result ≡ cond is_one ((count + 1) % 2 ^ 64) count }
 {
-    if halts {
-        halted.wrapping_add(1)
-    } else {
-        halted
-    }
+    if is_one { count.wrapping_add(1) } else { count }
 }
 
-// Returns whether a run came to its HALT that had fetched something: one did `before`, or one
-// `halts` that has.
-fn has_judged(halts: bool, has_read: bool, before: bool) -> bool
-    ensures { result ≡ ((halts && has_read) || before) }
+// Returns whether a run is judged by a line: it `halts` then, and `is_past_zero`.
+fn is_judged(halts: bool, is_past_zero: bool) -> bool
+    ensures { result ≡ (halts && is_past_zero) }
 {
-    (halts && has_read) || before
+    halts && is_past_zero
+}
+
+// Returns whether a run has fetched past word zero: it had `before`, or it now fetches at the word
+// address `address`, which isn't zero.
+#[inline(always)]
+fn reads_past_zero(address: u16, before: bool) -> bool
+    ensures { result ≡ (nat_lt 0 address || before) }
+{
+    address > 0 || before
 }
 
 // Returns what is said where the line number `number` reads `reading`, if it contradicts.
@@ -212,11 +217,14 @@ impl LineJudge for MomentLines {
     }
 
     fn at_end(&self) -> MomentVerdict {
-        let (runs, halted) = (self.runs, self.halted);
-        if self.some_judged {
-            MomentVerdict::Whole { runs, halted }
-        } else {
-            MomentVerdict::NoRun { runs, halted }
+        let (runs, halted, judged) = (self.runs, self.halted, self.judged);
+        if judged == 0 {
+            return MomentVerdict::NoRun { runs, halted };
+        }
+        MomentVerdict::Whole {
+            runs,
+            halted,
+            judged,
         }
     }
 }

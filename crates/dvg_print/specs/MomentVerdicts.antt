@@ -11,22 +11,19 @@ abbrev pub reading_parts : Reading → List (List ℕ)
 reading_parts (Low address byte) = codes "low" ∷ hex_3 address ∷ hex_2 byte ∷ []
 reading_parts (Fetched address word) = codes "fetched" ∷ hex_3 address ∷ hex_4 word ∷ []
 
--- how many runs began, and how many of them came to their HALT; 10 is LF
+-- how many runs began, and how many of them came to their HALT
 abbrev pub runs_halted_text : ℕ → ℕ → List ℕ
 runs_halted_text runs halted = spaced (decimal runs ∷ []) ++ codes " runs," ++ spaced (decimal halted ∷ [])
-    ++ codes " halted" ++ 10 ∷ []
+    ++ codes " halted"
 
--- the same, and how many of these are torn
-abbrev pub runs_torn_text : ℕ → ℕ → ℕ → List ℕ
-runs_torn_text runs halted torn = spaced (decimal runs ∷ []) ++ codes " runs," ++ spaced (decimal halted ∷ [])
-    ++ codes " halted," ++ spaced (decimal torn ∷ []) ++ codes " torn" ++ 10 ∷ []
-
--- the line of what is said of a log, or of a torn run in it
+-- the line of what is said of a log, or of a torn run in it; 10 is LF
 abbrev pub moment_verdict_text : MomentVerdict → List ℕ
-moment_verdict_text (Whole runs halted) = codes "whole:" ++ runs_halted_text runs halted
-moment_verdict_text (NoRun runs halted) = codes "no run to judge:" ++ runs_halted_text runs halted
+moment_verdict_text (Whole runs halted judged) = codes "whole:" ++ runs_halted_text runs halted
+    ++ codes "," ++ spaced (decimal judged ∷ []) ++ codes " judged" ++ 10 ∷ []
+moment_verdict_text (NoRun runs halted) = codes "no run to judge:" ++ runs_halted_text runs halted ++ 10 ∷ []
 moment_verdict_text (Torn line reading) = codes "torn at line" ++ spaced (decimal line ∷ []) ++ codes ":"
     ++ spaced (reading_parts reading) ++ 10 ∷ []
 moment_verdict_text (Contradicts line reading) = codes "line" ++ spaced (decimal line ∷ [])
     ++ codes " reads what was not written:" ++ spaced (reading_parts reading) ++ 10 ∷ []
-moment_verdict_text (SomeTorn runs halted torn) = codes "in all:" ++ runs_torn_text runs halted torn
+moment_verdict_text (SomeTorn runs halted torn) = codes "in all:" ++ runs_halted_text runs halted
+    ++ codes "," ++ spaced (decimal torn ∷ []) ++ codes " torn" ++ 10 ∷ []

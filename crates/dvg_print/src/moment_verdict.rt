@@ -1,7 +1,7 @@
 //! What `torn --moments` says of a log.
 ghost use Rattle.std.specs.Prelude.{◌≡◌, ◌≤◌, ◌+◌, ◌++◌, length};
 ghost use Rattle.dvg_print.specs.MomentVerdicts.{moment_verdict_text, reading_parts};
-ghost use Rattle.dvg_print.specs.MomentVerdicts.{runs_halted_text, runs_torn_text};
+ghost use Rattle.dvg_print.specs.MomentVerdicts.{runs_halted_text};
 ghost use Rattle.dvg_print.specs.Lines.{spaced};
 ghost use Rattle.dvg_print.specs.declared.line.TheConstants.{MOST_BYTES};
 
@@ -20,12 +20,14 @@ pub enum Reading {
 #[derive(Clone, Copy, Debug, PartialEq, Eq)]
 pub enum MomentVerdict {
     /// No run that came to its HALT is of no moment, and no line contradicts. So many runs began,
-    /// and so many of them came to their HALT.
+    /// so many of them came to their HALT, and so many of these were judged, one or more: they had
+    /// fetched past word zero.
     Whole {
         runs: usize,
         halted: usize,
+        judged: usize,
     },
-    /// The same, but no run came to its HALT that had fetched something.
+    /// The same, but none was judged.
     NoRun {
         runs: usize,
         halted: usize,
@@ -58,13 +60,21 @@ impl Line {
     {
         self.clear();
         match verdict {
-            MomentVerdict::Whole { runs, halted } => {
+            MomentVerdict::Whole {
+                runs,
+                halted,
+                judged,
+            } => {
                 self.text(b"whole:");
                 self.runs_halted(runs, halted);
+                self.text(b",");
+                self.number(judged);
+                self.text(b" judged\n");
             }
             MomentVerdict::NoRun { runs, halted } => {
                 self.text(b"no run to judge:");
                 self.runs_halted(runs, halted);
+                self.text(b"\n");
             }
             MomentVerdict::Torn { line, reading } => {
                 self.text(b"torn at line");
@@ -82,34 +92,24 @@ impl Line {
             }
             MomentVerdict::SomeTorn { runs, halted, torn } => {
                 self.text(b"in all:");
-                self.runs_torn(runs, halted, torn);
+                self.runs_halted(runs, halted);
+                self.text(b",");
+                self.number(torn);
+                self.text(b" torn\n");
             }
         }
     }
 
-    // Appends that so many runs began and so many came to their HALT, and the line's end.
+    // Appends that so many runs began and so many came to their HALT.
     fn runs_halted(&mut self, runs: usize, halted: usize)
         requires { length self.old + 64 ≤ MOST_BYTES }
-        ensures { self.new ≡ self.old ++ runs_halted_text runs halted }
+        ensures text { self.new ≡ self.old ++ runs_halted_text runs halted }
+        ensures grew { length self.new ≤ length self.old + 56 }
     {
         self.number(runs);
         self.text(b" runs,");
         self.number(halted);
-        self.text(b" halted\n");
-    }
-
-    // Appends that so many runs began, so many came to their HALT and so many of these are torn,
-    // and the line's end.
-    fn runs_torn(&mut self, runs: usize, halted: usize, torn: usize)
-        requires { length self.old + 128 ≤ MOST_BYTES }
-        ensures { self.new ≡ self.old ++ runs_torn_text runs halted torn }
-    {
-        self.number(runs);
-        self.text(b" runs,");
-        self.number(halted);
-        self.text(b" halted,");
-        self.number(torn);
-        self.text(b" torn\n");
+        self.text(b" halted");
     }
 
     // Appends what a fetch brought, `reading`, as a log says it.

@@ -54,7 +54,7 @@ of_log verdict = of_finding verdict.finding
 
 -- and of that by moments
 abbrev pub of_moments : {A : Type 0} → MomentVerdict → Done A
-of_moments (Whole runs halted) = Good
+of_moments (Whole runs halted judged) = Good
 of_moments _ = Bad
 
 -- of what is made of a sketch, or why a frame is refused

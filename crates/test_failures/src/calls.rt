@@ -77,7 +77,11 @@ fn verdicts_on_logs_are_returned(rt: HostRuntime) {
     let mut writer = Watched::new(Vec::new(rt.alloc()));
     let mut log = Watched::new(LOG.as_bytes());
     assert_eq!(rt; torn(&mut log, &mut writer, None), Ok(NOT_TORN));
-    let whole = MomentVerdict::Whole { runs: 1, halted: 1 };
+    let whole = MomentVerdict::Whole {
+        runs: 1,
+        halted: 1,
+        judged: 1,
+    };
     let mut log = Watched::new(LOG.as_bytes());
     assert_eq!(rt; torn_moments(&mut log, &mut writer, None), Ok(whole));
     let torn = MomentVerdict::SomeTorn {

@@ -19,10 +19,10 @@ pub struct MomentLines {
     runs: usize,
     // Those that came to their HALT.
     halted: usize,
-    // Whether one of these had fetched something.
-    some_judged: bool,
-    // Whether the newest run has fetched something.
-    has_read: bool,
+    // Those of them that had fetched past word zero.
+    judged: usize,
+    // Whether the newest run has fetched past word zero.
+    is_past_zero: bool,
     // Where the open run tore, if it did.
     tear: Option<Tear>,
 }
@@ -34,8 +34,8 @@ impl MomentLines {
             judge: MomentJudge::new(),
             runs: 0,
             halted: 0,
-            some_judged: false,
-            has_read: false,
+            judged: 0,
+            is_past_zero: false,
             tear: None,
         }
     }
@@ -44,7 +44,7 @@ impl MomentLines {
     fn start(&mut self) {
         self.judge.started();
         self.runs = self.runs.wrapping_add(1);
-        self.has_read = false;
+        self.is_past_zero = false;
         self.tear = None;
     }
 
@@ -68,7 +68,7 @@ impl MomentLines {
     #[inline(always)]
     fn low(&mut self, number: usize, address: u16, byte: u8) {
         self.judge.low(address, byte);
-        self.has_read = true;
+        self.is_past_zero = reads_past_zero(address, self.is_past_zero);
         self.tear = self.tear_by(number, Reading::Low(address, byte));
     }
 
@@ -76,15 +76,15 @@ impl MomentLines {
     #[inline(always)]
     fn fetched(&mut self, number: usize, address: u16, word: u16) {
         self.judge.fetched(address, word);
-        self.has_read = true;
+        self.is_past_zero = reads_past_zero(address, self.is_past_zero);
         self.tear = self.tear_by(number, Reading::Fetched(address, word));
     }
 
     // Takes a line that says that the run ended by a HALT.
     fn halt(&mut self) {
         let halts = self.judge.is_open();
-        self.halted = halted_with(self.halted, halts);
-        self.some_judged = has_judged(halts, self.has_read, self.some_judged);
+        self.halted = count_with(self.halted, halts);
+        self.judged = count_with(self.judged, is_judged(halts, self.is_past_zero));
         self.judge.ended();
         self.tear = None;
     }
@@ -96,20 +96,22 @@ impl MomentLines {
     }
 }
 
-// Returns `halted`, a count of the runs that came to their HALT, with one more where `halts`. It is
-// no greater than that of the lines, so it doesn't wrap.
-fn halted_with(halted: usize, halts: bool) -> usize {
-    if halts {
-        halted.wrapping_add(1)
-    } else {
-        halted
-    }
+// Returns `count`, of runs that came to their HALT, with one more where `is_one`. It is no greater
+// than that of the lines, so it doesn't wrap.
+fn count_with(count: usize, is_one: bool) -> usize {
+    if is_one { count.wrapping_add(1) } else { count }
 }
 
-// Returns whether a run came to its HALT that had fetched something: one did `before`, or one
-// `halts` that has.
-fn has_judged(halts: bool, has_read: bool, before: bool) -> bool {
-    (halts && has_read) || before
+// Returns whether a run is judged by a line: it `halts` then, and `is_past_zero`.
+fn is_judged(halts: bool, is_past_zero: bool) -> bool {
+    halts && is_past_zero
+}
+
+// Returns whether a run has fetched past word zero: it had `before`, or it now fetches at the word
+// address `address`, which isn't zero.
+#[inline(always)]
+fn reads_past_zero(address: u16, before: bool) -> bool {
+    address > 0 || before
 }
 
 // Returns what is said where the line number `number` reads `reading`, if it contradicts.
@@ -158,11 +160,14 @@ impl LineJudge for MomentLines {
     }
 
     fn at_end(&self) -> MomentVerdict {
-        let (runs, halted) = (self.runs, self.halted);
-        if self.some_judged {
-            MomentVerdict::Whole { runs, halted }
-        } else {
-            MomentVerdict::NoRun { runs, halted }
+        let (runs, halted, judged) = (self.runs, self.halted, self.judged);
+        if judged == 0 {
+            return MomentVerdict::NoRun { runs, halted };
+        }
+        MomentVerdict::Whole {
+            runs,
+            halted,
+            judged,
         }
     }
 }

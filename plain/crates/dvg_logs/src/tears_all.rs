@@ -20,7 +20,7 @@ fn of_all(torn: usize, said: MomentVerdict) -> MomentVerdict {
         return said;
     }
     match said {
-        MomentVerdict::Whole { runs, halted } | MomentVerdict::NoRun { runs, halted } => {
+        MomentVerdict::Whole { runs, halted, .. } | MomentVerdict::NoRun { runs, halted } => {
             MomentVerdict::SomeTorn { runs, halted, torn }
         }
         _ => said,

@@ -24,9 +24,9 @@ pub(crate) fn write_verdict<W: Write>(
 ///   its reading;
 /// - `line N reads what was not written: ..`, where a line reads another byte than the log told
 ///   last of it, of the RAM, of the ROM, or of the low byte that was told of this very word;
-/// - `whole: R runs, H halted`, where no line does either: R runs began, and H of them came to
-///   their HALT;
-/// - `no run to judge:` and the same, where none of these had fetched something.
+/// - `whole: R runs, H halted, J judged`, where no line does either: R runs began, H of them came
+///   to their HALT, and J of these, one or more, had fetched past word zero, so they are judged;
+/// - `no run to judge: R runs, H halted`, where none of these had.
 ///
 /// `halted` tells no word, so the log before it is judged. `reset` may be one of the whole system:
 /// after it nothing is known of memory. It takes no memory. Its faults are those of `torn`, and a

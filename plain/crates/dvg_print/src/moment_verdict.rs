@@ -14,12 +14,14 @@ pub enum Reading {
 #[derive(Clone, Copy, Debug, PartialEq, Eq, Hash)]
 pub enum MomentVerdict {
     /// No run that came to its HALT is of no moment, and no line contradicts. So many runs began,
-    /// and so many of them came to their HALT.
+    /// so many of them came to their HALT, and so many of these were judged, one or more: they had
+    /// fetched past word zero.
     Whole {
         runs: usize,
         halted: usize,
+        judged: usize,
     },
-    /// The same, but no run came to its HALT that had fetched something.
+    /// The same, but none was judged.
     NoRun {
         runs: usize,
         halted: usize,
@@ -50,13 +52,21 @@ impl Line {
     pub fn become_moment_verdict(&mut self, verdict: MomentVerdict) {
         self.clear();
         match verdict {
-            MomentVerdict::Whole { runs, halted } => {
+            MomentVerdict::Whole {
+                runs,
+                halted,
+                judged,
+            } => {
                 self.text(b"whole:");
                 self.runs_halted(runs, halted);
+                self.text(b",");
+                self.number(judged);
+                self.text(b" judged\n");
             }
             MomentVerdict::NoRun { runs, halted } => {
                 self.text(b"no run to judge:");
                 self.runs_halted(runs, halted);
+                self.text(b"\n");
             }
             MomentVerdict::Torn { line, reading } => {
                 self.text(b"torn at line");
@@ -74,28 +84,20 @@ impl Line {
             }
             MomentVerdict::SomeTorn { runs, halted, torn } => {
                 self.text(b"in all:");
-                self.runs_torn(runs, halted, torn);
+                self.runs_halted(runs, halted);
+                self.text(b",");
+                self.number(torn);
+                self.text(b" torn\n");
             }
         }
     }
 
-    // Appends that so many runs began and so many came to their HALT, and the line's end.
+    // Appends that so many runs began and so many came to their HALT.
     fn runs_halted(&mut self, runs: usize, halted: usize) {
         self.number(runs);
         self.text(b" runs,");
         self.number(halted);
-        self.text(b" halted\n");
-    }
-
-    // Appends that so many runs began, so many came to their HALT and so many of these are torn,
-    // and the line's end.
-    fn runs_torn(&mut self, runs: usize, halted: usize, torn: usize) {
-        self.number(runs);
-        self.text(b" runs,");
-        self.number(halted);
-        self.text(b" halted,");
-        self.number(torn);
-        self.text(b" torn\n");
+        self.text(b" halted");
     }
 
     // Appends what a fetch brought, `reading`, as a log says it.

@@ -1,9 +1,9 @@
-use Rattle.std.proofs.Common.{◌+◌, ◌∙◌, ap, refl, sym}
+use Rattle.std.proofs.Common.{◌+◌, ◌||◌, ◌∙◌, ap, nat_lt, refl, sym}
 use Rattle.dvg_log.specs.declared.entry.Entry.TheVariants.{Fetched}
 use Rattle.dvg_log.specs.declared.event.Event.TheVariants.{Fetch}
 use Rattle.dvg_log.specs.Log.{◌⟼◌}
 use Rattle.dvg_logs.specs.MomentLogs.{judged_log}
-use Rattle.dvg_logs.proofs.MomentLines.{halted_same, judged_length}
+use Rattle.dvg_logs.proofs.MomentLines.{halted_same, judged_length, judged_same}
 use Rattle.dvg_logs.proofs.moment_lines.MomentLines.fetched.Goals as goal
 
 pub returns : goal.returns
@@ -13,7 +13,7 @@ returns c = λ log so at.
       stands = stands;
       runs = so.runs;
       halted = so.halted ∙ sym (halted_same (Fetch ⟼ Fetched c.args.address c.args.word) log refl);
-      some_judged = so.some_judged;
-      has_read = refl;
+      judged = so.judged ∙ sym (judged_same (Fetch ⟼ Fetched c.args.address c.args.word) log refl);
+      is_past_zero = c.reads_past_zero-self.ensures ∙ ap (λ b. nat_lt 0 c.args.address || b) so.is_past_zero;
       tear = c.tear_by-self.ensures (judged_log log) stands (at ∙ ap (λ n. n + 1) (sym (judged_length log))) so.tear;
     }
