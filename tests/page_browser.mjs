@@ -587,8 +587,8 @@ async function testLessonsNow() {
 // Beside the torn picture of one half alone stands what the same events draw with two: the whole
 // triangle, as it was being drawn.
 async function testBeside() {
-  expect('two halves are told', 'The same events with two halves: whole',
-    await tab.text('beside-text'));
+  expect('two halves are told', /\nThe same events with two halves: whole\n/,
+    await tab.value('document.getElementById("tear").innerText'));
   const of = (id) => tab.value(`document.getElementById('${id}').toDataURL()`);
   const [beside, wanted, next] = await Promise.all(['beside', 'wanted', 'next'].map(of));
   expect('with two halves the frame is whole', true, beside === wanted && beside !== next);
@@ -600,6 +600,7 @@ async function testBeside() {
 async function testOneHalf() {
   await openPage();
   await tab.choose('half-count', '1');
+  expect('one half: the board begins anew', /^event 0 /, await tab.text('counts'));
   await runSeed(1, 'ignored');
   expect('one half tears, with the wire whole', VERDICTS.torn, await verdicts());
   expect('so says its button', 'Cut the HALT wire', await wordsOf('#wire'));
@@ -1191,6 +1192,9 @@ async function testMotion() {
   expect('the last step alone was shown', '3 of 3: Torn',
     await tab.value('window.texts["tour-title"].join()'));
   expect('nothing ran', true, await tab.value('!window.texts.run.includes("Stop")'));
+  await keepChanges('verdicts', 'tour', 'moment-text');
+  await tab.click('back');
+  expect('the tour isn\'t read aloud again', 'moment-text', await changesKept());
   await openPage();
   await tab.click('anew');
   await set('count', 3000);
@@ -1303,6 +1307,20 @@ function readOf(id) {
   })()`);
 }
 
+// Keeps which of these parts change, and tells it: what is live is read aloud then.
+function keepChanges(...ids) {
+  return tab.value(`{
+    window.changes = new Set();
+    const all = { childList: true, subtree: true, characterData: true };
+    for (const id of ${JSON.stringify(ids)}) {
+      new MutationObserver(() => changes.add(id)).observe(document.getElementById(id), all);
+    }
+  }`);
+}
+function changesKept() {
+  return tab.value('[...changes].join()');
+}
+
 // Verdicts, tour and moment are read aloud, in words, and again only where they change.
 async function testLive() {
   await tab.open(address);
@@ -1314,16 +1332,9 @@ async function testLive() {
   expect('while it runs the tour is read aloud', 'off,off,polite,polite,off,status', await lives());
   await tab.click('tour-end');
   expect('and then what is shown', 'polite,polite,polite,polite,polite,status', await lives());
-  await tab.value(`{
-    window.changes = [];
-    const all = { childList: true, subtree: true, characterData: true };
-    for (const id of ['verdicts', 'moment-text']) {
-      new MutationObserver(() => changes.push(id)).observe(document.getElementById(id), all);
-    }
-  }`);
+  await keepChanges('verdicts', 'moment-text');
   await tab.click('back');
-  expect('a step back changes the moment alone', 'moment-text',
-    await tab.value('[...new Set(changes)].join()'));
+  expect('a step back changes the moment alone', 'moment-text', await changesKept());
   for (const step of ['back', 'picture-back', 'now', 'back', 'back']) {
     await tab.click(step);
     const read = await readOf('moment-text');

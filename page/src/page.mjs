@@ -394,7 +394,7 @@ function showTour() {
   const { title, text } = TOUR_STEPS[tour.step], number = tour.step + 1;
   setText(byId('tour-title'), `${number} of ${TOUR_STEPS.length}: ${title}`);
   setText(byId('tour-text'), text.replace(/\s+/g, ' '));
-  byId('tour-end').textContent = tour.running ? 'Skip the tour' : 'Close';
+  setText(byId('tour-end'), tour.running ? 'Skip the tour' : 'Close');
   byId('tour-again').hidden = tour.running;
 }
 

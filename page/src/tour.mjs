@@ -8,8 +8,8 @@ export const TOUR_STEPS = [
   {
     title: 'Whole', cut: false, least: 6000,
     text: `The beam draws lines out of one half of a memory; dim is the picture before. Meanwhile a
-      program, the driver, writes the next list into the other half. In the rows below, blue is one
-      half and orange the other: at any time both differ.`,
+      program, the driver, writes the next list into the other half. In both rows, blue is one half
+      and orange the other: at any time they differ.`,
   },
   {
     title: 'Cut', cut: true, least: 5000,
