@@ -109,8 +109,9 @@ const char *dvg_version(void);
 /* --- Requests and answers --- */
 
 /* The lowest byte of a request says which it is. What it brings stands above: a flag in bit 8, a
- * byte in bits 16 to 23, a count in bits 24 to 39, the number of a stroke, a return address or a
- * part of a state from bit 8 on; and the fields of DVG_REQUEST_PUSH, as dvg_push has them. */
+ * byte in bits 16 to 23, a count in bits 24 to 39, a byte address, or the number of a stroke, a
+ * return address or a part of a state, from bit 8 on; and the fields of DVG_REQUEST_PUSH, as
+ * dvg_push has them. */
 enum dvg_request {
     DVG_REQUEST_OFFER = 0,
     DVG_REQUEST_REDRAW = 1,
@@ -143,6 +144,7 @@ enum dvg_request {
     DVG_REQUEST_STATE = 28,
     DVG_REQUEST_RESUME = 29,
     DVG_REQUEST_OPEN_WRAPPING = 30,
+    DVG_REQUEST_BYTE = 31,
     DVG_REQUEST_TELL_STATE = 35
 };
 
@@ -198,13 +200,14 @@ typedef enum dvg_kind {
     DVG_MOVES = 31,            /* = the byte makes a move, by the instruction whose first word is
                                     at this word address; value: its intensity, and 0x100 more
                                     where a LABS places the beam: dvg_generator_move */
-    DVG_NOTHING = 32,          /* = there is no move, or no such return address */
+    DVG_NOTHING = 32,          /* = there is no move, or no such return address or byte */
     DVG_HOLDS = 33,            /* = what a generator holds: dvg_held_by */
     DVG_RETURNS_TO = 34,       /* = a return address, which is this word address */
     DVG_STATE = 35,            /* = a part of a generator's state: the whole number, asked of
                                     another device, tells it that part: dvg_save */
     DVG_NO_STATE = 36,         /* = no generator can be in the state that was told, or there is no
                                     such part, or it doesn't suit the parts before it */
+    DVG_BYTE = 37,             /* = the RAM holds the byte `value` at this byte address */
     DVG_UNKNOWN = 254,         /* = there is no such request, whatever is open, or none of
                                     what is open */
     DVG_NO_MEMORY = 255        /* = there was no memory for it */
@@ -371,6 +374,7 @@ static inline const char *dvg_kind_text(dvg_kind kind)
     case DVG_RETURNS_TO: return "returns to";
     case DVG_STATE: return "state";
     case DVG_NO_STATE: return "no state";
+    case DVG_BYTE: return "byte";
     case DVG_UNKNOWN: return "unknown";
     case DVG_NO_MEMORY: return "no memory";
     }
@@ -705,10 +709,11 @@ static inline dvg_answer dvg_generator_hole(dvg *device)
     return dvg_ask(device, DVG_REQUEST_FETCH | 0x100);
 }
 
-/* Of a generator: which move it would make if it were handed this byte, which isn't handed to it.
- * So ask before dvg_generator_fetch. Writes the move to *move and answers DVG_MOVES, as soon as the
- * byte ends its instruction. DVG_NOTHING: the byte makes no move, as a low byte, a first word, and
- * a HALT, JSRL, RTSL or JMPL don't, or the generator is halted; *move is as it was. */
+/* Of a generator, alone or in a world: which move it would make if it were handed this byte, which
+ * isn't handed to it. So ask before dvg_generator_fetch. Writes the move to *move and answers
+ * DVG_MOVES, as soon as the byte ends its instruction. DVG_NOTHING: the byte makes no move, as a
+ * low byte, a first word, and a HALT, JSRL, RTSL or JMPL don't, or the generator is halted; *move
+ * is as it was. */
 static inline dvg_answer dvg_generator_move(dvg *device, uint8_t byte, dvg_move *move)
 {
     dvg_answer answer = dvg_ask(device, DVG_REQUEST_MOVE | (uint64_t)byte << 16);
@@ -738,7 +743,8 @@ static inline int dvg_units(uint32_t from, uint32_t to)
     return ahead < 0x100000 ? (int)((ahead + 256) / 512) : -(int)((0x200000 - ahead + 256) / 512);
 }
 
-/* Of a generator: writes what it holds to *held, and answers DVG_HOLDS. */
+/* Of a generator, alone or in a world: writes what it holds to *held, its beam among that, and
+ * answers DVG_HOLDS. */
 static inline dvg_answer dvg_held_by(dvg *device, dvg_held *held)
 {
     dvg_answer answer = dvg_ask(device, DVG_REQUEST_HOLDS);
@@ -757,11 +763,30 @@ static inline dvg_answer dvg_held_by(dvg *device, dvg_held *held)
     return answer;
 }
 
-/* Of a generator: its return address of this number; 0 is the newest one's, to which RTSL leads.
- * DVG_RETURNS_TO; DVG_NOTHING. */
+/* Of a generator, alone or in a world: its return address of this number; 0 is the newest one's, to
+ * which RTSL leads. DVG_RETURNS_TO; DVG_NOTHING. */
 static inline dvg_answer dvg_return_to(dvg *device, uint8_t number)
 {
     return dvg_ask(device, DVG_REQUEST_RETURN_TO | (uint64_t)number << 8);
+}
+
+/* Of a world: the byte that its RAM holds at this byte address. DVG_BYTE; DVG_NOTHING, where the
+ * address is above 2,047. */
+static inline dvg_answer dvg_ram_byte(dvg *device, uint16_t address)
+{
+    return dvg_ask(device, DVG_REQUEST_BYTE | (uint64_t)address << 8);
+}
+
+/* Of a world: writes the 2,048 bytes of its RAM to `ram`, and answers DVG_BYTE. Where no world is
+ * open, `ram` is as it was. */
+static inline dvg_answer dvg_ram(dvg *device, uint8_t *ram)
+{
+    dvg_answer answer = dvg_ram_byte(device, 0);
+    for (uint16_t at = 0; answer.kind == DVG_BYTE && at < DVG_RAM_BYTES; at++) {
+        answer = dvg_ram_byte(device, at);
+        ram[at] = (uint8_t)answer.value;
+    }
+    return answer;
 }
 
 /* Of a world or a generator: a reset of the generator alone, which ends its run. DVG_CLEARED. */

@@ -84,6 +84,20 @@ public:
         }
         expect_opened(dvg_open_world(*this, ram.data(), rom.data(), rom.size()));
     }
+
+    /* The 2,048 bytes of its RAM: dvg_ram. */
+    Bytes ram() const {
+        Bytes found(DVG_RAM_BYTES);
+        dvg_ram(*this, found.data());
+        return found;
+    }
+
+    /* What its generator holds, the beam among that. */
+    dvg_held held() const {
+        dvg_held found = {};
+        dvg_held_by(*this, &found);
+        return found;
+    }
 };
 
 /* A driver alone, whose drafts are checked over a ROM, with what World throws. */

@@ -137,6 +137,7 @@ class Kind(enum.IntEnum):
     RETURNS_TO = 34
     STATE = 35
     NO_STATE = 36
+    BYTE = 37
     UNKNOWN = 254
     NO_MEMORY = 255
 
@@ -507,6 +508,7 @@ class _Request(enum.IntEnum):
     STATE = 28
     RESUME = 29
     OPEN_WRAPPING = 30
+    BYTE = 31
     TELL_STATE = 35
 
 
@@ -833,6 +835,10 @@ class _Device:
         """Hands a draft to the driver."""
         return self._ask_all(array("Q", draft.requests()))
 
+    def _beam(self) -> Beam:
+        place = self._turn(_Request.BEAM)
+        return Beam(place & 0xFFFFFFFF, place >> 32, self._turn(_Request.HOLDS) >> 24 & 0xF)
+
     @property
     @_alone
     def strokes(self) -> "list[Stroke]":
@@ -1118,8 +1124,7 @@ class Generator(_Device):
     @_alone
     def beam(self) -> Beam:
         """Where its beam is, and the global scale."""
-        place = self._turn(_Request.BEAM)
-        return Beam(place & 0xFFFFFFFF, place >> 32, self._turn(_Request.HOLDS) >> 24 & 0xF)
+        return self._beam()
 
     @property
     @_alone
@@ -1272,6 +1277,21 @@ class World(_Device):
     def events(self) -> int:
         """How many events there were."""
         return self._events
+
+    @property
+    @_alone
+    def ram(self) -> bytes:
+        """The 2,048 bytes of its RAM, as they are now."""
+        self._own_device()
+        asked = array("Q", (int(_Request.BYTE) | at << 8 for at in range(RAM_BYTES)))
+        self._turns(asked)
+        return bytes(number >> 24 for number in asked)
+
+    @property
+    @_alone
+    def beam(self) -> Beam:
+        """Where its generator's beam is, and the global scale."""
+        return self._beam()
 
     def __repr__(self) -> str:
         return f"<World, {self.events} events{'' if self._handle.device else ', closed'}>"

@@ -179,6 +179,8 @@ static void test_strokes(size_t bound)
 
 static void test_world_without_memory(dvg *device)
 {
+    static uint8_t seen[DVG_RAM_BYTES];
+    dvg_held held;
     dvg_open_world(device, NULL, rom, sizeof rom);
     TAKES_NONE(dvg_tick(device), DVG_PEEK);
     TAKES_NONE(dvg_tick(device), DVG_READ);
@@ -191,6 +193,8 @@ static void test_world_without_memory(dvg *device)
     TAKES_NONE(dvg_strobe(device), DVG_STARTED);
     TAKES_NONE(dvg_fetch(device), DVG_LOW);
     TAKES_NONE(dvg_fetch(device), DVG_FETCHED);
+    TAKES_NONE(dvg_held_by(device, &held), DVG_HOLDS);
+    TAKES_NONE(dvg_ram(device, seen), DVG_BYTE);
     TAKES_NONE(dvg_reset_generator(device), DVG_CLEARED);
     TAKES_NONE(dvg_reset_processor(device), DVG_CLEARED);
     dvg_stage_ram(device, ram);
@@ -258,10 +262,11 @@ static void test_driver_without_memory(dvg *device)
 static void test_unknown(dvg *device)
 {
     expect(dvg_tick(device).kind == DVG_CLOSED, "nothing is open");
-    expect(dvg_ask(device, 31).kind == DVG_UNKNOWN, "no request, while nothing is open");
+    expect(dvg_ask(device, 34).kind == DVG_UNKNOWN, "no request, while nothing is open");
     expect(dvg_ask(device, 0x12FF).kind == DVG_UNKNOWN, "another one");
     dvg_open_generator(device);
-    expect(dvg_ask(device, 31).kind == DVG_UNKNOWN, "no request, while a generator is open");
+    expect(dvg_ask(device, 34).kind == DVG_UNKNOWN, "no request, while a generator is open");
+    expect(dvg_ram_byte(device, 0).kind == DVG_UNKNOWN, "a byte of no RAM");
     expect(dvg_offer(device).kind == DVG_UNKNOWN, "an offer to a generator");
 }
 

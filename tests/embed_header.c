@@ -80,6 +80,8 @@ static void test_events(dvg *none)
     ASKS(30, dvg_open_wrapping(none));
     ASKS(15, dvg_shut(none));
     ASKS(16, dvg_wants(none));
+    ASKS(0x7FF1F, dvg_ram_byte(none, 0x7FF));
+    ASKS(0xFFFF1F, dvg_ram_byte(none, 0xFFFF));
 }
 
 static void test_judge(dvg *none)
@@ -280,6 +282,7 @@ static void test_kind_texts(void)
     TEXT(dvg_kind_text, DVG_RETURNS_TO, "returns to");
     TEXT(dvg_kind_text, DVG_STATE, "state");
     TEXT(dvg_kind_text, DVG_NO_STATE, "no state");
+    TEXT(dvg_kind_text, DVG_BYTE, "byte");
     TEXT(dvg_kind_text, DVG_UNKNOWN, "unknown");
     TEXT(dvg_kind_text, DVG_NO_MEMORY, "no memory");
 }
@@ -304,7 +307,7 @@ static void test_other_texts(void)
     bool all = true;
     for (uint64_t number = 0; number < 256; number++) {
         const char *text = dvg_kind_text(dvg_answer_of(number).kind);
-        bool named = number <= DVG_NO_STATE || number >= DVG_UNKNOWN;
+        bool named = number <= DVG_BYTE || number >= DVG_UNKNOWN;
         all = all && text != NULL && (strcmp(text, "no kind") == 0) != named;
     }
     expect(all, "each kind has a text, and a number that is none has 'no kind'");

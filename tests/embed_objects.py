@@ -127,7 +127,8 @@ CALLS = {
     World: {
         "run": ([Event.TICK],), "offer": (FRAME,), "redraw": (), "tick": (), "strobe": (),
         "fetch": (), "reset_generator": (), "reset_processor": (), "reset_all": (),
-        "draw": (FRAME,), "strokes": None, "stroke_table": None, "_repr_svg_": (),
+        "draw": (FRAME,), "ram": None, "beam": None, "strokes": None, "stroke_table": None,
+        "_repr_svg_": (),
         "__enter__": (),
     },
     Driver: {

@@ -697,6 +697,10 @@ class Apart:
     def strokes(self):
         return self.generator.strokes
 
+    @property
+    def beam(self):
+        return self.generator.beam
+
     def offer(self, draft):
         return self.driver.offer(draft)
 
@@ -775,12 +779,16 @@ def test_schedules(count):
         wanted, error, status = dvg("play", "--all", text=trace)
         expect_same(("", 0), (error, status), "the program plays a schedule")
         pictures += wanted.count(" done ")
+        seen = {World: [], Apart: []}
         for made in (World, Apart):
             world = made(rom)
             lines = []
             for at, (_, name, arguments) in enumerate(events):
                 entry, *strokes = shown(world, lambda: getattr(world, name)(*arguments))
                 lines += [f"{at} {entry}\n", *(f"{stroke}\n" for stroke in strokes)]
+                seen[made].append(world.beam)
+                if at % 50 == 0:
+                    seen[made].append(bytes(world.ram))
             found = "".join(lines)
             if wanted != found:
                 pairs = zip(wanted.splitlines(), found.splitlines())
@@ -793,6 +801,7 @@ def test_schedules(count):
             if made is World:
                 expect_same(len(events), world.events, "each event is counted")
             world.close()
+        expect(seen[World] == seen[Apart], f"RAM and beam in schedule {SEED + number}")
     expect(pictures >= count / 2, f"{count} schedules drew only {pictures} pictures")
 
 

@@ -275,6 +275,15 @@ static void tick_often(dvg *pair, int count)
     }
 }
 
+/* Asks for bytes of the RAM, at addresses that it has and others. */
+static void ask_bytes(dvg *pair)
+{
+    for (int count = below(20); count > 0; count--) {
+        dvg_ram_byte(pair, (uint16_t)about(0, 2047));
+    }
+    pair_turn(pair, (uint64_t)random_word() << 32 | (random_word() << 8) | DVG_REQUEST_BYTE);
+}
+
 /* Asks for the strokes, the one after the last, and some that aren't there. */
 static void ask_strokes(dvg *pair)
 {
@@ -411,6 +420,7 @@ static void blow(dvg *pair)
     case 8: dvg_redraw(pair); break;
     case 9:
     case 10: ask_strokes(pair); break;
+    case 16: ask_bytes(pair); break;
     case 11:
     case 12: pair_turn(pair, (uint64_t)random_word() << 32 | random_word()); break;
     case 13:
@@ -457,7 +467,7 @@ static bool storm(uint64_t seed)
 static bool all_kinds_came(void)
 {
     bool all = true;
-    for (int kind = DVG_OFFERED; kind <= DVG_NO_STATE; kind++) {
+    for (int kind = DVG_OFFERED; kind <= DVG_BYTE; kind++) {
         if (kinds[kind] == 0) {
             printf("FAILED: no request was answered %d\n", kind);
             all = false;

@@ -63,7 +63,7 @@ void rattle_dealloc(void *old) {
 
 // What came of the calls.
 struct Counts {
-    unsigned long calls, no_memory, no_argument, moved_away;
+    unsigned long calls, no_memory, no_argument, moved_away, right_rams, wrong_rams;
 };
 
 class Storm {
@@ -213,6 +213,18 @@ private:
         }
     }
 
+    // A reset of the whole system, after which a world shows the RAM of that.
+    void reset_all(World &world) {
+        Bytes image = ram();
+        for (auto &byte : image) {
+            byte = static_cast<std::uint8_t>(chance_() >> 5);
+        }
+        if (dvg_reset_all(world, image.data()).kind == DVG_CLEARED) {
+            world.ram() == image ? counts_.right_rams++ : counts_.wrong_rams++;
+        }
+        world.held();
+    }
+
     void tell(Device &d) {
         const std::uint16_t address = static_cast<std::uint16_t>(chance_());
         const std::uint16_t word = static_cast<std::uint16_t>(chance_());
@@ -279,7 +291,8 @@ private:
         switch (below(12)) {
         case 0: case 1: return make_one();
         case 2: case 3: return with_any([this](Device &d) { push(d); });
-        case 4: case 5: return with_any([this](Device &d) { event(d); });
+        case 4: return with_any([this](Device &d) { event(d); });
+        case 5: return worlds_.empty() ? make_one() : reset_all(pick(worlds_));
         case 6: return with_any([this](Device &d) { tell(d); });
         case 7: return with_any([this](Device &d) { ask(d); });
         case 8: return with_any([this](Device &d) { run_memory(d); });
@@ -330,6 +343,11 @@ int main(int count, char **words) {
             failed++;
         }
         blocks = 0;
+    }
+    if (counts.wrong_rams > 0 || counts.right_rams == 0) {
+        std::printf("FAILED: %lu worlds show another RAM, and %lu theirs\n", counts.wrong_rams,
+                    counts.right_rams);
+        failed++;
     }
     if (counts.moved_away == 0 || counts.no_argument == 0 || refused_memory == 0) {
         std::puts("FAILED: some refusal never came");

@@ -5,8 +5,8 @@ use std::process::ExitCode;
 use gerbilargent::alloc::{Box, Vec};
 use gerbilargent::{
     Action, Area, Beam, Code, CodeFault, Counters, Draft, DraftFull, DriverFault, Entry, Event,
-    FrameFault, GenFault, Global, Half, Image, Instr, Listed, MemFault, Move, Op, OpKind,
-    OutOfMemory, Place, Rom, Stroke,
+    FrameFault, GenFault, GeneratorState, Global, Half, Image, Instr, Listed, MemFault, Move, Op,
+    OpKind, OutOfMemory, Place, Rom, Stroke,
 };
 use serde::Serialize;
 use serde::de::DeserializeOwned;
@@ -184,6 +184,32 @@ fn test_refused(counts: &mut Counts) {
     counts.expect_refused::<Stroke>(r#"{"x0":1,"y0":2,"x1":3,"y1":4}"#, "missing field `z`");
 }
 
+/// A state of a generator, with the last value of each field, and one with one field too large.
+fn test_states(counts: &mut Counts) {
+    let state = |is_open: bool, at: u16, held: u16, returns: &str, x: u32, scale: u8| {
+        format!(r#"{{"is_open":{is_open},"at":{at},"held":{held},"low":255,"#)
+            + &format!(r#""return_addresses":{returns},"x":{x},"y":2097151,"scale":{scale}}}"#)
+    };
+    let four = "[0,1,2,4095]";
+    counts.expect_form_of::<GeneratorState>(&state(true, 4095, 45055, four, 2_097_151, 15));
+    counts.expect_form_of::<GeneratorState>(concat!(
+        r#"{"is_open":false,"at":0,"held":null,"low":null,"#,
+        r#""return_addresses":[],"x":0,"y":0,"scale":0}"#
+    ));
+    for over in [
+        state(false, 0, 0, four, 0, 0),
+        state(true, 4096, 0, four, 0, 0),
+        state(true, 0, 45056, four, 0, 0),
+        state(true, 0, 0, "[4096]", 0, 0),
+        state(true, 0, 0, four, 2_097_152, 0),
+        state(true, 0, 0, four, 0, 16),
+    ] {
+        counts.expect_refused::<GeneratorState>(&over, "no generator can be in this state");
+    }
+    let five = state(true, 0, 0, "[0,0,0,0,0]", 0, 0);
+    counts.expect_refused::<GeneratorState>(&five, "there are at most four return addresses");
+}
+
 /// Of each field that has a range, the last value is read, and one too large is refused; the first
 /// value, and one too small, where that isn't 0.
 fn test_ranges(counts: &mut Counts) {
@@ -224,6 +250,7 @@ fn test_ranges(counts: &mut Counts) {
     counts.expect_form_of::<Counters>(&counters(4095, 4095));
     counts.expect_refused::<Counters>(&counters(4096, 0), "in whole units is below 4,096");
     counts.expect_refused::<Counters>(&counters(0, 4096), "in whole units is below 4,096");
+    test_states(counts);
     let of_ram = "a byte address of the RAM is below 2,048";
     counts.expect_form_of::<Action>(r#"{"Wrote":[2047,255]}"#);
     counts.expect_refused::<Action>(r#"{"Wrote":[2048,0]}"#, of_ram);

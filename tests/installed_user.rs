@@ -48,10 +48,15 @@ fn draw() -> Result<std::vec::Vec<Stroke>, Box<dyn Error>> {
     while world.tick() != Entry::Acted(Action::Idle) {}
     world.offer(&one_vector().ok_or("a field is out of its range")?);
     while world.tick() != Entry::Acted(Action::Sent) {}
+    let frame = [0x90, 0xA1, 0x00, 0x02, 0x64, 0x90, 0x64, 0x74, 0x00, 0xB0];
+    assert_eq!(world.ram()[0x402..0x40C], frame);
+    assert_eq!((world.byte(0x001), world.byte(0x403)), (0xE2, 0xA1));
     world.strobe();
     let mut copy = world.clone();
     assert!(format!("{copy:?}").starts_with("World {"));
     assert_eq!(drawn_by(&mut copy)?, drawn_by(&mut world)?);
+    assert_eq!((world.beam().x, world.beam().y), (412 * 512, 500 * 512));
+    assert_eq!(world.generator().return_addresses().len(), 0);
     assert_eq!((world.tick(), world.tick()), (copy.tick(), copy.tick()));
     world.strobe();
     drawn_by(&mut world)

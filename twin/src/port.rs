@@ -15,7 +15,7 @@ use crate::world::{Entry, World};
 const MOST_STAGED: usize = 6144;
 
 /// The numbers of requests: the greatest one but the last, and that one, by which a state is told.
-const LAST_REQUEST: u8 = 30;
+const LAST_REQUEST: u8 = 31;
 const TELL_STATE: u8 = 35;
 
 /// A driver alone, with the ROM over which its drafts are checked.
@@ -271,39 +271,56 @@ fn handed(request: u64) -> Option<u8> {
     (!flag_of(request)).then_some(byte_of(request))
 }
 
-impl Lone {
-    fn holds(&self) -> u64 {
-        let first = self.generator.first_word();
-        let bits = u16::from(self.generator.beam().scale)
-            | u16::from(self.generator.wants_high()) << 4
-            | u16::from(first.is_some()) << 5
-            | (self.generator.return_addresses().len() as u16) << 8;
-        packed(33, first.unwrap_or(0), bits)
-    }
+/// What a generator holds, but for its beam's place.
+fn holds(generator: &Generator) -> u64 {
+    let first = generator.first_word();
+    let bits = u16::from(generator.beam().scale)
+        | u16::from(generator.wants_high()) << 4
+        | u16::from(first.is_some()) << 5
+        | (generator.return_addresses().len() as u16) << 8;
+    packed(33, first.unwrap_or(0), bits)
+}
 
+/// The move that a byte would make.
+fn tell_move(generator: &Generator, request: u64) -> u64 {
+    match generator.move_by(handed(request)) {
+        Some(Move {
+            z, placed, address, ..
+        }) => packed(31, address, u16::from(z) | u16::from(placed) << 8),
+        None => NOTHING,
+    }
+}
+
+fn return_to(generator: &Generator, request: u64) -> u64 {
+    let addresses = generator.return_addresses();
+    match addresses.iter().rev().nth((request >> 8) as usize) {
+        Some(address) => packed(34, *address, 0),
+        None => NOTHING,
+    }
+}
+
+/// The answer of a generator, alone or in a world, to a question.
+fn tell_of(generator: &Generator, request: u64) -> u64 {
+    match request as u8 {
+        23 => tell_move(generator, request),
+        24 => point(match generator.move_by(handed(request)) {
+            Some(Move { to, .. }) => to,
+            None => generator.beam(),
+        }),
+        25 => point(generator.beam()),
+        26 => holds(generator),
+        27 => return_to(generator, request),
+        _ => UNKNOWN,
+    }
+}
+
+impl Lone {
     fn part(&self, request: u64) -> u64 {
         let parts = parts_of(&self.generator.state());
         parts
             .get((request >> 8) as usize)
             .copied()
             .unwrap_or(NOTHING)
-    }
-
-    fn tell_move(&self, request: u64) -> u64 {
-        match self.generator.move_by(handed(request)) {
-            Some(Move {
-                z, placed, address, ..
-            }) => packed(31, address, u16::from(z) | u16::from(placed) << 8),
-            None => NOTHING,
-        }
-    }
-
-    fn return_to(&self, request: u64) -> u64 {
-        let addresses = self.generator.return_addresses();
-        match addresses.iter().rev().nth((request >> 8) as usize) {
-            Some(address) => packed(34, *address, 0),
-            None => NOTHING,
-        }
     }
 
     /// Which byte it wants next, in bits from bit 40 on; 0 where no run is open.
@@ -350,16 +367,8 @@ impl Lone {
                 None => STILL,
                 Some(address) => packed(25, address, u16::from(self.generator.wants_high())),
             },
-            23 => self.tell_move(request),
-            24 => point(match self.generator.move_by(handed(request)) {
-                Some(Move { to, .. }) => to,
-                None => self.generator.beam(),
-            }),
-            25 => point(self.generator.beam()),
-            26 => self.holds(),
-            27 => self.return_to(request),
             28 if !self.generator.wraps() => self.part(request),
-            _ => UNKNOWN,
+            _ => tell_of(&self.generator, request),
         }
     }
 }
@@ -417,7 +426,14 @@ fn ask_world(
             Ok(image) => world.reset_all(image),
             Err(_) => return WRONG_SIZE,
         },
-        _ => return UNKNOWN,
+        31 => {
+            let address = (request >> 8) as usize;
+            return match world.ram_byte(address) {
+                Some(byte) => packed(37, address as u16, u16::from(byte)),
+                None => NOTHING,
+            };
+        }
+        _ => return tell_of(world.generator(), request),
     };
     answered(entry, picture)
 }

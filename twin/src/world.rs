@@ -70,6 +70,15 @@ impl<M: Memory> World<M> {
         }
     }
 
+    pub fn generator(&self) -> &Generator {
+        &self.generator
+    }
+
+    /// The byte of the RAM at a byte address.
+    pub fn ram_byte(&self, address: usize) -> Option<u8> {
+        (address < BYTES).then(|| self.ram.byte(address))
+    }
+
     /// The low or the high byte of a word.
     fn byte(&self, address: u16, high: bool) -> Option<u8> {
         let (k, side) = (usize::from(address), usize::from(high));

@@ -16,7 +16,7 @@ told_part : (question : Question) (old new : Held) (part : Open) (answer : ℕ) 
     → (told : Reply) × PartAnswers part (requests.Ask question) old new told × (answer ≡ number_of told)
 told_part question old new Nothing answer same there told = (replies.Closed, (same, refl), told)
 told_part question old new (World world) answer same there told =
-    (replies.Unknown, (world, put old new (World world) same there, (refl, refl)), told)
+    (told.0, (world, put old new (World world) same there, (refl, told.1)), told.2)
 told_part question old new (Driver driven) answer same there told =
     (replies.Unknown, (driven, put old new (Driver driven) same there, refl, (refl, refl)), told)
 told_part question old new (Generator machine) answer same there told =

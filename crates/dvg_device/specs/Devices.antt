@@ -11,7 +11,7 @@ use Rattle.dvg_world.specs.Standing.{State}
 use Rattle.dvg_device.specs.Operations.{Names}
 use Rattle.dvg_device.specs.Requests.{request_of}
 use Rattle.dvg_device.specs.Replies.{number_of, begins, ends, shines}
-use Rattle.dvg_device.specs.Worlds.{IsBegun, WorldAnswers}
+use Rattle.dvg_device.specs.Worlds.{IsBegun, TellsWorld, WorldAnswers}
 use Rattle.dvg_world.specs.Desks.{Driven, IsFresh}
 use Rattle.dvg_device.specs.Drivers.{DriverAnswers}
 use Rattle.dvg_device.specs.Generators.{GeneratorAnswers, Tells}
@@ -122,6 +122,7 @@ Numbered P answer = (answered : Reply) × P answered × (answer ≡ number_of an
 abbrev pub ToldBy : Question → Open → ℕ → Type 0
 ToldBy question (Generator machine) answer = Numbered (Tells question machine) answer
 ToldBy question (Wrapping wrapped) answer = Numbered (TellsWrapped question wrapped) answer
+ToldBy question (World world) answer = Numbered (TellsWorld question world) answer
 ToldBy question Nothing answer = answer ≡ number_of replies.Closed
 ToldBy question part answer = answer ≡ number_of replies.Unknown
 

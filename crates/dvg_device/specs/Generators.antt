@@ -116,6 +116,7 @@ Tells questions.Holds machine reply = reply ≡ told_held machine (length machin
 Tells (questions.ReturnTo n) machine reply = reply ≡ told_return (slice_get machine.stack n)
 Tells (questions.State n) machine reply = OfHistories machine (λ history low run. CanBeSaved machine)
     × (reply ≡ told_part (slice_get (parts_of machine) n))
+Tells (questions.Byte n) machine reply = reply ≡ Unknown
 
 -- what a generator comes to by a request. After a strobe the low byte of word zero is wanted
 abbrev pub GeneratorAnswers : Request → Machine → Machine → Reply → Type 0

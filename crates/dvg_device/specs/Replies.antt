@@ -15,7 +15,7 @@ use Rattle.dvg_device.specs.declared.reply.Reply.{Reply}
 use Rattle.dvg_device.specs.declared.reply.Reply.TheVariants.{Came, Onward, Pushed, NoOperation, Full, Staged}
 use Rattle.dvg_device.specs.declared.reply.Reply.TheVariants.{Opened, WrongSize, Closed, Wants, Count, Point, Intensity}
 use Rattle.dvg_device.specs.declared.reply.Reply.TheVariants.{Judged, Moves, Nothing, Holds, ReturnsTo, State, NoState}
-use Rattle.dvg_device.specs.declared.reply.Reply.TheVariants.{Unknown, NoMemory}
+use Rattle.dvg_device.specs.declared.reply.Reply.TheVariants.{Byte, Unknown, NoMemory}
 use Rattle.dvg_device.specs.declared.reply.RunState.{RunState}
 use Rattle.dvg_device.specs.declared.reply.RunState.TheVariants as runs
 
@@ -101,6 +101,7 @@ number_of (Holds first bits) = packed 33 first bits
 number_of (ReturnsTo address) = packed 34 address 0
 number_of (State word) = 35 + 0x100 * (word % 2 ^ 56)
 number_of NoState = packed 36 0 0
+number_of (Byte address byte) = packed 37 address byte
 number_of Unknown = packed 254 0 0
 number_of NoMemory = packed 255 0 0
 

@@ -11,7 +11,7 @@ use Rattle.dvg_device.specs.declared.request.Request.TheVariants.{Unstage, OpenW
 use Rattle.dvg_device.specs.declared.request.Request.TheVariants.{Wants, CountStrokes, StrokeFrom, StrokeTo}
 use Rattle.dvg_device.specs.declared.request.Request.TheVariants.{StrokeIntensity, OpenJudge, Tell, Ask, Resume, OpenWrapping}
 use Rattle.dvg_device.specs.declared.request.Request.TheVariants.{TellState, Unknown}
-use Rattle.dvg_device.specs.declared.request.Question.TheVariants.{Move, MoveTo, Beam, Holds, ReturnTo, State}
+use Rattle.dvg_device.specs.declared.request.Question.TheVariants.{Move, MoveTo, Beam, Holds, ReturnTo, State, Byte}
 
 -- the fields of an operation: a byte each of its kind, its scale and its intensity above the lowest byte, and 16 bits
 -- each of x and y
@@ -64,4 +64,5 @@ request_of n = looked_up Unknown (n % 0x100)
     ∷ (20, StrokeIntensity (n / 0x100)) ∷ (21, OpenJudge) ∷ (22, telling (line_in n))
     ∷ (23, Ask (Move (handed (flag_of n) (byte_of n)))) ∷ (24, Ask (MoveTo (handed (flag_of n) (byte_of n))))
     ∷ (25, Ask Beam) ∷ (26, Ask Holds) ∷ (27, Ask (ReturnTo (n / 0x100)))
-    ∷ (28, Ask (State (n / 0x100))) ∷ (29, Resume) ∷ (30, OpenWrapping) ∷ (35, TellState (n / 0x100)) ∷ [])
+    ∷ (28, Ask (State (n / 0x100))) ∷ (29, Resume) ∷ (30, OpenWrapping) ∷ (31, Ask (Byte (n / 0x100)))
+    ∷ (35, TellState (n / 0x100)) ∷ [])

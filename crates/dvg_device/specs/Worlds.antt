@@ -1,5 +1,5 @@
 -- What a world answers to a request.
-use Rattle.std.specs.Prelude.{◌≡◌, ◌⊎◌, ◌==◌, ℕ, List, [], length, if◌then◌else◌, Option, Some, None}
+use Rattle.std.specs.Prelude.{◌≡◌, ◌⊎◌, ◌==◌, ℕ, List, [], length, slice_get, if◌then◌else◌, Option, Some, None}
 use Rattle.dvg_mem.specs.declared.TheConstants.{MEMORY_BYTES}
 use Rattle.dvg_frame.specs.declared.op.OpKind.{OpKind}
 use Rattle.dvg_log.specs.declared.entry.Entry.{Entry}
@@ -7,11 +7,14 @@ use Rattle.dvg_log.specs.Entries.{drew_in}
 use Rattle.dvg_log.specs.declared.event.Event.TheVariants as events
 use Rattle.dvg_log.specs.Events.{Happening}
 use Rattle.dvg_world.specs.Standing.{State, WorldAfter, AddsLine, DrawsNow, KeepsHeadlineAfter, shown_in}
+use Rattle.dvg_device.specs.Generators.{Tells}
 use Rattle.dvg_device.specs.declared.reply.Reply.{Reply}
-use Rattle.dvg_device.specs.declared.reply.Reply.TheVariants.{Came, NoMemory, Unknown, WrongSize}
+use Rattle.dvg_device.specs.declared.reply.Reply.TheVariants.{Came, NoMemory, Unknown, WrongSize, Byte, Nothing}
+use Rattle.dvg_device.specs.declared.request.Question.{Question}
+use Rattle.dvg_device.specs.declared.request.Question.TheVariants as questions
 use Rattle.dvg_device.specs.declared.request.Request.{Request}
 use Rattle.dvg_device.specs.declared.request.Request.TheVariants.{Offer, Redraw, Tick, Strobe, Fetch, ResetGenerator}
-use Rattle.dvg_device.specs.declared.request.Request.TheVariants.{ResetProcessor, ResetAll}
+use Rattle.dvg_device.specs.declared.request.Request.TheVariants.{ResetProcessor, ResetAll, Ask}
 
 -- a world that begins over a ROM of these bytes and a RAM of those: it stands after the empty log, and has no picture
 pub record IsBegun (R image : List ℕ) (world : State) : Type 0 where
@@ -60,6 +63,19 @@ abbrev pub Goes : Option Happening → Request → State → State → Reply →
 Goes (Some event) request world later reply = Happens event world later reply ⊎ Lacks event world later reply
 Goes None request world later reply = (later ≡ world) × (reply ≡ declined request)
 
+-- what is told of the byte of a RAM at an address
+abbrev pub told_byte : ℕ → Option ℕ → Reply
+told_byte address None = Nothing
+told_byte address (Some byte) = Byte address byte
+
+-- what a question of a world is answered: what its RAM holds, and else what its generator alone would answer. A state of
+-- it isn't saved
+abbrev pub TellsWorld : Question → State → Reply → Type 0
+TellsWorld (questions.Byte n) world reply = reply ≡ told_byte n (slice_get world.ram n)
+TellsWorld (questions.State n) world reply = reply ≡ Unknown
+TellsWorld question world reply = Tells question world.machine reply
+
 -- what a world with this draft and these staged bytes comes to by a request
 abbrev pub WorldAnswers : List OpKind → List ℕ → Request → State → State → Reply → Type 0
-WorldAnswers F staged request = Goes (event_of F staged request) request
+WorldAnswers F staged (Ask question) world later reply = (later ≡ world) × TellsWorld question world reply
+WorldAnswers F staged request world later reply = Goes (event_of F staged request) request world later reply

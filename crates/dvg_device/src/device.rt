@@ -10,7 +10,7 @@ ghost use Rattle.dvg_device.specs.Worlds.{IsBegun};
 
 use crate::cabinet::Cabinet;
 use crate::desk::{ask_driver, tick_driver};
-use crate::happening::{ask_world, fetch_world, fetch_world_high, tick_world};
+use crate::happening::{ask_world, fetch_world, fetch_world_high, tell_world, tick_world};
 use crate::judging::ask_judge;
 use crate::lone::{ask_generator, fetch_high, fetch_number, tell, wanted};
 use crate::operation::Operation;
@@ -197,7 +197,8 @@ impl Device {
             Part::Nothing => Reply::Closed.number(),
             Part::Generator(generator) => tell(generator, question).number(),
             Part::Wrapping(generator) => tell_wrapping(generator, question).number(),
-            Part::World(_) | Part::Driver(_) | Part::Judge(_) => Reply::Unknown.number(),
+            Part::World(cabinet) => tell_world(&cabinet.world, question).number(),
+            Part::Driver(_) | Part::Judge(_) => Reply::Unknown.number(),
         }
     }
 

@@ -1,11 +1,12 @@
 //! What happens in a world.
-ghost use Rattle.std.specs.Prelude.{◌⊎◌, []};
+ghost use Rattle.std.specs.Prelude.{◌≡◌, ◌⊎◌, [], slice_get};
 ghost use Rattle.dvg_log.specs.declared.event.Event.TheVariants.{Tick, Fetch};
 ghost use Rattle.dvg_device.specs.Devices.{Numbered};
-ghost use Rattle.dvg_device.specs.Worlds.{Happens, Lacks, WorldAnswers};
+ghost use Rattle.dvg_device.specs.Worlds.{Happens, Lacks, TellsWorld, WorldAnswers, told_byte};
 
+use crate::lone::tell;
 use crate::reply::Reply;
-use crate::request::Request;
+use crate::request::{Question, Request};
 use dvg_frame::Draft;
 use dvg_log::Entry;
 use dvg_mem::{Flat, Image, MEMORY_BYTES};
@@ -32,7 +33,31 @@ pub(crate) fn ask_world(
         Request::ResetGenerator => Reply::Came(world.reset_generator()),
         Request::ResetProcessor => Reply::Came(world.reset_processor()),
         Request::ResetAll => reset_all(world, image, staged),
+        Request::Ask(question) => tell_world(world, question),
         _ => Reply::Unknown,
+    }
+}
+
+// Returns the reply of `world` to `question`.
+pub(crate) fn tell_world(world: &World<Flat>, question: Question) -> Reply
+    ensures { TellsWorld question world.now result }
+{
+    match question {
+        Question::Byte(address) => byte_of(world, address),
+        Question::State(_) => Reply::Unknown,
+        question => tell(world.generator(), question),
+    }
+}
+
+// Returns the reply that says which byte the RAM of `world` holds at `address`, if there is one.
+fn byte_of(world: &World<Flat>, address: u64) -> Reply
+    ensures { result ≡ told_byte address (slice_get world.now.ram address) }
+{
+    let _ = world.byte(0); // The RAM is an image, so it has 2,048 bytes.
+    if address < MEMORY_BYTES as u64 {
+        Reply::Byte(address as u16, world.byte(address as u16))
+    } else {
+        Reply::Nothing
     }
 }
 

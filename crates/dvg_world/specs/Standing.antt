@@ -2,6 +2,8 @@
 use Rattle.std.specs.Prelude.{◌≡◌, ℕ, Bool, List, [], ◌∷◌, slice_index, Option}
 use Rattle.dvg_gen.specs.Machine as generator
 use Rattle.dvg_gen.specs.Machine.{Machine}
+use Rattle.dvg_gen.specs.Run.{beam_after}
+use Rattle.dvg_gen.specs.declared.beam.Beam.{Beam}
 use Rattle.dvg_gen.specs.declared.stroke.Stroke.{Stroke}
 use Rattle.dvg_gen.specs.Told.{Told}
 use Rattle.dvg_driver.specs.declared.action.Action.TheVariants.{Idle}
@@ -78,3 +80,17 @@ KeepsHeadlineAfter world event entry = (R image : List ℕ) (log : Log) → Worl
 -- after each log that the world stands after, the next fetch adds a stroke
 abbrev pub DrawsNow : State → Type 0
 DrawsNow world = (R image : List ℕ) (log : Log) → WorldAfter R image log world → DrawsNext R image log
+
+-- this holds of the RAM after each log that the world stands after
+abbrev pub OfRam : State → (List ℕ → Type 0) → Type 0
+OfRam world P = (R image : List ℕ) (log : Log) → WorldAfter R image log world → P (ram image log)
+
+-- this holds of the beam after each log that the world stands after: where the instructions of its history left it
+abbrev pub OfBeam : State → (Beam → Type 0) → Type 0
+OfBeam world P = (R image : List ℕ) (log : Log) (after : WorldAfter R image log world)
+    → P (beam_after after.stands.machine.run.first after.stands.machine.run.visits)
+
+-- this holds of what the generator was told, and of the low byte that waits, after each log that the world stands after
+abbrev pub OfHistory : State → (List Told → Option ℕ → Type 0) → Type 0
+OfHistory world P = (R image : List ℕ) (log : Log) → WorldAfter R image log world
+    → P (history R image log) (low_byte log)

@@ -1,7 +1,9 @@
 //! The world: both ends of the vector RAM, one event at a time.
-ghost use Rattle.std.specs.Prelude.{◌≡◌, ◌≢◌, ◌↔◌, ℕ, List, [], length, IfOk};
-ghost use Rattle.std.specs.Prelude.{IsErrOf, IsOk, IsSome, IsTrue, None, OnErr, OnOk};
+ghost use Rattle.std.specs.Prelude.{◌≡◌, ◌≢◌, ◌↔◌, ◌<◌, ℕ, List, [], length, IfOk};
+ghost use Rattle.std.specs.Prelude.{IsErrOf, IsOk, IsSome, IsTrue, None, OnErr, OnOk, slice_index};
+ghost use Rattle.dvg_mem.specs.Memory.{IsImage};
 ghost use Rattle.dvg_mem.specs.declared.TheConstants.{LARGE_ROM_BYTES, MEMORY_BYTES};
+ghost use Rattle.dvg_gen.specs.Machine.{HasTaken};
 ghost use Rattle.dvg_driver.specs.Script.{IsWhole};
 ghost use Rattle.dvg_driver.specs.Stands.{IsInRam};
 ghost use Rattle.dvg_frame.specs.Ops.{IsDraft};
@@ -16,7 +18,7 @@ ghost use Rattle.dvg_log.specs.Log.{Log};
 ghost use Rattle.dvg_log.specs.Traces.{BringsDraft, seen_as};
 ghost use Rattle.dvg_world.specs.Desks.{OfLives};
 ghost use Rattle.dvg_world.specs.Standing.{AddsLine, ChangesNothing, DrawsNow};
-ghost use Rattle.dvg_world.specs.Standing.{KeepsHeadlineAfter, KeepsLogs};
+ghost use Rattle.dvg_world.specs.Standing.{KeepsHeadlineAfter, KeepsLogs, OfBeam, OfHistory, OfRam};
 ghost use Rattle.dvg_world.specs.Standing.{WorldAfter, picture_left, shown_in};
 ghost use Rattle.dvg_world.specs.own.Stepping.{IsDrawnBy, WantsMemory, ram_by, sent_by};
 ghost use Rattle.dvg_world.specs.Wanting.{TakesMemory};
@@ -25,9 +27,9 @@ use crate::desk::Desk;
 use dvg_code::OutOfMemory;
 use dvg_driver::Action;
 use dvg_frame::{Draft, Op};
-use dvg_gen::{Generator, Stroke};
+use dvg_gen::{Beam, Generator, Stroke};
 use dvg_log::{Entry, Event, OwnEntry, OwnEvent, TraceEvent};
-use dvg_mem::{Image, MemFault, Rom, Store, fetch_byte};
+use dvg_mem::{Image, MEMORY_BYTES, MemFault, Rom, Store, fetch_byte};
 use std::marker::Model;
 
 /// Both ends of the vector RAM: the driver that writes frames into it, and the generator that draws
@@ -335,6 +337,41 @@ impl<S: Store> World<S> {
         self.generator.low_byte().is_some()
     }
 
+    /// Returns the byte of the RAM at `address`, a byte address below 2,048.
+    pub fn byte(&self, address: u16) -> u8
+        requires { address < 2048 }
+        ensures value { result ≡ slice_index self.now.ram address }
+        ensures ram { OfRam self.now (λ ram. result ≡ slice_index ram address) }
+        ensures image { IsImage self.now.ram }
+    {
+        self.store.read(address)
+    }
+
+    /// Returns all bytes of the RAM, from address 000 on.
+    pub fn ram(&self) -> [u8; MEMORY_BYTES]
+        ensures value { result ≡ self.now.ram }
+        ensures ram { OfRam self.now (λ ram. result ≡ ram) }
+    {
+        bytes_in(&self.store)
+    }
+
+    /// Returns the beam: where the instructions of all runs so far have left it, with the global
+    /// scale.
+    pub fn beam(&self) -> Beam
+        ensures value { result ≡ self.now.machine.beam }
+        ensures runs { OfBeam self.now (λ beam. result ≡ beam) }
+    {
+        self.generator.beam()
+    }
+
+    /// Returns the generator, to be asked what it holds.
+    pub fn generator(&self) -> &Generator<S::Alloc>
+        ensures value { result.now ≡ self.now.machine }
+        ensures stands { OfHistory self.now (HasTaken result.now) }
+    {
+        &self.generator
+    }
+
     /// Returns the picture: the strokes of the newest run that came to a HALT, in the order drawn.
     /// There are none before the first HALT, and after the picture was taken.
     pub fn picture(&self) -> &[Stroke]
@@ -408,4 +445,15 @@ impl<S: Store> World<S> {
         self.strobe_sent = false; // No strobe is under way any more.
         Entry::Cleared
     }
+}
+
+// Returns the bytes that `store` holds, from address 000 on.
+fn bytes_in<S: Store>(store: &S) -> [u8; MEMORY_BYTES]
+    ensures { result ≡ S.content store.now }
+{
+    let mut bytes = [store.read(0); MEMORY_BYTES];
+    for a in 0..MEMORY_BYTES {
+        bytes[a] = store.read(a as u16);
+    }
+    bytes
 }

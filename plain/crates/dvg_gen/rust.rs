@@ -1,13 +1,153 @@
-//! What Rust's users have beside the sources: a default, and what serde reads of strokes, moves, the
-//! beam and counters, looked at. By hand; tested, not proved.
+//! What Rust's users have beside the sources: defaults, a saved state as bytes, what serde reads
+//! and writes of a state, and reads of strokes, moves, the beam and counters, looked at. By hand;
+//! tested, not proved.
+use crate::beam::CIRCLE;
 use crate::generator::Generator;
-use std::alloc::Allocator;
+use crate::state::GeneratorState;
+use crate::stroke::Stroke;
+use arrayvec::ArrayVec;
+use dvg_code::OutOfMemory;
+use std::alloc::{Allocator, Global};
+use std::prelude::Vec;
 
 /// As `Generator::new`.
 impl<A: Allocator + Copy + Default> Default for Generator<A> {
     fn default() -> Generator<A> {
         Generator::new(A::default())
     }
+}
+
+/// The number of the request that tells a part of a state: the lowest byte of each part.
+const TELLS: u64 = 35;
+
+/// The bytes that a saved state begins with: a name and a version.
+const NAME: [u8; 4] = *b"DVG\x01";
+
+impl GeneratorState {
+    /// Returns the state as bytes, those that `dvg_save` of `dvg.h` writes, with `strokes` as what
+    /// its open run drew so far; where no run is open, `strokes` aren't part of it. Returns
+    /// `OutOfMemory` where an allocation fails.
+    pub fn to_bytes(&self, strokes: &[Stroke]) -> Result<Vec<u8>, OutOfMemory> {
+        let drawn = if self.is_open { strokes } else { &[] };
+        let count = 2 + self.return_addresses.len() + 2 * drawn.len();
+        let mut bytes = Vec::with_capacity(Global, 8 * (count + 1))?;
+        put(&mut bytes, u64::from(u32::from_le_bytes(NAME)) | (count as u64) << 32)?;
+        put(&mut bytes, self.fields())?;
+        for address in self.return_addresses.iter() {
+            put(&mut bytes, TELLS | 1 << 8 | u64::from(*address) << 16)?;
+        }
+        for stroke in drawn {
+            put(&mut bytes, place(2, stroke.x0, stroke.y0))?;
+            put(&mut bytes, place(3, stroke.x1, stroke.y1) | u64::from(stroke.z % 16) << 60)?;
+        }
+        put(&mut bytes, place(2, self.x, self.y))?;
+        Ok(bytes)
+    }
+
+    /// Returns the state of which `bytes` are, as `to_bytes` or `dvg_save` wrote them, and what its
+    /// open run drew so far: `Generator::resume` takes both. Returns `None` exactly where
+    /// `dvg_restore` refuses the bytes, and `OutOfMemory` where an allocation fails.
+    pub fn from_bytes(
+        bytes: &[u8],
+    ) -> Result<Option<(GeneratorState, Vec<Stroke>)>, OutOfMemory> {
+        let (numbers, []) = bytes.as_chunks::<8>() else {
+            return Ok(None);
+        };
+        let Some((head, parts)) = numbers.split_first() else {
+            return Ok(None);
+        };
+        let [d, v, g, version, count @ ..] = *head;
+        let is_whole = u32::from_le_bytes(count) as usize == parts.len();
+        let begins = parts.first().is_some_and(|part| part[..2] == [TELLS as u8, 0]);
+        if [d, v, g, version] != NAME || !is_whole || !begins {
+            return Ok(None);
+        }
+        let (mut state, mut strokes) = (GeneratorState::default(), Vec::new(Global));
+        for part in parts {
+            if !state.is_told(&mut strokes, u64::from_le_bytes(*part))? {
+                return Ok(None);
+            }
+        }
+        Ok(state.is_valid().then_some((state, strokes)))
+    }
+
+    /// Returns the fields as a part.
+    fn fields(&self) -> u64 {
+        TELLS
+            | u64::from(self.at) << 16
+            | u64::from(self.held.unwrap_or(0)) << 32
+            | u64::from(self.low.unwrap_or(0)) << 48
+            | u64::from(self.scale % 16) << 56
+            | u64::from(self.is_open) << 60
+            | u64::from(self.low.is_some()) << 61
+            | u64::from(self.held.is_some()) << 62
+    }
+
+    /// Tells the state, and `strokes`, a part more. Returns whether it is one that suits.
+    fn is_told(&mut self, strokes: &mut Vec<Stroke>, part: u64) -> Result<bool, OutOfMemory> {
+        let x = (part >> 16) as u32 % 0x40_0000;
+        let y = (part >> 38) as u32 % 0x40_0000;
+        match part as u16 {
+            0x0023 => {
+                *self = GeneratorState::of_fields(part);
+                strokes.clear();
+                Ok(true)
+            }
+            0x0123 => Ok(self.return_addresses.try_push((part >> 16) as u16).is_ok()),
+            0x0223 => {
+                (self.x, self.y) = (x, y);
+                Ok(true)
+            }
+            0x0323 => {
+                let z = (part >> 60) as u8;
+                let is_stroke = [self.x, self.y, x, y].into_iter().all(|it| it < CIRCLE) && z > 0;
+                if is_stroke {
+                    strokes.push(Stroke { x0: self.x, y0: self.y, x1: x, y1: y, z })?;
+                }
+                Ok(is_stroke)
+            }
+            _ => Ok(false),
+        }
+    }
+
+    /// Returns the state of which no more than the fields was told.
+    fn of_fields(part: u64) -> GeneratorState {
+        GeneratorState {
+            is_open: part >> 60 & 1 == 1,
+            at: (part >> 16) as u16,
+            held: (part >> 62 & 1 == 1).then_some((part >> 32) as u16),
+            low: (part >> 61 & 1 == 1).then_some((part >> 48) as u8),
+            scale: (part >> 56) as u8 % 16,
+            ..GeneratorState::default()
+        }
+    }
+}
+
+/// As of a new generator.
+impl Default for GeneratorState {
+    fn default() -> GeneratorState {
+        GeneratorState {
+            is_open: false,
+            at: 0,
+            held: None,
+            low: None,
+            return_addresses: ArrayVec::new(),
+            x: 0,
+            y: 0,
+            scale: 0,
+        }
+    }
+}
+
+/// Returns a place as a part of this kind.
+fn place(kind: u64, x: u32, y: u32) -> u64 {
+    TELLS | kind << 8 | u64::from(x % 0x40_0000) << 16 | u64::from(y % 0x40_0000) << 38
+}
+
+/// Adds a number, the low byte first.
+fn put(bytes: &mut Vec<u8>, number: u64) -> Result<(), OutOfMemory> {
+    bytes.extend_from_slice(&number.to_le_bytes())?;
+    Ok(())
 }
 
 #[cfg(feature = "serde")]
@@ -19,10 +159,51 @@ mod forms {
     use crate::beam::{Beam, CIRCLE};
     use crate::counters::Counters;
     use crate::moving::Move;
+    use crate::state::GeneratorState;
     use crate::stroke::Stroke;
-    use serde::Deserialize;
+    use arrayvec::ArrayVec;
+    use serde::{Deserialize, Deserializer, Serialize, Serializer, de::Error};
+    use std::prelude::Vec;
 
     const PLACE: &str = "a position is below 2,097,152";
+
+    /// A state, whose return addresses are a list.
+    #[derive(Deserialize, Serialize)]
+    #[serde(rename = "GeneratorState")]
+    struct StateForm {
+        is_open: bool,
+        at: u16,
+        held: Option<u16>,
+        low: Option<u8>,
+        return_addresses: Vec<u16>,
+        x: u32,
+        y: u32,
+        scale: u8,
+    }
+
+    impl Serialize for GeneratorState {
+        fn serialize<S: Serializer>(&self, serializer: S) -> Result<S::Ok, S::Error> {
+            let GeneratorState { is_open, at, held, low, x, y, scale, .. } = *self;
+            let return_addresses = self.return_addresses.iter().copied().collect();
+            StateForm { is_open, at, held, low, return_addresses, x, y, scale }.serialize(serializer)
+        }
+    }
+
+    impl<'de> Deserialize<'de> for GeneratorState {
+        fn deserialize<D: Deserializer<'de>>(deserializer: D) -> Result<GeneratorState, D::Error> {
+            let form = StateForm::deserialize(deserializer)?;
+            let StateForm { is_open, at, held, low, x, y, scale, .. } = form;
+            let mut return_addresses = ArrayVec::new();
+            if return_addresses.try_extend_from_slice(&form.return_addresses).is_err() {
+                return Err(D::Error::custom("there are at most four return addresses"));
+            }
+            let state = GeneratorState { is_open, at, held, low, return_addresses, x, y, scale };
+            if !state.is_valid() {
+                return Err(D::Error::custom("no generator can be in this state"));
+            }
+            Ok(state)
+        }
+    }
 
     #[derive(Deserialize)]
     #[serde(rename = "Stroke")]

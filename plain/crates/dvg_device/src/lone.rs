@@ -34,6 +34,7 @@ pub(crate) fn tell(generator: &Generator<Global>, question: Question) -> Reply {
         Question::Holds => held(generator, generator.return_addresses().len() as u16),
         Question::ReturnTo(i) => return_address(generator, i),
         Question::State(i) => state(generator, i),
+        Question::Byte(_) => Reply::Unknown,
     }
 }
 

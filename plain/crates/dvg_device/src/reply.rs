@@ -85,7 +85,7 @@ pub enum Reply {
     /// 31: a move, by the instruction whose first word is at this address, with this intensity, 0
     /// (blank) to 15. The value is the intensity, and 0x100 more where a LABS places the beam.
     Moves(u16, u8, bool),
-    /// 32: there is no move, or no such return address.
+    /// 32: there is no move, or no such return address or byte.
     Nothing,
     /// 33: what a generator holds: the first word of the instruction whose second word comes next,
     /// or 0, and bits: the global scale in bits 0 to 3; in bit 4 whether a low byte waits, and in
@@ -99,6 +99,8 @@ pub enum Reply {
     /// 36: what was told is no part that suits the state before it, or no generator can be in that
     /// state. Nothing has changed.
     NoState,
+    /// 37: the byte of a RAM at this byte address, as the value.
+    Byte(u16, u8),
     /// 254: there is no such request, or what is open has no such request. Nothing has changed.
     Unknown,
     /// 255: there was no memory for it, and nothing has changed.
@@ -132,6 +134,7 @@ impl Reply {
             Reply::ReturnsTo(address) => packed(34, address, 0),
             Reply::State(word) => 35 + 0x100 * (word % 0x100_0000_0000_0000),
             Reply::NoState => packed(36, 0, 0),
+            Reply::Byte(address, byte) => packed(37, address, u16::from(byte)),
             Reply::Unknown => packed(254, 0, 0),
             Reply::NoMemory => packed(255, 0, 0),
         }

@@ -2,7 +2,8 @@
 use crate::judging::JudgeLine;
 use crate::operation::Operation;
 
-/// What a generator alone is asked, which changes nothing.
+/// What a generator alone is asked, or that of a world, which changes nothing. Of these `Byte` is
+/// asked of a world alone.
 #[derive(Clone, Copy, Debug, PartialEq, Eq, Hash)]
 pub enum Question {
     /// Which move would this byte make, or `None`, by the flag, if it were handed over next?
@@ -17,12 +18,14 @@ pub enum Question {
     ReturnTo(u64),
     /// Which part of its state has this number? The first one has the number 0.
     State(u64),
+    /// Which byte does the RAM hold at this byte address?
+    Byte(u64),
 }
 
 /// What a device is asked for. As a number, its lowest byte is the code, which stands first here,
 /// and what it brings stands above: a flag in bit 8, a byte in bits 16 to 23, a count in bits 24 to
-/// 39, and the number of a stroke, a return address or a part of a state from bit 8 on. Bits that
-/// mean nothing may have any value.
+/// 39, and a byte address, or the number of a stroke, a return address or a part of a state, from
+/// bit 8 on. Bits that mean nothing may have any value.
 #[derive(Clone, Copy, Debug, PartialEq, Eq, Hash)]
 pub enum Request {
     /// 0: the driver is handed the draft.
@@ -93,7 +96,8 @@ pub enum Request {
     /// reply that the line's event had: its kind in bits 8 to 15, its address in 16 to 31, and its
     /// value in 32 to 47. A kind above 16 is that of no line.
     Tell(JudgeLine),
-    /// 23 to 28, in the order of `Question`: what is asked of a generator alone.
+    /// 23 to 28, and then 31, in the order of `Question`: what is asked of a generator alone, or of
+    /// that of a world.
     Ask(Question),
     /// 29: a generator alone begins in the state that was told, which is forgotten. Before any part
     /// was told, that is the state of a new one. Strokes of a finished run are no part of it.
@@ -161,6 +165,7 @@ impl Request {
             28 => Request::Ask(Question::State(number / 0x100)),
             29 => Request::Resume,
             30 => Request::OpenWrapping,
+            31 => Request::Ask(Question::Byte(number / 0x100)),
             35 => Request::TellState(number / 0x100),
             _ => Request::Unknown,
         }

@@ -5,9 +5,9 @@ use crate::desk::Desk;
 use dvg_code::OutOfMemory;
 use dvg_driver::Action;
 use dvg_frame::{Draft, Op};
-use dvg_gen::{Generator, Stroke};
+use dvg_gen::{Beam, Generator, Stroke};
 use dvg_log::{Entry, Event, OwnEntry, OwnEvent, TraceEvent};
-use dvg_mem::{Image, MemFault, Rom, Store, fetch_byte};
+use dvg_mem::{Image, MEMORY_BYTES, MemFault, Rom, Store, fetch_byte};
 
 /// Both ends of the vector RAM: the driver that writes frames into it, and the generator that draws
 /// out of it and out of the ROM.
@@ -213,6 +213,27 @@ impl<S: Store> World<S> {
         self.generator.low_byte().is_some()
     }
 
+    /// Returns the byte of the RAM at `address`, a byte address below 2,048.
+    pub fn byte(&self, address: u16) -> u8 {
+        self.store.read(address)
+    }
+
+    /// Returns all bytes of the RAM, from address 000 on.
+    pub fn ram(&self) -> [u8; MEMORY_BYTES] {
+        bytes_in(&self.store)
+    }
+
+    /// Returns the beam: where the instructions of all runs so far have left it, with the global
+    /// scale.
+    pub fn beam(&self) -> Beam {
+        self.generator.beam()
+    }
+
+    /// Returns the generator, to be asked what it holds.
+    pub fn generator(&self) -> &Generator<S::Alloc> {
+        &self.generator
+    }
+
     /// Returns the picture: the strokes of the newest run that came to a HALT, in the order drawn.
     /// There are none before the first HALT, and after the picture was taken.
     pub fn picture(&self) -> &[Stroke] {
@@ -258,4 +279,13 @@ impl<S: Store> World<S> {
         self.strobe_sent = false; // No strobe is under way any more.
         Entry::Cleared
     }
+}
+
+// Returns the bytes that `store` holds, from address 000 on.
+fn bytes_in<S: Store>(store: &S) -> [u8; MEMORY_BYTES] {
+    let mut bytes = [store.read(0); MEMORY_BYTES];
+    for a in 0..MEMORY_BYTES {
+        bytes[a] = store.read(a as u16);
+    }
+    bytes
 }
