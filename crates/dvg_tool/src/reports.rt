@@ -5,6 +5,7 @@ ghost use Rattle.dvg_tool.specs.Reports.{of_moments, of_outcome, of_undrawn, of_
 ghost use Rattle.dvg_tool.specs.declared.outcome.Done.{Done as HeldDone};
 
 use crate::outcome::Done;
+use dvg_explain::Finding;
 use dvg_io::ToolFault;
 use dvg_lay::{Refusal, Said};
 use dvg_logs::{LogFinding, LogVerdict, MomentVerdict};
@@ -119,6 +120,14 @@ impl<A: Allocator> Answer<A> for Said<A> {
         } else {
             Done::Bad
         }
+    }
+}
+
+impl<A: Allocator> Answer<A> for Finding<A> {
+    ghost reported = { of_finding_so };
+
+    fn done(self) -> Done<A> {
+        if self.is_good { Done::Good } else { Done::Bad }
     }
 }
 
