@@ -246,6 +246,7 @@ pub fn is_listed(word: &[u8]) -> bool {
 }
 
 /// Words that may begin a line, as they are listed.
+#[derive(Clone, Copy)]
 pub struct Openings {
     /// What stands in the table of these words.
     pub forms: &'static [Form],

@@ -1,15 +1,20 @@
 //! What the check says of the frames of a sketch. A draft is one, too.
+ghost use Rattle.std.specs.Prelude.{◌≡◌, ℕ, List, IfOk, map};
+ghost use Rattle.std.specs.Char.{to_ascii_lowercase};
+ghost use Rattle.dvg_named.specs.ReadSketches.{AreInside, IsReadOf};
+ghost use Rattle.dvg_explain.specs.Answers.{AnswersFrames, AnswersSketch};
+
 use dvg_code::OutOfMemory;
 use dvg_frame::{Draft, FrameFault, Op, OpKind, check};
 use dvg_lay::{Blamed, Reason, Refusal, Unlaid, check_all};
 use dvg_mem::Rom;
-use dvg_named::{NamedFrame, read_sketch};
-use dvg_read::Unread;
+use dvg_named::{NamedFrame, Sketch, read_sketch};
+use dvg_read::{TextFault, Unread};
 use std::alloc::Allocator;
 
 /// A frame that the check refuses.
 #[derive(Drop)]
-pub(crate) struct RefusedFrame<A: Allocator> {
+pub struct RefusedFrame<A: Allocator> {
     /// What is blamed, and why.
     pub refusal: Refusal<A>,
     /// The line of the jump that leads back, where there is a loop within the frame.
@@ -80,9 +85,10 @@ fn back_of<A: Allocator>(
     frames: &[NamedFrame],
     refusal: &Refusal<A>,
 ) -> Option<usize> {
-    let (Reason::Fault(FrameFault::Loops), Blamed::Line { number, .. }) =
-        (refusal.reason, &refusal.blamed)
-    else {
+    let (Reason::Fault(FrameFault::Loops), Blamed::Line { number, .. }) = (
+        refusal.reason,
+        &refusal.blamed,
+    ) else {
         return None;
     };
     for frame in frames {
@@ -93,18 +99,26 @@ fn back_of<A: Allocator>(
     None
 }
 
-/// Checks the frames of the sketch `small`, a text in small letters. Returns the first that is
-/// refused, if one is. Where `small` isn't read, none is. Returns `OutOfMemory` where an allocation
-/// fails.
-pub(crate) fn first_refused<A: Allocator + Copy>(
+/// What the reader of sketches answers to an input.
+#[derive(Drop)]
+pub(crate) struct SketchAnswer<A: Allocator> {
+    /// Its fault, if it has one.
+    pub fault: Option<TextFault>,
+    /// The first frame that the check refuses, if the input is read whole.
+    pub refused: Option<RefusedFrame<A>>,
+}
+
+// Returns the first frame of `sketch`, which was read, that the check refuses, if it refuses one.
+// Returns `OutOfMemory` where an allocation fails.
+fn first_refused<A: Allocator + Copy>(
     alloc: A,
-    small: &[u8],
-) -> Result<Option<RefusedFrame<A>>, OutOfMemory> {
-    let sketch = match read_sketch(alloc, small) {
-        Ok(sketch) => sketch,
-        Err(Unread::Text(_)) => return Ok(None),
-        Err(Unread::Memory) => return Err(OutOfMemory),
-    };
+    sketch: &Sketch<'_, A>,
+) -> Result<Option<RefusedFrame<A>>, OutOfMemory>
+    requires inside { AreInside sketch.now }
+    requires read { (text : List ℕ) × IsReadOf text sketch.now }
+    ensures { IfOk result (λ refused.
+        (text : List ℕ) → IsReadOf text sketch.now → AnswersFrames text refused) }
+{
     let frames = sketch.frames(alloc)?;
     let Ok(rom) = Rom::new(alloc, sketch.rom.as_slice()) else {
         return Err(OutOfMemory);
@@ -116,5 +130,27 @@ pub(crate) fn first_refused<A: Allocator + Copy>(
             let back = back_of(&rom, frames.as_slice(), &refusal);
             Ok(Some(RefusedFrame { refusal, back }))
         }
+    }
+}
+
+/// Asks the reader of sketches about `small`, a text in small letters, and the check about its
+/// frames. Returns `OutOfMemory` where an allocation fails.
+pub(crate) fn ask_sketch<A: Allocator + Copy>(
+    alloc: A,
+    small: &[u8],
+) -> Result<SketchAnswer<A>, OutOfMemory>
+    ensures { IfOk result (λ answer. (text : List ℕ) → map to_ascii_lowercase text ≡ small.now
+        → AnswersSketch text answer.fault answer.refused) }
+{
+    match read_sketch(alloc, small) {
+        Ok(sketch) => Ok(SketchAnswer {
+            fault: None,
+            refused: first_refused(alloc, &sketch)?,
+        }),
+        Err(Unread::Text(fault)) => Ok(SketchAnswer {
+            fault: Some(fault),
+            refused: None,
+        }),
+        Err(Unread::Memory) => Err(OutOfMemory),
     }
 }

@@ -32,8 +32,13 @@ pub struct Finding<A: Allocator = Global> {
 }
 
 impl<A: Allocator> Finding<A> {
+    ghost use Rattle.std.specs.Prelude.{◌≡◌};
+    ghost use Rattle.dvg_explain.specs.Findings.{head_of};
+
     /// Returns the first line that is told.
-    pub fn head(&self) -> &'static [u8] {
+    pub fn head(&self) -> &'static [u8]
+        ensures { result.now ≡ head_of self.now.kind self.now.is_good }
+    {
         match (self.kind, self.is_good) {
             (Kind::Words, true) => b"kind: words, nothing is wrong\n",
             (Kind::Words, false) => b"kind: words, something is wrong\n",
@@ -43,7 +48,8 @@ impl<A: Allocator> Finding<A> {
             (Kind::Sketch, false) => b"kind: sketch, something is wrong\n",
             (Kind::Trace, true) => b"kind: trace, nothing is wrong\n",
             (Kind::Trace, false) => b"kind: trace, something is wrong\n",
-            (Kind::Dump, _) => b"kind: dump, nothing is wrong\n",
+            (Kind::Dump, true) => b"kind: dump, nothing is wrong\n",
+            (Kind::Dump, false) => b"kind: dump, something is wrong\n",
             (Kind::Log, true) => b"kind: log, nothing is wrong\n",
             (Kind::Log, false) => b"kind: log, something is wrong\n",
             (Kind::Other, _) => b"kind: none\n",

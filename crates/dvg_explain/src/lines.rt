@@ -1,4 +1,9 @@
 //! The lines of an input, and what stands in them.
+ghost use Rattle.std.specs.Prelude.{◌↔◌, IsFalse, IsTrue};
+ghost use Rattle.dvg_explain.specs.Kinds.{IsSilent, Says};
+
+use dvg_named::tokens_of;
+use dvg_read::TextLines;
 
 /// Returns line `number` of `text`, counted from 1. It is empty where there is none.
 pub(crate) fn line_at(text: &[u8], number: usize) -> &[u8] {
@@ -60,13 +65,17 @@ pub(crate) fn word_at(line: &[u8], number: usize) -> &[u8] {
     &[]
 }
 
-/// Whether `line` has a word and is no comment.
-fn is_said(line: &[u8]) -> bool {
-    !matches!(word_at(line, 0), [] | [b'#', ..])
+/// Whether `line` says something: it has a token, and isn't a comment alone.
+fn is_said(line: &[u8]) -> bool
+    ensures { IsTrue result ↔ Says line.now }
+{
+    match tokens_of(line) {
+        Some(tokens) => !tokens.is_empty(),
+        None => true,
+    }
 }
 
-/// Returns the number of the first line of `text` that has a word and is no comment. It is 0 where
-/// there is none.
+/// Returns the number of the first line of `text` that says something. It is 0 where there is none.
 pub(crate) fn first_said(text: &[u8]) -> usize {
     for (index, line) in text.split(|byte| *byte == b'\n').enumerate() {
         if is_said(line) {
@@ -76,8 +85,7 @@ pub(crate) fn first_said(text: &[u8]) -> usize {
     0
 }
 
-/// Returns the second line of `text` that has a word and is no comment. It is empty where there is
-/// none.
+/// Returns the second line of `text` that says something. It is empty where there is none.
 pub(crate) fn second_said(text: &[u8]) -> &[u8] {
     let first = first_said(text);
     for (index, line) in text.split(|byte| *byte == b'\n').enumerate() {
@@ -88,7 +96,15 @@ pub(crate) fn second_said(text: &[u8]) -> &[u8] {
     &[]
 }
 
-/// Whether a line of `text` has a word and is no comment.
-pub(crate) fn says_something(text: &[u8]) -> bool {
-    first_said(text) != 0
+/// Whether a line of `text` says something.
+pub(crate) fn says_something(text: &[u8]) -> bool
+    ensures silent { IsSilent text.now → IsFalse result }
+    ensures said { IsFalse result → IsSilent text.now }
+{
+    for line in TextLines::new(text) {
+        if is_said(line) {
+            return true;
+        }
+    }
+    false
 }

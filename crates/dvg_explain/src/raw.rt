@@ -1,4 +1,9 @@
 //! Inputs that are no texts.
+ghost use Rattle.std.specs.Prelude.{◌≡◌, ◌%◌, IfOk, length};
+ghost use Rattle.dvg_code.specs.Words.{words_of};
+ghost use Rattle.dvg_explain.specs.Findings.{IsCutAt};
+ghost use Rattle.dvg_explain.specs.Kinds.{IsOfBytes};
+
 use crate::kind::Kind;
 use crate::looks::file_look;
 use dvg_code::{Listed, Listing, OutOfMemory};
@@ -26,7 +31,9 @@ pub(crate) fn is_text(bytes: &[u8]) -> bool {
 }
 
 /// Returns the kind for which `bytes` are taken, which are no text.
-pub(crate) fn kind_of_bytes(bytes: &[u8]) -> Kind {
+pub(crate) fn kind_of_bytes(bytes: &[u8]) -> Kind
+    ensures { IsOfBytes bytes.now result }
+{
     if !file_look(bytes).is_empty() {
         return Kind::Other;
     }
@@ -40,7 +47,9 @@ pub(crate) fn kind_of_bytes(bytes: &[u8]) -> Kind {
 }
 
 // Returns the place at which `words` are cut, if they are.
-fn cut_of(words: &[u16]) -> Option<usize> {
+fn cut_of(words: &[u16]) -> Option<usize>
+    ensures { IsCutAt words.now result }
+{
     for item in Listing::new(words) {
         if let Listed::Cut(place) = item {
             return Some(place);
@@ -49,12 +58,12 @@ fn cut_of(words: &[u16]) -> Option<usize> {
     None
 }
 
-/// Returns the place at which the words of `bytes` are cut, if they are. Of an odd number of bytes
-/// the last one is left out. Returns `OutOfMemory` where an allocation fails.
-pub(crate) fn cut_in<A: Allocator>(alloc: A, bytes: &[u8]) -> Result<Option<usize>, OutOfMemory> {
-    if bytes.len() % 2 != 0 {
-        return Ok(None);
-    }
+/// Returns the place at which the words of `bytes` are cut, if they are. Returns `OutOfMemory`
+/// where an allocation fails.
+pub(crate) fn cut_in<A: Allocator>(alloc: A, bytes: &[u8]) -> Result<Option<usize>, OutOfMemory>
+    requires { length bytes.now % 2 ≡ 0 }
+    ensures { IfOk result (IsCutAt (words_of bytes.now)) }
+{
     let words = collect_words(alloc, bytes)?;
     Ok(cut_of(words.as_slice()))
 }

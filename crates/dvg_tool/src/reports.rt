@@ -1,6 +1,7 @@
 //! What a job reports of what its engine returns.
 ghost use Rattle.std.specs.Prelude.{◌≡◌};
-ghost use Rattle.dvg_tool.specs.Reports.{IsReported, of_bounded, of_frames, of_log, of_made};
+ghost use Rattle.dvg_tool.specs.Reports.{IsReported, of_bounded, of_explained, of_frames, of_log};
+ghost use Rattle.dvg_tool.specs.Reports.{of_made};
 ghost use Rattle.dvg_tool.specs.Reports.{of_moments, of_outcome, of_undrawn, of_verdict, written};
 ghost use Rattle.dvg_tool.specs.declared.outcome.Done.{Done as HeldDone};
 
@@ -124,7 +125,7 @@ impl<A: Allocator> Answer<A> for Said<A> {
 }
 
 impl<A: Allocator> Answer<A> for Finding<A> {
-    ghost reported = { of_finding_so };
+    ghost reported = { of_explained };
 
     fn done(self) -> Done<A> {
         if self.is_good { Done::Good } else { Done::Bad }

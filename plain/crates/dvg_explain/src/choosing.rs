@@ -5,23 +5,7 @@ use crate::kind::Kind;
 use crate::lines::{first_said, line_at, says_something, word_at};
 use crate::raw::{is_text, kind_of_bytes};
 use dvg_read::TextFault;
-
-// The kinds that are texts, each before those that it is taken for where several read as far.
-const TEXTS: [Kind; 4] = [Kind::Draft, Kind::Trace, Kind::Sketch, Kind::Log];
-
-impl Answers {
-    /// Returns the fault that the reader of `kind` has, if it has one. Of a kind that is no text
-    /// there is none.
-    pub(crate) fn of(&self, kind: Kind) -> Option<TextFault> {
-        match kind {
-            Kind::Draft => self.draft,
-            Kind::Trace => self.trace,
-            Kind::Sketch => self.sketch,
-            Kind::Log => self.log,
-            Kind::Words | Kind::Dump | Kind::Other => None,
-        }
-    }
-}
+use std::alloc::Allocator;
 
 /// Returns the number of the line at which `fault` stops a reader, if it is one of a line. A name
 /// that no line gives is found when all lines are read.
@@ -37,63 +21,90 @@ pub(crate) fn line_of(fault: TextFault) -> Option<usize> {
     }
 }
 
-// Returns the number of the line up to which the reader of `kind` reads. It is the greatest number
-// where that reads all lines.
-fn reach(answers: &Answers, kind: Kind) -> usize {
-    match answers.of(kind) {
+// Returns the number of the line up to which a reader reads that answers `fault`. It is the
+// greatest number where it reads all lines.
+fn reach(fault: Option<TextFault>) -> usize {
+    match fault {
         Some(fault) => line_of(fault).unwrap_or(usize::MAX),
         None => usize::MAX,
     }
 }
 
 // Returns the number of the line up to which a reader reads that reads the farthest.
-fn farthest(answers: &Answers) -> usize {
-    let mut most = 0;
-    for kind in &TEXTS {
-        most = most.max(reach(answers, *kind));
-    }
-    most
+fn farthest<A: Allocator>(answers: &Answers<A>) -> usize {
+    reach(answers.draft)
+        .max(reach(answers.trace))
+        .max(reach(answers.sketch))
+        .max(reach(answers.log))
 }
 
-// Returns the first kind whose reader reads the whole input.
-fn read_whole(answers: &Answers) -> Option<Kind> {
-    for kind in &TEXTS {
-        if answers.of(*kind).is_none() {
-            return Some(*kind);
-        }
+// Returns the first kind whose reader takes the whole input, if one does.
+fn whole_kind<A: Allocator>(answers: &Answers<A>) -> Option<Kind> {
+    match (answers.draft, answers.trace, answers.sketch, answers.log) {
+        (None, _, _, _) => Some(Kind::Draft),
+        (_, None, _, _) => Some(Kind::Trace),
+        (_, _, None, _) => Some(Kind::Sketch),
+        (_, _, _, None) => Some(Kind::Log),
+        _ => None,
     }
-    None
 }
 
-// Returns the kind for which `small` is taken, a text in small letters that no reader reads whole.
-fn nearest(small: &[u8], answers: &Answers) -> Kind {
+// Whether `kind` is one of texts whose reader reads as far as any.
+fn is_nearest<A: Allocator>(answers: &Answers<A>, kind: Kind) -> bool {
+    let most = farthest(answers);
+    match kind {
+        Kind::Draft => reach(answers.draft) == most,
+        Kind::Trace => reach(answers.trace) == most,
+        Kind::Sketch => reach(answers.sketch) == most,
+        Kind::Log => reach(answers.log) == most,
+        Kind::Words | Kind::Dump | Kind::Other => false,
+    }
+}
+
+// Returns `kind` if it is one of texts whose reader reads as far as any, and else none.
+fn if_nearest<A: Allocator>(answers: &Answers<A>, kind: Kind) -> Kind {
+    if is_nearest(answers, kind) {
+        kind
+    } else {
+        Kind::Other
+    }
+}
+
+// Returns the first kind of texts whose reader reads as far as any.
+fn first_nearest<A: Allocator>(answers: &Answers<A>) -> Kind {
+    if is_nearest(answers, Kind::Draft) {
+        Kind::Draft
+    } else if is_nearest(answers, Kind::Trace) {
+        Kind::Trace
+    } else if is_nearest(answers, Kind::Sketch) {
+        Kind::Sketch
+    } else {
+        if_nearest(answers, Kind::Log)
+    }
+}
+
+// Returns the kind for which `small` is taken, a text in small letters that no reader takes whole.
+fn nearest<A: Allocator>(small: &[u8], answers: &Answers<A>) -> Kind {
     let most = farthest(answers);
     let begun = kind_begun(word_at(line_at(small, most), 0));
-    if begun != Kind::Other && reach(answers, begun) == most {
+    if is_nearest(answers, begun) {
         return begun;
     }
     if first_said(small) == most {
-        return answers.second;
+        return if_nearest(answers, answers.second);
     }
-    for kind in &TEXTS {
-        if reach(answers, *kind) == most {
-            return *kind;
-        }
-    }
-    Kind::Other
+    first_nearest(answers)
 }
 
 /// Returns the kind for which `text` is taken, to which the readers of texts answered `answers`.
 /// `small` is `text` in small letters.
-pub(crate) fn kind_of(text: &[u8], small: &[u8], answers: &Answers) -> Kind {
+pub(crate) fn kind_of<A: Allocator>(text: &[u8], small: &[u8], answers: &Answers<A>) -> Kind {
     if !says_something(text) {
         return Kind::Other;
     }
-    if let Some(kind) = read_whole(answers) {
-        return kind;
+    match whole_kind(answers) {
+        Some(kind) => kind,
+        None if is_text(text) => nearest(small, answers),
+        None => kind_of_bytes(text),
     }
-    if is_text(text) {
-        return nearest(small, answers);
-    }
-    kind_of_bytes(text)
 }

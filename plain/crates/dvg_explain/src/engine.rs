@@ -3,10 +3,9 @@ use std::prelude::*;
 
 use crate::asking::{Answers, ask};
 use crate::choosing::kind_of;
-use crate::frames::{RefusedFrame, first_refused};
 use crate::kind::{Finding, Kind};
 use crate::raw::cut_in;
-use crate::telling::Examined;
+use crate::telling::{Examined, tell_long};
 use crate::text::Text;
 use dvg_code::OutOfMemory;
 use dvg_io::{Engine, StreamFailed, ToolFault, Watched, serve, write_lines, write_whole};
@@ -14,84 +13,89 @@ use dvg_read::{MOST_TEXT_BYTES, Unread};
 use std::alloc::Allocator;
 use std::io::{Read, Write};
 
-// Returns the first frame that the check refuses of `small`, a text in small letters of this `kind`
-// and with these `answers`, if it is a draft or a sketch that is read whole.
-fn refused_in<A: Allocator + Copy>(
-    alloc: A,
-    small: &[u8],
-    kind: Kind,
-    answers: &Answers,
-) -> Result<Option<RefusedFrame<A>>, OutOfMemory> {
+// Returns the place at which the words of `text` are cut, if it is taken for words, which is its
+// `kind`, and they are. Returns `OutOfMemory` where an allocation fails.
+fn cut_of<A: Allocator>(alloc: A, text: &[u8], kind: Kind) -> Result<Option<usize>, OutOfMemory> {
     match kind {
-        Kind::Draft | Kind::Sketch if answers.of(kind).is_none() => first_refused(alloc, small),
+        Kind::Words => cut_in(alloc, text),
         _ => Ok(None),
     }
 }
 
-// Returns the place at which the words of `bytes`, an input of this `kind`, are cut, if they are.
-fn cut_of_kind<A: Allocator>(
-    alloc: A,
-    bytes: &[u8],
-    kind: Kind,
-) -> Result<Option<usize>, OutOfMemory> {
+// Whether nothing is wrong with an input of this `kind`, to which the readers of texts answered
+// `answers`. Words may be `cut`.
+fn is_good<A: Allocator>(answers: &Answers<A>, kind: Kind, cut: Option<usize>) -> bool {
     match kind {
-        Kind::Words => cut_in(alloc, bytes),
-        _ => Ok(None),
+        Kind::Words => cut.is_none(),
+        Kind::Draft => answers.draft.is_none()
+            && answers.sketch.is_none()
+            && answers.refused.is_none(),
+        Kind::Sketch => answers.sketch.is_none() && answers.refused.is_none(),
+        Kind::Trace => answers.trace.is_none(),
+        Kind::Log => answers.log.is_none(),
+        Kind::Dump => true,
+        Kind::Other => false,
     }
 }
 
-// Returns the kind for which `text` is taken, by what the readers of texts say, `answers`. `small`
-// is `text` in small letters.
-fn kind_in(text: &[u8], small: &[u8], answers: &Answers) -> Kind {
-    if text.len() > MOST_TEXT_BYTES {
-        return Kind::Other;
-    }
-    kind_of(text, small, answers)
-}
-
-// Finds what `text` is, and what is wrong with it. `small` is `text` in small letters.
-fn find_in<'a, A: Allocator + Copy>(
+// Returns what is told of `examined`. Returns `OutOfMemory` where an allocation fails.
+fn told<A: Allocator + Copy>(
     alloc: A,
-    text: &'a [u8],
-    small: &'a [u8],
-) -> Result<Examined<'a, A>, OutOfMemory> {
-    let answers = ask(alloc, text, small)?;
-    let kind = kind_in(text, small, &answers);
-    Ok(Examined {
-        text,
-        small,
-        answers,
-        kind,
-        refused: refused_in(alloc, small, kind, &answers)?,
-        cut: cut_of_kind(alloc, text, kind)?,
-    })
-}
-
-// Returns what is told of `found`.
-fn told<A: Allocator + Copy>(alloc: A, found: &Examined<'_, A>) -> Result<Vec<u8, A>, OutOfMemory> {
+    examined: &Examined<'_, A>,
+) -> Result<Vec<u8, A>, OutOfMemory> {
     let mut out = Text::new(alloc);
-    match found.tell(alloc, &mut out) {
+    match examined.tell(alloc, &mut out) {
         Ok(()) => Ok(out.into_bytes()),
         Err(_) => Err(OutOfMemory),
     }
 }
 
-// Returns what `text` is found to be.
-fn finding<A: Allocator + Copy>(alloc: A, text: &[u8]) -> Result<Finding<A>, Unread> {
+// Returns what is found of an input that is too long. Returns `OutOfMemory` where an allocation
+// fails.
+fn find_long<A: Allocator + Copy>(alloc: A) -> Result<Finding<A>, OutOfMemory> {
+    let mut out = Text::new(alloc);
+    match tell_long(&mut out) {
+        Ok(()) => Ok(Finding {
+            kind: Kind::Other,
+            is_good: false,
+            text: out.into_bytes(),
+        }),
+        Err(_) => Err(OutOfMemory),
+    }
+}
+
+// Returns what is found of `text`, which isn't too long. Returns `OutOfMemory` where an allocation
+// fails.
+fn find_short<A: Allocator + Copy>(alloc: A, text: &[u8]) -> Result<Finding<A>, OutOfMemory> {
     let Ok(small) = text.to_ascii_lowercase_in(alloc) else {
-        return Err(Unread::Memory);
+        return Err(OutOfMemory);
     };
-    let Ok(found) = find_in(alloc, text, small.as_slice()) else {
-        return Err(Unread::Memory);
-    };
-    let Ok(text) = told(alloc, &found) else {
-        return Err(Unread::Memory);
+    let small = small.as_slice();
+    let answers = ask(alloc, text, small)?;
+    let kind = kind_of(text, small, &answers);
+    let cut = cut_of(alloc, text, kind)?;
+    let is_good = is_good(&answers, kind, cut);
+    let examined = Examined {
+        text,
+        small,
+        answers,
+        kind,
+        cut,
     };
     Ok(Finding {
-        kind: found.kind,
-        is_good: found.is_good(),
-        text,
+        kind,
+        is_good,
+        text: told(alloc, &examined)?,
     })
+}
+
+// Returns what is found of `text`, the input or a front of it that is too long. Returns
+// `OutOfMemory` where an allocation fails.
+fn find_in<A: Allocator + Copy>(alloc: A, text: &[u8]) -> Result<Finding<A>, OutOfMemory> {
+    if text.len() > MOST_TEXT_BYTES {
+        return find_long(alloc);
+    }
+    find_short(alloc, text)
 }
 
 // The engine.
@@ -103,7 +107,10 @@ impl<A: Allocator + Copy> Engine<A> for ExplainEngine {
     const MOST: u32 = MOST_TEXT_BYTES as u32;
 
     fn find(&self, alloc: A, read: &[u8]) -> Result<Finding<A>, Unread> {
-        finding(alloc, read)
+        match find_in(alloc, read) {
+            Ok(finding) => Ok(finding),
+            Err(OutOfMemory) => Err(Unread::Memory),
+        }
     }
 
     fn write<W: Write>(
@@ -118,7 +125,7 @@ impl<A: Allocator + Copy> Engine<A> for ExplainEngine {
 
 /// Reads an input of any kind from `reader`. Writes to `writer` for which kind it is taken, and
 /// then what is wrong with it first, or which commands take it (the texts are this project's own
-/// choice).
+/// choice). Returns what was found.
 ///
 /// - `Reader`, `Writer`: that stream failed. After `Writer` a beginning of the text went out.
 /// - `Memory`: an allocation failed.

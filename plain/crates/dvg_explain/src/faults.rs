@@ -2,6 +2,7 @@
 use dvg_frame::FrameFault;
 
 /// What is told of a fault.
+#[derive(Clone, Copy)]
 pub(crate) struct Advice {
     /// What it means.
     pub means: &'static str,
@@ -11,18 +12,20 @@ pub(crate) struct Advice {
 
 /// Returns what is told of `fault`, where the frame has the way back that makes a loop, or not
 /// (`is_back`).
-pub(crate) fn advice(fault: FrameFault, is_back: bool) -> Advice {
+pub(crate) fn advice_for(fault: FrameFault, is_back: bool) -> Advice {
     match fault {
         FrameFault::Empty => Advice {
             means: "there is no operation",
             cure: "begin with labs X Y S, draw, and end with halt",
         },
         FrameFault::NoLabs => Advice {
-            means: "the first operation is no labs, so the picture would depend on where the beam was",
+            means: "the first operation is no labs, so the picture would depend on where the beam \
+                    was",
             cure: "begin with labs X Y S",
         },
         FrameFault::TooLong => Advice {
-            means: "the operations take more than 511 words: labs and vctr take two, all others one",
+            means: "the operations take more than 511 words: labs and vctr take two, all others \
+                    one",
             cure: "say svec for vctr, call what is drawn twice, or lay shapes in the ROM",
         },
         FrameFault::Target(_) => Advice {

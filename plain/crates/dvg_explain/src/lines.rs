@@ -1,4 +1,7 @@
 //! The lines of an input, and what stands in them.
+use dvg_named::tokens_of;
+use dvg_read::TextLines;
+
 /// Returns line `number` of `text`, counted from 1. It is empty where there is none.
 pub(crate) fn line_at(text: &[u8], number: usize) -> &[u8] {
     for (index, line) in text.split(|byte| *byte == b'\n').enumerate() {
@@ -59,13 +62,15 @@ pub(crate) fn word_at(line: &[u8], number: usize) -> &[u8] {
     &[]
 }
 
-/// Whether `line` has a word and is no comment.
+/// Whether `line` says something: it has a token, and isn't a comment alone.
 fn is_said(line: &[u8]) -> bool {
-    !matches!(word_at(line, 0), [] | [b'#', ..])
+    match tokens_of(line) {
+        Some(tokens) => !tokens.is_empty(),
+        None => true,
+    }
 }
 
-/// Returns the number of the first line of `text` that has a word and is no comment. It is 0 where
-/// there is none.
+/// Returns the number of the first line of `text` that says something. It is 0 where there is none.
 pub(crate) fn first_said(text: &[u8]) -> usize {
     for (index, line) in text.split(|byte| *byte == b'\n').enumerate() {
         if is_said(line) {
@@ -75,8 +80,7 @@ pub(crate) fn first_said(text: &[u8]) -> usize {
     0
 }
 
-/// Returns the second line of `text` that has a word and is no comment. It is empty where there is
-/// none.
+/// Returns the second line of `text` that says something. It is empty where there is none.
 pub(crate) fn second_said(text: &[u8]) -> &[u8] {
     let first = first_said(text);
     for (index, line) in text.split(|byte| *byte == b'\n').enumerate() {
@@ -87,7 +91,12 @@ pub(crate) fn second_said(text: &[u8]) -> &[u8] {
     &[]
 }
 
-/// Whether a line of `text` has a word and is no comment.
+/// Whether a line of `text` says something.
 pub(crate) fn says_something(text: &[u8]) -> bool {
-    first_said(text) != 0
+    for line in TextLines::new(text) {
+        if is_said(line) {
+            return true;
+        }
+    }
+    false
 }

@@ -49,12 +49,9 @@ fn cut_of(words: &[u16]) -> Option<usize> {
     None
 }
 
-/// Returns the place at which the words of `bytes` are cut, if they are. Of an odd number of bytes
-/// the last one is left out. Returns `OutOfMemory` where an allocation fails.
+/// Returns the place at which the words of `bytes` are cut, if they are. Returns `OutOfMemory`
+/// where an allocation fails.
 pub(crate) fn cut_in<A: Allocator>(alloc: A, bytes: &[u8]) -> Result<Option<usize>, OutOfMemory> {
-    if bytes.len() % 2 != 0 {
-        return Ok(None);
-    }
     let words = collect_words(alloc, bytes)?;
     Ok(cut_of(words.as_slice()))
 }

@@ -1,8 +1,10 @@
 //! What is told of an input.
+use std::prelude::*;
+
 use crate::asking::Answers;
 use crate::choosing::line_of;
 use crate::explained::{Explained, LineText};
-use crate::faults::advice;
+use crate::faults::advice_for;
 use crate::forms::{EVENTS, FULL, LOG_LINES, Openings, form_in, form_of, operations};
 use crate::frames::RefusedFrame;
 use crate::hints::{begins_operation, hint_of, plain_hint};
@@ -26,11 +28,9 @@ pub(crate) struct Examined<'a, A: Allocator> {
     /// The same in small letters.
     pub small: &'a [u8],
     /// What the readers of texts answer.
-    pub answers: Answers,
+    pub answers: Answers<A>,
     /// The kind for which it is taken.
     pub kind: Kind,
-    /// The first frame that the check refuses, of a draft or a sketch that is read whole.
-    pub refused: Option<RefusedFrame<A>>,
     /// The place at which words are cut.
     pub cut: Option<usize>,
 }
@@ -42,7 +42,10 @@ fn tell_line<A: Allocator>(out: &mut Text<A>, number: usize, line: &[u8]) -> fmt
 }
 
 // Tells what is expected, `expected`.
-fn tell_expected<A: Allocator, D: fmt::Display>(out: &mut Text<A>, expected: D) -> fmt::Result {
+fn tell_expected<A: Allocator, D: fmt::Display + Drop>(
+    out: &mut Text<A>,
+    expected: D,
+) -> fmt::Result {
     write!(out, "expected {expected}\n")
 }
 
@@ -85,17 +88,23 @@ fn tell_dump<A: Allocator>(out: &mut Text<A>, bytes: &[u8]) -> fmt::Result {
 }
 
 impl<A: Allocator + Copy> Examined<'_, A> {
-    /// Returns the fault of the text, if it has one for its kind.
-    pub(crate) fn fault(&self) -> Option<TextFault> {
-        self.answers.of(self.kind)
+    // Returns the fault that the reader of its kind has, if that is one of texts and has one.
+    fn fault(&self) -> Option<TextFault> {
+        match self.kind {
+            Kind::Draft => self.answers.draft,
+            Kind::Trace => self.answers.trace,
+            Kind::Sketch => self.answers.sketch,
+            Kind::Log => self.answers.log,
+            Kind::Words | Kind::Dump | Kind::Other => None,
+        }
     }
 
-    /// Whether nothing is wrong with the input.
-    pub(crate) fn is_good(&self) -> bool {
-        self.kind != Kind::Other
-            && self.fault().is_none()
-            && self.refused.is_none()
-            && self.cut.is_none()
+    // Returns the first frame that the check refuses, of a draft or a sketch.
+    fn refused(&self) -> Option<&RefusedFrame<A>> {
+        match self.kind {
+            Kind::Draft | Kind::Sketch => self.answers.refused.as_ref(),
+            _ => None,
+        }
     }
 
     // Returns line `number`, and the same in small letters.
@@ -139,7 +148,10 @@ impl<A: Allocator + Copy> Examined<'_, A> {
                 Openings { forms }
             ),
             _ if begins_operation(word) => {
-                tell_expected(out, "an operation only after a line offer, and before its end")
+                tell_expected(
+                    out,
+                    "an operation only after a line offer, and before its end",
+                )
             }
             form => tell_expected(out, form),
         }
@@ -166,7 +178,10 @@ impl<A: Allocator + Copy> Examined<'_, A> {
             tell_hint(out, plain_hint(line))?;
         }
         if self.kind != Kind::Other && is_unended(self.text, number) {
-            write!(out, "it is the last line, and has no line end: is the input cut?\n")?;
+            write!(
+                out,
+                "it is the last line, and has no line end: is the input cut?\n"
+            )?;
         }
         Ok(())
     }
@@ -196,7 +211,10 @@ impl<A: Allocator + Copy> Examined<'_, A> {
         let shown = LineText { bytes: line };
         write!(out, "dvg check stops at line {number}: {shown}\n")?;
         tell_hint(out, plain_hint(line))?;
-        write!(out, "dvg lay --draft writes it as dvg check and dvg play take it\n")
+        write!(
+            out,
+            "dvg lay --draft writes it as dvg check and dvg play take it\n"
+        )
     }
 
     // Tells which commands take the input, in which nothing is wrong.
@@ -223,12 +241,6 @@ impl<A: Allocator + Copy> Examined<'_, A> {
 
     // Tells what the input looks like, of which no command reads a line.
     fn tell_other(&self, out: &mut Text<A>) -> fmt::Result {
-        if self.text.len() > MOST_TEXT_BYTES {
-            return write!(
-                out,
-                "it has more than {MOST_TEXT_BYTES} bytes: dvg torn alone reads longer inputs, logs\n"
-            );
-        }
         if !is_text(self.text) {
             return tell_bytes(out, self.text);
         }
@@ -239,7 +251,10 @@ impl<A: Allocator + Copy> Examined<'_, A> {
         let (line, small) = self.line(number);
         tell_line(out, number, line)?;
         match (hint_of(small), text_look(self.text)) {
-            ("", "") => write!(out, "no line of an input begins so: dvg help shows which there are\n"),
+            ("", "") => write!(
+                out,
+                "no line of an input begins so: dvg help shows which there are\n"
+            ),
             ("", look) => write!(out, "this looks like {look}\n"),
             (hint, _) => tell_hint(out, hint),
         }
@@ -253,7 +268,7 @@ impl<A: Allocator + Copy> Examined<'_, A> {
         if let Some(fault) = self.fault() {
             return self.tell_fault(alloc, out, fault);
         }
-        if let Some(refused) = &self.refused {
+        if let Some(refused) = self.refused() {
             return tell_refused(out, refused, self.text);
         }
         if let Some(place) = self.cut {
@@ -269,6 +284,14 @@ fn shown_line(fault: TextFault) -> Option<usize> {
         TextFault::UnknownName(number) => Some(number),
         _ => line_of(fault),
     }
+}
+
+/// Tells of an input that is too long.
+pub(crate) fn tell_long<A: Allocator>(out: &mut Text<A>) -> fmt::Result {
+    write!(
+        out,
+        "it has more than {MOST_TEXT_BYTES} bytes: dvg torn alone reads longer inputs, logs\n"
+    )
 }
 
 // Tells what `bytes` look like, which are neither text nor words nor a dump.
@@ -340,7 +363,7 @@ fn tell_refused<A: Allocator>(
     let Reason::Fault(fault) = reason else {
         return Ok(());
     };
-    let advice = advice(*fault, refused.back.is_some());
+    let advice = advice_for(*fault, refused.back.is_some());
     write!(out, "{}\n", advice.means)?;
     write!(out, "do: {}\n", advice.cure)
 }

@@ -1,0 +1,4 @@
+pub mod LinesLooked
+pub mod Verdicts
+pub mod CutWords
+pub mod OfInputs
