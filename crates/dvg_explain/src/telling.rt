@@ -120,19 +120,19 @@ impl<A: Allocator + Copy> Examined<'_, A> {
         }
     }
 
-    // Whether line `number` of a trace stands in an offer.
-    fn is_in_offer(&self, alloc: A, number: usize) -> bool {
-        let before = before_line(self.text, number);
-        matches!(
-            read_trace(alloc, before),
-            Err(Unread::Text(TextFault::Unended))
-        )
+    // Whether line `number` of a trace stands in an offer. Fails where memory is refused.
+    fn is_in_offer(&self, alloc: A, number: usize) -> Result<bool, fmt::Error> {
+        match read_trace(alloc, before_line(self.text, number)) {
+            Err(Unread::Text(TextFault::Unended)) => Ok(true),
+            Err(Unread::Memory) => Err(fmt::Error),
+            _ => Ok(false),
+        }
     }
 
     // Tells what was expected of line `number` of a trace.
     fn expect_event(&self, alloc: A, out: &mut Text<A>, number: usize) -> fmt::Result {
         let word = word_at(self.line(number).1, 0);
-        if self.is_in_offer(alloc, number) {
+        if self.is_in_offer(alloc, number)? {
             return expect_operation(out, word);
         }
         match form_in(EVENTS.as_slice(), word) {
