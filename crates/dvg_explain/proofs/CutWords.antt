@@ -14,8 +14,11 @@ pub record CutsOn (words : List ℕ) (s : Listing) : Type 0 where
 
 pub cuts_first : (words : List ℕ) (s : Listing) → words_left s ≡ words → place_of s ≡ 0 → CutsOn words s
 cuts_first words s left place = record {
-  on = λ cutting. (cutting.items, subst (λ k. Cuts k (words_left s) cutting.items cutting.end cutting.rest) (sym place)
-      (subst (λ l. Cuts 0 l cutting.items cutting.end cutting.rest) (sym left) cutting.cuts));
+  on = λ cutting. (
+    cutting.items,
+    subst (λ k. Cuts k (words_left s) cutting.items cutting.end cutting.rest) (sym place)
+        (subst (λ l. Cuts 0 l cutting.items cutting.end cutting.rest) (sym left) cutting.cuts),
+  );
 }
 
 pub cuts_next : (words : List ℕ) (s t : Listing) (place : ℕ) (instr : Instr) → CutsOn words s → NextListed s (Some (At place instr)) t → CutsOn words t

@@ -60,17 +60,21 @@ fn log_fault(text: &[u8]) -> Option<TextFault>
     let mut number = 0;
     for line in TextLines::new(text) {
         number += 1;
-        if read_log_line(line, None).is_none() {
-            return Some(TextFault::Syntax(number));
+        match read_log_line(line, None) {
+            Some(_) => {}
+            None => return Some(TextFault::Syntax(number)),
         }
     }
     None
 }
 
-// Whether the reader of sketches takes `line`, in small letters. Returns `OutOfMemory` where an
-// allocation fails.
+// Whether the reader of sketches takes `line` alone. Returns `OutOfMemory` where an allocation
+// fails.
 fn is_sketch<A: Allocator + Copy>(alloc: A, line: &[u8]) -> Result<bool, OutOfMemory> {
-    let answer = ask_sketch(alloc, line)?;
+    let Ok(small) = line.to_ascii_lowercase(alloc) else {
+        return Err(OutOfMemory);
+    };
+    let answer = ask_sketch(alloc, small.as_slice())?;
     Ok(answer.fault.is_none())
 }
 

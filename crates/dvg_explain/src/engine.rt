@@ -1,8 +1,9 @@
 //! The engine `explain`.
-ghost use Rattle.std.specs.Prelude.{◌≡◌, ◌%◌, ◌<◌, ℕ, List, IfOk, IsFalse, length};
+ghost use Rattle.std.specs.Prelude.{◌≡◌, ◌%◌, ◌++◌, ◌<◌, ℕ, List, IfOk, IsFalse, length};
 ghost use Rattle.dvg_code.specs.Words.{words_of};
 ghost use Rattle.dvg_io.specs.Faults.{ComesBeforeText};
 ghost use Rattle.dvg_io.specs.Serving.{AreFresh, Serves};
+ghost use Rattle.dvg_io.specs.Watching.{Writes};
 ghost use Rattle.dvg_read.specs.FirstFaults.{IsShort};
 ghost use Rattle.dvg_explain.specs.Answers.{AreAnswers};
 ghost use Rattle.dvg_explain.specs.Findings.{Explains, HasNoFault, IsCutAt, IsFound, IsFoundIn};
@@ -120,6 +121,18 @@ fn find_in<A: Allocator + Copy>(alloc: A, text: &[u8]) -> Result<Finding<A>, Out
     find_short(alloc, text)
 }
 
+// Writes `head`, a line, and the lines of `text` to `writer`, each by itself.
+fn write_told<W: Write>(
+    head: &[u8],
+    text: &[u8],
+    writer: &mut Watched<W>,
+) -> Result<(), StreamFailed>
+    ensures { Writes W.contents (head.now ++ text.now) result writer.old writer.new }
+{
+    write_whole(writer, head)?;
+    write_lines(writer, text)
+}
+
 // The engine.
 #[derive(Drop)]
 struct ExplainEngine;
@@ -149,8 +162,7 @@ impl<A: Allocator + Copy> Engine<A> for ExplainEngine {
         finding: &Finding<A>,
         writer: &mut Watched<W>,
     ) -> Result<(), StreamFailed> {
-        write_whole(writer, finding.head())?;
-        write_lines(writer, finding.text.as_slice())
+        write_told(finding.head(), finding.text.as_slice(), writer)
     }
 }
 

@@ -139,6 +139,7 @@ pub(crate) fn ask_sketch<A: Allocator + Copy>(
     alloc: A,
     small: &[u8],
 ) -> Result<SketchAnswer<A>, OutOfMemory>
+    requires { (text : List ℕ) × (map to_ascii_lowercase text ≡ small.now) }
     ensures { IfOk result (λ answer. (text : List ℕ) → map to_ascii_lowercase text ≡ small.now
         → AnswersSketch text answer.fault answer.refused) }
 {

@@ -51,8 +51,9 @@ fn cut_of(words: &[u16]) -> Option<usize>
     ensures { IsCutAt words.now result }
 {
     for item in Listing::new(words) {
-        if let Listed::Cut(place) = item {
-            return Some(place);
+        match item {
+            Listed::At(..) => {}
+            Listed::Cut(place) => return Some(place),
         }
     }
     None

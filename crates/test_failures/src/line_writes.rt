@@ -1,9 +1,7 @@
 //! Lines are handed to the writer one by one: one that fails at a call got the lines before.
 use crate::plays_mishaps::long_picture;
 use crate::streams::{Failing, Mishap};
-use crate::tasks::{
-    ENTRIES, HALT, INSTRUCTIONS, MOVES, PICTURE, PICTURES, REFUSED, moving_dump,
-};
+use crate::tasks::{ENTRIES, HALT, INSTRUCTIONS, MOVES, PICTURE, PICTURES, REFUSED, moving_dump};
 use crate::traces::FIRST_PICTURE;
 use dvg_mem::MEMORY_BYTES;
 use dvg_tool::{Job, LayForm, LogRule, Watched, perform};

@@ -98,6 +98,16 @@ fn find_in<A: Allocator + Copy>(alloc: A, text: &[u8]) -> Result<Finding<A>, Out
     find_short(alloc, text)
 }
 
+// Writes `head`, a line, and the lines of `text` to `writer`, each by itself.
+fn write_told<W: Write>(
+    head: &[u8],
+    text: &[u8],
+    writer: &mut Watched<W>,
+) -> Result<(), StreamFailed> {
+    write_whole(writer, head)?;
+    write_lines(writer, text)
+}
+
 // The engine.
 struct ExplainEngine;
 
@@ -118,8 +128,7 @@ impl<A: Allocator + Copy> Engine<A> for ExplainEngine {
         finding: &Finding<A>,
         writer: &mut Watched<W>,
     ) -> Result<(), StreamFailed> {
-        write_whole(writer, finding.head())?;
-        write_lines(writer, finding.text.as_slice())
+        write_told(finding.head(), finding.text.as_slice(), writer)
     }
 }
 

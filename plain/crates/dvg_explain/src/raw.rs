@@ -42,8 +42,9 @@ pub(crate) fn kind_of_bytes(bytes: &[u8]) -> Kind {
 // Returns the place at which `words` are cut, if they are.
 fn cut_of(words: &[u16]) -> Option<usize> {
     for item in Listing::new(words) {
-        if let Listed::Cut(place) = item {
-            return Some(place);
+        match item {
+            Listed::At(..) => {}
+            Listed::Cut(place) => return Some(place),
         }
     }
     None
