@@ -27,6 +27,7 @@ mod text;
 mod time;
 mod verdicts;
 
+pub use checking::check_all;
 pub use drawing::{Drawn, draw_sketch};
 pub use engine::lay_sketch;
 pub use form::Laid;

@@ -136,7 +136,7 @@ pub(crate) fn good_frame<'a, A: Allocator + Copy>(
 
 /// Checks all `frames` over `rom`. Returns the refusal of the first that the check doesn't accept.
 /// `names` are the names of the ROM. Returns `Memory` where an allocation fails.
-pub(crate) fn check_all<A: Allocator + Copy>(
+pub fn check_all<A: Allocator + Copy>(
     alloc: A,
     rom: &Rom<A>,
     names: &[RomName],

@@ -1,7 +1,6 @@
 //! What is printed of a fault of a sketch beside its name: the text of the line, and what was
 //! expected of it.
-
-use crate::forms::{FORMS, OPERATIONS, write_openings};
+use crate::forms::{FORMS, operations, write_openings};
 use std::fmt;
 
 /// The most bytes of a line that are shown.
@@ -55,7 +54,7 @@ pub struct Explained<'t, 'a> {
 }
 
 /// Writes `byte`: a tab as a blank, and as `?` each byte that is no printable ASCII.
-fn write_byte<W: fmt::Write>(f: &mut fmt::Formatter<W>, byte: u8) -> fmt::Result {
+fn write_byte(f: &mut fmt::Formatter<'_>, byte: u8) -> fmt::Result {
     let shown = match byte {
         b'\t' => b' ',
         b' '..=b'~' => byte,
@@ -65,7 +64,7 @@ fn write_byte<W: fmt::Write>(f: &mut fmt::Formatter<W>, byte: u8) -> fmt::Result
 }
 
 /// Writes `name`.
-fn write_name<W: fmt::Write>(f: &mut fmt::Formatter<W>, name: &[u8]) -> fmt::Result {
+fn write_name(f: &mut fmt::Formatter<'_>, name: &[u8]) -> fmt::Result {
     for byte in name {
         write_byte(f, *byte)?;
     }
@@ -73,7 +72,7 @@ fn write_name<W: fmt::Write>(f: &mut fmt::Formatter<W>, name: &[u8]) -> fmt::Res
 }
 
 /// Writes where `name` is, which is `found`.
-fn write_found<W: fmt::Write>(f: &mut fmt::Formatter<W>, name: &[u8], found: Found) -> fmt::Result {
+fn write_found(f: &mut fmt::Formatter<'_>, name: &[u8], found: Found) -> fmt::Result {
     if let Found::Nowhere = found {
         write!(f, "no line gives ")?;
         return write_name(f, name);
@@ -94,17 +93,17 @@ fn write_found<W: fmt::Write>(f: &mut fmt::Formatter<W>, name: &[u8], found: Fou
 }
 
 impl fmt::Display for Expected<'_> {
-    fn fmt<W: fmt::Write>(&self, f: &mut fmt::Formatter<W>) -> fmt::Result {
+    fn fmt(&self, f: &mut fmt::Formatter<'_>) -> fmt::Result {
         match self {
             Expected::This(text) => write!(f, "{text}"),
             Expected::Beginning => {
                 write!(f, "a line that begins with ")?;
-                write_openings(f, FORMS.len())?;
+                write_openings(f, FORMS.as_slice())?;
                 write!(f, ", NAME: or #")
             }
             Expected::Operation => {
                 write!(f, "an operation after the name: ")?;
-                write_openings(f, OPERATIONS)
+                write_openings(f, operations())
             }
             Expected::NoAddress(name) => {
                 write!(f, "another name than ")?;
@@ -145,7 +144,7 @@ fn is_blank(byte: u8) -> bool {
 
 /// Writes the text of `line` without blanks at its ends: its first 60 bytes and `..`, if they are
 /// more.
-fn write_line<W: fmt::Write>(f: &mut fmt::Formatter<W>, line: &[u8]) -> fmt::Result {
+fn write_line(f: &mut fmt::Formatter<'_>, line: &[u8]) -> fmt::Result {
     let end = end_of(line);
     let mut count = 0usize;
     for byte in line.iter().take(end) {
@@ -162,7 +161,7 @@ fn write_line<W: fmt::Write>(f: &mut fmt::Formatter<W>, line: &[u8]) -> fmt::Res
 }
 
 impl fmt::Display for LineText<'_> {
-    fn fmt<W: fmt::Write>(&self, f: &mut fmt::Formatter<W>) -> fmt::Result {
+    fn fmt(&self, f: &mut fmt::Formatter<'_>) -> fmt::Result {
         write_line(f, self.bytes)
     }
 }

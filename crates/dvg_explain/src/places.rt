@@ -1,4 +1,5 @@
 //! Where lines of a sketch stand, and which lines give a name.
+
 use dvg_named::{Head, Row, read_head, read_row, tokens_of};
 
 /// Where a line of a sketch stands.
@@ -96,16 +97,6 @@ fn begins_frame(line: &[u8], name: &[u8]) -> bool {
         Some(Head::Frame(Some(given))) => given == name,
         _ => false,
     }
-}
-
-/// Returns line `number` of `text`, counted from 1. It is empty where there is none.
-pub fn line_at(text: &[u8], number: usize) -> &[u8] {
-    for (index, line) in text.split(|byte| *byte == b'\n').enumerate() {
-        if index.saturating_add(1) == number {
-            return line;
-        }
-    }
-    &[]
 }
 
 /// Returns where line `number` of `text` stands, counted from 1.

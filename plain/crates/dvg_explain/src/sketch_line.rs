@@ -1,10 +1,11 @@
-//! What was expected of the line at fault in a sketch. This module, and those that it uses of this
-//! crate, are tested: nothing is proved of them but that they can't panic, and come to an end.
+//! What was expected of the line at fault in a sketch. This is tested: nothing is proved of it but
+//! that it can't panic, and comes to an end.
 use crate::explained::{Expected, Explained, Found, LineText};
 use crate::forms::{
     BY_NUMBER, COLON, FULL, NAME, OVERLAP, PAST_END, SEMICOLON, TWO_NAMES, form_of, is_operation,
 };
-use crate::places::{Place, Rows, first_frame, first_given, head_of, line_at, place_of, row_of};
+use crate::lines::line_at;
+use crate::places::{Place, Rows, first_frame, first_given, head_of, place_of, row_of};
 use arrayvec::ArrayVec;
 use dvg_named::{Doing, Head, MAX_TOKENS, Row, read_head, tokens_of};
 use dvg_read::{TextFault, hex};
@@ -213,7 +214,7 @@ fn expected_of(fault: TextFault, text: &[u8], number: usize) -> Option<Expected<
 
 /// Returns the text of the line at which `fault` is, in the sketch `text`, and what was expected of
 /// it. `small` is `text` in small letters. Returns `None` for a fault that has no line.
-pub fn explain<'t, 'a>(
+pub fn explain_line<'t, 'a>(
     fault: TextFault,
     text: &'t [u8],
     small: &'a [u8],
