@@ -1,5 +1,5 @@
 -- The ROM that is held after each line that describes it.
-use Rattle.std.proofs.Common.{◌≡◌, ◌<◌, ◌≤◌, ◌+◌, ◌-◌, ◌⊎◌, inl, inr, ℕ, List, [], ◌∷◌, ◌++◌, length, get_or, refl, sym, ap, subst, ◌∙◌, arith, true, Option, Some, All, take, append-nil}
+use Rattle.std.proofs.Common.{◌≡◌, ◌<◌, ◌≤◌, ◌+◌, ◌-◌, ◌*◌, ◌⊎◌, inl, inr, ℕ, List, [], ◌∷◌, ◌++◌, length, get_or, refl, sym, ap, subst, ◌∙◌, arith, true, Option, Some, All, take, append-nil}
 use Rattle.std.specs.Prelude.{IsFalse, ◌↔◌, ◌/◌}
 use Rattle.std.proofs.lemmas.List.{drop_all, get_or_default, length-append, take_all}
 use Rattle.std.specs.List.{refill}
@@ -18,14 +18,14 @@ pub first_of_map : {first : ℕ} {l : List ℕ} → IsMapLine first l → (first
 first_of_map small = inl refl
 first_of_map large = inr refl
 
--- a ROM of returns alone
-returns_rom : (R : List ℕ) (first : ℕ) → (first ≡ 0x800) ⊎ (first ≡ 0x400) → AreReturns R (0xC00 - first) → IsRom R × (first_word R ≡ first)
-returns_rom R first (inl e) are = let size = are.count in let small : length R ≡ 2048 = omega arith in (record { count = inl small; bytes = are.bytes }, small_first R small ∙ sym e)
-returns_rom R first (inr e) are = let size = are.count in let large : length R ≡ 4096 = omega arith in (record { count = inr large; bytes = are.bytes }, large_first R large ∙ sym e)
+-- bytes that are as many as a ROM's from this word address on
+pub whole_by_count : (R : List ℕ) (first : ℕ) → (first ≡ 0x800) ⊎ (first ≡ 0x400) → length R ≡ 2 * (0xC00 - first) → All (λ byte. byte < 256) R → IsRom R × (first_word R ≡ first)
+whole_by_count R first (inl e) size bytes = let small : length R ≡ 2048 = omega arith in (record { count = inl small; bytes = bytes }, small_first R small ∙ sym e)
+whole_by_count R first (inr e) size bytes = let large : length R ≡ 4096 = omega arith in (record { count = inr large; bytes = bytes }, large_first R large ∙ sym e)
 
 pub returns_held : (R : List ℕ) (first : ℕ) (map : Option ℕ) → first ≡ first_stated map → (first ≡ 0x800) ⊎ (first ≡ 0x400) → AreReturns R (0xC00 - first) → IsRomOf (stated_rom map []) R
 returns_held R first map stated one are =
-    let (whole, is) = returns_rom R first one are in
+    let (whole, is) = whole_by_count R first one are.count are.bytes in
     record { whole = whole; first = is ∙ stated; words = λ a low high. rom_there R a low high ∙ ap Some (are.words (a - first_word R) (omega arith)) }
 
 -- the words after one more line

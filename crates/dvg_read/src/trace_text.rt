@@ -187,7 +187,8 @@ impl<A: Allocator + Copy> Reading<A> {
     }
 }
 
-// Whether an offer begins with `line`.
+// Whether an offer begins with `line`. Each line outside of offers is asked, so its bytes are matched
+// one by one: a comparison of slices is a call.
 #[inline(always)]
 fn is_offer(line: &[u8]) -> bool
     ensures { IsTrue result ↔ (line.now ≡ codes "offer") }
@@ -197,7 +198,7 @@ fn is_offer(line: &[u8]) -> bool
 
 // Adds the operation that `line` spells to `draft`. Returns `Syntax` where it spells none, and
 // `Full` where `draft` has 511 already.
-pub(crate) fn add_op(draft: &mut Draft, line: &[u8]) -> Result<(), LineFault>
+fn add_op(draft: &mut Draft, line: &[u8]) -> Result<(), LineFault>
     ensures added { OnOk result ((op : OpKind) × IsOpLine op line.now
         × (draft.new ≡ draft.old ++ op ∷ [])) }
     ensures room { OnOk result (length draft.old < MAX_OPS) }
@@ -245,7 +246,7 @@ fn add_events<A: Allocator + Copy>(
 }
 
 // Returns how many events a line has, which `repeated` holds.
-pub(crate) fn count(repeated: &EventLine) -> usize
+fn count(repeated: &EventLine) -> usize
     ensures value { result ≡ length (happenings repeated.now) }
     ensures bound { result < 2 ^ 16 }
 {

@@ -137,7 +137,8 @@ impl<A: Allocator + Copy> Reading<A> {
     }
 }
 
-// Whether an offer begins with `line`.
+// Whether an offer begins with `line`. Each line outside of offers is asked, so its bytes are matched
+// one by one: a comparison of slices is a call.
 #[inline(always)]
 fn is_offer(line: &[u8]) -> bool {
     matches!(line, b"offer")
@@ -145,7 +146,7 @@ fn is_offer(line: &[u8]) -> bool {
 
 // Adds the operation that `line` spells to `draft`. Returns `Syntax` where it spells none, and
 // `Full` where `draft` has 511 already.
-pub(crate) fn add_op(draft: &mut Draft, line: &[u8]) -> Result<(), LineFault> {
+fn add_op(draft: &mut Draft, line: &[u8]) -> Result<(), LineFault> {
     let Some(op) = read_op(line) else {
         return Err(LineFault::Syntax);
     };
@@ -178,6 +179,6 @@ fn add_events<A: Allocator + Copy>(
 }
 
 // Returns how many events a line has, which `repeated` holds.
-pub(crate) fn count(repeated: &EventLine) -> usize {
+fn count(repeated: &EventLine) -> usize {
     usize::from(repeated.count)
 }
