@@ -28,7 +28,7 @@ fn counts_of(folder: &Path) -> PathBuf {
 }
 
 /// How many instructions a run takes.
-fn counted(contender: &Contender, folder: &Path) -> io::Result<f64> {
+pub fn counted(contender: &Contender, folder: &Path) -> io::Result<f64> {
     let output = counts_of(folder);
     let out = format!("--callgrind-out-file={}", output.display());
     contender
