@@ -9,10 +9,10 @@ use Rattle.std.proofs.lemmas.List.Elements.{filter_more}
 use Rattle.std.specs.List.{AllZip}
 use Rattle.std.specs.Option.{is_some}
 use Rattle.dvg_frame.specs.declared.op.OpKind.{OpKind}
-use Rattle.dvg_sketch.specs.declared.step.Step.{Step}
-use Rattle.dvg_sketch.specs.declared.step.Step.TheVariants.{Name, Op, Call, Jump}
-use Rattle.dvg_sketch.specs.Sketches.{GivesAgain, IsDrafted, IsUnknown, WantsUnknown}
-use Rattle.dvg_sketch.specs.Steps.{IsNumberOf, Names, is_operation, op_count}
+use Rattle.dvg_steps.specs.declared.step.Step.{Step}
+use Rattle.dvg_steps.specs.declared.step.Step.TheVariants.{Name, Op, Call, Jump}
+use Rattle.dvg_steps.specs.Drafts.{GivesAgain, IsDrafted, IsUnknown, WantsUnknown}
+use Rattle.dvg_steps.specs.Steps.{IsNumberOf, Names, is_operation, op_count}
 
 -- a list is cut at a place
 pub cut_at : {X : Type 0} (xs : List X) (i : ℕ) (x : X) → i < length xs → x ≡ get_or xs i x → xs ≡ take i xs ++ x ∷ drop (i + 1) xs

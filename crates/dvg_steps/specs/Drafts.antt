@@ -1,14 +1,14 @@
--- The draft of a sketch.
+-- The draft of a list of steps.
 use Rattle.std.specs.Prelude.{◌≡◌, ◌<◌, ◌≤◌, ℕ, List, filter, slice_get, Some, take}
 use Rattle.std.specs.List.{AllZip}
 use Rattle.dvg_frame.specs.declared.draft.TheConstants.{MAX_OPS}
 use Rattle.dvg_frame.specs.declared.op.OpKind.{OpKind}
 use Rattle.dvg_frame.specs.declared.op.OpKind.TheVariants as kinds
-use Rattle.dvg_sketch.specs.declared.fault.SketchFault.{SketchFault}
-use Rattle.dvg_sketch.specs.declared.fault.SketchFault.TheVariants.{Full, Twice, Unknown}
-use Rattle.dvg_sketch.specs.declared.step.Step.{Step}
-use Rattle.dvg_sketch.specs.declared.step.Step.TheVariants.{Name, Op, Call, Jump}
-use Rattle.dvg_sketch.specs.Steps.{IsNumberOf, Names, Wants, is_operation, op_count}
+use Rattle.dvg_steps.specs.declared.fault.StepsFault.{StepsFault}
+use Rattle.dvg_steps.specs.declared.fault.StepsFault.TheVariants.{Full, Twice, Unknown}
+use Rattle.dvg_steps.specs.declared.step.Step.{Step}
+use Rattle.dvg_steps.specs.declared.step.Step.TheVariants.{Name, Op, Call, Jump}
+use Rattle.dvg_steps.specs.Steps.{IsNumberOf, Names, Wants, is_operation, op_count}
 
 -- a step that is an operation is this one in the draft: a call or a jump names the operation by its number
 abbrev pub IsDrafted : List Step → Step → OpKind → Type 0
@@ -17,7 +17,7 @@ IsDrafted steps (Call name) kind = (number : ℕ) × IsNumberOf steps name.now n
 IsDrafted steps (Jump name) kind = (number : ℕ) × IsNumberOf steps name.now number × (kind ≡ kinds.Jump number)
 IsDrafted steps (Name name) kind = ⊥
 
--- the draft has the operations of the sketch, in order
+-- the draft has the operations of the steps, in order
 abbrev pub IsDraftOf : List Step → List OpKind → Type 0
 IsDraftOf steps draft = AllZip (IsDrafted steps) (filter is_operation steps) draft
 
@@ -38,9 +38,9 @@ IsUnknown steps place = (step : Step) × (slice_get steps place ≡ Some step) �
 abbrev pub IsFirst : (ℕ → Type 0) → ℕ → Type 0
 IsFirst P place = P place × ((earlier : ℕ) → earlier < place → ¬ P earlier)
 
--- the fault of a sketch: too many operations, else the first name that is given again, else the first that is wanted
+-- the fault of steps: too many operations, else the first name that is given again, else the first that is wanted
 -- and not given
-abbrev pub HasFault : List Step → SketchFault → Type 0
+abbrev pub HasFault : List Step → StepsFault → Type 0
 HasFault steps Full = MAX_OPS < op_count steps
 HasFault steps (Twice place) = (op_count steps ≤ MAX_OPS) × IsFirst (GivesAgain steps) place
 HasFault steps (Unknown place) = (op_count steps ≤ MAX_OPS) × ((again : ℕ) → ¬ GivesAgain steps again)

@@ -1,7 +1,7 @@
--- The steps of a sketch, and the numbers of its operations.
+-- Steps, and the numbers of their operations.
 use Rattle.std.specs.Prelude.{◌≡◌, ℕ, List, ◌∷◌, ◌++◌, Bool, true, false, count_by}
-use Rattle.dvg_sketch.specs.declared.step.Step.{Step}
-use Rattle.dvg_sketch.specs.declared.step.Step.TheVariants.{Name, Call, Jump}
+use Rattle.dvg_steps.specs.declared.step.Step.{Step}
+use Rattle.dvg_steps.specs.declared.step.Step.TheVariants.{Name, Call, Jump}
 
 -- the step is an operation
 abbrev pub is_operation : Step → Bool

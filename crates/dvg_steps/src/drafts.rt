@@ -1,11 +1,11 @@
-//! The draft of a sketch.
+//! The draft of a list of steps.
 ghost use Rattle.std.specs.Prelude.{◌≡◌, ◌≤◌, ℕ, IfErr, IfOk, IsOk, MatchOption, true};
 ghost use Rattle.dvg_frame.specs.declared.draft.TheConstants.{MAX_OPS};
-ghost use Rattle.dvg_sketch.specs.Sketches.{GivesAgain, HasFault, IsDraftOf, IsDrafted, IsFirst};
-ghost use Rattle.dvg_sketch.specs.Sketches.{WantsUnknown};
-ghost use Rattle.dvg_sketch.specs.Steps.{IsNumberOf, is_operation, op_count};
+ghost use Rattle.dvg_steps.specs.Drafts.{GivesAgain, HasFault, IsDraftOf, IsDrafted, IsFirst};
+ghost use Rattle.dvg_steps.specs.Drafts.{WantsUnknown};
+ghost use Rattle.dvg_steps.specs.Steps.{IsNumberOf, is_operation, op_count};
 
-use crate::fault::SketchFault;
+use crate::fault::StepsFault;
 use crate::step::Step;
 use dvg_frame::{Draft, MAX_OPS, Op, OpKind};
 
@@ -74,22 +74,22 @@ fn operation(steps: &[Step], step: &Step) -> Option<Op>
 ///
 /// A name after the last operation names one that doesn't exist. The check of a draft refuses that
 /// where it is used.
-pub fn draft_of(steps: &[Step]) -> Result<Draft, SketchFault>
+pub fn draft_of(steps: &[Step]) -> Result<Draft, StepsFault>
     ensures draft { IfOk result (IsDraftOf steps.now) }
     ensures once { IsOk result → (place : ℕ) → ¬ GivesAgain steps.now place }
     ensures fault { IfErr result (HasFault steps.now) }
 {
     if steps.iter().filter(|step| step.is_operation()).count() > MAX_OPS {
-        return Err(SketchFault::Full);
+        return Err(StepsFault::Full);
     }
     if let Some(place) = given_again(steps) {
-        return Err(SketchFault::Twice(place));
+        return Err(StepsFault::Twice(place));
     }
     let mut draft = Draft::new();
     for (place, step) in steps.iter().enumerate() {
         if step.is_operation() {
             let Some(op) = operation(steps, step) else {
-                return Err(SketchFault::Unknown(place));
+                return Err(StepsFault::Unknown(place));
             };
             draft.push(op).unwrap();
         }

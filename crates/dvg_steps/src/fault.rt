@@ -1,9 +1,9 @@
-//! What is wrong with a sketch.
+//! What is wrong with a list of steps.
 use thiserror::Error;
 
-/// Why no draft is made of a sketch. Steps are counted from 0 (this project's own choice).
+/// Why no draft is made of steps. They are counted from 0 (this project's own choice).
 #[derive(Clone, Copy, Debug, PartialEq, Eq, Error)]
-pub enum SketchFault {
+pub enum StepsFault {
     /// There are more than 511 operations.
     #[error("there are more than 511 operations")]
     Full,

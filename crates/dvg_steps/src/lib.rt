@@ -1,11 +1,11 @@
-//! Sketches: drafts whose operations call and jump to each other by name, so that nobody counts
-//! them.
+//! Drafts made in code of steps: operations call and jump to each other by name, so that nobody
+//! counts them.
 #![tactic(auto)]
 
+mod drafts;
 mod fault;
-mod sketch;
 mod step;
 
-pub use fault::SketchFault;
-pub use sketch::draft_of;
+pub use drafts::draft_of;
+pub use fault::StepsFault;
 pub use step::Step;

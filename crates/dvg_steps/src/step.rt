@@ -1,7 +1,7 @@
-//! The steps of a sketch.
+//! The steps of a list of operations by name.
 use dvg_frame::Op;
 
-/// A step of a sketch.
+/// A step: an operation, or the name of the one that comes next.
 #[derive(Clone, Copy, Debug, PartialEq, Eq)]
 pub enum Step<'a> {
     /// Names the operation that comes next.
@@ -16,7 +16,7 @@ pub enum Step<'a> {
 
 impl<'a> Step<'a> {
     ghost use Rattle.std.specs.Prelude.{◌≡◌, ◌↔◌, IsTrue};
-    ghost use Rattle.dvg_sketch.specs.Steps.{Names, is_operation};
+    ghost use Rattle.dvg_steps.specs.Steps.{Names, is_operation};
 
     // Returns whether the step is an operation.
     pub(crate) fn is_operation(&self) -> bool

@@ -2,7 +2,7 @@
 use crate::drafts::{behind_labs, draw, vctr};
 use dvg_code::Instr;
 use dvg_frame::{Op, OpKind};
-use dvg_sketch::{SketchFault, Step, draft_of};
+use dvg_steps::{StepsFault, Step, draft_of};
 use std::test::Fail;
 
 /// Returns an operation of the kind `kind`.
@@ -46,7 +46,7 @@ fn names_stand_for_the_operations_behind_them(rt: HostRuntime) -> Result<(), Fai
 }
 
 #[test]
-fn a_sketch_has_the_first_of_its_faults(rt: HostRuntime) -> Result<(), Fail> {
+fn steps_have_the_first_of_their_faults(rt: HostRuntime) -> Result<(), Fail> {
     let halt = op(OpKind::Halt)?;
     let twice = [
         Step::Name("a"),
@@ -54,13 +54,13 @@ fn a_sketch_has_the_first_of_its_faults(rt: HostRuntime) -> Result<(), Fail> {
         Step::Call("b"),
         Step::Name("a"),
     ];
-    assert_eq!(rt; draft_of(&twice).err(), Some(SketchFault::Twice(3)));
+    assert_eq!(rt; draft_of(&twice).err(), Some(StepsFault::Twice(3)));
     let unknown = [
         Step::Name("a"),
         Step::Op(halt),
         Step::Call("a"),
         Step::Jump("b"),
     ];
-    assert_eq!(rt; draft_of(&unknown).err(), Some(SketchFault::Unknown(3)));
+    assert_eq!(rt; draft_of(&unknown).err(), Some(StepsFault::Unknown(3)));
     Ok(())
 }

@@ -4,17 +4,17 @@ ghost use Rattle.test_facts.specs.Facts.{called_draft};
 
 use dvg_code::{Code, Instr};
 use dvg_frame::{Draft, Op, OpKind};
-use dvg_sketch::{SketchFault, Step, draft_of};
+use dvg_steps::{StepsFault, Step, draft_of};
 
-/// A sketch that has nothing but a name is a draft without operations.
-pub fn name_alone() -> Result<Draft, SketchFault>
+/// Of steps that are nothing but a name a draft without operations is made.
+pub fn name_alone() -> Result<Draft, StepsFault>
     ensures { IfOk result (λ draft. draft ≡ []) }
 {
     draft_of(&[Step::Name("end")])
 }
 
 /// The call of a named subroutine calls operation 2, as the name stands before it.
-pub fn called_by_name() -> Result<Draft, SketchFault>
+pub fn called_by_name() -> Result<Draft, StepsFault>
     ensures { result ≡ Ok called_draft }
 {
     let vector = Code::within(Instr::Vctr {

@@ -63,9 +63,9 @@ pub mod prelude {
 
 /// What a dump of the vector memory draws.
 pub use dvg_dump as dump;
-/// Sketches as texts: drafts with names, and shapes in a ROM.
-pub use dvg_named as named;
+/// Sketches: texts of frames whose operations have names, and of shapes in a ROM.
+pub use dvg_named as sketch;
 /// Drafts, ROMs and traces as texts.
 pub use dvg_read as read;
-/// Drafts whose operations call each other by name.
-pub use dvg_sketch as sketch;
+/// Drafts made in code of steps, which call each other by name.
+pub use dvg_steps as steps;

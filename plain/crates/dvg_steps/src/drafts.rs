@@ -1,5 +1,5 @@
-//! The draft of a sketch.
-use crate::fault::SketchFault;
+//! The draft of a list of steps.
+use crate::fault::StepsFault;
 use crate::step::Step;
 use dvg_frame::{Draft, MAX_OPS, Op, OpKind};
 
@@ -56,18 +56,18 @@ fn operation(steps: &[Step], step: &Step) -> Option<Op> {
 ///
 /// A name after the last operation names one that doesn't exist. The check of a draft refuses that
 /// where it is used.
-pub fn draft_of(steps: &[Step]) -> Result<Draft, SketchFault> {
+pub fn draft_of(steps: &[Step]) -> Result<Draft, StepsFault> {
     if steps.iter().filter(|step| step.is_operation()).count() > MAX_OPS {
-        return Err(SketchFault::Full);
+        return Err(StepsFault::Full);
     }
     if let Some(place) = given_again(steps) {
-        return Err(SketchFault::Twice(place));
+        return Err(StepsFault::Twice(place));
     }
     let mut draft = Draft::new();
     for (place, step) in steps.iter().enumerate() {
         if step.is_operation() {
             let Some(op) = operation(steps, step) else {
-                return Err(SketchFault::Unknown(place));
+                return Err(StepsFault::Unknown(place));
             };
             draft.push(op).unwrap();
         }

@@ -1,7 +1,7 @@
-//! The steps of a sketch.
+//! The steps of a list of operations by name.
 use dvg_frame::Op;
 
-/// A step of a sketch.
+/// A step: an operation, or the name of the one that comes next.
 #[derive(Clone, Copy, Debug, PartialEq, Eq, Hash)]
 pub enum Step<'a> {
     /// Names the operation that comes next.

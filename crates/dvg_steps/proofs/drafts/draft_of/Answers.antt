@@ -1,8 +1,8 @@
 use Rattle.std.proofs.Common.{◌≡◌, ◌∙◌, ◌++◌, [], ◌∷◌, below_more, length, length-append, refl, rules, sym, ap}
 use Rattle.std.proofs.lemmas.Option.{slice_get_read}
-use Rattle.dvg_sketch.proofs.Places.{count_more, count_same, drafted_more, drafted_same, not_unknown, wants_known, wants_none}
-use Rattle.dvg_sketch.proofs.sketch.draft_of.Goals as goal
-use Rattle.dvg_sketch.proofs.sketch.draft_of.Goals.{then-is_operation+in-Some-operation, else-is_operation}
+use Rattle.dvg_steps.proofs.Places.{count_more, count_same, drafted_more, drafted_same, not_unknown, wants_known, wants_none}
+use Rattle.dvg_steps.proofs.drafts.draft_of.Goals as goal
+use Rattle.dvg_steps.proofs.drafts.draft_of.Goals.{then-is_operation+in-Some-operation, else-is_operation}
 
 pub loop-place-preserved : goal.loop-place-preserved
 loop-place-preserved c =

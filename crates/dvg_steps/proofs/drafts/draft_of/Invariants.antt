@@ -1,8 +1,8 @@
 use Rattle.std.proofs.Common.{◌≡◌, ℕ, ◌<◌, filter, length, take}
 use Rattle.std.specs.List.{AllZip}
-use Rattle.dvg_sketch.specs.Sketches.{IsDrafted, IsUnknown}
-use Rattle.dvg_sketch.specs.Steps.{is_operation, op_count}
-use Rattle.dvg_sketch.proofs.sketch.draft_of.Given as goal
+use Rattle.dvg_steps.specs.Drafts.{IsDrafted, IsUnknown}
+use Rattle.dvg_steps.specs.Steps.{is_operation, op_count}
+use Rattle.dvg_steps.proofs.drafts.draft_of.Given as goal
 
 abbrev pub invariant-loop-place : goal.invariant-loop-place
 invariant-loop-place l = record {

@@ -1,8 +1,8 @@
 use Rattle.std.proofs.Common.{◌∙◌, below_more, sym, arith, refl}
 use Rattle.std.proofs.lemmas.Option.{slice_get_read}
-use Rattle.dvg_sketch.proofs.Places.{inside, name_case, none_by, not_again, other_case}
-use Rattle.dvg_sketch.proofs.sketch.given_again.Goals as goal
-use Rattle.dvg_sketch.proofs.sketch.given_again.Goals.{in-Name+else-is_some, in_default}
+use Rattle.dvg_steps.proofs.Places.{inside, name_case, none_by, not_again, other_case}
+use Rattle.dvg_steps.proofs.drafts.given_again.Goals as goal
+use Rattle.dvg_steps.proofs.drafts.given_again.Goals.{in-Name+else-is_some, in_default}
 
 pub loop-place-preserved : goal.loop-place-preserved
 loop-place-preserved c =

@@ -1,8 +1,8 @@
 use Rattle.std.proofs.Common.{◌∙◌, ◌+◌, arith, drop, subst, sym, take}
 use Rattle.std.proofs.lemmas.List.{take_all}
-use Rattle.dvg_sketch.proofs.Places.{count_front, count_more, count_same, cut_at, NoneNames, no_name, none_more, none_numbered}
-use Rattle.dvg_sketch.proofs.sketch.number_of.Goals as goal
-use Rattle.dvg_sketch.proofs.sketch.number_of.Goals.{then-is_operation, else-is_operation}
+use Rattle.dvg_steps.proofs.Places.{count_front, count_more, count_same, cut_at, NoneNames, no_name, none_more, none_numbered}
+use Rattle.dvg_steps.proofs.drafts.number_of.Goals as goal
+use Rattle.dvg_steps.proofs.drafts.number_of.Goals.{then-is_operation, else-is_operation}
 
 pub returns-then-names : goal.returns-then-names
 returns-then-names c =

@@ -1,7 +1,7 @@
 use Rattle.std.proofs.Common.{◌≡◌, take}
-use Rattle.dvg_sketch.specs.Steps.{op_count}
-use Rattle.dvg_sketch.proofs.Places.{NoneNames}
-use Rattle.dvg_sketch.proofs.sketch.number_of.Given as goal
+use Rattle.dvg_steps.specs.Steps.{op_count}
+use Rattle.dvg_steps.proofs.Places.{NoneNames}
+use Rattle.dvg_steps.proofs.drafts.number_of.Given as goal
 
 abbrev pub invariant-loop-step : goal.invariant-loop-step
 invariant-loop-step l = record {

@@ -1,6 +1,6 @@
 use Rattle.std.proofs.Common.{refl, subst, sym}
-use Rattle.dvg_sketch.specs.Steps.{Wants}
-use Rattle.dvg_sketch.proofs.sketch.operation.Goals as goal
+use Rattle.dvg_steps.specs.Steps.{Wants}
+use Rattle.dvg_steps.proofs.drafts.operation.Goals as goal
 
 pub returns-in-None : goal.returns-in-None
 returns-in-None c = (c.in-Call.name.now, subst (λ step. Wants step c.in-Call.name.now) (sym c.in-Call.is) refl, c.in-None.ensures)

@@ -2,7 +2,7 @@ use Rattle.std.proofs.Common.{◌≡◌, refl, rules}
 use Rattle.dvg_frame.specs.declared.op.OpKind.TheVariants.{Draw, Return}
 use Rattle.test_facts.specs.Facts.{long_vector}
 use Rattle.test_facts.proofs.Called.{called_of}
-use Rattle.test_facts.proofs.sketches.called_by_name.Goals as goal
+use Rattle.test_facts.proofs.steps.called_by_name.Goals as goal
 
 pub returns : goal.returns
 returns c =
