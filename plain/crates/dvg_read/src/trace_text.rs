@@ -137,8 +137,8 @@ impl<A: Allocator + Copy> Reading<A> {
     }
 }
 
-// Whether an offer begins with `line`. Each line outside of offers is asked, so its bytes are matched
-// one by one: a comparison of slices is a call.
+// Whether an offer begins with `line`. Each line outside of offers is asked, so its bytes are
+// matched one by one: a comparison of slices is a call.
 #[inline(always)]
 fn is_offer(line: &[u8]) -> bool {
     matches!(line, b"offer")

@@ -1,5 +1,5 @@
 use Rattle.dvg_named.proofs.UnknownRows.{none_iff}
-use Rattle.dvg_named.proofs.unknown.has_no_number.Goals as goal
+use Rattle.dvg_named.proofs.unknown.is_unknown_in.Goals as goal
 
 pub returns : goal.returns
 returns g c =

@@ -3,7 +3,7 @@ use Rattle.dvg_named.specs.FirstUnknown.{WantsNone, section_held}
 use Rattle.dvg_named.specs.LaidValues.{laid_sections}
 use Rattle.dvg_named.specs.Ungiven.{IsFirstUngiven}
 use Rattle.dvg_named.proofs.UnknownRows.{first_in, none_in}
-use Rattle.dvg_named.proofs.unknown.number_in.Goals as goal
+use Rattle.dvg_named.proofs.unknown.line_of_unknown.Goals as goal
 
 pub returns-in-Some-clause-first : goal.returns-in-Some-clause-first
 returns-in-Some-clause-first g c sections number inside =
