@@ -105,8 +105,8 @@ fn count_all(row: &Row, input: &[u8], programs: &[&Path], folder: &Path) -> io::
     Ok(all)
 }
 
-/// Prints a row: instructions a unit of each program, and the page faults of the proved one beyond a
-/// start.
+/// Prints a row: instructions a unit of each program, and the page faults of the proved one beyond
+/// a start.
 fn print_row(row: &Row, unit: &Unit, all: &[Taken], starts: &[Taken]) {
     let beyond: Vec<Taken> = all
         .iter()
