@@ -20,7 +20,7 @@ use Rattle.dvg_read.specs.TraceGives.{events_read, opened_of, reads_events, read
 use Rattle.dvg_read.specs.TextLines.{AddsOps}
 use Rattle.dvg_read.specs.OpLines.{IsOpLine}
 use Rattle.dvg_read.specs.TraceReading.{does}
-use Rattle.dvg_read.specs.declared.trace_text.Reading.{Reading}
+use Rattle.dvg_read.specs.declared.trace_text.TraceReading.{TraceReading}
 use Rattle.dvg_read.proofs.Heads.{op_unpassed}
 use Rattle.dvg_read.proofs.EventRows.{events_unpassed}
 use Rattle.dvg_read.proofs.ReadTo.{count_on, cut_on, lines_length, unpassed_more, unpassed_one}
@@ -170,7 +170,7 @@ some_ops text left rest n count old new F G opened kept held now r inside a stil
     rw (still, none, same, a.added, sym a.counted) all
 
 -- lines of events, or of operations
-pub reads_ahead : {A : Type 0} (text : List ℕ) (left rest : List (List ℕ)) (n count : ℕ) (old new : Reading A)
+pub reads_ahead : {A : Type 0} (text : List ℕ) (left rest : List (List ℕ)) (n count : ℕ) (old new : TraceReading A)
     → ReadTrace text left n (events_read old) (opened_of old) old.rom → ReadsAhead old left count new rest
     → ReadTrace text rest (n + count) (events_read new) (opened_of new) new.rom
 reads_ahead text left rest n count old new r (reads_events s) =
@@ -181,7 +181,7 @@ reads_ahead text left rest n count old new r (reads_ops s) =
     (opened_of new) old.rom new.rom r s.inside s.adds s.opened s.events s.rom
 
 -- lines of events, as they are taken where no offer is open
-pub ahead_events : {A E : Type 0} (answer : Result ℕ E) (old new : Reading A) (left rest : List (List ℕ))
+pub ahead_events : {A E : Type 0} (answer : Result ℕ E) (old new : TraceReading A) (left rest : List (List ℕ))
     → opened_of old ≡ None → opened_of new ≡ None → new.rom ≡ old.rom
     → IfOk answer (λ count. AddsEvents left (events_read old) count rest (events_read new))
     → IfOk answer (λ count. ReadsAhead old left count new rest)

@@ -4,7 +4,7 @@ use Rattle.dvg_log.specs.declared.event.Event.TheVariants.{Offer}
 use Rattle.dvg_read.specs.TraceGives.{events_read, opened_of}
 use Rattle.dvg_read.proofs.TraceMoves.{end_fits, end_stops, end_taken, end_wants, some_opened}
 use Rattle.dvg_log.specs.declared.trace.TheConstants.{MOST_EVENTS}
-use Rattle.dvg_read.proofs.trace_text.Reading.end_offer.Goals as goal
+use Rattle.dvg_read.proofs.trace_text.TraceReading.end_offer.Goals as goal
 
 pub returns-then-len-eq-MOST_EVENTS-clause-fault : goal.returns-then-len-eq-MOST_EVENTS-clause-fault
 returns-then-len-eq-MOST_EVENTS-clause-fault g c =

@@ -1,7 +1,7 @@
 use Rattle.std.proofs.Common.{◌≡◌, codes, rules, true}
 use Rattle.dvg_read.specs.TraceGives.{events_read, opened_by, opened_of}
 use Rattle.dvg_read.proofs.TraceMoves.{op_stops, op_taken, some_opened}
-use Rattle.dvg_read.proofs.trace_text.Reading.take.Goals as goal
+use Rattle.dvg_read.proofs.trace_text.TraceReading.take.Goals as goal
 
 pub returns-clause-taken : goal.returns-clause-taken
 returns-clause-taken g c =

@@ -4,7 +4,7 @@ use Rattle.dvg_read.specs.TraceGives.{events_read, opened_by, opened_of, reads_o
 use Rattle.dvg_read.proofs.EventHeads.{adds_fit}
 use Rattle.dvg_read.proofs.TraceMoves.{inside_fits, inside_room, none_opened, some_opened}
 use Rattle.dvg_read.proofs.ReadTrace.{ahead_events}
-use Rattle.dvg_read.proofs.trace_text.Reading.take_ahead.Goals as goal
+use Rattle.dvg_read.proofs.trace_text.TraceReading.take_ahead.Goals as goal
 
 pub take_ops-requires : goal.take_ops-requires
 take_ops-requires g c =

@@ -6,8 +6,8 @@ use Rattle.dvg_read.specs.TraceTexts.{EventParts, FitsTrace}
 use Rattle.dvg_read.specs.TraceGives.{events_read, opened_of}
 use Rattle.dvg_read.proofs.TraceMoves.{events_fit, events_stop, events_taken, none_opened, offer_fits, offer_taken, outside_stops, rom_taken}
 use Rattle.dvg_read.proofs.EventRows.{some_events}
-use Rattle.dvg_read.proofs.trace_text.Reading.take_outside.Goals as goal
-use Rattle.dvg_read.proofs.trace_text.Reading.take_outside.Goals.{else-is_empty-via-else-is_empty, else-is_empty-via-then-is_empty+else-take}
+use Rattle.dvg_read.proofs.trace_text.TraceReading.take_outside.Goals as goal
+use Rattle.dvg_read.proofs.trace_text.TraceReading.take_outside.Goals.{else-is_empty-via-else-is_empty, else-is_empty-via-then-is_empty+else-take}
 use Rattle.dvg_read.specs.RomTexts.{RomText}
 use Rattle.dvg_read.specs.RomReading.{HoldsRom, TellsRom}
 
