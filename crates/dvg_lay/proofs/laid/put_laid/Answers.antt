@@ -1,6 +1,6 @@
 use Rattle.std.proofs.Common.{◌∙◌, ◌++◌, ap, map}
 use Rattle.dvg_lay.proofs.LaidBytes.{addressed_bytes}
-use Rattle.dvg_lay.proofs.table.put_laid.Goals as goal
+use Rattle.dvg_lay.proofs.laid.put_laid.Goals as goal
 
 pub loop-item-init : goal.loop-item-init
 loop-item-init g c =
