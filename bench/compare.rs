@@ -1,15 +1,14 @@
-//! Compares the proved program with its plain twin, and with the limit: the same inputs, many
-//! times, one program after the other.
+//! Compares the proved program with its plain twin: the same inputs, many times, one program after
+//! the other.
 //!
-//! `compare ROWS PROVED PLAIN FOLDER [LIMIT]` runs the programs on each row's input, checks that
-//! they write the same and end with the row's status each time, and prints a table. ROWS is `dvg`,
-//! `play`, `picture`, `sketch` or `parts`. It makes the inputs itself and keeps its files in
-//! FOLDER.
+//! `compare ROWS PROVED PLAIN FOLDER` runs the programs on each row's input, checks that they write
+//! the same and end with the row's status each time, and prints a table. ROWS is `dvg`, `play`,
+//! `picture`, `sketch` or `parts`. It makes the inputs itself and keeps its files in FOLDER.
 //!
 //! `compare names PROVED PLAIN FOLDER` runs them once on each sketch that is slow to read.
 //!
-//! `compare ROWS PROVED PLAIN FOLDER LIMIT --instructions` counts instructions and page faults
-//! instead; `--functions` also names those of the proved program that take most.
+//! `compare ROWS PROVED PLAIN FOLDER --instructions` counts instructions and page faults instead;
+//! `--functions` also names those of the proved program that take most.
 
 #[allow(dead_code)]
 mod inputs;
@@ -17,7 +16,7 @@ mod instructions;
 mod rows;
 mod runs;
 
-use rows::{Against, Row, START_UP};
+use rows::Row;
 use rows::{DVG_ROWS, NAME_ROWS, PART_ROWS, PICTURE_ROWS, PLAY_ROWS, SKETCH_ROWS};
 use runs::{Answer, Contender, Cost};
 use std::io;
@@ -41,35 +40,26 @@ const MEMORY_RUNS: usize = 11;
 struct Programs<'a> {
     proved: &'a Path,
     plain: &'a Path,
-    limit: Option<&'a Path>,
     folder: &'a Path,
 }
 
 impl Programs<'_> {
-    /// Those that a row compares: the proved one, what it is compared with, and the limit.
+    /// Those that a row compares: the proved one, and what it is compared with.
     fn contenders(&self, row: &Row) -> Vec<Contender> {
-        let (other, arguments) = match row.against {
-            Against::Itself(arguments) => (self.proved, arguments),
-            _ => (self.plain, row.arguments),
+        let (other, arguments) = match row.against_itself {
+            Some(arguments) => (self.proved, arguments),
+            None => (self.plain, row.arguments),
         };
-        let limit = match row.against {
-            Against::Others => self.limit,
-            _ => None,
-        };
-        let mut contenders = vec![
+        vec![
             Contender::new(self.proved, row.arguments, "proved", self.folder),
             Contender::new(other, arguments, "other", self.folder),
-        ];
-        contenders.extend(limit.map(|it| Contender::new(it, row.arguments, "limit", self.folder)));
-        contenders
+        ]
     }
 }
 
-/// What a row's runs took of each program: their times, the times of as many starts between them,
-/// and their memory.
+/// What a row's runs took of each program: their times, and their memory.
 struct Measures {
     timed: Measured,
-    starts: Measured,
     memory: Measured,
 }
 
@@ -107,22 +97,11 @@ fn run_each(
     Ok(())
 }
 
-/// Measures a row: times for so long, and memory. Where `parts` isn't set, each program is started
-/// once between its runs, too.
-fn measure(row: &Row, programs: &Programs, time: Duration, parts: bool) -> io::Result<Measures> {
+/// Measures a row: times for so long, and memory.
+fn measure(row: &Row, programs: &Programs, time: Duration) -> io::Result<Measures> {
     let contenders = programs.contenders(row);
-    let starting = Row {
-        against: row.against,
-        ..START_UP
-    };
-    let starters: Vec<Contender> = programs
-        .contenders(&starting)
-        .into_iter()
-        .map(Contender::of_nothing)
-        .collect();
     let nothing = || vec![Vec::new(); contenders.len()];
-    let (mut warm, mut timed, mut starts, mut memory) =
-        (nothing(), nothing(), nothing(), nothing());
+    let (mut warm, mut timed, mut memory) = (nothing(), nothing(), nothing());
     contenders[0].write_input(&(row.input)())?;
     for _ in 0..WARM_UP_RUNS {
         run_each(row, Contender::timed_run, &contenders, 0, &mut warm)?;
@@ -132,24 +111,11 @@ fn measure(row: &Row, programs: &Programs, time: Duration, parts: bool) -> io::R
         // The order changes each time, so that whatever else the machine does meets all alike.
         let first = timed[0].len() % contenders.len();
         run_each(row, Contender::timed_run, &contenders, first, &mut timed)?;
-        if !parts {
-            run_each(
-                &starting,
-                Contender::timed_run,
-                &starters,
-                first,
-                &mut starts,
-            )?;
-        }
     }
     for _ in 0..MEMORY_RUNS {
         run_each(row, Contender::memory_run, &contenders, 0, &mut memory)?;
     }
-    Ok(Measures {
-        timed,
-        starts,
-        memory,
-    })
+    Ok(Measures { timed, memory })
 }
 
 /// The median and the least of some numbers.
@@ -173,70 +139,33 @@ fn print_measure(
         .collect();
     let (ratio, least) = (numbers[0].0 / numbers[1].0, numbers[0].1 / numbers[1].1);
     print!("{name:<48} {measure:<13}");
-    for (median, _) in &numbers[..2] {
+    for (median, _) in &numbers {
         print!(" {median:>9.decimals$}");
     }
-    print!(" {ratio:>7.2} {least:>7.2}");
-    if let Some((median, _)) = numbers.get(2) {
-        print!(" {median:>9.decimals$}");
-    }
-}
-
-/// The least processor time of each program; 0 without runs.
-fn least_times(runs: &Measured) -> Vec<f64> {
-    let least = |costs: &Vec<Cost>| {
-        let times = costs.iter().map(|cost| cost.processor_ms);
-        times.min_by(f64::total_cmp).unwrap_or(0.0)
-    };
-    runs.iter().map(least).collect()
-}
-
-/// Prints how many times the limit's processor time the proved program takes, each by the least and
-/// without its start-up, and what is wanted. A limit that is as good as nothing has no such number.
-fn print_beyond(row: &Row, measures: &Measures) {
-    let beyond: Vec<f64> = least_times(&measures.timed)
-        .iter()
-        .zip(least_times(&measures.starts))
-        .map(|(all, start)| all - start)
-        .collect();
-    match beyond[..] {
-        [proved, _, limit] if limit > 0.01 => print!(" {:>7.2}", proved / limit),
-        [_, _, _] => print!(" {:>7}", "-"),
-        _ => return,
-    }
-    if let Some(wanted) = row.wanted {
-        print!(" {wanted:>7.1}");
-    }
+    println!(" {ratio:>7.2} {least:>7.2}");
 }
 
 /// Prints the three lines of a row.
 fn print_row(row: &Row, measures: &Measures) {
     let timed = &measures.timed;
     print_measure(row.name, "wall ms", 3, timed, |cost| cost.wall_ms);
-    println!();
     let runs = format!("  {} runs each", timed[0].len());
     print_measure(&runs, "processor ms", 3, timed, |cost| cost.processor_ms);
-    print_beyond(row, measures);
-    println!();
     print_measure("", "memory KiB", 0, &measures.memory, |cost| {
         cost.memory_kib
     });
-    println!();
 }
 
 /// Measures all rows and prints the table.
-fn compare(rows: &[Row], programs: &Programs, parts: bool) -> io::Result<()> {
+fn compare(rows: &[Row], programs: &Programs) -> io::Result<()> {
+    println!("Medians of each program's runs; proved / plain of the medians and of the least.\n");
     println!(
-        "Medians of each program's runs; proved / plain of the medians and of the least;\n\
-         and proved / limit of the least processor times, each without its start-up.\n"
-    );
-    println!(
-        "{:<48} {:<13} {:>9} {:>9} {:>7} {:>7} {:>9} {:>7} {:>7}",
-        "row", "measure", "proved", "plain", "ratio", "least", "limit", "beyond", "wanted"
+        "{:<48} {:<13} {:>9} {:>9} {:>7} {:>7}",
+        "row", "measure", "proved", "plain", "ratio", "least"
     );
     let time = TIMED / rows.len() as u32;
     for row in rows {
-        print_row(row, &measure(row, programs, time, parts)?);
+        print_row(row, &measure(row, programs, time)?);
     }
     Ok(())
 }
@@ -261,7 +190,7 @@ fn compare_once(rows: &[Row], programs: &Programs) -> io::Result<()> {
 
 /// Says how the program is called.
 fn misuse() -> ExitCode {
-    eprintln!("usage: compare ROWS PROVED PLAIN FOLDER [LIMIT [--instructions | --functions]]");
+    eprintln!("usage: compare ROWS PROVED PLAIN FOLDER [--instructions | --functions]");
     eprintln!("       compare names PROVED PLAIN FOLDER");
     eprintln!("ROWS is dvg, play, picture, sketch or parts");
     ExitCode::from(64)
@@ -283,19 +212,17 @@ fn main() -> ExitCode {
         _ => return misuse(),
     };
     let (proved, plain, folder) = (Path::new(proved), Path::new(plain), Path::new(folder));
-    let limit = others.first().map(Path::new);
     let parts = *name == "parts";
     let programs = Programs {
         proved,
         plain,
-        limit,
         folder,
     };
-    let done = match (others, limit) {
-        ([], _) if *name == "names" => compare_once(rows, &programs),
-        ([] | [_], _) => compare(rows, &programs, parts),
-        ([_, what @ ("--instructions" | "--functions")], Some(limit)) => {
-            let programs = [proved, plain, limit];
+    let done = match others {
+        [] if *name == "names" => compare_once(rows, &programs),
+        [] => compare(rows, &programs),
+        [what @ ("--instructions" | "--functions")] => {
+            let programs = [proved, plain];
             instructions::count(rows, &programs, folder, parts, *what == "--functions")
         }
         _ => return misuse(),

@@ -1,7 +1,7 @@
 //! Instructions that programs take for a unit of a row, by valgrind's tool callgrind: in their own
 //! code, without the kernel's. Where times waver, these hardly do. Beside them stand page faults.
 
-use crate::rows::{Against, Row, START_UP, Unit};
+use crate::rows::{Row, START_UP, Unit};
 use crate::runs::Contender;
 use std::collections::HashMap;
 use std::fs;
@@ -28,7 +28,7 @@ fn counts_of(folder: &Path) -> PathBuf {
 }
 
 /// How many instructions a run takes.
-fn counted(contender: &Contender, folder: &Path) -> io::Result<f64> {
+pub fn counted(contender: &Contender, folder: &Path) -> io::Result<f64> {
     let output = counts_of(folder);
     let out = format!("--callgrind-out-file={}", output.display());
     contender
@@ -105,16 +105,8 @@ fn count_all(row: &Row, input: &[u8], programs: &[&Path], folder: &Path) -> io::
     Ok(all)
 }
 
-/// The programs of a row, of which the limit is the last one.
-fn programs_of<'a>(row: &Row, programs: &'a [&'a Path; 3]) -> &'a [&'a Path] {
-    match row.against {
-        Against::Others => programs,
-        _ => &programs[..2],
-    }
-}
-
-/// Prints a row: instructions a unit of each program, proved / limit, and the page faults of both
-/// beyond a start.
+/// Prints a row: instructions a unit of each program, and the page faults of the proved one beyond
+/// a start.
 fn print_row(row: &Row, unit: &Unit, all: &[Taken], starts: &[Taken]) {
     let beyond: Vec<Taken> = all
         .iter()
@@ -128,22 +120,14 @@ fn print_row(row: &Row, unit: &Unit, all: &[Taken], starts: &[Taken]) {
     for taken in &beyond {
         print!(" {:>10.2}", taken.instructions);
     }
-    match beyond[..] {
-        [proved, _, limit] if limit.instructions > 0.0 => println!(
-            " {:>14.1} {:>7} {:>7}",
-            proved.instructions / limit.instructions,
-            proved.faults,
-            limit.faults
-        ),
-        _ => println!(),
-    }
+    println!(" {:>7}", beyond[0].faults);
 }
 
 /// Counts what all rows take that have a unit, and prints the table. The programs are the proved
-/// one, its twin and the limit. With `functions` those of the proved one that take most are named.
+/// one and its twin. With `functions` those of the proved one that take most are named.
 pub fn count(
     rows: &[Row],
-    programs: &[&Path; 3],
+    programs: &[&Path; 2],
     folder: &Path,
     parts: bool,
     functions: bool,
@@ -153,7 +137,7 @@ pub fn count(
         faults: 0,
     };
     let starts = if parts {
-        vec![nothing; 3]
+        vec![nothing; 2]
     } else {
         count_all(&START_UP, &[], programs, folder)?
     };
@@ -164,16 +148,16 @@ pub fn count(
     let start_up: Vec<f64> = starts.iter().map(|start| start.instructions).collect();
     println!(
         "Instructions in all of a start, {start_up:.0?}, are taken off, then a unit of each;\n\
-         and the page faults of the proved one and of the limit beyond a start.\n"
+         and the page faults of the proved one beyond a start.\n"
     );
     println!(
-        "{:<48} {:<10} {:>10} {:>10} {:>10} {:>14} {:>7} {:>7}",
-        "row", "unit", "proved", "plain", "limit", "proved / limit", "faults", "limit"
+        "{:<48} {:<10} {:>10} {:>10} {:>7}",
+        "row", "unit", "proved", "plain", "faults"
     );
     for row in rows {
         let Some(unit) = &row.unit else { continue };
         let input = unit.input.unwrap_or(row.input)();
-        let all = count_all(row, &input, programs_of(row, programs), folder)?;
+        let all = count_all(row, &input, programs, folder)?;
         print_row(row, unit, &all, &starts);
         if functions {
             print_functions(unit, folder, &start)?;

@@ -1,6 +1,6 @@
-/* Compares the archive of the port to C with its plain twin and with the limit behind the same
- * port, in one process: rounds of each by turns, with the same requests, whose answers must have
- * the same sum. Prints nanoseconds each, and the ratios of the proved one. */
+/* Compares the archive of the port to C with its plain twin behind the same port, in one process:
+ * rounds of each by turns, with the same requests, whose answers must have the same sum. Prints
+ * nanoseconds each, and the ratios of the proved one. */
 #include "port.h"
 
 #include <stdio.h>
@@ -9,34 +9,32 @@
 /* How many rounds are timed, of each. */
 #define ROUNDS 101
 
-/* The names of the rows, and what is wanted of each: a ratio to the twin, nanoseconds, and a ratio
- * to the limit, at most; 0 where nothing is. */
+/* The names of the rows, and what is wanted of each: a ratio to the twin, and nanoseconds, at most;
+ * 0 where nothing is. */
 static const struct {
     const char *name;
     double most;
     double nanoseconds;
-    double most_of_limit;
 } rows[PORT_ROWS] = {
-    [PORT_TICK] = {"tick, in whole frames", 1.1, 0, 0},
-    [PORT_FETCH] = {"fetch of a byte", 1.1, 0, 0},
-    [PORT_OFFER] = {"offer of 250 operations", 1.1, 0, 0},
-    [PORT_OPEN_WORLD] = {"opening of a world", 0, 10000, 0},
-    [PORT_OPEN_DRIVER] = {"opening of a driver alone", 0, 10000, 0},
-    [PORT_FIRST_OFFER] = {"opening of a world, first offer", 0, 0, 0},
-    [PORT_DRIVER_TICK] = {"tick of a driver alone", 1.1, 0, 1.5},
-    [PORT_GENERATOR_FETCH] = {"byte of a generator alone", 1.1, 0, 1.5},
-    [PORT_PUSH] = {"push of an operation", 0, 0, 0},
-    [PORT_STAGE] = {"staging of a byte", 0, 0, 0},
-    [PORT_STROKE] = {"stroke that is told", 0, 0, 0},
+    [PORT_TICK] = {"tick, in whole frames", 1.1, 0},
+    [PORT_FETCH] = {"fetch of a byte", 1.1, 0},
+    [PORT_OFFER] = {"offer of 250 operations", 1.1, 0},
+    [PORT_OPEN_WORLD] = {"opening of a world", 0, 10000},
+    [PORT_OPEN_DRIVER] = {"opening of a driver alone", 0, 10000},
+    [PORT_FIRST_OFFER] = {"opening of a world, first offer", 0, 0},
+    [PORT_DRIVER_TICK] = {"tick of a driver alone", 1.1, 0},
+    [PORT_GENERATOR_FETCH] = {"byte of a generator alone", 1.1, 0},
+    [PORT_PUSH] = {"push of an operation", 0, 0},
+    [PORT_STAGE] = {"staging of a byte", 0, 0},
+    [PORT_STROKE] = {"stroke that is told", 0, 0},
 };
 
 /* Those that are compared. */
-enum contender { PROVED, PLAIN, LIMIT, CONTENDERS };
+enum contender { PROVED, PLAIN, CONTENDERS };
 
 static void (*const round_of[CONTENDERS])(struct port_round *) = {
     [PROVED] = proved_round,
     [PLAIN] = plain_round,
-    [LIMIT] = limit_round,
 };
 
 /* Nanoseconds each, of a row in each round. */
@@ -79,15 +77,13 @@ static int print_row(int row)
         middle[contender] = times[contender][row][ROUNDS / 2];
         least[contender] = times[contender][row][0];
     }
-    printf("%-32s %10.2f %10.2f %10.2f %7.2f %7.2f", rows[row].name, middle[PROVED], middle[PLAIN],
-           middle[LIMIT], middle[PROVED] / middle[PLAIN], least[PROVED] / least[PLAIN]);
+    printf("%-32s %10.2f %10.2f %7.2f %7.2f", rows[row].name, middle[PROVED], middle[PLAIN],
+           middle[PROVED] / middle[PLAIN], least[PROVED] / least[PLAIN]);
     if (rows[row].nanoseconds > 0) {
         over = print_wanted(middle[PROVED], rows[row].nanoseconds, " ns");
     } else {
         over = print_wanted(middle[PROVED] / middle[PLAIN], rows[row].most, "");
     }
-    printf(" %7.2f", least[PROVED] / least[LIMIT]);
-    over += print_wanted(least[PROVED] / least[LIMIT], rows[row].most_of_limit, "");
     printf("\n");
     return over;
 }
@@ -101,7 +97,7 @@ static int run_each(int number)
         int contender = (number + turn) % CONTENDERS;
         sums[contender] = run(contender, number);
     }
-    return sums[PROVED] == sums[PLAIN] && sums[PROVED] == sums[LIMIT];
+    return sums[PROVED] == sums[PLAIN];
 }
 
 int main(void)
@@ -115,10 +111,8 @@ int main(void)
         }
     }
     printf("Nanoseconds each, by the medians of %d rounds; ", ROUNDS);
-    printf("proved / plain of the medians and of the least;\n");
-    printf("and proved / limit of the least.\n\n");
-    printf("%-32s %10s %10s %10s %7s %7s %7s %7s %7s\n", "row", "proved", "plain", "limit", "ratio",
-           "least", "wanted", "limit", "wanted");
+    printf("proved / plain of the medians and of the least.\n\n");
+    printf("%-32s %10s %10s %7s %7s %7s\n", "row", "proved", "plain", "ratio", "least", "wanted");
     for (int row = 0; row < PORT_ROWS; row++) {
         for (int contender = 0; contender < CONTENDERS; contender++) {
             qsort(times[contender][row], ROUNDS, sizeof times[contender][row][0], by_size);

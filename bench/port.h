@@ -29,9 +29,8 @@ struct port_round {
     uint64_t sum;
 };
 
-/* A round by the proved archive, one by its plain twin, and one by the limit. */
+/* A round by the proved archive, and one by its plain twin. */
 void proved_round(struct port_round *round);
 void plain_round(struct port_round *round);
-void limit_round(struct port_round *round);
 
 #endif

@@ -1,6 +1,6 @@
-/* A round of requests through the port to C. It is compiled three times: with ROUND as
- * proved_round, and with ROUND as plain_round and as limit_round and the names of their three
- * functions in the place of dvg_new, dvg_turn and dvg_free. */
+/* A round of requests through the port to C. It is compiled twice: with ROUND as proved_round, and
+ * with ROUND as plain_round and the names of the plain one's three functions in the place of
+ * dvg_new, dvg_turn and dvg_free. */
 #define _POSIX_C_SOURCE 200809L
 #include "dvg.h"
 #include "port.h"

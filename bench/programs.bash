@@ -7,8 +7,3 @@ rustc --edition 2024 -O -o built/compare compare.rs
 cp ../twin/target/fast/twin built/plain
 cp ../twin/target/fast/parts built/plain_parts
 cp ../twin/target/fast/libtwin.a built/libplain_port.a
-
-# The limit wants Linux on x86-64, and a C compiler.
-has_limit() {
-    command -v "${CC:-cc}" >/dev/null && [ "$(uname -sm)" = 'Linux x86_64' ]
-}

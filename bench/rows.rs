@@ -11,23 +11,10 @@ pub struct Row {
     pub input: fn() -> Vec<u8>,
     /// The exit status that they end with.
     pub status: i32,
-    pub against: Against,
-    /// How many times the limit's processor time is wanted of the proved program at most, each
-    /// without its start-up; none where nothing is.
-    pub wanted: Option<f64>,
+    /// The arguments of the proved program with which it is compared in place of the plain one.
+    pub against_itself: Option<&'static [&'static str]>,
     /// What instructions are counted of; none where they aren't.
     pub unit: Option<Unit>,
-}
-
-/// What the proved program is compared with.
-#[derive(Clone, Copy)]
-pub enum Against {
-    /// The plain program, and the limit where it has that row, with the same arguments.
-    Others,
-    /// The plain program alone: the limit has no such row.
-    Plain,
-    /// Itself, with these arguments.
-    Itself(&'static [&'static str]),
 }
 
 /// What instructions are counted of, and how many of it there are.
@@ -49,21 +36,12 @@ const fn row(
         arguments,
         input,
         status: 0,
-        against: Against::Others,
-        wanted: None,
+        against_itself: None,
         unit: None,
     }
 }
 
 impl Row {
-    /// This row, with what is wanted of it.
-    const fn wanted(self, most: f64) -> Row {
-        Row {
-            wanted: Some(most),
-            ..self
-        }
-    }
-
     /// This row, with its unit.
     const fn each(self, name: &'static str, count: usize) -> Row {
         Row {
@@ -93,9 +71,12 @@ impl Row {
         Row { status: 1, ..self }
     }
 
-    /// This row, compared with something else.
-    const fn against(self, against: Against) -> Row {
-        Row { against, ..self }
+    /// This row, where the proved program is compared with itself, called with these arguments.
+    const fn against_itself(self, arguments: &'static [&'static str]) -> Row {
+        Row {
+            against_itself: Some(arguments),
+            ..self
+        }
     }
 }
 
@@ -116,13 +97,11 @@ pub const DVG_ROWS: &[Row] = &[
         &["list", "--at", "201"],
         || vectors(2048),
     )
-    .against(Against::Plain)
     .each("line", 2048),
     row("rom, 2,048 random bytes", &["rom"], || random_bytes(2048)).each("word", 1024),
     row("check, 510 operations, 511 words", &["check"], || {
         operations(510)
     })
-    .wanted(2.0)
     .each("operation", 510),
     row("check, 511 operations: too long", &["check"], || {
         operations(511)
@@ -133,16 +112,17 @@ pub const DVG_ROWS: &[Row] = &[
         &["check"],
         nested_over_rom,
     )
-    .wanted(2.0)
     .each("ROM word", 1024),
     row(
         "check --bound, 510 operations",
         &["check", "--bound"],
         || operations(510),
     ),
-    row("torn, a log of 100 MB", &["torn"], || game_log(100_000_000))
-        .wanted(1.5)
-        .each_of("line", 241_000, || game_log(3_250_000)),
+    row("torn, a log of 100 MB", &["torn"], || game_log(100_000_000)).each_of(
+        "line",
+        241_000,
+        || game_log(3_250_000),
+    ),
     row("torn, 100 MB of comments", &["torn"], || {
         comments(100_000_000)
     })
@@ -164,7 +144,6 @@ pub const PICTURE_ROWS: &[Row] = &[
         &["picture", "--svg"],
         image_of_a_picture,
     )
-    .against(Against::Plain)
     .each("stroke", 254),
     row("picture, endless", &["picture"], image_without_end)
         .refused()
@@ -180,57 +159,44 @@ pub const PICTURE_ROWS: &[Row] = &[
 
 /// What is compared of the commands `render` and `lay`.
 pub const SKETCH_ROWS: &[Row] = &[
-    row("lay, 50 frames", &["lay"], sketch_of_frames)
-        .against(Against::Plain)
-        .each("operation", FRAMES * FRAME_OPERATIONS),
+    row("lay, 50 frames", &["lay"], sketch_of_frames).each("operation", FRAMES * FRAME_OPERATIONS),
     row(
         "lay --table, 50 frames",
         &["lay", "--table"],
         sketch_of_frames,
     )
-    .against(Against::Plain)
     .each("operation", FRAMES * FRAME_OPERATIONS),
-    row("lay --rom, 1,000 names", &["lay", "--rom"], sketch_of_names)
-        .against(Against::Plain)
-        .each("name", ROM_NAMES),
+    row("lay --rom, 1,000 names", &["lay", "--rom"], sketch_of_names).each("name", ROM_NAMES),
     row("render, a frame of 500 vectors", &["render"], || {
         frame_of_vectors(500)
     })
-    .against(Against::Plain)
     .each("stroke", 500),
-    row("render, 50 frames", &["render"], sketch_of_frames)
-        .against(Against::Plain)
-        .each("stroke", FRAMES * FRAME_STROKES),
+    row("render, 50 frames", &["render"], sketch_of_frames).each("stroke", FRAMES * FRAME_STROKES),
     row(
         "render --check, 50 frames",
         &["render", "--check"],
         sketch_of_frames,
     )
-    .against(Against::Plain)
     .each("operation", FRAMES * FRAME_OPERATIONS),
 ];
 
 /// Sketches of 1 MiB that were slow to read, while names were looked for one after the other. Each
 /// is read once.
 pub const NAME_ROWS: &[Row] = &[
-    row("lay, 174,760 names in a frame", &["lay"], names_alone).against(Against::Plain),
+    row("lay, 174,760 names in a frame", &["lay"], names_alone),
     row("lay, 105,000 names in the ROM, and calls", &["lay"], || {
         names_called(105_000)
-    })
-    .against(Against::Plain),
+    }),
 ];
 
 /// What is compared of the command `play`.
 pub const PLAY_ROWS: &[Row] = &[
-    row("play, 65,536 mixed events", &["play"], mixed_events)
-        .wanted(2.0)
-        .each("event", 65_536),
+    row("play, 65,536 mixed events", &["play"], mixed_events).each("event", 65_536),
     row(
         "play --all, 65,536 mixed events",
         &["play", "--all"],
         mixed_events,
     )
-    .wanted(2.0)
     .each("event", 65_536),
     row(
         "play --banked, 65,536 mixed events",
@@ -242,58 +208,46 @@ pub const PLAY_ROWS: &[Row] = &[
         &["play", "--banked"],
         mixed_events,
     )
-    .against(Against::Itself(&["play"])),
+    .against_itself(&["play"]),
     row("play, 65,536 ticks", &["play"], ticks).each("event", 65_536),
-    row("play --all, 65,536 ticks", &["play", "--all"], ticks)
-        .wanted(3.0)
-        .each("event", 65_536),
-    row("play, 65,536 resets", &["play"], resets)
-        .wanted(2.5)
-        .each("event", 65_536),
-    row("play, 62 pictures of 254 strokes", &["play"], pictures)
-        .wanted(2.0)
-        .each("event", 64_579),
+    row("play --all, 65,536 ticks", &["play", "--all"], ticks).each("event", 65_536),
+    row("play, 65,536 resets", &["play"], resets).each("event", 65_536),
+    row("play, 62 pictures of 254 strokes", &["play"], pictures).each("event", 64_579),
     row(
         "play --all, 62 pictures of 254 strokes",
         &["play", "--all"],
         pictures,
     )
-    .wanted(2.0)
     .each("event", 64_579),
     row(
         "play --svg, 62 pictures of 254 strokes",
         &["play", "--svg"],
         pictures,
     )
-    .against(Against::Plain)
     .each("event", 64_579),
     row(
         "play, 1 MiB of offers, 510 operations each",
         &["play"],
         || offers(&operations(510)),
     )
-    .wanted(2.5)
     .each("operation", OFFERED_OPERATIONS),
     row(
         "play --all, 1 MiB of offers, 510 operations each",
         &["play", "--all"],
         || offers(&operations(510)),
     )
-    .wanted(2.5)
     .each("operation", OFFERED_OPERATIONS),
     row(
         "play, 1 MiB of offers, 2 operations each",
         &["play"],
         || offers(SMALLEST),
     )
-    .wanted(2.5)
     .each("offer", SMALLEST_OFFERS),
     row(
         "play --all, 1 MiB of offers, 2 operations each",
         &["play", "--all"],
         || offers(SMALLEST),
     )
-    .wanted(2.5)
     .each("offer", SMALLEST_OFFERS),
 ];
 
@@ -306,9 +260,7 @@ const SMALLEST_OFFERS: usize = 1_048_576 / (SMALLEST.len() + 10);
 /// What is compared of single parts, each of which runs many times in one process and reads
 /// nothing.
 pub const PART_ROWS: &[Row] = &[
-    row("generator, 2,000,000 bytes", &["generator"], Vec::new)
-        .wanted(1.5)
-        .each("byte", 2_000_000),
+    row("generator, 2,000,000 bytes", &["generator"], Vec::new).each("byte", 2_000_000),
     row(
         "200 checks, 1,024 ROM words at 5 depths",
         &["check"],
@@ -328,9 +280,7 @@ pub const PART_ROWS: &[Row] = &[
     )
     .each("check", 200),
     row("200,000 checks, 5 operations", &["check-short"], Vec::new).each("check", 200_000),
-    row("driver, 1,000,000 ticks", &["driver"], Vec::new)
-        .wanted(1.5)
-        .each("tick", 1_000_000),
-    row("100 runs of 65,536 mixed events", &["world"], Vec::new).against(Against::Plain),
-    row("400 times first_torn, 65,536 entries", &["judge"], Vec::new).against(Against::Plain),
+    row("driver, 1,000,000 ticks", &["driver"], Vec::new).each("tick", 1_000_000),
+    row("100 runs of 65,536 mixed events", &["world"], Vec::new),
+    row("400 times first_torn, 65,536 entries", &["judge"], Vec::new),
 ];

@@ -57,14 +57,6 @@ impl Contender {
         }
     }
 
-    /// The same, but it reads nothing.
-    pub fn of_nothing(self) -> Contender {
-        Contender {
-            input: PathBuf::from("/dev/null"),
-            ..self
-        }
-    }
-
     /// Gives all that read from this folder another input.
     pub fn write_input(&self, input: &[u8]) -> io::Result<()> {
         fs::write(&self.input, input)

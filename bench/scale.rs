@@ -127,7 +127,8 @@ fn print_row(number: usize, program: &Path, folder: &Path, start: f64) -> io::Re
 
 /// Prints the table.
 fn print_table(program: &Path, folder: &Path) -> io::Result<()> {
-    let starter = Contender::new(program, &["list"], "scale", folder).of_nothing();
+    let starter = Contender::new(program, &["list"], "scale", folder);
+    starter.write_input(&[])?;
     let start = counted(&starter, folder)?;
     println!("A start is taken off: {start:.0} instructions.\n");
     println!(

@@ -9,10 +9,9 @@
 //!
 //! 1. It takes away: `ghost` items, fields and uses; the clauses `requires` and `ensures`; `impl
 //!    Model` and the use of `Model`; `tactic` attributes; `Drop` among derives; `derive_where` with
-//!    a parameter; the module `laws`, also that of another crate, and those of `FOR_LAWS`; the
-//!    `use` of one law of another crate, and its calls, each a statement; modules of tests; and
-//!    names that are imported for contracts alone. A comment right before one of these items goes
-//!    with it.
+//!    a parameter; the module `laws`, also that of another crate; the `use` of one law of another
+//!    crate, and its calls, each a statement; modules of tests; and names that are imported for
+//!    contracts alone. A comment right before one of these items goes with it.
 //! 2. It writes otherwise: `derive_where(X)` as `derive(X)`; `rattlefmt::skip` as `rustfmt::skip`;
 //!    the signature of `Display::fmt`, and of functions that a `Formatter<W>` is handed to; `main`,
 //!    which gets its runtime by a line of its own; `to_ascii_lowercase` with an allocator, which
@@ -146,12 +145,6 @@ const RATTLE_WORDS: [&str; 5] = ["Model", "decreases", "invariant", "proof", "ta
 
 /// The modules that have no code, each in a file of its own.
 const ERASED_MODULES: [&str; 2] = ["laws", "tests"];
-
-/// The private modules of code that laws alone call, each in a file of its own:
-///
-/// - `trace_following` of dvg_read: a reader of traces that takes no memory, by which a law says
-///   that each trace has one meaning or one fault.
-const FOR_LAWS: [&str; 1] = ["trace_following"];
 
 /// Why a source is refused, and at which byte.
 #[derive(Debug, PartialEq, Eq)]
@@ -465,10 +458,7 @@ impl<'a> Eraser<'a> {
         let mut lines = self.text[self.at..].split_inclusive(|byte| *byte == b';');
         let line = lines.next().unwrap_or_default();
         let is_theirs = line.starts_with(b"pub use ") && line.ends_with(b"::laws;");
-        let is_for_laws = FOR_LAWS
-            .iter()
-            .any(|name| line == format!("mod {name};").as_bytes());
-        if is_theirs || is_for_laws || line == b"pub mod laws;" || line == b"mod laws;" {
+        if is_theirs || line == b"pub mod laws;" || line == b"mod laws;" {
             self.drop_line(self.at + line.len());
         } else {
             self.copy_word(end);
@@ -967,7 +957,7 @@ fn erased_crate(folder: &Path, beside: Option<&str>) -> Result<Vec<(String, Stri
     let mut made = Vec::new();
     for file in files_of(folder)? {
         let stem = stem_of(&file)?;
-        if ERASED_MODULES.contains(&stem) || FOR_LAWS.contains(&stem) {
+        if ERASED_MODULES.contains(&stem) {
             continue;
         }
         let text = fs::read_to_string(&file).map_err(|e| format!("{}: {e}", file.display()))?;
@@ -1171,7 +1161,6 @@ mod tests {
     #[test]
     fn laws_and_tests_go() {
         leaves("mod a;\npub mod laws;\nmod b;\n", "mod a;\nmod b;\n");
-        leaves("mod a;\nmod trace_following;\nmod b;\n", "mod a;\nmod b;\n");
         leaves("pub use a::B;\npub use b::laws;\n", "pub use a::B;\n");
         stays("pub use a::laws::B;\npub use a::outlaws;\n");
         leaves("mod a;\n\n#[cfg(test)]\nmod tests;\n", "mod a;\n");

@@ -12,7 +12,7 @@ use std::sync::atomic::{AtomicBool, AtomicUsize, Ordering::Relaxed};
 use gerbilargent::alloc::Vec;
 use gerbilargent::alloc::allocator_api2::alloc::{AllocError, Allocator, Global};
 use gerbilargent::dump::Dump;
-use gerbilargent::named::read_sketch;
+use gerbilargent::sketch::read_sketch;
 use gerbilargent::read::read_trace;
 use gerbilargent::{
     Action, Banked, Code, Draft, Entry, Flat, Generator, Image, Instr, Op, OpKind, Rom, Store,

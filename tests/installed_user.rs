@@ -7,7 +7,7 @@ use gerbilargent::alloc::{AllocError, AllocFailed, Vec};
 use gerbilargent::{
     Action, BadCode, BadOp, Code, CodeFault, Draft, DraftFull, Driver, DriverFault, Entry, Flat,
     FrameFault, GenFault, Generator, Global, Image, Instr, Judge, MemFault, MomentJudge, Op,
-    OpKind, OutOfMemory, Rom, Stopped, Stroke, World, WrappingGenerator, dump, read, sketch,
+    OpKind, OutOfMemory, Rom, Stopped, Stroke, World, WrappingGenerator, dump, read, steps,
 };
 
 /// All names of the crate at once leave std's as they are, and so does the prelude.
@@ -135,7 +135,7 @@ fn name_errors() {
     is_error::<dump::DumpFault>();
     is_error::<read::TextFault>();
     is_error::<read::Unread>();
-    is_error::<sketch::SketchFault>();
+    is_error::<steps::StepsFault>();
 }
 
 /// What may go to another thread.

@@ -16,9 +16,7 @@ import sys
 from pathlib import Path
 
 TOKEN = re.compile(r"""//[^\n]*|"(?:[^"\\]|\\.)*"|'(?:[^'\\]|\\[^\n]*?)'|\w+|[^\w\s]""", re.DOTALL)
-# The private modules of code that laws alone call.
-FOR_LAWS = ["trace_following"]
-MODULES_WITHOUT_CODE = {"laws", "tests", *FOR_LAWS}
+MODULES_WITHOUT_CODE = {"laws", "tests"}
 NO_STD = "#![no_std]"
 EXTERN = "extern crate plain_std as std;"
 PRELUDE = "use std::prelude::*;"
@@ -134,7 +132,6 @@ class Source:
     def skipped_line(self):
         """A line that goes whole, or nothing."""
         lines = ["use std::marker::Model;", "pub mod laws;", "mod laws;"]
-        lines += [f"mod {name};" for name in FOR_LAWS]
         if self.next_is("pub", "use"):
             crate = self.tokens[self.at + 2]
             lines.append(f"pub use {crate}::laws;")

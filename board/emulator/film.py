@@ -17,6 +17,7 @@ DVG = os.environ.get('DVG') or os.path.join(HERE, '..', '..', 'dvg')
 RAM, RATE = 2048, 12
 BOTTOM, HIGH = 117, 788
 
+# A stroke is two units wide, as in each writer of SVG that crates/dvg_svg/src/pictures.rt names.
 HEAD = """<svg xmlns="http://www.w3.org/2000/svg" width="512" height="394" viewBox="0 0 1024 788">
 <style>
 @keyframes shown {{ from {{ visibility: visible }} {percent:.3f}%, to {{ visibility: hidden }} }}

@@ -159,25 +159,25 @@ fn is_outside(rom: &Rom, place: Place) -> bool {
 fn rom_way(rom: &Rom, a: u16) -> Option<Way> {
     let word = rom.word(a);
     let target = Place::Word(word & 0xFFF);
-    let behind = Place::Word(a + 1);
+    let after = Place::Word(a + 1);
     Some(match word >> 12 {
         0..=0xA if a + 1 == ROM_END => return None,
         0..=0xA => Way::Move(Place::Word(a + 2), 2),
         0xB => Way::Halt,
-        0xC => Way::Call(target, behind),
+        0xC => Way::Call(target, after),
         0xD => Way::Return,
         0xE => Way::Jump(target),
-        _ => Way::Move(behind, 1),
+        _ => Way::Move(after, 1),
     })
 }
 
 fn op_way(op: Op, i: u16) -> Way {
-    let behind = Place::Op(i + 1);
+    let after = Place::Op(i + 1);
     match op {
-        Op::Draw(_) => Way::Move(behind, op.words() as u64),
-        Op::CallRom(a) => Way::Call(Place::Word(a), behind),
+        Op::Draw(_) => Way::Move(after, op.words() as u64),
+        Op::CallRom(a) => Way::Call(Place::Word(a), after),
         Op::JumpRom(a) => Way::Jump(Place::Word(a)),
-        Op::Call(j) => Way::Call(Place::Op(j), behind),
+        Op::Call(j) => Way::Call(Place::Op(j), after),
         Op::Jump(j) => Way::Jump(Place::Op(j)),
         Op::Return => Way::Return,
         Op::Halt => Way::Halt,
@@ -200,7 +200,7 @@ fn look(ops: &[Op], rom: &Rom, place: Place, depth: usize) -> Result<Way, FrameF
         Way::Move(next, _) | Way::Jump(next) if is_outside(rom, next) => {
             Err(FrameFault::OutOfRom(place))
         }
-        Way::Call(target, behind) if is_outside(rom, target) || is_outside(rom, behind) => {
+        Way::Call(target, after) if is_outside(rom, target) || is_outside(rom, after) => {
             Err(FrameFault::OutOfRom(place))
         }
         Way::Call(..) if depth + 1 == DEPTHS => Err(FrameFault::TooDeep(place)),
@@ -239,9 +239,9 @@ fn first_fault(ops: &[Op], rom: &Rom) -> Option<FrameFault> {
     while let Some((place, depth)) = pairs.open.pop() {
         match look(ops, rom, place, depth) {
             Ok(Way::Move(next, _) | Way::Jump(next)) => pairs.add(next, depth),
-            Ok(Way::Call(target, behind)) => {
+            Ok(Way::Call(target, after)) => {
                 pairs.add(target, depth + 1);
-                pairs.add(behind, depth);
+                pairs.add(after, depth);
             }
             Ok(Way::Return | Way::Halt) => {}
             Err(fault) => {
@@ -295,7 +295,7 @@ impl Drawn<'_> {
             Way::Move(next, words) => self.after(words, next)?,
             Way::Jump(next) => self.after(1, next)?,
             // What stands after the call is followed in any case: a loop there counts.
-            Way::Call(target, behind) => match (self.after(1, target)?, self.from(behind)?) {
+            Way::Call(target, after) => match (self.after(1, target)?, self.from(after)?) {
                 ((End::Return, inside), (end, then)) => (end, inside + then),
                 (halts, _) => halts,
             },

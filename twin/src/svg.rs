@@ -14,7 +14,8 @@ const AXIS: u32 = 2_097_152;
 const SHOWN: &str = "x=\"-256\" y=\"-256\" width=\"524288\" height=\"524288\"";
 const VIEW: &str = "-256 -256 524288 524288";
 
-/// What stands around strokes: y goes upwards, and a line is two pixels wide at 100 percent.
+/// What comes before strokes: y goes upwards, and a stroke is two units wide, as in each writer of
+/// SVG that crates/dvg_svg/src/pictures.rt names.
 const STROKES: &str = "<g transform=\"matrix(1 0 0 -1 0 523776)\" fill=\"none\" stroke=\"#fff\" \
                        stroke-width=\"1024\" stroke-linecap=\"round\">\n";
 

@@ -160,7 +160,7 @@ has_names name differs = (
     (
       inl (inr (inl refl)),
       (
-        inl (inr (inr (inr (inr (inr (inr (inr refl))))))),
+        inl (inr (inr (inr (inr (inr (inr (inr (inl refl)))))))),
         (
           inl (inr (inr (inl refl))),
           (
@@ -169,7 +169,10 @@ has_names name differs = (
               inl (inr (inr (inr (inl refl)))),
               (
                 inl (inr (inr (inr (inr (inl refl))))),
-                (inr (not_met name _ refl differs), tt),
+                (
+                  inl (inr (inr (inr (inr (inr (inr (inr (inr refl)))))))),
+                  (inr (not_met name _ refl differs), tt),
+                ),
               ),
             ),
           ),

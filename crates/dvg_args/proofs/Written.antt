@@ -30,6 +30,7 @@ text_job_arguments = (
   λ name. ((refl, refl), refl, refl),
   λ name. ((refl, refl), refl, refl),
   λ name. ((refl, refl), refl, refl),
+  λ name. ((refl, refl), refl, refl),
 )
 
 pub sketch_job_arguments : SketchJobArguments

@@ -12,7 +12,7 @@ use Rattle.dvg_job.specs.declared.form.LayForm.{LayForm}
 use Rattle.dvg_job.specs.declared.form.LogRule.{LogRule}
 use Rattle.dvg_job.specs.declared.task.Job.{Job}
 use Rattle.dvg_job.specs.declared.task.Job.TheVariants.{List as list_job, ListAt, Rom, Picture, PictureSvg, Check}
-use Rattle.dvg_job.specs.declared.task.Job.TheVariants.{Play, PlaySvg, Torn, Render, RenderCheck, Lay}
+use Rattle.dvg_job.specs.declared.task.Job.TheVariants.{Play, PlaySvg, Torn, Render, RenderCheck, Lay, Explain}
 
 -- a subcommand with no option of its own
 abbrev pub plain : Text → Shape
@@ -78,13 +78,13 @@ program_app = record (new_app (codes "dvg")) {
   top = record (plain (codes "dvg")) { subcommand_required = true; has_version = true };
 }
 
--- the program's command, which requires one of eight subcommands and has a version; clap adds `help` and the options
+-- the program's command, which requires one of nine subcommands and has a version; clap adds `help` and the options
 -- `--help` and `--version`
 unfoldable pub dvg_app : App
 dvg_app = record {
   top = record (plain (codes "dvg")) { is_leaf = false; subcommand_required = true; has_version = true };
   subs = list_app.top ∷ plain (codes "rom") ∷ picture_app.top ∷ check_app.top ∷ play_app.top ∷ torn_app.top
-      ∷ render_app.top ∷ lay_app.top ∷ [];
+      ∷ render_app.top ∷ lay_app.top ∷ plain (codes "explain") ∷ [];
 }
 
 -- how the options of the subcommand that was matched are refused
@@ -129,10 +129,11 @@ IsJob RenderCheck met =
     option_map {U = Text × Bool} (λ p. (p.0, sets (codes "check") p.1)) met ≡ Some (codes "render", true)
 IsJob (Lay form) met =
     option_map {U = Text × Option LayForm} (λ p. (p.0, form_of p.1)) met ≡ Some (codes "lay", Some form)
+IsJob Explain met = option_map (λ p. p.0) met ≡ Some (codes "explain")
 
 -- the name of a subcommand whose options can't be refused (for a private contract)
 abbrev pub IsPlainName : Text → Type 0
-IsPlainName name = (name ≡ codes "rom") ⊎ (name ≡ codes "check")
+IsPlainName name = (name ≡ codes "rom") ⊎ ((name ≡ codes "check") ⊎ (name ≡ codes "explain"))
 
 -- the name of a subcommand that is a job (for a private contract)
 abbrev pub IsJobName : Text → Type 0

@@ -29,6 +29,8 @@ fn plain_job(name: &str, found: &ArgMatches) -> Option<Job>
         Some(Job::Check {
             bound: is_set(found, "bound"),
         })
+    } else if name == "explain" {
+        Some(Job::Explain)
     } else {
         None
     }

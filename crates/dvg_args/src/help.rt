@@ -49,7 +49,9 @@ Example:
   $ printf '\\144\\220\\144\\164' | dvg list
   000 VCTR 9 -100 100 7
   $ printf '\\144\\220\\144\\164' | dvg list --at 201
-  201 VCTR 9 -100 100 7";
+  201 VCTR 9 -100 100 7
+
+What is wrong with an input, and what to do: `dvg explain < INPUT`.";
 
 /// The input and output of `rom`.
 pub(crate) const ROM: &str =
@@ -65,7 +67,9 @@ Fault: `rom size` for any other number of bytes.
 
 Example:
   $ head -c 2048 /dev/zero | dvg rom | tail -n 1
-  rom BF8 0000 0000 0000 0000 0000 0000 0000 0000";
+  rom BF8 0000 0000 0000 0000 0000 0000 0000 0000
+
+What is wrong with an input, and what to do: `dvg explain < INPUT`.";
 
 /// How `picture` is called.
 pub(crate) const PICTURE_USAGE: &str =
@@ -114,7 +118,9 @@ Example:
   $ head -c 4084 /dev/zero >>dump
   $ dvg picture <dump
   picture 6 1
-  262144 204800 210944 256000 7";
+  262144 204800 210944 256000 7
+
+What is wrong with an input, and what to do: `dvg explain < INPUT`.";
 
 /// The input and output of `check`.
 pub(crate) const CHECK: &str =
@@ -170,7 +176,9 @@ Example:
   $ printf 'labs 512 400 0\\nvctr 9 -100 100 7\\nhalt\\n' | dvg check
   ok 5 words
   $ printf 'labs 512 400 0\\nvctr 9 -100 100 7\\nhalt\\n' | dvg check --bound
-  ok 5 words 6 fetches";
+  ok 5 words 6 fetches
+
+What is wrong with an input, and what to do: `dvg explain < INPUT`.";
 
 /// How `play` is called.
 pub(crate) const PLAY_USAGE: &str =
@@ -223,7 +231,9 @@ Example:
   $ printf 'tick 14\\nstrobe\\nfetch 12\\n' >>trace
   $ dvg play <trace
   picture 29 1
-  262144 204800 210944 256000 7";
+  262144 204800 210944 256000 7
+
+What is wrong with an input, and what to do: `dvg explain < INPUT`.";
 
 /// How `torn` is called.
 pub(crate) const TORN_USAGE: &str = "dvg torn [--moments [--all]] [--base HHHH] < LOG";
@@ -296,7 +306,9 @@ Example:
   $ printf 'started\\nfetched 000 E201\\nhalted\\nwrote 402 90\\n' | dvg torn
   not torn: 1 runs, 1 drew a half, 1 halted, 1 writes
   $ printf 'started\\nlow 1FF 05\\nhalted\\n' | dvg torn --moments
-  whole: 1 runs, 1 halted, 1 judged";
+  whole: 1 runs, 1 halted, 1 judged
+
+What is wrong with an input, and what to do: `dvg explain < INPUT`.";
 
 /// How `render` is called.
 pub(crate) const RENDER_USAGE: &str = "dvg render [--check] [--scale N] [--rate N] < SKETCH";
@@ -328,7 +340,9 @@ Example:
   $ printf 'labs 512 400 0\\nvctr 9 -100 100 7\\nhalt\\n' | dvg render --check
   ok 5 words 6 fetches, 1 vectors, 3 other instructions, 693 microseconds in the emulator
   $ printf 'labs 512 400 0\\nvctr 9 -100 100 7\\nhalt\\n' | dvg render | grep path
-  <path d=\"M262144 204800l-51200 51200\" opacity=\".60\"/>";
+  <path d=\"M262144 204800l-51200 51200\" opacity=\".60\"/>
+
+What is wrong with an input, and what to do: `dvg explain < INPUT`.";
 
 /// How `lay` is called.
 pub(crate) const LAY_USAGE: &str =
@@ -411,4 +425,26 @@ Example:
   $ printf 'labs 512 400 0\\nagain: jump over\\nover: halt\\n' | dvg lay --draft
   labs 512 400 0
   jump 2
-  halt";
+  halt
+
+What is wrong with an input, and what to do: `dvg explain < INPUT`.";
+
+/// The input and output of `explain`.
+pub(crate) const EXPLAIN: &str =
+    "Standard input: any input of `dvg`, at most 1,048,576 bytes.
+
+Standard output: a line `kind: KIND, ..`, where KIND is words, draft, sketch,
+trace, dump or log, and `nothing is wrong` or `something is wrong` follows; or
+`kind: none`. Then what is wrong first, with its line, what was expected there,
+and what to do; or which commands take the input.
+
+Nothing is found that the command doesn't find which reads this kind. The status
+is 0 where nothing is wrong, and else 1.
+
+Example:
+  $ printf 'labs 512 400 0\\nvctr 9 -100 100 7\\n' | dvg explain
+  kind: draft, something is wrong
+  fault 5 runs off 1
+  line 2: vctr 9 -100 100 7
+  it is the last operation, and one must come after it
+  do: end with halt, return or a jump";

@@ -48,6 +48,11 @@ fn number_of(found: &ArgMatches, id: &str, least: u16, most: u16, default: u16) 
     }
 }
 
+/// Whether the size that `found` gives is a number from 10 to 400, or none is given.
+pub(crate) fn has_scale(found: &ArgMatches) -> bool {
+    number_of(found, "scale", 10, 400, 100).is_some()
+}
+
 /// Returns the size and the rate that `found` gives, 100 percent and 30 by default. Returns `None`
 /// where the size isn't a number from 10 to 400, or the rate isn't one from 1 to 60.
 pub(crate) fn read_show(found: &ArgMatches) -> Option<Show>

@@ -13,7 +13,7 @@ use Rattle.dvg_mem.specs.Memory.{IsRom, first_word, rom_word}
 use Rattle.dvg_mem.proofs.Roms.{large_first, rom_there, small_first, word_fits, words_from_first}
 use Rattle.dvg_io.proofs.Inputs.{length-words_of}
 use Rattle.dvg_print.specs.Lines.{hex_3, hex_4, map_text, rom_line}
-use Rattle.dvg_read.specs.RomTexts.{IsRomLine, IsRomOf, RomLine, RomText, SpellsRom, first_stated, large, mapped, unmapped, word_after, word_behind}
+use Rattle.dvg_read.specs.RomTexts.{IsRomLine, IsRomOf, RomLine, RomText, SpellsRom, first_stated, large, mapped, unmapped, word_after, word_after_line}
 use Rattle.dvg_read.specs.Texts.{is_passed, lines, parts, unpassed}
 use Rattle.dvg_read.proofs.Heads.{HasParts, IsPart, last_part, next_part}
 use Rattle.dvg_lay.specs.Drafts.{given_line, given_lines, rom_part}
@@ -62,16 +62,16 @@ behind_row : (row words : List ℕ) (k : ℕ) → length row ≡ 8 → slice_ind
 behind_row row words k eight = ap (λ n. slice_index (row ++ words) (n + k)) (sym eight) ∙ get_or-append-add row words k 0
 
 -- what one line makes of a word before its words, among them, and behind them
-line_before : (given : RomLine) (b w : ℕ) → b < given.address → word_behind given b w ≡ w
+line_before : (given : RomLine) (b w : ℕ) → b < given.address → word_after_line given b w ≡ w
 line_before given b w low =
     ap (λ t. cond (t && nat_lt b (given.address + length given.words)) (slice_index given.words (b - given.address)) w) (lt-leb given.address b low)
 
-line_within : (given : RomLine) (b w : ℕ) → given.address ≤ b → b < given.address + length given.words → word_behind given b w ≡ slice_index given.words (b - given.address)
+line_within : (given : RomLine) (b w : ℕ) → given.address ≤ b → b < given.address + length given.words → word_after_line given b w ≡ slice_index given.words (b - given.address)
 line_within given b w low high =
     ap (λ t. cond (t && nat_lt b (given.address + length given.words)) (slice_index given.words (b - given.address)) w) (le-leb given.address b low)
     ∙ ap (λ t. cond t (slice_index given.words (b - given.address)) w) (lt-ltb b (given.address + length given.words) high)
 
-line_behind : (given : RomLine) (b w : ℕ) → given.address + length given.words ≤ b → word_behind given b w ≡ w
+line_behind : (given : RomLine) (b w : ℕ) → given.address + length given.words ≤ b → word_after_line given b w ≡ w
 line_behind given b w low =
     ap (λ t. cond (t && nat_lt b (given.address + length given.words)) (slice_index given.words (b - given.address)) w) (le-leb given.address b (omega arith))
     ∙ ap (λ t. cond t (slice_index given.words (b - given.address)) w) (le-ltb b (given.address + length given.words) low)

@@ -12,19 +12,19 @@ use Rattle.dvg_lay.specs.Drawings.{IsDrawnFrame, IsUndrawn}
 use Rattle.dvg_lay.specs.Sketches.{Makes}
 
 -- what comes of drawing: the pictures of all frames, or a refusal
-abbrev pub Drawn : Type 0 → Type 0
-Drawn A = Result (Vec (Vec Stroke A) A) (Refusal A)
+abbrev pub SketchPictures : Type 0 → Type 0
+SketchPictures A = Result (Vec (Vec Stroke A) A) (Refusal A)
 
 -- what came of it: a refusal tells why a frame isn't drawn
-abbrev pub IsDrawn : {A : Type 0} → (R : List ℕ) → List RomName → List NamedFrame → Drawn A → Type 0
+abbrev pub IsDrawn : {A : Type 0} → (R : List ℕ) → List RomName → List NamedFrame → SketchPictures A → Type 0
 IsDrawn R names frames (Ok pictures) = AllZip (IsDrawnFrame R) frames (strokes_of pictures.items)
 IsDrawn R names frames (Err refusal) = IsUndrawn R names frames refusal
 
 -- the text that is written of it: none of a refusal
-abbrev pub shown : {A : Type 0} → Show → Drawn A → List ℕ
+abbrev pub shown : {A : Type 0} → Show → SketchPictures A → List ℕ
 shown show (Ok pictures) = svgs_text show (strokes_of pictures.items)
 shown show (Err refusal) = []
 
 -- what is answered of an input, and what went out
-abbrev pub Draws : {A : Type 0} → Show → Meaning (Drawn A)
+abbrev pub Draws : {A : Type 0} → Show → Meaning (SketchPictures A)
 Draws show = Makes IsDrawn (shown show)

@@ -16,7 +16,8 @@ use dvg_named::{NamedFrame, RomName};
 use std::alloc::Allocator;
 
 // Returns the strokes of the picture of `frame`, where `checker` accepts it over the ROM of `bytes`
-// and its picture has at most 65,536 words. `names` are the names of the ROM.
+// and its picture has at most 65,536 words. `names` are the names of the ROM. That is made for each
+// frame, as the dump that is run owns it.
 fn draw_frame<A: Allocator + Copy>(
     alloc: A,
     checker: &mut Checker,

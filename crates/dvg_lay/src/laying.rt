@@ -4,9 +4,10 @@ ghost use Rattle.dvg_lay.specs.Refusals.{IsFault, IsGood, IsLent, IsLow, NamesHi
 ghost use Rattle.dvg_lay.specs.Texts.{frames_bytes, name_lines, tables};
 
 use crate::checking::{check_all, check_low_words, good_frame};
+use crate::laid::put_laid;
 use crate::names::put_names;
 use crate::refusal::Unlaid;
-use crate::table::{put_laid, put_table};
+use crate::table::put_table;
 use dvg_frame::Checker;
 use dvg_mem::{Half, ROM_END, Rom};
 use dvg_named::{NamedFrame, RomName};

@@ -14,6 +14,7 @@ mod drawing;
 mod engine;
 mod form;
 mod frames;
+mod laid;
 pub mod laws;
 mod laying;
 mod making;
@@ -27,7 +28,8 @@ mod text;
 mod time;
 mod verdicts;
 
-pub use drawing::{Drawn, draw_sketch};
+pub use checking::check_all;
+pub use drawing::{SketchPictures, draw_sketch};
 pub use engine::lay_sketch;
 pub use form::Laid;
 pub use laying::lay_tables;

@@ -2,7 +2,7 @@
 ghost use Rattle.std.specs.Prelude.{IfOk};
 ghost use Rattle.dvg_log.specs.Held.{HoldsFrame};
 
-use crate::table::put_laid;
+use crate::laid::put_laid;
 use dvg_code::OutOfMemory;
 use dvg_frame::Checked;
 use dvg_mem::{Flat, Half, Image, MEMORY_BYTES, Store};

@@ -1,4 +1,4 @@
-//! Frames as they lie in a half, and their tables.
+//! The tables of frames.
 ghost use Rattle.std.specs.Prelude.{◌≡◌, ◌++◌, IfOk, OnOk, decimal, length};
 ghost use Rattle.dvg_mem.specs.declared.half.Half.TheVariants.{H0};
 ghost use Rattle.dvg_frame.specs.Bytes.{bytes};
@@ -6,30 +6,15 @@ ghost use Rattle.dvg_frame.specs.Layout.{laid, op_words};
 ghost use Rattle.dvg_lay.specs.Refusals.{IsLent};
 ghost use Rattle.dvg_lay.specs.Texts.{frame_table, label, op_line, op_lines, word_line};
 
+use crate::laid::put_laid;
 use crate::said::put_said;
 use crate::text::{put, put_decimal, put_words};
 use dvg_code::OutOfMemory;
-use dvg_frame::{Checked, Cursor, Op, OpKind};
+use dvg_frame::{Checked, Op, OpKind};
 use dvg_io::collect_words;
 use dvg_mem::Half;
 use dvg_named::{NamedFrame, Source};
 use std::alloc::{AllocError, Allocator};
-
-/// Appends the bytes of `frame` as it lies in `half` to `text`, the low byte of each word first.
-/// Returns `AllocError` where an allocation fails.
-pub(crate) fn put_laid<A: Allocator>(
-    text: &mut Vec<u8, A>,
-    frame: &Checked,
-    half: Half,
-) -> Result<(), AllocError>
-    ensures { OnOk result (text.new.items
-        ≡ text.old.items ++ bytes (laid half frame.now.operations)) }
-{
-    for item in Cursor::of(frame, half) {
-        text.push(item.1)?;
-    }
-    Ok(())
-}
 
 // Returns the words of `frame` as it lies in half 0. Returns `OutOfMemory` where an allocation
 // fails.

@@ -11,6 +11,7 @@ mod NamesMore
 mod LaidMore
 mod ReadLimits
 mod ReadMoves
+mod BegunSections
 mod ReadRows
 mod StatedLines
 mod ReadBegins

@@ -24,7 +24,7 @@ use Rattle.dvg_named.specs.SketchSteps.{Goes, begun, tells}
 use Rattle.dvg_named.specs.StatedRoms.{HoldsStated, TellsStated}
 use Rattle.dvg_named.proofs.ReadCuts.{goes_begin}
 use Rattle.dvg_named.proofs.ReadLimits.{IsOnce, IsSmall}
-use Rattle.dvg_named.proofs.ReadMoves.{begun_frame, begun_out, begun_rom, begun_twice}
+use Rattle.dvg_named.proofs.BegunSections.{begun_frame, begun_out, begun_rom, begun_twice}
 use Rattle.dvg_named.proofs.ReadRows.{names_stop}
 
 -- what is kept, under other names of the same

@@ -6,7 +6,7 @@ use Rattle.std.proofs.lemmas.Option.{none-some}
 use Rattle.std.specs.List.{refill}
 use Rattle.dvg_mem.specs.Grown.{AreReturns}
 use Rattle.dvg_mem.proofs.Roms.{words_from_first}
-use Rattle.dvg_read.specs.RomReading.{IsBehind, gives_words, tells_map, unstated}
+use Rattle.dvg_read.specs.RomReading.{IsAfterLine, gives_words, tells_map, unstated}
 use Rattle.dvg_read.specs.RomTexts.{IsMapLine, IsRomLine, IsRomOf, RomLine, RomText, first_stated}
 use Rattle.dvg_read.proofs.HeldRom.{all_fit, first_of_map, returns_held, words_held}
 use Rattle.dvg_read.proofs.RomSteps.{stated_rom}
@@ -55,12 +55,12 @@ refilled xs ws size =
 -- a line that gives words was read
 pub words_taken : (rom : RomText) (line : List ℕ) (old new : StatedRom) (given : RomLine) (first : ℕ) (lent bytes : List ℕ)
     → HoldsStated rom old → first + length old.bytes.items / 2 ≡ 0xC00 → IsRomLine first given line
-    → lent ≡ old.bytes.items → IsBehind given first lent bytes → ((i : ℕ) → get_or bytes i 0 < 256)
+    → lent ≡ old.bytes.items → IsAfterLine given first lent bytes → ((i : ℕ) → get_or bytes i 0 < 256)
     → new.bytes.items ≡ refill (length old.bytes.items) old.bytes.items bytes → new.is_stated ≡ true
     → ((first : ℕ) (lines : List RomLine) → old.free ≡ free_after first lines → new.free ≡ free_after first (lines ++ given ∷ []))
     → TellsStated rom line new
 words_taken rom line old new given first lent bytes holds e is lends put fits written stated free =
-    let behind = subst (λ lent. IsBehind given first lent bytes) lends put in
+    let behind = subst (λ lent. IsAfterLine given first lent bytes) lends put in
     let whole : new.bytes.items ≡ bytes = written ∙ refilled old.bytes.items bytes behind.count in
     let at = first_is rom old first holds e in
     record {

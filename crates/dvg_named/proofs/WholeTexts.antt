@@ -1,8 +1,8 @@
 -- The worked examples of whole texts.
-use Rattle.std.proofs.Common.{◌≡◌, ℕ, ◌<◌, ◌≤◌, List, [], ◌∷◌, ◌++◌, length, length-append, refl, ap, sym, ◌∙◌, true}
+use Rattle.std.proofs.Common.{◌≡◌, ℕ, ◌<◌, ◌≤◌, List, [], ◌∷◌, ◌++◌, append-nil, length, length-append, refl, ap, sym, ◌∙◌, true}
 use Rattle.std.proofs.Common.{false, true≢false, Bool, arith, codes, All, Option, Some, None}
 use Rattle.std.specs.Prelude.{◌≢◌}
-use Rattle.std.specs.List.{AllPairs, cons_option}
+use Rattle.std.specs.List.{AllPairs, AllZip, cons_option, flat_map}
 use Rattle.std.proofs.lemmas.List.Elements.{All-cons, filter_map-append}
 use Rattle.std.proofs.lemmas.List.Kept.{AllPairs-cons}
 use Rattle.dvg_code.specs.declared.instr.Instr.TheVariants.{Rtsl}
@@ -11,7 +11,7 @@ use Rattle.dvg_read.specs.OpLines as ops
 use Rattle.dvg_read.specs.RomReading.{unstated}
 use Rattle.dvg_read.specs.RomTexts.{unmapped}
 use Rattle.dvg_read.specs.Texts.{IsHex}
-use Rattle.dvg_rows.specs.Rows.{Doing, Row, plainly, jumps, calls_rom, frame, rom, top, does, both, plain, jump}
+use Rattle.dvg_rows.specs.Rows.{Doing, Head, IsHeadLine, IsRowLine, Row, plainly, jumps, calls_rom, frame, rom, top, does, both, plain, jump}
 use Rattle.dvg_rows.specs.Rows.{callrom, named_frame, at}
 use Rattle.dvg_named.specs.Sections.{FrameRows, MayStand, Section, Spelled, SpellsSection, SpellsSketch}
 use Rattle.dvg_named.specs.Places.{IsAddress, Laid, laid_end}
@@ -63,6 +63,37 @@ no_number : (doing : Doing) → by_number doing ≡ false → (n : ℕ) → (doi
     × (doing ≢ plainly (Jump n))
 no_number doing h n = (λ e. true≢false (sym (ap by_number e) ∙ h), λ e. true≢false (sym (ap by_number e) ∙ h))
 
+-- ---- sketches of rows alone, and of sections alone
+
+abbrev rows_alone : List Row → Spelled
+rows_alone rows = record { rom = unstated; first = rows; others = [] }
+
+rows_spelled : (rows : List Row) (ls : List (List ℕ)) → AllZip IsRowLine rows ls → SpellsSketch (rows_alone rows) ls
+rows_spelled rows ls h = record { front = []; rows = ls; rest = []; cut = sym (append-nil ls); stated = unmapped tt; first = h; others = tt }
+
+rows_kept : (row : Row) (rows : List Row) → AreDistinct (names_of (row ∷ rows)) → length (doings (row ∷ rows)) ≤ 511
+    → KeepsLimits (rows_alone (row ∷ rows))
+rows_kept row rows once few = record {
+  once = record {
+    in_frames = one_all Names (record { name = None; rows = row ∷ rows }) once;
+    in_rom = none_pairs Differ;
+    of_frames = none_pairs Differ;
+  };
+  drafts = one_all Holds (record { name = None; rows = row ∷ rows }) few;
+  rom = none_all Fits;
+  apart = none_pairs Apart;
+}
+
+abbrev sections_alone : List Section → Spelled
+sections_alone others = record { rom = unstated; first = []; others = others }
+
+section_spelled : (head : Head) (rows : List Row) (begin : List ℕ) (rest : List (List ℕ)) → IsHeadLine head begin → AllZip IsRowLine rows rest → All (MayStand head) rows
+    → SpellsSection (record { head = head; rows = rows }) (begin ∷ rest)
+section_spelled head rows begin rest begins spelled may = record { begin = begin; rest = rest; cut = refl; head = begins; rows = spelled; may = may }
+
+sections_spelled : (others : List Section) (rest : List (List (List ℕ))) → AllZip SpellsSection others rest → SpellsSketch (sections_alone others) (flat_map (λ lines. lines) rest)
+sections_spelled others rest h = record { front = []; rows = []; rest = rest; cut = refl; stated = unmapped tt; first = tt; others = h }
+
 -- ---- a frame whose second operation jumps to the first
 
 abbrev rock_row : Row
@@ -72,31 +103,13 @@ abbrev jump_row : Row
 jump_row = record { name = None; doing = Some (jumps (codes "rock")) }
 
 abbrev jumping : Spelled
-jumping = record { rom = unstated; first = rock_row ∷ jump_row ∷ []; others = [] }
+jumping = rows_alone (rock_row ∷ jump_row ∷ [])
 
 jumping_spelled : SpellsSketch jumping (codes "rock: halt" ∷ codes "jump rock" ∷ [])
-jumping_spelled = record {
-  front = [];
-  rows = codes "rock: halt" ∷ codes "jump rock" ∷ [];
-  rest = [];
-  cut = refl;
-  stated = unmapped tt;
-  first = (both rock (plain ops.halt), (does (jump rock), tt));
-  others = tt;
-}
+jumping_spelled = rows_spelled (rock_row ∷ jump_row ∷ []) _ (both rock (plain ops.halt), (does (jump rock), tt))
 
 jumping_kept : KeepsLimits jumping
-jumping_kept = record {
-  once = record {
-    in_frames = one_all Names (record { name = None; rows = rock_row ∷ jump_row ∷ [] })
-        (one_pairs Differ (codes "rock"));
-    in_rom = none_pairs Differ;
-    of_frames = none_pairs Differ;
-  };
-  drafts = one_all Holds (record { name = None; rows = rock_row ∷ jump_row ∷ [] }) (omega arith);
-  rom = none_all Fits;
-  apart = none_pairs Apart;
-}
+jumping_kept = rows_kept rock_row (jump_row ∷ []) (one_pairs Differ (codes "rock")) (omega arith)
 
 rock_number : IsNumber (rock_row ∷ jump_row ∷ []) (codes "rock") 0
 rock_number = record {
@@ -132,39 +145,19 @@ abbrev titled : Section
 titled = record { head = frame (Some (codes "title")); rows = call_row ∷ [] }
 
 abbrev calling : Spelled
-calling = record { rom = unstated; first = []; others = shape ∷ titled ∷ [] }
+calling = sections_alone (shape ∷ titled ∷ [])
 
 shape_spelled : SpellsSection shape (codes ".rom 8a0" ∷ codes "ship: return" ∷ [])
-shape_spelled = record {
-  begin = codes ".rom 8a0";
-  rest = codes "ship: return" ∷ [];
-  cut = refl;
-  head = at address;
-  rows = (both ship (plain ops.return), tt);
-  may = one_all (MayStand (rom (Some 0x8A0))) ship_row (no_number (plainly Return) refl);
-}
+shape_spelled = section_spelled _ (ship_row ∷ []) _ _ (at address) (both ship (plain ops.return), tt) (one_all (MayStand (rom (Some 0x8A0))) ship_row (no_number (plainly Return) refl))
 
 titled_spelled : SpellsSection titled (codes ".frame title" ∷ codes "callrom ship" ∷ [])
-titled_spelled = record {
-  begin = codes ".frame title";
-  rest = codes "callrom ship" ∷ [];
-  cut = refl;
-  head = named_frame title;
-  rows = (does (callrom ship), tt);
-  may = one_all (MayStand (frame (Some (codes "title")))) call_row tt;
-}
+titled_spelled = section_spelled _ (call_row ∷ []) _ _ (named_frame title) (does (callrom ship), tt) (one_all (MayStand (frame (Some (codes "title")))) call_row tt)
 
 calling_spelled : SpellsSketch calling (codes ".rom 8a0" ∷ codes "ship: return" ∷ codes ".frame title"
     ∷ codes "callrom ship" ∷ [])
-calling_spelled = record {
-  front = [];
-  rows = [];
-  rest = (codes ".rom 8a0" ∷ codes "ship: return" ∷ []) ∷ (codes ".frame title" ∷ codes "callrom ship" ∷ []) ∷ [];
-  cut = refl;
-  stated = unmapped tt;
-  first = tt;
-  others = (shape_spelled, (titled_spelled, tt));
-}
+calling_spelled = sections_spelled (shape ∷ titled ∷ [])
+    ((codes ".rom 8a0" ∷ codes "ship: return" ∷ []) ∷ (codes ".frame title" ∷ codes "callrom ship" ∷ []) ∷ [])
+    (shape_spelled, (titled_spelled, tt))
 
 abbrev shape_laid : Laid
 shape_laid = record { start = 0x8A0; rows = ship_row ∷ [] }
@@ -215,35 +208,11 @@ calls_the_rom = record {
 abbrev a_row : Row
 a_row = record { name = Some (codes "a"); doing = Some (plainly Halt) }
 
-abbrev rows_alone : List Row → Spelled
-rows_alone rows = record { rom = unstated; first = rows; others = [] }
-
-a_kept : KeepsLimits (rows_alone (a_row ∷ []))
-a_kept = record {
-  once = record {
-    in_frames = one_all Names (record { name = None; rows = a_row ∷ [] })
-        (one_pairs Differ (codes "a"));
-    in_rom = none_pairs Differ;
-    of_frames = none_pairs Differ;
-  };
-  drafts = one_all Holds (record { name = None; rows = a_row ∷ [] }) (omega arith);
-  rom = none_all Fits;
-  apart = none_pairs Apart;
-}
-
 a_fine : IsFineSketch (codes "a: halt" ∷ [])
 a_fine = record {
   sketch = rows_alone (a_row ∷ []);
-  limits = a_kept;
-  spelled = record {
-    front = [];
-    rows = codes "a: halt" ∷ [];
-    rest = [];
-    cut = refl;
-    stated = unmapped tt;
-    first = (both a (plain ops.halt), tt);
-    others = tt;
-  };
+  limits = rows_kept a_row [] (one_pairs Differ (codes "a")) (omega arith);
+  spelled = rows_spelled (a_row ∷ []) _ (both a (plain ops.halt), tt);
 }
 
 pub twice_at_two : TwiceAtTwo
@@ -252,23 +221,12 @@ twice_at_two = record {
   line = codes "a: halt";
   reaches = record { short = omega arith; after = []; cut = refl; number = refl; fine = a_fine; is_unpassed = refl };
   sketch = rows_alone (a_row ∷ a_row ∷ []);
-  spelled = record {
-    front = [];
-    rows = codes "a: halt" ∷ codes "a: halt" ∷ [];
-    rest = [];
-    cut = refl;
-    stated = unmapped tt;
-    first = (both a (plain ops.halt), (both a (plain ops.halt), tt));
-    others = tt;
-  };
+  spelled = rows_spelled (a_row ∷ a_row ∷ []) _ (both a (plain ops.halt), (both a (plain ops.halt), tt));
   breaks = λ once. once.in_frames 0 (record { name = None; rows = [] }) (omega arith) 0 1 [] (omega arith)
       (omega arith) refl;
 }
 
 -- ---- a section outside the ROM
-
-abbrev sections_alone : List Section → Spelled
-sections_alone others = record { rom = unstated; first = []; others = others }
 
 nothing_kept : KeepsLimits (sections_alone [])
 nothing_kept = record {
@@ -283,24 +241,13 @@ nothing_kept = record {
 }
 
 nothing_fine : IsFineSketch []
-nothing_fine = record {
-  sketch = sections_alone [];
-  limits = nothing_kept;
-  spelled = record { front = []; rows = []; rest = []; cut = refl; stated = unmapped tt; first = tt; others = tt };
-}
+nothing_fine = record { sketch = sections_alone []; limits = nothing_kept; spelled = sections_spelled [] [] tt }
 
 abbrev low_section : Section
 low_section = record { head = rom (Some 0x400); rows = [] }
 
 low_spelled : SpellsSection low_section (codes ".rom 400" ∷ [])
-low_spelled = record {
-  begin = codes ".rom 400";
-  rest = [];
-  cut = refl;
-  rows = tt;
-  may = none_all (MayStand (rom (Some 0x400)));
-  head = at (record { size = refl; digits = (omega arith, (omega arith, (omega arith, tt))); value = refl });
-}
+low_spelled = section_spelled _ [] _ _ (at (record { size = refl; digits = (omega arith, (omega arith, (omega arith, tt))); value = refl })) tt (none_all (MayStand (rom (Some 0x400))))
 
 nothing_named : GivesOnce (sections_alone (low_section ∷ []))
 nothing_named = record { in_frames = none_all Names; in_rom = none_pairs Differ; of_frames = none_pairs Differ }
@@ -314,15 +261,7 @@ out_of_rom_at_one = record {
   line = codes ".rom 400";
   reaches = record { short = omega arith; after = []; cut = refl; number = refl; fine = nothing_fine; is_unpassed = refl };
   sketch = sections_alone (low_section ∷ []);
-  spelled = record {
-    front = [];
-    rows = [];
-    rest = (codes ".rom 400" ∷ []) ∷ [];
-    cut = refl;
-    stated = unmapped tt;
-    first = tt;
-    others = (low_spelled, tt);
-  };
+  spelled = sections_spelled (low_section ∷ []) ((codes ".rom 400" ∷ []) ∷ []) (low_spelled, tt);
   breaks = (nothing_named, none_all Holds, λ fits. is_low (fits 0 (record { start = 0; rows = [] }) (omega arith)).0);
 }
 
@@ -341,24 +280,10 @@ is_800 : IsHex 3 0x800 (codes "800")
 is_800 = record { size = refl; digits = (omega arith, (omega arith, (omega arith, tt))); value = refl }
 
 halt_at_800 : SpellsSection (at_800 (halt_row ∷ [])) (codes ".rom 800" ∷ codes "halt" ∷ [])
-halt_at_800 = record {
-  begin = codes ".rom 800";
-  rest = codes "halt" ∷ [];
-  cut = refl;
-  head = at is_800;
-  rows = (does (plain ops.halt), tt);
-  may = one_all (MayStand (rom (Some 0x800))) halt_row (no_number (plainly Halt) refl);
-}
+halt_at_800 = section_spelled _ (halt_row ∷ []) _ _ (at is_800) (does (plain ops.halt), tt) (one_all (MayStand (rom (Some 0x800))) halt_row (no_number (plainly Halt) refl))
 
 none_at_800 : SpellsSection (at_800 []) (codes ".rom 800" ∷ [])
-none_at_800 = record {
-  begin = codes ".rom 800";
-  rest = [];
-  cut = refl;
-  head = at is_800;
-  rows = tt;
-  may = none_all (MayStand (rom (Some 0x800)));
-}
+none_at_800 = section_spelled _ [] _ _ (at is_800) tt (none_all (MayStand (rom (Some 0x800))))
 
 abbrev two_at_800 : List Row → Spelled
 two_at_800 rows = sections_alone (at_800 (halt_row ∷ []) ∷ at_800 rows ∷ [])
@@ -382,15 +307,8 @@ one_fine : IsFineSketch (codes ".rom 800" ∷ codes "halt" ∷ codes ".rom 800" 
 one_fine = record {
   sketch = two_at_800 [];
   limits = one_kept;
-  spelled = record {
-    front = [];
-    rows = [];
-    rest = (codes ".rom 800" ∷ codes "halt" ∷ []) ∷ (codes ".rom 800" ∷ []) ∷ [];
-    cut = refl;
-    stated = unmapped tt;
-    first = tt;
-    others = (halt_at_800, (none_at_800, tt));
-  };
+  spelled = sections_spelled _ ((codes ".rom 800" ∷ codes "halt" ∷ []) ∷ (codes ".rom 800" ∷ []) ∷ [])
+      (halt_at_800, (none_at_800, tt));
 }
 
 pub overlap_at_four : OverlapAtFour
@@ -399,15 +317,8 @@ overlap_at_four = record {
   line = codes "halt";
   reaches = record { short = omega arith; after = []; cut = refl; number = refl; fine = one_fine; is_unpassed = refl };
   sketch = two_at_800 (halt_row ∷ []);
-  spelled = record {
-    front = [];
-    rows = [];
-    rest = (codes ".rom 800" ∷ codes "halt" ∷ []) ∷ (codes ".rom 800" ∷ codes "halt" ∷ []) ∷ [];
-    cut = refl;
-    stated = unmapped tt;
-    first = tt;
-    others = (halt_at_800, (halt_at_800, tt));
-  };
+  spelled = sections_spelled _ ((codes ".rom 800" ∷ codes "halt" ∷ []) ∷ (codes ".rom 800" ∷ codes "halt" ∷ []) ∷ [])
+      (halt_at_800, (halt_at_800, tt));
   breaks = (
     record { in_frames = none_all Names; in_rom = none_pairs Differ; of_frames = none_pairs Differ },
     none_all Holds,
@@ -436,27 +347,10 @@ abbrev lost_row : Row
 lost_row = record { name = None; doing = Some (jumps (codes "a")) }
 
 lost_spelled : SpellsSketch (rows_alone (lost_row ∷ [])) (codes "jump a" ∷ [])
-lost_spelled = record {
-  front = [];
-  rows = codes "jump a" ∷ [];
-  rest = [];
-  cut = refl;
-  stated = unmapped tt;
-  first = (does (jump a), tt);
-  others = tt;
-}
+lost_spelled = rows_spelled (lost_row ∷ []) _ (does (jump a), tt)
 
 lost_kept : KeepsLimits (rows_alone (lost_row ∷ []))
-lost_kept = record {
-  once = record {
-    in_frames = one_all Names (record { name = None; rows = lost_row ∷ [] }) (none_pairs Differ);
-    in_rom = none_pairs Differ;
-    of_frames = none_pairs Differ;
-  };
-  drafts = one_all Holds (record { name = None; rows = lost_row ∷ [] }) (omega arith);
-  rom = none_all Fits;
-  apart = none_pairs Apart;
-}
+lost_kept = rows_kept lost_row [] (none_pairs Differ) (omega arith)
 
 abbrev lost_fine : IsFineSketch (codes "jump a" ∷ [])
 lost_fine = record { sketch = rows_alone (lost_row ∷ []); limits = lost_kept; spelled = lost_spelled }

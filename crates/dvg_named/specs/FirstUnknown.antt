@@ -70,3 +70,8 @@ pub record IsFirstOf (P : Entry → Type 0) (entries : List Entry) (found : ℕ)
 abbrev pub FirstOf : (Entry → Type 0) → List Entry → Option ℕ → Type 0
 FirstOf P entries None = All (λ entry. ¬ P entry) entries
 FirstOf P entries (Some number) = IsFirstOf P entries number
+
+-- the line number of the first row of this section that wants a name which isn't given, whichever section it is
+abbrev pub IsFirstIn : {A : Type 0} → List Laid → Part A → Option ℕ → Type 0
+IsFirstIn laid part found = (sections : List Section) (number : ℕ) → slice_get sections number ≡ Some (section_in part)
+    → FirstOf (WantsIn laid sections) (entries_last number part) found

@@ -1,11 +1,15 @@
 -- Frames of a sketch, as the reader holds them.
 use Rattle.std.specs.Prelude.{◌<◌, ℕ, List, [], ◌∷◌, All, Option, None, map}
 use Rattle.std.specs.List.{AllZip}
+use Rattle.dvg_read.specs.RomTexts.{RomText}
+use Rattle.dvg_rows.specs.declared.part.Part.{Part}
 use Rattle.dvg_named.specs.declared.frame_rows.FrameRows as held
 use Rattle.dvg_rows.specs.HeldRows.{rows_of}
 use Rattle.dvg_rows.specs.RowValues.{name_of}
 use Rattle.dvg_rows.specs.Rows.{Head, Row, frame, rom, top}
+use Rattle.dvg_named.specs.ReadParts.{sketch_of}
 use Rattle.dvg_named.specs.Sections.{FrameRows, Section, Spelled, frame_of}
+use Rattle.dvg_named.specs.SketchReading.{section_in}
 use Rattle.dvg_named.specs.SourcedRows.{BeginsFrame, IsInSection, IsRowAt, Rise}
 
 -- a frame
@@ -15,6 +19,10 @@ frame_held held_frame = record { name = name_of held_frame.name; rows = rows_of 
 -- frames, in order
 abbrev pub frames_of : List held.FrameRows → List FrameRows
 frames_of = map frame_held
+
+-- the sketch of these sections, the last one by itself
+abbrev pub sketch_held : {A : Type 0} → RomText → (closed : List (Part A)) → (last : Part A) → Spelled
+sketch_held stated closed last = sketch_of stated (map section_in closed) (section_in last)
 
 -- a section as a frame, if it is one
 abbrev pub frame_in : Section → Option FrameRows

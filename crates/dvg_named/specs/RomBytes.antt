@@ -3,7 +3,7 @@ use Rattle.std.specs.Prelude.{◌≡◌, ◌≢◌, ◌+◌, ◌<◌, ◌≤◌,
 use Rattle.std.specs.Prelude.{slice_index}
 use Rattle.std.specs.List.{AllZip}
 use Rattle.dvg_code.specs.Words.{word_in}
-use Rattle.dvg_read.specs.RomReading.{IsBehind}
+use Rattle.dvg_read.specs.RomReading.{IsAfterLine}
 use Rattle.dvg_read.specs.RomTexts.{IsRomOf, RomLine, RomText}
 use Rattle.dvg_frame.specs.declared.op.OpKind.TheVariants.{Call, Jump}
 use Rattle.dvg_named.specs.declared.laid.LaidRows as held_laid
@@ -39,7 +39,7 @@ MayBeEncoded doing = (n : ℕ) → (doing ≢ plainly (Call n)) × (doing ≢ pl
 pub record IsPut (laid : List Laid) (section : Laid) (first : ℕ) (old new : List ℕ) : Type 0 where
   pub given : RomLine
   pub is : IsGiven laid section given
-  pub put : IsBehind given first old new
+  pub put : IsAfterLine given first old new
   pub fits : (i : ℕ) → get_or new i 0 < 256
 
 -- so were those of this one

@@ -4,12 +4,10 @@ ghost use Rattle.std.specs.Prelude.{None, OnOk, map};
 ghost use Rattle.std.specs.List.{filter_map};
 ghost use Rattle.dvg_read.specs.RomTexts.{RomText};
 ghost use Rattle.dvg_named.specs.FrameValues.{BeginsBefore, BeginsFirst, IsBegunAt, IsFrameAt};
-ghost use Rattle.dvg_named.specs.FrameValues.{frame_in, frame_list};
-ghost use Rattle.dvg_named.specs.FrameValues.{frames_of};
+ghost use Rattle.dvg_named.specs.FrameValues.{frame_in, frame_list, frames_of, rows_at_top};
+ghost use Rattle.dvg_named.specs.FrameValues.{sketch_held};
 ghost use Rattle.dvg_named.specs.LineNumbers.{first_head};
-ghost use Rattle.dvg_named.specs.FrameValues.{rows_at_top};
 ghost use Rattle.dvg_rows.specs.HeldRows.{rows_of};
-ghost use Rattle.dvg_named.specs.ReadParts.{sketch_of};
 ghost use Rattle.dvg_named.specs.Sections.{HasTop, Spelled, frames};
 ghost use Rattle.dvg_named.specs.SketchReading.{head_in, section_in};
 ghost use Rattle.dvg_named.specs.SourcedRows.{AreInOrder, IsPartAt, StandsBefore};
@@ -40,14 +38,13 @@ pub(crate) fn frame_rows<'r, 'a, A: Allocator + Copy>(
     last: &'r Part<'a, A>,
 ) -> Result<Vec<FrameRows<'r, 'a>, A>, OutOfMemory>
     ensures frames { IfOk result (λ found. (stated : RomText) → frames_of found.items
-        ≡ frames (sketch_of stated (map section_in closed.now) (section_in last.now))) }
+        ≡ frames (sketch_held stated closed.now last.now)) }
     ensures sources { IfOk result (λ found. (small : List ℕ) → All (IsPartAt small) closed.now
         → IsPartAt small last.now → All (IsFrameAt small) found.items) }
     ensures begins { IfOk result (λ found. (stated : RomText) (small : List ℕ)
         → All (IsPartAt small) closed.now → IsPartAt small last.now
         → first_head closed.now last.now ≡ None
-        → All (IsBegunAt small (sketch_of stated (map section_in closed.now) (section_in last.now)))
-        found.items) }
+        → All (IsBegunAt small (sketch_held stated closed.now last.now)) found.items) }
     ensures rise { IfOk result (λ found. (small : List ℕ) → All (IsPartAt small) closed.now
         → AreInOrder closed.now → All (StandsBefore last.now.begin.number) closed.now
         → AllPairs BeginsFirst found.items) }

@@ -71,7 +71,7 @@ impl<'a, A: Allocator + Copy> Sketch<'a, A> {
 /// the same in either case.
 ///
 /// - `Text`: the fault of the text, that of the first line at fault. `TooLong`, the text has more
-///   than 1,048,576 bytes, comes before all others, and `UnknownName` after them.
+///   than `MOST_TEXT_BYTES`, comes before all others, and `UnknownName` after them.
 /// - `Memory`: an allocation failed.
 ///
 /// The time grows with the length of the text.

@@ -1,15 +1,13 @@
 //! The first row of a sketch that needs a name which isn't given.
 ghost use Rattle.std.specs.Prelude.{◌≡◌, ◌↔◌, ◌<◌, ℕ, All, IfNone, IfOk, IfSome, IsTrue, Some};
-ghost use Rattle.std.specs.Prelude.{length, slice_get, List};
-ghost use Rattle.dvg_named.specs.FirstUnknown.{FirstOf, HasLines, WantsIn, WantsNone, WantsRow};
-ghost use Rattle.dvg_named.specs.FirstUnknown.{all_sections, entries_held, section_held};
+ghost use Rattle.std.specs.Prelude.{length};
+ghost use Rattle.dvg_named.specs.FirstUnknown.{FirstOf, HasLines, IsFirstIn, WantsIn, WantsNone};
+ghost use Rattle.dvg_named.specs.FirstUnknown.{WantsRow, all_sections, entries_held, section_held};
 ghost use Rattle.dvg_rows.specs.HeldRows.{rows_of};
 ghost use Rattle.dvg_named.specs.LaidValues.{AreLow, NoneNames, laid_sections};
-ghost use Rattle.dvg_named.specs.LineNumbers.{entries_last};
 ghost use Rattle.dvg_named.specs.SketchFaults.{IsLost, IsUngiven};
 ghost use Rattle.dvg_rows.specs.RowPlaces.{IsNumber};
 ghost use Rattle.dvg_rows.specs.RowValues.{doing_of, head_of, row_of};
-ghost use Rattle.dvg_named.specs.Sections.{Section};
 ghost use Rattle.dvg_named.specs.SketchReading.{head_in, section_in};
 ghost use Rattle.dvg_named.specs.Ungiven.{IsFirstUngiven, WantsAt};
 
@@ -46,7 +44,7 @@ pub(crate) fn first_unknown<A: Allocator + Copy>(
     unknown_in(alloc, last, laid)
 }
 
-// Returns the number of the line of the first such row of the section `part`.
+// Returns the line number of the first row of `part` that needs a name which nothing gives.
 fn unknown_in<A: Allocator + Copy>(
     alloc: A,
     part: &Part<'_, A>,
@@ -54,19 +52,17 @@ fn unknown_in<A: Allocator + Copy>(
 ) -> Result<Option<usize>, OutOfMemory>
     requires low { AreLow (laid_sections laid.now) }
     requires lines { HasLines part.now }
-    ensures first { IfOk result (λ found. (sections : List Section) (number : ℕ)
-        → slice_get sections number ≡ Some (section_in part.now)
-        → FirstOf (WantsIn (laid_sections laid.now) sections) (entries_last number part.now)
-        found) }
+    ensures first { IfOk result (IsFirstIn (laid_sections laid.now) part.now) }
     ensures known { IfOk result (λ found.
         IfNone found (WantsNone (laid_sections laid.now) (section_in part.now))) }
 {
     let rows = NamedRows::new(alloc, part.rows.as_slice())?;
-    Ok(number_in(part, &rows, laid))
+    Ok(line_of_unknown(part, &rows, laid))
 }
 
-// Like `unknown_in`, where `rows` are the rows of `part` with their names collected.
-fn number_in<A: Allocator + Copy>(
+// Returns the line number of the first row of `part` that needs a name which nothing gives. `rows`
+// are its rows with their names collected.
+fn line_of_unknown<A: Allocator + Copy>(
     part: &Part<'_, A>,
     rows: &NamedRows<'_, '_, A>,
     laid: &LaidNames<'_, '_, '_, A>,
@@ -74,10 +70,7 @@ fn number_in<A: Allocator + Copy>(
     requires low { AreLow (laid_sections laid.now) }
     requires lines { HasLines part.now }
     requires rows { rows.now ≡ part.now.rows.items }
-    ensures first { (sections : List Section) (number : ℕ)
-        → slice_get sections number ≡ Some (section_in part.now)
-        → FirstOf (WantsIn (laid_sections laid.now) sections) (entries_last number part.now)
-        result }
+    ensures first { IsFirstIn (laid_sections laid.now) part.now result }
     ensures known { IfNone result (WantsNone (laid_sections laid.now) (section_in part.now)) }
 {
     match first_in(part.head, rows, laid) {
@@ -160,7 +153,7 @@ fn is_lost<A: Allocator + Copy>(
 {
     match head {
         Some(begun) => is_lost_after(begun, rows, laid, name),
-        None => has_no_number(rows, name),
+        None => is_unknown_in(rows, name),
     }
 }
 
@@ -177,7 +170,7 @@ fn is_lost_after<A: Allocator + Copy>(
 {
     match head {
         Head::Rom(_) => has_no_address(laid, name),
-        Head::Frame(_) => has_no_number(rows, name),
+        Head::Frame(_) => is_unknown_in(rows, name),
     }
 }
 
@@ -189,8 +182,8 @@ fn has_no_address<A: Allocator + Copy>(laid: &LaidNames<'_, '_, '_, A>, name: &[
     address_of(laid, name).is_none()
 }
 
-// Whether none of `rows`, the rows of a frame, gives `name`.
-fn has_no_number<A: Allocator + Copy>(rows: &NamedRows<'_, '_, A>, name: &[u8]) -> bool
+// Whether `name` is unknown in a frame: none of its `rows` gives it.
+fn is_unknown_in<A: Allocator + Copy>(rows: &NamedRows<'_, '_, A>, name: &[u8]) -> bool
     ensures { IsTrue result ↔ ((number : ℕ) → ¬ IsNumber (rows_of rows.now) name.now number) }
 {
     number_of(rows, name).is_none()

@@ -1,12 +1,14 @@
 -- A line spells one list of events at most, and what it spells shows by its name.
 use Rattle.std.proofs.Common.{◌≡◌, ◌<◌, ◌≤◌, ℕ, List, [], ◌∷◌, false, eqb, Some, ◌⊎◌, inl, inr, length, replicate, get_or, refl, sym, ap, subst, ◌∙◌, arith, codes, decimal}
-use Rattle.std.proofs.lemmas.Fmt.{decimal_injective}
+use Rattle.std.specs.Prelude.{bytes_eq, if◌then◌else◌}
+use Rattle.std.specs.Str.Parse.{digits_value}
 use Rattle.std.proofs.lemmas.List.{length-replicate}
 use Rattle.std.specs.List.{join_with_byte}
 use Rattle.std.proofs.lemmas.List.Splits.{join_with_byte-slice_split}
 use Rattle.dvg_log.specs.Events.{Happening}
 use Rattle.dvg_log.specs.declared.event.Event.TheVariants.{Offer, Redraw, Tick, Strobe, Fetch, ResetGen, ResetCpu, ResetAll}
 use Rattle.std.proofs.lemmas.Int.Digits.{digits_value-lt}
+use Rattle.dvg_read.proofs.OneOperation.{number, number_is}
 use Rattle.dvg_read.specs.EventLines.{TakesCount, IsNamed}
 use Rattle.dvg_read.specs.Texts.{IsHex, is_passed, parts}
 use Rattle.dvg_read.specs.TraceTexts.{Counts, EventParts, once, times, redraw, tick, strobe, fetch, resetgen, resetcpu, resetall}
@@ -51,61 +53,6 @@ pub count_bounds : {name : List ℕ} {n : ℕ} {ps : List (List ℕ)} → Counts
 count_bounds once = (omega arith, omega arith)
 count_bounds (times some most) = (some, most)
 
-one_count_of : (name : List ℕ) (m n : ℕ) (ps : List (List ℕ)) → Counted name m ps → Counted name n ps → n ≡ m
-one_count_of name m n ps (inl (is, one)) (inl (same, other)) = other ∙ sym one
-one_count_of name m n ps (inl (is, one)) (inr (same, some, most)) = absurd (cc)
-one_count_of name m n ps (inr (is, some, most)) (inl (same, other)) = absurd (cc)
-one_count_of name m n ps (inr (is, some, most)) (inr (same, more, least)) = decimal_injective n m (omega arith) (omega arith) (cc)
-
--- a name and a count give one count
-pub one_count : {name : List ℕ} {m n : ℕ} {ps : List (List ℕ)} → Counts name m ps → Counts name n ps → n ≡ m
-one_count {name} {m} {n} {ps} a b = one_count_of name m n ps (counted a) (counted b)
-
-tick_row : {fill : ℕ → List ℕ} {more : List Happening} {ps : List (List ℕ)} → Row fill more ps → letter_of ps ≡ 116 → (n : ℕ) × Counts (codes "tick") n ps × (more ≡ replicate n Tick)
-tick_row redraws e = absurd (omega arith)
-tick_row (ticks {n = n} c) e = (n, c, refl)
-tick_row (strobes c) e = let is = letter c in absurd (omega arith)
-tick_row (fetches c) e = let is = letter c in absurd (omega arith)
-tick_row resets_gen e = absurd (omega arith)
-tick_row resets_cpu e = absurd (omega arith)
-tick_row (resets_all h) e = absurd (omega arith)
-
-strobe_row : {fill : ℕ → List ℕ} {more : List Happening} {ps : List (List ℕ)} → Row fill more ps → letter_of ps ≡ 115 → (n : ℕ) × Counts (codes "strobe") n ps × (more ≡ replicate n Strobe)
-strobe_row redraws e = absurd (omega arith)
-strobe_row (ticks c) e = let is = letter c in absurd (omega arith)
-strobe_row (strobes {n = n} c) e = (n, c, refl)
-strobe_row (fetches c) e = let is = letter c in absurd (omega arith)
-strobe_row resets_gen e = absurd (omega arith)
-strobe_row resets_cpu e = absurd (omega arith)
-strobe_row (resets_all h) e = absurd (omega arith)
-
-fetch_row : {fill : ℕ → List ℕ} {more : List Happening} {ps : List (List ℕ)} → Row fill more ps → letter_of ps ≡ 102 → (n : ℕ) × Counts (codes "fetch") n ps × (more ≡ replicate n Fetch)
-fetch_row redraws e = absurd (omega arith)
-fetch_row (ticks c) e = let is = letter c in absurd (omega arith)
-fetch_row (strobes c) e = let is = letter c in absurd (omega arith)
-fetch_row (fetches {n = n} c) e = (n, c, refl)
-fetch_row resets_gen e = absurd (omega arith)
-fetch_row resets_cpu e = absurd (omega arith)
-fetch_row (resets_all h) e = absurd (omega arith)
-
-redraw_row : {fill : ℕ → List ℕ} {more : List Happening} → Row fill more (codes "redraw" ∷ []) → more ≡ Redraw ∷ []
-redraw_row redraws = refl
-redraw_row (ticks c) = let is = letter c in absurd (omega arith)
-redraw_row (strobes c) = let is = letter c in absurd (omega arith)
-redraw_row (fetches c) = let is = letter c in absurd (omega arith)
-
-resetgen_row : {fill : ℕ → List ℕ} {more : List Happening} → Row fill more (codes "resetgen" ∷ []) → more ≡ ResetGen ∷ []
-resetgen_row (ticks c) = let is = letter c in absurd (omega arith)
-resetgen_row (strobes c) = let is = letter c in absurd (omega arith)
-resetgen_row (fetches c) = let is = letter c in absurd (omega arith)
-resetgen_row resets_gen = refl
-
-resetcpu_row : {fill : ℕ → List ℕ} {more : List Happening} → Row fill more (codes "resetcpu" ∷ []) → more ≡ ResetCpu ∷ []
-resetcpu_row (ticks c) = let is = letter c in absurd (omega arith)
-resetcpu_row (strobes c) = let is = letter c in absurd (omega arith)
-resetcpu_row (fetches c) = let is = letter c in absurd (omega arith)
-resetcpu_row resets_cpu = refl
-
 resetall_row : {fill : ℕ → List ℕ} {more : List Happening} {digits : List ℕ} → Row fill more (codes "resetall" ∷ digits ∷ []) → (byte : ℕ) × IsHex 2 byte digits × (more ≡ ResetAll (fill byte) ∷ [])
 resetall_row (ticks c) = let is = letter c in absurd (omega arith)
 resetall_row (strobes c) = let is = letter c in absurd (omega arith)
@@ -137,18 +84,36 @@ no_rom h = no_rom_row (row h)
 pub no_offer : {more : List Happening} {ps : List (List ℕ)} → EventParts more (codes "offer" ∷ ps) → ⊥
 no_offer h = no_offer_row (row h)
 
--- parts spell one list of events at most
-one_row : {fill : ℕ → List ℕ} {more other : List Happening} {ps : List (List ℕ)} → Row fill more ps → Row fill other ps → other ≡ more
-one_row redraws q = redraw_row q
-one_row (ticks c) q = let (n, d, is) = tick_row q (letter c) in is ∙ ap (λ n. replicate n Tick) (one_count c d)
-one_row (strobes c) q = let (n, d, is) = strobe_row q (letter c) in is ∙ ap (λ n. replicate n Strobe) (one_count c d)
-one_row (fetches c) q = let (n, d, is) = fetch_row q (letter c) in is ∙ ap (λ n. replicate n Fetch) (one_count c d)
-one_row resets_gen q = resetgen_row q
-one_row resets_cpu q = resetcpu_row q
-one_row {fill} (resets_all h) q = let (byte, k, is) = resetall_row q in is ∙ ap (λ byte. ResetAll (fill byte) ∷ []) (sym k.value ∙ h.value)
+-- parts spell one list of events at most: it is read back from them
+abbrev count_of : List (List ℕ) → ℕ
+count_of (name ∷ count ∷ []) = number count
+count_of _ = 1
+
+abbrev read_back : (fill : ℕ → List ℕ) → List (List ℕ) → List Happening
+read_back fill [] = []
+read_back fill (name ∷ ps) =
+    if bytes_eq name (codes "tick") then replicate (count_of (name ∷ ps)) Tick
+    else (if bytes_eq name (codes "strobe") then replicate (count_of (name ∷ ps)) Strobe
+    else (if bytes_eq name (codes "fetch") then replicate (count_of (name ∷ ps)) Fetch
+    else (if bytes_eq name (codes "redraw") then Redraw ∷ []
+    else (if bytes_eq name (codes "resetgen") then ResetGen ∷ []
+    else (if bytes_eq name (codes "resetcpu") then ResetCpu ∷ []
+    else ResetAll (fill (digits_value 16 (get_or ps 0 []))) ∷ [])))))
+
+back : {fill : ℕ → List ℕ} {events : List Happening} {ps : List (List ℕ)} → Row fill events ps → read_back fill ps ≡ events
+back redraws = refl
+back (ticks once) = refl
+back (ticks (times {n = n} some most)) = ap (λ n. replicate n Tick) (number_is n (omega (arith, most)))
+back (strobes once) = refl
+back (strobes (times {n = n} some most)) = ap (λ n. replicate n Strobe) (number_is n (omega (arith, most)))
+back (fetches once) = refl
+back (fetches (times {n = n} some most)) = ap (λ n. replicate n Fetch) (number_is n (omega (arith, most)))
+back resets_gen = refl
+back resets_cpu = refl
+back {fill} (resets_all h) = ap (λ byte. ResetAll (fill byte) ∷ []) h.value
 
 pub one_events : {more other : List Happening} {ps : List (List ℕ)} → EventParts more ps → EventParts other ps → other ≡ more
-one_events p q = one_row (row p) (row q)
+one_events p q = sym (back (row q)) ∙ back (row p)
 
 -- and one event at least
 some_row : {fill : ℕ → List ℕ} {more : List Happening} {ps : List (List ℕ)} → Row fill more ps → 1 ≤ length more

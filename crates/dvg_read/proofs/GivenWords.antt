@@ -5,8 +5,8 @@ use Rattle.std.proofs.lemmas.Bool.{cases_lt, le-leb, le-ltb, lt-leb, lt-ltb}
 use Rattle.std.proofs.lemmas.List.{get_or-map, length-map, length-take-le, map_more, take_all}
 use Rattle.dvg_code.specs.Words.{word_in}
 use Rattle.dvg_read.specs.LineParts.{bytes_of}
-use Rattle.dvg_read.specs.RomTexts.{IsRomLine, RomLine, word_behind}
-use Rattle.dvg_read.specs.RomReading.{IsBehind, SpellsWords}
+use Rattle.dvg_read.specs.RomTexts.{IsRomLine, RomLine, word_after_line}
+use Rattle.dvg_read.specs.RomReading.{IsAfterLine, SpellsWords}
 use Rattle.dvg_read.specs.Texts.{IsHex, parts}
 use Rattle.dvg_read.proofs.Zips.{zip_at, zip_length, zip_push, zip_same}
 
@@ -43,21 +43,21 @@ word_put first k word words old now new p is put others = record {
 }
 
 -- which word stands at an address after a line
-word_inside : (address : ℕ) (words : List ℕ) (a word : ℕ) → address ≤ a → a < address + length words → word_behind (record { address = address; words = words }) a word ≡ slice_index words (a - address)
+word_inside : (address : ℕ) (words : List ℕ) (a word : ℕ) → address ≤ a → a < address + length words → word_after_line (record { address = address; words = words }) a word ≡ slice_index words (a - address)
 word_inside address words a word low high =
     let first : nat_le address a ≡ true = le-leb _ _ low in
     let last : nat_lt a (address + length words) ≡ true = lt-ltb _ _ high in rw (first, last)
 
-word_before : (address : ℕ) (words : List ℕ) (a word : ℕ) → a < address → word_behind (record { address = address; words = words }) a word ≡ word
+word_before : (address : ℕ) (words : List ℕ) (a word : ℕ) → a < address → word_after_line (record { address = address; words = words }) a word ≡ word
 word_before address words a word low = let first : nat_le address a ≡ false = lt-leb _ _ low in rw first
 
-word_beyond : (address : ℕ) (words : List ℕ) (a word : ℕ) → address ≤ a → address + length words ≤ a → word_behind (record { address = address; words = words }) a word ≡ word
+word_beyond : (address : ℕ) (words : List ℕ) (a word : ℕ) → address ≤ a → address + length words ≤ a → word_after_line (record { address = address; words = words }) a word ≡ word
 word_beyond address words a word low high =
     let first : nat_le address a ≡ true = le-leb _ _ low in
     let last : nat_lt a (address + length words) ≡ false = le-ltb _ _ high in rw (first, last)
 
 by_place : (address first place : ℕ) (words old new : List ℕ) → address ≡ first + place → PutTo place (length words) words old new → (k : ℕ) → (k < place) ⊎ (place ≤ k) → (k < place + length words) ⊎ (place + length words ≤ k)
-    → word_in new k ≡ word_behind (record { address = address; words = words }) (first + k) (word_in old k)
+    → word_in new k ≡ word_after_line (record { address = address; words = words }) (first + k) (word_in old k)
 by_place address first place words old new is p k (inl low) any = p.before k low ∙ sym (word_before address words (first + k) (word_in old k) (omega arith))
 by_place address first place words old new is p k (inr low) (inl high) =
     let at : place + (k - place) ≡ k = omega arith in
@@ -66,7 +66,7 @@ by_place address first place words old new is p k (inr low) (inl high) =
 by_place address first place words old new is p k (inr low) (inr high) = p.behind k high ∙ sym (word_beyond address words (first + k) (word_in old k) (omega arith) (omega arith))
 
 -- all words of a line
-pub all_put : (address first place : ℕ) (words old new : List ℕ) → first ≤ address → place ≡ address - first → length new ≡ length old → PutTo place (length words) words old new → IsBehind (record { address = address; words = words }) first old new
+pub all_put : (address first place : ℕ) (words old new : List ℕ) → first ≤ address → place ≡ address - first → length new ≡ length old → PutTo place (length words) words old new → IsAfterLine (record { address = address; words = words }) first old new
 all_put address first place words old new low is size p = record { count = size; words = λ k small. by_place address first place words old new (omega arith) p k (cases_lt k place) (cases_lt k (place + length words)) }
 
 -- no words go with parts of which too many are left

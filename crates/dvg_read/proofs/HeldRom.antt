@@ -1,5 +1,5 @@
 -- The ROM that is held after each line that describes it.
-use Rattle.std.proofs.Common.{◌≡◌, ◌<◌, ◌≤◌, ◌+◌, ◌-◌, ◌⊎◌, inl, inr, ℕ, List, [], ◌∷◌, ◌++◌, length, get_or, refl, sym, ap, subst, ◌∙◌, arith, true, Option, Some, All, take, append-nil}
+use Rattle.std.proofs.Common.{◌≡◌, ◌<◌, ◌≤◌, ◌+◌, ◌-◌, ◌*◌, ◌⊎◌, inl, inr, ℕ, List, [], ◌∷◌, ◌++◌, length, get_or, refl, sym, ap, subst, ◌∙◌, arith, true, Option, Some, All, take, append-nil}
 use Rattle.std.specs.Prelude.{IsFalse, ◌↔◌, ◌/◌}
 use Rattle.std.proofs.lemmas.List.{drop_all, get_or_default, length-append, take_all}
 use Rattle.std.specs.List.{refill}
@@ -9,8 +9,8 @@ use Rattle.dvg_mem.specs.Grown.{AreReturns}
 use Rattle.dvg_mem.specs.Memory.{IsRom, first_word, rom_word}
 use Rattle.dvg_mem.proofs.Roms.{large_first, rom_there, small_first, words_from_first}
 use Rattle.dvg_read.specs.declared.rom_text.RomReading.{RomReading}
-use Rattle.dvg_read.specs.RomReading.{HoldsRom, IsBehind, TellsMore, TellsRom, gives_words, tells_map, unstated}
-use Rattle.dvg_read.specs.RomTexts.{IsMapLine, IsRomLine, IsRomOf, RomLine, RomText, first_stated, large, small, word_after, word_behind}
+use Rattle.dvg_read.specs.RomReading.{HoldsRom, IsAfterLine, TellsMore, TellsRom, gives_words, tells_map, unstated}
+use Rattle.dvg_read.specs.RomTexts.{IsMapLine, IsRomLine, IsRomOf, RomLine, RomText, first_stated, large, small, word_after, word_after_line}
 use Rattle.dvg_read.proofs.RomSteps.{stated_rom}
 
 -- the address of a first word
@@ -18,39 +18,39 @@ pub first_of_map : {first : ℕ} {l : List ℕ} → IsMapLine first l → (first
 first_of_map small = inl refl
 first_of_map large = inr refl
 
--- a ROM of returns alone
-returns_rom : (R : List ℕ) (first : ℕ) → (first ≡ 0x800) ⊎ (first ≡ 0x400) → AreReturns R (0xC00 - first) → IsRom R × (first_word R ≡ first)
-returns_rom R first (inl e) are = let size = are.count in let small : length R ≡ 2048 = omega arith in (record { count = inl small; bytes = are.bytes }, small_first R small ∙ sym e)
-returns_rom R first (inr e) are = let size = are.count in let large : length R ≡ 4096 = omega arith in (record { count = inr large; bytes = are.bytes }, large_first R large ∙ sym e)
+-- bytes that are as many as a ROM's from this word address on
+pub whole_by_count : (R : List ℕ) (first : ℕ) → (first ≡ 0x800) ⊎ (first ≡ 0x400) → length R ≡ 2 * (0xC00 - first) → All (λ byte. byte < 256) R → IsRom R × (first_word R ≡ first)
+whole_by_count R first (inl e) size bytes = let small : length R ≡ 2048 = omega arith in (record { count = inl small; bytes = bytes }, small_first R small ∙ sym e)
+whole_by_count R first (inr e) size bytes = let large : length R ≡ 4096 = omega arith in (record { count = inr large; bytes = bytes }, large_first R large ∙ sym e)
 
 pub returns_held : (R : List ℕ) (first : ℕ) (map : Option ℕ) → first ≡ first_stated map → (first ≡ 0x800) ⊎ (first ≡ 0x400) → AreReturns R (0xC00 - first) → IsRomOf (stated_rom map []) R
 returns_held R first map stated one are =
-    let (whole, is) = returns_rom R first one are in
+    let (whole, is) = whole_by_count R first one are.count are.bytes in
     record { whole = whole; first = is ∙ stated; words = λ a low high. rom_there R a low high ∙ ap Some (are.words (a - first_word R) (omega arith)) }
 
 -- the words after one more line
-after_more : (roms : List RomLine) (given : RomLine) (a word : ℕ) → word_after (roms ++ given ∷ []) a word ≡ word_behind given a (word_after roms a word)
+after_more : (roms : List RomLine) (given : RomLine) (a word : ℕ) → word_after (roms ++ given ∷ []) a word ≡ word_after_line given a (word_after roms a word)
 after_more [] given a word = refl
-after_more (r ∷ roms) given a word = after_more roms given a (word_behind r a word)
+after_more (r ∷ roms) given a word = after_more roms given a (word_after_line r a word)
 
 same_size : (R S : List ℕ) → length S ≡ length R → first_word S ≡ first_word R
 same_size R S size = rw size
 
-behind_at : (before : List RomLine) (given : RomLine) (R S : List ℕ) (a : ℕ) → IsRom R → IsBehind given (first_word R) R S → first_word R ≤ a → a < 0xC00
+behind_at : (before : List RomLine) (given : RomLine) (R S : List ℕ) (a : ℕ) → IsRom R → IsAfterLine given (first_word R) R S → first_word R ≤ a → a < 0xC00
     → rom_word R a ≡ Some (word_after before a 0xD000) → word_in S (a - first_word R) ≡ word_after (before ++ given ∷ []) a 0xD000
 behind_at before given R S a whole behind low high old =
     let size = words_from_first R whole in
     let place : first_word R + (a - first_word R) ≡ a = omega arith in
     let there = rom_there R a low high in
     let was : word_in R (a - first_word R) ≡ word_after before a 0xD000 = cc in
-    behind.words (a - first_word R) (omega arith) ∙ ap (λ b. word_behind given b (word_in R (a - first_word R))) place ∙ ap (word_behind given a) was ∙ sym (after_more before given a 0xD000)
+    behind.words (a - first_word R) (omega arith) ∙ ap (λ b. word_after_line given b (word_in R (a - first_word R))) place ∙ ap (word_after_line given a) was ∙ sym (after_more before given a 0xD000)
 
 -- a line that gives words
-pub words_held : (map : Option ℕ) (before : List RomLine) (given : RomLine) (R S : List ℕ) (first : ℕ) → first ≡ first_stated map → IsRomOf (stated_rom map before) R → IsBehind given first R S → All (λ byte. byte < 256) S → IsRomOf (stated_rom map (before ++ given ∷ [])) S
+pub words_held : (map : Option ℕ) (before : List RomLine) (given : RomLine) (R S : List ℕ) (first : ℕ) → first ≡ first_stated map → IsRomOf (stated_rom map before) R → IsAfterLine given first R S → All (λ byte. byte < 256) S → IsRomOf (stated_rom map (before ++ given ∷ [])) S
 words_held map before given R S first stated held behind bytes =
     let count = behind.count in
     let same = same_size R S count in
-    let put : IsBehind given (first_word R) R S = subst (λ first. IsBehind given first R S) (stated ∙ sym held.first) behind in
+    let put : IsAfterLine given (first_word R) R S = subst (λ first. IsAfterLine given first R S) (stated ∙ sym held.first) behind in
     record {
       whole = record { count = subst (λ n. (n ≡ 2048) ⊎ (n ≡ 4096)) (sym count) held.whole.count; bytes = bytes };
       first = same ∙ held.first;
@@ -91,9 +91,9 @@ refilled xs ws size =
 
 -- a line that gives words was read
 pub words_stated : (rom : RomText) (line : List ℕ) (old new : RomReading) (given : RomLine) (first : ℕ) (lent bytes : List ℕ) → HoldsRom rom old → first + length old.bytes.items / 2 ≡ 0xC00 → IsRomLine first given line
-    → lent ≡ old.bytes.items → IsBehind given first lent bytes → ((i : ℕ) → get_or bytes i 0 < 256) → new.bytes.items ≡ refill (length old.bytes.items) old.bytes.items bytes → new.is_stated ≡ true → TellsMore rom line new
+    → lent ≡ old.bytes.items → IsAfterLine given first lent bytes → ((i : ℕ) → get_or bytes i 0 < 256) → new.bytes.items ≡ refill (length old.bytes.items) old.bytes.items bytes → new.is_stated ≡ true → TellsMore rom line new
 words_stated rom line old new given first lent bytes holds e is lends put fits written stated =
-    let behind = subst (λ lent. IsBehind given first lent bytes) lends put in
+    let behind = subst (λ lent. IsAfterLine given first lent bytes) lends put in
     let whole : new.bytes.items ≡ bytes = written ∙ refilled old.bytes.items bytes behind.count in
     let at = first_is rom old first holds e in
     record {

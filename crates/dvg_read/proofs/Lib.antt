@@ -14,11 +14,12 @@ pub mod TraceSteps
 pub mod OneTrace
 pub mod TraceMoves
 pub mod ReadTrace
-pub mod TraceFollowed
 pub mod FirstBytes
 pub mod LineEnds
 pub mod GivenWords
 pub mod HeldRom
+pub mod StatedRom
+pub mod TraceOrFault
 pub mod ReadTo
 pub mod Spaces
 pub mod HexDigits

@@ -1,9 +1,8 @@
 -- The text of a trace, read up to some line.
 use Rattle.std.proofs.Common.{◌≡◌, ◌<◌, ◌≤◌, ◌+◌, ℕ, List, [], ◌∷◌, ◌++◌, length, refl, sym, ap, subst, ◌∙◌, arith}
-use Rattle.std.proofs.Common.{append-nil, append_assoc, length-append, Bool, true, false, Option, Some, None}
+use Rattle.std.proofs.Common.{append-nil, append_assoc, length-append, true, false, Option, Some, None}
 use Rattle.std.proofs.Common.{Result, Ok, Err, IfOk}
 use Rattle.std.specs.List.{AllZip}
-use Rattle.std.specs.Option.{is_some}
 use Rattle.dvg_frame.specs.declared.op.OpKind.{OpKind}
 use Rattle.dvg_log.specs.Events.{Happening}
 use Rattle.dvg_read.specs.declared.fault.LineFault.{LineFault}
@@ -14,14 +13,14 @@ use Rattle.dvg_read.specs.declared.rom_text.RomReading.{RomReading}
 use Rattle.dvg_read.specs.RomReading.{HoldsRom, unstated}
 use Rattle.dvg_read.specs.FirstFaults.{IsShort, Reaches}
 use Rattle.dvg_read.specs.LineFaults.{fault_at}
-use Rattle.dvg_read.specs.TraceTexts.{EndsInside, FitsTrace, IsFineTrace, SpellsTrace}
+use Rattle.dvg_read.specs.TraceTexts.{FitsTrace, IsFineTrace, SpellsTrace}
 use Rattle.dvg_read.specs.TraceEvents.{AddsEvents, BeginsWithEvent, SpellsEvent}
-use Rattle.dvg_read.specs.TraceGives.{BringsEvents, GivesTrace, ReadsAhead, StopsLine, StopsReading, TakesLine}
+use Rattle.dvg_read.specs.TraceGives.{BringsEvents, ReadsAhead, StopsLine, StopsReading, TakesLine}
 use Rattle.dvg_read.specs.TraceGives.{events_read, opened_of, reads_events, reads_ops}
 use Rattle.dvg_read.specs.TextLines.{AddsOps}
 use Rattle.dvg_read.specs.OpLines.{IsOpLine}
 use Rattle.dvg_read.specs.TraceReading.{does}
-use Rattle.dvg_read.specs.declared.trace_text.Reading.{Reading}
+use Rattle.dvg_read.specs.declared.trace_text.TraceReading.{TraceReading}
 use Rattle.dvg_read.proofs.Heads.{op_unpassed}
 use Rattle.dvg_read.proofs.EventRows.{events_unpassed}
 use Rattle.dvg_read.proofs.ReadTo.{count_on, cut_on, lines_length, unpassed_more, unpassed_one}
@@ -171,7 +170,7 @@ some_ops text left rest n count old new F G opened kept held now r inside a stil
     rw (still, none, same, a.added, sym a.counted) all
 
 -- lines of events, or of operations
-pub reads_ahead : {A : Type 0} (text : List ℕ) (left rest : List (List ℕ)) (n count : ℕ) (old new : Reading A)
+pub reads_ahead : {A : Type 0} (text : List ℕ) (left rest : List (List ℕ)) (n count : ℕ) (old new : TraceReading A)
     → ReadTrace text left n (events_read old) (opened_of old) old.rom → ReadsAhead old left count new rest
     → ReadTrace text rest (n + count) (events_read new) (opened_of new) new.rom
 reads_ahead text left rest n count old new r (reads_events s) =
@@ -182,7 +181,7 @@ reads_ahead text left rest n count old new r (reads_ops s) =
     (opened_of new) old.rom new.rom r s.inside s.adds s.opened s.events s.rom
 
 -- lines of events, as they are taken where no offer is open
-pub ahead_events : {A E : Type 0} (answer : Result ℕ E) (old new : Reading A) (left rest : List (List ℕ))
+pub ahead_events : {A E : Type 0} (answer : Result ℕ E) (old new : TraceReading A) (left rest : List (List ℕ))
     → opened_of old ≡ None → opened_of new ≡ None → new.rom ≡ old.rom
     → IfOk answer (λ count. AddsEvents left (events_read old) count rest (events_read new))
     → IfOk answer (λ count. ReadsAhead old left count new rest)
@@ -209,35 +208,6 @@ all_unpassed text left before none cut = ap unpassed (sym (cut ∙ ap (λ l. bef
 
 pub all_spelled : (text : List ℕ) (left : List (List ℕ)) (n : ℕ) (events : List Happening) (opened : Option (List OpKind)) (held : RomReading) → left ≡ [] → (r : ReadTrace text left n events opened held) → SpellsTrace r.rom events opened (unpassed (lines text))
 all_spelled text left n events opened held none r = subst (SpellsTrace r.rom events opened) (all_unpassed text left r.before none r.cut) r.spelled
-
-pub gives_all : (text : List ℕ) (left : List (List ℕ)) (n : ℕ) (events : List Happening) (opened : Option (List OpKind)) (held : RomReading) → left ≡ [] → ReadTrace text left n events opened held → IsShort text → FitsTrace events opened → opened ≡ None → (bytes : List ℕ) → bytes ≡ held.bytes.items
-    → GivesTrace text events bytes
-gives_all text left n events opened held none r short fits closed bytes is = record {
-  rom = r.rom;
-  denotes = record { short = short; spelled = subst (λ kept. SpellsTrace r.rom events kept (unpassed (lines text))) closed (subst (SpellsTrace r.rom events opened) (all_unpassed text left r.before none r.cut) r.spelled); fits = subst (FitsTrace events) closed fits };
-  bytes = rw is r.holds.is_rom;
-}
-
-pub ends_inside : (text : List ℕ) (left : List (List ℕ)) (n : ℕ) (events : List Happening) (opened : Option (List OpKind)) (held : RomReading) (F : List OpKind) → left ≡ [] → ReadTrace text left n events opened held → IsShort text → FitsTrace events opened → opened ≡ Some F
-    → EndsInside text
-ends_inside text left n events opened held F none r short fits inside = record {
-  short = short;
-  rom = r.rom;
-  events = events;
-  F = F;
-  spelled = subst (λ kept. SpellsTrace r.rom events kept (unpassed (lines text))) inside (subst (SpellsTrace r.rom events opened) (all_unpassed text left r.before none r.cut) r.spelled);
-  fits = subst (FitsTrace events) inside fits;
-}
-
-pub ends_open : (text : List ℕ) (left : List (List ℕ)) (n : ℕ) (events : List Happening) (opened : Option (List OpKind)) (held : RomReading) → left ≡ [] → ReadTrace text left n events opened held → IsShort text → FitsTrace events opened
-    → (b : Bool) → b ≡ is_some opened → b ≡ true → EndsInside text
-ends_open text left n events (Some F) held none r short fits b e test = ends_inside text left n events (Some F) held F none r short fits refl
-ends_open text left n events None held none r short fits b e test = absurd (cc)
-
-pub closed_all : (text : List ℕ) (left : List (List ℕ)) (n : ℕ) (events : List Happening) (opened : Option (List OpKind)) (held : RomReading) → left ≡ [] → ReadTrace text left n events opened held → IsShort text → FitsTrace events opened
-    → (b : Bool) → b ≡ is_some opened → b ≡ false → (bytes : List ℕ) → bytes ≡ held.bytes.items → GivesTrace text events bytes
-closed_all text left n events None held none r short fits b e test bytes is = gives_all text left n events None held none r short fits refl bytes is
-closed_all text left n events (Some F) held none r short fits b e test bytes is = absurd (cc)
 
 -- no text has more lines than bytes
 pub bounded : (text : List ℕ) (left : List (List ℕ)) (n : ℕ) (events : List Happening) (opened : Option (List OpKind)) (held : RomReading) → ReadTrace text left n events opened held → IsShort text → n ≤ MOST_TEXT_BYTES

@@ -1,6 +1,5 @@
 -- What one more line makes of a trace that is read.
 use Rattle.std.proofs.Common.{◌≡◌, ◌<◌, ◌≤◌, ℕ, zero, suc, List, [], ◌∷◌, ◌++◌, length, replicate, refl, sym, subst, arith, length-append, codes, All, Option, Some, None, Result, Ok, Err, OnOk, IfErr, Bool, true, false}
-use Rattle.std.specs.Option.{is_some}
 use Rattle.std.proofs.lemmas.Option.{none-some}
 use Rattle.std.proofs.lemmas.List.Elements.{All-append, All-replicate}
 use Rattle.dvg_frame.specs.declared.op.OpKind.{OpKind}
@@ -19,7 +18,7 @@ use Rattle.dvg_read.specs.TraceGives.{StopsEvents, StopsLine, StopsOperation, Ta
 use Rattle.dvg_read.proofs.EventRows.{some_events}
 use Rattle.dvg_log.specs.declared.trace.TheConstants.{MOST_EVENTS}
 
-all_one : {A : Type 0} (P : A → Type 0) (y : A) → P y → All P (y ∷ [])
+pub all_one : {A : Type 0} (P : A → Type 0) (y : A) → P y → All P (y ∷ [])
 all_one P y h zero d l = h
 all_one P y h (suc k) d l = absurd (omega arith)
 
@@ -29,10 +28,6 @@ none_opened b F e = rw e refl
 
 pub some_opened : (b : Bool) (F : List OpKind) → b ≡ true → opened_by b F ≡ Some F
 some_opened b F e = rw e refl
-
-pub any_opened : (b : Bool) (F : List OpKind) → b ≡ is_some (opened_by b F)
-any_opened true F = refl
-any_opened false F = refl
 
 -- an offer that is open has room in its draft
 pub inside_room : (old : List Happening) (opened : Option (List OpKind)) (F : List OpKind) → opened ≡ Some F

@@ -14,5 +14,4 @@ pub mod EventLines
 pub mod TraceReading
 pub mod TraceGives
 pub mod TraceLaws
-pub mod TraceFollowing
 pub mod TraceEvents

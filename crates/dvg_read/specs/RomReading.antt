@@ -3,7 +3,7 @@ use Rattle.std.specs.Prelude.{◌≡◌, ◌↔◌, ℕ, ◌+◌, ◌*◌, ◌<�
 use Rattle.std.specs.List.{AllZip}
 use Rattle.dvg_code.specs.Words.{word_in}
 use Rattle.dvg_read.specs.declared.rom_text.RomReading.{RomReading}
-use Rattle.dvg_read.specs.RomTexts.{IsMapLine, IsRomLine, IsRomOf, RomLine, RomText, first_stated, word_behind}
+use Rattle.dvg_read.specs.RomTexts.{IsMapLine, IsRomLine, IsRomOf, RomLine, RomText, first_stated, word_after_line}
 use Rattle.dvg_read.specs.Texts.{IsHex}
 
 -- each part is a word of four hexadecimal digits
@@ -11,9 +11,9 @@ abbrev pub SpellsWords : List ℕ → List (List ℕ) → Type 0
 SpellsWords = AllZip (λ word part. IsHex 4 word part)
 
 -- each word of a ROM, whose first one is at `first`, is the one after this line
-pub record IsBehind (given : RomLine) (first : ℕ) (old new : List ℕ) : Type 0 where
+pub record IsAfterLine (given : RomLine) (first : ℕ) (old new : List ℕ) : Type 0 where
   pub count : length new ≡ length old
-  pub words : (k : ℕ) → 2 * k < length old → word_in new k ≡ word_behind given (first + k) (word_in old k)
+  pub words : (k : ℕ) → 2 * k < length old → word_in new k ≡ word_after_line given (first + k) (word_in old k)
 
 -- nothing is said of the ROM
 abbrev pub unstated : RomText

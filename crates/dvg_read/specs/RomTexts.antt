@@ -46,14 +46,14 @@ pub data SpellsRom : RomText → List (List ℕ) → Type 0 where
       → SpellsRom (record { map = Some first; given = given }) (line ∷ ls)
 
 -- the word at an address after one more line, where it was `word` before that line
-abbrev pub word_behind : RomLine → (a word : ℕ) → ℕ
-word_behind given a word = if nat_le given.address a && nat_lt a
+abbrev pub word_after_line : RomLine → (a word : ℕ) → ℕ
+word_after_line given a word = if nat_le given.address a && nat_lt a
     (given.address + length given.words) then slice_index given.words (a - given.address) else word
 
 -- the word at an address after these lines, where it was `word` before them: a later line overwrites an earlier one
 abbrev pub word_after : List RomLine → (a word : ℕ) → ℕ
 word_after [] a word = word
-word_after (given ∷ roms) a word = word_after roms a (word_behind given a word)
+word_after (given ∷ roms) a word = word_after roms a (word_after_line given a word)
 
 -- the ROM that a text gives; a word that no line gives is D000, an RTSL
 pub record IsRomOf (rom : RomText) (R : List ℕ) : Type 0 where

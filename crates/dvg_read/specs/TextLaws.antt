@@ -4,7 +4,7 @@ use Rattle.dvg_frame.specs.declared.op.OpKind.{OpKind}
 use Rattle.dvg_read.specs.declared.fault.TextFault.{TextFault}
 use Rattle.dvg_read.specs.DraftReading.{Gives}
 use Rattle.dvg_read.specs.DraftTexts.{Denotes, HasDraftFault}
-use Rattle.dvg_read.specs.RomTexts.{IsRomOf, RomText}
+use Rattle.dvg_read.specs.RomTexts.{IsRomOf, RomText, SpellsRom}
 
 -- a text denotes at most one draft, and says at most one thing of the ROM
 abbrev pub OneMeaning : Type 0
@@ -14,6 +14,10 @@ OneMeaning = (text : List ℕ) (rom other : RomText) (F G : List OpKind) → Den
 -- what is said of a ROM gives at most one ROM
 abbrev pub OneRom : Type 0
 OneRom = (rom : RomText) (R S : List ℕ) → IsRomOf rom R → IsRomOf rom S → S ≡ R
+
+-- what lines state of a ROM gives a ROM
+abbrev pub EachRom : Type 0
+EachRom = (rom : RomText) (ls : List (List ℕ)) → SpellsRom rom ls → (R : List ℕ) × IsRomOf rom R
 
 -- a text has at most one fault
 abbrev pub OneTextFault : Type 0

@@ -7,7 +7,7 @@ use Rattle.dvg_read.specs.declared.fault.Unread.{Unread}
 use Rattle.dvg_read.specs.declared.fault.Unread.TheVariants.{Text, Memory}
 use Rattle.dvg_read.specs.declared.fault.LineFault.{LineFault}
 use Rattle.dvg_read.specs.declared.fault.LineFault.TheVariants as line_fault
-use Rattle.dvg_read.specs.declared.trace_text.Reading.{Reading}
+use Rattle.dvg_read.specs.declared.trace_text.TraceReading.{TraceReading}
 use Rattle.dvg_read.specs.OpLines.{IsOpLine}
 use Rattle.dvg_read.specs.RomTexts.{IsRomOf, RomText}
 use Rattle.dvg_read.specs.declared.rom_text.RomReading.{RomReading}
@@ -46,7 +46,7 @@ StopsReading (Text fault) text = HasTraceFault text fault
 StopsReading Memory text = BringsEvents text
 
 -- the events that were read (this and what follows is for private contracts)
-abbrev pub events_read : {A : Type 0} → Reading A → List Happening
+abbrev pub events_read : {A : Type 0} → TraceReading A → List Happening
 events_read reading = reading.events
 
 -- the operations of the newest offer, where it isn't ended
@@ -55,11 +55,11 @@ opened_by true F = Some F
 opened_by false F = None
 
 -- the operations of the offer that isn't ended
-abbrev pub opened_of : {A : Type 0} → Reading A → Option (List OpKind)
+abbrev pub opened_of : {A : Type 0} → TraceReading A → Option (List OpKind)
 opened_of reading = opened_by reading.is_open reading.draft
 
 -- what was read is within the limits
-abbrev pub IsHeld : {A : Type 0} → Reading A → Type 0
+abbrev pub IsHeld : {A : Type 0} → TraceReading A → Type 0
 IsHeld reading = FitsTrace (events_read reading) (opened_of reading)
 
 -- one more line was read, after lines that gave this ROM
@@ -70,12 +70,12 @@ pub record TakesLine (rom : RomText) (old : List Happening) (opened : Option (Li
   pub holds : HoldsRom now held
 
 -- the same, of the reader before the line and after it
-abbrev pub ReadsLine : {A : Type 0} → Reading A → List ℕ → Reading A → Type 0
+abbrev pub ReadsLine : {A : Type 0} → TraceReading A → List ℕ → TraceReading A → Type 0
 ReadsLine old line new = (rom : RomText) → HoldsRom rom old.rom
     → TakesLine rom (events_read old) (opened_of old) line (events_read new) (opened_of new) new.rom
 
 -- lines that spell an event each were read, so many, where no offer is open, and these are left
-pub record ReadsEvents {A : Type 0} (old : Reading A) (left : List (List ℕ)) (count : ℕ) (new : Reading A)
+pub record ReadsEvents {A : Type 0} (old : TraceReading A) (left : List (List ℕ)) (count : ℕ) (new : TraceReading A)
     (rest : List (List ℕ)) : Type 0 where
   pub outside : opened_of old ≡ None
   pub adds : AddsEvents left (events_read old) count rest (events_read new)
@@ -83,8 +83,8 @@ pub record ReadsEvents {A : Type 0} (old : Reading A) (left : List (List ℕ)) (
   pub rom : new.rom ≡ old.rom
 
 -- lines that spell an operation each were read, so many, where an offer is open, and these are left
-pub record ReadsOps {A : Type 0} (old : Reading A) (left : List (List ℕ)) (count : ℕ)
-    (new : Reading A)
+pub record ReadsOps {A : Type 0} (old : TraceReading A) (left : List (List ℕ)) (count : ℕ)
+    (new : TraceReading A)
     (rest : List (List ℕ)) : Type 0 where
   pub inside : opened_of old ≡ Some old.draft
   pub adds : AddsOps left old.draft count rest new.draft
@@ -93,20 +93,20 @@ pub record ReadsOps {A : Type 0} (old : Reading A) (left : List (List ℕ)) (cou
   pub rom : new.rom ≡ old.rom
 
 -- lines were read, so many, and these are left: lines of events, or of operations
-pub data ReadsAhead {A : Type 0} (old : Reading A) (left : List (List ℕ)) (count : ℕ)
-    (new : Reading A)
+pub data ReadsAhead {A : Type 0} (old : TraceReading A) (left : List (List ℕ)) (count : ℕ)
+    (new : TraceReading A)
     (rest : List (List ℕ)) : Type 0 where
   reads_events : ReadsEvents old left count new rest → ReadsAhead old left count new rest
   reads_ops : ReadsOps old left count new rest → ReadsAhead old left count new rest
 
 -- memory was wanted for one of these lines, which begin with an event that a trace has room for
-pub record WantsMemory {A : Type 0} (reading : Reading A) (left : List (List ℕ)) : Type 0 where
+pub record WantsMemory {A : Type 0} (reading : TraceReading A) (left : List (List ℕ)) : Type 0 where
   pub outside : opened_of reading ≡ None
   pub room : length (events_read reading) < MOST_EVENTS
   pub begins : BeginsWithEvent left
 
 -- all lines of a text were read, and this is held of them
-pub record ReadsText {A : Type 0} (text : List ℕ) (reading : Reading A) : Type 0 where
+pub record ReadsText {A : Type 0} (text : List ℕ) (reading : TraceReading A) : Type 0 where
   pub rom : RomText
   pub spelled : SpellsTrace rom (events_read reading) (opened_of reading) (unpassed (lines text))
   pub fits : IsHeld reading

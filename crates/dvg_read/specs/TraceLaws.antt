@@ -1,5 +1,5 @@
 -- Laws of the texts of traces.
-use Rattle.std.specs.Prelude.{◌≡◌, ◌⊎◌, ℕ, List}
+use Rattle.std.specs.Prelude.{◌≡◌, ℕ, List}
 use Rattle.dvg_log.specs.Events.{Happening}
 use Rattle.dvg_read.specs.declared.fault.TextFault.{TextFault}
 use Rattle.dvg_read.specs.RomTexts.{RomText}
@@ -20,9 +20,9 @@ OneTraceFault = (text : List ℕ) (one other : TextFault) → HasTraceFault text
 abbrev pub HasMeaning : List ℕ → Type 0
 HasMeaning text = (events : List Happening) × (R : List ℕ) × GivesTrace text events R
 
--- each text of a trace does, or has a fault
-abbrev pub IsTraceRead : List ℕ → Type 0
-IsTraceRead text = HasMeaning text ⊎ ((fault : TextFault) × HasTraceFault text fault)
+-- no text of a trace lacks both a meaning and a fault
+abbrev pub NoTraceLacksBoth : Type 0
+NoTraceLacksBoth = (text : List ℕ) → ¬ HasMeaning text → ¬ ((fault : TextFault) → ¬ HasTraceFault text fault)
 
 -- a text that denotes events has no fault
 abbrev pub NoFaultBesideTrace : Type 0

@@ -27,7 +27,7 @@ pub struct DraftText {
 /// Reads `text`, the text of a draft, in one pass over its lines and without taking memory. Each
 /// text either denotes a draft and a ROM, or has a fault (the format is this project's own choice).
 ///
-/// - `TooLong`: `text` has more than 1,048,576 bytes. This is decided before all others.
+/// - `TooLong`: `text` has more than `MOST_TEXT_BYTES`. This is decided before all others.
 /// - `Syntax`: this line is the first that spells nothing that may stand at its place.
 /// - `Full`: this line spells operation number 511, and the lines before it are without fault.
 pub fn read_draft(text: &[u8]) -> Result<DraftText, TextFault>

@@ -1,11 +1,11 @@
 //! Laws of the texts of drafts and of traces. Each is the contract of a function that does nothing,
-//! but two, which read the text.
-ghost use Rattle.dvg_read.specs.TraceLaws.{IsTraceRead, NoFaultBesideTrace, OneTraceFault};
+//! but one, which reads the text.
+ghost use Rattle.dvg_read.specs.TraceLaws.{NoFaultBesideTrace, NoTraceLacksBoth, OneTraceFault};
 ghost use Rattle.dvg_read.specs.TraceLaws.{OneTraceMeaning};
-ghost use Rattle.dvg_read.specs.TextLaws.{IsRead, NoFaultBeside, OneMeaning, OneRom, OneTextFault};
+ghost use Rattle.dvg_read.specs.TextLaws.{EachRom, IsRead, NoFaultBeside, OneMeaning, OneRom};
+ghost use Rattle.dvg_read.specs.TextLaws.{OneTextFault};
 
 use crate::draft_text::read_draft;
-use crate::trace_following::follow;
 
 /// A text denotes at most one draft, and says at most one thing of the ROM.
 pub fn one_meaning()
@@ -15,6 +15,11 @@ pub fn one_meaning()
 /// What is said of a ROM gives at most one ROM.
 pub fn one_rom()
     ensures { OneRom }
+{}
+
+/// What lines state of a ROM gives a ROM.
+pub fn each_rom()
+    ensures { EachRom }
 {}
 
 /// A text has at most one fault.
@@ -45,13 +50,11 @@ pub fn one_trace_fault()
     ensures { OneTraceFault }
 {}
 
-/// Each `text` of a trace denotes events and a ROM, or has a fault. That one of them holds is shown
-/// by following its lines, which takes no memory.
-pub fn each_trace_is_read(text: &[u8])
-    ensures { IsTraceRead text.now }
-{
-    let _answer = follow(text);
-}
+/// No text of a trace lacks both a meaning and a fault: events with the bytes of a ROM, or what is
+/// wrong with it.
+pub fn no_trace_lacks_both()
+    ensures { NoTraceLacksBoth }
+{}
 
 /// The text of a trace that denotes events has no fault.
 pub fn no_fault_beside_trace()

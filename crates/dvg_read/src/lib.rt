@@ -16,7 +16,6 @@ mod rom_line;
 mod rom_text;
 mod text_lines;
 mod trace_events;
-mod trace_following;
 mod trace_text;
 
 pub use draft_text::{DraftText, MOST_TEXT_BYTES, read_draft};

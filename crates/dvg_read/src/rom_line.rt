@@ -4,7 +4,7 @@ ghost use Rattle.std.specs.Prelude.{IsSomeAnd, Some};
 ghost use Rattle.dvg_code.specs.Words.{word_in};
 ghost use Rattle.dvg_read.specs.LineParts.{bytes_of};
 ghost use Rattle.dvg_read.specs.RomTexts.{IsRomLine, RomLine};
-ghost use Rattle.dvg_read.specs.RomReading.{IsBehind, SpellsWords};
+ghost use Rattle.dvg_read.specs.RomReading.{IsAfterLine, SpellsWords};
 ghost use Rattle.dvg_read.specs.Texts.{parts};
 
 use crate::line_parts::parts_of;
@@ -102,7 +102,7 @@ impl RomWords {
     pub fn put(&self, first: u16, rom: &mut [u8])
         requires low { first ≤ self.now.address }
         requires whole { 0x1800 ≤ length rom.old + 2 * first }
-        ensures behind { IsBehind self.now first rom.old rom.new }
+        ensures after { IsAfterLine self.now first rom.old rom.new }
         ensures fits { (i : ℕ) → get_or rom.new i 0 < 256 }
     {
         let place = usize::from(self.address - first);

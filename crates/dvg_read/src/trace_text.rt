@@ -41,11 +41,11 @@ pub struct TraceText<A: Allocator = Global> {
 /// Reads `text`, the text of a trace, in one pass over its lines. The events are kept in memory
 /// from `alloc` (the format is this project's own choice).
 ///
-/// - `TooLong`: `text` has more than 1,048,576 bytes. This is decided before all others.
+/// - `TooLong`: `text` has more than `MOST_TEXT_BYTES`. This is decided before all others.
 /// - `Syntax`: this line is the first that spells nothing that may stand at its place.
 /// - `Full`: this line spells operation number 511 of its offer, and the lines before it are
 ///   without fault.
-/// - `Many`: this line brings the number of events above 65,536, and the lines before it are
+/// - `Many`: this line brings the number of events above `MOST_EVENTS`, and the lines before it are
 ///   without fault. An offer is an event with its `end`.
 /// - `Unended`: no line is at fault, and the text ends inside an offer.
 /// - `Memory`: an allocation failed, at a line that brings events or ends an offer.
@@ -68,12 +68,12 @@ pub fn read_trace<A: Allocator + Copy>(alloc: A, text: &[u8]) -> Result<TraceTex
 
 // Reads all lines of `text`. The last of them may leave an offer open.
 #[inline(always)]
-fn read_lines<A: Allocator + Copy>(alloc: A, text: &[u8]) -> Result<Reading<A>, Unread>
+fn read_lines<A: Allocator + Copy>(alloc: A, text: &[u8]) -> Result<TraceReading<A>, Unread>
     requires { IsShort text.now }
     ensures read { IfOk result (λ reading. ReadsText text.now reading) }
     ensures fault { IfErr result (λ fault. StopsReading fault text.now) }
 {
-    let mut reading = Reading {
+    let mut reading = TraceReading {
         rom: RomReading::new(),
         events: Trace::new(alloc),
         draft: Draft::new(),
@@ -101,7 +101,7 @@ fn read_lines<A: Allocator + Copy>(alloc: A, text: &[u8]) -> Result<Reading<A>, 
 
 // What was read of a trace's text. After a fault it is read no further.
 #[derive(Drop)]
-struct Reading<A: Allocator> {
+struct TraceReading<A: Allocator> {
     rom: RomReading,
     events: Trace<A>,
     // The draft of the newest offer.
@@ -110,7 +110,7 @@ struct Reading<A: Allocator> {
     is_open: bool,
 }
 
-impl<A: Allocator + Copy> Reading<A> {
+impl<A: Allocator + Copy> TraceReading<A> {
     // Reads the next of `lines`: lines of operations where an offer is open, else lines that spell
     // an event each. Returns how many it read, or `OutOfMemory` where an allocation fails.
     #[inline(always)]
@@ -187,7 +187,8 @@ impl<A: Allocator + Copy> Reading<A> {
     }
 }
 
-// Whether an offer begins with `line`.
+// Whether an offer begins with `line`. Each line outside of offers is asked, so its bytes are
+// matched one by one: a comparison of slices is a call.
 #[inline(always)]
 fn is_offer(line: &[u8]) -> bool
     ensures { IsTrue result ↔ (line.now ≡ codes "offer") }
@@ -197,7 +198,7 @@ fn is_offer(line: &[u8]) -> bool
 
 // Adds the operation that `line` spells to `draft`. Returns `Syntax` where it spells none, and
 // `Full` where `draft` has 511 already.
-pub(crate) fn add_op(draft: &mut Draft, line: &[u8]) -> Result<(), LineFault>
+fn add_op(draft: &mut Draft, line: &[u8]) -> Result<(), LineFault>
     ensures added { OnOk result ((op : OpKind) × IsOpLine op line.now
         × (draft.new ≡ draft.old ++ op ∷ [])) }
     ensures room { OnOk result (length draft.old < MAX_OPS) }
@@ -245,7 +246,7 @@ fn add_events<A: Allocator + Copy>(
 }
 
 // Returns how many events a line has, which `repeated` holds.
-pub(crate) fn count(repeated: &EventLine) -> usize
+fn count(repeated: &EventLine) -> usize
     ensures value { result ≡ length (happenings repeated.now) }
     ensures bound { result < 2 ^ 16 }
 {

@@ -1,5 +1,5 @@
 -- What is written of a list, one item after the other, and of three texts.
-use Rattle.std.proofs.Common.{◌≡◌, ℕ, ◌+◌, ◌-◌, ◌<◌, suc, List, [], ◌∷◌, Bor, ◌++◌, length, drop, get_or, map, Vec, Option, flat_map, ap, sym, ◌∙◌, add-one, refl}
+use Rattle.std.proofs.Common.{◌≡◌, ℕ, ◌+◌, ◌-◌, ◌<◌, suc, List, [], ◌∷◌, Bor, ◌++◌, length, drop, get_or, Vec, Option, flat_map, ap, sym, ◌∙◌, add-one, refl}
 use Rattle.std.proofs.lemmas.List.{drop_more, length-map}
 use Rattle.dvg_gen.specs.declared.stroke.Stroke.{Stroke}
 use Rattle.dvg_io.specs.declared.watched.Watched.{Watched}

@@ -1,9 +1,10 @@
 -- What a job reports of what its engine returns.
-use Rattle.std.specs.Prelude.{◌≡◌, ℕ, List, [], ◌∷◌, Option, Some, None, Result, Ok, Err, MatchResult}
+use Rattle.std.specs.Prelude.{◌≡◌, ℕ, List, [], ◌∷◌, Option, Some, None, Result, Ok, Err, MatchResult, if◌then◌else◌}
 use Rattle.dvg_io.specs.declared.fault.ToolFault.{ToolFault}
 use Rattle.dvg_io.specs.Serving.{Meaning}
 use Rattle.dvg_dump.specs.declared.ending.Outcome.{Outcome}
 use Rattle.dvg_dump.specs.declared.ending.Outcome.TheVariants as outcomes
+use Rattle.dvg_explain.specs.declared.kind.Finding.{Finding}
 use Rattle.dvg_lay.specs.declared.refusal.Refusal.{Refusal}
 use Rattle.dvg_lay.specs.declared.verdicts.FrameVerdict.{FrameVerdict}
 use Rattle.dvg_picture.specs.declared.undrawn.Undrawn.{Undrawn}
@@ -61,6 +62,10 @@ of_moments _ = Bad
 abbrev pub of_made : {A T : Type 0} → Result T (Refusal A) → Done A
 of_made (Ok made) = Good
 of_made (Err refusal) = Refused refusal
+
+-- of what an input is found to be: nothing is to be wrong with it
+abbrev pub of_explained : {A : Type 0} → Finding A → Done A
+of_explained finding = if finding.is_good then Good else Bad
 
 -- of frames before which this is reported of the others
 abbrev pub and_of : {A : Type 0} → BoundedVerdict → Done A → Done A

@@ -1,10 +1,12 @@
 //! What a job reports of what its engine returns.
 ghost use Rattle.std.specs.Prelude.{◌≡◌};
-ghost use Rattle.dvg_tool.specs.Reports.{IsReported, of_bounded, of_frames, of_log, of_made};
+ghost use Rattle.dvg_tool.specs.Reports.{IsReported, of_bounded, of_explained, of_frames, of_log};
+ghost use Rattle.dvg_tool.specs.Reports.{of_made};
 ghost use Rattle.dvg_tool.specs.Reports.{of_moments, of_outcome, of_undrawn, of_verdict, written};
 ghost use Rattle.dvg_tool.specs.declared.outcome.Done.{Done as HeldDone};
 
 use crate::outcome::Done;
+use dvg_explain::Finding;
 use dvg_io::ToolFault;
 use dvg_lay::{Refusal, Said};
 use dvg_logs::{LogFinding, LogVerdict, MomentVerdict};
@@ -119,6 +121,14 @@ impl<A: Allocator> Answer<A> for Said<A> {
         } else {
             Done::Bad
         }
+    }
+}
+
+impl<A: Allocator> Answer<A> for Finding<A> {
+    ghost reported = { of_explained };
+
+    fn done(self) -> Done<A> {
+        if self.is_good { Done::Good } else { Done::Bad }
     }
 }
 

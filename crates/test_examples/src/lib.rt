@@ -26,7 +26,7 @@ mod memory;
 #[cfg(test)]
 mod numbered;
 #[cfg(test)]
-mod sketches;
+mod steps;
 #[cfg(test)]
 mod traces;
 #[cfg(test)]

@@ -1,16 +1,16 @@
--- The draft of a sketch with a named subroutine.
+-- The draft of steps with a named subroutine.
 use Rattle.std.proofs.Common.{◌≡◌, ℕ, zero, suc, ◌∙◌, List, [], ◌∷◌, ◌++◌, Some, Bor, take}
 use Rattle.std.proofs.Common.{refl, sym, ap, subst, arith}
 use Rattle.std.specs.Prelude.{Result, Ok, Err, IfOk, IfErr, slice_get}
 use Rattle.std.proofs.lemmas.Option.{same_Some}
 use Rattle.dvg_frame.specs.declared.op.OpKind.{OpKind}
 use Rattle.dvg_frame.specs.declared.op.OpKind.TheVariants as kinds
-use Rattle.dvg_sketch.specs.declared.fault.SketchFault.{SketchFault}
-use Rattle.dvg_sketch.specs.declared.fault.SketchFault.TheVariants.{Full, Twice, Unknown}
-use Rattle.dvg_sketch.specs.declared.step.Step.{Step}
-use Rattle.dvg_sketch.specs.declared.step.Step.TheVariants.{Name, Op, Call}
-use Rattle.dvg_sketch.specs.Sketches.{HasFault, IsDraftOf}
-use Rattle.dvg_sketch.specs.Steps.{IsNumberOf, Names, Wants, op_count}
+use Rattle.dvg_steps.specs.declared.fault.StepsFault.{StepsFault}
+use Rattle.dvg_steps.specs.declared.fault.StepsFault.TheVariants.{Full, Twice, Unknown}
+use Rattle.dvg_steps.specs.declared.step.Step.{Step}
+use Rattle.dvg_steps.specs.declared.step.Step.TheVariants.{Name, Op, Call}
+use Rattle.dvg_steps.specs.Drafts.{HasFault, IsDraftOf}
+use Rattle.dvg_steps.specs.Steps.{IsNumberOf, Names, Wants, op_count}
 use Rattle.test_facts.specs.Facts.{called_draft, long_vector}
 
 -- call it; halt; its name; vctr 9 -100 100 7; return
@@ -115,8 +115,8 @@ module _ (wanted given : Bor (List ℕ)) where
       none_wanted kinds.Return step name (same_Some _ _ is) wants
   known same (suc (suc (suc (suc (suc place))))) step name is wants none = cc
 
-  -- the draft of that sketch has the number of the name's operation in its call
-  called_is : wanted.now ≡ given.now → (answer : Result (List OpKind) SketchFault)
+  -- the draft of those steps has the number of the name's operation in its call
+  called_is : wanted.now ≡ given.now → (answer : Result (List OpKind) StepsFault)
       → IfOk answer (IsDraftOf (called wanted given))
       → IfErr answer (HasFault (called wanted given)) → answer ≡ Ok called_draft
   called_is same (Ok draft) is fault = ap Ok (drafted draft is)
@@ -131,7 +131,7 @@ module _ (wanted given : Bor (List ℕ)) where
   -- the same of operations that are these
   pub called_of : wanted.now ≡ given.now → (halt vector back : OpKind)
       → halt ≡ kinds.Halt → vector ≡ kinds.Draw long_vector → back ≡ kinds.Return
-      → (answer : Result (List OpKind) SketchFault)
+      → (answer : Result (List OpKind) StepsFault)
       → IfOk answer (IsDraftOf (Call wanted ∷ Op halt ∷ Name given ∷ Op vector ∷ Op back ∷ []))
       → IfErr answer (HasFault (Call wanted ∷ Op halt ∷ Name given ∷ Op vector ∷ Op back ∷ []))
       → answer ≡ Ok called_draft

@@ -16,7 +16,7 @@ pub mod judges;
 pub mod limits;
 pub mod memories;
 pub mod numbered;
-pub mod sketches;
+pub mod steps;
 pub mod texts;
 pub mod undisturbed;
 pub mod worlds;

@@ -1,7 +1,7 @@
 //! Lines are handed to the writer one by one: one that fails at a call got the lines before.
 use crate::plays_mishaps::long_picture;
 use crate::streams::{Failing, Mishap};
-use crate::tasks::{ENTRIES, HALT, INSTRUCTIONS, MOVES, PICTURE, PICTURES, moving_dump};
+use crate::tasks::{ENTRIES, HALT, INSTRUCTIONS, MOVES, PICTURE, PICTURES, REFUSED, moving_dump};
 use crate::traces::FIRST_PICTURE;
 use dvg_mem::MEMORY_BYTES;
 use dvg_tool::{Job, LayForm, LogRule, Watched, perform};
@@ -118,6 +118,7 @@ fn a_failing_writer_got_the_lines_of_other_texts_before(rt: HostRuntime) -> Resu
         form: LayForm::Draft,
     };
     assert_eq!(rt; lines_written(alloc, drafts, SKETCH.as_bytes())?, 8);
+    assert_eq!(rt; lines_written(alloc, Job::Explain, REFUSED.as_bytes())?, 5);
     let halves = torn(LogRule::Halves);
     assert_eq!(rt; lines_written(alloc, halves, TORN.as_bytes())?, 2);
     let moments = torn(LogRule::Moments);

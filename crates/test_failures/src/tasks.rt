@@ -127,7 +127,7 @@ pub fn moving_dump(alloc: Global, last: u8) -> Result<Vec<u8>, Fail> {
 }
 
 /// Returns the tasks. One reads `rom`, and three read `dump`, whose run breaks.
-pub fn tasks<'a>(rom: &'a [u8], dump: &'a [u8]) -> [Task<'a>; 19] {
+pub fn tasks<'a>(rom: &'a [u8], dump: &'a [u8]) -> [Task<'a>; 20] {
     let task = |job, input, step, answer| Task {
         job,
         input,
@@ -201,6 +201,7 @@ pub fn tasks<'a>(rom: &'a [u8], dump: &'a [u8]) -> [Task<'a>; 19] {
             1,
             Ok(Report::Good),
         ),
+        task(Job::Explain, REFUSED.as_bytes(), 1, Ok(Report::Bad)),
     ]
 }
 
@@ -251,7 +252,7 @@ pub fn refusals_of(job: Job) -> Refusals {
         Job::Picture { .. } => Refusals::Between(256, MOST_SLOTS),
         Job::Check { .. } => Refusals::Between(128, 192),
         Job::Play { .. } | Job::PlaySvg { .. } | Job::PictureSvg { .. } => Refusals::Elsewhere,
-        Job::Render { .. } | Job::RenderCheck | Job::Lay { .. } => Refusals::Always,
+        Job::Render { .. } | Job::RenderCheck | Job::Lay { .. } | Job::Explain => Refusals::Always,
         Job::Torn { .. } => Refusals::Never,
     }
 }

@@ -3,7 +3,7 @@ use dvg_dump::DumpFault;
 use dvg_frame::FrameFault;
 use dvg_log::TraceEvent;
 use dvg_read::read_trace;
-use dvg_sketch::SketchFault;
+use dvg_steps::StepsFault;
 use dvg_tool::{ToolFault, status};
 use std::alloc::Global;
 use std::fmt::Display;
@@ -33,11 +33,11 @@ fn faults_of_the_library_have_their_texts(rt: HostRuntime) -> Result<(), Fail> {
         )?
     );
     let full = "there are more than 511 operations";
-    assert!(rt; is_text(alloc, SketchFault::Full, full)?);
+    assert!(rt; is_text(alloc, StepsFault::Full, full)?);
     let twice = "step 3 gives a name that was given before";
-    assert!(rt; is_text(alloc, SketchFault::Twice(3), twice)?);
+    assert!(rt; is_text(alloc, StepsFault::Twice(3), twice)?);
     let unknown = "step 510 calls or jumps to a name that no step gives";
-    assert!(rt; is_text(alloc, SketchFault::Unknown(510), unknown)?);
+    assert!(rt; is_text(alloc, StepsFault::Unknown(510), unknown)?);
     let size = "there are neither 4,096 bytes nor 6,144";
     assert!(rt; is_text(alloc, DumpFault::Size, size)?);
     assert!(rt; is_text(alloc, DumpFault::OutOfMemory, "out of memory")?);

@@ -4,25 +4,15 @@
 //! The page owes what C owes: a device comes from `dvg_new`, and is used by one call at a time, and
 //! no more once `dvg_free` got it.
 use dvg_device::Device;
+use dvg_explain::{Explained, explain_line};
 use dvg_tool::{
     Done, Job, LayForm, LogRule, PictureForm, Show, ToolFault, Watched, finish, perform, status,
 };
-use explained::Explained;
 use plain_std::alloc::Global;
 use std::cell::RefCell;
 
 mod halves;
 mod map;
-
-// What `dvg` tells of a line at fault stands in its own crate, and is the same here.
-#[path = "../../crates/dvg/src/explain.rs"]
-mod explain;
-#[path = "../../crates/dvg/src/explained.rs"]
-mod explained;
-#[path = "../../crates/dvg/src/forms.rs"]
-mod forms;
-#[path = "../../crates/dvg/src/places.rs"]
-mod places;
 
 /// How a moving picture is shown: in percent of a pixel for each unit, and pictures a second.
 const SHOW: Show = Show {
@@ -128,7 +118,7 @@ fn said(answer: &Result<Done<Global>, ToolFault>, sketch: bool, input: &[u8]) ->
     let text = match answer {
         Err(ToolFault::Text(fault)) if sketch => {
             let small = input.to_ascii_lowercase();
-            match explain::explain(*fault, input, &small) {
+            match explain_line(*fault, input, &small) {
                 Some(Explained { line, expected }) => {
                     format!("dvg: {fault}: {line}\ndvg: expected {expected}\n")
                 }

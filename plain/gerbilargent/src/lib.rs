@@ -234,7 +234,7 @@ pub mod dump {
 }
 
 /// Sketches as texts: drafts with names, and shapes in a ROM.
-pub mod named {
+pub mod sketch {
     pub use dvg_named::{
         Doing, FrameSpan, Head, JoinedFrames, MAX_TOKENS, NamedFrame, RomName, Row,
     };
@@ -243,7 +243,7 @@ pub mod named {
     /// Reads a sketch: its frames, and the shapes in its ROM.
     ///
     /// ```
-    /// use gerbilargent::{Global, named::read_sketch};
+    /// use gerbilargent::{Global, sketch::read_sketch};
     ///
     /// let text = b"labs 512 400 0\ncall rock\nhalt\nrock: vctr 9 -100 100 7\nreturn\n";
     /// let sketch = read_sketch(Global, text)?;
@@ -281,16 +281,16 @@ pub mod read {
     pub use dvg_read::read_trace;
 }
 
-/// Drafts whose operations call each other by name. Its `Step` is one of a sketch; that of the root
+/// Drafts whose operations call each other by name. Its `Step` is one of these; that of the root
 /// is what a generator's fetch led to.
-pub mod sketch {
-    pub use dvg_sketch::{SketchFault, Step};
+pub mod steps {
+    pub use dvg_steps::{Step, StepsFault};
 
     /// Makes a draft of steps that call each other by name.
     ///
     /// ```
     /// use gerbilargent::prelude::*;
-    /// use gerbilargent::sketch::{Step, draft_of};
+    /// use gerbilargent::steps::{Step, draft_of};
     ///
     /// let draw = |instr| Code::new(instr).and_then(|code| Op::new(OpKind::Draw(code)));
     /// let labs = draw(Instr::Labs { x: 512, y: 400, scale: 0 }).ok_or("out of range")?;
@@ -304,5 +304,5 @@ pub mod sketch {
     /// ```
     ///
     #[doc(inline)]
-    pub use dvg_sketch::draft_of;
+    pub use dvg_steps::draft_of;
 }

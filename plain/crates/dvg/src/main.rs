@@ -5,21 +5,16 @@ use std::prelude::*;
 
 use std::{eprint, eprintln};
 
-mod explain;
-mod explained;
-mod forms;
-mod places;
 mod told;
 
 use clap::Error;
 use clap::error::ErrorKind;
+use dvg_explain::{Explained, explain_line};
 use dvg_io::read_up_to;
 use dvg_tool::{
     Done, Job, LogRule, MOST_TEXT_BYTES, TextFault, ToolFault, Watched, arguments_status, finish,
     job, perform, status,
 };
-use explain::explain;
-use explained::Explained;
 use std::alloc::Global;
 use std::io::{BufWriter, IsTerminal, Read, Write};
 use std::process::ExitCode;
@@ -105,7 +100,7 @@ fn run<R: Read + Drop>(rt: &HostRuntime, job: Job, input: R) -> Result<Done<Glob
 /// and what was expected there.
 fn complain_of_sketch(rt: &HostRuntime, text: &[u8], fault: TextFault) {
     if let Ok(small) = text.to_ascii_lowercase_in(rt.alloc()) {
-        if let Some(Explained { line, expected }) = explain(fault, text, small.as_slice()) {
+        if let Some(Explained { line, expected }) = explain_line(fault, text, small.as_slice()) {
             let _ = eprintln!(rt; "dvg: {fault}: {line}\ndvg: expected {expected}");
             return;
         }

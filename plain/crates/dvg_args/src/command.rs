@@ -172,5 +172,9 @@ pub(crate) fn command<'a>(alloc: Global) -> Result<Command<'a>, AllocError> {
     let with_play = with_part(with_check, play_command(alloc)?)?;
     let with_torn = with_part(with_play, torn_command(alloc)?)?;
     let with_render = with_part(with_torn, render_command(alloc)?)?;
-    with_part(with_render, lay_command(alloc)?)
+    let with_lay = with_part(with_render, lay_command(alloc)?)?;
+    let about = "Say what an input is, what is wrong with it, and what to do";
+    let explain_usage = "dvg explain < INPUT";
+    let explain = helped(alloc, "explain", about, explain_usage, help::EXPLAIN);
+    with_part(with_lay, explain)
 }

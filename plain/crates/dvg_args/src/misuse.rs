@@ -1,5 +1,6 @@
 //! The error of options that are refused after the matching.
 use crate::help;
+use crate::options::has_scale;
 use clap::error::ErrorKind;
 use clap::{ArgMatches, Command, Error};
 use std::alloc::Global;
@@ -23,26 +24,55 @@ fn usage_of(name: &str) -> &'static str {
     }
 }
 
-// Returns the text for the `kind` of error by which the options of the subcommand `name` are
+// Returns which options of the subcommand `name` exclude each other.
+fn clash_of(name: &str) -> &'static str {
+    if name == "lay" {
+        "one of '--half', '--table', '--rom', '--equates' and '--draft' may be given"
+    } else if name == "picture" {
+        "'--all', '--svg', and '--moves' or '--units' exclude each other"
+    } else {
+        "'--all' and '--svg' exclude each other"
+    }
+}
+
+// Returns which values the option takes by which those in `found`, of the subcommand `name`, are
 // refused.
-fn described(name: &str, kind: ErrorKind) -> &'static str {
+fn range_of(name: &str, found: Option<&ArgMatches>) -> &'static str {
+    if name == "list" {
+        return "'--at' takes an address of three hexadecimal digits";
+    }
+    if name == "torn" {
+        return "'--base' takes an address of four hexadecimal digits";
+    }
+    if name == "lay" {
+        return "'--half' takes 0 or 1";
+    }
+    match found {
+        Some(found) if has_scale(found) => "'--rate' takes a number from 1 to 60",
+        _ => "'--scale' takes a number from 10 to 400",
+    }
+}
+
+// Returns the text for the `kind` of error by which the options in `found`, of the subcommand
+// `name`, are refused.
+fn described(name: &str, found: Option<&ArgMatches>, kind: ErrorKind) -> &'static str {
     match kind {
-        ErrorKind::ArgumentConflict => "two of the options exclude each other",
+        ErrorKind::ArgumentConflict => clash_of(name),
         ErrorKind::MissingRequiredArgument if name == "torn" => "'--all' wants '--moments'",
         ErrorKind::MissingRequiredArgument => "'--scale' and '--rate' want '--svg'",
-        _ => "an option has a value that it doesn't take",
+        _ => range_of(name, found),
     }
 }
 
 /// Returns the error of this `kind`, which says why the options in `matches` are refused. Where an
 /// allocation fails, it is `OutOfMemory` instead.
 pub(crate) fn misuse(alloc: Global, matches: &ArgMatches, kind: ErrorKind) -> Error {
-    let name = match matches.subcommand() {
-        Some(entered) => entered.0,
-        None => "",
+    let (name, found) = match matches.subcommand() {
+        Some(entered) => (entered.0, Some(entered.1)),
+        None => ("", None),
     };
     let mut command = Command::new(alloc, "dvg").override_usage(usage_of(name));
-    match command.error(kind, described(name, kind)) {
+    match command.error(kind, described(name, found, kind)) {
         Ok(error) => error,
         Err(want) => Error::from(want),
     }

@@ -31,4 +31,6 @@ pub enum Job {
     RenderCheck,
     /// Lay out the frames, the ROM or the names of a sketch, as `form` says.
     Lay { form: LayForm },
+    /// Say for which kind an input is taken, and what is wrong with it first.
+    Explain,
 }

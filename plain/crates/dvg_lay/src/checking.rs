@@ -8,8 +8,8 @@ use dvg_mem::Rom;
 use dvg_named::{NamedFrame, RomName, Source};
 use std::alloc::{AllocError, Allocator};
 
-/// The first word address after the RAM.
-const RAM_END: u16 = 0x400;
+/// How many words the RAM has, which begins at word address 0.
+const RAM_WORDS: u16 = 0x400;
 
 // Returns the place that `fault` names. For a fault of the whole draft it is operation 0.
 fn place_of(fault: FrameFault) -> Place {
@@ -136,7 +136,7 @@ pub(crate) fn good_frame<'a, A: Allocator + Copy>(
 
 /// Checks all `frames` over `rom`. Returns the refusal of the first that the check doesn't accept.
 /// `names` are the names of the ROM. Returns `Memory` where an allocation fails.
-pub(crate) fn check_all<A: Allocator + Copy>(
+pub fn check_all<A: Allocator + Copy>(
     alloc: A,
     rom: &Rom<A>,
     names: &[RomName],
@@ -154,7 +154,7 @@ pub(crate) fn check_all<A: Allocator + Copy>(
 // Whether what `op` names of the ROM stands from word 400 on.
 fn names_high_word(op: &Op) -> bool {
     match op.kind() {
-        OpKind::CallRom(address) | OpKind::JumpRom(address) => RAM_END <= address,
+        OpKind::CallRom(address) | OpKind::JumpRom(address) => RAM_WORDS <= address,
         OpKind::Draw(_) | OpKind::Call(_) | OpKind::Jump(_) | OpKind::Return | OpKind::Halt => true,
     }
 }

@@ -15,7 +15,7 @@ use std::io::{Read, Write};
 
 /// What came of drawing a sketch: the pictures of its frames, in order, as the strokes of each, in
 /// the order drawn. Or why a frame is refused.
-pub type Drawn<A> = Result<Vec<Vec<Stroke, A>, A>, Refusal<A>>;
+pub type SketchPictures<A> = Result<Vec<Vec<Stroke, A>, A>, Refusal<A>>;
 
 // Draws `frames` over the ROM of `bytes`, whose names are `names`, or returns why a frame is
 // refused. Returns `OutOfMemory` where an allocation fails.
@@ -24,7 +24,7 @@ fn draw<A: Allocator + Copy>(
     bytes: &[u8],
     names: &[RomName],
     frames: &[NamedFrame],
-) -> Result<Drawn<A>, OutOfMemory> {
+) -> Result<SketchPictures<A>, OutOfMemory> {
     match draw_frames(alloc, bytes, names, frames) {
         Ok(pictures) => Ok(Ok(pictures)),
         Err(Unlaid::Refused(refusal)) => Ok(Err(refusal)),
@@ -33,12 +33,12 @@ fn draw<A: Allocator + Copy>(
 }
 
 // What comes of drawing frames, and how that is shown.
-struct Drawing {
+struct SvgMaking {
     show: Show,
 }
 
-impl<A: Allocator + Copy> Making<A> for Drawing {
-    type Made = Drawn<A>;
+impl<A: Allocator + Copy> Making<A> for SvgMaking {
+    type Made = SketchPictures<A>;
 
     fn make(
         &self,
@@ -46,13 +46,13 @@ impl<A: Allocator + Copy> Making<A> for Drawing {
         bytes: &[u8],
         names: &[RomName],
         frames: &[NamedFrame],
-    ) -> Result<Drawn<A>, OutOfMemory> {
+    ) -> Result<SketchPictures<A>, OutOfMemory> {
         draw(alloc, bytes, names, frames)
     }
 
     fn write<W: Write>(
         &self,
-        drawn: &Drawn<A>,
+        drawn: &SketchPictures<A>,
         writer: &mut Watched<W>,
     ) -> Result<(), StreamFailed> {
         match drawn {
@@ -68,7 +68,7 @@ impl<A: Allocator + Copy> Making<A> for Drawing {
 /// is refused; of a refused one nothing is written (the formats are this project's own choice).
 ///
 /// - A fault of the text: that of the first line at fault. `TooLong`, the text has more than
-///   1,048,576 bytes, of which no more than 1,048,577 are taken, comes before all others, and
+///   `MOST_TEXT_BYTES`, of which one more at most is taken, comes before all others, and
 ///   `UnknownName` after them.
 /// - `Reader`, `Writer`: that stream failed. After `Writer` a beginning of the text went out.
 /// - `Memory`: an allocation failed.
@@ -80,9 +80,9 @@ pub fn draw_sketch<A: Allocator + Copy, R: Read, W: Write>(
     reader: &mut Watched<R>,
     writer: &mut Watched<W>,
     show: Show,
-) -> Result<Drawn<A>, ToolFault> {
+) -> Result<SketchPictures<A>, ToolFault> {
     let engine = SketchEngine {
-        making: Drawing { show },
+        making: SvgMaking { show },
     };
     serve(&engine, alloc, reader, writer)
 }

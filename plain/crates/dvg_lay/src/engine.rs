@@ -44,7 +44,7 @@ impl<A: Allocator + Copy> Making<A> for Laying {
 /// project's own choice).
 ///
 /// - A fault of the text: that of the first line at fault. `TooLong`, the text has more than
-///   1,048,576 bytes, of which no more than 1,048,577 are taken, comes before all others, and
+///   `MOST_TEXT_BYTES`, of which one more at most is taken, comes before all others, and
 ///   `UnknownName` after them.
 /// - `Reader`, `Writer`: that stream failed. After `Writer` a beginning of the text went out.
 /// - `Memory`: an allocation failed.

@@ -2,9 +2,10 @@
 use std::prelude::*;
 
 use crate::checking::{check_all, check_low_words, good_frame};
+use crate::laid::put_laid;
 use crate::names::put_names;
 use crate::refusal::Unlaid;
-use crate::table::{put_laid, put_table};
+use crate::table::put_table;
 use dvg_frame::Checker;
 use dvg_mem::{Half, ROM_END, Rom};
 use dvg_named::{NamedFrame, RomName};

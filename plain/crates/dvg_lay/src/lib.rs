@@ -16,6 +16,7 @@ mod drawing;
 mod engine;
 mod form;
 mod frames;
+mod laid;
 mod laying;
 mod making;
 mod memory;
@@ -28,7 +29,8 @@ mod text;
 mod time;
 mod verdicts;
 
-pub use drawing::{Drawn, draw_sketch};
+pub use checking::check_all;
+pub use drawing::{SketchPictures, draw_sketch};
 pub use engine::lay_sketch;
 pub use form::Laid;
 pub use laying::lay_tables;

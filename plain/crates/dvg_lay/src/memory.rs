@@ -1,7 +1,7 @@
 //! A memory that has a frame.
 use std::prelude::*;
 
-use crate::table::put_laid;
+use crate::laid::put_laid;
 use dvg_code::OutOfMemory;
 use dvg_frame::Checked;
 use dvg_mem::{Flat, Half, Image, MEMORY_BYTES, Store};

@@ -1,27 +1,15 @@
-//! Frames as they lie in a half, and their tables.
+//! The tables of frames.
 use std::prelude::*;
 
+use crate::laid::put_laid;
 use crate::said::put_said;
 use crate::text::{put, put_decimal, put_words};
 use dvg_code::OutOfMemory;
-use dvg_frame::{Checked, Cursor, Op, OpKind};
+use dvg_frame::{Checked, Op, OpKind};
 use dvg_io::collect_words;
 use dvg_mem::Half;
 use dvg_named::{NamedFrame, Source};
 use std::alloc::{AllocError, Allocator};
-
-/// Appends the bytes of `frame` as it lies in `half` to `text`, the low byte of each word first.
-/// Returns `AllocError` where an allocation fails.
-pub(crate) fn put_laid<A: Allocator>(
-    text: &mut Vec<u8, A>,
-    frame: &Checked,
-    half: Half,
-) -> Result<(), AllocError> {
-    for item in Cursor::of(frame, half) {
-        text.push(item.1)?;
-    }
-    Ok(())
-}
 
 // Returns the words of `frame` as it lies in half 0. Returns `OutOfMemory` where an allocation
 // fails.

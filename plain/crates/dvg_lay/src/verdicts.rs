@@ -42,7 +42,8 @@ impl<A: Allocator> Said<A> {
     }
 }
 
-// Returns the verdict of `checker` on `frame` over the ROM of `bytes`, and the picture's time.
+// Returns the verdict of `checker` on `frame` over the ROM of `bytes`, and the picture's time. The
+// ROM is made for each frame, as the dump that is run owns it.
 // Returns `OutOfMemory` where an allocation fails.
 fn judge<A: Allocator + Copy>(
     alloc: A,
@@ -143,7 +144,7 @@ impl<A: Allocator + Copy> Making<A> for Checking {
 /// this project's own choice). Returns what was said.
 ///
 /// - A fault of the text: that of the first line at fault. `TooLong`, the text has more than
-///   1,048,576 bytes, of which no more than 1,048,577 are taken, comes before all others, and
+///   `MOST_TEXT_BYTES`, of which one more at most is taken, comes before all others, and
 ///   `UnknownName` after them.
 /// - `Reader`, `Writer`: that stream failed. After `Writer` a beginning of the text went out.
 /// - `Memory`: an allocation failed.

@@ -23,18 +23,19 @@ pub(crate) fn first_unknown<A: Allocator + Copy>(
     unknown_in(alloc, last, laid)
 }
 
-// Returns the number of the line of the first such row of the section `part`.
+// Returns the line number of the first row of `part` that needs a name which nothing gives.
 fn unknown_in<A: Allocator + Copy>(
     alloc: A,
     part: &Part<'_, A>,
     laid: &LaidNames<'_, '_, '_, A>,
 ) -> Result<Option<usize>, OutOfMemory> {
     let rows = NamedRows::new(alloc, part.rows.as_slice())?;
-    Ok(number_in(part, &rows, laid))
+    Ok(line_of_unknown(part, &rows, laid))
 }
 
-// Like `unknown_in`, where `rows` are the rows of `part` with their names collected.
-fn number_in<A: Allocator + Copy>(
+// Returns the line number of the first row of `part` that needs a name which nothing gives. `rows`
+// are its rows with their names collected.
+fn line_of_unknown<A: Allocator + Copy>(
     part: &Part<'_, A>,
     rows: &NamedRows<'_, '_, A>,
     laid: &LaidNames<'_, '_, '_, A>,
@@ -100,7 +101,7 @@ fn is_lost<A: Allocator + Copy>(
 ) -> bool {
     match head {
         Some(begun) => is_lost_after(begun, rows, laid, name),
-        None => has_no_number(rows, name),
+        None => is_unknown_in(rows, name),
     }
 }
 
@@ -113,7 +114,7 @@ fn is_lost_after<A: Allocator + Copy>(
 ) -> bool {
     match head {
         Head::Rom(_) => has_no_address(laid, name),
-        Head::Frame(_) => has_no_number(rows, name),
+        Head::Frame(_) => is_unknown_in(rows, name),
     }
 }
 
@@ -122,7 +123,7 @@ fn has_no_address<A: Allocator + Copy>(laid: &LaidNames<'_, '_, '_, A>, name: &[
     address_of(laid, name).is_none()
 }
 
-// Whether none of `rows`, the rows of a frame, gives `name`.
-fn has_no_number<A: Allocator + Copy>(rows: &NamedRows<'_, '_, A>, name: &[u8]) -> bool {
+// Whether `name` is unknown in a frame: none of its `rows` gives it.
+fn is_unknown_in<A: Allocator + Copy>(rows: &NamedRows<'_, '_, A>, name: &[u8]) -> bool {
     number_of(rows, name).is_none()
 }

@@ -2,6 +2,7 @@
 use std::prelude::*;
 
 use crate::outcome::Done;
+use dvg_explain::Finding;
 use dvg_io::ToolFault;
 use dvg_lay::{Refusal, Said};
 use dvg_logs::{LogFinding, LogVerdict, MomentVerdict};
@@ -94,6 +95,12 @@ impl<A: Allocator> Answer<A> for Said<A> {
         } else {
             Done::Bad
         }
+    }
+}
+
+impl<A: Allocator> Answer<A> for Finding<A> {
+    fn done(self) -> Done<A> {
+        if self.is_good { Done::Good } else { Done::Bad }
     }
 }
 

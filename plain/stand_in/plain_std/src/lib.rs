@@ -29,7 +29,7 @@ mod serde_forms;
 #[cfg(feature = "program")]
 pub mod time;
 
-pub use core::{convert, fmt, iter, marker, mem, slice};
+pub use core::{convert, fmt, iter, marker, mem, slice, str};
 #[cfg(feature = "program")]
 pub use host::process;
 #[cfg(feature = "program")]

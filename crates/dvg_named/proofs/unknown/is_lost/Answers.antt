@@ -16,6 +16,6 @@ returns-in-Some g c =
 pub returns-in-None : goal.returns-in-None
 returns-in-None g c =
     subst (λ (head : Option held_head.Head).
-    (IsTrue c.has_no_number.result → IsLost (laid_sections c.args.laid.now) (head_in head) (rows_of c.args.rows.now) c.args.name.now)
-    × (IsLost (laid_sections c.args.laid.now) (head_in head) (rows_of c.args.rows.now) c.args.name.now → IsTrue c.has_no_number.result))
-    (sym c.in-None.is) c.has_no_number.ensures
+    (IsTrue c.is_unknown_in.result → IsLost (laid_sections c.args.laid.now) (head_in head) (rows_of c.args.rows.now) c.args.name.now)
+    × (IsLost (laid_sections c.args.laid.now) (head_in head) (rows_of c.args.rows.now) c.args.name.now → IsTrue c.is_unknown_in.result))
+    (sym c.in-None.is) c.is_unknown_in.ensures

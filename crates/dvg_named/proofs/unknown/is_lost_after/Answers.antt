@@ -16,6 +16,6 @@ returns-in-Rom g c =
 pub returns-in-Frame : goal.returns-in-Frame
 returns-in-Frame g c =
     subst (λ (head : held_head.Head).
-    (IsTrue c.has_no_number.result → IsLost (laid_sections c.args.laid.now) (head_of head) (rows_of c.args.rows.now) c.args.name.now)
-    × (IsLost (laid_sections c.args.laid.now) (head_of head) (rows_of c.args.rows.now) c.args.name.now → IsTrue c.has_no_number.result))
-    (sym c.in-Frame.is) c.has_no_number.ensures
+    (IsTrue c.is_unknown_in.result → IsLost (laid_sections c.args.laid.now) (head_of head) (rows_of c.args.rows.now) c.args.name.now)
+    × (IsLost (laid_sections c.args.laid.now) (head_of head) (rows_of c.args.rows.now) c.args.name.now → IsTrue c.is_unknown_in.result))
+    (sym c.in-Frame.is) c.is_unknown_in.ensures

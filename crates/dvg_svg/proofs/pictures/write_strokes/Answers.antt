@@ -1,4 +1,4 @@
-use Rattle.std.proofs.Common.{rules, drop, get_or, ◌+◌, refl}
+use Rattle.std.proofs.Common.{rules, drop, get_or, ◌+◌}
 use Rattle.dvg_print.specs.Svg.{path_line}
 use Rattle.dvg_io.specs.Watching.{BeginsToWrite, stream_of}
 use Rattle.dvg_print.proofs.StrokeTexts.{no_stroke}

@@ -1,8 +1,9 @@
 use Rattle.std.proofs.Common.{rules, ◌≡◌}
 use Rattle.std.specs.Prelude.{false, true, IfSome}
 use Rattle.dvg_job.specs.declared.task.Job.TheVariants.{List as list_job, ListAt, Rom, Picture, PictureSvg, Check}
-use Rattle.dvg_job.specs.declared.task.Job.TheVariants.{Play, PlaySvg, Torn, Render, RenderCheck, Lay}
+use Rattle.dvg_job.specs.declared.task.Job.TheVariants.{Play, PlaySvg, Torn, Render, RenderCheck, Lay, Explain}
 use Rattle.dvg_job.specs.declared.form.LogRule.TheVariants.{Halves, Moments, AllMoments}
+use Rattle.dvg_explain.specs.Findings.{Explains}
 use Rattle.dvg_lay.specs.Checks.{ChecksSketch}
 use Rattle.dvg_lay.specs.DrawnSketches.{Draws}
 use Rattle.dvg_lay.specs.Sketches.{Lays}
@@ -17,7 +18,7 @@ use Rattle.dvg_tool.specs.Roms.{WritesRom}
 use Rattle.dvg_tool.specs.Checks.{Checks, ChecksBound}
 use Rattle.dvg_tool.specs.Plays.{Plays}
 use Rattle.dvg_tool.specs.PlaysSvg.{PlaysSvg}
-use Rattle.dvg_tool.specs.Reports.{of_frames, of_made, of_bounded, of_log, of_moments, of_outcome, of_undrawn, of_verdict, written}
+use Rattle.dvg_tool.specs.Reports.{of_explained, of_frames, of_made, of_bounded, of_log, of_moments, of_outcome, of_undrawn, of_verdict, written}
 use Rattle.dvg_tool.proofs.Reported.{reports, reports_at, taken_rightly}
 use Rattle.dvg_tool.proofs.jobs.perform.Goals as goal
 
@@ -121,6 +122,11 @@ pub returns-in-Lay-clause-performs : goal.returns-in-Lay-clause-performs
 returns-in-Lay-clause-performs g c =
     let asked : c.args.job ≡ Lay c.in-Lay.form = search rules in
     rw asked (reports of_made (Lays c.in-Lay.form) c.lay_sketch.result c.reported-in-Lay.result _ _ _ c.reported-in-Lay.ensures c.lay_sketch.ensures.means)
+
+pub returns-in-Explain-clause-performs : goal.returns-in-Explain-clause-performs
+returns-in-Explain-clause-performs g c =
+    let asked : c.args.job ≡ Explain = search rules in
+    rw asked (reports of_explained Explains c.explain.result c.reported-in-Explain.result _ _ _ c.reported-in-Explain.ensures c.explain.ensures.means)
 
 pub returns-in-Torn-Halves-default-clause-took : goal.returns-in-Torn-Halves-default-clause-took
 returns-in-Torn-Halves-default-clause-took g c =

@@ -27,5 +27,5 @@ returns-clause-took c is rom holds =
     (record { is_stated = true; bytes = record { items = _ }; free = c.free_with-self.result }) c.in-Some-read_rom_parts.given
     c.first-first.result c.as_mut_slice.result.now c.put.new.rom holds c.first-first.ensures
     (c.in-Some-read_rom_parts.ensures.found (line_of (bytes_of c.args.tokens.now)) c.requires)
-    c.as_mut_slice.ensures.value c.put.ensures.behind c.put.ensures.fits refl refl
+    c.as_mut_slice.ensures.value c.put.ensures.after c.put.ensures.fits refl refl
     (λ first lines free. c.free_with-self.ensures first lines c.in-Some-read_rom_parts.given free c.end.ensures)

@@ -14,4 +14,4 @@ returns-in_default-read_rom_line-clause-refused c stated rom now holds =
 
 pub returns-clause-took : goal.returns-clause-took
 returns-clause-took c stated rom holds =
-    words_stated rom c.args.line.now c.args.self.now _ c.in-Some-read_rom_line.given c.first-first.result c.as_mut_slice.result.now c.put.new.rom holds c.first-first.ensures (search rules) (search rules) c.put.ensures.behind c.put.ensures.fits refl refl
+    words_stated rom c.args.line.now c.args.self.now _ c.in-Some-read_rom_line.given c.first-first.result c.as_mut_slice.result.now c.put.new.rom holds c.first-first.ensures (search rules) (search rules) c.put.ensures.after c.put.ensures.fits refl refl

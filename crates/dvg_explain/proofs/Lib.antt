@@ -1,0 +1,5 @@
+pub mod LinesLooked
+pub mod Verdicts
+pub mod CutWords
+pub mod OfInputs
+pub mod FramesAnswered

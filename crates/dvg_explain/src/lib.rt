@@ -1,0 +1,26 @@
+//! What an input of `dvg` is, and what is wrong with it, told for people. The readers of each kind
+//! are asked, so nothing is found that a command doesn't find. Of the texts nothing is proved but
+//! that they are written whole: they are tested.
+#![tactic(auto)]
+
+mod asking;
+mod choosing;
+mod engine;
+mod explained;
+mod faults;
+mod forms;
+mod frames;
+mod hints;
+mod kind;
+mod lines;
+mod looks;
+mod places;
+mod raw;
+mod sketch_line;
+mod telling;
+mod text;
+
+pub use engine::explain;
+pub use explained::{Explained, LineText};
+pub use kind::{Finding, Kind};
+pub use sketch_line::explain_line;

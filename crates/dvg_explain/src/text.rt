@@ -1,0 +1,32 @@
+//! A text that is made in memory.
+use std::alloc::Allocator;
+use std::fmt;
+
+/// A text that grows as it is written to. A write fails where memory is refused.
+#[derive(Drop)]
+pub(crate) struct Text<A: Allocator> {
+    bytes: Vec<u8, A>,
+}
+
+impl<A: Allocator> Text<A> {
+    /// Returns an empty text, whose memory comes from `alloc`.
+    pub(crate) fn new(alloc: A) -> Text<A> {
+        Text {
+            bytes: Vec::new(alloc),
+        }
+    }
+
+    /// Returns the bytes of the text.
+    pub(crate) fn into_bytes(self) -> Vec<u8, A> {
+        self.bytes
+    }
+}
+
+impl<A: Allocator> fmt::Write for Text<A> {
+    fn write_str(&mut self, part: &str) -> fmt::Result {
+        match self.bytes.extend_from_slice(part.as_bytes()) {
+            Ok(()) => Ok(()),
+            Err(_) => Err(fmt::Error),
+        }
+    }
+}

@@ -1,6 +1,0 @@
-use Rattle.std.proofs.Common.{ℕ, ◌<◌}
-use Rattle.dvg_sketch.specs.Sketches.{GivesAgain}
-use Rattle.dvg_sketch.proofs.sketch.given_again.Given as goal
-
-abbrev pub invariant-loop-place : goal.invariant-loop-place
-invariant-loop-place l = (k : ℕ) → k < l.place → ¬ GivesAgain l.steps k

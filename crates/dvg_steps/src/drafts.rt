@@ -1,0 +1,98 @@
+//! The draft of a list of steps.
+ghost use Rattle.std.specs.Prelude.{◌≡◌, ◌≤◌, ℕ, IfErr, IfOk, IsOk, MatchOption, true};
+ghost use Rattle.dvg_frame.specs.declared.draft.TheConstants.{MAX_OPS};
+ghost use Rattle.dvg_steps.specs.Drafts.{GivesAgain, HasFault, IsDraftOf, IsDrafted, IsFirst};
+ghost use Rattle.dvg_steps.specs.Drafts.{WantsUnknown};
+ghost use Rattle.dvg_steps.specs.Steps.{IsNumberOf, is_operation, op_count};
+
+use crate::fault::StepsFault;
+use crate::step::Step;
+use dvg_frame::{Draft, MAX_OPS, Op, OpKind};
+
+// Returns the number of the operation that `steps` give the name `name`, or `None` where they give
+// it to none.
+fn number_of(steps: &[Step], name: &str) -> Option<u16>
+    requires { op_count steps.now ≤ MAX_OPS }
+    ensures { MatchOption result ((n : ℕ) → ¬ IsNumberOf steps.now name.now n)
+        (IsNumberOf steps.now name.now) }
+{
+    let mut number = 0;
+    for step in steps {
+        if step.names(name) {
+            return Some(number);
+        }
+        if step.is_operation() {
+            number += 1;
+        }
+    }
+    None
+}
+
+// Returns the place of the first of `steps` that gives a name which an earlier one gives.
+fn given_again(steps: &[Step]) -> Option<usize>
+    requires { op_count steps.now ≤ MAX_OPS }
+    ensures { MatchOption result ((place : ℕ) → ¬ GivesAgain steps.now place)
+        (IsFirst (GivesAgain steps.now)) }
+{
+    for (place, step) in steps.iter().enumerate() {
+        if let Step::Name(name) = step {
+            if number_of(&steps[..place], name).is_some() {
+                return Some(place);
+            }
+        }
+    }
+    None
+}
+
+// Returns the operation that `step` is, or `None` where it uses a name that none of `steps` gives.
+fn operation(steps: &[Step], step: &Step) -> Option<Op>
+    requires few { op_count steps.now ≤ MAX_OPS }
+    requires is { is_operation step.now ≡ true }
+    ensures { MatchOption result (WantsUnknown steps.now step.now) (IsDrafted steps.now step.now) }
+{
+    match step {
+        Step::Op(op) => Some(*op),
+        Step::Call(name) => match number_of(steps, name) {
+            Some(number) => Op::new(OpKind::Call(number)),
+            None => None,
+        },
+        Step::Jump(name) => match number_of(steps, name) {
+            Some(number) => Op::new(OpKind::Jump(number)),
+            None => None,
+        },
+        Step::Name(_) => unreachable!(),
+    }
+}
+
+/// Returns the draft whose operations are those of `steps`, in order. Each call and each jump has
+/// the number of the operation that its name stands before. No memory is taken. The time grows with
+/// the square of the number of steps.
+///
+/// - `Full`: there are more than 511 operations.
+/// - `Twice`: else, this step is the first that gives a name which an earlier one gave.
+/// - `Unknown`: else, this step is the first that calls or jumps to a name which no step gives.
+///
+/// A name after the last operation names one that doesn't exist. The check of a draft refuses that
+/// where it is used.
+pub fn draft_of(steps: &[Step]) -> Result<Draft, StepsFault>
+    ensures draft { IfOk result (IsDraftOf steps.now) }
+    ensures once { IsOk result → (place : ℕ) → ¬ GivesAgain steps.now place }
+    ensures fault { IfErr result (HasFault steps.now) }
+{
+    if steps.iter().filter(|step| step.is_operation()).count() > MAX_OPS {
+        return Err(StepsFault::Full);
+    }
+    if let Some(place) = given_again(steps) {
+        return Err(StepsFault::Twice(place));
+    }
+    let mut draft = Draft::new();
+    for (place, step) in steps.iter().enumerate() {
+        if step.is_operation() {
+            let Some(op) = operation(steps, step) else {
+                return Err(StepsFault::Unknown(place));
+            };
+            draft.push(op).unwrap();
+        }
+    }
+    Ok(draft)
+}

@@ -1,0 +1,369 @@
+//! What is told of an input.
+use std::prelude::*;
+
+use crate::asking::Answers;
+use crate::choosing::line_of;
+use crate::explained::{Explained, LineText};
+use crate::faults::advice_for;
+use crate::forms::{EVENTS, FULL, LOG_LINES, Openings, form_in, form_of, operations};
+use crate::frames::RefusedFrame;
+use crate::hints::{begins_operation, hint_of, plain_hint};
+use crate::kind::Kind;
+use crate::lines::{before_line, first_said, is_unended, last_line, line_at, word_at};
+use crate::looks::{file_look, text_look};
+use crate::raw::{MOST_WORD_BYTES, is_text};
+use crate::sketch_line::explain_line;
+use crate::text::Text;
+use dvg_dump::{LARGE_DUMP_BYTES, SMALL_DUMP_BYTES};
+use dvg_lay::{Blamed, Reason, Refusal};
+use dvg_mem::{LARGE_ROM_BYTES, MEMORY_BYTES};
+use dvg_read::{MOST_TEXT_BYTES, TextFault, Unread, read_trace};
+use std::alloc::Allocator;
+use std::fmt::{self, Write};
+
+/// An input, and what was found of it.
+pub(crate) struct Examined<'a, A: Allocator> {
+    /// The input.
+    pub text: &'a [u8],
+    /// The same in small letters.
+    pub small: &'a [u8],
+    /// What the readers of texts answer.
+    pub answers: Answers<A>,
+    /// The kind for which it is taken.
+    pub kind: Kind,
+    /// The place at which words are cut.
+    pub cut: Option<usize>,
+}
+
+// Tells `line`, which is line `number`.
+fn tell_line<A: Allocator>(out: &mut Text<A>, number: usize, line: &[u8]) -> fmt::Result {
+    let shown = LineText { bytes: line };
+    write!(out, "line {number}: {shown}\n")
+}
+
+// Tells what is expected, `expected`.
+fn tell_expected<A: Allocator, D: fmt::Display + Drop>(
+    out: &mut Text<A>,
+    expected: D,
+) -> fmt::Result {
+    write!(out, "expected {expected}\n")
+}
+
+// Tells `hint`, unless it is empty.
+fn tell_hint<A: Allocator>(out: &mut Text<A>, hint: &str) -> fmt::Result {
+    if hint.is_empty() {
+        return Ok(());
+    }
+    write!(out, "hint: {hint}\n")
+}
+
+// Tells whether the words of `bytes` are a ROM, too, and which sizes a ROM and a dump have.
+fn tell_sizes<A: Allocator>(out: &mut Text<A>, bytes: &[u8]) -> fmt::Result {
+    let count = bytes.len();
+    if count == MEMORY_BYTES {
+        return write!(out, "dvg rom takes it as a ROM\n");
+    }
+    write!(
+        out,
+        "it is no ROM and no dump: dvg rom takes {MEMORY_BYTES} or {LARGE_ROM_BYTES} bytes, dvg \
+         picture {SMALL_DUMP_BYTES} or {LARGE_DUMP_BYTES}, and it has {count}\n"
+    )
+}
+
+// Tells that the words of `bytes` are cut at `place`.
+fn tell_cut<A: Allocator>(out: &mut Text<A>, bytes: &[u8], place: usize) -> fmt::Result {
+    let fault = TextFault::Cut(place);
+    write!(out, "{fault}\n")?;
+    write!(out, "the last word begins an instruction of two words\n")?;
+    tell_sizes(out, bytes)
+}
+
+// Tells which commands take the dump `bytes`.
+fn tell_dump<A: Allocator>(out: &mut Text<A>, bytes: &[u8]) -> fmt::Result {
+    write!(out, "dvg picture takes it\n")?;
+    if bytes.len() == LARGE_ROM_BYTES {
+        write!(out, "dvg rom takes it as a ROM, and dvg list as words\n")?;
+    }
+    Ok(())
+}
+
+impl<A: Allocator + Copy> Examined<'_, A> {
+    // Returns the fault that the reader of its kind has, if that is one of texts and has one.
+    fn fault(&self) -> Option<TextFault> {
+        match self.kind {
+            Kind::Draft => self.answers.draft,
+            Kind::Trace => self.answers.trace,
+            Kind::Sketch => self.answers.sketch,
+            Kind::Log => self.answers.log,
+            Kind::Words | Kind::Dump | Kind::Other => None,
+        }
+    }
+
+    // Returns the first frame that the check refuses, of a draft or a sketch.
+    fn refused(&self) -> Option<&RefusedFrame<A>> {
+        match self.kind {
+            Kind::Draft | Kind::Sketch => self.answers.refused.as_ref(),
+            _ => None,
+        }
+    }
+
+    // Returns line `number`, and the same in small letters.
+    fn line(&self, number: usize) -> (&[u8], &[u8]) {
+        (line_at(self.text, number), line_at(self.small, number))
+    }
+
+    // Tells what was expected of line `number` of a draft or a sketch.
+    fn expect_row(&self, out: &mut Text<A>, number: usize) -> fmt::Result {
+        let fault = self.answers.sketch.unwrap_or(TextFault::Syntax(number));
+        match explain_line(fault, self.text, self.small) {
+            Some(Explained { expected, .. }) => tell_expected(out, expected),
+            None => Ok(()),
+        }
+    }
+
+    // Whether line `number` of a trace stands in an offer. Fails where memory is refused.
+    fn is_in_offer(&self, alloc: A, number: usize) -> Result<bool, fmt::Error> {
+        match read_trace(alloc, before_line(self.text, number)) {
+            Err(Unread::Text(TextFault::Unended)) => Ok(true),
+            Err(Unread::Memory) => Err(fmt::Error),
+            _ => Ok(false),
+        }
+    }
+
+    // Tells what was expected of line `number` of a trace.
+    fn expect_event(&self, alloc: A, out: &mut Text<A>, number: usize) -> fmt::Result {
+        let word = word_at(self.line(number).1, 0);
+        if self.is_in_offer(alloc, number)? {
+            return expect_operation(out, word);
+        }
+        match form_in(EVENTS.as_slice(), word) {
+            "" => {}
+            form => return tell_expected(out, form),
+        }
+        let forms = EVENTS.as_slice();
+        match form_of(word) {
+            "" => write!(
+                out,
+                "expected a line that begins with {}, map, rom or #\n",
+                Openings { forms }
+            ),
+            _ if begins_operation(word) => {
+                tell_expected(
+                    out,
+                    "an operation only after a line offer, and before its end",
+                )
+            }
+            form => tell_expected(out, form),
+        }
+    }
+
+    // Tells what was expected of line `number`, at which `fault` is.
+    fn expect(&self, alloc: A, out: &mut Text<A>, fault: TextFault, number: usize) -> fmt::Result {
+        match (fault, self.kind) {
+            (TextFault::Many(_), _) => {
+                tell_expected(out, "at most 65536 events: tick N counts as N of them")
+            }
+            (TextFault::Full(_), Kind::Trace) => tell_expected(out, FULL),
+            (_, Kind::Trace) => self.expect_event(alloc, out, number),
+            (_, Kind::Log) => expect_logged(out, word_at(self.line(number).1, 0)),
+            _ => self.expect_row(out, number),
+        }
+    }
+
+    // Tells what to do about line `number`, which isn't read.
+    fn cure(&self, out: &mut Text<A>, number: usize) -> fmt::Result {
+        let (line, small) = self.line(number);
+        tell_hint(out, hint_of(small))?;
+        if self.kind == Kind::Trace {
+            tell_hint(out, plain_hint(line))?;
+        }
+        if self.kind != Kind::Other && is_unended(self.text, number) {
+            write!(
+                out,
+                "it is the last line, and has no line end: is the input cut?\n"
+            )?;
+        }
+        Ok(())
+    }
+
+    // Tells of `fault`, which the text has for its kind.
+    fn tell_fault(&self, alloc: A, out: &mut Text<A>, fault: TextFault) -> fmt::Result {
+        write!(out, "{fault}\n")?;
+        if let Some(number) = shown_line(fault) {
+            tell_line(out, number, self.line(number).0)?;
+            self.expect(alloc, out, fault, number)?;
+            return self.cure(out, number);
+        }
+        if fault == TextFault::Unended {
+            let number = last_line(self.text, b"offer");
+            tell_line(out, number, self.line(number).0)?;
+            write!(out, "expected end after the operations of this offer\n")?;
+        }
+        Ok(())
+    }
+
+    // Tells at which line of the sketch `dvg check` stops, and why.
+    fn tell_plain(&self, out: &mut Text<A>) -> fmt::Result {
+        let Some(number) = self.answers.draft.and_then(line_of) else {
+            return Ok(());
+        };
+        let (line, _) = self.line(number);
+        let shown = LineText { bytes: line };
+        write!(out, "dvg check stops at line {number}: {shown}\n")?;
+        tell_hint(out, plain_hint(line))?;
+        write!(
+            out,
+            "dvg lay --draft writes it as dvg check and dvg play take it\n"
+        )
+    }
+
+    // Tells which commands take the input, in which nothing is wrong.
+    fn tell_commands(&self, out: &mut Text<A>) -> fmt::Result {
+        match self.kind {
+            Kind::Words => {
+                write!(out, "dvg list takes it\n")?;
+                tell_sizes(out, self.text)
+            }
+            Kind::Dump => tell_dump(out, self.text),
+            Kind::Draft => write!(out, "dvg check, dvg lay and dvg render take it\n"),
+            Kind::Sketch => {
+                write!(out, "dvg lay and dvg render take it\n")?;
+                self.tell_plain(out)
+            }
+            Kind::Trace => write!(
+                out,
+                "dvg play takes it; where there is no picture, dvg play --all shows why\n"
+            ),
+            Kind::Log => write!(out, "dvg torn takes it, also with --moments\n"),
+            Kind::Other => Ok(()),
+        }
+    }
+
+    // Tells what the input looks like, of which no command reads a line.
+    fn tell_other(&self, out: &mut Text<A>) -> fmt::Result {
+        if !is_text(self.text) {
+            return tell_bytes(out, self.text);
+        }
+        let number = first_said(self.text);
+        if number == 0 {
+            return write!(out, "it is empty, or has empty lines and comments alone\n");
+        }
+        let (line, small) = self.line(number);
+        tell_line(out, number, line)?;
+        match (hint_of(small), text_look(self.text)) {
+            ("", "") => write!(
+                out,
+                "no line of an input begins so: dvg help shows which there are\n"
+            ),
+            ("", look) => write!(out, "this looks like {look}\n"),
+            (hint, _) => tell_hint(out, hint),
+        }
+    }
+
+    /// Tells all after the first line. Whatever is asked for comes from `alloc`.
+    pub(crate) fn tell(&self, alloc: A, out: &mut Text<A>) -> fmt::Result {
+        if self.kind == Kind::Other {
+            return self.tell_other(out);
+        }
+        if let Some(fault) = self.fault() {
+            return self.tell_fault(alloc, out, fault);
+        }
+        if let Some(refused) = self.refused() {
+            return tell_refused(out, refused, self.text);
+        }
+        if let Some(place) = self.cut {
+            return tell_cut(out, self.text, place);
+        }
+        self.tell_commands(out)
+    }
+}
+
+// Returns the number of the line that is shown of `fault`, if it has one.
+fn shown_line(fault: TextFault) -> Option<usize> {
+    match fault {
+        TextFault::UnknownName(number) => Some(number),
+        _ => line_of(fault),
+    }
+}
+
+/// Tells of an input that is too long.
+pub(crate) fn tell_long<A: Allocator>(out: &mut Text<A>) -> fmt::Result {
+    write!(
+        out,
+        "it has more than {MOST_TEXT_BYTES} bytes: dvg torn alone reads longer inputs, logs\n"
+    )
+}
+
+// Tells what `bytes` look like, which are neither text nor words nor a dump.
+fn tell_bytes<A: Allocator>(out: &mut Text<A>, bytes: &[u8]) -> fmt::Result {
+    let count = bytes.len();
+    match file_look(bytes) {
+        "" => write!(
+            out,
+            "it is no text, and has {count} bytes: dvg list takes an even number up to \
+             {MOST_WORD_BYTES}, dvg rom {MEMORY_BYTES} or {LARGE_ROM_BYTES}, dvg picture \
+             {SMALL_DUMP_BYTES} or {LARGE_DUMP_BYTES}\n"
+        ),
+        look => write!(out, "this looks like {look}\n"),
+    }
+}
+
+// Tells what was expected of a line in an offer, which begins with `word`.
+fn expect_operation<A: Allocator>(out: &mut Text<A>, word: &[u8]) -> fmt::Result {
+    match form_in(operations(), word) {
+        "" => write!(
+            out,
+            "expected an operation or end: a line that begins with {}, end or #\n",
+            Openings {
+                forms: operations()
+            }
+        ),
+        form => tell_expected(out, form),
+    }
+}
+
+// Tells what was expected of a line of a log that begins with `word`.
+fn expect_logged<A: Allocator>(out: &mut Text<A>, word: &[u8]) -> fmt::Result {
+    match form_in(LOG_LINES.as_slice(), word) {
+        "" => write!(
+            out,
+            "expected a line that begins with {} or #\n",
+            Openings {
+                forms: LOG_LINES.as_slice()
+            }
+        ),
+        form => tell_expected(out, form),
+    }
+}
+
+// Tells what `refusal` blames in `text`.
+fn tell_blamed<A: Allocator>(
+    out: &mut Text<A>,
+    refused: &RefusedFrame<A>,
+    text: &[u8],
+) -> fmt::Result {
+    if let Some(number) = refused.back {
+        return tell_line(out, number, line_at(text, number));
+    }
+    match &refused.refusal.blamed {
+        Blamed::Line { number, .. } => tell_line(out, *number, line_at(text, *number)),
+        blamed => write!(out, "at {blamed}\n"),
+    }
+}
+
+// Tells of `refused`, a frame of `text`.
+fn tell_refused<A: Allocator>(
+    out: &mut Text<A>,
+    refused: &RefusedFrame<A>,
+    text: &[u8],
+) -> fmt::Result {
+    let Refusal { reason, .. } = &refused.refusal;
+    write!(out, "{reason}\n")?;
+    tell_blamed(out, refused, text)?;
+    let Reason::Fault(fault) = reason else {
+        return Ok(());
+    };
+    let advice = advice_for(*fault, refused.back.is_some());
+    write!(out, "{}\n", advice.means)?;
+    write!(out, "do: {}\n", advice.cure)
+}
