@@ -1,7 +1,8 @@
 """Builds what pip installs: the module gerbilargent with the shared library of ./lib inside.
 
 pip calls build_wheel, build_editable and build_sdist. Nothing is wanted but Python 3.8 or later and
-what ./lib wants: cargo, a C compiler and its tools.
+what ./lib wants: cargo, a C compiler and its tools. So no registry is asked, and one wheel fits
+each Python. The module is a package only in there, where py.typed says that it is typed.
 """
 
 from __future__ import annotations

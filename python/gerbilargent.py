@@ -313,7 +313,8 @@ class NoBytes(Error, TypeError):
 
 
 class NoInteger(Error, TypeError):
-    """A number isn't whole: a float, a text, or nothing."""
+    """A number isn't whole: a float, a text, or nothing. It isn't rounded, as a place that is cut
+    would be another picture."""
 
 
 class NoEvent(Error, TypeError):

@@ -1,5 +1,5 @@
 /* The 6502 of cc65's simulator sim65, with the interface of board_sim65.h. It is compiled from the
- * simulator's own source, which stands in the folder that -I names. */
+ * simulator's own source, which stands in the folder that -I names: the program shows no bus. */
 #include <setjmp.h>
 #include <stdint.h>
 #include "6502.c"

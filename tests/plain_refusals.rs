@@ -1,5 +1,6 @@
 //! Growths of memory that are refused by their number, in runs of the plain form: each alone, and
-//! each with all after it. The last line is 'N passed, M failed'.
+//! each with all after it. In proved code such an allocator would need proofs by hand of its raw
+//! blocks. The last line is 'N passed, M failed'.
 use dvg_code::{Code, Instr};
 use dvg_frame::{Draft, Op, OpKind};
 use dvg_mem::{Banked, Flat, Image, Rom, Store};
