@@ -309,16 +309,21 @@ module _ (clocks : List Pins) (pins : Pins) (are : ArePins pins) (was : Stands c
       → (new : Newest) → Leaves history' new → Gains new found
   gains (Refines.resets r) new m = absurd (omega arith)
   gains (Refines.starts r s) new m = absurd (omega arith)
-  gains (idles r s v) new m = ([], same_run was.stands.leaves m,
-      subst (λ p. TellsMoves c p []) (sym (as_byte 0 v)) (idle c pins.din (drew clocks) was.fits.x was.fits.y was.fits.scale was.fits.low are.din c.is_open c.high c.second pins.hole was.fits.opened),
-      subst (λ p. TellsKind None was.stands.run.held c p) (sym (as_byte 0 v)) (kind_idle c pins.din (drew clocks) was.fits.x was.fits.y was.fits.scale was.fits.low are.din c.is_open c.high c.second pins.hole was.fits.opened))
+  gains (idles r s v) new m = (
+    [],
+    same_run was.stands.leaves m,
+    subst (λ p. TellsMoves c p []) (sym (as_byte 0 v)) (idle c pins.din (drew clocks) was.fits.x was.fits.y was.fits.scale was.fits.low are.din c.is_open c.high c.second pins.hole was.fits.opened),
+    subst (λ p. TellsKind None was.stands.run.held c p) (sym (as_byte 0 v)) (kind_idle c pins.din (drew clocks) was.fits.x was.fits.y was.fits.scale was.fits.low are.din c.is_open c.high c.second pins.hole was.fits.opened),
+  )
   gains (ignores {run = run} r s v l o) new m =
-      let closed : c.is_open ≡ 0 = shut_is c.is_open was.fits.opened (was.stands.stands.is_open ∙ ap (λ k. k.is_open) (leaves_same was.stands.leaves l) ∙ o) in
-      ([], same_run was.stands.leaves m,
-      subst (λ k. TellsMoves k pins []) (sym (as_core 0 closed)) (subst (λ p. TellsMoves (record c { is_open = 0 }) p []) (sym (as_byte 1 v))
-      (shut c pins.din (drew clocks) was.fits.x was.fits.y was.fits.scale was.fits.low are.din c.high c.second 1 pins.hole)),
-      subst (λ k. TellsKind None was.stands.run.held k pins) (sym (as_core 0 closed)) (subst (λ p. TellsKind None was.stands.run.held (record c { is_open = 0 }) p) (sym (as_byte 1 v))
-      (kind_shut c pins.din (drew clocks) was.fits.x was.fits.y was.fits.scale was.fits.low are.din c.high c.second 1 pins.hole)))
+      let closed : c.is_open ≡ 0 = shut_is c.is_open was.fits.opened (was.stands.stands.is_open ∙ ap (λ k. k.is_open) (leaves_same was.stands.leaves l) ∙ o) in (
+        [],
+        same_run was.stands.leaves m,
+        subst (λ k. TellsMoves k pins []) (sym (as_core 0 closed)) (subst (λ p. TellsMoves (record c { is_open = 0 }) p []) (sym (as_byte 1 v))
+            (shut c pins.din (drew clocks) was.fits.x was.fits.y was.fits.scale was.fits.low are.din c.high c.second 1 pins.hole)),
+        subst (λ k. TellsKind None was.stands.run.held k pins) (sym (as_core 0 closed)) (subst (λ p. TellsKind None was.stands.run.held (record c { is_open = 0 }) p) (sym (as_byte 1 v))
+            (kind_shut c pins.din (drew clocks) was.fits.x was.fits.y was.fits.scale was.fits.low are.din c.high c.second 1 pins.hole)),
+      )
   gains (fetches {run = run} r s v l o) new m =
       let going_on : was.stands.run.is_open ≡ true = ap (λ k. k.is_open) (leaves_same was.stands.leaves l) ∙ o in
       let opened : c.is_open ≡ 1 = open_is c.is_open was.fits.opened (was.stands.stands.is_open ∙ going_on) in

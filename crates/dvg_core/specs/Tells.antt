@@ -25,8 +25,8 @@ TellsMove false core pins move = (vec core pins ≡ 1) × (labs core pins ≡ 0)
     × (pin.dx_sign core pins < 2) × (pin.dy_sign core pins < 2) × (pin.dx core pins < 1024) × (pin.dy core pins < 1024)
     × (pin.vec_z core pins ≡ move.z)
     × ((old : Counters) → followed old move ≡ stepped old
-        (signed (pin.dx_sign core pins) (pin.dx core pins) *ℤ pos (unit (pin.sum core pins)))
-        (signed (pin.dy_sign core pins) (pin.dy core pins) *ℤ pos (unit (pin.sum core pins))))
+    (signed (pin.dx_sign core pins) (pin.dx core pins) *ℤ pos (unit (pin.sum core pins)))
+    (signed (pin.dy_sign core pins) (pin.dy core pins) *ℤ pos (unit (pin.sum core pins))))
 
 -- the pins tell of these moves: of none, or of one
 abbrev pub TellsMoves : Core → Pins → List Move → Type 0
