@@ -6,12 +6,12 @@ refuses what it doesn't know.
     core_cells.py FOLDER --write       writes the clocks that the prover computes
 
 The cells are computed here, by the meaning that each kind has, over random clocks since power-up of
-dvg_core and of dvg_board. The pins after each clock must be those that Icarus Verilog has, and
-those of Verilator. Some clocks of Icarus Verilog are given to the prover, too, which computes them
-by the definition of the cells: proofs/ClockVectors.antt of both crates must be what is written
-here. A board whose pins are made of several wires is computed, too. Then texts are planted in the
-Verilog that core/cells must refuse, each by a line that says why. The last line is 'N passed, M
-failed'."""
+dvg_core, of dvg_board, and of dvg_vectors, which has all others. The pins after each clock must be
+those that Icarus Verilog has, and those of Verilator. Some clocks of Icarus Verilog are given to
+the prover, too, which computes them by the definition of the cells: proofs/ClockVectors.antt of
+dvg_core and of dvg_board must be what is written here. A board whose pins are made of several wires
+is computed, too. Then texts are planted in the Verilog that core/cells must refuse, each by a line
+that says why. The last line is 'N passed, M failed'."""
 
 import os
 import random
@@ -22,7 +22,9 @@ import sys
 import texts
 
 CELLS = f"{texts.TOP}/core/cells"
-OUTPUTS = "at", "high", "halted", "done", "fault", "stroke", "x0", "y0", "x", "y", "z"
+MODULES = "dvg_core", "dvg_board", "dvg_pace", "dvg_motion", "dvg_vectors"
+SHOWS = "at high halted done fault stroke x0 y0 x y z".split()
+TELLS = "ends jsrl labs vec sum dx_sign dy_sign dx dy vec_z".split()
 
 # What each kind of cell computes, as the definition has it.
 MEANING = {
@@ -40,60 +42,87 @@ MEANING = {
     "both": lambda a, b: int(a != 0 and b != 0),
     "either": lambda a, b: int(a != 0 or b != 0),
     "memrd": lambda ram, at: ram[at],
+    "memwr": lambda enable, at, byte, ram: write_ram(enable, at, byte, ram),
 }
 
 
-def as_python(text):
-    """A term of the definition as one of Python: a name, a number, or a cell with its arguments."""
-    tokens = re.findall(r"[()]|[^\s()]+", text)
+class Definition:
+    """What core/cells writes of a module, as functions of Python. What a module holds is a dict by
+    names, in which a part of it is a dict, too, and the RAM a list. `parts` are the definitions of
+    its parts, by the name that they have in it."""
 
-    def atom():
-        token = tokens.pop(0)
-        if token == "(":
-            inner = term()
-            tokens.pop(0)
-            return inner
-        if token.isdigit():
-            return token
-        owner, _, name = token.rpartition(".")
-        return f"{owner.replace('.', '_')}['{name}']" if owner else f"w_{name}"
+    def __init__(self, module, folder=f"{texts.TOP}/core", parts=None):
+        status, self.text, why = run(CELLS, module, folder)
+        assert status == 0, why
+        self.parts = parts or {}
+        self.scope = dict(MEANING) | {f"p_{name}": part for name, part in self.parts.items()}
+        for name, arguments, body in re.findall(
+                r"(?m)^abbrev pub (\w+) : .*\n\1 (.*)=\n((?:    .*\n?)+)", self.text):
+            exec(self.function(name, arguments.split(), body), self.scope)
 
-    def term():
-        name = tokens[0]
-        if name in MEANING:
-            tokens.pop(0)
+    def function(self, name, arguments, body):
+        """The text of a definition as one of Python."""
+        lines = [f"def f_{name}({', '.join(f'w_{a}' for a in arguments)}):"]
+        for wire, term in re.findall(r"let (\w+) : ℕ = (.*) in\n", body):
+            lines.append(f"    w_{wire} = {self.as_python(term)}")
+        fields = re.findall(r"(?m)^      (\w+) = (.*);$", body)
+        last = body.rstrip("\n").rpartition("\n")[2].strip()
+        value = self.as_python(last) if last != "}" else "{" + ", ".join(
+            f"'{n}': {self.as_python(t)}" for n, t in fields) + "}"
+        return "\n".join([*lines, f"    return {value}"])
+
+    def as_python(self, text):
+        """A term of a definition as one of Python: a number, a wire, or a function with its
+        arguments, which is a cell or a pin."""
+        tokens = re.findall(r"[()]|[^\s()]+", text)
+
+        def atom():
+            token = tokens.pop(0)
+            if token == "(":
+                inner = term()
+                tokens.pop(0)
+                return inner
+            first, *names = token.split(".")
+            return token if token.isdigit() else f"w_{first}" + "".join(f"['{n}']" for n in names)
+
+        def term():
+            if tokens[0] == "(" or len(tokens) == 1 or tokens[1] == ")":
+                return atom()
+            owner, _, name = tokens.pop(0).rpartition(".")
+            called = name if name in MEANING else f"f_{name}"
+            if owner:
+                called = f"p_{owner}.scope['f_{name}']"
             arguments = []
             while tokens and tokens[0] != ")":
                 arguments.append(atom())
-            return f"{name}({', '.join(arguments)})"
-        if name == "cells.halted":
-            del tokens[:2]
-            return "none(board_core['is_open'])"
-        return atom()
+            return f"{called}({', '.join(arguments)})"
 
-    return term()
+        return term()
 
+    def zeros(self, ram):
+        """What the module holds at power-up, with this RAM."""
+        record = re.search(r"(?m)^pub record \w+ : Type 0 where\n((?:  .*\n)+)", self.text)[1]
+        held = {name: 0 for name in re.findall(r"pub (\w+) : ℕ$", record, re.M)}
+        if "pub ram :" in record:
+            held["ram"] = ram
+        for name in re.findall(r"pub (\w+) : [A-Z]\w*$", record, re.M):
+            called = {"core": "cells"}.get(name, name)
+            held[name] = self.parts[called].zeros(ram)
+        return held
 
-def function_of(text, name, arguments):
-    """A definition as a function of Python, which answers a number, or a record of them."""
-    body = re.search(rf"(?m)^{name} .*=\n((?:    .*\n?)+)", text)[1]
-    lines = [f"def {name}({arguments}):"]
-    for wire, term in re.findall(r"let (\w+) : ℕ = (.*) in\n", body):
-        lines.append(f"    w_{wire} = {as_python(term)}")
-    fields = [(n, t) for n, t in re.findall(r"(?m)^      (\w+) = (.*);$", body)
-              if n not in ("ram", "core")]
-    last = body.rstrip("\n").rpartition("\n")[2].strip()
-    value = as_python(last)
-    if fields:
-        value = "{" + ", ".join(f"'{n}': {as_python(t)}" for n, t in fields) + "}"
-    scope = dict(MEANING)
-    exec("\n".join([*lines, f"    return {value}"]), scope)
-    return scope[name]
+    def value(self, pin, now, pins):
+        """An output, whose definition may take the pins that are driven, too."""
+        if pin in now:
+            return now[pin]
+        function = self.scope[f"f_{pin}"]
+        return function(now, pins) if function.__code__.co_argcount == 2 else function(now)
 
 
-def zeros_of(text, record):
-    names = re.search(rf"(?m)^pub record {record} .*\n((?:  .*\n)+)", text)[1]
-    return {name: 0 for name in re.findall(r"pub (\w+) : ℕ$", names, re.M)}
+def write_ram(enable, place, byte, ram):
+    """The memory after the edge; nothing else reads it by then."""
+    if enable:
+        ram[place] = byte
+    return ram
 
 
 def number_of(pins, widths):
@@ -104,14 +133,24 @@ def number_of(pins, widths):
     return number
 
 
-class Core:
-    """dvg_core by its cells."""
-    WIDTHS = {"reset": 1, "start": 1, "valid": 1, "hole": 1, "din": 8}
+class Circuit:
+    """A module by its cells, with the widths of the pins that are driven, and its outputs."""
 
-    def __init__(self, text):
-        self.clock = function_of(text, "clock", "core, pins")
-        self.halted = function_of(text, "halted", "core")
-        self.now = zeros_of(text, "Core")
+    def __init__(self, definition):
+        self.definition = definition
+        self.now = definition.zeros([(37 * a + 11) % 256 for a in range(2048)])
+
+    def play(self, pins):
+        """A clock. Returns the outputs after it, with the same pins driven."""
+        pins = pins | {"undefined": random.getrandbits(32)}
+        self.now = self.definition.scope["f_clock"](self.now, pins)
+        return [self.definition.value(pin, self.now, pins) for pin in self.OUTPUTS]
+
+
+class Core(Circuit):
+    """dvg_core."""
+    WIDTHS = {"reset": 1, "start": 1, "valid": 1, "hole": 1, "din": 8}
+    OUTPUTS = [*SHOWS, *TELLS]
 
     def any_pins(self):
         """Pins by which all kinds of words come, with few HALTs and many calls and returns."""
@@ -122,35 +161,17 @@ class Core:
         return {"reset": int(k == 0), "start": int(k == 1 or not self.now["is_open"] and k < 50),
                 "valid": int(k > 2 and k % 8 != 3), "hole": int(k == 99), "din": din}
 
-    def play(self, pins):
-        self.now = self.clock(self.now, pins)
-        return self.shown()
 
-    def shown(self):
-        return [self.halted(self.now) if name == "halted" else self.now[name] for name in OUTPUTS]
-
-
-class Board:
-    """dvg_board by its cells and those of the core."""
+class Board(Circuit):
+    """dvg_board, with dvg_core."""
     WIDTHS = {"reset": 1, "hold": 1, "access": 1, "write": 1, "a": 16, "d": 8, "big": 1, "rom": 8}
+    OUTPUTS = ["q", "takes", *SHOWS, "starts", *TELLS]
 
-    def __init__(self, text, core):
-        arguments = "board, board_core, bus"
-        self.core = core
-        self.clock = function_of(text, "clock", arguments)
-        self.pins = function_of(text, "pins", arguments)
-        self.q = function_of(text, "q", arguments)
-        self.takes = function_of(text, "takes", arguments)
-        term = r"(\S+|\(.*?\))"
-        enable, place, byte = re.search(rf"ram = memwr {term} {term} {term} board", text).groups()
-        head, _, _ = text.rpartition("    record {")
-        writes = (f"{head}    record {{\n      on = {enable};\n      at = {place};\n"
-                  f"      byte = {byte};\n    }}\n")
-        self.write = function_of(writes, "clock", arguments)
-        self.now = zeros_of(text, "Board") | {"ram": [(37 * a + 11) % 256 for a in range(2048)]}
+    def core(self):
+        return self.now["core"]
 
     def any_pins(self):
-        k, core = random.randrange(100), self.core.now
+        k, core = random.randrange(100), self.core()
         near = 0x4000 + (2 * core["at"] + core["high"] + random.randrange(3)) % 2048
         a = random.choice([0x2002, 0x3000, random.randrange(65536), 0x4000 + random.randrange(2048)]
                           + 4 * [near])
@@ -166,17 +187,24 @@ class Board:
                 pins[name] ^= 0xB0 ^ 0xE0                       # few HALTs, many jumps
         return pins
 
-    def play(self, pins):
-        bus = pins | {"undefined": random.getrandbits(32)}
-        state = self.now, self.core.now, bus
-        write, after, core_pins = self.write(*state), self.clock(*state), self.pins(*state)
-        ram = self.now["ram"]
-        if write["on"]:
-            ram[write["at"]] = write["byte"]
-        self.now = after | {"ram": ram}
-        self.core.play(core_pins)
-        state = self.now, self.core.now, bus
-        return [self.q(*state), self.takes(*state), *self.core.shown()]
+
+class Vectors(Board):
+    """dvg_vectors, with dvg_board, dvg_pace and dvg_motion."""
+    WIDTHS = {"tick": 1} | {pin: n for pin, n in Board.WIDTHS.items() if pin != "hold"}
+    OUTPUTS = "q takes at high halted done fault dac_x dac_y lit z going x y".split()
+
+    def core(self):
+        return self.now["board"]["core"]
+
+    def any_pins(self):
+        """Those of a board, with a tick in half of the clocks; and vectors that aren't long, but
+        for a few."""
+        pins = super().any_pins()
+        del pins["hold"]
+        for name in "d", "rom":
+            if pins[name] >> 4 in range(6, 10) and not once_in(8):
+                pins[name] &= 0x1F
+        return {"tick": int(once_in(2))} | pins
 
 
 def once_in(count):
@@ -317,6 +345,15 @@ REFUSED = [
     ("dvg_board", CORE, ".clk(clk), .reset(reset), .begins(starting)",
      "does not have a port named 'begins'"),
     ("dvg_board", "dvg_core core (", "other core (", "Module `\\other' referenced"),
+    # The parts of dvg_vectors
+    ("dvg_vectors", ".hold(hold), .access", ".hold(jsrl), .access", "a loop of cells"),
+    ("dvg_vectors", ".start(starts), ", "", "dvg_pace: start isn't connected"),
+    ("dvg_vectors", "clk(clk), .tick(tick), .start", "clk(tick), .tick(clk), .start",
+     "dvg_pace: another clock"),
+    ("dvg_vectors", "assign halted = stopped", "assign halted = ends", "halted rests on pins"),
+    ("dvg_pace", "assign hold   = !ready;", "assign hold = !ready || tick;", "hold rests on pins"),
+    ("dvg_motion", "going   = count != last", "going   = vec || count != last",
+     "rests on pins"),
 ]
 
 # Whole files: the module, the file, its text or None where it is missing, and what core/cells says.
@@ -329,7 +366,9 @@ FILES = [
     ("dvg_core", "dvg_core", "module dvg_core(input [1:0] clk); endmodule\n",
      "no input clk of one bit"),
     ("dvg_core", "dvg_core", "module dvg_core(input clk); endmodule\n", "no output"),
-    ("dvg_board", "dvg_board", "module dvg_board(); endmodule\n", "the board has no dvg_core"),
+    ("dvg_board", "dvg_board", "module dvg_board(input clk, output q); assign q = 0; endmodule\n",
+     "the board has no dvg_core"),
+    ("dvg_vectors", "dvg_motion", None, "yosys: ERROR: Can't open input file"),
 ]
 
 
@@ -344,7 +383,7 @@ def write_files(copy, texts_of):
 
 def sources():
     found = {}
-    for name in "dvg_core", "dvg_board":
+    for name in MODULES:
         with open(f"{texts.TOP}/core/{name}.v", encoding="utf-8") as source:
             found[name] = source.read()
     return found
@@ -393,40 +432,41 @@ def expect_pieces(suite, folder):
     for edit in PIECES:
         here["dvg_board"] = planted(here["dvg_board"], *edit)
     write_files(copy, here)
-    (_, core, _), (status, board, why) = (run(CELLS, name, copy) for name in here)
-    suite.expect("pins of several wires", [("status", "0", str(status)), ("why", "", why[-300:])])
-    if status:
-        return
+    board = Definition("dvg_board", copy, {"cells": Definition("dvg_core", copy)})
     bench = f"{texts.TOP}/tests/core_clocks.v"
-    files = [f"{copy}/{name}.v" for name in here]
+    files = [f"{copy}/{name}.v" for name in MODULES]
     run("iverilog", "-g2005", "-DBOARD", "-o", f"{copy}/icarus", bench, *files)
-    expect_clocks(suite, "pins of several wires", Board(board, Core(core)),
+    expect_clocks(suite, "pins of several wires", Board(board),
                   [("Icarus", ["vvp", "-n", f"{copy}/icarus"])], copy, 2000)
 
 
 def circuits():
     """Each circuit by its cells, with its name and what the benches are told of it."""
-    core, board = (run(CELLS, name)[1] for name in ("dvg_core", "dvg_board"))
-    return [("dvg_core", [], lambda: Core(core)),
-            ("dvg_board", ["-DBOARD"], lambda: Board(board, Core(core)))]
+    core, pace, motion = map(Definition, ("dvg_core", "dvg_pace", "dvg_motion"))
+    board = Definition("dvg_board", parts={"cells": core})
+    vectors = Definition("dvg_vectors", parts={"board": board, "pace": pace, "motion": motion})
+    return [("dvg_core", [], lambda: Core(core)), ("dvg_board", ["-DBOARD"], lambda: Board(board)),
+            ("dvg_vectors", ["-DVECTORS"], lambda: Vectors(vectors))]
 
 
 def main(folder, word="10000"):
     suite = texts.Suite()
-    files = [f"{texts.TOP}/core/dvg_core.v", f"{texts.TOP}/core/dvg_board.v"]
+    files = [f"{texts.TOP}/core/{name}.v" for name in MODULES]
     for name, defines, circuit in circuits():
         place = f"{folder}/{name}"
         os.makedirs(place)
         programs = readers(place, defines, files)
-        text = vectors(name, circuit(), programs[0][1], place)
-        if word == "--write":
-            with open(f"{texts.TOP}/crates/{name}/proofs/ClockVectors.antt", "w",
-                      encoding="utf-8") as file:
-                file.write(text)
-            continue
-        expect_vectors(suite, name, text)
-        random.seed(1979)
-        expect_clocks(suite, name, circuit(), programs, place, int(word))
+        if name != "dvg_vectors":
+            text = vectors(name, circuit(), programs[0][1], place)
+            if word == "--write":
+                with open(f"{texts.TOP}/crates/{name}/proofs/ClockVectors.antt", "w",
+                          encoding="utf-8") as file:
+                    file.write(text)
+                continue
+            expect_vectors(suite, name, text)
+        if word != "--write":
+            random.seed(1979)
+            expect_clocks(suite, name, circuit(), programs, place, int(word))
     if word != "--write":
         expect_pieces(suite, folder)
         expect_refusals(suite, folder)

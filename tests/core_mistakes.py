@@ -3,9 +3,9 @@
 
     core_mistakes.py FOLDER
 
-Writes FOLDER/NUMBER/dvg_core.v, dvg_board.v and dvg_bus.v, and prints a line for each mistake: its
-number, what must find it (fetches, board, events, bus, or else prover, none, nobody), and its name.
-Ends with status 1 where a text isn't in the file exactly once."""
+Writes the Verilog of each into FOLDER/NUMBER, and prints a line for each mistake: its number, what
+must find it (fetches, board, events, motion, vectors, bus, or else prover, none, nobody), and its
+name. Ends with status 1 where a text isn't in the file exactly once."""
 
 import os
 import re
@@ -13,7 +13,7 @@ import sys
 
 TESTS = os.path.dirname(os.path.abspath(__file__))
 CORE = f"{os.path.dirname(TESTS)}/core"
-FILES = "dvg_core.v", "dvg_board.v", "dvg_bus.v"
+FILES = [f"dvg_{name}.v" for name in ("core", "board", "bus", "motion", "pace", "vectors")]
 
 
 def read_edits(lines):

@@ -3,11 +3,11 @@
 
     core_proofs.py FOLDER [NUMBER..]      a folder in which core_mistakes.py planted them
 
-Of each mistake core/cells writes the cells anew, in a copy of dvg_core or of dvg_board, and the
-prover must refuse a law of the crate, without its examples and the clocks of Icarus Verilog. The
-Verilog as it is must be proved there. A mistake that does no harm may be refused, too, as a proof
-may name a wire; one of dvg_bus.v isn't tried, as that isn't proved. What the crates stand on must
-be proved: `./prove dvg_board`. The last line is 'N passed, M failed'."""
+Of each mistake core/cells writes the cells anew, in a copy of the crate that is proved of the
+changed file, and the prover must refuse a law of that crate, without its examples and the clocks of
+Icarus Verilog. The Verilog as it is must be proved there. A mistake that does no harm may be
+refused, too, as a proof may name a wire; one of dvg_bus.v isn't tried, as that isn't proved. What
+the crates stand on must be proved: `./prove dvg_motion`. The last line is 'N passed, M failed'."""
 
 import os
 import re
@@ -20,9 +20,11 @@ from importlib.util import module_from_spec, spec_from_loader
 
 import texts
 
-CELLS = {"dvg_core": "specs/Core.antt", "dvg_board": "specs/Board.antt"}
-LAWS = {"dvg_core": ["core_refines"],
-        "dvg_board": ["board_keeps", "board_answers", "board_shows"]}
+CELLS = {"dvg_core": ["core"], "dvg_board": ["board"], "dvg_motion": ["motion", "pace", "vectors"]}
+LAWS = {"dvg_core": ["core_refines", "pins_tell"],
+        "dvg_board": ["board_keeps", "board_answers", "board_shows"],
+        "dvg_motion": ["goes_by_pulses", "shows", "moves_right", "follows", "machine_follows",
+                       "halted_tells", "takes_time", "start_takes", "vectors_show"]}
 
 
 def load(name):
@@ -57,12 +59,13 @@ def make_room(room, crate):
 
 def refusal(room, crate, planted):
     """What refuses a crate that has the cells of this Verilog: laws and a proof, or None."""
-    made = subprocess.run([f"{texts.TOP}/core/cells", crate, planted], capture_output=True,
-                          text=True)
-    if made.returncode:
-        return made.stderr.strip().rpartition("\n")[2]
-    with open(f"{room}/{CELLS[crate]}", "w", encoding="utf-8") as file:
-        file.write(made.stdout)
+    for module in CELLS[crate]:
+        made = subprocess.run([f"{texts.TOP}/core/cells", f"dvg_{module}", planted],
+                              capture_output=True, text=True)
+        if made.returncode:
+            return made.stderr.strip().rpartition("\n")[2]
+        with open(f"{room}/specs/{module.capitalize()}.antt", "w", encoding="utf-8") as file:
+            file.write(made.stdout)
     words = words_for(crate) + [word for law in LAWS[crate] for word in ("--only", law)]
     ran = subprocess.run(words, cwd=room, stdin=subprocess.DEVNULL, stdout=subprocess.PIPE,
                          stderr=subprocess.STDOUT, encoding="utf-8", errors="replace", timeout=1800)
@@ -97,7 +100,8 @@ def main(folder, *numbers):
     for number, bench, name in mistakes:
         planted = f"{folder}/planted/{number}"
         if (not numbers or number in numbers) and not is_changed(planted, "dvg_bus.v"):
-            crate = "dvg_core" if is_changed(planted, "dvg_core.v") else "dvg_board"
+            crate = next(crate for crate in CELLS
+                         if any(is_changed(planted, f"dvg_{it}.v") for it in CELLS[crate]))
             wanted = ["refused", "proved"] if bench == "none" else ["refused"]
             try_cells(suite, name, crate, planted, f"{folder}/room", wanted)
     suite.end()

@@ -297,20 +297,20 @@ def fault_of(source, plain):
     return f"a comment that isn't in the source: {comment}" if comment else None
 
 
-def files_of(folder):
-    """The files in a folder that have code, by their names within it, without an ending."""
+def files_of(folder, left_out=frozenset()):
+    """The files in a folder, by their names within it, without an ending, but those left out."""
     files = (path for path in folder.rglob("*") if path.is_file())
     return {
         str(path.relative_to(folder).with_suffix("")): path
         for path in files
-        if path.stem not in MODULES_WITHOUT_CODE
+        if path.stem not in left_out
     }
 
 
 def main(crates, plain, names):
     files = faults = tokens = 0
     for name in names:
-        sources = files_of(Path(crates, name, "src"))
+        sources = files_of(Path(crates, name, "src"), MODULES_WITHOUT_CODE)
         made = files_of(Path(plain, name, "src"))
         for stem in sorted(sources.keys() ^ made.keys()):
             print(f"{name}/src/{stem}: one of the source and the plain file isn't there")

@@ -1,5 +1,6 @@
 pub mod Cores
 pub mod System
+pub mod Wires
 pub mod Board
 pub mod Answered
 pub mod Example

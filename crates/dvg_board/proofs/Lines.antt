@@ -13,7 +13,7 @@ use Rattle.dvg_board.specs.Board.{Board, Bus, pins, takes, clock}
 use Rattle.dvg_board.specs.Fetches.{drew, entry, entry_by, entry_of, says}
 use Rattle.dvg_board.specs.Clocks.{after, looks}
 use Rattle.dvg_board.specs.Logs.{did, answered}
-use Rattle.dvg_board.proofs.Board.{looks_ram, entry_ram, core_ram}
+use Rattle.dvg_board.proofs.Wires.{looks_ram, entry_ram, core_ram}
 
 module _ (image : List ℕ) where
   of_life : (address : ℕ) (word : Option ℕ) (answer : Reply) (log : Log)

@@ -3,6 +3,7 @@ use Rattle.std.proofs.Common.{ℕ, ◌+◌, ◌*◌, ◌%◌, Bool, true, List, 
 use Rattle.std.specs.Prelude.{nat_eq, ◌&&◌, slice_index}
 use Rattle.dvg_core.specs.Core.{halted}
 use Rattle.dvg_board.specs.Board.{Board, Bus, powered, clock, q, takes}
+use Rattle.dvg_board.specs.Board as pin
 
 -- the pins that are driven in a clock; what is undefined may be anything
 abbrev bus : List ℕ → Bus
@@ -29,9 +30,19 @@ same board t =
     && (nat_eq board.core.x (slice_index t 18) && (nat_eq board.core.y (slice_index t 19)
     && nat_eq board.core.z (slice_index t 20))))))))))))
 
+-- those of the clock itself, with the registers after it
+abbrev tells : Board → List ℕ → Bool
+tells board t =
+    nat_eq (pin.starts board (bus t)) (slice_index t 21) && (nat_eq (pin.ends board (bus t)) (slice_index t 22)
+    && (nat_eq (pin.jsrl board (bus t)) (slice_index t 23) && (nat_eq (pin.labs board (bus t)) (slice_index t 24)
+    && (nat_eq (pin.vec board (bus t)) (slice_index t 25) && (nat_eq (pin.sum board (bus t)) (slice_index t 26)
+    && (nat_eq (pin.dx_sign board (bus t)) (slice_index t 27) && (nat_eq (pin.dy_sign board (bus t)) (slice_index t 28)
+    && (nat_eq (pin.dx board (bus t)) (slice_index t 29) && (nat_eq (pin.dy board (bus t)) (slice_index t 30)
+    && nat_eq (pin.vec_z board (bus t)) (slice_index t 31))))))))))
+
 abbrev pass_from : Board → List (List ℕ) → Bool
 pass_from board [] = true
-pass_from board (t ∷ rest) = let now = clock board (bus t) in same now t && pass_from now rest
+pass_from board (t ∷ rest) = let now = clock board (bus t) in same now t && (tells now t && pass_from now rest)
 
 -- each clock of a list since power-up passes
 abbrev pub all_pass : List (List ℕ) → Bool

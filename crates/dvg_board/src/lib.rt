@@ -32,7 +32,7 @@ pub fn board_answers()
     ensures { OfEachBoard (λ R image held log clocks. AnswersNext image held log clocks) }
 {}
 
-/// The pins `at` to `z` are those of the core.
+/// The pins `at` to `z` are those of the core, and `ends` to `vec_z`, too.
 pub fn board_shows()
     ensures { ShowsCore }
 {}

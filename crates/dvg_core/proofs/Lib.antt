@@ -7,3 +7,5 @@ mod Example
 mod Vectors
 mod ClockVectors
 mod Histories
+pub mod Scaled
+pub mod Tells

@@ -10,7 +10,7 @@ use Rattle.dvg_gen.proofs.Standing.{stands_new}
 use Rattle.dvg_core.specs.Cells.{bit}
 use Rattle.dvg_core.specs.Core.{Core, Pins, zeros}
 use Rattle.dvg_core.proofs.Machines.{machine_of, kept}
-use Rattle.dvg_core.specs.Refines.{ArePins, after, drew, Hears, powers, clocks, Said, CoreRefines}
+use Rattle.dvg_core.specs.Refines.{ArePins, after, drew, Hears, powers, clocks, Said, Agrees, CoreRefines}
 use Rattle.dvg_core.proofs.Fitting.{Fits, Stepped}
 use Rattle.dvg_core.proofs.Clocks.{step}
 
@@ -23,28 +23,19 @@ one core pins drew history low fits are after =
     fits.opened fits.high fits.second fits.first fits.depth history low pins.reset pins.start pins.valid pins.hole are.reset are.start
     are.valid are.hole after
 
-record Stands (list : List Pins) : Type 0 where
-  history : List Told
-  low : Option ℕ
-  found : Option Met
-  hears : Hears list history low found
-  stands : HasTaken (machine_of (after list) (drew list)) history low
-  fits : Fits (after list)
-  said : Said found (after list) (drew list) stands.run
+pub record Stands (list : List Pins) : Type 0 where
+  pub history : List Told
+  pub low : Option ℕ
+  pub found : Option Met
+  pub hears : Hears list history low found
+  pub stands : HasTaken (machine_of (after list) (drew list)) history low
+  pub fits : Fits (after list)
+  pub said : Said found (after list) (drew list) stands.run
 
-stand : (list : List Pins) → All ArePins list → Stands list
-stand [] all = record {
-  history = [];
-  low = None;
-  found = None;
-  hears = powers;
-  stands = stands_new (machine_of zeros []) refl refl refl;
-  fits = record { opened = omega arith; high = omega arith; second = omega arith; low = omega arith; first = λ is. absurd (omega arith); depth = omega arith; x = omega arith; y = omega arith; scale = omega arith };
-  said = (refl, refl, refl);
-}
-stand (pins ∷ list) all =
-    let was = stand list (All-tail ArePins pins list all) in
-    let did = one (after list) pins (drew list) was.history was.low was.fits (All-head ArePins pins list all) was.stands in
+-- one clock more
+abbrev pub stand_next : (pins : Pins) (list : List Pins) → ArePins pins → Stands list → Stands (pins ∷ list)
+stand_next pins list are was =
+    let did = one (after list) pins (drew list) was.history was.low was.fits are was.stands in
     record {
       history = did.history';
       low = did.low';
@@ -55,18 +46,29 @@ stand (pins ∷ list) all =
       said = did.said;
     }
 
-halted_is : (b : Bool) → (if b then 1 else 0) ≡ bit (not (not b))
+pub stand : (list : List Pins) → All ArePins list → Stands list
+stand [] all = record {
+  history = [];
+  low = None;
+  found = None;
+  hears = powers;
+  stands = stands_new (machine_of zeros []) refl refl refl;
+  fits = record { opened = omega arith; high = omega arith; second = omega arith; low = omega arith; first = λ is. absurd (omega arith); depth = omega arith; x = omega arith; y = omega arith; scale = omega arith };
+  said = (refl, refl, refl);
+}
+stand (pins ∷ list) all = stand_next pins list (All-head ArePins pins list all) (stand list (All-tail ArePins pins list all))
+
+pub halted_is : (b : Bool) → (if b then 1 else 0) ≡ bit (not (not b))
 halted_is true = refl
 halted_is false = refl
 
-high_is : (high low : ℕ) → high < 2 → high ≡ bit (is_some (kept high low))
+pub high_is : (high low : ℕ) → high < 2 → high ≡ bit (is_some (kept high low))
 high_is zero low small = refl
 high_is (suc zero) low small = refl
 high_is (suc (suc n)) low small = absurd (omega arith)
 
-pub refines : CoreRefines
-refines list all =
-    let is = stand list all in
+abbrev pub agrees_of : (list : List Pins) → Stands list → Agrees list
+agrees_of list is =
     let core = after list in
     record {
       history = is.history;
@@ -82,3 +84,6 @@ refines list all =
       lines = λ opened. (is.stands.stands.running opened).strokes;
       said = is.said;
     }
+
+pub refines : CoreRefines
+refines list all = agrees_of list (stand list all)

@@ -8,6 +8,7 @@
 
 ghost use Rattle.dvg_core.specs.Example.{DrawsSome};
 ghost use Rattle.dvg_core.specs.Refines.{CoreRefines, HasClocks};
+ghost use Rattle.dvg_core.specs.Tells.{PinsRest, PinsTell};
 
 /// Whatever the pins `reset`, `start`, `valid`, `hole` and `din` were in each clock since power-up:
 /// `halted` is whether no run is open, `at` and `high` name the byte that the open run wants next,
@@ -23,6 +24,14 @@ pub fn core_refines()
 /// the definition can.
 pub fn has_clocks()
     ensures { HasClocks }
+{}
+
+/// In each clock since power-up, but those of a reset and a start, the run gains the moves that the
+/// pins `labs` and `vec` tell of, none or one, and `sum` to `vec_z` are those of the move; `ends`
+/// and `jsrl` tell what ends. In the clock of a reset or a start all four are 0.
+pub fn pins_tell()
+    ensures event { PinsTell }
+    ensures rest { PinsRest }
 {}
 
 /// An example: over the clocks of one frame the core shows the frame's stroke, and `done`.

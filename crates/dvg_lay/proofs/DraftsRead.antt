@@ -1,5 +1,5 @@
 -- A draft's lines are read as this draft.
-use Rattle.std.proofs.Common.{◌≡◌, ◌∙◌, ◌+◌, ◌*◌, ◌/◌, ◌%◌, ◌<◌, ◌≤◌, ℕ, ℤ, Bool, true, false, List, [], ◌∷◌, ◌++◌, All, ap, append_assoc, arith, cond, codes, decimal, flat_map, length, length-append, lit<, refl, sym, subst}
+use Rattle.std.proofs.Common.{◌≡◌, ◌∙◌, ◌+◌, ◌/◌, ◌%◌, ◌<◌, ◌≤◌, ℕ, Bool, true, false, List, [], ◌∷◌, ◌++◌, All, ap, append_assoc, arith, cond, codes, decimal, lit<, refl, sym, subst}
 use Rattle.std.specs.Char.{digit_value}
 use Rattle.std.specs.Fmt.{digit_glyph, signed_decimal}
 use Rattle.std.specs.List.{AllZip}
@@ -15,7 +15,7 @@ use Rattle.dvg_print.specs.Lines.{hex_3, hex_4}
 use Rattle.dvg_read.specs.OpLines.{IsOpLine, OpParts, callrom, jumprom, return}
 use Rattle.dvg_read.specs.TextLines.{HasOp}
 use Rattle.dvg_read.specs.Texts.{IsHex, is_passed, lines, unpassed}
-use Rattle.dvg_read.proofs.Heads.{HasParts, IsPart, call_head, halt_head, jump_head, labs_head, last_part, next_part, op_unpassed, svec_head, vctr_head}
+use Rattle.dvg_read.proofs.Heads.{IsPart, call_head, halt_head, jump_head, labs_head, last_part, next_part, op_unpassed, svec_head, vctr_head}
 use Rattle.dvg_lay.specs.Drafts.{draft_line, draft_lines}
 use Rattle.dvg_lay.specs.Laws.{IsNumbered}
 

@@ -1,5 +1,5 @@
 -- How long runs over a memory take that has a frame.
-use Rattle.std.proofs.Common.{◌≡◌, ◌<◌, ◌≤◌, ◌+◌, ◌-◌, ◌++◌, ◌∷◌, [], ◌∙◌, ℕ, suc, List, Option, Some, None}
+use Rattle.std.proofs.Common.{◌≡◌, ◌<◌, ◌≤◌, ◌+◌, ◌-◌, ◌∷◌, [], ◌∙◌, ℕ, suc, List, Option, Some, None}
 use Rattle.std.proofs.Common.{Bool, true, false, ◌&&◌}
 use Rattle.std.proofs.Common.{ap, arith, inl, inr, length, length-append, nat_le, nat_lt, refl, slice_index, subst, sym}
 use Rattle.std.specs.Prelude.{fold, if◌then◌else◌}
@@ -29,7 +29,7 @@ use Rattle.dvg_log.specs.Held.{HoldsFrame}
 use Rattle.dvg_theorem.specs.Law.{AnyMemory, Finishes, HasFrame, IsDrawn}
 use Rattle.dvg_theorem.proofs.Least.{frame_memory, least_has}
 use Rattle.dvg_dump.specs.declared.ran.Ran.{Ran}
-use Rattle.dvg_dump.specs.Ends.{Complete, End, Ends, drawn_by, halts}
+use Rattle.dvg_dump.specs.Ends.{Complete, End, drawn_by, halts}
 use Rattle.dvg_dump.specs.Following.{TellsRun}
 use Rattle.dvg_dump.specs.Laws.{OneEnd}
 use Rattle.dvg_dump.specs.Memory.{DumpBytes, memory_of}

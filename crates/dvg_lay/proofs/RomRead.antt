@@ -1,22 +1,18 @@
 -- The lines of a ROM are read as this ROM.
-use Rattle.std.proofs.Common.{◌≡◌, ◌∙◌, ◌+◌, ◌-◌, ◌*◌, ◌/◌, ◌%◌, ◌<◌, ◌≤◌, ℕ, suc, Bool, true, false, List, [], ◌∷◌, ◌++◌, All, Some, None, Option, ap, append_assoc, arith, cond, codes, length, length-append, lit<, lit≤, refl, sym, subst, map, inl, inr, ⊎_elim}
+use Rattle.std.proofs.Common.{◌≡◌, ◌∙◌, ◌+◌, ◌-◌, ◌*◌, ◌<◌, ◌≤◌, ℕ, suc, Bool, true, false, List, [], ◌∷◌, ◌++◌, ap, append_assoc, arith, cond, codes, length, length-append, lit<, refl, sym, subst, ⊎_elim}
 use Rattle.std.specs.List.{AllZip, join_with_byte}
-use Rattle.std.specs.Prelude.{◌&&◌, nat_eq, nat_le, nat_lt, replicate, slice_index}
+use Rattle.std.specs.Prelude.{◌&&◌, nat_eq, nat_lt, replicate, slice_index}
 use lib.Pointwise.{bytes_decides, pointwise}
 use Rattle.std.proofs.lemmas.Bool.{cases_lt, le-leb, le-ltb, lt-leb, lt-ltb}
 use Rattle.std.proofs.lemmas.List.{get_or_append_left, get_or-append-add, get_or-replicate}
 use Rattle.std.proofs.lemmas.List.Elements.{All-from_recursion}
 use Rattle.std.proofs.lemmas.List.Splits.{join_with_byte-slice_split}
-use Rattle.dvg_code.specs.Words.{AreWords, IsWord, word_in, words_of}
-use Rattle.dvg_code.proofs.BytesOfWords.{word_k}
-use Rattle.dvg_mem.specs.Memory.{IsRom, first_word, rom_word}
-use Rattle.dvg_mem.proofs.Roms.{large_first, rom_there, small_first, word_fits, words_from_first}
-use Rattle.dvg_io.proofs.Inputs.{length-words_of}
-use Rattle.dvg_print.specs.Lines.{hex_3, hex_4, map_text, rom_line}
-use Rattle.dvg_read.specs.RomTexts.{IsRomLine, IsRomOf, RomLine, RomText, SpellsRom, first_stated, large, mapped, unmapped, word_after, word_after_line}
-use Rattle.dvg_read.specs.Texts.{is_passed, lines, parts, unpassed}
+use Rattle.dvg_code.specs.Words.{AreWords, IsWord}
+use Rattle.dvg_print.specs.Lines.{hex_3, hex_4, rom_line}
+use Rattle.dvg_read.specs.RomTexts.{IsRomLine, RomLine, word_after, word_after_line}
+use Rattle.dvg_read.specs.Texts.{is_passed, lines, parts}
 use Rattle.dvg_read.proofs.Heads.{HasParts, IsPart, last_part, next_part}
-use Rattle.dvg_lay.specs.Drafts.{given_line, given_lines, rom_part}
+use Rattle.dvg_lay.specs.Drafts.{given_lines}
 use Rattle.dvg_lay.proofs.DraftsRead.{Begins, begins_with, is_hex_3, is_hex_4, part_3, part_4}
 
 -- ---- the line of eight words

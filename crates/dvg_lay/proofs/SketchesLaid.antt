@@ -1,5 +1,5 @@
 -- From the sketch that was read to what is laid out of the input.
-use Rattle.std.proofs.Common.{◌≡◌, ◌<◌, ◌≤◌, ◌+◌, ◌∙◌, ⊎_elim, ℕ, List, [], ◌∷◌, All, arith, length, map, refl, subst, sym, take}
+use Rattle.std.proofs.Common.{◌≡◌, ◌<◌, ◌≤◌, ◌+◌, ◌∙◌, ⊎_elim, ℕ, List, [], ◌∷◌, All, arith, length, map, subst, sym, take}
 use Rattle.std.proofs.Common.{Result, Ok, Err, IfOk, IfErr}
 use Rattle.std.specs.List.{AllZip}
 use Rattle.std.proofs.lemmas.List.Elements.{All-cons, All-head, All-nil, All-tail}

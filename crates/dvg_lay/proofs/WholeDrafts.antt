@@ -1,11 +1,9 @@
 -- What is written of one frame is read as its draft, over its ROM.
 use Rattle.std.proofs.Common.{◌≡◌, ◌∙◌, ◌+◌, ◌-◌, ◌*◌, ◌<◌, ◌≤◌, ℕ, ℤ, suc, pos, negsuc, List, [], ◌∷◌, ◌++◌, All, Some, None, ap, append_assoc, append-nil, arith, codes, decimal, length, length-append, refl, sym, subst, ⊎_elim, unsigned_abs, Bool, true, false, cond}
 use Rattle.std.specs.Fmt.{signed_decimal}
-use Rattle.std.specs.List.{AllZip}
 use Rattle.std.specs.Prelude.{nat_eq, replicate}
 use lib.Pointwise.{pointwise}
 use Rattle.std.proofs.lemmas.List.Elements.{All-head, All-tail, filter-append}
-use Rattle.dvg_code.specs.Acts.{Moves, act_of}
 use Rattle.dvg_code.specs.Words.{word_in, words_of}
 use Rattle.dvg_code.proofs.BytesOfWords.{word_k, words_fit}
 use Rattle.dvg_code.specs.declared.instr.Instr.TheVariants as instr
@@ -17,8 +15,8 @@ use Rattle.dvg_mem.proofs.Roms.{large_first, rom_there, small_first}
 use Rattle.dvg_io.proofs.Inputs.{length-words_of}
 use Rattle.dvg_print.specs.Lines.{map_text, rom_line}
 use Rattle.dvg_read.specs.DraftReading.{Gives}
-use Rattle.dvg_read.specs.RomTexts.{IsRomOf, RomText, SpellsRom, large, mapped, unmapped, word_after}
-use Rattle.dvg_read.specs.Texts.{is_passed, lines, unpassed}
+use Rattle.dvg_read.specs.RomTexts.{large, mapped, unmapped, word_after}
+use Rattle.dvg_read.specs.Texts.{lines, unpassed}
 use Rattle.dvg_read.proofs.Decimals.{shaped}
 use Rattle.dvg_lay.specs.Drafts.{draft_line, draft_lines, given_lines, op_text, rom_part}
 use Rattle.dvg_lay.specs.Laws.{IsNumbered}

@@ -11,7 +11,7 @@ use Rattle.dvg_dump.specs.declared.ran.Ran.{Ran}
 use Rattle.dvg_dump.specs.Ends.{End}
 use Rattle.dvg_dump.specs.Memory.{memory_of, parts_of}
 use Rattle.dvg_dump.proofs.Drawing.{strokes_of_trace}
-use Rattle.dvg_picture.specs.declared.svg.Drawn.{Drawn}
+use Rattle.dvg_picture.specs.declared.svg.DumpPicture.{DumpPicture}
 use Rattle.dvg_picture.specs.declared.undrawn.Undrawn.{Undrawn}
 use Rattle.dvg_picture.specs.Pictures.{HasDumpFault, IsDumpFault, IsRunOf}
 use Rattle.dvg_picture.specs.Svgs.{DrawsSvg, IsDrawn, run_svg, strokes_of}
@@ -32,7 +32,7 @@ draws dump ran end drew undrawn run recorded called = record {
 }
 
 -- what is found of what was read is found of the input
-pub finds : {A : Type 0} (read : List ℕ) (answer : Result (Drawn A) Unread)
+pub finds : {A : Type 0} (read : List ℕ) (answer : Result (DumpPicture A) Unread)
     → IfOk answer (λ drawn. IsDrawn read drawn.strokes.items drawn.undrawn) → IfErr answer (IsDumpFault read)
     → OfInput LARGE_DUMP_BYTES read (λ input. IsFinding (λ drawn. IsDrawn input drawn.strokes.items drawn.undrawn) (HasDumpFault input) answer)
 finds read (Ok drawn) ok err input e =
@@ -42,7 +42,7 @@ finds read (Err unread.Memory) ok err input e = tt
 
 -- where it stops
 pub stops : (A : Type 0) (percent : ℕ) (fault : ToolFault) (old new : Option (List ℕ)) (input : List ℕ)
-    → Answers {F = Drawn A} (λ input drawn. IsDrawn input drawn.strokes.items drawn.undrawn) HasDumpFault (λ drawn. run_svg percent drawn.undrawn drawn.strokes.items) (Err fault) input old new
+    → Answers {F = DumpPicture A} (λ input drawn. IsDrawn input drawn.strokes.items drawn.undrawn) HasDumpFault (λ drawn. run_svg percent drawn.undrawn drawn.strokes.items) (Err fault) input old new
     → DrawsSvg percent (Err fault) input old new
 stops A percent (Text fault) old new input h = h
 stops A percent Reader old new input h = tt

@@ -20,7 +20,7 @@ use std::io::{Read, Write};
 
 // What a run drew, and why that is no picture, if it isn't.
 #[derive(Drop)]
-struct Drawn<A: Allocator> {
+struct DumpPicture<A: Allocator> {
     strokes: Vec<Stroke, A>,
     undrawn: Option<Undrawn>,
 }
@@ -40,7 +40,7 @@ fn collect_strokes<A: Allocator>(alloc: A, trace: &[Ran]) -> Result<Vec<Stroke, 
 }
 
 // Returns what the run over the dump `bytes` draws.
-fn draw_dump<A: Allocator + Copy>(alloc: A, bytes: &[u8]) -> Result<Drawn<A>, Unread>
+fn draw_dump<A: Allocator + Copy>(alloc: A, bytes: &[u8]) -> Result<DumpPicture<A>, Unread>
     ensures drawn { IfOk result (λ drawn. IsDrawn bytes.now drawn.strokes.items drawn.undrawn) }
     ensures fault { IfErr result (IsDumpFault bytes.now) }
 {
@@ -48,7 +48,7 @@ fn draw_dump<A: Allocator + Copy>(alloc: A, bytes: &[u8]) -> Result<Drawn<A>, Un
     let Ok(strokes) = collect_strokes(alloc, run.ran.as_slice()) else {
         return Err(Unread::Memory);
     };
-    Ok(Drawn {
+    Ok(DumpPicture {
         strokes,
         undrawn: undrawn_by(&run.ending),
     })
@@ -77,12 +77,12 @@ fn write_drawn<W: Write>(
 
 // The engine that finds what the run over a dump draws.
 #[derive(Drop)]
-struct SvgEngine {
+struct DumpSvgEngine {
     percent: u16,
 }
 
-impl<A: Allocator + Copy> Engine<A> for SvgEngine {
-    type Found = Drawn<A>;
+impl<A: Allocator + Copy> Engine<A> for DumpSvgEngine {
+    type Found = DumpPicture<A>;
 
     const MOST: u32 = LARGE_DUMP_BYTES as u32;
 
@@ -94,13 +94,13 @@ impl<A: Allocator + Copy> Engine<A> for SvgEngine {
 
     ghost text = { λ engine drawn. run_svg engine.percent drawn.undrawn drawn.strokes.items };
 
-    fn find(&self, alloc: A, read: &[u8]) -> Result<Drawn<A>, Unread> {
+    fn find(&self, alloc: A, read: &[u8]) -> Result<DumpPicture<A>, Unread> {
         draw_dump(alloc, read)
     }
 
     fn write<W: Write>(
         &self,
-        drawn: &Drawn<A>,
+        drawn: &DumpPicture<A>,
         writer: &mut Watched<W>,
     ) -> Result<(), StreamFailed> {
         write_drawn(
@@ -134,6 +134,6 @@ pub fn picture_svg<A: Allocator + Copy, R: Read, W: Write>(
     ensures { Serves R.remaining W.contents LARGE_DUMP_BYTES ComesBeforeText (DrawsSvg percent)
         result reader.old reader.new writer.old writer.new }
 {
-    let drawn = serve(&SvgEngine { percent }, alloc, reader, writer)?;
+    let drawn = serve(&DumpSvgEngine { percent }, alloc, reader, writer)?;
     Ok(drawn.undrawn)
 }

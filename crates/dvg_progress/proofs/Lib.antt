@@ -9,6 +9,7 @@ pub mod Ready
 pub mod Together
 pub mod FirstPicture
 pub mod Needed
+pub mod NeededToShow
 pub mod OtherFrame
 pub mod Sooner
 pub mod Following

@@ -29,7 +29,8 @@ use Rattle.dvg_log.specs.Legal.{IsLegal}
 use Rattle.dvg_progress.specs.Progress.{DrawsOnce}
 use Rattle.dvg_progress.proofs.Drawn.{drawn_in_time}
 use Rattle.dvg_progress.proofs.FirstPicture.{zeros, frame, did, did_more, all_writes, writes, sending, sends, begun_legal, fetched, ticks_apart, waits_apart, fetches_apart}
-use Rattle.dvg_progress.proofs.Needed.{stood, stands_still, stood_apart, joined, more, last, IsWriting, IsSending, IsDrawing, flipped}
+use Rattle.dvg_progress.proofs.Needed.{stood, stands_still, stood_apart, joined, more, last, flipped}
+use Rattle.dvg_progress.proofs.NeededToShow.{IsWriting, IsSending, IsDrawing}
 
 -- labs 512 400 0; halt
 abbrev pub other : List OpKind

@@ -13,8 +13,7 @@ use std::alloc::Allocator;
 use std::io::{Read, Write};
 
 // What a run drew, and why that is no picture, if it isn't.
-#[derive(Clone, Debug)]
-struct Drawn<A: Allocator> {
+struct DumpPicture<A: Allocator> {
     strokes: Vec<Stroke, A>,
     undrawn: Option<Undrawn>,
 }
@@ -32,12 +31,12 @@ fn collect_strokes<A: Allocator>(alloc: A, trace: &[Ran]) -> Result<Vec<Stroke, 
 }
 
 // Returns what the run over the dump `bytes` draws.
-fn draw_dump<A: Allocator + Copy>(alloc: A, bytes: &[u8]) -> Result<Drawn<A>, Unread> {
+fn draw_dump<A: Allocator + Copy>(alloc: A, bytes: &[u8]) -> Result<DumpPicture<A>, Unread> {
     let run = run_dump(alloc, bytes, true)?;
     let Ok(strokes) = collect_strokes(alloc, run.ran.as_slice()) else {
         return Err(Unread::Memory);
     };
-    Ok(Drawn {
+    Ok(DumpPicture {
         strokes,
         undrawn: undrawn_by(&run.ending),
     })
@@ -62,22 +61,22 @@ fn write_drawn<W: Write>(
 }
 
 // The engine that finds what the run over a dump draws.
-struct SvgEngine {
+struct DumpSvgEngine {
     percent: u16,
 }
 
-impl<A: Allocator + Copy> Engine<A> for SvgEngine {
-    type Found = Drawn<A>;
+impl<A: Allocator + Copy> Engine<A> for DumpSvgEngine {
+    type Found = DumpPicture<A>;
 
     const MOST: u32 = LARGE_DUMP_BYTES as u32;
 
-    fn find(&self, alloc: A, read: &[u8]) -> Result<Drawn<A>, Unread> {
+    fn find(&self, alloc: A, read: &[u8]) -> Result<DumpPicture<A>, Unread> {
         draw_dump(alloc, read)
     }
 
     fn write<W: Write>(
         &self,
-        drawn: &Drawn<A>,
+        drawn: &DumpPicture<A>,
         writer: &mut Watched<W>,
     ) -> Result<(), StreamFailed> {
         write_drawn(
@@ -107,6 +106,6 @@ pub fn picture_svg<A: Allocator + Copy, R: Read, W: Write>(
     writer: &mut Watched<W>,
     percent: u16,
 ) -> Result<Option<Undrawn>, ToolFault> {
-    let drawn = serve(&SvgEngine { percent }, alloc, reader, writer)?;
+    let drawn = serve(&DumpSvgEngine { percent }, alloc, reader, writer)?;
     Ok(drawn.undrawn)
 }

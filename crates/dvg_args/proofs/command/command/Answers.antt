@@ -15,5 +15,6 @@ returns-clause-app c =
     let play = same c.in_ok-with_play.ensures.app check c.in_ok-play_command.ensures.app in
     let torn = same c.in_ok-with_torn.ensures.app play c.in_ok-torn_command.ensures.app in
     let render = same c.in_ok-with_render.ensures.app torn c.in_ok-render_command.ensures.app in
-    IfOk-weaker c.with_part-8.result (λ r. app_of r ≡ added (app_of c.in_ok-with_render.with_render) (app_of c.in_ok-lay_command.field-0)) _
-    (λ r e. same e render c.in_ok-lay_command.ensures.app) c.with_part-8.ensures.app
+    let lay = same c.in_ok-with_lay.ensures.app render c.in_ok-lay_command.ensures.app in
+    IfOk-weaker c.with_part-9.result (λ r. app_of r ≡ added (app_of c.in_ok-with_lay.with_lay) (app_of c.helped-explain.result)) _
+    (λ r e. same e lay c.helped-explain.ensures.app) c.with_part-9.ensures.app

@@ -1,4 +1,4 @@
-use Rattle.std.proofs.Common.{◌∙◌, ap, length}
+use Rattle.std.proofs.Common.{◌∙◌}
 use Rattle.dvg_lay.proofs.RomBytes.{even_rom}
 use Rattle.dvg_lay.proofs.drafts.lay_drafts.Goals as goal
 

@@ -1,4 +1,4 @@
-use Rattle.std.proofs.Common.{◌≡◌, ◌+◌, ◌-◌, ◌*◌, ◌<◌, ◌∙◌, ap, length, take, drop, arith, rules}
+use Rattle.std.proofs.Common.{◌≡◌, ◌+◌, ◌-◌, ◌*◌, ◌<◌, ap, length, take, drop, arith, rules}
 use Rattle.dvg_lay.specs.Drafts.{given_line}
 use Rattle.dvg_lay.proofs.GivenRows.{all_rows, row_added}
 use Rattle.dvg_lay.proofs.drafts.put_rows.Goals as goal

@@ -1,0 +1,7 @@
+pub mod Motion
+pub mod Pace
+pub mod Vectors
+pub mod Pulses
+pub mod Shown
+pub mod Machine
+pub mod Example
