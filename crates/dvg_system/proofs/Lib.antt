@@ -1,6 +1,7 @@
 mod Ram
 mod Published
 pub mod System
+mod Calls
 mod Machine
 mod Hindsight
 mod Waiting

@@ -20,7 +20,8 @@ use Rattle.dvg_board.specs.Clocks.{IsBus, IsServed, after, changes}
 use Rattle.dvg_board.specs.Logs.{did, answered}
 use Rattle.dvg_system.specs.Machine
 use Rattle.dvg_system.specs.Machine.{accesses_of, later, Makes, IsMachine, OfEachMachine, GoesOn, FitsPins, AccessComes}
-use Rattle.dvg_system.proofs.Machine.{Next, next_of, first_is, written_in_ram, legal, done, finds, answers}
+use Rattle.dvg_system.proofs.Machine.{legal, done, finds, answers}
+use Rattle.dvg_system.proofs.Calls.{Next, next_of, first_is, written_in_ram}
 use Rattle.dvg_system.proofs.System.{made_lives}
 
 -- the ROM of a machine is one
