@@ -2,7 +2,11 @@
 of at most 16 lines. What it names is there: a contract, in a line '- `NAME` (`CLAUSE`, .., FILE):',
 is a function of that file with these clauses; a name `A::B` is a function of the crate A, or of a
 type or a module A; and a path is one of the crate, or of the one that is named before it, or of
-the repository."""
+the repository.
+
+The doors of docs/TRUST.md are looked at, too: in a line '- `CRATE::NAME` (`CLAUSE`, ..), `NAME`,
+by `DEFINITION`: ..' each name is a function of the crate before it, with these clauses; and each
+crate with contracts has a door."""
 
 import glob
 import os
@@ -15,6 +19,8 @@ CONTRACTS = 3
 CONTRACT = re.compile(r"(?m)^- `([\w:]+)` \(((?:`\w+`, )*)([\w/.]+)\):")
 NAME = re.compile(r"`(\w+(?:::\w+)+)`")
 PATH = re.compile(r"(?:(\w+)'s )?(?<![\w/])((?:src|specs|proofs)/[\w/.]*\w)")
+DOOR = re.compile(r"(?m)^- (`\w+::.*?): ")
+DOOR_NAME = re.compile(r"(by )?`([\w:]+)`(?: \(((?:`\w+`(?:, )?)+)\))?")
 # Folders at the top whose files a page may name.
 FOLDERS = ["bench", "core", "docs", "include", "tests"]
 FILE = re.compile(rf"(?<![\w/])((?:{'|'.join(FOLDERS)})/[\w/.]*\w)")
@@ -74,6 +80,35 @@ def wrong_contracts(files, crate, page):
         elif not any(wanted <= has for has in
                      clauses_of(files[f"{crate}/{path}"], name.split("::")[-1])):
             yield f"{name} has no such clauses: {' '.join(sorted(wanted))}"
+
+
+def read_doors(crates, page):
+    """The names of the doors, each with its crate and its clauses."""
+    for head in DOOR.findall(page):
+        crate = None
+        for by, name, clauses in DOOR_NAME.findall(head):
+            parts = name.split("::")
+            if parts[0] in crates:
+                crate, *parts = parts
+            if not by:
+                yield crate, parts, set(re.findall(r"\w+", clauses))
+
+
+def wrong_doors(files, crates, page, counts):
+    """What is wrong with the doors of docs/TRUST.md. `counts` says how many public functions each
+    crate with contracts has."""
+    doors = list(read_doors(crates, page))
+    for crate, parts, clauses in doors:
+        name = "::".join(parts)
+        found = [has for path, text in files.items() if path.startswith(f"{crate}/src/")
+                 for has in clauses_of(text, parts[-1])]
+        if not is_there(files, crate, parts):
+            yield f"{crate} has no {name}"
+        elif not any(clauses <= has for has in found):
+            yield f"{name} of {crate} has no such clauses: {' '.join(sorted(clauses))}"
+    with_door = {crate for crate, _, _ in doors}
+    yield from (f"{crate} has no door" for crate, count in counts.items()
+                if count and crate not in with_door)
 
 
 def wrong_names(files, crates, page, crate=None):
@@ -142,3 +177,21 @@ def missed_mistakes(crates, pages, files, counts):
         if turned == pages[crate] or not found:
             missed.append(what)
     return missed
+
+
+# Mistakes in the doors: what stands there, and what is put in its place.
+PLANTED_DOORS = [
+    ("a door of no function", "`dvg_frame::check`", "`dvg_frame::checked`"),
+    ("a function of another crate", "`dvg_c::dvg_new`", "`dvg_device::dvg_new`"),
+    ("a clause that isn't there", "(`tears`, `took`)", "(`tears`, `taken`)"),
+    ("a clause of another function", "`take` (`torn`)", "`take` (`fetched`)"),
+    ("a crate without a door", "- `dvg_svg::", "- `svg::"),
+]
+
+
+def missed_doors(files, crates, page, counts):
+    """The planted mistakes that aren't found, or change nothing."""
+    tried = [(what, text := page.replace(before, after), text != page,
+              list(wrong_doors(files, crates, text, counts)))
+             for what, before, after in PLANTED_DOORS]
+    return [what for what, _, is_changed, found in tried if not is_changed or not found]
