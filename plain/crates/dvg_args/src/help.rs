@@ -429,8 +429,7 @@ Example:
 What is wrong with an input, and what to do: `dvg explain < INPUT`.";
 
 /// The input and output of `explain`.
-pub(crate) const EXPLAIN: &str =
-    "Standard input: any input of `dvg`, at most 1,048,576 bytes.
+pub(crate) const EXPLAIN: &str = "Standard input: any input of `dvg`, at most 1,048,576 bytes.
 
 Standard output: a line `kind: KIND, ..`, where KIND is words, draft, sketch,
 trace, dump or log, and `nothing is wrong` or `something is wrong` follows; or
