@@ -1,5 +1,5 @@
 -- What is found of what was read is found of the input.
-use Rattle.std.proofs.Common.{◌≡◌, ◌+◌, ⊎_elim, ℕ, List, arith, length, subst, take}
+use Rattle.std.proofs.Common.{◌≡◌, ◌+◌, ⊎_elim, ℕ, List, arith, subst, take}
 use Rattle.dvg_io.proofs.Inputs.{whole_or_long}
 use Rattle.dvg_read.specs.declared.draft_text.TheConstants.{MOST_TEXT_BYTES}
 use Rattle.dvg_explain.specs.Findings.{IsFound}

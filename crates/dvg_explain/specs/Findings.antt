@@ -1,5 +1,5 @@
 -- What is found of an input, and told of it.
-use Rattle.std.specs.Prelude.{◌≡◌, ◌≢◌, ◌⊎◌, ◌<◌, ◌≤◌, ◌++◌, ◌∷◌, ℕ, All, Bool, true, false, List, [], Option, Some, None, codes, length}
+use Rattle.std.specs.Prelude.{◌≡◌, ◌≢◌, ◌⊎◌, ◌<◌, ◌++◌, ◌∷◌, ℕ, All, Bool, true, false, List, [], Option, Some, None, codes, length}
 use Rattle.dvg_code.specs.Cutting.{Cutting}
 use Rattle.dvg_code.specs.Words.{words_of}
 use Rattle.dvg_io.specs.Serving.{Answers as Answering, Meaning}
