@@ -107,8 +107,11 @@ def judge_premises(out):
     path = os.path.join(out, 'premises')
     if os.path.exists(path):
         with open(path, errors='replace') as file:
-            said = file.read().strip().replace('\n', '; ')
-        say(not said.startswith('broken'), 'the premises of the proof: ' + said)
+            said = file.read().strip()
+        first, *warnings = said.split('\n')
+        say(not first.startswith('broken'), 'the premises of the proof: ' + first)
+        for text in warnings:
+            print(text)
 
 
 def judge_halves(out, log):
@@ -157,15 +160,17 @@ def tell_pace(log, rate, each_second, pause, since):
     published, and a redraw is none."""
     flips = log.flips
     new = (len(flips) - 1) / (flips[-1] - flips[0]) if len(set(flips)) > 1 else 0.0
-    wait = 'the longest wait for one is %.1f milliseconds, from %.3f s on' % (pause * 1000, since)
     if each_second < rate:
-        say(False, 'too few pictures: %.1f a second, wanted are %g; %s' % (each_second, rate, wait))
+        say(False, 'too few pictures: %.1f a second, wanted are %g' % (each_second, rate))
     elif new > rate * TOO_MANY:
         say(False, 'too many new pictures: %.1f a second, wanted are %g: does the program wait '
             'between them, as by `lda #8` and `jsr rest`? Or is RATE too low?' % (new, rate))
-    elif pause < LONGEST_WAIT:
-        say(True, '%.1f pictures a second, wanted are %g; %s' % (each_second, rate, wait))
-    if pause >= LONGEST_WAIT:
+    else:
+        print('%.1f pictures a second, wanted are %g' % (each_second, rate))
+    if pause < LONGEST_WAIT:
+        print('the longest wait for a picture: %.1f milliseconds, from %.3f s on'
+              % (pause * 1000, since))
+    else:
         say(False, 'no picture came for %.1f milliseconds, from %.3f s on%s'
             % (pause * 1000, since, amid_picture(log, since)))
 
