@@ -9,7 +9,7 @@ where MAP is missing or has no segment of a ROM.
 import re
 import sys
 
-PROGRAM, LOW = (('CODE', 'DATA', 'VECTORS'), 6144), (('LOW',), 2048)
+PROGRAM = 'CODE', 'DATA', 'VECTORS'
 RETURN = b'\0\xd0'
 
 
@@ -38,12 +38,11 @@ def main():
         sys.exit('room.py: %s has no segment CODE' % sys.argv[1])
     with open(sys.argv[2], 'rb') as file:
         rom = file.read()
-    told = ['%s of %s bytes of program'
-            % (format(sum(sizes.get(name, 0) for name in PROGRAM[0]), ','), format(PROGRAM[1], ','))]
+    program = sum(sizes.get(name, 0) for name in PROGRAM)
+    told = ['{:,} of 6,144 bytes of program'.format(program)]
     if 'LOW' in sizes:
-        told.append('%s of %s of its segment LOW'
-                    % (format(sizes['LOW'], ','), format(LOW[1], ',')))
-    told.append('%s of %s of shapes' % (format(bytes_of_shapes(rom), ','), format(len(rom), ',')))
+        told.append('{:,} of 2,048 of its segment LOW'.format(sizes['LOW']))
+    told.append('{:,} of {:,} of shapes'.format(bytes_of_shapes(rom), len(rom)))
     print(', '.join(told))
 
 

@@ -22,8 +22,8 @@
 --
 -- DVG_BUTTONS names a file of buttons, if there is one, and DVG_LABELS the list of ld65. DVG_WATCH
 -- has names of that list, and no others, each with `:` and how many bytes there are, if it isn't
--- one. A program waits from one write of the watchdog or read of the flag to the next, if that comes
--- within WAIT seconds, some 100 cycles.
+-- one. A program waits from one write of the watchdog or read of the flag to the next, if that
+-- comes within WAIT seconds, some 100 cycles.
 if _G.dvg_loaded then return end
 _G.dvg_loaded = true
 
