@@ -206,5 +206,5 @@ clean:
 
 .SECONDARY:
 .DELETE_ON_ERROR:
-.PHONY: help emulator torn premises judge sound film play record watch eproms test-rom clean \
-    roms good_buttons
+.PHONY: help emulator torn premises judge sound film play record watch eproms test-rom clean
+.PHONY: roms good_buttons
