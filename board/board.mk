@@ -12,7 +12,7 @@
 #
 # `make help` prints the lines below.
 #
-#: make           makes the ROM set, build/roms
+#: make           makes the ROM set, build/roms, and says how many bytes are taken
 #: make premises  looks whether the program keeps to the premises of the driver's proof
 #: make judge     the same, and runs it in the emulator without a screen, and says all that is bad
 #: make film      the same, and makes a moving picture of it, build/film.svg
@@ -34,7 +34,7 @@
 #: FILM     the seconds of the film, the first and the last one [3 12]
 #: WATCH    labels whose bytes judge prints at the end, as: lives score:4
 #: BUTTONS  the file of presses that all but play and torn play [buttons.txt, if it is there]
-#: WATCHED  how many seconds watch goes on
+#: WATCHED  how many rounds watch goes on: in each it looks at the files, draws, and rests a second
 
 # Relative where the makefile includes this file so: make takes no path with a blank in it.
 BOARD := $(dir $(lastword $(MAKEFILE_LIST)))
@@ -50,11 +50,14 @@ RATE ?= 30
 FILM ?= 3 12
 BUTTONS ?= buttons.txt
 $(shell mkdir -p build)
-.DEFAULT_GOAL := build/roms/$(MACHINE)
+.DEFAULT_GOAL := roms
 
 # What was asked for the last time; where it differs, all is made anew.
 OPTIONS := $(MACHINE) $(PROGRAM) $(SKETCH) $(DEFINES) / $(DRIVER)
 $(shell echo '$(OPTIONS)' | cmp -s - build/options || echo '$(OPTIONS)' >build/options)
+
+roms: build/roms/$(MACHINE)
+	@python3 $(BOARD)room.py build/$(PROGRAM).map build/rom
 
 build/roms/$(MACHINE): build/$(PROGRAM).program build/rom build/prom
 	@$(BOARD)emulator/roms build/$(PROGRAM).program build/rom build/prom $@
@@ -62,7 +65,8 @@ build/roms/$(MACHINE): build/$(PROGRAM).program build/rom build/prom
 	@echo made $@
 
 build/$(PROGRAM).program: build/$(PROGRAM).o build/driver.o $(CONFIG) build/options
-	ld65 -C $(CONFIG) -Ln build/$(PROGRAM).labels -o $@ build/driver.o build/$(PROGRAM).o
+	ld65 -C $(CONFIG) -Ln build/$(PROGRAM).labels -m build/$(PROGRAM).map -o $@ \
+	    build/driver.o build/$(PROGRAM).o
 
 # Says where the assembler comes from, if it isn't there.
 find_ca65 = @command -v ca65 >/dev/null || { \
@@ -128,7 +132,11 @@ build/prom: $(BOARD)emulator/prom.py
 played = $(if $(wildcard $(BUTTONS)),$(if $(filter /%,$(BUTTONS)),,$(CURDIR)/)$(BUTTONS),$(if \
     $(filter buttons.txt,$(BUTTONS)),,$(error there is no file $(BUTTONS), which BUTTONS names)))
 
-emulator: build/roms/$(MACHINE) build/rom.lines
+# Ends where a line of that file isn't good, before anything runs.
+good_buttons:
+	@[ -z "$(played)" ] || FILE="$(played)" awk -f $(BOARD)emulator/buttons.awk <"$(played)"
+
+emulator: good_buttons build/roms/$(MACHINE) build/rom.lines
 	@DVG_SHOTS="$(SHOTS)" DVG_BUTTONS="$(played)" \
 	    $(BOARD)emulator/run build/roms build/emulator $(SECONDS) $(BOARD)emulator/trace.lua
 	@$(BOARD)emulator/compare build/emulator/bus.log build/rom.lines build/emulator/bus
@@ -142,11 +150,17 @@ labels = build/$(PROGRAM).labels
 premises = $(BOARD)emulator/premises build/driver.proved build/$(PROGRAM).program $(labels) \
     build/shapes.equates $(JUDGED) "$(played)"
 
-premises: build/roms/$(MACHINE) build/premises build/driver.proved
+premises: good_buttons build/roms/$(MACHINE) build/premises build/driver.proved
 	@$(premises)
 
+# Ends where a name of WATCH is no label.
+find_watched = for name in $(WATCH); do \
+    grep -q -x -E "al [0-9A-F]{6} [.]$$(echo "$$name" | sed -E 's/:[0-9]+$$//')" $(labels) || { \
+    echo "make: there is no label $$name, which WATCH names" >&2; exit 1; }; done
+
 # What judge.py prints of it is one line.
-judge: build/roms/$(MACHINE) build/premises build/driver.proved
+judge: good_buttons build/roms/$(MACHINE) build/premises build/driver.proved
+	@$(find_watched)
 	@mkdir -p build/judge
 	@$(premises) >build/judge/premises || true
 	@DVG_BUTTONS="$(played)" DVG_LABELS="$(CURDIR)/$(labels)" DVG_WATCH="$(WATCH)" \
@@ -155,7 +169,7 @@ judge: build/roms/$(MACHINE) build/premises build/driver.proved
 	@DVG_LABELS="$(labels)" DVG_EQUATES=build/shapes.equates \
 	    python3 $(BOARD)emulator/judge.py build/judge build/rom $(RATE)
 
-sound: build/roms/$(MACHINE)
+sound: good_buttons build/roms/$(MACHINE)
 	@DVG_BUTTONS="$(played)" DVG_WAV=sound.wav \
 	    $(BOARD)emulator/run build/roms build/sound $(JUDGED) $(BOARD)emulator/press.lua
 	@python3 $(BOARD)emulator/sound.py build/sound/sound.wav
@@ -193,3 +207,4 @@ clean:
 .SECONDARY:
 .DELETE_ON_ERROR:
 .PHONY: help emulator torn premises judge sound film play record watch eproms test-rom clean
+.PHONY: roms good_buttons

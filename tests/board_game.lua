@@ -5,7 +5,7 @@ if dvg_loaded then return end
 dvg_loaded = true
 
 dofile(os.getenv("DVG_LUA") .. "/buttons.lua")
-assert(dvg_play(os.getenv("DVG_BUTTONS")))
+dvg_play(os.getenv("DVG_BUTTONS"))
 local machine = manager.machine
 local space = machine.devices[":maincpu"].spaces["program"]
 local sounds = emu.item(machine.devices[":audiolatch"].items["0/m_q"])

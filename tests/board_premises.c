@@ -8,7 +8,9 @@
  * of board_cpu.h, and an NMI comes each 6,144 cycles, at chance between two instructions, and also
  * amid another NMI; but not amid the first cycles after power-on, in which a program can't have set
  * a byte yet, nor while the self-test switch is closed. Prints how much was seen, or the first
- * thing that is against a premise, and the place of the instruction (status 1). */
+ * thing that is against a premise, and the place of the instruction (status 1). Where nothing is,
+ * it also warns of calls that did nothing: a dvg_open that was refused, and what was put outside of
+ * a frame. */
 #include <stdarg.h>
 #include <stdio.h>
 #include <stdlib.h>
@@ -44,6 +46,16 @@ typedef struct {
     int ticks;                          /* of this NMI */
 } context;
 
+/* Calls that did nothing: how many, and the first one's place and time. */
+typedef struct {
+    const char *what;
+    long count;
+    int at;
+    uint64_t cycles;
+} vain;
+
+static vain refused_opens = { .what = "calls of dvg_open were refused, as the driver was busy" };
+static vain vain_puts = { .what = "instructions were put outside of a frame" };
 static uint8_t memory[MEMORY];
 static cpu processor;
 static context contexts[3], *now = contexts;
@@ -104,6 +116,23 @@ static void fail(const char *format, ...)
     exit(1);
 }
 
+/* Counts the call that is at hand. */
+static void note(vain *calls_in_vain)
+{
+    if (!calls_in_vain->count++) {
+        calls_in_vain->at = (uint16_t)(now->back - 3);
+        calls_in_vain->cycles = now->at_entry.cycles;
+    }
+}
+
+static void warn(const vain *calls_in_vain)
+{
+    if (!calls_in_vain->count) return;
+    printf("warning: %ld %s, the first by ", calls_in_vain->count, calls_in_vain->what);
+    print_place(calls_in_vain->at);
+    printf(", at %.3f s\n", (double)calls_in_vain->cycles / CYCLES_A_SECOND);
+}
+
 static int below(int count)
 {
     seed ^= seed << 13;
@@ -149,6 +178,7 @@ static void read_presses(const char *path)
     double time;
     if (!file) exit(2);
     while (fgets(line, sizeof line, file) && press_count < 4000) {
+        line[strcspn(line, "#")] = 0;
         if (sscanf(line, "%lf %99s %9s", &time, name, way) != 3) continue;
         for (unsigned i = 0; i < sizeof buttons / sizeof buttons[0]; i++) {
             if (strcmp(name, buttons[i].name)) continue;
@@ -283,6 +313,12 @@ static int does_tick(enum routine routine)
     return routine == TICK || routine == TICKS || routine == RUN;
 }
 
+static int does_put(enum routine routine)
+{
+    return routine == PUT || routine == PAIR || routine == SET || routine == VECTOR ||
+        routine == COPY;
+}
+
 /* What one must do before a call of this routine. */
 static void check_call(enum routine routine)
 {
@@ -318,6 +354,7 @@ static void begin_call(void)
     now->at_entry = processor;
     now->back = (uint16_t)(word_at(0x101 + processor.s) + 1);
     calls++;
+    if (does_put(now->routine) && !is_building()) note(&vain_puts);
 }
 
 static void end_call(void)
@@ -331,6 +368,7 @@ static void end_call(void)
         begins_anew = 0;
     }
     if (now->routine == OPEN && is_taken) instructions = 0;
+    if (now->routine == OPEN && !is_taken) note(&refused_opens);
     frames_offered += now->routine == OFFER && is_taken;
     frames_built += now->routine == CLOSE && is_taken;
 }
@@ -466,5 +504,7 @@ int main(int count, char **words)
     run(strtoull(words[5], 0, 10) * CYCLES_A_SECOND);
     printf("%ld calls, %ld NMIs, %ld of them amid an NMI, %ld frames offered and %ld built\n",
         calls, nmis, nested, frames_offered, frames_built);
+    warn(&refused_opens);
+    warn(&vain_puts);
     return 0;
 }

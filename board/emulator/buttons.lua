@@ -6,7 +6,8 @@
 --     dvg_record(PATH)     returns what writes into PATH what the buttons did since then
 --
 -- A line of such a file is a time in seconds since the start, a button, and `down` or `up`. What
--- stands after a # is passed over. The emulator takes buttons up some sixty times a second.
+-- stands after a # is passed over; buttons.awk refuses other lines. The emulator takes buttons up
+-- some sixty times a second.
 --
 --     2.50 coin_left down
 --     2.65 coin_left up
@@ -39,18 +40,13 @@ local function press(name, is_down)
   end
 end
 
--- The events of a file, by time; or what is wrong with a line.
+-- The events of a file, by time.
 local function read_events(path)
-  local events, number = {}, 0
+  local events = {}
   for line in io.lines(path) do
-    number = number + 1
-    local text = line:gsub("#.*", ""):gsub("%s+$", "")
-    local time, name, way = text:match("^([%d.]+)%s+([%l_%d]+)%s+(%l+)$")
-    local is_good = tonumber(time) and BUTTONS[name] and (way == "down" or way == "up")
-    if is_good then
+    local time, name, way = line:gsub("#.*", ""):match("^%s*([%d.]+)%s+([%l_%d]+)%s+(%l+)%s*$")
+    if time then
       events[#events + 1] = { time = tonumber(time), name = name, is_down = way == "down" }
-    elseif text ~= "" then
-      return nil, path .. " line " .. number .. ": expected TIME BUTTON down or up: " .. line
     end
   end
   table.sort(events, function(one, other) return one.time < other.time end)
@@ -66,11 +62,8 @@ local function presses(events, count)
   return sum
 end
 
--- True, or nil and what is wrong with the file.
 function dvg_play(path)
-  local events, fault = read_events(path)
-  local next_event = 1
-  if not events then return nil, fault end
+  local events, next_event = read_events(path), 1
   dvg_pressed = function() return presses(events, next_event - 1), presses(events, #events) end
   emu.register_frame_done(function()
     while next_event <= #events and events[next_event].time <= now() do
@@ -78,7 +71,6 @@ function dvg_play(path)
       next_event = next_event + 1
     end
   end)
-  return true
 end
 
 function dvg_record(path)

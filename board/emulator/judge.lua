@@ -11,22 +11,24 @@
 --                            the places are those of the last NMI before it, if there was one
 --     watchdog GAP TIME PLACES
 --                            the longest time without a write of the watchdog, and when it began
+--     amid WHAT TIME PLACES  where the program was, by its first NMI after MOST seconds in which no
+--                            `watchdog` was written or no `picture` came, since TIME
 --     pressed CAME ALL       presses that came, of those of the file of buttons
 --     watched NAME BYTES     what stood there at the end
 --     ended TIME
---     fault TEXT             why nothing was judged
 --
 -- Times are seconds. PLACES are the address of the instruction that did it, and of the JSRs that
 -- led there, the last one first, as far as the stack shows them.
 --
 -- DVG_BUTTONS names a file of buttons, if there is one, and DVG_LABELS the list of ld65. DVG_WATCH
--- has names of that list, each with `:` and how many bytes there are, if it isn't one. A program
--- waits from one write of the watchdog or read of the flag to the next, if that comes within WAIT
--- seconds, some 100 cycles.
+-- has names of that list, and no others, each with `:` and how many bytes there are, if it isn't
+-- one. A program waits from one write of the watchdog or read of the flag to the next, if that
+-- comes within WAIT seconds, some 100 cycles.
 if _G.dvg_loaded then return end
 _G.dvg_loaded = true
 
 local WAIT = 100 / 1512000
+local MOST = { watchdog = 0.087, picture = 0.25 }
 local MOST_CALLS = 4
 local JSR = 0x20
 local folder = debug.getinfo(1, "S").source:match("^@(.*/)")
@@ -37,7 +39,7 @@ local cpu = manager.machine.devices[":maincpu"]
 local space = cpu.spaces["program"]
 local machine = manager.machine
 local waited, waits_since = 0, 0
-local written, gap, gap_since = 0, 0, 0
+local written, gap, gap_since, shown = 0, 0, 0, 0
 local gap_places, written_places, interrupted = "", "", ""
 
 local function now() return machine.time:as_double() end
@@ -56,6 +58,14 @@ local function places_of(pc, s)
 end
 
 local function places() return places_of(cpu.state["PC"].value, cpu.state["SP"].value) end
+
+-- Tells where the program is, once of each pause that lasts too long.
+local told = {}
+local function look_amid(what, since)
+  if now() - since <= MOST[what] or told[what] == since then return end
+  told[what] = since
+  tell("amid %s %.6f %s", what, since, interrupted)
+end
 
 local function note_gap(time)
   if time - written > gap then
@@ -89,9 +99,9 @@ local function tell_watched()
     name, count = name or text, tonumber(count or "1")
     local bytes = {}
     for i = 0, count - 1 do
-      bytes[#bytes + 1] = labels[name] and string.format("%02X", space:read_u8(labels[name] + i))
+      bytes[#bytes + 1] = string.format("%02X", space:read_u8(labels[name] + i))
     end
-    tell("watched %s %s", name, labels[name] and table.concat(bytes, " ") or "?")
+    tell("watched %s %s", name, table.concat(bytes, " "))
   end
 end
 
@@ -124,11 +134,13 @@ _G.dvg_judges = {
     tell("picture %.6f %.6f %d %s", now(), waited, space:read_u8(0x2002) >> 7, places())
     _G.dvg_looks = false
     pictures:write(space:read_range(0x4000, 0x47ff, 8))
-    waited = 0
+    waited, shown = 0, now()
   end),
   space:install_read_tap(0x7ffa, 0x7ffa, "NMI", function()
     local s = cpu.state["SP"].value
     interrupted = places_of(space:read_u16(s + 2), s + 3)
+    look_amid("watchdog", written)
+    look_amid("picture", shown)
   end),
   space:install_read_tap(0x7ffc, 0x7ffc, "reset vector", function()
     tell("reset %.6f %s", now(), interrupted)
@@ -151,8 +163,7 @@ end
 local buttons = os.getenv("DVG_BUTTONS") or ""
 if buttons ~= "" then
   dofile(folder .. "buttons.lua")
-  local done, fault = dvg_play(buttons)
-  if not done then tell("fault %s", fault) end
+  dvg_play(buttons)
 end
 
 _G.dvg_loaded = false

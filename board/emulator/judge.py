@@ -23,7 +23,7 @@ from places import Places, read_labels, read_shapes
 HERE = os.path.dirname(os.path.realpath(__file__))
 TOP = os.path.dirname(os.path.dirname(HERE))
 DVG = os.environ.get('DVG') or os.path.join(TOP, 'dvg')
-HERTZ, WATCHDOG, LONGEST_WAIT = 1512000, 0.087, 0.25
+HERTZ, WATCHDOG, LONGEST_WAIT, TOO_MANY = 1512000, 0.087, 0.25, 4 / 3
 RAM, HALF, HALF_WORDS, WORDS, LABS, HALT, FLIP = 2048, 1024, 512, 1024, 10, 11, 1
 BROKE = {'1': 'a call inside of four calls', '2': 'a return outside of any call',
          '3': 'no memory is there: does a call name a shape, and has the frame its HALT?'}
@@ -47,11 +47,13 @@ def by(where, how=' by '):
 class Log:
     """judge.log. Its events are `wrote`, `picture`, `room` and `reset`, in their order, each with
     its numbers and its places; `pictures` are triples of a time, how many seconds the program
-    waited, and how many resets came before."""
+    waited, and how many resets came before. `flips` are the times at which a new picture was
+    published, and `amid` has the places of a pause, by what didn't come and when it began."""
 
     def __init__(self, path):
         self.events, self.pictures, self.early, self.resets, self.room = [], [], [], [], []
         self.faults, self.watched, self.pressed = [], [], None
+        self.flips, self.amid = [], {}
         self.gap, self.gap_since, self.gap_places, self.ended = 0.0, 0.0, [], None
         with open(path, errors='replace') as file:
             for number, line in enumerate(file, 1):
@@ -64,14 +66,14 @@ class Log:
 
     def take(self, words):
         kind, rest = words[0], words[1:]
-        if kind == 'fault':
-            self.faults.append(' '.join(rest))
-        elif kind == 'watched':
+        if kind == 'watched':
             self.watched.append(' '.join(rest))
         elif kind == 'pressed':
             self.pressed = int(rest[0]), int(rest[1])
         elif kind == 'ended':
             self.ended = float(rest[0])
+        elif kind == 'amid':
+            self.amid[rest[0], float(rest[1])] = [int(at, 16) for at in rest[2:]]
         elif kind == 'watchdog':
             self.gap, self.gap_since = float(rest[0]), float(rest[1])
             self.gap_places = [int(at, 16) for at in rest[2:]]
@@ -86,6 +88,8 @@ class Log:
         if kind == 'wrote':
             at, value = int(rest[0], 16), int(rest[1], 16)
             self.events.append((kind, range(RAM)[at], value, float(rest[2]), where))
+            if at == FLIP:
+                self.flips.append(float(rest[2]))
             return
         time = float(rest[0])
         self.events.append((kind, time, where))
@@ -103,8 +107,11 @@ def judge_premises(out):
     path = os.path.join(out, 'premises')
     if os.path.exists(path):
         with open(path, errors='replace') as file:
-            said = file.read().strip().replace('\n', '; ')
-        say(not said.startswith('broken'), 'the premises of the proof: ' + said)
+            said = file.read().strip()
+        first, *warnings = said.split('\n')
+        say(not first.startswith('broken'), 'the premises of the proof: ' + first)
+        for text in warnings:
+            print(text)
 
 
 def judge_halves(out, log):
@@ -136,9 +143,36 @@ def judge_resets(log):
     is_good = log.gap <= WATCHDOG
     say(is_good,
         'the watchdog: %.1f milliseconds at most without a write, from %.3f s on%s; '
-        'the board resets after %.0f'
+        'the board resets after %.0f%s'
         % (log.gap * 1000, log.gap_since,
-           '' if is_good else by(log.gap_places, ', when it was written by '), WATCHDOG * 1000))
+           '' if is_good else by(log.gap_places, ', when it was written by '), WATCHDOG * 1000,
+           by(log.amid.get(('watchdog', log.gap_since)), ', when the program was in ')))
+
+
+def amid_picture(log, since):
+    """Where the program was in a pause that began at this time and was too long; or nothing."""
+    return by(log.amid.get(('picture', since)),
+              '; after %.0f of them the program was in ' % (LONGEST_WAIT * 1000))
+
+
+def tell_pace(log, rate, each_second, pause, since):
+    """How many pictures came a second, and the longest pause; new ones are those that were
+    published, and a redraw is none."""
+    flips = log.flips
+    new = (len(flips) - 1) / (flips[-1] - flips[0]) if len(set(flips)) > 1 else 0.0
+    if each_second < rate:
+        say(False, 'too few pictures: %.1f a second, wanted are %g' % (each_second, rate))
+    elif new > rate * TOO_MANY:
+        say(False, 'too many new pictures: %.1f a second, wanted are %g: does the program wait '
+            'between them, as by `lda #8` and `jsr rest`? Or is RATE too low?' % (new, rate))
+    else:
+        print('%.1f pictures a second, wanted are %g' % (each_second, rate))
+    if pause < LONGEST_WAIT:
+        print('the longest wait for a picture: %.1f milliseconds, from %.3f s on'
+              % (pause * 1000, since))
+    else:
+        say(False, 'no picture came for %.1f milliseconds, from %.3f s on%s'
+            % (pause * 1000, since, amid_picture(log, since)))
 
 
 def judge_rate(log, rate):
@@ -149,16 +183,14 @@ def judge_rate(log, rate):
             % (len(log.early), by(where), time))
     pauses = [(later - time, time) for time, later in zip(times, times[1:])]
     if not pauses or times[-1] <= times[0]:
-        say(False, '%d pictures: was dvg_reset called, and then a frame published?' % len(times))
+        say(False, '%d pictures: was dvg_reset called, and then a frame published?%s'
+            % (len(times), amid_picture(log, times[-1] if times else 0.0)))
         return
     pause, since = max(pauses)
-    each_second = (len(times) - 1) / (times[-1] - times[0])
     stands = log.ended - times[-1]
     if stands > max(pause, 0.1):
         pause, since = stands, times[-1]
-    say(each_second >= rate and pause < LONGEST_WAIT,
-        '%.1f pictures a second, wanted are %g; the longest wait for one is %.1f milliseconds, '
-        'from %.3f s on' % (each_second, rate, pause * 1000, since))
+    tell_pace(log, rate, (len(times) - 1) / (times[-1] - times[0]), pause, since)
     frames = [(waited, later - time, later)
               for (time, _, resets), (later, waited, resets_then)
               in zip(log.pictures, log.pictures[1:]) if resets == resets_then]

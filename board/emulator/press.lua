@@ -5,7 +5,7 @@ _G.dvg_loaded = true
 local buttons = os.getenv("DVG_BUTTONS") or ""
 if buttons ~= "" then
   dofile(debug.getinfo(1, "S").source:match("^@(.*/)") .. "buttons.lua")
-  assert(dvg_play(buttons))
+  dvg_play(buttons)
 end
 
 -- The emulator often faults when it frees what a script holds at its end.

@@ -50,7 +50,7 @@ dvg_taps = {
 local buttons = os.getenv("DVG_BUTTONS") or ""
 if buttons ~= "" then
   dofile(debug.getinfo(1, "S").source:match("^@(.*/)") .. "buttons.lua")
-  assert(dvg_play(buttons))
+  dvg_play(buttons)
 end
 
 local shots = {}
