@@ -457,6 +457,13 @@ function judgedRuns(text) {
   return judged;
 }
 
+// How many runs of a log the program says that it judged; null where it ends before it has counted.
+function judgedBy(said) {
+  if (/^(torn at )?line /.test(said)) return null;
+  if (/^no run to judge: /.test(said)) return 0;
+  return Number(/^whole: .*, ([0-9]+) judged$/m.exec(said)?.[1]);
+}
+
 const JUDGED = ['started|low 000 01|fetched 000 E001|halted', 'started|halted', 'halted',
   'started|fetched 000 E001|low 001 64|halted', 'started|fetched 001 A064|halted|halted',
   'started|fetched 001 A064|reset|halted', 'fetched 001 A064|started|halted',
@@ -476,9 +483,8 @@ function testJudged() {
     const halves = runProgram(['torn'], log).split(/ at | drew |:/)[0];
     expect(`${what}: and by halves`, { torn: 'Early', 'not torn': 'In time', 'no run': '' }[halves],
       halvesVerdict(recording, sinceOf(recording)).word);
-    const said = runProgram(['torn', '--moments'], log);
-    const [, count] = /, ([0-9]+) judged$/m.exec(said) ?? [];
-    if (count !== undefined) expect(`${what}: so says the program`, Number(count), wanted);
+    const count = judgedBy(runProgram(['torn', '--moments'], log));
+    if (count !== null) expect(`${what}: so says the program`, wanted, count);
   }
 }
 
