@@ -585,9 +585,9 @@ async function testLessonsNow() {
 }
 
 // Once a lesson is open the arrow keys walk through its events, however it was opened; its text is
-// still read aloud, and the page stays where it was.
+// still read aloud, and a page that is too low for the rows doesn't scroll to them.
 async function testLessonKeys() {
-  await tab.size(1280, 900);
+  await tab.size(1280, 400);
   await openPage();
   const press = async (key, times) => { for (let k = 0; k < times; k++) await tab.key(key); };
   const comesToEvent = (what, number) => expectSoon(what, new RegExp(`^Event ${number} of `),
@@ -606,7 +606,7 @@ async function testLessonKeys() {
   await comesToEvent('27 events back by the left arrow', 57);
   expect('its text is read aloud', 'polite', await tab.value(
     'document.getElementById("lesson-text").closest("[aria-live]").getAttribute("aria-live")'));
-  expect('the page stays where it was', 0, await tab.value('scrollY'));
+  expect('the page doesn\'t scroll', 0, await tab.value('scrollY'));
   await tab.click('lesson-on');
   await comesToEvent('the next lesson opens', 62);
   await press('ArrowLeft', 26);
