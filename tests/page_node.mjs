@@ -685,6 +685,22 @@ function testLessons() {
   });
 }
 
+// With one half alone both rows have the colour of half 0, and what the driver writes is early from
+// event 36 on.
+function testLessonColors() {
+  const { rom, steps } = stepsOf(stateOfLesson(6).trace);
+  const board = new Board(engine, romOf(engine, rom), false, true);
+  playSteps(board, steps);
+  const moved = board.entries.map(({ text }, event) => ({ text, event }))
+    .filter(({ text }) => /^(wrote|low|fetched|done) /.test(text));
+  const written = moved.filter(({ text }) => text.startsWith('wrote'));
+  expect('one half: nothing is of half 1', '', moved.map(({ text }) => text)
+    .filter((text) => !/^(wrote [0-3]|[a-z]+ [01])/.test(text)).join());
+  expect('one half: which bytes are early', written.map(({ event }) => event >= 36).join(),
+    written.map(({ event }) => board.entryAt(event).early).join());
+  board.free();
+}
+
 // docs/LESSON.md says of events of the lessons what the page says of them.
 function testLessonPage() {
   const page = readFileSync(`${top}docs/LESSON.md`, 'utf8');
@@ -947,6 +963,7 @@ testBuses();
 testSketches();
 testTears();
 testLessons();
+testLessonColors();
 testLessonPage();
 // These two take longer than all others.
 testCases();
