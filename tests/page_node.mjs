@@ -688,8 +688,8 @@ function testLessons() {
 // With one half alone both rows have the colour of half 0, and what the driver writes is early from
 // event 36 on.
 function testLessonColors() {
-  const { rom, steps } = stepsOf(stateOfLesson(6).trace);
-  const board = new Board(engine, romOf(engine, rom), false, true);
+  const { rom, steps, oneHalf } = stepsOf(stateOfLesson(6).trace);
+  const board = new Board(engine, romOf(engine, rom), false, oneHalf);
   playSteps(board, steps);
   const moved = board.entries.map(({ text }, event) => ({ text, event }))
     .filter(({ text }) => /^(wrote|low|fetched|done) /.test(text));
