@@ -584,6 +584,36 @@ async function testLessonsNow() {
   }
 }
 
+// Once a lesson is open the arrow keys walk through its events, however it was opened; its text is
+// still read aloud, and a page that is too low for the rows doesn't scroll to them.
+async function testLessonKeys() {
+  await tab.size(1280, 400);
+  await openPage();
+  const press = async (key, times) => { for (let k = 0; k < times; k++) await tab.key(key); };
+  const comesToEvent = (what, number) => expectSoon(what, new RegExp(`^Event ${number} of `),
+    () => tab.text('moment-text'));
+  const link = (number) => `#lessons li:nth-child(${number}) a`;
+  await tab.click(link(2));
+  await comesToEvent('lesson 2 opens', 66);
+  await press('ArrowRight', 12);
+  await comesToEvent('twelve events on by the right arrow', 78);
+  await tab.click(link(2));
+  await comesToEvent('its link opens it anew', 66);
+  await tab.value(`document.querySelector('${link(6)}').focus()`);
+  await tab.key('Enter');
+  await comesToEvent('lesson 6 opens by a key', 84);
+  await press('ArrowLeft', 27);
+  await comesToEvent('27 events back by the left arrow', 57);
+  expect('its text is read aloud', 'polite', await tab.value(
+    'document.getElementById("lesson-text").closest("[aria-live]").getAttribute("aria-live")'));
+  expect('the page doesn\'t scroll', 0, await tab.value('scrollY'));
+  await tab.click('lesson-on');
+  await comesToEvent('the next lesson opens', 62);
+  await press('ArrowLeft', 26);
+  await comesToEvent('26 events back', 36);
+  await tab.size(1600, 1000);
+}
+
 // Beside the torn picture of one half alone stands what the same events draw with two: the whole
 // triangle, as it was being drawn.
 async function testBeside() {
@@ -1491,8 +1521,8 @@ async function testSpeed() {
 
 const tests = {
   testBeginning, testOpening, testTyping, testExamples, testSketches, testStepping, testAbandoned,
-    testOneByOne, testSeeds, testCutWire, testRunning, testLessons, testOneHalf,
-    testLink, testFiles, testDrops, testUnjudged, testLongLog,
+    testOneByOne, testSeeds, testCutWire, testRunning, testLessons, testLessonKeys,
+    testOneHalf, testLink, testFiles, testDrops, testUnjudged, testLongLog,
   testHttp, testInView, testGrey, testCode, testTour, testMend,
     testWidths, testColors, testMotion, testKeys, testRows,
   testLive, testPlain, testLessonFrames, testEditorsStill, testReadAloud, testSpeed,

@@ -1,5 +1,5 @@
 // The page in a Firefox without a screen, asked by its own protocol: that it opens, that its tour
-// comes to a tear, and that its log is that of `play`. Called by tests/page:
+// comes to a tear, that its log is that of `play`, and that a lesson opens. Called by tests/page:
 //
 //     node tests/page_firefox.mjs FIREFOX FOLDER
 //
@@ -110,6 +110,19 @@ class Firefox {
   }
 }
 
+// The link of a lesson leads the keys to the rows, and opens the lesson anew while it is open.
+async function testLesson(browser) {
+  for (const what of ['opens', 'opens anew']) {
+    await browser.value('document.querySelector("#lessons a").click()');
+    expect(`a lesson ${what}`, true, await browser.until(
+      '/^Event 45 of 46/.test(document.getElementById("moment-text").textContent)'));
+    expect(`a lesson ${what}: the keys`, 'rows', await browser.value('document.activeElement.id'));
+    await browser.value('document.getElementById("back").click()');
+    expect(`a lesson ${what}: one event back`, /^Event 44 of 46/,
+      await browser.text('moment-text'));
+  }
+}
+
 async function testPage(browser) {
   await browser.send('NewSession', { capabilities: { alwaysMatch: {} } });
   await browser.send('SetTimeouts', { script: WAIT, pageLoad: WAIT });
@@ -136,6 +149,7 @@ async function testPage(browser) {
     await browser.value(`document.getElementById('${id}').click()`);
   }
   expect('the log is that of play', /^the same: 22600 events/, await browser.text('compared'));
+  await testLesson(browser);
   await browser.value(DROP_LONG_LOG);
   expect('a long log opens', true,
     await browser.until('/ long.log/.test(document.getElementById("file-title").textContent)'));

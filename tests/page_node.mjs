@@ -457,6 +457,13 @@ function judgedRuns(text) {
   return judged;
 }
 
+// How many runs of a log the program says that it judged; null where it ends before it has counted.
+function judgedBy(said) {
+  if (/^(torn at )?line /.test(said)) return null;
+  if (/^no run to judge: /.test(said)) return 0;
+  return Number(/^whole: .*, ([0-9]+) judged$/m.exec(said)?.[1]);
+}
+
 const JUDGED = ['started|low 000 01|fetched 000 E001|halted', 'started|halted', 'halted',
   'started|fetched 000 E001|low 001 64|halted', 'started|fetched 001 A064|halted|halted',
   'started|fetched 001 A064|reset|halted', 'fetched 001 A064|started|halted',
@@ -476,9 +483,8 @@ function testJudged() {
     const halves = runProgram(['torn'], log).split(/ at | drew |:/)[0];
     expect(`${what}: and by halves`, { torn: 'Early', 'not torn': 'In time', 'no run': '' }[halves],
       halvesVerdict(recording, sinceOf(recording)).word);
-    const said = runProgram(['torn', '--moments'], log);
-    const [, count] = /, ([0-9]+) judged$/m.exec(said) ?? [];
-    if (count !== undefined) expect(`${what}: so says the program`, Number(count), wanted);
+    const count = judgedBy(runProgram(['torn', '--moments'], log));
+    if (count !== null) expect(`${what}: so says the program`, wanted, count);
   }
 }
 
@@ -677,6 +683,22 @@ function testLessons() {
       Number(number), sentences.join(' '), board);
     board.free();
   });
+}
+
+// With one half alone both rows have the colour of half 0, and what the driver writes is early from
+// event 36 on.
+function testLessonColors() {
+  const { rom, steps, oneHalf } = stepsOf(stateOfLesson(6).trace);
+  const board = new Board(engine, romOf(engine, rom), false, oneHalf);
+  playSteps(board, steps);
+  const moved = board.entries.map(({ text }, event) => ({ text, event }))
+    .filter(({ text }) => /^(wrote|low|fetched|done) /.test(text));
+  const written = moved.filter(({ text }) => text.startsWith('wrote'));
+  expect('one half: nothing is of half 1', '', moved.map(({ text }) => text)
+    .filter((text) => !/^(wrote [0-3]|[a-z]+ [01])/.test(text)).join());
+  expect('one half: which bytes are early', written.map(({ event }) => event >= 36).join(),
+    written.map(({ event }) => board.entryAt(event).early).join());
+  board.free();
 }
 
 // docs/LESSON.md says of events of the lessons what the page says of them.
@@ -941,6 +963,7 @@ testBuses();
 testSketches();
 testTears();
 testLessons();
+testLessonColors();
 testLessonPage();
 // These two take longer than all others.
 testCases();

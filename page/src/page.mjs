@@ -751,11 +751,15 @@ function showPreviews() {
 
 /* --- Lessons --- */
 
+/* The links to the lessons. That of an open one changes no fragment, and opens it anew. */
 function makeLessons() {
   byId('lessons').replaceChildren(...LESSONS.map(({ title }, k) => {
     const item = document.createElement('li'), link = document.createElement('a');
     link.textContent = title;
     link.href = plainFragment(stateOfLesson(k));
+    link.addEventListener('click', () => {
+      if (link.hash === location.hash) loadFragment();
+    });
     item.append(link);
     return item;
   }));
@@ -775,6 +779,7 @@ function openLesson(number) {
   location.hash = plainFragment(stateOfLesson(number - 1));
 }
 
+/* Shows a lesson, and leads the keys to the rows; or none, of number 0. */
 function showLesson(number) {
   lesson = number;
   byId('lesson').hidden = number === 0;
@@ -789,6 +794,12 @@ function showLesson(number) {
   byId('lesson-title').textContent = `${number}. ${title}`;
   byId('lesson-text').replaceChildren(...sentences
     .map((sentence) => Object.assign(document.createElement('p'), { textContent: sentence })));
+  focusRows();
+}
+
+/* From now on the keys walk through the rows; the page stays where it is. */
+function focusRows() {
+  byId('rows').focus({ preventScroll: true });
 }
 
 /* --- Files --- */
@@ -801,7 +812,7 @@ function tellFile(title, text, isBad = false) {
   showFile(title, text, [], isBad);
   byId('lesson').hidden = lesson === 0;
   changed();
-  byId('rows').focus({ preventScroll: true });
+  focusRows();
 }
 
 function showFile(title, text, lines, isBad = false) {
@@ -827,7 +838,7 @@ function showRecording(recording, title, text, lines) {
   moveTo(shown.length);
   rows.showAll(shown.length);
   changed();
-  byId('rows').focus({ preventScroll: true });
+  focusRows();
 }
 
 /* Closes what the panel tells of a file. */
