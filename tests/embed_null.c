@@ -53,6 +53,8 @@
     CALL(dvg_generator_move(NULL, 0, &move)) \
     CALL(dvg_held_by(NULL, &held)) \
     CALL(dvg_return_to(NULL, 0)) \
+    CALL(dvg_ram_byte(NULL, 0)) \
+    CALL(dvg_ram(NULL, bytes)) \
     CALL(dvg_reset_generator(NULL)) \
     CALL(dvg_reset_processor(NULL)) \
     CALL(dvg_reset_all(NULL, bytes)) \

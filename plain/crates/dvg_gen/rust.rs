@@ -50,21 +50,18 @@ impl GeneratorState {
     pub fn from_bytes(
         bytes: &[u8],
     ) -> Result<Option<(GeneratorState, Vec<Stroke>)>, OutOfMemory> {
-        let (numbers, []) = bytes.as_chunks::<8>() else {
+        let Some((&[d, v, g, version, ref count @ ..], parts)) = bytes.split_first_chunk::<8>() else {
             return Ok(None);
         };
-        let Some((head, parts)) = numbers.split_first() else {
-            return Ok(None);
-        };
-        let [d, v, g, version, count @ ..] = *head;
-        let is_whole = u32::from_le_bytes(count) as usize == parts.len();
-        let begins = parts.first().is_some_and(|part| part[..2] == [TELLS as u8, 0]);
+        let is_whole = Ok(8 * u64::from(u32::from_le_bytes(*count))) == u64::try_from(parts.len());
+        let begins = parts.starts_with(&[TELLS as u8, 0]);
         if [d, v, g, version] != NAME || !is_whole || !begins {
             return Ok(None);
         }
         let (mut state, mut strokes) = (GeneratorState::default(), Vec::new(Global));
-        for part in parts {
-            if !state.is_told(&mut strokes, u64::from_le_bytes(*part))? {
+        for part in parts.chunks_exact(8) {
+            let part = part.iter().rev().fold(0, |number, byte| number << 8 | u64::from(*byte));
+            if !state.is_told(&mut strokes, part)? {
                 return Ok(None);
             }
         }
