@@ -54,7 +54,7 @@
     CALL(dvg_held_by(NULL, &held)) \
     CALL(dvg_return_to(NULL, 0)) \
     CALL(dvg_ram_byte(NULL, 0)) \
-    CALL(dvg_ram(NULL, bytes)) \
+    CALL(dvg_ram(NULL, ram)) \
     CALL(dvg_reset_generator(NULL)) \
     CALL(dvg_reset_processor(NULL)) \
     CALL(dvg_reset_all(NULL, bytes)) \
@@ -84,6 +84,7 @@ static const dvg_answer line = {DVG_STARTED, 0, 0, -1};
 /* Makes the call of this number. */
 static void make(int number)
 {
+    uint8_t ram[DVG_RAM_BYTES];
     dvg_move move;
     dvg_held held;
     int here = 0;
