@@ -4,7 +4,7 @@ ghost use Rattle.test_facts.specs.Facts.{called_draft};
 
 use dvg_code::{Code, Instr};
 use dvg_frame::{Draft, Op, OpKind};
-use dvg_steps::{StepsFault, Step, draft_of};
+use dvg_steps::{Step, StepsFault, draft_of};
 
 /// Of steps that are nothing but a name a draft without operations is made.
 pub fn name_alone() -> Result<Draft, StepsFault>
