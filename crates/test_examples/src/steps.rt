@@ -2,7 +2,7 @@
 use crate::drafts::{behind_labs, draw, vctr};
 use dvg_code::Instr;
 use dvg_frame::{Op, OpKind};
-use dvg_steps::{StepsFault, Step, draft_of};
+use dvg_steps::{Step, StepsFault, draft_of};
 use std::test::Fail;
 
 /// Returns an operation of the kind `kind`.
