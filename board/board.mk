@@ -13,6 +13,9 @@
 # `make help` prints the lines below.
 #
 #: make           makes the ROM set, build/roms, and says how many bytes are taken
+#: make proof      looks at its bytes, by the rules that are proved: in each run they keep to the
+#:                premises of control and memory, or it says which instruction is refused, and why;
+#:                and at tables that it offers and shapes that it puts, which is tested, not proved
 #: make premises  looks whether the program keeps to the premises of the driver's proof
 #: make judge     the same, and runs it in the emulator without a screen, and says all that is bad
 #: make film      the same, and makes a moving picture of it, build/film.svg
@@ -28,6 +31,7 @@
 #: make eproms    writes what is burned into build/eproms; make test-rom does so for a test ROM
 #: make clean     takes build away
 #:
+#: PROVE    1: proof has the prover itself compute the answer, which needs rt
 #: JUDGED   how many seconds premises, judge, film and sound run, of the board's time [20]
 #: SECONDS  the same of emulator and torn [5]; SHOTS: when pictures are taken [1.5 2.5 3.5 4.5]
 #: RATE     how many pictures a second judge wants [30]
@@ -72,8 +76,8 @@ build/$(PROGRAM).program: build/$(PROGRAM).o build/driver.o $(CONFIG) build/opti
 find_ca65 = @command -v ca65 >/dev/null || { \
     echo 'make: ca65 is not found; board/install installs it' >&2 && exit 1; }
 
-build/$(PROGRAM).o: $(PROGRAM).s $(wildcard $(BOARD)*.inc $(BOARD)parts/*.inc) build/tables.inc \
-    build/shapes.equates build/options
+build/$(PROGRAM).o: $(PROGRAM).s $(wildcard *.inc $(BOARD)*.inc $(BOARD)parts/*.inc) \
+    build/tables.inc build/shapes.equates build/options
 	$(find_ca65)
 	ca65 -g -I $(BOARD) -I build $(DEFINES) -o $@ $(PROGRAM).s
 
@@ -153,6 +157,9 @@ premises = $(BOARD)emulator/premises build/driver.proved build/$(PROGRAM).progra
 premises: good_buttons build/roms/$(MACHINE) build/premises build/driver.proved
 	@$(premises)
 
+proof: build/$(PROGRAM).program
+	@$(BOARD)prove $(if $(PROVE),--prove) . $(PROGRAM)
+
 # Ends where a name of WATCH is no label.
 find_watched = for name in $(WATCH); do \
     grep -q -x -E "al [0-9A-F]{6} [.]$$(echo "$$name" | sed -E 's/:[0-9]+$$//')" $(labels) || { \
@@ -206,5 +213,5 @@ clean:
 
 .SECONDARY:
 .DELETE_ON_ERROR:
-.PHONY: help emulator torn premises judge sound film play record watch eproms test-rom clean
+.PHONY: help emulator torn premises proof judge sound film play record watch eproms test-rom clean
 .PHONY: roms good_buttons

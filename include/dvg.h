@@ -8,21 +8,22 @@
  *
  * What opens in a device is one of four:
  *
- *   a world             both ends, over a RAM and a ROM that it holds
+ *   a world             both ends, over a RAM and a ROM that it holds; it is saved and restored
  *   a driver alone      it is handed the HALT flag and byte 001 of a RAM, and answers what is to
  *                       be written there
  *   a generator alone   it says which byte it wants, is handed that byte, and answers the strokes
  *                       of a whole run; it is saved and restored, and there is one whose stack
  *                       wraps
  *   a judge             it is told the log of any system, a line at a time, and says of each run
- *                       whether it is of one moment
+ *                       whether it is consistent
  *
  * What the caller owes. Nothing checks these four lines, and nothing else is trusted of a caller:
  *
  *   1. Initialise the pointer before the call: `dvg *device = NULL;`, then `dvg_new(&device)`. Hand
  *      the other functions only a pointer that dvg_new wrote and dvg_free didn't get yet, and touch
- *      what it points to by these functions alone. dvg_free passes a null pointer over; each other
- *      call that is handed one is ended by assert, where that is on.
+ *      what it points to by these functions alone. dvg_free passes a null pointer over. dvg_turn
+ *      and dvg_turns, which are linked, look at nothing, and crash. Each other call that is handed
+ *      one is ended by assert, where that is on.
  *   2. Use a device in one call at a time, on any thread: what one thread did to it must be seen
  *      by the next one, as a mutex or a join has it. Never use it in a signal handler, or in the
  *      forked child of a process with threads. No two devices share anything but the heap.
@@ -110,8 +111,8 @@ const char *dvg_version(void);
 
 /* The lowest byte of a request says which it is. What it brings stands above: a flag in bit 8, a
  * byte in bits 16 to 23, a count in bits 24 to 39, a byte address, or the number of a stroke, a
- * return address or a part of a state, from bit 8 on; and the fields of DVG_REQUEST_PUSH, as
- * dvg_push has them. */
+ * return address, an operation or a part of a state, from bit 8 on; the fields of DVG_REQUEST_PUSH,
+ * as dvg_push has them; and those of a state, as docs/FORMATS.md has them. */
 enum dvg_request {
     DVG_REQUEST_OFFER = 0,
     DVG_REQUEST_REDRAW = 1,
@@ -145,7 +146,11 @@ enum dvg_request {
     DVG_REQUEST_RESUME = 29,
     DVG_REQUEST_OPEN_WRAPPING = 30,
     DVG_REQUEST_BYTE = 31,
-    DVG_REQUEST_TELL_STATE = 35
+    DVG_REQUEST_DRIVER = 32,
+    DVG_REQUEST_OPERATION = 33,
+    DVG_REQUEST_RESUME_WRAPPING = 34,
+    DVG_REQUEST_TELL_STATE = 35,
+    DVG_REQUEST_RESUME_WORLD = 38
 };
 
 /* The kind of an answer, with what its address and its value are; both are 0 where nothing is said
@@ -193,27 +198,32 @@ typedef enum dvg_kind {
     DVG_NO_RUN = 26,           /*   a judge was told a line, and no run is open; of this answer
                                     and the next four, value: 1 where the line reads what was
                                     not written, else 0 */
-    DVG_ONE_MOMENT = 27,       /*   the same, and the open run is of one moment so far */
-    DVG_NO_MOMENT = 28,        /*   the same, and no moment of the open run is left */
-    DVG_WHOLE = 29,            /*   the line is the HALT of a run of one moment */
-    DVG_TORN = 30,             /*   the line is the HALT of a run of no moment */
+    DVG_ONE_MOMENT = 27,       /*   the same, and the open run is consistent so far */
+    DVG_NO_MOMENT = 28,        /*   the same, and the open run is mixed */
+    DVG_WHOLE = 29,            /*   the line is the HALT of a consistent run */
+    DVG_TORN = 30,             /*   the line is the HALT of a mixed run */
     DVG_MOVES = 31,            /* = the byte makes a move, by the instruction whose first word is
                                     at this word address; value: its intensity, and 0x100 more
                                     where a LABS places the beam: dvg_generator_move */
-    DVG_NOTHING = 32,          /* = there is no move, or no such return address or byte */
+    DVG_NOTHING = 32,          /* = there is no move, or no such return address, byte or
+                                    operation */
     DVG_HOLDS = 33,            /* = what a generator holds: dvg_held_by */
     DVG_RETURNS_TO = 34,       /* = a return address, which is this word address */
     DVG_STATE = 35,            /* = a part of a generator's state: the whole number, asked of
                                     another device, tells it that part: dvg_save */
-    DVG_NO_STATE = 36,         /* = no generator can be in the state that was told, or there is no
-                                    such part, or it doesn't suit the parts before it */
+    DVG_NO_STATE = 36,         /* = the parts of the state that was told don't fit together, or
+                                    the frame that it writes is refused over this ROM; or there
+                                    is no such part, or it doesn't suit the parts before it */
     DVG_BYTE = 37,             /* = the RAM holds the byte `value` at this byte address */
+    DVG_DRIVER = 38,           /* = what a world keeps of its driver: the whole number, asked of
+                                    another world, has it go on: dvg_save */
     DVG_UNKNOWN = 254,         /* = there is no such request, whatever is open, or none of
                                     what is open */
     DVG_NO_MEMORY = 255        /* = there was no memory for it */
 } dvg_kind;
 
-/* An answer, but for those that are a number, a place, an intensity or a part of a state. */
+/* An answer, but for those that are a number, a place, an intensity, a part of a state or an
+ * operation. */
 typedef struct dvg_answer {
     dvg_kind kind;
     uint16_t address;
@@ -239,7 +249,8 @@ typedef enum dvg_fault {
     DVG_FAULT_LOOPS = 9         /* steps at one depth lead back to a place */
 } dvg_fault;
 
-/* Why a run broke. No world shows one. */
+/* Why a run broke. A world shows one only where it was restored from bytes that no world over its
+ * ROM saved. */
 typedef enum dvg_break {
     DVG_BREAK_NONE = 0,         /* the answer is no DVG_BROKE */
     DVG_BREAK_STACK_OVER = 1,   /* a fifth call */
@@ -297,7 +308,8 @@ static inline dvg_answer dvg_answer_of(uint64_t number)
 }
 
 /* The device that a call below was handed. A null pointer ends the program by assert, if that is
- * on: NDEBUG turns it off. dvg_turn and dvg_turns, which are linked, look at nothing. */
+ * on: NDEBUG turns it off, and then nothing looks. Nor do dvg_turn and dvg_turns, which are linked.
+ */
 static inline dvg *dvg_there(dvg *device)
 {
     assert(device != NULL && "a call of dvg.h was handed no device: dvg_new makes one");
@@ -375,6 +387,7 @@ static inline const char *dvg_kind_text(dvg_kind kind)
     case DVG_STATE: return "state";
     case DVG_NO_STATE: return "no state";
     case DVG_BYTE: return "byte";
+    case DVG_DRIVER: return "driver";
     case DVG_UNKNOWN: return "unknown";
     case DVG_NO_MEMORY: return "no memory";
     }
@@ -508,7 +521,7 @@ static inline dvg_answer dvg_open_generator(dvg *device)
  * overwrites the oldest return address, and a return without a call goes to the address that was
  * returned to last, or saved before; at first all four are 000. A start and a reset leave them. So
  * no call and no return breaks a run. All else is as of dvg_open_generator, but dvg_held_by has 4
- * `returns`, and it isn't saved. DVG_OPENED. */
+ * `returns`. DVG_OPENED. */
 static inline dvg_answer dvg_open_wrapping(dvg *device)
 {
     return dvg_ask(device, DVG_REQUEST_OPEN_WRAPPING);
@@ -682,7 +695,8 @@ static inline dvg_answer dvg_strobe(dvg *device)
 }
 
 /* Of a world: the generator fetches a byte, the low byte of a word and then its high byte. DVG_LOW;
- * DVG_FETCHED; DVG_DONE; DVG_BROKE, which no world shows; DVG_STILL; DVG_NO_MEMORY. */
+ * DVG_FETCHED; DVG_DONE; DVG_STILL; DVG_NO_MEMORY. DVG_BROKE, only after a restore of bytes that no
+ * world over this ROM saved: then the run is over. */
 static inline dvg_answer dvg_fetch(dvg *device)
 {
     return dvg_ask(device, DVG_REQUEST_FETCH);
@@ -763,6 +777,14 @@ static inline dvg_answer dvg_held_by(dvg *device, dvg_held *held)
     return answer;
 }
 
+/* Of a generator, alone or in a world: whether a run is open. To ask it is no event. False where
+ * neither is open. */
+static inline bool dvg_run_is_open(dvg *device)
+{
+    uint64_t fields = dvg_turn(dvg_there(device), DVG_REQUEST_STATE);
+    return (fields & 0xFF) == DVG_STATE && (fields >> 60 & 1) != 0;
+}
+
 /* Of a generator, alone or in a world: its return address of this number; 0 is the newest one's, to
  * which RTSL leads. DVG_RETURNS_TO; DVG_NOTHING. */
 static inline dvg_answer dvg_return_to(dvg *device, uint8_t number)
@@ -812,26 +834,52 @@ static inline dvg_answer dvg_reset_all(dvg *device, const uint8_t *ram)
 
 /* --- A saved state --- */
 
-/* A generator alone is saved as bytes, also amid a run, and restored from them, in any device: then
- * it goes on as the saved one did. That is proved of the requests which these functions make. Saved
- * is what the open run drew so far, and no strokes of a finished run. A world and a driver aren't
- * saved.
+/* A world, and a generator alone, is saved as bytes, also amid a run, and restored from them: then
+ * it goes on as the saved one did. That is proved of the requests which these functions make.
  *
- * The bytes are numbers of 64 bits, the low byte first. The first one has 'D', 'V', 'G' and the
- * version in its low bytes, and above them how many follow. Those are the parts of the state, as
- * DVG_REQUEST_STATE is answered. docs/FORMATS.md says what stands in each. */
+ * Saved of a generator is what the open run drew so far, and no strokes of a finished run. Saved of
+ * a world is its RAM, its generator, its driver with the frame that it writes, and whether a strobe
+ * is under way. A driver alone and a judge aren't saved.
+ *
+ * A ROM isn't saved, and a state belongs to its ROM: name the ROM beside the bytes. No call
+ * compares it, nor its size. The frame that is being written is checked over the ROM that is there;
+ * the frame in the RAM, and an open run, are not. So over another ROM a world may open, and then
+ * draw something else, answer DVG_BROKE, or fetch without end.
+ *
+ * A strobe is under way from its DVG_SENT to the next reset of the whole system, also after it
+ * arrived. Whether it arrived isn't saved. So after a restore let it arrive where no run is open:
+ *
+ *     if (!dvg_run_is_open(world)) dvg_strobe(world);
+ *
+ * That is DVG_NO_STROBE where none was sent. Where it had arrived before, the published frame is
+ * drawn once more.
+ *
+ * A judge knows nothing of what came before a restore: a run that was open then is none for it, and
+ * isn't judged (DVG_NO_RUN). Tell it the log from the beginning, or begin with the next strobe.
+ *
+ * The bytes are numbers of 64 bits, the low byte first. The first one has 'D', 'V', a letter and
+ * the version in its low bytes, and above them how many follow. docs/FORMATS.md says which. */
 
 /* The version of the bytes that dvg_save writes. dvg_restore reads no other one. */
 #define DVG_SAVED_VERSION 1
 
-/* The most bytes of a saved state, but for strokes: each adds 16. */
+/* The most bytes of a saved generator and of a saved world, but for strokes: each adds 16. */
 #define DVG_SAVED_BYTES 56
+#define DVG_SAVED_WORLD_BYTES 6192
 
-/* The first number of a saved state with this many parts. */
-static inline uint64_t dvg_saved_head(uint64_t parts)
+/* What was saved, by the letter in its bytes. */
+typedef enum dvg_saved {
+    DVG_SAVED_NOTHING = 0,      /* these are no bytes of a saved state */
+    DVG_SAVED_GENERATOR = 'G',
+    DVG_SAVED_WRAPPING = 'R',   /* a generator whose stack wraps */
+    DVG_SAVED_WORLD = 'W'
+} dvg_saved;
+
+/* The first number of a saved state, after which this many come. */
+static inline uint64_t dvg_saved_head(dvg_saved what, uint64_t count)
 {
-    return (uint64_t)'D' | (uint64_t)'V' << 8 | (uint64_t)'G' << 16
-           | (uint64_t)DVG_SAVED_VERSION << 24 | parts << 32;
+    return (uint64_t)'D' | (uint64_t)'V' << 8 | (uint64_t)what << 16
+           | (uint64_t)DVG_SAVED_VERSION << 24 | count << 32;
 }
 
 /* Writes a number as 8 bytes, the low byte first, if these end within `size`. */
@@ -854,79 +902,178 @@ static inline uint64_t dvg_saved_number(const uint8_t *bytes)
     return number;
 }
 
-/* Of a generator: writes its state to `bytes`, which has room for `size` bytes, and returns how
- * many bytes the state has: at most DVG_SAVED_BYTES, and 16 for each stroke that the open run drew
- * so far. Where `size` is less, ask again with as much room: what was written is no whole state.
- * `bytes` may be null where `size` is 0. The generator stays as it is. Returns 0 where no generator
- * alone is open, or one whose stack wraps. */
+/* Where the parts of the generator begin in a saved state. */
+static inline size_t dvg_saved_parts(dvg_saved what)
+{
+    return what == DVG_SAVED_WORLD ? 8 + DVG_RAM_BYTES : 8;
+}
+
+/* Of what these may be the saved state, by their first number and the kind of the first part. Of
+ * another version, which is the byte bytes[3], they are DVG_SAVED_NOTHING. */
+static inline dvg_saved dvg_saved_as(const uint8_t *bytes, size_t size)
+{
+    dvg_saved what = DVG_SAVED_NOTHING;
+    size_t parts;
+    if (size < 16 || size % 8 != 0 || (uint64_t)size >> 35 != 0) {
+        return DVG_SAVED_NOTHING;
+    }
+    switch (bytes[2]) {
+    case 'G': what = DVG_SAVED_GENERATOR; break;
+    case 'R': what = DVG_SAVED_WRAPPING; break;
+    case 'W': what = DVG_SAVED_WORLD; break;
+    default: break;
+    }
+    parts = dvg_saved_parts(what);
+    if (dvg_saved_number(bytes) != dvg_saved_head(what, size / 8 - 1) || size < parts + 8
+        || (dvg_saved_number(bytes + parts) & 0xFFFF) != DVG_REQUEST_TELL_STATE) {
+        return DVG_SAVED_NOTHING;
+    }
+    return what;
+}
+
+/* Writes the answers to this request, numbered from 0, from byte `at` on, as long as their lowest
+ * byte is `code`. Returns where they end. */
+static inline size_t dvg_save_answers(dvg *device, uint64_t request, uint64_t code, uint8_t *bytes,
+                                      size_t size, size_t at)
+{
+    uint64_t number = 0;
+    uint64_t answer = dvg_turn(dvg_there(device), request);
+    while ((answer & 0xFF) == code) {
+        dvg_saved_put(bytes, size, at, answer);
+        at += 8;
+        number++;
+        answer = dvg_turn(device, request | number << 8);
+    }
+    return at;
+}
+
+/* Of a world or a generator: writes its state to `bytes`, which has room for `size` bytes, and
+ * returns how many bytes the state has: at most DVG_SAVED_WORLD_BYTES or DVG_SAVED_BYTES, and 16
+ * for each stroke that the open run drew so far. Where `size` is less, ask again with as much room:
+ * what was written is no whole state. `bytes` may be null where `size` is 0. What is saved stays as
+ * it is. Returns 0 where nothing is open, or a driver alone or a judge. */
 static inline size_t dvg_save(dvg *device, uint8_t *bytes, size_t size)
 {
-    uint64_t parts = 0;
-    uint64_t part = dvg_turn(device, DVG_REQUEST_STATE);
-    while ((part & 0xFF) == DVG_STATE) {
-        parts++;
-        dvg_saved_put(bytes, size, (size_t)(8 * parts), part);
-        part = dvg_turn(device, DVG_REQUEST_STATE | parts << 8);
-    }
-    if (parts == 0) {
+    uint64_t driver = dvg_turn(dvg_there(device), DVG_REQUEST_DRIVER);
+    bool is_world = (driver & 0xFF) == DVG_DRIVER;
+    bool wraps = (dvg_ask(device, DVG_REQUEST_HOLDS).value & 0x40) != 0;
+    dvg_saved what = is_world ? DVG_SAVED_WORLD : wraps ? DVG_SAVED_WRAPPING : DVG_SAVED_GENERATOR;
+    size_t parts = dvg_saved_parts(what);
+    size_t at = dvg_save_answers(device, DVG_REQUEST_STATE, DVG_STATE, bytes, size, parts);
+    if (at == parts) {
         return 0;
     }
-    dvg_saved_put(bytes, size, 0, dvg_saved_head(parts));
-    return (size_t)(8 * parts + 8);
-}
-
-/* Whether these may be the bytes of a saved state, by their first number and the kind of the first
- * part. */
-static inline bool dvg_is_saved(const uint8_t *bytes, size_t size)
-{
-    return size >= 16 && size % 8 == 0 && (uint64_t)size >> 35 == 0
-           && dvg_saved_number(bytes) == dvg_saved_head(size / 8 - 1)
-           && (dvg_saved_number(bytes + 8) & 0xFFFF) == DVG_REQUEST_TELL_STATE;
-}
-
-/* Opens a generator alone, in place of what is open, that goes on as the one whose saved state
- * these bytes are. They may be any: DVG_OPENED; DVG_NO_STATE: they are no saved state, or one of
- * another version; DVG_NO_MEMORY. Where the answer isn't DVG_OPENED, what was open stays as it was.
- * Nothing finds out that a byte was changed where another state is saved so. */
-static inline dvg_answer dvg_restore(dvg *device, const uint8_t *bytes, size_t size)
-{
-    dvg_answer answer = dvg_answer_of(DVG_NO_STATE);
-    uint64_t part;
-    size_t at;
-    if (!dvg_is_saved(bytes, size)) {
-        return answer;
+    if (is_world) {
+        at = dvg_save_answers(device, DVG_REQUEST_OPERATION, DVG_REQUEST_PUSH, bytes, size, at);
+        dvg_saved_put(bytes, size, at, driver);
+        at += 8;
     }
-    answer.kind = DVG_CLEARED;
-    for (at = 8; at < size && answer.kind == DVG_CLEARED; at += 8) {
-        part = dvg_saved_number(bytes + at);
+    if (is_world && size >= parts) {
+        dvg_ram(device, bytes + 8);
+    }
+    dvg_saved_put(bytes, size, 0, dvg_saved_head(what, at / 8 - 1));
+    return at;
+}
+
+/* Tells the numbers from byte `at` to byte `end`: parts of a generator's state, and after them, of
+ * a world, operations of the frame that it writes. DVG_NO_MEMORY; DVG_NO_STATE: one doesn't suit;
+ * else of another kind. */
+static inline dvg_answer dvg_tell_saved(dvg *device, dvg_saved what, const uint8_t *bytes,
+                                        size_t at, size_t end)
+{
+    dvg_answer answer = dvg_answer_of(DVG_CLEARED);
+    uint64_t code = DVG_REQUEST_TELL_STATE;
+    for (; at < end && (answer.kind == DVG_CLEARED || answer.kind == DVG_PUSHED); at += 8) {
+        uint64_t number = dvg_saved_number(bytes + at);
+        if (what == DVG_SAVED_WORLD && (number & 0xFF) == DVG_REQUEST_PUSH) {
+            code = DVG_REQUEST_PUSH;
+        }
         answer.kind = DVG_NO_STATE;
-        if ((part & 0xFF) == DVG_REQUEST_TELL_STATE) {
-            answer = dvg_ask(device, part);
+        if ((number & 0xFF) == code) {
+            answer = dvg_ask(device, number);
         }
     }
-    if (answer.kind == DVG_CLEARED) {
-        answer = dvg_ask(device, DVG_REQUEST_RESUME);
+    if (answer.kind == DVG_NO_OPERATION || answer.kind == DVG_FULL) {
+        answer.kind = DVG_NO_STATE;
+    }
+    return answer;
+}
+
+/* As dvg_restore, of bytes that may be the saved state of a world. */
+static inline dvg_answer dvg_restore_world(dvg *device, const uint8_t *bytes, size_t size)
+{
+    uint64_t driver = dvg_saved_number(bytes + (size - 8));
+    dvg_answer staged, told;
+    if ((driver & 0xFF) != DVG_REQUEST_RESUME_WORLD
+        || dvg_ask(device, DVG_REQUEST_DRIVER).kind != DVG_DRIVER) {
+        return dvg_answer_of(DVG_NO_STATE);
+    }
+    staged = dvg_stage_ram(device, bytes + 8);
+    dvg_clear(device);
+    told = dvg_tell_saved(device, DVG_SAVED_WORLD, bytes, 8 + DVG_RAM_BYTES, size - 8);
+    if (told.kind == DVG_NO_STATE || told.kind == DVG_NO_MEMORY) {
+        staged = told;
+    }
+    told = dvg_ask_staged(device, staged, driver);
+    if (told.kind == DVG_UNKNOWN) {
+        told.kind = DVG_NO_STATE;
+    }
+    return told;
+}
+
+/* Restores what these bytes are the saved state of, as dvg_saved_as tells it:
+ *
+ *   a generator   one opens in place of what is open, also of a world, and goes on as the saved one
+ *                 did. Where only a world will do, ask dvg_saved_as before
+ *   a world       the world that is open goes on so: open one before, over the same ROM. Its ROM
+ *                 and the strokes of its newest finished run stay
+ *
+ * The bytes may be any. DVG_OPENED; DVG_NO_STATE: they are no saved state, or one of another
+ * version, or of a world while none is open, or of one whose frame is refused over this ROM, or
+ * their parts don't fit together; DVG_NO_MEMORY. Where the answer isn't DVG_OPENED, what was open
+ * stays as it was. Nothing finds out that a byte was changed where another state is saved so, nor
+ * that the ROM is another one.
+ *
+ * Whatever the answer, what was told of a state by DVG_REQUEST_TELL_STATE may be forgotten. Where a
+ * world is open and the bytes are those of one, no byte is staged then, also none that was before,
+ * and the draft is the frame in them, or a beginning of it: dvg_clear begins the next one. */
+static inline dvg_answer dvg_restore(dvg *device, const uint8_t *bytes, size_t size)
+{
+    dvg_saved what = dvg_saved_as(bytes, size);
+    dvg_answer answer = dvg_answer_of(DVG_NO_STATE);
+    dvg *there = dvg_there(device);
+    if (what == DVG_SAVED_NOTHING) {
+        return answer;
+    }
+    if (what == DVG_SAVED_WORLD) {
+        answer = dvg_restore_world(there, bytes, size);
+    } else {
+        answer = dvg_tell_saved(there, what, bytes, 8, size);
+        if (answer.kind == DVG_CLEARED) {
+            answer = dvg_ask(there, what == DVG_SAVED_WRAPPING ? DVG_REQUEST_RESUME_WRAPPING
+                                                               : DVG_REQUEST_RESUME);
+        }
     }
     if (answer.kind != DVG_OPENED) {
         /* What was told is forgotten, and its memory given back. */
-        dvg_ask(device, DVG_REQUEST_TELL_STATE);
+        dvg_ask(there, DVG_REQUEST_TELL_STATE);
     }
     return answer;
 }
 
 /* --- A judge --- */
 
-/* A run of the generator is of one moment if there is a moment of it such that no byte which it
+/* A run of the generator is consistent if there is a moment of it such that no byte which it
  * reads changes between that moment and its reading. A byte changes where one is written that isn't
- * what the log told of it last; of a byte that nothing was told of, each write is a change. A run
- * of one moment drew what a run over that moment's memory draws. Another one is torn.
+ * what the log told of it last; of a byte that nothing was told of, each write is a change. A
+ * consistent run drew what a run over that moment's memory draws. Else it is mixed, and torn.
  *
  * A judge is told the log of any system, in order, each line when it happens: each write of the
  * vector memory and each fetch. Each of these answers how the newest run stands then: DVG_NO_RUN;
  * DVG_ONE_MOMENT; DVG_NO_MOMENT, from the line on at which no moment is left; and where the line is
  * a HALT, DVG_WHOLE or DVG_TORN. In the value 1 says that the line reads what was not written:
  * another byte than the log told last of it, of the RAM, of the ROM, or of the low byte that was
- * told of this very word. Then somebody writes who isn't in the log.
+ * told of this very word. Then something unlogged wrote that byte.
  *
  * Asked of a judge, dvg_reset_generator and dvg_reset_processor say that this reset was done, and
  * answer as these do. The first one also serves where a run ends by a fault. */

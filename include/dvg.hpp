@@ -67,6 +67,26 @@ protected:
         }
     }
 
+    /* What is open as bytes: dvg_save. */
+    Bytes saved() const {
+        Bytes found(dvg_save(*this, nullptr, 0));
+        dvg_save(*this, found.data(), found.size());
+        return found;
+    }
+
+    /* Restores this of bytes, and nothing else: dvg_restore. */
+    void restore_as(dvg_saved what, const Bytes &bytes) {
+        if (dvg_saved_as(bytes.data(), bytes.size()) != what) {
+            throw std::invalid_argument("restore: no saved state of this class and version");
+        }
+        dvg_answer answer = dvg_restore(*this, bytes.data(), bytes.size());
+        if (answer.kind == DVG_NO_STATE) {
+            throw std::invalid_argument(
+                "restore: its parts don't fit, or this ROM refuses its frame");
+        }
+        expect_opened(answer);
+    }
+
 private:
     struct Free {
         void operator()(dvg *device) const noexcept { dvg_free(device); }
@@ -98,6 +118,15 @@ public:
         dvg_held_by(*this, &found);
         return found;
     }
+
+    /* Its state as bytes, without its ROM and the strokes of a finished run: dvg_save. */
+    Bytes save() const { return saved(); }
+
+    /* Has it go on as the world over the same ROM whose state these bytes are: dvg_restore, which
+     * leaves another draft, and doesn't compare the ROM. Of other bytes, a generator's among them,
+     * std::invalid_argument; std::bad_alloc. Then it stays as it was. (dvg_restore itself, handed
+     * this world and a generator's bytes, opens that generator in its place.) */
+    void restore(const Bytes &bytes) { restore_as(DVG_SAVED_WORLD, bytes); }
 };
 
 /* A driver alone, whose drafts are checked over a ROM, with what World throws. */
@@ -108,7 +137,7 @@ public:
     }
 };
 
-/* What each generator alone has. */
+/* What each generator alone has: Generator, and WrappingGenerator. */
 class AnyGenerator : public Device {
 public:
     /* Whether this byte makes a move, if it is handed over next, and which: dvg_generator_move. */
@@ -133,6 +162,9 @@ public:
         return found;
     }
 
+    /* Its state as bytes: dvg_save. */
+    Bytes save() const { return saved(); }
+
 protected:
     AnyGenerator() = default;
 };
@@ -142,18 +174,9 @@ class Generator : public AnyGenerator {
 public:
     Generator() { expect_opened(dvg_open_generator(*this)); }
 
-    /* Its state as bytes: dvg_save. */
-    Bytes save() const {
-        Bytes saved(dvg_save(*this, nullptr, 0));
-        dvg_save(*this, saved.data(), saved.size());
-        return saved;
-    }
-
-    /* Has it go on as the one whose state these bytes are: dvg_restore. Of other bytes
+    /* Has it go on as the Generator whose state these bytes are: dvg_restore. Of other bytes
      * std::invalid_argument; std::bad_alloc. Then it stays as it was. */
-    void restore(const Bytes &saved) {
-        expect_opened(dvg_restore(*this, saved.data(), saved.size()));
-    }
+    void restore(const Bytes &bytes) { restore_as(DVG_SAVED_GENERATOR, bytes); }
 
     /* Another one that goes on as this one does, without the strokes of a finished run.
      * std::bad_alloc. */
@@ -164,10 +187,18 @@ public:
     }
 };
 
-/* A generator alone whose stack wraps: dvg_open_wrapping. It isn't saved. std::bad_alloc. */
+/* A generator alone whose stack wraps: dvg_open_wrapping. std::bad_alloc. */
 class WrappingGenerator : public AnyGenerator {
 public:
     WrappingGenerator() { expect_opened(dvg_open_wrapping(*this)); }
+
+    /* As those of a Generator, of the bytes and with a copy of a WrappingGenerator. */
+    void restore(const Bytes &bytes) { restore_as(DVG_SAVED_WRAPPING, bytes); }
+    WrappingGenerator copy() const {
+        WrappingGenerator other;
+        other.restore(save());
+        return other;
+    }
 };
 
 /* A judge of moments. std::bad_alloc. */

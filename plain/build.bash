@@ -10,7 +10,7 @@
 # can't be written. CC, CFLAGS, CPPFLAGS, LDFLAGS and RUSTFLAGS are those of the compilers, and
 # TARGET is the one of ./lib, by its name in Rust. With others of these it is built anew.
 
-program=$top/crates/dvg/out/dvg
+program=$top/build/dvg
 library=$top/crates/dvg_c/out/libdvg_c.a
 plain=$top/plain
 # The plain form of the sources that are there, and what cargo builds of it.
@@ -112,12 +112,23 @@ is_marked() {
         [ "$(cat "$top/crates/$1/out/proved")" = "$(digest_of_crate "$1")" ]
 }
 
+# Links the proved program of what rt built. It wants no library of the machine where the C compiler
+# finds such ones to put into it: then a start takes a third of the time. Else it is linked as rt
+# does it. Either way it is the same object, and no proof is of how it is linked.
+link_program() {
+    local made=$top/crates/dvg/out/dvg kit
+    kit=$(dirname "$(dirname "$(readlink -f "$(command -v rt)")")")
+    mkdir -p "${program%/*}" && rm -f "$program" || return
+    "${CC:-cc}" -static -Wl,--gc-sections -o "$program" "$made.o" "$kit/c/libos_c.a" \
+        "$kit/c/liblibc_c.a" 2>/dev/null || cp "$made" "$program"
+}
+
 # Says of all crates, of their libraries and of the program, that they are proved: `rt ci` has
 # passed, which began with sources of this digest. Fails where these aren't the sources that are
 # there.
 mark_all() {
     local crate
-    [ "$(digest_of_proofs)" = "$1" ] && [ -x "$program" ] && set_of "$program" "$1" || return
+    [ "$(digest_of_proofs)" = "$1" ] && link_program && set_of "$program" "$1" || return
     for crate in "$top"/crates/*/out; do
         crate=${crate%/out}
         mark "${crate##*/}"

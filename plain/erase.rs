@@ -9,14 +9,15 @@
 //!
 //! 1. It takes away: `ghost` items, fields and uses; the clauses `requires` and `ensures`; `impl
 //!    Model` and the use of `Model`; `tactic` attributes; `Drop` among derives; `derive_where` with
-//!    a parameter; the module `laws`, also that of another crate; the `use` of one law of another
-//!    crate, and its calls, each a statement; modules of tests; and names that are imported for
-//!    contracts alone. A comment right before one of these items goes with it.
+//!    a parameter; the module `laws`, also that of another crate; the `use` of laws, and their
+//!    calls, each a statement; modules of tests; and names that are imported for contracts alone. A
+//!    comment right before one of these items goes with it.
 //! 2. It writes otherwise: `derive_where(X)` as `derive(X)`; `rattlefmt::skip` as `rustfmt::skip`;
 //!    the signature of `Display::fmt`, and of functions that a `Formatter<W>` is handed to; `main`,
 //!    which gets its runtime by a line of its own; `to_ascii_lowercase` with an allocator, which
-//!    Rust's slices have without one, as `to_ascii_lowercase_in`; and `step` as `_step`, where a
-//!    loop's number has this name, or any other, for its proof alone.
+//!    Rust's slices have without one, as `to_ascii_lowercase_in`; `clone`, which returns a `Result`
+//!    in the sources, as `try_clone`; and `step` as `_step`, where a loop's number has this name,
+//!    or any other, for its proof alone.
 //! 3. It puts in: the lines of `HEAD` at the head of a crate; `PRELUDE` in a file that names one of
 //!    its words; a `use` of the `MACROS` that a file calls; `Clone` and `Debug` at each type of
 //!    `COPIED` that derives them not, as Rattle has no copy that takes memory without a refusal;
@@ -57,7 +58,7 @@ const MACROS: [&str; 3] = ["eprint", "eprintln", "println"];
 
 /// The types that Rust's users copy and print, where the sources don't: what users hold, and what
 /// that is made of.
-const COPIED: [&str; 39] = [
+const COPIED: [&str; 42] = [
     "struct Alike",
     "struct Banked",
     "struct Chain",
@@ -66,6 +67,7 @@ const COPIED: [&str; 39] = [
     "struct Counted",
     "struct Cursor",
     "struct Desk",
+    "struct DraftText",
     "struct Drawn",
     "struct Driver",
     "struct Dump",
@@ -78,6 +80,7 @@ const COPIED: [&str; 39] = [
     "struct Frame",
     "struct Generator",
     "struct GeneratorState",
+    "struct Image",
     "struct Judge",
     "struct Listing",
     "struct Logged",
@@ -96,6 +99,7 @@ const COPIED: [&str; 39] = [
     "struct WordBytes",
     "struct Worklist",
     "struct World",
+    "struct WorldState",
     "struct WrappingGenerator",
 ];
 
@@ -465,34 +469,39 @@ impl<'a> Eraser<'a> {
         }
     }
 
-    /// A `use`. That of `Model` goes, and that of a law of another crate.
+    /// A `use`. That of `Model` goes, and that of laws.
     fn usage(&mut self, end: usize) {
         let model = "use std::marker::Model;";
         if self.begins(model) {
             self.drop_line(self.at + model.len());
-        } else if let Some((law, end)) = self.law_of_another_crate() {
-            self.laws.insert(law);
+        } else if let Some((laws, end)) = self.used_laws() {
+            self.laws.extend(laws);
             self.drop_line(end);
         } else {
             self.copy_word(end);
         }
     }
 
-    /// The law of `use dvg_dump::laws::one_end;`, where both names are any, and where that ends.
-    fn law_of_another_crate(&self) -> Option<(&'a str, usize)> {
+    /// The laws of `use dvg_dump::laws::one_end;`, or several in braces, where all names are any,
+    /// also `crate`, and where that ends.
+    fn used_laws(&self) -> Option<(Vec<&'a str>, usize)> {
         let end = self.find(b';', self.at, "a use without an end").ok()?;
         if !self.is_line_begun() {
             return None;
         }
-        let (of, law) = self
+        let (of, laws) = self
             .slice(self.at, end)
             .strip_prefix("use ")?
             .split_once("::laws::")?;
-        let are_words = [of, law].iter().all(|name| name.bytes().all(is_of_word));
-        are_words.then_some((law, end + 1))
+        let several = laws
+            .strip_prefix('{')
+            .and_then(|laws| laws.strip_suffix('}'));
+        let laws: Vec<&str> = several.unwrap_or(laws).split(',').map(str::trim).collect();
+        let is_name = |name: &&str| name.bytes().all(is_of_word);
+        (is_name(&of) && laws.iter().all(is_name)).then_some((laws, end + 1))
     }
 
-    /// The call of a law of another crate, which is a statement.
+    /// The call of a law, which is a statement.
     fn law(&mut self, end: usize) -> Result<(), Refused> {
         if !self.is_line_begun() || !self.text[end..].starts_with(b"();") {
             return self.refuse("a law that no statement calls");
@@ -644,6 +653,7 @@ impl<'a> Eraser<'a> {
             "fn" => self.function(end)?,
             "struct" | "enum" => self.structure(end),
             "to_ascii_lowercase" => self.lowercase(end),
+            "clone" => self.put("try_clone", end),
             word if self.laws.contains(word) => self.law(end)?,
             word if RATTLE_WORDS.contains(&word) => {
                 return self.refuse(format!("the word '{word}' where no rule takes it away"));
@@ -1194,7 +1204,7 @@ mod tests {
     }
 
     #[test]
-    fn laws_of_other_crates_go() {
+    fn laws_that_are_used_go() {
         leaves(
             "use a::laws::law;\nuse b::C;\nfn f() {\n    law();\n    // one\n    let a = 1;\n}\n",
             "use b::C;\nfn f() {\n    // one\n    let a = 1;\n}\n",
@@ -1204,7 +1214,11 @@ mod tests {
             "use a::laws::law;\nfn f() {\n    let b = law();\n}\n",
             "law();",
         );
-        stays("use a::laws::{one, other};\nfn law() {}\n");
+        leaves(
+            "use crate::laws::{one, other};\nfn f() {\n    one();\n    other();\n}\n",
+            "fn f() {\n}\n",
+        );
+        stays("use a::laws::{one, inner::other};\nfn law() {}\n");
     }
 
     #[test]
@@ -1248,6 +1262,10 @@ mod tests {
             "use std::prelude::*;\n\nfn f() { read.to_ascii_lowercase_in(alloc) }\n",
         );
         stays("fn f() { b'A'.to_ascii_lowercase() }\n");
+        leaves(
+            "/// As `clone`.\nfn f() { read.clone()? }\n",
+            "/// As `clone`.\nfn f() { read.try_clone()? }\n",
+        );
         leaves(
             "fn f() { println!(rt; \"\"); }\n",
             "use std::println;\n\nfn f() { println!(rt; \"\"); }\n",

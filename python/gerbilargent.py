@@ -17,7 +17,7 @@ first. This module itself is tested, not proved.
     World       both ends, over a RAM and a ROM that it holds
     Driver      the driver alone: it says what is to be written into a RAM of yours
     Generator   the generator alone: it is handed the bytes of a RAM and a ROM of yours
-    MomentJudge whether each run in the log of any system is of one moment, a line at a time
+    MomentJudge whether each run in the log of any system is consistent, a line at a time
     Draft       the operations of a frame
     picture     what a dump of the vector memory draws
     judge       whether the log of any system tears a picture; Judge takes one line at a time
@@ -138,6 +138,7 @@ class Kind(enum.IntEnum):
     STATE = 35
     NO_STATE = 36
     BYTE = 37
+    DRIVER = 38
     UNKNOWN = 254
     NO_MEMORY = 255
 
@@ -336,7 +337,8 @@ class NoText(Error, TypeError):
 class NotCopied(Error, TypeError):
     """A World, Driver or MomentJudge isn't copied, and none of these and no Generator is pickled.
 
-    It is a TypeError, as that is what copy and pickle say of what they can't do.
+    Of a world and a generator `save` the state, and `restore` it by another one. It is a TypeError,
+    as that is what copy and pickle say of what they can't do.
     """
 
 
@@ -345,7 +347,11 @@ class BadByte(Error, ValueError):
 
 
 class BadState(Error, ValueError):
-    """Bytes are no saved state of a generator, or one of another version."""
+    """Bytes are no saved state of what is to be restored, or one of another version.
+
+    Or it is of a world, and this ROM refuses the frame that it was writing. Else the ROM isn't
+    compared.
+    """
 
 
 class BadOperation(Error, ValueError):
@@ -379,7 +385,10 @@ class DraftRefused(Error):
 
 
 class RunBroke(Error):
-    """A run broke at the word address `address`: `why` says why."""
+    """A run broke at the word address `address`: `why` says why.
+
+    A World raises it only where it was restored from bytes that no world over its ROM saved.
+    """
 
     def __init__(self, address: int, why: Break) -> None:
         self.address, self.why = address, why
@@ -510,7 +519,11 @@ class _Request(enum.IntEnum):
     RESUME = 29
     OPEN_WRAPPING = 30
     BYTE = 31
+    DRIVER = 32
+    OPERATION = 33
+    RESUME_WRAPPING = 34
     TELL_STATE = 35
+    RESUME_WORLD = 38
 
 
 #: What is asked of each stroke, as numbers.
@@ -527,12 +540,20 @@ _ERRORS = {
     Kind.NO_OPERATION: BadOperation("a field is out of its range"),
     Kind.FULL: DraftFull(f"a draft has at most {MOST_OPERATIONS} operations"),
     Kind.WRONG_SIZE: WrongSize("a RAM has 2,048 bytes, and a ROM 2,048 or 4,096"),
-    Kind.NO_STATE: BadState("that is no saved state of a generator, or one of another version"),
+    Kind.NO_STATE: BadState(
+        "that is no saved state of it, or of another version, or its frame is refused over this ROM"
+    ),
     Kind.NO_MEMORY: OutOfMemory("memory was refused"),
 }
 
 #: The version of a saved state.
 _SAVED_VERSION = 1
+
+#: What was saved, by the letter in its bytes.
+_GENERATOR, _WRAPPING, _WORLD = b"G", b"R", b"W"
+
+#: How many numbers the RAM is in a saved world.
+_RAM_NUMBERS = RAM_BYTES // 8
 
 
 def _whole(name: str, value: int) -> int:
@@ -570,9 +591,11 @@ def _bytes(name: str, held: Bytes) -> bytes:
     return view.tobytes()
 
 
-def _saved_head(parts: int) -> int:
-    """The first number of a saved state with this many parts."""
-    return int.from_bytes(b"DVG", "little") | _SAVED_VERSION << 24 | parts << 32
+def _saved_bytes(what: bytes, ram: bytes, numbers: "array[int]") -> bytes:
+    """The bytes of a saved state: of what it is, of a RAM where it has one, and these numbers."""
+    count = len(ram) // 8 + len(numbers)
+    head = b"DV" + what + bytes([_SAVED_VERSION]) + count.to_bytes(4, "little")
+    return head + ram + _turned(numbers).tobytes()
 
 
 def _turned(numbers: "array[int]") -> "array[int]":
@@ -582,21 +605,51 @@ def _turned(numbers: "array[int]") -> "array[int]":
     return numbers
 
 
-def _saved_parts(saved: bytes) -> "array[int]":
-    """The parts of a saved state, each as the request that tells it. BadState."""
-    parts = array("Q")
-    if len(saved) >= 16 and len(saved) % 8 == 0:
-        parts.frombytes(saved)
-        head = _turned(parts).pop(0)
-        tell = int(_Request.TELL_STATE)
-        if (
-            head == _saved_head(len(parts))
-            and parts[0] & 0xFFFF == tell
-            and all(part & 0xFF == tell for part in parts)
-        ):
-            return parts
-    error = _ERRORS[Kind.NO_STATE]
-    raise type(error)(*error.args)
+def _bad_state() -> BadState:
+    return BadState(*_ERRORS[Kind.NO_STATE].args)
+
+
+def _saved_numbers(what: bytes, saved: bytes) -> "array[int]":
+    """The numbers of a saved state of this, after its head. BadState."""
+    if len(saved) < 16 or len(saved) % 8 or saved[2:3] != what:
+        raise _bad_state()
+    if saved[:8] != _saved_bytes(what, saved[8:], array("Q"))[:8]:
+        raise _bad_state()
+    numbers = array("Q")
+    numbers.frombytes(saved[8:])
+    return _turned(numbers)
+
+
+def _are_parts(numbers: "array[int]") -> bool:
+    """Whether each of these numbers tells a part of a generator's state, the first its fields."""
+    tell = int(_Request.TELL_STATE)
+    return numbers[0] & 0xFFFF == tell and all(number & 0xFF == tell for number in numbers)
+
+
+def _saved_parts(saved: bytes, wraps: bool) -> "array[int]":
+    """The parts of a saved generator, each as the request that tells it. BadState."""
+    numbers = _saved_numbers(_WRAPPING if wraps else _GENERATOR, saved)
+    if not _are_parts(numbers):
+        raise _bad_state()
+    return numbers
+
+
+def _saved_world(saved: bytes) -> "tuple[bytes, array[int], array[int], int]":
+    """Of a saved world its RAM, its generator's parts, its operations and its driver. BadState.
+
+    All but the RAM are the requests that tell them.
+    """
+    numbers = _saved_numbers(_WORLD, saved)[_RAM_NUMBERS:]
+    tells = itertools.takewhile(lambda number: number & 0xFF == _Request.TELL_STATE, numbers)
+    count = sum(1 for _ in tells)
+    parts, operations = numbers[:count], numbers[count:]
+    if not operations or not parts or not _are_parts(parts):
+        raise _bad_state()
+    driver = operations.pop()
+    pushes = all(number & 0xFF == _Request.PUSH for number in operations)
+    if not pushes or driver & 0xFF != _Request.RESUME_WORLD:
+        raise _bad_state()
+    return saved[8:8 + RAM_BYTES], parts, operations, driver
 
 
 def _units(start: int, end: int) -> int:
@@ -824,17 +877,37 @@ class _Device:
         self._turn(_Request.UNSTAGE)
         self._ask_all(_staging(held))
 
-    def _with_staged(self, request: _Request, held: bytes) -> Entry:
+    def _with_staged(self, request: _Request, held: bytes, fields: int = 0) -> Entry:
         """A request for which these bytes are staged. Whatever comes, none is staged then."""
         try:
             self._stage(held)
-            return self._ask(request)
+            return self._ask(request, fields)
         finally:
             self._turn(_Request.UNSTAGE)
 
     def _offer(self, draft: "Draft") -> Entry:
         """Hands a draft to the driver."""
         return self._ask_all(array("Q", draft.requests()))
+
+    def _answers(self, request: _Request, code: int) -> "array[int]":
+        """The answers to this request, numbered from 0, as long as this is their lowest byte."""
+        found = array("Q")
+        while True:
+            numbers = range(len(found), len(found) + 512)
+            asked = array("Q", (int(request) | number << 8 for number in numbers))
+            self._turns(asked)
+            found.extend(itertools.takewhile(lambda answer: answer & 0xFF == code, asked))
+            if len(found) < numbers.stop:
+                return found
+
+    def _tell_saved(self, requests: "array[int]") -> None:
+        """Tells what was saved, by these requests. BadState; OutOfMemory."""
+        answers = array("Q", requests)
+        self._turns(answers)
+        for answer in answers:
+            if answer & 0xFF in (Kind.NO_OPERATION, Kind.FULL):
+                raise _bad_state()
+            self._entry(answer)
 
     def _beam(self) -> Beam:
         place = self._turn(_Request.BEAM)
@@ -1026,6 +1099,7 @@ class Driver(_Device):
     """
 
     def __init__(self, rom: Optional[Bytes] = None) -> None:
+        """A driver over a ROM of 2,048 or 4,096 bytes. WrongSize, OutOfMemory."""
         super().__init__(_Request.OPEN_DRIVER, _rom(rom))
 
     @_alone
@@ -1063,6 +1137,7 @@ class Generator(_Device):
     _wraps = False
 
     def __init__(self, wraps: bool = False) -> None:
+        """A generator, whose stack wraps or not. OutOfMemory."""
         wraps = bool(wraps)
         super().__init__(_Request.OPEN_WRAPPING if wraps else _Request.OPEN_GENERATOR)
         self._wraps = wraps
@@ -1149,36 +1224,25 @@ class Generator(_Device):
     def save(self) -> bytes:
         """Its state as bytes, also amid a run, with what the run drew so far.
 
-        `restore` takes them, in any process. Strokes of a finished run are no part of it. One whose
-        stack wraps isn't saved: BadState.
+        `restore` takes them, in any process. Strokes of a finished run are no part of it.
         """
-        self._own_device()
-        if self._wraps:
-            raise BadState("a generator whose stack wraps isn't saved")
-        parts = array("Q", [0])
-        whole = False
-        while not whole:
-            numbers = range(len(parts) - 1, len(parts) + 511)
-            asked = array("Q", (int(_Request.STATE) | number << 8 for number in numbers))
-            self._turns(asked)
-            parts.extend(itertools.takewhile(lambda part: part & 0xFF == Kind.STATE, asked))
-            whole = len(parts) <= numbers[-1] + 1
-        parts[0] = _saved_head(len(parts) - 1)
-        return _turned(parts).tobytes()
+        parts = self._answers(_Request.STATE, int(Kind.STATE))
+        return _saved_bytes(_WRAPPING if self._wraps else _GENERATOR, b"", parts)
 
     @_alone
     def restore(self, saved: Bytes) -> None:
         """Goes on as the generator whose `save` gave these bytes. BadState, OutOfMemory.
 
-        Then it has no strokes of a finished run, and its stack doesn't wrap.
+        Then it has no strokes of a finished run. The bytes may be those of either kind: its stack
+        wraps where that of the saved one did.
         """
-        parts = _saved_parts(_bytes("a saved state", saved))
+        held = _bytes("a saved state", saved)
+        wraps = held[2:3] == _WRAPPING
+        parts = _saved_parts(held, wraps)
         try:
-            self._turns(parts)
-            for answer in parts:
-                self._entry(answer)
-            self._ask(_Request.RESUME)
-            self._wraps = False
+            self._tell_saved(parts)
+            self._ask(_Request.RESUME_WRAPPING if wraps else _Request.RESUME)
+            self._wraps = wraps
         except Error:
             # What was told is forgotten.
             self._turn(_Request.TELL_STATE)
@@ -1187,7 +1251,7 @@ class Generator(_Device):
     def copy(self) -> "Generator":
         """Another one that goes on as this one does, without strokes of a finished run.
 
-        It is a Generator, also of a subclass. OutOfMemory; BadState where its stack wraps.
+        It is a Generator, also of a subclass. OutOfMemory.
         """
         other = Generator()
         try:
@@ -1267,11 +1331,14 @@ class World(_Device):
     Each call of `offer`, `redraw`, `tick`, `strobe`, `fetch` and the resets is an event, as a line
     of a trace is, and returns its Entry. `events` is how many there were, with those that were
     refused: a refused draft, Busy, NothingPublished, NoStrobe and Halted.
+
+    It isn't copied: `save` it, and `restore` another one over the same ROM.
     """
 
     _events = 0
 
     def __init__(self, rom: Optional[Bytes] = None, ram: Optional[Bytes] = None) -> None:
+        """A world whose driver boots, and whose generator is halted. WrongSize, OutOfMemory."""
         super().__init__(_Request.OPEN_WORLD, _ram(ram) + _rom(rom))
 
     @property
@@ -1283,10 +1350,54 @@ class World(_Device):
     @_alone
     def ram(self) -> bytes:
         """The 2,048 bytes of its RAM, as they are now."""
-        self._own_device()
+        return self._ram()
+
+    def _ram(self) -> bytes:
         asked = array("Q", (int(_Request.BYTE) | at << 8 for at in range(RAM_BYTES)))
         self._turns(asked)
         return bytes(number >> 24 for number in asked)
+
+    @_alone
+    def save(self) -> bytes:
+        """Its state as bytes, at any moment: its RAM, its driver with the frame that it writes, a
+        strobe that is under way, and its generator with what an open run drew so far.
+
+        `restore` of a world over the same ROM takes them, in any process. Its ROM, `events`, and
+        the strokes of a finished run are no part of it. So keep the ROM's name beside the bytes.
+        """
+        numbers = self._answers(_Request.STATE, int(Kind.STATE))
+        numbers += self._answers(_Request.OPERATION, int(_Request.PUSH))
+        numbers.append(self._turn(_Request.DRIVER))
+        return _saved_bytes(_WORLD, self._ram(), numbers)
+
+    @_alone
+    def restore(self, saved: Bytes) -> None:
+        """Goes on as the world over the same ROM whose `save` gave these bytes.
+
+        BadState, also where this ROM refuses the frame that was being written; OutOfMemory. Its
+        ROM, `strokes` and `events` stay as they are: this is no event.
+
+        Else the ROM isn't compared, nor its size: over another one a run may draw something else,
+        raise RunBroke, or never end. A strobe that was sent may not have arrived before the save:
+        where the world is `halted`, let it arrive.
+        """
+        ram, parts, operations, driver = _saved_world(_bytes("a saved state", saved))
+        try:
+            self._turn(_Request.CLEAR)
+            self._tell_saved(parts + operations)
+            answer = self._with_staged(_Request.RESUME_WORLD, ram, driver & ~0xFF)
+            if answer.kind is not Kind.OPENED:
+                raise _bad_state()
+        except Error:
+            # What was told is forgotten.
+            self._turn(_Request.TELL_STATE)
+            raise
+
+    @property
+    @_alone
+    def halted(self) -> bool:
+        """The HALT flag of its generator: whether no run is open. To ask it is no event."""
+        return not self._turn(_Request.STATE) >> 60 & 1
 
     @property
     @_alone
@@ -1358,7 +1469,8 @@ class World(_Device):
     def fetch(self) -> Entry:
         """The generator fetches a byte: LOW, FETCHED or DONE.
 
-        Halted; OutOfMemory, which is no event: the same byte is still wanted.
+        Halted; OutOfMemory, which is no event: the same byte is still wanted. RunBroke, only after
+        a `restore` of bytes that no world over this ROM saved: then the run is over.
         """
         return self._event(_Request.FETCH)
 
@@ -1385,7 +1497,7 @@ class World(_Device):
         """Has a draft drawn, by as many events as that takes, and returns its strokes.
 
         What the driver and the generator are at is brought to its end first; a frame that was
-        offered before may not be drawn. DraftRefused, OutOfMemory; NoDraft.
+        offered before may not be drawn. DraftRefused, OutOfMemory; NoDraft. RunBroke as `fetch`.
         """
         words = sum(2 if operation.kind in (0, 2) else 1 for operation in _draft(draft))
         while True:
@@ -1409,6 +1521,8 @@ class World(_Device):
         asked = self._turns(numbers)
         last = numbers[asked - 1]
         self._events += asked - (last & 0xFF == Kind.NO_MEMORY)
+        if last & 0xFF == Kind.STILL:
+            last = next((number for number in numbers if number & 0xFF == Kind.BROKE), last)
         return self._entry(last)
 
     def _let_finish(self) -> None:
@@ -1425,27 +1539,32 @@ class World(_Device):
 
 
 class MomentJudge(_Device):
-    """Judges whether each run in a log is of one moment: the log of any system, told line by line.
+    """Judges whether each run in a log is consistent: the log of any system, told line by line.
 
-    A run is of one moment if there is a moment of it such that no byte which it reads changes
+    A run is consistent if there is a moment of it such that no byte which it reads changes
     between that moment and its reading. A byte changes where one is written that isn't what the log
-    told of it last; of a byte that nothing was told of, each write is a change.
+    told of it last; of a byte that nothing was told of, each write is a change. Else
+    the run is mixed.
 
     Each call tells one line, and returns an Entry, whose kind says how the newest run stands then:
 
         NO_RUN       no run is open
-        ONE_MOMENT   the open run is of one moment so far
-        NO_MOMENT    no moment of the open run is left
-        WHOLE        the line is the HALT of a run of one moment
-        TORN         the line is the HALT of a run of no moment
+        ONE_MOMENT   the open run is consistent so far
+        NO_MOMENT    the open run is mixed
+        WHOLE        the line is the HALT of a consistent run
+        TORN         the line is the HALT of a mixed run
 
     Its value is 1 where the line reads what was not written: another byte than the log told last of
-    it, of the RAM, of the ROM, or of the low byte that was told of this very word. Then somebody
-    writes who isn't in the log. Else it is 0. What it says is proved, as the judge of the library
+    it, of the RAM, of the ROM, or of the low byte that was told of this very word. Then something
+    unlogged wrote that byte. Else it is 0. What it says is proved, as the judge of the library
     is.
+
+    It isn't saved. A run that was open before it was made isn't judged: NO_RUN. After a `restore`
+    tell a new one the log from its beginning, or begin with the next run.
     """
 
     def __init__(self) -> None:
+        """A judge that was told nothing. OutOfMemory."""
         super().__init__(_Request.OPEN_JUDGE)
 
     def tell(self, entry: Entry) -> Entry:

@@ -20,7 +20,7 @@ enum { ROWS = sizeof table / sizeof table[0] };
 
 /* The state of the definition; a flag is 0 or 1. */
 typedef struct {
-    int a, x, y, s, pc, n, z, c, v;
+    int a, x, y, s, pc, n, z, c, v, d, i;
 } state;
 
 static uint8_t theirs[PLACES], ours[PLACES];
@@ -57,16 +57,24 @@ static void setting(state *t, char name, int byte)
     telling(t, byte);
 }
 
-static int size(const char *mode) { return strcmp(mode, "Absolute") == 0 ? 3 : 2; }
+static int is(const char *word, const char *name) { return strcmp(word, name) == 0; }
+
+static int size(const char *mode) { return strncmp(mode, "Absolute", 8) == 0 ? 3 : 2; }
+
+static int pointed(int zp) { return ours[zp] + 256 * ours[(zp + 1) % 256]; }
 
 static int named_address(const state *t, const char *mode)
 {
-    int first = ours[t->pc + 1];
-    if (strcmp(mode, "Immediate") == 0) return t->pc + 1;
-    if (strcmp(mode, "ZeroPage") == 0) return first;
-    if (strcmp(mode, "ZeroPageX") == 0) return (first + t->x) % 256;
-    if (strcmp(mode, "Absolute") == 0) return first + 256 * ours[t->pc + 2];
-    return (ours[first] + 256 * ours[(first + 1) % 256] + t->y) % PLACES;
+    int first = ours[t->pc + 1], wide = first + 256 * ours[t->pc + 2];
+    if (is(mode, "Immediate")) return t->pc + 1;
+    if (is(mode, "ZeroPage")) return first;
+    if (is(mode, "ZeroPageX")) return (first + t->x) % 256;
+    if (is(mode, "ZeroPageY")) return (first + t->y) % 256;
+    if (is(mode, "Absolute")) return wide;
+    if (is(mode, "AbsoluteX")) return (wide + t->x) % PLACES;
+    if (is(mode, "AbsoluteY")) return (wide + t->y) % PLACES;
+    if (is(mode, "IndexedIndirect")) return pointed((first + t->x) % 256);
+    return (pointed(first) + t->y) % PLACES;
 }
 
 static int stack_place(int s) { return 0x100 + s % 256; }
@@ -75,10 +83,17 @@ static void changing(state *t, const char *mode, int byte)
 {
     put(named_address(t, mode), byte);
     telling(t, byte);
-    t->pc += 2;
+    t->pc += size(mode);
 }
 
-static int is(const char *word, const char *name) { return strcmp(word, name) == 0; }
+/* A sum with the carry. */
+static void adding(state *t, int byte)
+{
+    int sum = t->a + byte + t->c, same = t->a / 128 == byte / 128;
+    t->v = same && t->a / 128 != sum % 256 / 128;
+    t->c = sum >= 256;
+    setting(t, 'A', sum % 256);
+}
 
 static void take_byte(state *t, const char *kind, char of, const char *mode)
 {
@@ -88,6 +103,8 @@ static void take_byte(state *t, const char *kind, char of, const char *mode)
     else if (is(kind, "And")) setting(t, 'A', t->a & byte);
     else if (is(kind, "Or")) setting(t, 'A', t->a | byte);
     else if (is(kind, "Xor")) setting(t, 'A', t->a ^ byte);
+    else if (is(kind, "Add")) adding(t, byte);
+    else if (is(kind, "Subtract")) adding(t, 255 - byte);
     else if (is(kind, "Compare")) {
         int value = *register_named(t, of);
         telling(t, (value + 256 - byte) % 256);
@@ -99,42 +116,108 @@ static void take_byte(state *t, const char *kind, char of, const char *mode)
     }
 }
 
-static void shift(state *t, const char *kind)
+/* What a shift makes of a byte, and of C. */
+static int shifted(state *t, const char *shift, int old)
 {
-    int old = ours[ours[t->pc + 1]], carry = t->c;
-    if (is(kind, "ShiftLeft") || is(kind, "RotateLeft")) {
-        t->c = old >= 128;
-        changing(t, "ZeroPage", (2 * old + (is(kind, "RotateLeft") ? carry : 0)) % 256);
-        return;
+    int carry = t->c, left = is(shift, "Left") || is(shift, "RotateLeft");
+    t->c = left ? old >= 128 : old % 2;
+    if (is(shift, "Left")) return 2 * old % 256;
+    if (is(shift, "RotateLeft")) return (2 * old + carry) % 256;
+    return old / 2 + (is(shift, "RotateRight") ? 128 * carry : 0);
+}
+
+static int *flag_named(state *t, char name)
+{
+    switch (name) {
+    case 'N': return &t->n;
+    case 'Z': return &t->z;
+    case 'C': return &t->c;
+    case 'O': return &t->v;
+    case 'D': return &t->d;
+    default: return &t->i;
     }
-    old = t->a;
-    t->pc += 1;
-    t->c = is(kind, "ShiftLeftA") ? old >= 128 : old % 2;
-    setting(t, 'A', is(kind, "ShiftLeftA") ? 2 * old % 256 : old / 2);
 }
 
 static void branch_where(state *t, char flag, int when)
 {
-    int value = flag == 'N' ? t->n : flag == 'Z' ? t->z : flag == 'C' ? t->c : t->v;
     int offset = ours[t->pc + 1];
     int back = offset >= 128 ? PLACES - 256 : 0;
-    t->pc = value == when ? (t->pc + 2 + offset + back) % PLACES : t->pc + 2;
+    t->pc = *flag_named(t, flag) == when ? (t->pc + 2 + offset + back) % PLACES : t->pc + 2;
+}
+
+static int pulled(const state *t, int back) { return ours[stack_place(t->s + back)]; }
+
+static int pulled_word(const state *t, int back)
+{
+    return pulled(t, back) + 256 * pulled(t, back + 1);
+}
+
+/* The flags as a byte; `asked` where an instruction pushes it. */
+static int flags_byte(const state *t, int asked)
+{
+    return 128 * t->n + 64 * t->v + 32 + 16 * asked + 8 * t->d + 4 * t->i + 2 * t->z + t->c;
+}
+
+static void set_flags(state *t, int byte)
+{
+    t->n = byte / 128 % 2;
+    t->v = byte / 64 % 2;
+    t->d = byte / 8 % 2;
+    t->i = byte / 4 % 2;
+    t->z = byte / 2 % 2;
+    t->c = byte % 2;
 }
 
 static void move(state *t, const char *kind)
 {
-    int target = ours[t->pc + 1] + 256 * ours[t->pc + 2], back = t->pc + 2;
-    if (is(kind, "Return")) {
-        t->pc = (ours[stack_place(t->s + 1)] + 256 * ours[stack_place(t->s + 2)] + 1) % PLACES;
+    int low = ours[t->pc + 1], high = ours[t->pc + 2], target = low + 256 * high, back = t->pc + 2;
+    if (is(kind, "JumpAt")) t->pc = ours[target] + 256 * ours[(low + 1) % 256 + 256 * high];
+    else if (is(kind, "Return")) {
+        t->pc = (pulled_word(t, 1) + 1) % PLACES;
         t->s = (t->s + 2) % 256;
-        return;
-    }
-    if (is(kind, "Call")) {
+    } else if (is(kind, "Resume")) {
+        set_flags(t, pulled(t, 1));
+        t->pc = pulled_word(t, 2);
+        t->s = (t->s + 3) % 256;
+    } else {
+        t->pc = target;
+        if (is(kind, "Jump")) return;
         put(stack_place(t->s), back / 256);
         put(stack_place(t->s + 255), back % 256);
         t->s = (t->s + 254) % 256;
     }
-    t->pc = target;
+}
+
+/* What has one byte, and moves S or nothing. */
+static void stack(state *t, const char *kind)
+{
+    t->pc += 1;
+    if (is(kind, "FromStack")) setting(t, 'X', t->s);
+    else if (is(kind, "ToStack")) t->s = t->x;
+    else if (is(kind, "PushA") || is(kind, "PushFlags")) {
+        put(stack_place(t->s), is(kind, "PushA") ? t->a : flags_byte(t, 1));
+        t->s = (t->s + 255) % 256;
+    } else if (is(kind, "PullA") || is(kind, "PullFlags")) {
+        if (is(kind, "PullA")) setting(t, 'A', pulled(t, 1));
+        else set_flags(t, pulled(t, 1));
+        t->s = (t->s + 1) % 256;
+    }
+}
+
+static void interrupted(state *t)
+{
+    put(stack_place(t->s), t->pc / 256);
+    put(stack_place(t->s + 255), t->pc % 256);
+    put(stack_place(t->s + 254), flags_byte(t, 0));
+    t->s = (t->s + 253) % 256;
+    t->i = 1;
+    t->pc = ours[0xFFFA] + 256 * ours[0xFFFB];
+}
+
+static int is_move(const char *kind)
+{
+    return is(kind, "Jump") || is(kind, "JumpAt") || is(kind, "Call") || is(kind, "Return") ||
+        is(kind, "Resume");
 }
 
 /* What an instruction does, by its words in the definition. */
@@ -143,7 +226,8 @@ static void does(state *t, const char *instruction)
     char kind[32] = "", one[32] = "", two[32] = "";
     sscanf(instruction, "%31s %31s %31s", kind, one, two);
     if (is(kind, "Load") || is(kind, "Compare")) take_byte(t, kind, one[0], two);
-    else if (is(kind, "And") || is(kind, "Or") || is(kind, "Xor") || is(kind, "TestBits"))
+    else if (is(kind, "And") || is(kind, "Or") || is(kind, "Xor") || is(kind, "TestBits") ||
+        is(kind, "Add") || is(kind, "Subtract"))
         take_byte(t, kind, 'A', one);
     else if (is(kind, "Store")) {
         put(named_address(t, two), *register_named(t, one[0]));
@@ -156,12 +240,17 @@ static void does(state *t, const char *instruction)
     else if (is(kind, "Step")) {
         setting(t, one[0], (*register_named(t, one[0]) + atoi(two)) % 256);
         t->pc += 1;
-    } else if (is(kind, "SetCarry")) {
-        t->c = is(one, "true");
+    } else if (is(kind, "ShiftA")) {
+        setting(t, 'A', shifted(t, one, t->a));
+        t->pc += 1;
+    } else if (is(kind, "ShiftAt"))
+        changing(t, two, shifted(t, one, ours[named_address(t, two)]));
+    else if (is(kind, "Set")) {
+        *flag_named(t, one[0]) = is(two, "true");
         t->pc += 1;
     } else if (is(kind, "Branch")) branch_where(t, one[0], is(two, "true"));
-    else if (is(kind, "Jump") || is(kind, "Call") || is(kind, "Return")) move(t, kind);
-    else shift(t, kind);
+    else if (is_move(kind)) move(t, kind);
+    else stack(t, kind);
 }
 
 static uint32_t seed = 1979;
@@ -180,13 +269,13 @@ static int some_byte(void)
 
 static cpu some_cpu(int pc)
 {
-    static const int flags[] = { NEGATIVE, ZERO, CARRY, OVERFLOW };
+    static const int flags[] = { NEGATIVE, ZERO, CARRY, OVERFLOW, INTERRUPT, DECIMAL };
     cpu c = { 0, 0, 0, 0, 0, (uint16_t)pc, 0 };
     c.a = (uint8_t)some_byte();
     c.x = (uint8_t)some_byte();
     c.y = (uint8_t)some_byte();
     c.s = (uint8_t)some_byte();
-    for (int i = 0; i < 4; i++)
+    for (int i = 0; i < 6; i++)
         if (random_below(2)) c.p = (uint8_t)(c.p | flags[i]);
     return c;
 }
@@ -196,21 +285,29 @@ static state state_of(const cpu *c)
     int p = c->p;
     state t = {
         c->a, c->x, c->y, c->s, c->pc,
-        !!(p & NEGATIVE), !!(p & ZERO), !!(p & CARRY), !!(p & OVERFLOW)
+        !!(p & NEGATIVE), !!(p & ZERO), !!(p & CARRY), !!(p & OVERFLOW),
+        !!(p & DECIMAL), !!(p & INTERRUPT)
     };
     return t;
 }
 
+/* Of an opcode, or of an NMI in place of the last row. */
 static int compare_step(int row)
 {
     int pc = 0x300 + random_below(0x6000);
     for (int i = 0; i < 3; i++)
-        theirs[pc + i] = ours[pc + i] = (uint8_t)(i ? some_byte() : table[row].opcode);
+        theirs[pc + i] = ours[pc + i] =
+            (uint8_t)(i || row == ROWS ? some_byte() : table[row].opcode);
     cpu c = some_cpu(pc);
     state t = state_of(&c);
     writes = our_writes = 0;
-    if (!step(&c)) return 0;
-    does(&t, table[row].instruction);
+    if (row == ROWS) {
+        begin_nmi(&c);
+        interrupted(&t);
+    } else {
+        if (!step(&c)) return 0;
+        does(&t, table[row].instruction);
+    }
     state end = state_of(&c);
     if (memcmp(&end, &t, sizeof t) != 0) return 0;
     for (int i = 0; i < writes; i++)
@@ -222,7 +319,8 @@ static int compare_step(int row)
 
 static void print_state(const state *t)
 {
-    printf(" %d %d %d %d %d %d %d %d %d", t->a, t->x, t->y, t->s, t->pc, t->n, t->z, t->c, t->v);
+    printf(" %d %d %d %d %d", t->a, t->x, t->y, t->s, t->pc);
+    printf(" %d %d %d %d %d %d", t->n, t->z, t->c, t->v, t->d, t->i);
 }
 
 /* A line: the seed of the memory, three bytes, the state before, the state after, two writes. */
@@ -252,32 +350,39 @@ static void print_vector(int row)
 /* Where board_steps.s has its cells, and where it runs an instruction. */
 enum { INDEXED = 0x7000, ABSOLUTE = 0x7100, BUFFER = 0x7300, POINTER = 0xF0, CELL = 0xF8 };
 
-/* The two bytes after an opcode, so that it names one of those cells with this X; the instruction's
- * size. */
-static int operands(const char *instruction, int x, int *first, int *second)
+/* The two bytes after an opcode, so that it names one of those cells with this X and Y; the
+ * instruction's size. */
+static int operands(const char *instruction, int x, int y, int *first, int *second)
 {
-    *second = 0x71;
+    int index = strstr(instruction, "AbsoluteX") ? x : strstr(instruction, "AbsoluteY") ? y : 0;
+    *second = (ABSOLUTE - index) / 256;
     *first = some_byte();
-    if (strstr(instruction, "Absolute")) return *first = 0, 3;
+    if (strstr(instruction, "Absolute")) return *first = (ABSOLUTE - index) % 256, 3;
     if (strstr(instruction, "Immediate")) return 2;
     if (strstr(instruction, "IndirectIndexed")) return *first = POINTER, 2;
+    if (strstr(instruction, "IndexedIndirect")) return *first = (POINTER - x) & 0xFF, 2;
     if (strstr(instruction, "Branch")) return *first = 3, 2;
     if (strstr(instruction, "ZeroPageX")) return *first = (CELL - x) & 0xFF, 2;
-    if (strstr(instruction, "ZeroPage") || is(instruction, "ShiftLeft") ||
-        is(instruction, "RotateLeft")) return *first = CELL, 2;
+    if (strstr(instruction, "ZeroPageY")) return *first = (CELL - y) & 0xFF, 2;
+    if (strstr(instruction, "ZeroPage")) return *first = CELL, 2;
     return 1;
 }
 
-static int is_move(const char *instruction)
+/* Whether board_steps.s runs it: it leaves S, and what is behind it, as they are. The sim65 of cc65
+ * 2.19 takes ROL abs,X for an instruction of two bytes. */
+static int is_run(const char *instruction)
 {
-    return is(instruction, "Jump") || is(instruction, "Call") || is(instruction, "Return");
+    return !is_move(instruction) && !strstr(instruction, "Push") && !strstr(instruction, "Pull") &&
+        !strstr(instruction, "Stack") && !is(instruction, "ShiftAt RotateLeft AbsoluteX");
 }
 
 static void write_step(const char *instruction, int opcode, FILE *records, FILE *results)
 {
     cpu c = some_cpu(BUFFER);
+    c.p = (uint8_t)(c.p & ~DECIMAL);
+    if (strstr(instruction, "IndexedIndirect")) c.y = 0;
     state t = state_of(&c);
-    int first, second, bytes = operands(instruction, t.x, &first, &second);
+    int first, second, bytes = operands(instruction, t.x, t.y, &first, &second);
     int cells[3] = { some_byte(), some_byte(), some_byte() }, y = t.y;
     uint8_t record[11] = {
         (uint8_t)bytes, (uint8_t)opcode, (uint8_t)first, (uint8_t)second, c.a, c.x, c.y,
@@ -294,7 +399,7 @@ static void write_step(const char *instruction, int opcode, FILE *records, FILE 
     does(&t, instruction);
     uint8_t result[8] = {
         (uint8_t)t.a, (uint8_t)t.x, (uint8_t)t.y,
-        (uint8_t)(t.n * NEGATIVE + t.v * OVERFLOW + t.z * ZERO + t.c * CARRY),
+        (uint8_t)(flags_byte(&t, 0) & ~UNUSED),
         ours[CELL], ours[INDEXED + y], ours[ABSOLUTE], (uint8_t)(t.pc == BUFFER + 5)
     };
     fwrite(record, 1, sizeof record, records);
@@ -306,7 +411,7 @@ static int write_steps(long count, const char *record_path, const char *result_p
     FILE *records = fopen(record_path, "wb"), *results = fopen(result_path, "wb");
     if (!records || !results) return 1;
     for (long i = 0; i < count; i++)
-        if (!is_move(table[i % ROWS].instruction)) {
+        if (is_run(table[i % ROWS].instruction)) {
             our_writes = 0;
             write_step(table[i % ROWS].instruction, table[i % ROWS].opcode, records, results);
         }
@@ -325,10 +430,10 @@ int main(int argc, char **argv)
     long steps = argc == 2 ? atol(argv[1]) : 0;
     for (int b = 0; b < PLACES; b++) theirs[b] = ours[b] = (uint8_t)random_below(256);
     for (long i = 0; i < steps; i++)
-        if (!compare_step((int)(i % ROWS))) {
-            printf("step %ld, %s, differs\n", i, table[i % ROWS].instruction);
+        if (!compare_step((int)(i % (ROWS + 1)))) {
+            printf("step %ld differs: row %ld\n", i, i % (ROWS + 1));
             return 1;
         }
-    printf("%ld steps of %d opcodes\n", steps, ROWS);
+    printf("%ld steps of %d opcodes, NMIs among them\n", steps, ROWS);
     return steps == 0;
 }

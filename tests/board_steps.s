@@ -88,7 +88,7 @@ both:   sta RESULT + 7
         stx RESULT + 1
         sty RESULT + 2
         pla
-        and #$C3        ; N, V, Z and C
+        and #$CF        ; N, V, D, I, Z and C
         sta RESULT + 3
         cld
         lda ZEROPAGE

@@ -6,25 +6,31 @@ refuses what it doesn't know.
     core_cells.py FOLDER --write       writes the clocks that the prover computes
 
 The cells are computed here, by the meaning that each kind has, over random clocks since power-up of
-dvg_core, of dvg_board, and of dvg_vectors, which has all others. The pins after each clock must be
-those that Icarus Verilog has, and those of Verilator. Some clocks of Icarus Verilog are given to
-the prover, too, which computes them by the definition of the cells: proofs/ClockVectors.antt of
-dvg_core and of dvg_board must be what is written here. A board whose pins are made of several wires
-is computed, too. Then texts are planted in the Verilog that core/cells must refuse, each by a line
-that says why. The last line is 'N passed, M failed'."""
+dvg_core, also with DVG_WRAPS, of dvg_cpu, of dvg_board, of dvg_vectors, and of dvg_machine. The
+pins after each clock must be those that Icarus Verilog has, and those of Verilator. Some clocks of
+Icarus Verilog are given to the prover, too, which computes them by the definition of the cells:
+proofs/ClockVectors.antt of dvg_core, dvg_cpu and dvg_board must be what is written here. A board
+whose pins are made of several wires is computed, too. Then texts are planted in the Verilog that
+core/cells must refuse, each by a line that says why. The last line is 'N passed, M failed'."""
 
+import glob
 import os
 import random
 import re
+import shutil
 import subprocess
 import sys
 
 import texts
 
 CELLS = f"{texts.TOP}/core/cells"
-MODULES = "dvg_core", "dvg_board", "dvg_pace", "dvg_motion", "dvg_vectors"
+MODULES = ("dvg_core", "dvg_cpu", "dvg_board", "dvg_pace", "dvg_motion", "dvg_vectors",
+           "dvg_machine")
 SHOWS = "at high halted done fault stroke x0 y0 x y z".split()
 TELLS = "ends jsrl labs vec sum dx_sign dy_sign dx dy vec_z".split()
+
+with open(f"{texts.TOP}/crates/dvg_6502/specs/Processor.antt", encoding="utf-8") as definition:
+    OPCODES = [int(op, 16) for op in re.findall(r"\((0x[0-9A-F]{2}), \w", definition.read())]
 
 # What each kind of cell computes, as the definition has it.
 MEANING = {
@@ -37,6 +43,10 @@ MEANING = {
     "eq": lambda a, b: int(a == b),
     "ne": lambda a, b: int(a != b),
     "lt": lambda a, b: int(a < b),
+    "ge": lambda a, b: int(a >= b),
+    "bit_and": lambda a, b: a & b,
+    "bit_or": lambda a, b: a | b,
+    "bit_xor": lambda a, b: a ^ b,
     "none": lambda a: int(a == 0),
     "some": lambda a: int(a != 0),
     "both": lambda a, b: int(a != 0 and b != 0),
@@ -157,9 +167,24 @@ class Core(Circuit):
         k, din = random.randrange(100), random.randrange(256)
         if self.now["high"]:
             din = (0xF0 if din >> 4 == 0xB and k % 4 else 0xC0 if k % 5 == 1 else 0xD0
-                   if k % 5 == 2 and self.now["depth"] else din & 0xF0) | din & 0xF
+                   if k % 5 == 2 and self.now.get("depth", 1) else din & 0xF0) | din & 0xF
         return {"reset": int(k == 0), "start": int(k == 1 or not self.now["is_open"] and k < 50),
                 "valid": int(k > 2 and k % 8 != 3), "hole": int(k == 99), "din": din}
+
+
+class Processor(Circuit):
+    """dvg_cpu."""
+    WIDTHS = {"reset": 1, "step": 1, "nmi": 1, "din": 8}
+    OUTPUTS = "at write dout sync".split()
+
+    def any_pins(self):
+        """Pins by which instructions of all kinds come: most opcodes are those of the
+        definition."""
+        din = random.randrange(256)
+        if self.now["state"] == 2 and not once_in(16):
+            din = random.choice(OPCODES)
+        return {"reset": int(once_in(400)), "step": int(not once_in(4)), "nmi": int(once_in(12)),
+                "din": din}
 
 
 class Board(Circuit):
@@ -207,6 +232,22 @@ class Vectors(Board):
         return {"tick": int(once_in(2))} | pins
 
 
+class Machine(Circuit):
+    """dvg_machine, with dvg_cpu and dvg_board."""
+    WIDTHS = {"reset": 1, "nmi": 1, "hold": 1, "big": 1, "rom": 8, "m": 8}
+    OUTPUTS = "access write a d sync takes".split() + SHOWS
+
+    def any_pins(self):
+        """Bytes of the memory by which stores and loads of the vector RAM come, and strobes."""
+        cpu, m = self.now["cpu"], random.choice([0x00, 0x01, 0x30, 0x40, 0x40, 0xFF])
+        if once_in(3):
+            m = random.randrange(256)
+        if cpu["state"] == 2 and not once_in(8):
+            m = random.choice([*OPCODES, 0x8D, 0x8D, 0x8D, 0xAD, 0x9D, 0x99])
+        return {"reset": int(once_in(800)), "nmi": int(once_in(20)), "hold": int(once_in(16)),
+                "big": int(once_in(2)), "rom": random.randrange(256), "m": m}
+
+
 def once_in(count):
     return random.randrange(count) == 0
 
@@ -217,14 +258,17 @@ def run(*command):
 
 
 def readers(folder, defines, files):
-    """The other readers of the Verilog: a name and a program each."""
-    bench = f"{texts.TOP}/tests/core_clocks.v"
+    """The other readers of the Verilog: a name and a program each. Verilator's own objects are
+    those of the circuit before, if there is one."""
+    bench, made = f"{texts.TOP}/tests/core_clocks.v", f"{folder}/verilated"
     run("iverilog", "-g2005", *defines, "-o", f"{folder}/icarus", bench, *files)
-    run("verilator", "--binary", "--timing", "-Wno-fatal", *defines,
-        "--Mdir", f"{folder}/verilated", "-o", "verilated", "--top-module", "core_clocks",
-        bench, *files)
+    run("verilator", "--cc", "--exe", "--main", "--timing", "-Wno-fatal", *defines, "--Mdir", made,
+        "-o", "verilated", "--top-module", "core_clocks", bench, *files)
+    for name in glob.glob(f"{folder}/../*/verilated/verilated*.o"):
+        shutil.copy(name, made)
+    run("make", "-C", made, "-f", "Vcore_clocks.mk", "OPT_FAST=-O0", "OPT_GLOBAL=-O0")
     return (("Icarus", ["vvp", "-n", f"{folder}/icarus"]),
-            ("Verilator", [f"{folder}/verilated/verilated"]))
+            ("Verilator", [f"{made}/verilated"]))
 
 
 def expect_clocks(suite, what, circuit, programs, folder, count):
@@ -295,7 +339,7 @@ Q = "assign q     = flag ? {ran, 7'b0} : read;"
 CORE, WRITES = ".clk(clk), .reset(reset), .start(starting)", "if (writes) ram[place] <= d;"
 REFUSED = [
     ("dvg_core", "at + 12'd1", "at * 12'd3", "$mul: this kind isn't known"),
-    ("dvg_core", "scale + local_scale", "scale ^ local_scale", "$xor: this kind isn't known"),
+    ("dvg_core", "scale + local_scale", "scale ~^ local_scale", "$xnor: this kind isn't known"),
     ("dvg_core", "depth == 3'd0", "$signed(depth) < $signed(3'd1)", "$lt: a sign"),
     ("dvg_core", AFTER, "wire [11:0] after = at < 12'd1;", "$lt: widths"),
     ("dvg_core", "s3, scale} = 0;", "s3} = 0; scale = 4'd1;", "scale isn't 0 at power-up"),
@@ -337,7 +381,7 @@ REFUSED = [
      "$memwr_v2: there are 2"),
     ("dvg_board", CLOCK, "always @(negedge clk)", "the other edge"),
     # The board
-    ("dvg_board", "reset || starting || pending", "reset ^ starting ^ pending", "$xor: this kind"),
+    ("dvg_board", "reset || starting || pending", "reset ~^ starting ~^ pending", "$xnor: this"),
     ("dvg_board", Q, "assign q = read == 8'hxx ? {ran, 7'b0} : read;", "a bit that is x"),
     ("dvg_board", ".valid(pending)", ".valid(1'bx)", "dvg_core: a bit that is x"),
     ("dvg_board", CORE, ".clk(a[0]), .reset(reset), .start(starting)", "dvg_core: another clock"),
@@ -345,6 +389,11 @@ REFUSED = [
     ("dvg_board", CORE, ".clk(clk), .reset(reset), .begins(starting)",
      "does not have a port named 'begins'"),
     ("dvg_board", "dvg_core core (", "other core (", "Module `\\other' referenced"),
+    # The processor
+    ("dvg_cpu", "and_a      ? a & din :", "and_a ? a & din[6:0] :", "$and: widths"),
+    ("dvg_cpu", "sync  = is_fetch;", "sync = is_fetch && step;", "the pin sync rests on pins"),
+    ("dvg_cpu", "is_data && store;", "is_data && stores && din[0];", "write rests on pins"),
+    ("dvg_cpu", "back, was, due} = 0;", "back, was, due} = 1;", "due isn't 0 at power-up"),
     # The parts of dvg_vectors
     ("dvg_vectors", ".hold(hold), .access", ".hold(jsrl), .access", "a loop of cells"),
     ("dvg_vectors", ".start(starts), ", "", "dvg_pace: start isn't connected"),
@@ -442,10 +491,15 @@ def expect_pieces(suite, folder):
 
 def circuits():
     """Each circuit by its cells, with its name and what the benches are told of it."""
-    core, pace, motion = map(Definition, ("dvg_core", "dvg_pace", "dvg_motion"))
+    core, cpu, pace, motion = map(Definition, ("dvg_core", "dvg_cpu", "dvg_pace", "dvg_motion"))
     board = Definition("dvg_board", parts={"cells": core})
     vectors = Definition("dvg_vectors", parts={"board": board, "pace": pace, "motion": motion})
-    return [("dvg_core", [], lambda: Core(core)), ("dvg_board", ["-DBOARD"], lambda: Board(board)),
+    machine = Definition("dvg_machine", parts={"cpu": cpu, "board": board})
+    wraps = Definition("dvg_wraps")
+    return [("dvg_core", [], lambda: Core(core)), ("dvg_cpu", ["-DCPU"], lambda: Processor(cpu)),
+            ("dvg_wraps", ["-DDVG_WRAPS"], lambda: Core(wraps)),
+            ("dvg_machine", ["-DMACHINE"], lambda: Machine(machine)),
+            ("dvg_board", ["-DBOARD"], lambda: Board(board)),
             ("dvg_vectors", ["-DVECTORS"], lambda: Vectors(vectors))]
 
 
@@ -456,7 +510,7 @@ def main(folder, word="10000"):
         place = f"{folder}/{name}"
         os.makedirs(place)
         programs = readers(place, defines, files)
-        if name != "dvg_vectors":
+        if name not in ("dvg_wraps", "dvg_vectors", "dvg_machine"):
             text = vectors(name, circuit(), programs[0][1], place)
             if word == "--write":
                 with open(f"{texts.TOP}/crates/{name}/proofs/ClockVectors.antt", "w",

@@ -1,10 +1,10 @@
 /* dvg_core in Verilator beside the generator of the port, over random memories, with withheld
  * bytes, holes, starts and resets at any time.
  *
- *     core_fetches FETCHES SEED
+ *     core_fetches FETCHES SEED [wraps]
  *
- * Each pin is compared after each clock. Prints what was played, or the first difference (status
- * 1). */
+ * With `wraps` the core has the macro DVG_WRAPS, and the port a stack that wraps. Each pin is
+ * compared after each clock. Prints what was played, or the first difference (status 1). */
 #include "Vdvg_core.h"
 #include "core_bench.h"
 
@@ -125,7 +125,11 @@ int main(int argc, char **argv)
     uint64_t seed, wanted = read_arguments(argc, argv, &seed);
     Vdvg_core core;
     dvg *port = new_device();
-    dvg_open_generator(port);
+    if (argc > 3) {
+        dvg_open_wrapping(port);
+    } else {
+        dvg_open_generator(port);
+    }
     core.clk = 0;
     core.eval();
     fill_memory();

@@ -1,5 +1,5 @@
-/* core/top/top.v whole in Verilator, with the 6502 of board_cpu.h in the place of its processor: a
- * program of the board runs on it.
+/* core/top/icebreaker.v whole in Verilator, with the 6502 of board_cpu.h in the place of its
+ * processor: a program of the board runs on it.
  *
  *     core_game PROGRAM ROM SECONDS >LOG
  *
@@ -11,10 +11,11 @@
  *
  * Beside it the port's generator is handed the RAM and the ROM. Compared are where each fetch is,
  * each byte of the RAM that the processor reads, and the strokes of each picture; and the pins of
- * the monitor, which show as much of a picture as lies on the screen. What was played is printed to
- * standard error, or the first difference to standard output (status 1). */
-#include "Vtop.h"
-#include "Vtop___024root.h"
+ * the monitor, which show in each tick what the facts of core_run.h do with the words that were
+ * fetched. What was played is printed to standard error, or the first difference to standard output
+ * (status 1). */
+#include "Vicebreaker.h"
+#include "Vicebreaker___024root.h"
 #include "core_screen.h"
 extern "C" {
 #include "board_cpu.h"
@@ -22,59 +23,52 @@ extern "C" {
 
 enum : uint32_t { CLOCKS_A_SECOND = 12000000, NMIS_A_SECOND = 246, PROGRAM = 0x6800 };
 
-static Vtop top;
-static Vtop___024root *const root = top.rootp;
+static Vicebreaker top;
+static Vicebreaker___024root *const root = top.rootp;
 static cpu processor;
 static uint64_t accesses;               /* of the bus, each of one cycle */
 static uint8_t low[0x400], program[0x1800], rom[DVG_ROM_BYTES], ram[DVG_RAM_BYTES];
 static dvg *port;
 
 static struct {
-    uint64_t frames, starts, pictures, differ, strokes, seen, nmis, looks;
+    uint64_t frames, starts, pictures, differ, strokes, seen, ticks, nmis, looks;
 } counts;
 
-#define BOARD(signal) (root->top__DOT__board__DOT__##signal)
+#define MACHINE(signal) (root->icebreaker__DOT__machine__DOT__##signal)
+#define BOARD(signal) MACHINE(vectors__DOT__board__DOT__##signal)
 
 static uint8_t answer()
 {
-    return root->top__DOT__processor__DOT__seen & 0xFF;
+    return MACHINE(processor__DOT__seen) & 0xFF;
 }
 
-static bool is_step() { return root->top__DOT__processor__DOT__seen >> 8 & 1; }
-static bool is_reset() { return root->top__DOT__processor__DOT__seen >> 9 & 1; }
+static bool is_step() { return MACHINE(processor__DOT__seen) >> 8 & 1; }
+static bool is_reset() { return MACHINE(processor__DOT__seen) >> 9 & 1; }
 
 /* --- The monitor --- */
 
 static monitor screen;
+static Drawing drawing;
+static bool is_whole;                   /* the pins have to show the picture that was drawn */
 
 /* What the pins show in a clock. */
 static void watch_pins()
 {
     uint32_t x = top.pmod1a | (top.pmod2 & 3) << 8, y = top.pmod1b | (top.pmod2 >> 2 & 3) << 8;
-    screen.watch(x, y, top.pmod2 >> 4);
+    screen.watch(Shown{x, y, top.pmod2 >> 4u}, MACHINE(tick), !top.red_n);
 }
 
-/* What is seen of the last picture, and whether the pins have to show it yet. */
-static std::vector<dvg_stroke> wanted;
-static bool is_wanted;
-
-static void keep_wanted()
-{
-    wanted.clear();
-    is_wanted = true;
-    for (const dvg_stroke &stroke : shown) {
-        see_stroke(stroke, wanted);
-    }
-}
-
+/* At a start: what the pins showed of the picture before. */
 static void agree_on_pins()
 {
-    if (is_wanted) {
-        screen.agree_on(wanted);
+    if (is_whole) {
+        counts.ticks += drawing.ticks.size();
         counts.seen++;
+        screen.agree_on(drawing.ticks);
     }
-    is_wanted = false;
+    is_whole = false;
     screen.seen.clear();
+    drawing.begin();
 }
 
 /* --- The generator --- */
@@ -103,7 +97,7 @@ static void end_picture()
     counts.differ += !is_same_picture();
     counts.pictures++;
     before = shown;
-    keep_wanted();
+    is_whole = true;
 }
 
 /* The event of the core in this clock, with the port's answer. */
@@ -127,6 +121,7 @@ static dvg_answer tell_port()
     const uint8_t *word = at < 0x400 ? ram + 2 * at : rom + 2 * (at - 0x800);
     if (high) {
         printf("fetched %03X %02X%02X\n", at, word[1], word[0]);
+        drawing.take(word[0] | word[1] << 8);
     } else {
         printf("low %03X %02X\n", at, word[0]);
     }
@@ -165,7 +160,7 @@ static void clock_once()
 /* A cycle with these pins, up to the edge that ends it. What is on the latch then is returned. */
 static uint8_t cycle(bool reads, uint16_t at, uint8_t data)
 {
-    root->top__DOT__processor__DOT__pins = (uint32_t)reads << 24 | (uint32_t)at << 8 | data;
+    MACHINE(processor__DOT__pins) = (uint32_t)reads << 24 | (uint32_t)at << 8 | data;
     top.eval();
     while (!is_step()) {
         clock_once();
@@ -273,9 +268,9 @@ int main(int count, char **words)
     fprintf(stderr,
         "%" PRIu64 " clocks, %" PRIu64 " cycles of the processor, %" PRIu64 " NMIs, %" PRIu64
         " looks at the flag: %" PRIu64 " frames, %" PRIu64 " pictures equal to the port's, "
-        "%" PRIu64 " of them unlike the one before, %" PRIu64 " seen on the pins, %" PRIu64
-        " strokes\n",
+        "%" PRIu64 " of them unlike the one before, %" PRIu64 " seen on the pins in %" PRIu64
+        " ticks, %" PRIu64 " strokes\n",
         clocks, accesses, counts.nmis, counts.looks, counts.frames, counts.pictures, counts.differ,
-        counts.seen, counts.strokes);
+        counts.seen, counts.ticks, counts.strokes);
     return 0;
 }

@@ -1,13 +1,16 @@
 #!/usr/bin/env -S python3 -B
 """Has the prover refuse the mistakes of core_mistakes.md.
 
-    core_proofs.py FOLDER [NUMBER..]      a folder in which core_mistakes.py planted them
+    core_proofs.py FOLDER [NUMBER..]      a folder in which core_mistakes.py planted them, and has
+                                          printed into FOLDER/mistakes; these alone
 
 Of each mistake core/cells writes the cells anew, in a copy of the crate that is proved of the
 changed file, and the prover must refuse a law of that crate, without its examples and the clocks of
-Icarus Verilog. The Verilog as it is must be proved there. A mistake that does no harm may be
-refused, too, as a proof may name a wire; one of dvg_bus.v isn't tried, as that isn't proved. What
-the crates stand on must be proved: `./prove dvg_motion`. The last line is 'N passed, M failed'."""
+Icarus Verilog; or of dvg_wraps, which is proved of dvg_core.v, too. The Verilog as it is must be
+proved there, of each crate that is asked. A mistake that does no harm may be refused, too, as a
+proof may name a wire; one of dvg_bus.v isn't tried, as that isn't proved. The proofs of dvg_cpu
+that are tables are made anew, too. What the crates stand on must be proved: `./prove dvg_motion
+dvg_wraps dvg_machine`. The last line is 'N passed, M failed'."""
 
 import os
 import re
@@ -20,11 +23,21 @@ from importlib.util import module_from_spec, spec_from_loader
 
 import texts
 
-CELLS = {"dvg_core": ["core"], "dvg_board": ["board"], "dvg_motion": ["motion", "pace", "vectors"]}
+CELLS = {"dvg_core": ["core"], "dvg_wraps": ["wraps"], "dvg_cpu": ["cpu"], "dvg_board": ["board"],
+         "dvg_motion": ["motion", "pace", "vectors"], "dvg_machine": ["machine"]}
 LAWS = {"dvg_core": ["core_refines", "pins_tell"],
+        "dvg_wraps": ["wraps_refine", "wraps_tell"],
+        "dvg_cpu": ["cpu_refines", "cpu_stays", "cpu_waits", "cpu_interrupts", "cpu_resets",
+                    "cpu_fits"],
         "dvg_board": ["board_keeps", "board_answers", "board_shows"],
         "dvg_motion": ["goes_by_pulses", "shows", "moves_right", "follows", "machine_follows",
-                       "halted_tells", "takes_time", "start_takes", "vectors_show"]}
+                       "halted_tells", "takes_time", "start_takes", "takes_picture",
+                       "reset_draws", "vectors_show"],
+        "dvg_machine": ["cells_step", "cells_keep", "goes_on", "reset_waits", "machine_shows"]}
+
+
+# The file that the cells of a module are read from, where its name is another one.
+FILES = {"wraps": "core"}
 
 
 def load(name):
@@ -46,6 +59,12 @@ def is_changed(planted, file):
         return copy.read() != here.read()
 
 
+def crates_of(planted):
+    """The crates that are proved of the file that a planted copy changes."""
+    return [crate for crate in CELLS
+            if any(is_changed(planted, f"dvg_{FILES.get(it, it)}.v") for it in CELLS[crate])]
+
+
 def make_room(room, crate):
     """A copy of a crate, with what is kept of its proof."""
     shutil.rmtree(room, ignore_errors=True)
@@ -57,6 +76,17 @@ def make_room(room, crate):
     os.makedirs(f"{room}/out/incremental", exist_ok=True)
 
 
+def check(room, crate):
+    """What a check of the laws of a crate writes, within half an hour."""
+    words = words_for(crate) + [word for law in LAWS[crate] for word in ("--only", law)]
+    try:
+        return subprocess.run(words, cwd=room, stdin=subprocess.DEVNULL, stdout=subprocess.PIPE,
+                              stderr=subprocess.STDOUT, encoding="utf-8", errors="replace",
+                              timeout=1800).stdout
+    except subprocess.TimeoutExpired:
+        return "out of time"
+
+
 def refusal(room, crate, planted):
     """What refuses a crate that has the cells of this Verilog: laws and a proof, or None."""
     for module in CELLS[crate]:
@@ -66,44 +96,54 @@ def refusal(room, crate, planted):
             return made.stderr.strip().rpartition("\n")[2]
         with open(f"{room}/specs/{module.capitalize()}.antt", "w", encoding="utf-8") as file:
             file.write(made.stdout)
-    words = words_for(crate) + [word for law in LAWS[crate] for word in ("--only", law)]
-    ran = subprocess.run(words, cwd=room, stdin=subprocess.DEVNULL, stdout=subprocess.PIPE,
-                         stderr=subprocess.STDOUT, encoding="utf-8", errors="replace", timeout=1800)
-    if len(re.findall(r"(?m)^fn \w+::\w+: proved", ran.stdout)) == len(LAWS[crate]):
+    if crate == "dvg_cpu":
+        subprocess.run([f"{texts.TOP}/crates/{crate}/tables", f"{room}/proofs", planted],
+                       check=True)
+    said = check(room, crate)
+    if len(re.findall(r"(?m)^fn \w+::\w+: proved", said)) == len(LAWS[crate]):
         return None
-    laws = re.findall(r"(?m)^fn \w+::(\w+): not proved", ran.stdout)
-    error = re.search(r"(?m)^\./(proofs/\S+?):\d+:\d+: error: `([^`]+)`", ran.stdout)
+    laws = re.findall(r"(?m)^fn \w+::(\w+): not proved", said)
+    error = re.search(r"(?m)^\./(proofs/\S+?):\d+:\d+: error: `([^`]+)`", said)
     if laws and error:
         return f"{' '.join(laws)}, {error[1]}: {error[2]}"
-    return f"NOTHING: {ran.stdout[-300:]}"
+    return f"NOTHING: {said[-300:]}"
 
 
-def try_cells(suite, name, crate, planted, room, wanted):
-    """Has a crate checked with the cells of this Verilog. The verdict must be one that is
-    wanted."""
-    start = time.monotonic()
-    make_room(room, crate)
-    why = refusal(room, crate, planted)
+def try_cells(suite, name, crates, planted, room, wanted):
+    """Has crates checked with the cells of this Verilog, up to one that is refused. The verdict
+    must be one that is wanted."""
+    start, why = time.monotonic(), None
+    for crate in crates:
+        make_room(room, crate)
+        why = refusal(room, crate, planted)
+        if why:
+            break
     print(f"{name}: {f'refused by {why}' if why else 'proved'}, {time.monotonic() - start:.0f} s",
           flush=True)
     found = "proved" if why is None else "not judged" if why.startswith("NOTHING") else "refused"
     suite.expect(name, [("verdict", found if found in wanted else wanted[0], found)])
 
 
-def main(folder, *numbers):
-    suite = texts.Suite()
-    for crate in CELLS:
-        try_cells(suite, f"{crate} as it is", crate, f"{texts.TOP}/core", f"{folder}/room",
-                  ["proved"])
+def read_mistakes(folder, numbers):
+    """Name, bench, folder and crates of these mistakes, or of all."""
     with open(f"{folder}/mistakes", encoding="utf-8") as lines:
         mistakes = [line.rstrip("\n").split(" ", 2) for line in lines]
     for number, bench, name in mistakes:
-        planted = f"{folder}/planted/{number}"
-        if (not numbers or number in numbers) and not is_changed(planted, "dvg_bus.v"):
-            crate = next(crate for crate in CELLS
-                         if any(is_changed(planted, f"dvg_{it}.v") for it in CELLS[crate]))
-            wanted = ["refused", "proved"] if bench == "none" else ["refused"]
-            try_cells(suite, name, crate, planted, f"{folder}/room", wanted)
+        if not numbers or number in numbers:
+            planted = f"{folder}/planted/{number}"
+            yield name, bench, planted, crates_of(planted)
+
+
+def main(folder, *numbers):
+    suite = texts.Suite()
+    mistakes = [it for it in read_mistakes(folder, numbers) if it[3]]
+    for crate in CELLS:
+        if not numbers or any(crate in it[3] for it in mistakes):
+            try_cells(suite, f"{crate} as it is", [crate], f"{texts.TOP}/core", f"{folder}/room",
+                      ["proved"])
+    for name, bench, planted, crates in mistakes:
+        wanted = ["refused", "proved"] if bench == "none" else ["refused"]
+        try_cells(suite, name, crates, planted, f"{folder}/room", wanted)
     suite.end()
 
 

@@ -10,116 +10,13 @@
 #include <cstring>
 #include "Vdvg_vectors.h"
 #include "core_bench.h"
-#include "core_facts.h"
-
-struct Shown {
-    uint32_t x, y, z;
-};
-struct Move {
-    uint32_t x0, y0, x1, y1, z;
-};
+#include "core_run.h"
 
 static uint8_t memory[2048 + 4096];
 static size_t size;
 
-/* The word at an address; the bench has no holes. */
-static uint32_t word_at(uint32_t at)
-{
-    uint32_t first = size > 4096 ? 0x400 : 0x800;
-    uint32_t place = at < 0x400 ? 2 * at : 2048 + 2 * (at - first);
-    return memory[place] | memory[place + 1] << 8;
-}
-
-/* A run by the emulator's facts: what is shown in each tick, and the moves. It begins with the
- * counters and the global scale of the run before. */
-class Run {
-public:
-    std::vector<Shown> ticks;
-    std::vector<Move> moves;
-
-    Run(const Facts &from, uint32_t global) : facts(from), scale(global)
-    {
-        dark(1); /* the start clears the address */
-        while (step()) {
-        }
-    }
-    Facts facts;
-    uint32_t scale;
-
-private:
-    uint32_t at = 0, depth = 0, stack[4] = {};
-
-    void dark(int count)
-    {
-        while (count--) {
-            ticks.push_back({facts.x, facts.y, 0});
-        }
-    }
-    void move(const Vector &vector)
-    {
-        Move made = {facts.x, facts.y, 0, 0, vector.z};
-        facts.begin(vector);
-        while (facts.going()) {
-            ticks.push_back({facts.x, facts.y, facts.shown()});
-            facts.tick();
-        }
-        made.x1 = facts.x;
-        made.y1 = facts.y;
-        moves.push_back(made);
-    }
-    void place(uint32_t x, uint32_t y)
-    {
-        moves.push_back({facts.x, facts.y, x, y, 0});
-        facts.x = x;
-        facts.y = y;
-    }
-    /* Two words: a tick for each byte and one of their own. */
-    void step_long(uint32_t first, uint32_t second)
-    {
-        dark(5);
-        if (first >> 12 == 0xA) {
-            place(second & 0xFFF, first & 0xFFF);
-            scale = second >> 12;
-        } else {
-            move({(scale + (first >> 12)) & 15, second >> 10 & 1, first >> 10 & 1, second & 0x3FF,
-                first & 0x3FF, second >> 12});
-        }
-    }
-    void step_svec(uint32_t word)
-    {
-        uint32_t own = 2 + (word >> 2 & 2) + (word >> 11 & 1);
-        dark(3);
-        move({(scale + own) & 15, word >> 2 & 1, word >> 10 & 1, (word & 3) << 8, word & 0x300,
-            word >> 4 & 15});
-    }
-    /* Returns whether the run goes on. */
-    bool step()
-    {
-        uint32_t word = word_at(at++);
-        switch (word >> 12) {
-        case 0xB: dark(3); return false;
-        case 0xC:
-            dark(4);
-            stack[depth++ & 3] = at;
-            at = word & 0xFFF;
-            return true;
-        case 0xD:
-            dark(3);
-            at = stack[--depth & 3];
-            return true;
-        case 0xE:
-            dark(3);
-            at = word & 0xFFF;
-            return true;
-        case 0xF: step_svec(word); return true;
-        default: step_long(word, word_at(at)); at++; return true;
-        }
-    }
-};
-
 static Vdvg_vectors circuit;
-static Facts beam;
-static uint32_t scale;
+static Drawing drawing;
 static uint64_t all_ticks, all_moves;
 
 static void clock_it()
@@ -172,7 +69,7 @@ static void play_tick(const Shown &shown, bool more)
 }
 
 /* Plays the memory on the board. The counters go on from the run before. */
-static Run play_list()
+static void play_list()
 {
     circuit.big = size > 4096;
     for (uint32_t i = 0; i < 2048; i++) {
@@ -181,18 +78,15 @@ static Run play_list()
     put(0x3000, 0);
     clock_it();
     edge(circuit);
-    Run run(beam, scale);
-    for (size_t tick = 0; tick < run.ticks.size(); tick++) {
-        play_tick(run.ticks[tick], tick + 1 < run.ticks.size());
+    draw_run(drawing, memory, size);
+    for (size_t tick = 0; tick < drawing.ticks.size(); tick++) {
+        play_tick(drawing.ticks[tick], tick + 1 < drawing.ticks.size());
     }
-    agree("the end, x", circuit.x, run.facts.x);
-    agree("the end, y", circuit.y, run.facts.y);
+    agree("the end, x", circuit.x, drawing.facts.x);
+    agree("the end, y", circuit.y, drawing.facts.y);
     agree("fault", circuit.fault, 0);
-    beam = run.facts;
-    scale = run.scale;
-    all_ticks += run.ticks.size();
-    all_moves += run.moves.size();
-    return run;
+    all_ticks += drawing.ticks.size();
+    all_moves += drawing.moves.size();
 }
 
 /* Random lists: eight shapes in ROM and four in RAM, which nest no deeper than two. */
@@ -266,11 +160,11 @@ static int play_dump(const char *name)
     if (size != 4096 && size != 6144) {
         return 2;
     }
-    Run run = play_list();
-    for (const Move &move : run.moves) {
+    play_list();
+    for (const Move &move : drawing.moves) {
         printf("%u %u %u %u %u\n", move.x0, move.y0, move.x1, move.y1, move.z);
     }
-    printf("%zu ticks\n", run.ticks.size());
+    printf("%zu ticks\n", drawing.ticks.size());
     return 0;
 }
 

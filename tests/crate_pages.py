@@ -185,7 +185,7 @@ PLANTED_DOORS = [
     ("a function of another crate", "`dvg_c::dvg_new`", "`dvg_device::dvg_new`"),
     ("a clause that isn't there", "(`tears`, `took`)", "(`tears`, `taken`)"),
     ("a clause of another function", "`take` (`torn`)", "`take` (`fetched`)"),
-    ("a crate without a door", "- `dvg_svg::", "- `svg::"),
+    ("a crate without a door", "`dvg_svg::", "`svg::"),
 ]
 
 

@@ -107,6 +107,17 @@ static bool draw(dvg *device)
     return answer.kind == DVG_DONE;
 }
 
+/* Whether a world that writes the longest draft is saved, and goes on in its state. */
+static bool resume(dvg *device)
+{
+    static uint8_t bytes[DVG_SAVED_WORLD_BYTES];
+    push_longest(device);
+    while (dvg_tick(device).kind != DVG_IDLE) {
+    }
+    return dvg_offer(device).kind == DVG_OFFERED
+           && dvg_restore(device, bytes, dvg_save(device, bytes, sizeof bytes)).kind == DVG_OPENED;
+}
+
 /* All that a device can do, in the order that keeps most of what was open; with few strokes. */
 static void test_bound(size_t bound)
 {
@@ -123,6 +134,7 @@ static void test_bound(size_t bound)
         done = draw(device) && done;
         done = dvg_reset_all(device, ram).kind == DVG_CLEARED && done;
         done = draw(device) && done;
+        done = resume(device) && done;
         done = dvg_stage_bytes(device, rom, sizeof rom).kind == DVG_STAGED && done;
         done = dvg_stage_bytes(device, ram, sizeof ram).kind == DVG_STAGED && done;
         done = dvg_open_generator(device).kind == DVG_OPENED && done;
@@ -195,6 +207,9 @@ static void test_world_without_memory(dvg *device)
     TAKES_NONE(dvg_fetch(device), DVG_FETCHED);
     TAKES_NONE(dvg_held_by(device, &held), DVG_HOLDS);
     TAKES_NONE(dvg_ram(device, seen), DVG_BYTE);
+    TAKES_NONE(dvg_ask(device, DVG_REQUEST_STATE), DVG_STATE);
+    TAKES_NONE(dvg_ask(device, DVG_REQUEST_DRIVER), DVG_DRIVER);
+    TAKES_NONE(dvg_ask(device, DVG_REQUEST_OPERATION), DVG_NOTHING);
     TAKES_NONE(dvg_reset_generator(device), DVG_CLEARED);
     TAKES_NONE(dvg_reset_processor(device), DVG_CLEARED);
     dvg_stage_ram(device, ram);
@@ -262,10 +277,10 @@ static void test_driver_without_memory(dvg *device)
 static void test_unknown(dvg *device)
 {
     expect(dvg_tick(device).kind == DVG_CLOSED, "nothing is open");
-    expect(dvg_ask(device, 34).kind == DVG_UNKNOWN, "no request, while nothing is open");
+    expect(dvg_ask(device, 36).kind == DVG_UNKNOWN, "no request, while nothing is open");
     expect(dvg_ask(device, 0x12FF).kind == DVG_UNKNOWN, "another one");
     dvg_open_generator(device);
-    expect(dvg_ask(device, 34).kind == DVG_UNKNOWN, "no request, while a generator is open");
+    expect(dvg_ask(device, 36).kind == DVG_UNKNOWN, "no request, while a generator is open");
     expect(dvg_ram_byte(device, 0).kind == DVG_UNKNOWN, "a byte of no RAM");
     expect(dvg_offer(device).kind == DVG_UNKNOWN, "an offer to a generator");
 }

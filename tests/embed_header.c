@@ -15,7 +15,7 @@
 #include <string.h>
 
 /* The most requests of a call. */
-#define MOST 64
+#define MOST 2100
 
 /* The requests since the last test, in order, and what each is answered. */
 static uint64_t noted[MOST];
@@ -283,6 +283,7 @@ static void test_kind_texts(void)
     TEXT(dvg_kind_text, DVG_STATE, "state");
     TEXT(dvg_kind_text, DVG_NO_STATE, "no state");
     TEXT(dvg_kind_text, DVG_BYTE, "byte");
+    TEXT(dvg_kind_text, DVG_DRIVER, "driver");
     TEXT(dvg_kind_text, DVG_UNKNOWN, "unknown");
     TEXT(dvg_kind_text, DVG_NO_MEMORY, "no memory");
 }
@@ -307,7 +308,7 @@ static void test_other_texts(void)
     bool all = true;
     for (uint64_t number = 0; number < 256; number++) {
         const char *text = dvg_kind_text(dvg_answer_of(number).kind);
-        bool named = number <= DVG_BYTE || number >= DVG_UNKNOWN;
+        bool named = number <= DVG_DRIVER || number >= DVG_UNKNOWN;
         all = all && text != NULL && (strcmp(text, "no kind") == 0) != named;
     }
     expect(all, "each kind has a text, and a number that is none has 'no kind'");
@@ -357,6 +358,12 @@ static void test_moves(dvg *none)
     dvg_held_by(none, &held);
     expect(!held.low && held.second, "a first word alone");
     ASKS(0x31B, dvg_return_to(none, 3));
+    answers[0] = 0x0FFFFFFFFFFFFF23;
+    expect(!dvg_run_is_open(none) && count == 1 && noted[0] == 28, "a run is over");
+    answers[0] = 0x1000000000000023;
+    expect(dvg_run_is_open(none), "a run is open");
+    answers[0] = 0x10000000000000FE;
+    expect(!dvg_run_is_open(none), "what has no run");
     expect(dvg_units(0, 255) == 0 && dvg_units(0, 256) == 1 && dvg_units(256, 0) == -1
                && dvg_units(255, 0) == 0 && dvg_units(2097000, 104) == 1
                && dvg_units(104, 2097000) == -1 && dvg_units(0, 768) == 2
@@ -370,22 +377,27 @@ static void test_moves(dvg *none)
 static const uint8_t state_bytes[] = {'D', 'V', 'G', 1, 2, 0, 0, 0, 35, 0, 0x34, 0x02, 1, 0xA0,
                                       0xE2, 0x7C, 35, 2, 0x01, 0, 0x80, 0, 0, 0x04};
 static const uint64_t state_parts[] = {0x7CE2A00102340023, 0x0400008000010223, DVG_NOTHING};
+static const uint64_t state_answers[] = {DVG_UNKNOWN, DVG_HOLDS, 0x7CE2A00102340023,
+                                         0x0400008000010223, DVG_NOTHING};
 
 static void test_saving(dvg *none)
 {
     uint8_t bytes[sizeof state_bytes + 1] = {0};
-    memcpy(answers, state_parts, sizeof state_parts);
-    expect(dvg_save(none, NULL, 0) == 24 && count == 3 && noted[0] == 28 && noted[1] == 0x11C
-               && noted[2] == 0x21C,
+    memcpy(answers, state_answers, sizeof state_answers);
+    expect(dvg_save(none, NULL, 0) == 24 && count == 5 && noted[0] == 32 && noted[1] == 26
+               && noted[2] == 28 && noted[3] == 0x11C && noted[4] == 0x21C,
            "a state of two parts has 24 bytes");
-    memcpy(answers, state_parts, sizeof state_parts);
+    memcpy(answers, state_answers, sizeof state_answers);
     expect(dvg_save(none, bytes, 24) == 24 && memcmp(bytes, state_bytes, 24) == 0 && bytes[24] == 0,
            "which are these");
-    memcpy(answers, state_parts, sizeof state_parts);
+    memcpy(answers, state_answers, sizeof state_answers);
     bytes[16] = 0xA5;
     expect(dvg_save(none, bytes, 23) == 24 && bytes[16] == 0xA5, "less room is told");
-    answers[0] = DVG_UNKNOWN;
-    expect(dvg_save(none, bytes, 24) == 0 && count == 1, "what is no generator isn't saved");
+    memcpy(answers, state_answers, sizeof state_answers);
+    answers[1] |= (uint64_t)0x440 << 24;
+    expect(dvg_save(none, bytes, 24) == 24 && bytes[2] == 'R', "a stack that wraps is told");
+    answers[0] = answers[1] = answers[2] = DVG_UNKNOWN;
+    expect(dvg_save(none, bytes, 24) == 0 && count == 3, "what is no generator isn't saved");
 }
 
 static void test_restoring(dvg *none)
@@ -400,6 +412,11 @@ static void test_restoring(dvg *none)
     expect_all(dvg_restore(none, bytes, 24), DVG_OPENED, 3, parts, "a state is told and resumed");
     answer(4, no_state);
     expect_all(dvg_restore(none, bytes, 24), DVG_NO_STATE, 4, parts, "a refused one is forgotten");
+    bytes[2] = 'R';
+    parts[2] = 34;
+    answer(3, whole);
+    expect_all(dvg_restore(none, bytes, 24), DVG_OPENED, 3, parts, "a stack that wraps resumes");
+    bytes[2] = 'G';
     parts[2] = 35;
     answer(3, no_memory);
     expect_all(dvg_restore(none, bytes, 24), DVG_NO_MEMORY, 3, parts, "as is one without memory");
@@ -415,6 +432,83 @@ static void test_restoring(dvg *none)
     }
     for (size_t size = 0; size < 24; size++) {
         expect(dvg_restore(none, bytes, size).kind == DVG_NO_STATE && count == 0, "a cut one");
+    }
+}
+
+/* A world of a RAM of zeros, of one part, with an operation and a driver. */
+static const uint64_t world_answers[] = {0x01020A0326, DVG_HOLDS, 0x023, DVG_NOTHING, 0x0808,
+                                         DVG_NOTHING};
+
+/* Puts the bytes of that world together. */
+static void make_world(uint8_t *bytes)
+{
+    memset(bytes, 0, 2080);
+    memcpy(bytes, "DVW\1\3\1", 6);
+    dvg_saved_put(bytes, 2080, 2056, world_answers[2]);
+    dvg_saved_put(bytes, 2080, 2064, world_answers[4]);
+    dvg_saved_put(bytes, 2080, 2072, world_answers[0]);
+}
+
+static void test_saving_worlds(dvg *none)
+{
+    static const uint64_t asked[] = {32, 26, 28, 0x11C, 33, 0x121};
+    static uint8_t bytes[2081], wanted[2081];
+    make_world(wanted);
+    memcpy(answers, world_answers, sizeof world_answers);
+    expect(dvg_save(none, NULL, 0) == 2080 && count == 6
+               && memcmp(noted, asked, sizeof asked) == 0,
+           "a world of a part and an operation has 2,080 bytes");
+    for (int number = 6; number < MOST; number++) {
+        answers[number] = DVG_BYTE | (uint64_t)(number == 14 ? 0xA5 : 0) << 24;
+    }
+    memcpy(answers, world_answers, sizeof world_answers);
+    wanted[8 + 7] = 0xA5;
+    expect(dvg_save(none, bytes, 2080) == 2080 && count == 6 + 2049 && noted[2054] == 0x7FF1F
+               && memcmp(bytes, wanted, 2081) == 0,
+           "which are these");
+}
+
+static void test_restoring_worlds(dvg *none)
+{
+    static const uint64_t asked[] = {32, 11, 10, 0x80000000A, 9, 0x23, 0x808, 0x01020A0326, 11, 35};
+    static const int whole[] = {DVG_DRIVER, DVG_CLEARED, DVG_STAGED, DVG_STAGED, DVG_CLEARED,
+                                DVG_CLEARED, DVG_PUSHED, DVG_OPENED, DVG_CLEARED, DVG_CLEARED};
+    static uint8_t bytes[2080];
+    int kinds[10];
+    make_world(bytes);
+    answer(10, whole);
+    expect_all(dvg_restore(none, bytes, 2080), DVG_OPENED, 9, asked, "a world is told and resumed");
+    memcpy(kinds, whole, sizeof kinds);
+    kinds[7] = DVG_UNKNOWN;
+    answer(10, kinds);
+    expect_all(dvg_restore(none, bytes, 2080), DVG_NO_STATE, 10, asked, "a phase of none");
+    kinds[7] = DVG_NO_MEMORY;
+    answer(10, kinds);
+    expect_all(dvg_restore(none, bytes, 2080), DVG_NO_MEMORY, 10, asked, "no memory is told");
+    for (int full = 0; full < 2; full++) {
+        memcpy(kinds, whole, sizeof kinds);
+        kinds[6] = full ? DVG_FULL : DVG_NO_OPERATION;
+        answer(10, kinds);
+        expect(dvg_restore(none, bytes, 2080).kind == DVG_NO_STATE && count == 9
+                   && noted[7] == 11 && noted[8] == 35,
+               "what is no frame isn't resumed");
+    }
+    kinds[0] = DVG_UNKNOWN;
+    answer(1, kinds);
+    expect(dvg_restore(none, bytes, 2080).kind == DVG_NO_STATE && count == 2 && noted[1] == 35,
+           "nothing is told where no world is open");
+    bytes[2072] = 14;
+    answer(10, whole);
+    expect(dvg_restore(none, bytes, 2080).kind == DVG_NO_STATE && count == 1 && noted[0] == 35,
+           "another request isn't asked at the end");
+    bytes[2072] = 38;
+    bytes[2064] = 14;
+    answer(10, whole);
+    expect(dvg_restore(none, bytes, 2080).kind == DVG_NO_STATE && count == 8 && noted[6] == 11,
+           "nor amid it");
+    bytes[2064] = 8;
+    for (size_t size = 0; size < 2080; size++) {
+        expect(dvg_restore(none, bytes, size).kind == DVG_NO_STATE && count == 0, "a cut world");
     }
 }
 
@@ -550,6 +644,8 @@ int main(void)
     test_moves(none);
     test_saving(none);
     test_restoring(none);
+    test_saving_worlds(none);
+    test_restoring_worlds(none);
     test_fetching(none);
     test_drawing(none);
     printf("%d passed, %d failed\n", passed, failed);

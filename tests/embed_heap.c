@@ -101,6 +101,46 @@ static void use_world(dvg *device)
     draw(device, 200);
 }
 
+/* What is open goes on in its state, also where memory for that is refused first. */
+static void go_back(dvg *device)
+{
+    static uint8_t bytes[8192], later[8192], now[8192];
+    size_t size = dvg_save(device, bytes, sizeof bytes), later_size;
+    dvg_answer answer;
+    for (int i = 0; i < 8; i++) {
+        dvg_fetch(device);
+    }
+    later_size = dvg_save(device, later, sizeof later);
+    answer = dvg_restore(device, bytes, size);
+    if (answer.kind == DVG_NO_MEMORY) {
+        expect(dvg_save(device, now, sizeof now) == later_size
+                   && memcmp(now, later, later_size) == 0,
+               "a state is refused memory, and has changed what is open");
+        answer = dvg_restore(device, bytes, size);
+    }
+    expect(answer.kind == DVG_OPENED, "a state isn't restored");
+    expect(size > 0 && dvg_save(device, now, sizeof now) == size && memcmp(now, bytes, size) == 0,
+           "another state is restored");
+}
+
+/* A world that goes back amid a run, while it writes the next frame. */
+static void rewind_world(dvg *device)
+{
+    TWICE(dvg_open_world(device, ram, rom, DVG_ROM_BYTES), dvg_wants(device), DVG_UNKNOWN);
+    draw(device, 2);
+    while (dvg_redraw(device).kind != DVG_ASKED || dvg_tick(device).kind != DVG_READ
+           || dvg_tick(device).kind != DVG_SENT) {
+    }
+    push_frame(device, 100);
+    dvg_strobe(device);
+    for (int i = 0; i < 14; i++) {
+        TWICE(dvg_fetch(device), dvg_wants(device), DVG_UNKNOWN);
+    }
+    expect(dvg_offer(device).kind == DVG_OFFERED && dvg_tick(device).kind == DVG_WROTE,
+           "the next frame isn't written");
+    go_back(device);
+}
+
 /* A driver alone, in the place of the world. */
 static void use_driver(dvg *device)
 {
@@ -165,8 +205,10 @@ static bool live(void)
     }
     long own = living;
     use_world(device);
+    rewind_world(device);
     use_driver(device);
     use_generator(device);
+    go_back(device);
     use_judge(device);
     expect(dvg_shut(device).kind == DVG_CLOSED && living == own, "what was open isn't given back");
     use_world(device);

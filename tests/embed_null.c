@@ -16,7 +16,7 @@
 #include <sys/wait.h>
 #include <unistd.h>
 
-/* Of dvg_turn and dvg_turns, which are linked, nothing is said, and dvg_save isn't tried. */
+/* Of dvg_turn and dvg_turns, which are linked, nothing is said. */
 #define CALLS \
     CALL(dvg_ask(NULL, DVG_REQUEST_TICK)) \
     CALL(dvg_stage_byte(NULL, 0, 1)) \
@@ -52,13 +52,18 @@
     CALL(dvg_generator_hole(NULL)) \
     CALL(dvg_generator_move(NULL, 0, &move)) \
     CALL(dvg_held_by(NULL, &held)) \
+    CALL(dvg_run_is_open(NULL)) \
     CALL(dvg_return_to(NULL, 0)) \
     CALL(dvg_ram_byte(NULL, 0)) \
     CALL(dvg_ram(NULL, ram)) \
     CALL(dvg_reset_generator(NULL)) \
     CALL(dvg_reset_processor(NULL)) \
     CALL(dvg_reset_all(NULL, bytes)) \
+    CALL(dvg_save(NULL, ram, sizeof ram)) \
+    CALL(dvg_save_answers(NULL, DVG_REQUEST_STATE, DVG_STATE, ram, sizeof ram, 8)) \
     CALL(dvg_restore(NULL, saved, sizeof saved)) \
+    CALL(dvg_restore_world(NULL, saved_world, sizeof saved_world)) \
+    CALL(dvg_tell_saved(NULL, DVG_SAVED_GENERATOR, saved, 8, sizeof saved)) \
     CALL(dvg_judge_line(NULL, DVG_STARTED, 0, 0)) \
     CALL(dvg_judge_answer(NULL, line)) \
     CALL(dvg_judge_started(NULL)) \
@@ -79,6 +84,7 @@ static const char *const names[] = {CALLS};
 
 static const uint8_t bytes[DVG_LARGE_ROM_BYTES];
 static const uint8_t saved[16] = {'D', 'V', 'G', DVG_SAVED_VERSION, 1, 0, 0, 0, 35};
+static const uint8_t saved_world[8] = {DVG_REQUEST_RESUME_WORLD};
 static const dvg_answer line = {DVG_STARTED, 0, 0, -1};
 
 /* Makes the call of this number. */

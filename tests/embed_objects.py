@@ -119,6 +119,7 @@ def expect_none_left(what):
 RAM = bytes([0x01, 0xE2]).ljust(2048, b"\0")
 FRAME = Draft().labs(512, 400).vctr(9, -100, 100, 7).halt()
 SAVED = b"DVG\x01" + b"\x01\0\0\0" + b"\x23" + bytes(7)
+SAVED_WORLD = b"DVW\x01" + b"\x02\x01\0\0" + RAM + b"\x23" + bytes(7) + b"\x26" + bytes(7)
 
 CLASSES = (World, Driver, Generator, MomentJudge)
 
@@ -127,8 +128,8 @@ CALLS = {
     World: {
         "run": ([Event.TICK],), "offer": (FRAME,), "redraw": (), "tick": (), "strobe": (),
         "fetch": (), "reset_generator": (), "reset_processor": (), "reset_all": (),
-        "draw": (FRAME,), "ram": None, "beam": None, "strokes": None, "stroke_table": None,
-        "_repr_svg_": (),
+        "draw": (FRAME,), "ram": None, "halted": None, "beam": None, "strokes": None,
+        "stroke_table": None, "save": (), "restore": (SAVED_WORLD,), "_repr_svg_": (),
         "__enter__": (),
     },
     Driver: {
@@ -216,10 +217,12 @@ def test_copies_of_generators():
             expect(other.save() != first.save(), "and goes on alone")
             other.close()
     with Generator(wraps=True) as wrapping:
+        wrapping.strobe()
         for call in (copy.copy, copy.deepcopy):
-            expect_raises(g.BadState, lambda: call(wrapping), "a wrapping one")
+            with call(wrapping) as other:
+                expect(other.wraps and other.save() == wrapping.save(), "a copy wraps, too")
         expect(type(raised(setattr, wrapping, "wraps", False)) is AttributeError, "wraps is read")
-        expect(wrapping.wraps and raised(wrapping.save) is not None, "it still wraps")
+        expect(wrapping.wraps, "it still wraps")
     del others, other, pair
     expect_none_left("copies of generators")
 
@@ -589,7 +592,8 @@ class Storm:
             lambda: [draft(), Event.STROBE, chance.choice((None, Event.FETCH))], lambda: SAVED,
             lambda: Entry(chance.choice(list(Kind)), chance.randrange(1 << 17), 3),
             lambda: True, lambda: object, lambda: self.thing(chance), lambda: [0.5] * 2048,
-            lambda: Lying(), lambda: RAM,
+            lambda: Lying(), lambda: RAM, lambda: SAVED_WORLD,
+            lambda: SAVED_WORLD[:chance.randrange(2080)],
         )
         return chance.choice(makers)()
 
@@ -633,6 +637,9 @@ class Storm:
         elif choice < 0.24:
             if isinstance(thing, Generator):
                 with thing.copy() as other:
+                    other.restore(thing.save())
+            if isinstance(thing, World):
+                with World() as other:
                     other.restore(thing.save())
         elif choice < 0.27:
             call = chance.choice((g.judge, g.svg, g.picture, g.Judge().fetched, Draft().labs))

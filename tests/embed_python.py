@@ -284,6 +284,126 @@ def test_saving():
     expect_raises(g.Closed, lambda: generator.restore(saved), "nor restored")
 
 
+def test_saving_wrapping():
+    ram = words(0xC003, 0xB000, 0xB000, 0xC000).ljust(2048, b"\0")
+    with Generator(wraps=True) as wrapping, Generator() as other:
+        expect_same(56, len(wrapping.save()), "a new one is saved in 56 bytes")
+        wrapping.strobe()
+        for _ in range(11):
+            wrapping.fetch_from(ram)
+        saved = wrapping.save()
+        expect_same([4, 1, 4, 1], wrapping.return_addresses, "it went on at a fifth call")
+        other.restore(saved)
+        expect_same([True, saved], [other.wraps, other.save()], "one that didn't wrap does now")
+        with Generator(True) as third:
+            expect_raises(g.BadState, lambda: third.restore(saved[:3] + b"\2" + saved[4:]), "bad")
+            third.restore(Generator().save())
+            expect_same(False, third.wraps, "and the other way round")
+        for _ in range(40):
+            expect_same(wrapping.fetch_from(ram), other.fetch_from(ram), "both go on alike")
+
+
+def test_saving_worlds():
+    frame = Draft().labs(512, 400).vctr(9, -100, 100, 7).halt()
+    with World() as world, World(ram=bytes([7]) * 2048) as other:
+        expect_same(2080, len(world.save()), "a new world is saved in 2,080 bytes")
+        expect_same(b"DVW\x01\x03\x01\0\0" + bytes(2048) + b"#", world.save()[:2057], "its head")
+        world.draw(frame)
+        world.offer(frame)
+        world.run([g.Event.TICK] * 3)
+        saved, events = world.save(), world.events
+        expect_same(2104, len(saved), "with three operations in 2,104")
+        other.restore(bytearray(saved))
+        expect_same([saved, [], 0], [other.save(), other.strokes, other.events], "restored")
+        expect_same(world.ram, other.ram, "with its RAM")
+        for one in (world, other):
+            one.run([g.Event.TICK] * 12 + [g.Event.STROBE] + [g.Event.FETCH] * 12)
+        expect_same(world.strokes, other.strokes, "both draw the same")
+        expect_same(world.save(), other.save(), "and end so")
+        before = other.save()
+        for kind, bad in (
+            (g.BadState, b""), (g.BadState, saved[:-8]), (g.BadState, saved[:-1]),
+            (g.BadState, saved[:2] + b"G" + saved[3:]), (g.BadState, saved[:3] + b"\2" + saved[4:]),
+            (g.BadState, saved[:-7] + b"\7" + saved[-6:]),
+            (g.BadState, saved[:-5] + b"\xff" + saved[-4:]),
+            (g.BadState, saved[:-16] + b"\x08\x09" + saved[-14:]),
+            (g.BadState, saved[:-16] + b"\x0f" + saved[-15:]), (g.NoBytes, 7),
+        ):
+            expect_raises(kind, lambda: other.restore(bad), f"{bad[-16:]!r} is no saved world"
+                          if bad != 7 else "7 is no saved world")
+        expect_same(before, other.save(), "what is refused changes nothing")
+        world.restore(saved)
+        expect_same(saved, world.save(), "it goes back")
+        expect_same(events + 25, world.events, "which is no event")
+        with Generator() as generator:
+            expect_raises(g.BadState, lambda: generator.restore(saved), "it is no generator's")
+            expect_raises(g.BadState, lambda: world.restore(generator.save()), "nor a world's")
+    with World() as world, World(rom=words(*[0xC800] * 1024)) as other:
+        world.run([g.Event.TICK] * 2 + [Draft().labs(0, 0).call_rom(0x800).halt()])
+        expect_raises(g.BadState, lambda: other.restore(world.save()), "its ROM refuses the frame")
+    test_other_rom()
+    test_going_on(frame)
+    long = Draft().labs(0, 0)
+    for _ in range(509):
+        long.halt()
+    with World() as world:
+        world.run([g.Event.TICK] * 2 + [long])
+        expect_same(2080 + 8 * 510, len(world.save()), "a long frame is saved")
+        expect_same(None, world.restore(world.save()), "and restored")
+    expect_raises(g.Closed, world.save, "a closed world isn't saved")
+    expect_raises(g.Closed, lambda: world.restore(saved), "nor restored")
+
+
+def test_other_rom():
+    """A run that was saved over one ROM opens over another of either size, and breaks there."""
+    frame = Draft().labs(0, 0).call_rom(0x800).vctr(9, 100, 100, 7).halt()
+    with World() as world:
+        world.run([g.Event.TICK] * 2 + [frame] + [g.Event.TICK] * 16 + [g.Event.STROBE])
+        world.run([g.Event.FETCH] * 2)
+        saved = world.save()
+    for size in g.ROM_SIZES:
+        with World(rom=words(*[0xF0F0] * (size // 2))) as other:
+            other.restore(saved)
+            expect_same(False, other.halted, "a run is open")
+            with expect_break(0xC00):
+                while other.fetch().kind is not g.Kind.DONE:
+                    pass
+            expect_same(True, other.halted, "it is over")
+            expect_raises(g.Halted, other.fetch, "and stays so")
+            other.restore(saved)
+            plain = Draft().labs(0, 0).halt()
+            expect_raises(g.RunBroke, lambda: other.draw(plain), "a draw tells it, too")
+
+
+@contextlib.contextmanager
+def expect_break(address):
+    """Expects a break in a hole, at this word address."""
+    try:
+        yield
+        expect_same("a break", "none", "a run breaks")
+    except g.RunBroke as broke:
+        expect_same([address, g.Break.HOLE], [broke.address, broke.why], "where it breaks")
+
+
+def test_going_on(frame):
+    """A strobe that was under way arrives after a restore, and a judge judges the run after it."""
+    with World() as world, World() as later, g.MomentJudge() as judge:
+        world.run([g.Event.TICK] * 2 + [frame] + [g.Event.TICK] * 14)
+        expect_same(True, later.halted, "no run is open")
+        expect_raises(g.NoStrobe, later.strobe, "and no strobe is under way")
+        later.restore(world.save())
+        expect_same(True, later.halted, "nor in what was restored")
+        expect_same(g.Kind.STARTED, later.strobe().kind, "but a strobe, which arrives")
+        events = later.events
+        expect_same([False, events], [later.halted, later.events], "to ask is no event")
+        world.restore(later.save())
+        answers = {judge.tell(world.fetch()).kind for _ in range(12)}
+        expect_same([{g.Kind.NO_RUN}, 1], [answers, len(world.strokes)], "that run isn't judged")
+        judge.tell(world.strobe())
+        answers = [judge.tell(world.fetch()).kind for _ in range(12)]
+        expect_same(g.Kind.WHOLE, answers[-1], "the next one is")
+
+
 def test_saving_many():
     """States with more parts than are asked for in one call."""
     ram = words(*[0xF0F1] * 700, 0xE000)
@@ -335,7 +455,7 @@ def test_moment_judge():
         events = [Draft().labs(0, 0).vctr(9, 100, 100, 7).halt()]
         events += [g.Event.TICK] * 20 + [g.Event.STROBE] + [g.Event.FETCH] * 40
         told = [judge.tell(entry).kind for entry in world.run(events)]
-        expect_same(1, told.count(Kind.WHOLE), "a picture of a world is of one moment")
+        expect_same(1, told.count(Kind.WHOLE), "a picture of a world is whole")
 
 
 # --- Each refusal ---
@@ -1090,6 +1210,8 @@ test_driver()
 test_generator()
 test_moves()
 test_saving()
+test_saving_wrapping()
+test_saving_worlds()
 test_saving_many()
 test_moment_judge()
 test_refusals()

@@ -22,6 +22,7 @@ TOP = Path(__file__).resolve().parent.parent
 ROW = re.compile(r"\| (\d+) \| `(\w+)` \| ([^|]*) \| ([^|]*) \| ([^|]*) \|")
 OPENS = ("nothing", "world", "driver", "generator", "wrapping", "judge")
 NUMBERS = ("a number", "a place")
+PUSHING = "a request"
 
 
 class Row(collections.namedtuple("Row", "name of answers")):
@@ -87,9 +88,21 @@ class Device:
             self.ask(part ^ (self.chance.random() < 0.3) << self.chance.randrange(8, 64))
             part = self.ask(28 | number << 8)
 
+    def stage_itself(self):
+        """Stages a RAM, pushes a frame and tells a state, mostly such as suit."""
+        self.ask(11)
+        self.ask(0x0A | (2048 if self.chance.random() < 0.9 else 7) << 24)
+        self.push_some()
+        self.tell_itself()
+
     def fields(self, code):
         """Random fields for a request."""
         chance = self.chance
+        if code == 33:
+            return chance.randrange(5) << 8
+        if code == 38:
+            kept = self.ask(32) if chance.random() < 0.5 else chance.getrandbits(64)
+            return (kept if chance.random() < 0.5 else chance.getrandbits(20)) & ~0xFF
         if code in (10,):
             return chance.randrange(256) << 16 | chance.choice((0, 1, 2048, 4096, 65535)) << 24
         if code == 8:
@@ -108,7 +121,7 @@ class Device:
 
 
 def opens_something(code):
-    return code in (12, 13, 14, 15, 21, 29, 30)
+    return code in (12, 13, 14, 15, 21, 29, 30, 34)
 
 
 def storm(library, rows, kinds, count):
@@ -125,15 +138,18 @@ def storm(library, rows, kinds, count):
         code = chance.choice(codes)
         if device.open == "judge" and chance.random() < 0.8:
             code = 22
-        if code == 29:
+        if code in (29, 34):
             device.tell_itself()
+        if code == 38:
+            device.stage_itself()
         if opens_something(code) and chance.random() < 0.8:
             continue
         row, before = rows[code], device.open
         number = device.ask(code | device.fields(code))
         if row.answers[0] in NUMBERS:
             continue
-        kind = kinds.get(number & 0xFF, "none")
+        is_pushing = code == 33 and number & 0xFF == 8
+        kind = PUSHING if is_pushing else kinds.get(number & 0xFF, "none")
         came[code].add(kind)
         if kind not in row.wanted(before):
             wrong[f"{row.name} of {before}: {kind}"] += 1
@@ -150,7 +166,7 @@ def main(library, table, count):
     named = {number: row.name for number, row in rows.items()}
     wanted = {number: name[len("REQUEST_"):] for number, name in requests.items()}
     expect(named == wanted, f"the requests: {set(named.items()) ^ set(wanted.items())}")
-    known = set(kinds.values()) | set(NUMBERS)
+    known = {*kinds.values(), *NUMBERS, PUSHING}
     for row in rows.values():
         odd = [kind for kind in row.answers if kind not in known]
         expect(not odd and set(row.of) <= set(OPENS), f"{row.name}: {odd or row.of} is none")

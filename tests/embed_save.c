@@ -1,7 +1,7 @@
-/* Saves generators amid random runs, restores each into another device, and lets both go on: each
- * answer, move and stroke must be equal to the end. Then it restores other bytes: those of a saved
- * state with each bit changed, or cut, of other versions, and random ones. Each is answered, and
- * where it is refused, what was open stays.
+/* Saves generators amid random runs, also such as wrap, restores each into another device, and lets
+ * both go on: each answer, move and stroke must be equal to the end. Then it restores other bytes:
+ * those of a saved state with each bit changed, or cut, of other versions, and random ones. Each is
+ * answered, and where it is refused, what was open stays.
  *
  *   embed_save COUNT SEED
  *
@@ -10,6 +10,7 @@
  * what is written is 'N passed, M failed'.
  */
 #include "dvg.h"
+#include "embed_chance.h"
 
 #include <inttypes.h>
 #include <stdio.h>
@@ -31,23 +32,6 @@ static void expect(bool holds, const char *what)
         failed++;
         printf("FAILED: %s, of the generator of seed %" PRIu64 "\n", what, seed);
     }
-}
-
-/* --- Chance --- */
-
-/* A linear congruential generator (Knuth's MMIX constants), of which the high bits are used. */
-static uint64_t chance = 0;
-
-static uint32_t random_word(void)
-{
-    chance = chance * 6364136223846793005u + 1442695040888963407u;
-    return (uint32_t)(chance >> 32);
-}
-
-/* A number below `limit`. */
-static uint32_t below(uint32_t limit)
-{
-    return random_word() % limit;
 }
 
 /* A memory of 4,096 words: instructions of each kind, of which calls and returns are many. */
@@ -75,6 +59,7 @@ static dvg_answer go_on(dvg *device, bool hole)
     dvg_answer wanted = dvg_wants(device);
     dvg_move move = {0, 0, 0, 0, 0, false, 0};
     uint8_t byte;
+    expect(dvg_run_is_open(device) == (wanted.kind == DVG_WANTED), "whether a run is open is told");
     if (wanted.kind != DVG_WANTED) {
         drawn = 0;
         return dvg_strobe(device);
@@ -212,7 +197,8 @@ static void try_random(dvg *device)
     }
     if (below(8) != 0) {
         size = 8 * (2 + below(14));
-        dvg_saved_put(bytes, size, 0, dvg_saved_head(size / 8 - 1));
+        dvg_saved what = below(2) == 0 ? DVG_SAVED_GENERATOR : DVG_SAVED_WRAPPING;
+        dvg_saved_put(bytes, size, 0, dvg_saved_head(what, size / 8 - 1));
         for (size_t at = 8; at < size; at += 8) {
             bytes[at] = DVG_REQUEST_TELL_STATE;
             bytes[at + 1] = (uint8_t)(at == 8 ? 0 : below(5));
@@ -237,14 +223,17 @@ static void test_generator(dvg *one, dvg *other)
 {
     size_t size, again;
     uint8_t *bytes, *copy;
+    bool wraps = seed % 3 == 0;
     chance = seed * 0x9E3779B97F4A7C15u;
     fill_memory();
-    dvg_open_generator(one);
+    wraps ? dvg_open_wrapping(one) : dvg_open_generator(one);
     for (uint32_t left = below(MOST_BEFORE); left > 0; left--) {
         go_on(one, below(300) == 0);
     }
     bytes = save(one, &size);
     expect(is_as_long(one, size), "a state is as long as the header says");
+    expect(dvg_saved_as(bytes, size) == (wraps ? DVG_SAVED_WRAPPING : DVG_SAVED_GENERATOR),
+           "and tells whether the stack wraps");
     expect(dvg_restore(other, bytes, size).kind == DVG_OPENED, "a saved state is restored");
     expect(dvg_strokes(other) == 0, "with no strokes of a finished run");
     copy = save(other, &again);
@@ -266,10 +255,16 @@ static void test_others(dvg *one, dvg *other)
     expect(dvg_save(one, bytes, sizeof bytes) == 0, "where nothing is open, there is no state");
     expect(dvg_restore(one, bytes, 0).kind == DVG_NO_STATE, "no bytes are no state");
     expect(dvg_tick(one).kind == DVG_CLOSED, "and nothing opens");
+    dvg_open_judge(one);
+    expect(dvg_save(one, bytes, sizeof bytes) == 0, "a judge isn't saved");
     dvg_open_world(one, NULL, rom, sizeof rom);
-    expect(dvg_save(one, bytes, sizeof bytes) == 0, "a world isn't saved");
     dvg_open_wrapping(other);
-    expect(dvg_save(other, bytes, sizeof bytes) == 0, "nor is a stack that wraps");
+    expect(dvg_save(other, bytes, sizeof bytes) == 56, "one whose stack wraps has 56 bytes");
+    bytes[2] = 'G';
+    expect(dvg_restore(one, bytes, 56).kind == DVG_OPENED, "four open calls have these, too");
+    bytes[2] = 'R';
+    dvg_saved_put(bytes, 40, 0, dvg_saved_head(DVG_SAVED_WRAPPING, 4));
+    expect(dvg_restore(one, bytes, 40).kind == DVG_NO_STATE, "three registers are too few");
     dvg_open_generator(other);
     expect(dvg_save(other, bytes, sizeof bytes) == 24, "a new generator has 24 bytes");
     expect(dvg_restore(one, bytes, 24).kind == DVG_OPENED, "they are restored where a world is");

@@ -30,9 +30,9 @@ def handed(chance):
     return bytes(found[:chance.randrange(len(found) + 1)])
 
 
-def saved_after(held):
+def saved_after(held, wraps):
     """The state of a generator that was handed these bytes, as the library saves it."""
-    with Generator() as generator:
+    with Generator(wraps) as generator:
         for byte in held:
             if generator.halted:
                 generator.strobe()
@@ -56,8 +56,10 @@ def read_again(saved):
 def changed(chance, saved):
     """A saved state that was changed or cut, or not."""
     held = bytearray(saved)
-    which = chance.randrange(4)
-    if which == 0:
+    which = chance.randrange(5)
+    if which == 4:
+        held[2] ^= ord("G") ^ ord("R")
+    elif which == 0:
         held[chance.randrange(len(held))] ^= 1 << chance.randrange(8)
     elif which == 1:
         del held[chance.randrange(len(held)):]
@@ -73,8 +75,9 @@ def main():
     asked, wanted = [], []
     for _ in range(RUNS):
         held = handed(chance)
-        saved = saved_after(held)
-        asked.append(f"run {held.hex()}")
+        wraps = chance.randrange(3) == 0
+        saved = saved_after(held, wraps)
+        asked.append(f"{'wrap' if wraps else 'run'} {held.hex()}")
         wanted.append(saved.hex())
         for told in (saved, changed(chance, saved), changed(chance, saved)):
             asked.append(f"read {told.hex()}")

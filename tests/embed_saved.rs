@@ -3,9 +3,9 @@
 //!
 //! - `run BYTES`, in hexadecimal digits: a generator is started where it is halted, is handed each
 //!   byte, and is written as it stands then;
+//! - `wrap BYTES`: the same, of one whose stack wraps;
 //! - `read BYTES`: the state that these are, written again, or `refused`.
-use dvg_gen::{Generator, GeneratorState};
-use plain_std::alloc::Global;
+use gerbilargent::{Generator, GeneratorState, Global, WrappingGenerator};
 use std::fmt::Write;
 use std::io;
 
@@ -14,12 +14,20 @@ fn bytes_of(digits: &str) -> Vec<u8> {
     pairs.map(|pair| u8::from_str_radix(str::from_utf8(pair).unwrap(), 16).unwrap()).collect()
 }
 
-fn written(generator: &Generator) -> String {
-    let bytes = generator.state().to_bytes(generator.strokes()).unwrap();
+fn digits_of(bytes: &[u8]) -> String {
     bytes.iter().fold(String::new(), |mut text, byte| {
         write!(text, "{byte:02x}").unwrap();
         text
     })
+}
+
+fn written(generator: &Generator) -> String {
+    digits_of(&generator.state().to_bytes(generator.strokes()).unwrap())
+}
+
+fn written_wrapping(wrapping: &WrappingGenerator) -> String {
+    let strokes = wrapping.generator().strokes();
+    digits_of(&wrapping.state().to_wrapping_bytes(strokes).unwrap())
 }
 
 fn run(bytes: &[u8]) -> String {
@@ -33,13 +41,29 @@ fn run(bytes: &[u8]) -> String {
     written(&generator)
 }
 
+fn wrap(bytes: &[u8]) -> String {
+    let mut wrapping = WrappingGenerator::new(Global);
+    for byte in bytes {
+        if wrapping.generator().halted() {
+            wrapping.start();
+        }
+        wrapping.feed(Some(*byte)).unwrap();
+    }
+    written_wrapping(&wrapping)
+}
+
 fn read(bytes: &[u8]) -> String {
-    let Some((state, strokes)) = GeneratorState::from_bytes(bytes).unwrap() else {
-        return "refused".to_owned();
-    };
-    let mut generator = Generator::new(Global);
-    assert!(generator.resume(&state, strokes));
-    written(&generator)
+    if let Some((state, strokes)) = GeneratorState::from_bytes(bytes).unwrap() {
+        let mut generator = Generator::new(Global);
+        assert!(generator.resume(&state, strokes));
+        written(&generator)
+    } else if let Some((state, strokes)) = GeneratorState::from_wrapping_bytes(bytes).unwrap() {
+        let mut wrapping = WrappingGenerator::new(Global);
+        assert!(wrapping.resume(&state, strokes));
+        written_wrapping(&wrapping)
+    } else {
+        "refused".to_owned()
+    }
 }
 
 fn main() {
@@ -47,6 +71,10 @@ fn main() {
         let line = line.unwrap();
         let (what, digits) = line.split_once(' ').unwrap();
         let bytes = bytes_of(digits);
-        println!("{}", if what == "run" { run(&bytes) } else { read(&bytes) });
+        println!("{}", match what {
+            "run" => run(&bytes),
+            "wrap" => wrap(&bytes),
+            _ => read(&bytes),
+        });
     }
 }

@@ -12,6 +12,29 @@
 
 static uint8_t rom[DVG_LARGE_ROM_BYTES];
 
+/* Pushes a draft that comes to every word of the ROM. */
+static void push_longest(dvg *device)
+{
+    dvg_clear(device);
+    dvg_labs(device, 0, 0, 0);
+    dvg_jump_rom(device, 0x400);
+    for (int i = 2; i < 510; i++) {
+        dvg_halt(device);
+    }
+}
+
+/* Saves a world that writes the longest draft, and restores it. */
+static bool save_world(dvg *device)
+{
+    static uint8_t bytes[DVG_SAVED_WORLD_BYTES];
+    dvg_open_world(device, NULL, rom, sizeof rom);
+    dvg_tick(device);
+    dvg_tick(device);
+    push_longest(device);
+    dvg_offer(device);
+    return dvg_restore(device, bytes, dvg_save(device, bytes, sizeof bytes)).kind == DVG_OPENED;
+}
+
 /* Opens all, and offers the longest draft, one that is refused and one that comes to every word of
  * the ROM. */
 static void *use(void *nothing)
@@ -26,18 +49,15 @@ static void *use(void *nothing)
     done = dvg_judge_started(device).kind == DVG_ONE_MOMENT && done;
     done = dvg_open_world(device, NULL, rom, sizeof rom).kind == DVG_OPENED && done;
     done = dvg_reset_all(device, NULL).kind == DVG_CLEARED && done;
+    done = save_world(device) && done;
+    dvg_clear(device);
     done = dvg_open_driver(device, rom, sizeof rom).kind == DVG_OPENED && done;
     dvg_driver_tick(device, true, 0);
     dvg_driver_tick(device, true, 0);
     dvg_labs(device, 0, 0, 0);
     dvg_return(device);
     done = dvg_fault_of(dvg_offer(device)) == DVG_FAULT_NO_CALLER && done;
-    dvg_clear(device);
-    dvg_labs(device, 0, 0, 0);
-    dvg_jump_rom(device, 0x400);
-    for (int i = 2; i < 510; i++) {
-        dvg_halt(device);
-    }
+    push_longest(device);
     done = dvg_offer(device).kind == DVG_OFFERED && done;
     done = dvg_draw(device, rom, rom, sizeof rom, 4096, NULL, NULL).words > 0 && done;
     done = dvg_shut(device).kind == DVG_CLOSED && done;

@@ -64,6 +64,7 @@ void rattle_dealloc(void *old) {
 // What came of the calls.
 struct Counts {
     unsigned long calls, no_memory, no_argument, moved_away, right_rams, wrong_rams;
+    unsigned long restored_worlds;
 };
 
 class Storm {
@@ -259,12 +260,23 @@ private:
         dvg_draw(d, filled.data(), rom.data(), rom.size(), below(500), nullptr, nullptr);
     }
 
-    // A saved state, as it is, changed or cut off, restored by a generator and by any device.
+    // What is saved of an object, or any bytes.
+    Bytes any_saved() {
+        switch (below(8)) {
+        case 0: return any_bytes();
+        case 1: case 2: return pick(generators_).save();
+        case 3: return pick(wrapping_).save();
+        default: return pick(worlds_).save();
+        }
+    }
+
+    // A saved state, as it is, changed or cut off, restored by an object of each kind and by any
+    // device.
     void save(Device &d) {
-        if (generators_.empty()) {
+        if (generators_.empty() || worlds_.empty() || wrapping_.empty()) {
             return;
         }
-        Bytes saved = below(8) ? pick(generators_).save() : any_bytes();
+        Bytes saved = any_saved();
         if (below(3) == 0 && !saved.empty()) {
             std::uint8_t &byte = saved[below(static_cast<unsigned>(saved.size()))];
             byte = static_cast<std::uint8_t>(byte ^ 1u << below(8));
@@ -275,8 +287,14 @@ private:
         std::uint8_t little[30];
         dvg_save(d, little, below(31));
         dvg_restore(d, saved.data(), saved.size());
-        pick(generators_).restore(saved);
-        generators_.push_back(pick(generators_).copy());
+        switch (below(4)) {
+        case 0: return pick(generators_).restore(saved);
+        case 1: return pick(wrapping_).restore(saved);
+        case 2: pick(worlds_).restore(saved); counts_.restored_worlds++; return;
+        default:
+            generators_.push_back(pick(generators_).copy());
+            wrapping_.push_back(pick(wrapping_).copy());
+        }
     }
 
     void many(Device &d) {
@@ -347,6 +365,10 @@ int main(int count, char **words) {
     if (counts.wrong_rams > 0 || counts.right_rams == 0) {
         std::printf("FAILED: %lu worlds show another RAM, and %lu theirs\n", counts.wrong_rams,
                     counts.right_rams);
+        failed++;
+    }
+    if (counts.restored_worlds == 0) {
+        std::puts("FAILED: no world was restored");
         failed++;
     }
     if (counts.moved_away == 0 || counts.no_argument == 0 || refused_memory == 0) {

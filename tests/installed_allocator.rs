@@ -16,7 +16,7 @@ use gerbilargent::sketch::read_sketch;
 use gerbilargent::read::read_trace;
 use gerbilargent::{
     Action, Banked, Code, Draft, Entry, Flat, Generator, Image, Instr, Op, OpKind, Rom, Store,
-    Taken, World, draw_trace, log_trace,
+    Taken, World, WorldState, draw_trace, log_trace,
 };
 
 /// Rust's heap, whose requests are counted while `COUNTS` is set.
@@ -172,6 +172,36 @@ fn world<'a, S: Store<Alloc = &'a Refusing>>(alloc: &'a Refusing) -> Option<Stri
     }
 }
 
+/// The bytes of a world of Rust's heap amid a run that has drawn a vector.
+fn saved_bytes() -> std::vec::Vec<u8> {
+    let (rom, ram) = (Rom::new(Global, &[0; 2048]), Image::new(Global, &[0; 2048]));
+    let mut world = World::<Flat<Global>>::new(Global, rom.unwrap(), &ram.unwrap()).unwrap();
+    while world.tick() != Entry::Acted(Action::Idle) {}
+    world.offer(&two_vectors().unwrap());
+    while world.tick() != Entry::Acted(Action::Sent) {}
+    world.strobe();
+    while world.generator().strokes().is_empty() {
+        world.fetch().unwrap();
+    }
+    world.state().unwrap().to_bytes().unwrap().to_vec()
+}
+
+/// A world goes on from bytes, with its memory from here. What reads them asks Rust's heap, too.
+fn restored(alloc: &Refusing) -> Option<String> {
+    let bytes = counting(false, saved_bytes);
+    let state = counting(false, || again(|| WorldState::from_bytes_in(alloc, &bytes))).ok()?;
+    let rom = Rom::new(alloc, &[0; 2048]).ok()?;
+    let mut world = World::<Flat<&Refusing>>::new(alloc, rom, &state.as_ref()?.ram).ok()?;
+    assert!(world.resume(state?));
+    loop {
+        match again(|| world.fetch()) {
+            Ok(Entry::Done(..)) => return told(Ok::<_, ()>(world.picture())),
+            Ok(_) => {}
+            Err(_) => return None,
+        }
+    }
+}
+
 /// What a generator alone draws of words, asked again at each refusal.
 fn generator(alloc: &Refusing) -> Option<String> {
     let mut generator = Generator::new(alloc);
@@ -271,13 +301,14 @@ fn refuse(name: &str, job: Job, asks_again: bool) -> (usize, usize) {
 }
 
 fn main() -> ExitCode {
-    let jobs: [(&str, Job, bool); 8] = [
+    let jobs: [(&str, Job, bool); 9] = [
         ("world", |alloc| world::<Flat<&Refusing>>(alloc), true),
         (
             "world of banks",
             |alloc| world::<Banked<&Refusing>>(alloc),
             true,
         ),
+        ("restored world", restored, false),
         ("generator", generator, true),
         ("log", |alloc| trace(alloc, false), false),
         ("pictures", |alloc| trace(alloc, true), false),

@@ -4,9 +4,9 @@ use std::process::ExitCode;
 
 use gerbilargent::alloc::{Box, Vec};
 use gerbilargent::{
-    Action, Area, Beam, Code, CodeFault, Counters, Draft, DraftFull, DriverFault, Entry, Event,
-    FrameFault, GenFault, GeneratorState, Global, Half, Image, Instr, Listed, MemFault, Move, Op,
-    OpKind, OutOfMemory, Place, Rom, Stroke,
+    Action, Area, Beam, Code, CodeFault, Counters, Draft, DraftFull, DriverFault, DriverState,
+    Entry, Event, Flat, FrameFault, GenFault, GeneratorState, Global, Half, Image, Instr, Listed,
+    MemFault, Move, Op, OpKind, OutOfMemory, Phase, Place, Rom, Stroke, World, WorldState,
 };
 use serde::Serialize;
 use serde::de::DeserializeOwned;
@@ -210,6 +210,73 @@ fn test_states(counts: &mut Counts) {
     counts.expect_refused::<GeneratorState>(&five, "there are at most four return addresses");
 }
 
+/// States of a driver: in each phase, with as many bytes left as its frame has, and one too many.
+fn test_driver_states(counts: &mut Counts) {
+    let state = |phase: &str, flipped: bool, frame: &str, left: u16| {
+        format!(r#"{{"phase":"{phase}","half":"H1","flipped":{flipped},"frame":{frame},"#)
+            + &format!(r#""frame_half":"H0","left":{left}}}"#)
+    };
+    let frame = r#"[{"Draw":{"Labs":{"x":0,"y":0,"scale":0}}},"Halt"]"#;
+    let why = "the parts of a driver's state don't fit";
+    for phase in ["Start", "Booting", "Flipping"] {
+        counts.expect_form_of::<DriverState>(&state(phase, false, "[]", 65535));
+        counts.expect_refused::<DriverState>(&state(phase, true, "[]", 0), why);
+    }
+    for phase in ["Waiting", "Sending"] {
+        counts.expect_form_of::<DriverState>(&state(phase, true, frame, 65535));
+        counts.expect_refused::<DriverState>(&state(phase, false, frame, 65535), why);
+    }
+    for flipped in [false, true] {
+        counts.expect_form_of::<DriverState>(&state("Resting", flipped, frame, 65535));
+    }
+    counts.expect_form_of::<DriverState>(&state("Writing", true, frame, 6));
+    let over = state("Writing", true, frame, 7);
+    counts.expect_refused::<DriverState>(&over, why);
+    let drawn = state("Writing", true, frame, 6).replace("H0", "H1");
+    counts.expect_refused::<DriverState>(&drawn, why);
+    let none = state("Idle", true, frame, 6);
+    counts.expect_refused::<DriverState>(&none, "unknown variant `Idle`");
+    counts.expect_form(Phase::Writing, r#""Writing""#);
+    let first = concat!(
+        r#"{"phase":"Start","half":"H0","flipped":false,"frame":[],"#,
+        r#""frame_half":"H1","left":0}"#
+    );
+    counts.expect_form(DriverState::default(), first);
+}
+
+/// A world's state is read as it was written, and a world goes on in it.
+fn test_world_states(counts: &mut Counts) -> Result<(), std::boxed::Box<dyn std::error::Error>> {
+    let world = || -> Result<World<Flat>, std::boxed::Box<dyn std::error::Error>> {
+        let rom = Rom::new(Global, &[0; 2048])?;
+        Ok(World::new(Global, rom, &Image::new(Global, &[7; 2048])?)?)
+    };
+    let (mut one, mut other) = (world()?, world()?);
+    let mut frame = Draft::new();
+    frame.push(draws(Instr::Labs {
+        x: 1,
+        y: 2,
+        scale: 3,
+    })?)?;
+    frame.push(Op::default())?;
+    while one.tick() != Entry::Acted(Action::Idle) {}
+    counts.expect(one.offer(&frame) == Entry::Offered, "a frame is offered");
+    one.tick();
+    let text = serde_json::to_string(&one.state()?)?;
+    counts.expect_form(one.state()?, &text);
+    counts.expect(
+        text.starts_with(r#"{"ram":[7,7,2,7,7,"#)
+            && text.ends_with(r#""frame_half":"H0","left":5},"strobe_sent":false}"#),
+        &format!("a world's state is written as {text}"),
+    );
+    let read: WorldState = serde_json::from_str(&text)?;
+    counts.expect(other.resume(read), "a world goes on in what was read");
+    counts.expect(one.tick() == other.tick(), "as the saved one does");
+    counts.expect(one.state()? == other.state()?, "and stays the same");
+    let refused = text.replace(r#""left":5"#, r#""left":9"#);
+    counts.expect_refused::<WorldState>(&refused, "the parts of a driver's state don't fit");
+    Ok(())
+}
+
 /// Of each field that has a range, the last value is read, and one too large is refused; the first
 /// value, and one too small, where that isn't 0.
 fn test_ranges(counts: &mut Counts) {
@@ -251,6 +318,7 @@ fn test_ranges(counts: &mut Counts) {
     counts.expect_refused::<Counters>(&counters(4096, 0), "in whole units is below 4,096");
     counts.expect_refused::<Counters>(&counters(0, 4096), "in whole units is below 4,096");
     test_states(counts);
+    test_driver_states(counts);
     let of_ram = "a byte address of the RAM is below 2,048";
     counts.expect_form_of::<Action>(r#"{"Wrote":[2047,255]}"#);
     counts.expect_refused::<Action>(r#"{"Wrote":[2048,0]}"#, of_ram);
@@ -419,6 +487,7 @@ fn main() -> Result<ExitCode, std::boxed::Box<dyn std::error::Error>> {
     test_drafts(&mut counts)?;
     test_refused(&mut counts);
     test_memories(&mut counts)?;
+    test_world_states(&mut counts)?;
     test_logs(&mut counts)?;
     test_rest(&mut counts);
     println!("{} passed, {} failed", counts.passed, counts.failed);

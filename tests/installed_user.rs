@@ -5,9 +5,10 @@ use std::error::Error;
 
 use gerbilargent::alloc::{AllocError, AllocFailed, Vec};
 use gerbilargent::{
-    Action, BadCode, BadOp, Code, CodeFault, Draft, DraftFull, Driver, DriverFault, Entry, Flat,
-    FrameFault, GenFault, Generator, Global, Image, Instr, Judge, MemFault, MomentJudge, Op,
-    OpKind, OutOfMemory, Rom, Stopped, Stroke, World, WrappingGenerator, dump, read, steps,
+    Action, BadCode, BadOp, Checker, Code, CodeFault, Draft, DraftFull, Driver, DriverFault, Entry,
+    Event, Flat, FrameFault, GenFault, Generator, Global, Image, Instr, Judge, MemFault,
+    MomentJudge, Op, OpKind, OutOfMemory, Rom, Stopped, Stroke, World, WorldState,
+    WrappingGenerator, check, dump, read, steps,
 };
 
 /// All names of the crate at once leave std's as they are, and so does the prelude.
@@ -101,6 +102,64 @@ fn copy() -> Result<(), Box<dyn Error>> {
     Ok(())
 }
 
+/// A world over a ROM of these bytes, all alike.
+fn world_over(rom: &[u8]) -> Result<World<Flat>, Box<dyn Error>> {
+    Ok(World::new(Global, Rom::new(Global, rom)?, &Image::new(Global, &[0; 2048])?)?)
+}
+
+/// A world amid a run is saved in a file. It goes on over its ROM. Over another one of either size
+/// it opens, and its run breaks, as nothing compares the ROM. A judge doesn't judge that run.
+fn save() -> Result<(), Box<dyn Error>> {
+    let mut world = world_over(&[0xD0; 2048])?;
+    while world.tick() != Entry::Acted(Action::Idle) {}
+    let frame = read::read_draft(b"labs 0 0 0\ncallrom 800\nvctr 9 100 100 7\nhalt\n")?.draft;
+    assert_eq!(world.offer(&frame), Entry::Offered);
+    while world.tick() != Entry::Acted(Action::Sent) {}
+    world.strobe();
+    world.fetch()?;
+    std::fs::write("saved", world.state()?.to_bytes()?)?;
+    let state = WorldState::from_bytes(&std::fs::read("saved")?)?.ok_or("no saved world")?;
+    for rom in [&[0xF0; 2048][..], &[0xF0; 4096]] {
+        let mut other = world_over(rom)?;
+        assert!(other.resume(state.clone()));
+        assert_eq!(run_of(&mut other)?, Entry::Broke(0xC00, GenFault::Hole));
+        assert!(other.generator().halted() && other.fetch()? == Entry::Still);
+    }
+    let (mut later, mut judge) = (world_over(&[0xD0; 2048])?, MomentJudge::new());
+    assert!(later.resume(state));
+    while !later.generator().halted() {
+        assert!(!judge.take(&Event::Fetch, &later.apply(&Event::Fetch)?) && !judge.is_torn());
+    }
+    assert_eq!(later.strobe(), Entry::Started); // The frame is drawn once more.
+    assert!(matches!(run_of(&mut later)?, Entry::Done(..)));
+    assert_eq!(later.picture().len(), 1);
+    Ok(())
+}
+
+/// What ends a run that is open.
+fn run_of(world: &mut World<Flat>) -> Result<Entry<()>, OutOfMemory> {
+    loop {
+        match world.fetch()? {
+            Entry::Low(..) | Entry::Fetched(..) => {}
+            entry => return Ok(entry),
+        }
+    }
+}
+
+/// A driver alone is saved amid a frame, and another one goes on.
+fn save_driver() -> Result<(), Box<dyn Error>> {
+    let (rom, mut checker) = (Rom::new(Global, &[0; 2048])?, Checker::new());
+    let (mut driver, mut later) = (Driver::new(), Driver::new());
+    while driver.tick(true, 0) != Action::Idle {}
+    driver.offer(check(&one_vector().ok_or("a field is out of its range")?, &rom)?)?;
+    driver.tick(true, 0);
+    assert!(later.resume(&driver.state(), &mut checker, &rom));
+    for _ in 0..20 {
+        assert_eq!(driver.tick(true, 0), later.tick(true, 0));
+    }
+    Ok(())
+}
+
 /// What vectors of the crate have of std's.
 fn count() -> Result<usize, Box<dyn Error>> {
     let mut vector: Vec<u32> = (1..4).collect();
@@ -112,6 +171,7 @@ fn count() -> Result<usize, Box<dyn Error>> {
     assert!(vector == [2, 4, 6, 8, 10] && vector.clone() == vector && Vec::<u8>::default() == []);
     assert_eq!(Vec::from(vec![2, 4, 6, 8, 10]), vector);
     assert!(AllocFailed(3).to_string() == "out of memory");
+    assert_eq!(AsRef::<[u32]>::as_ref(&vector).len(), 5);
     Ok(std::vec::Vec::from(vector).len())
 }
 
@@ -164,6 +224,8 @@ fn convert() -> Result<(), Box<dyn Error>> {
 fn main() -> Result<(), Box<dyn Error>> {
     convert()?;
     copy()?;
+    save()?;
+    save_driver()?;
     assert!(all_names::draws_nothing()?.is_empty());
     println!("{:?} {} {}", draw()?, count()?, gerbilargent::VERSION);
     Ok(())

@@ -3,6 +3,7 @@
 #include <dvg.hpp>
 
 #include <cstdio>
+#include <string>
 #include <type_traits>
 #include <utility>
 
@@ -17,7 +18,7 @@ using gerbilargent::WrappingGenerator;
 static_assert(!std::is_copy_constructible<World>::value, "a world isn't copied");
 static_assert(std::is_nothrow_move_constructible<World>::value, "a world moves");
 static_assert(!std::is_convertible<WrappingGenerator &, Generator &>::value,
-              "one that wraps isn't restored");
+              "one that wraps is no other one");
 
 static int passed;
 static int failed;
@@ -108,6 +109,76 @@ static bool refuses(Make make) {
     return throws<std::invalid_argument>(make);
 }
 
+// What std::invalid_argument says.
+template <typename Make>
+static std::string said(Make make) {
+    try {
+        make();
+        return "nothing";
+    } catch (const std::invalid_argument &error) {
+        return error.what();
+    }
+}
+
+// One that wraps is saved and restored, and isn't taken for another one.
+static void test_wrapping(Generator &generator) {
+    WrappingGenerator wrapping;
+    dvg_strobe(wrapping);
+    expect(wrapping.held().returns == 4, "a generator whose stack wraps");
+    const Bytes saved = wrapping.save();
+    expect(wrapping.copy().save() == saved, "its copy is as it is");
+    dvg_generator_fetch(wrapping, 0x00);
+    wrapping.restore(saved);
+    expect(wrapping.save() == saved, "it goes back");
+    expect(refuses([&] { generator.restore(saved); }), "its bytes are those of no other one");
+    expect(refuses([&] { wrapping.restore(generator.save()); }), "nor the other way round");
+}
+
+// What is said of bytes that are refused: of another version, of another frame, of another class.
+// The call of C takes a generator's bytes, also where a world is open.
+static void test_refused(World &world, const Bytes &rom) {
+    Bytes saved = world.save();
+    const std::string no_state = "restore: no saved state of this class and version";
+    saved[saved.size() - 7] = 9;
+    expect(said([&] { world.restore(saved); })
+               == "restore: its parts don't fit, or this ROM refuses its frame",
+           "a phase of none");
+    saved[3] = 2;
+    expect(said([&] { world.restore(saved); }) == no_state, "another version");
+    expect(said([&] { world.restore(Generator().save()); }) == no_state, "a generator's bytes");
+    World replaced(Bytes(DVG_RAM_BYTES), rom);
+    saved = Generator().save();
+    expect(dvg_run_is_open(replaced) == false
+               && dvg_restore(replaced, saved.data(), saved.size()).kind == DVG_OPENED
+               && dvg_tick(replaced).kind == DVG_UNKNOWN, "a generator takes the place of a world");
+}
+
+// A world goes back to what was saved amid a frame, and draws it.
+static void test_world(const Bytes &ram, const Bytes &rom) {
+    World world(ram, rom), other(Bytes(DVG_RAM_BYTES, 7), rom);
+    while (dvg_tick(world).kind != DVG_IDLE) {
+    }
+    dvg_labs(world, 512, 400, 0);
+    dvg_vctr(world, 9, -100, 100, 7);
+    dvg_halt(world);
+    dvg_offer(world);
+    dvg_tick(world);
+    const Bytes saved = world.save();
+    other.restore(saved);
+    expect(other.save() == saved && other.ram() == world.ram(), "a world is restored");
+    while (dvg_tick(other).kind != DVG_SENT) {
+    }
+    dvg_strobe(other);
+    while (dvg_fetch(other).kind != DVG_DONE) {
+    }
+    expect(other.strokes().size() == 1, "and goes on");
+    const Bytes later = other.save();
+    expect(refuses([&] { other.restore(Bytes(saved.begin(), saved.end() - 8)); }), "a cut world");
+    expect(refuses([&] { other.restore(Generator().save()); }), "a generator's bytes");
+    expect(other.save() == later, "are refused, and change nothing");
+    test_refused(world, rom);
+}
+
 int main() {
     const Bytes ram(DVG_RAM_BYTES), rom(DVG_ROM_BYTES);
     World first(ram, rom);
@@ -127,7 +198,8 @@ int main() {
     expect(dvg_driver_tick(driver, true, 0).kind == DVG_PEEK, "a driver");
     Generator generator;
     expect(dvg_wants(generator).kind == DVG_STILL, "a generator");
-    expect(WrappingGenerator().held().returns == 4, "a generator whose stack wraps");
+    test_wrapping(generator);
+    test_world(ram, rom);
     test_moves(generator);
     test_saving(generator);
     expect(refuses([&] { generator.restore(Bytes(24)); }), "bytes that are no saved state");

@@ -39,15 +39,17 @@ def words(text):
 GENERIC = words("<W: fmt::Write>")
 FORMATTER, PLAIN_FORMATTER = words("fmt::Formatter<W>"), words("fmt::Formatter<'_>")
 LOWERCASE = words(".to_ascii_lowercase(")
+CLONE, TRY_CLONE = "clone", "try_clone"
 # The types that derive Clone and Debug, too.
 COPIED = """
     struct Alike, struct Banked, struct Chain, struct Checked, struct Checker, struct Counted,
-    struct Cursor, struct Desk, struct Drawn, struct Driver, struct Dump, enum Ending,
-    struct Entries, struct EntryRun, struct EntryRuns, struct Flat, struct Found, struct Frame,
-    struct Generator, struct GeneratorState, struct Judge, struct Listing, struct Logged,
-    struct Note, struct Pair, struct PairList, enum Phase, struct Picture, struct Rom,
-    struct Run, struct Runs, struct Stopped, struct Table, enum Taken, struct Traced,
-    struct WordBytes, struct Worklist, struct World, struct WrappingGenerator
+    struct Cursor, struct Desk, struct DraftText, struct Drawn, struct Driver, struct Dump,
+    enum Ending, struct Entries, struct EntryRun, struct EntryRuns, struct Flat, struct Found,
+    struct Frame, struct Generator, struct GeneratorState, struct Image, struct Judge,
+    struct Listing, struct Logged, struct Note, struct Pair, struct PairList, enum Phase,
+    struct Picture, struct Rom, struct Run, struct Runs, struct Stopped, struct Table, enum Taken,
+    struct Traced, struct WordBytes, struct Worklist, struct World, struct WorldState,
+    struct WrappingGenerator
 """
 COPIED = {tuple(item.split()) for item in COPIED.split(",")}
 # The types that serde writes and reads, some by another type, which is checked, and some that are
@@ -136,9 +138,9 @@ class Source:
             crate = self.tokens[self.at + 2]
             lines.append(f"pub use {crate}::laws;")
         if self.next_is("use") and self.tokens[self.at + 4 : self.at + 7] == words("laws::"):
-            crate, law = self.tokens[self.at + 1], self.tokens[self.at + 7]
-            self.laws.add(law)
-            lines.append(f"use {crate}::laws::{law};")
+            end = self.until(";")
+            self.laws |= {it for it in self.tokens[self.at + 7 : end] if it not in "{,}"}
+            lines.append(" ".join(self.tokens[self.at : end + 1]))
         lines += [f"{law}();" for law in self.laws]
         return next((line for line in map(words, lines) if self.next_is(*line)), None)
 
@@ -185,6 +187,9 @@ class Source:
         elif self.next_is(*LOWERCASE) and self.tokens[self.at + len(LOWERCASE)] != ")":
             self.left += words(".to_ascii_lowercase_in(")
             self.at += len(LOWERCASE)
+        elif self.next_is(CLONE):
+            self.left.append(TRY_CLONE)
+            self.at += 1
         elif self.next_is("struct") or self.next_is("enum"):
             self.structure()
         elif self.next_is(*words("fn main(")):

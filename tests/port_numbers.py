@@ -9,7 +9,7 @@ import re
 
 # Where a name of the port isn't that of the Rust sources.
 OTHER_NAMES = {"CLEAR_DRAFT": "CLEAR", "CLOSE": "SHUT", "COUNT_STROKES": "STROKES",
-               "WANTS": "WANTED", "TELLING": "TELL"}
+               "WANTS": "WANTED", "TELLING": "TELL", "RESUMING": "RESUME_WORLD"}
 LIMITS = {
     "RAM_BYTES": ("dvg_mem/src/lib.rt", "MEMORY_BYTES"),
     "ROM_BYTES": ("dvg_mem/src/lib.rt", "MEMORY_BYTES"),
@@ -28,6 +28,7 @@ FILES = {
     "dropped": "page/src/files.mjs",
     "requests": "crates/dvg_device/src/request.rt",
     "replies": "crates/dvg_device/src/reply.rt",
+    "driver": "crates/dvg_device/src/driver.rt",
     "faults": "crates/dvg_frame/src/fault.rt",
     "breaks": "crates/dvg_gen/src/taken.rt",
 }
@@ -52,6 +53,8 @@ def of_rust(texts):
     requests = pairs(request, texts["requests"], number_first=True)
     reply = r"(?:Entry|Reply|Action|RunState)::(\w+)(?:\(.*?\))* => (?:packed\()?(\d+)[, ]"
     replies = pairs(reply, texts["replies"])
+    # What a world keeps of its driver is the number of a request.
+    replies["Driver"] = int(re.search(r"(\d+) \+ 0x100 \* phase_number", texts["driver"]).group(1))
     numbers = {
         "request": {"WANTS" if it == "Wants" else in_capitals(it): n for it, n in requests.items()},
         "kind": {**{in_capitals(it): n for it, n in replies.items()}, "REFUSED": 1},
@@ -157,6 +160,7 @@ MISTAKES = {
     "dvg_log/src/trace.rt": ("MOST_EVENTS: usize = 65_536;", "MOST_EVENTS: usize = 131_072;"),
     "requests": ("16 => Request::Wants,", "21 => Request::Wants,"),
     "replies": ("Entry::Still => packed(16,", "Entry::Still => packed(17,"),
+    "driver": ("38 + 0x100 * phase_number", "39 + 0x100 * phase_number"),
     "dvg_device/src/device.rt": ("= MEMORY_BYTES + LARGE_ROM_BYTES;",
                                  "= LARGE_ROM_BYTES + LARGE_ROM_BYTES;"),
 }

@@ -55,9 +55,10 @@ which:     .res 1
 rock:      .res 1
 reach:     .res 1
 scratch:   .res 2
+
+.segment "BSS"              ; where no index can run over into the driver's bytes
 score:     .res SCORE_DIGITS ; the last digit is always 0
 high:      .res SCORE_DIGITS
-
 x_low:     .res COUNT
 x_high:    .res COUNT
 y_low:     .res COUNT
@@ -83,6 +84,7 @@ reset:  sei
         inx
         txa
 clear:  sta $00,x           ; clears dvg_phase, too
+        sta $200,x
         inx
         bne clear
         .assert DVG_START = 0, error, "a cleared dvg_phase is no DVG_START"
@@ -155,7 +157,7 @@ late:   dey
         bne late
         bit IN_TEST
         bmi self_test
-        bpl restart         ; always
+        jmp reset
 
 ; A coin counts at the third of three NMIs with its switch closed, after two with it open.
 nmi:    pha
@@ -646,7 +648,7 @@ slot:   lda life,y
         dey
         cpy #ROCKS
         bcs slot
-        bcc broken          ; always
+        jmp broken
 split:  lda #1
         sta life,y
         lda size,x
@@ -667,7 +669,7 @@ broken: pla
         rts
 dust:   lda #0
         sta life,x
-        beq broken          ; always
+        jmp broken
 
 ; --- Sounds, lamps and the coin counter ---
 
@@ -753,18 +755,22 @@ go_to:  stx which
 
 ; Calls shape Y of the list.
 put_shape:
+        cpy #SHAPE_FLAME + 16
+        bcs no_shape
         lda shapes_high,y
         ora #$C0
         tax
         lda shapes_low,y
         jmp dvg_put
+no_shape:
+        rts
 
 draw:   jsr dvg_open
         say score_place     ; a frame begins with a LABS
-        ldx #score
+        ldx #<score
         jsr print_number
         say high_place
-        ldx #high
+        ldx #<high
         jsr print_number
         jsr draw_rocks
         jsr draw_shots

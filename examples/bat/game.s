@@ -22,12 +22,14 @@ BALL_WIDTH = 12
 
 .segment "ZEROPAGE"
 beats:  .res 1              ; NMIs since the last new picture, each 4 ms
-score:  .res SCORE_DIGITS
 bat_x:  .res 2              ; the lower left corner
 ball_x: .res 2
 ball_y: .res 2
 dx:     .res 2              ; how far the ball moves in a picture
 dy:     .res 2
+
+.segment "BSS"              ; where no index can run over into the driver's bytes
+score:  .res SCORE_DIGITS
 
 .segment "CODE"
 
@@ -190,7 +192,7 @@ draw:   jsr dvg_open
         draw_at bat_x, bat_y, bat
         draw_at ball_x, ball_y, ball
         say title
-        ldx #score
+        ldx #<score
         jsr print_number
         jmp dvg_close
 

@@ -22,6 +22,8 @@ direction: .res 1       ; of the ship, 0 to 15
 chance:    .res 1
 which:     .res 1       ; the object that is drawn
 scratch:   .res 1
+.segment "BSS"          ; where no index can run over into the driver's bytes
+
 score:     .res 4       ; its digits, the greatest first
 
 objects:                ; positions and moves are in 1/64 of a unit
@@ -34,8 +36,7 @@ dx_high:   .res COUNT
 dy_low:    .res COUNT
 dy_high:   .res COUNT
 life:      .res COUNT   ; 0: it isn't there. Of a shot: the pictures that it has still to fly
-call_low:  .res COUNT   ; where its shape stands
-call_high: .res COUNT
+shape:     .res COUNT   ; the number of its shape
 size:      .res COUNT   ; 16 times its global scale
 objects_end:
 
@@ -84,6 +85,8 @@ title:  and #3                  ; each title is drawn four times
         lsr a
         and #$0F
         tay
+        cpy #16
+        bcs again
         lda tables_low,y
         ldx tables_high,y
         jsr dvg_offer
@@ -187,11 +190,7 @@ shoot:  lda shown
         lda direction
         and #15
         sta direction
-        tay
-        lda ships_low,y
-        sta call_low + SHIP
-        lda ships_high,y
-        sta call_high + SHIP
+        sta shape + SHIP
 aimed:  lda shown
         and #7
         bne ready
@@ -309,12 +308,9 @@ object: stx which
         place y_low, y_high, dvg_y
         lda size,x
         jsr dvg_labs
-        ldy which
-        lda call_high,y
-        ora #$C0                ; a call
-        tax
-        lda call_low,y
-        jsr dvg_put
+        ldx which
+        ldy shape,x
+        jsr put_shape
 gone:   ldx which
         dex
         bpl object
@@ -330,17 +326,28 @@ gone:   ldx which
         jsr dvg_labs
         ldx #0
 digit:  stx which
-        ldy score,x
-        lda digits_high,y
-        ora #$C0
-        tax
-        lda digits_low,y
-        jsr dvg_put
+        lda score,x
+        clc
+        adc #DIGITS
+        tay
+        jsr put_shape
         ldx which
         inx
         cpx #4
         bne digit
         jmp dvg_close
+
+; Puts a call of shape Y of the list.
+put_shape:
+        cpy #LISTED
+        bcs no_shape
+        lda shapes_high,y
+        ora #$C0                ; a call
+        tax
+        lda shapes_low,y
+        jmp dvg_put
+no_shape:
+        rts
 
 ; --- Tables ---
 
@@ -350,17 +357,18 @@ digit:  stx which
 .define SHIPS_B ship_8, ship_9, ship_10, ship_11, ship_12, ship_13, ship_14, ship_15
 .define DIGITS_A digit_0, digit_1, digit_2, digit_3, digit_4
 .define DIGITS_B digit_5, digit_6, digit_7, digit_8, digit_9
-.define SHAPES ship_0, rock_0, rock_1, rock_2, rock_0, rock_1, shot, shot, shot, shot
+.define OTHERS shot, rock_0, rock_1, rock_2
+SHOT_SHAPE = 16
+ROCK_SHAPE = 17
+DIGITS = 20
+LISTED = 30
 .define COSINES 768, 710, 543, 294, 0, -294, -543, -710, -768, -710, -543, -294, 0, 294, 543, 710
 
-ships_low:
-        .lobytes SHIPS_A, SHIPS_B
-ships_high:
-        .hibytes SHIPS_A, SHIPS_B
-digits_low:
-        .lobytes DIGITS_A, DIGITS_B
-digits_high:
-        .hibytes DIGITS_A, DIGITS_B
+shapes_low:
+        .lobytes SHIPS_A, SHIPS_B, OTHERS, DIGITS_A, DIGITS_B
+shapes_high:
+        .hibytes SHIPS_A, SHIPS_B, OTHERS, DIGITS_A, DIGITS_B
+        .assert shapes_high - shapes_low = LISTED, error, "the list has other shapes"
 cosines_low:
         .lobytes COSINES
 cosines_high:
@@ -376,8 +384,8 @@ first_objects:
         .byte 30, 90, 130, 50, 170, 20, 0, 0, 0, 0      ; and along y
         .byte 0, 0, 0, $FF, 0, $FF, 0, 0, 0, 0
         .byte 1, 1, 1, 1, 1, 1, 0, 0, 0, 0              ; life
-        .lobytes SHAPES
-        .hibytes SHAPES
+        .byte 0, ROCK_SHAPE, ROCK_SHAPE + 1, ROCK_SHAPE + 2, ROCK_SHAPE, ROCK_SHAPE + 1
+        .byte SHOT_SHAPE, SHOT_SHAPE, SHOT_SHAPE, SHOT_SHAPE
         .byte 0, 0, 0, 0, $F0, $F0, 0, 0, 0, 0          ; two rocks are half as large
 
 .include "tables.inc"

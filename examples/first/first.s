@@ -21,6 +21,8 @@ reset:  lda #DVG_START      ; first of all: after power-on dvg_phase is a byte o
         sta frame
 
 show:   ldy frame
+        cpy #tables_high - tables_low
+        bcs again
         ldx tables_high,y
         lda tables_low,y
         jsr dvg_offer       ; takes the frame
@@ -35,9 +37,9 @@ wait:   sta WATCHDOG        ; or the board resets the processor
         lda frame
         cmp #<(tables_high - tables_low)
         bcc show
-        lda #0
+again:  lda #0
         sta frame
-        beq show            ; always
+        jmp show
 
 nmi:    inc beats
 irq:    rti

@@ -12,8 +12,9 @@ use std::io::{self, Write};
 /// The first words of the two halves.
 const BASES: [u16; 2] = [0x001, 0x201];
 
-/// The first word address after the RAM. A call or jump below it leads to a word of the frame.
-const RAM_END: u16 = 0x400;
+/// How many words the RAM has, which begins at word address 0. A call or jump of the ROM to one of
+/// them would lead to a word of the frame.
+const RAM_WORDS: u16 = 0x400;
 
 /// The most words that the run of a frame fetches which is drawn.
 const MOST_DRAWN: u64 = 65_536;
@@ -163,7 +164,7 @@ impl<'a> Sketch<'a> {
     pub fn check_table(&self) -> Result<(), Refusal<'a>> {
         for frame in &self.frames {
             for (op, source) in frame.ops.iter().zip(&frame.sources) {
-                if let Op::CallRom(0..RAM_END) | Op::JumpRom(0..RAM_END) = op {
+                if let Op::CallRom(0..RAM_WORDS) | Op::JumpRom(0..RAM_WORDS) = op {
                     return Err(Refusal {
                         blamed: Blamed::Line(source.number, source.said()),
                         reason: String::from("names no word from 400 on"),

@@ -1,6 +1,6 @@
 //! The driver in plain Rust, for the plain twin.
 
-use crate::frames::{Frame, Instr, Op};
+use crate::frames::{Frame, Instr, Op, Rom, check};
 
 /// The bytes of a frame that are still to come, each with its address. It holds the words of one
 /// operation.
@@ -67,6 +67,11 @@ impl Cursor {
         self.base + before.iter().map(|op| op.words() as u16).sum::<u16>()
     }
 
+    /// How many bytes are still to come.
+    fn left(&self) -> u16 {
+        2 * (self.base + self.frame.words) - self.address
+    }
+
     fn next(&mut self) -> Option<(u16, u8)> {
         if self.from == self.to {
             let op = *self.frame.ops.get(self.next_op)?;
@@ -100,7 +105,6 @@ enum Phase {
     Booting,
     Resting,
     Writing(Cursor),
-    WordZero,
     Flipping,
     Waiting,
     Sending,
@@ -114,6 +118,20 @@ pub struct Driver {
     flipped: bool,
 }
 
+/// What a driver keeps, as it is saved.
+#[allow(dead_code)]
+pub struct State {
+    /// How far it is: 0 at its reset, 1 booting, 2 idle, 3 writing a frame, 4 before the flip that
+    /// follows byte 000, 5 waiting, 6 before it sends a strobe.
+    pub phase: u8,
+    /// The first words of the current half, and of that which the frame is written into.
+    pub base: u16,
+    pub frame_base: u16,
+    pub flipped: bool,
+    /// How many bytes of the frame are still to be written.
+    pub left: u16,
+}
+
 impl Driver {
     pub fn new() -> Driver {
         Driver {
@@ -121,6 +139,63 @@ impl Driver {
             base: 0x001,
             flipped: false,
         }
+    }
+
+    /// What it keeps, but the frame that it writes.
+    #[allow(dead_code)]
+    pub fn state(&self) -> State {
+        let (phase, frame_base, left) = match &self.phase {
+            Phase::Start => (0, self.base ^ 0x200, 0),
+            Phase::Booting => (1, self.base ^ 0x200, 0),
+            Phase::Resting => (2, self.base ^ 0x200, 0),
+            Phase::Writing(cursor) => (3, cursor.base, cursor.left()),
+            Phase::Flipping => (4, self.base ^ 0x200, 0),
+            Phase::Waiting => (5, self.base ^ 0x200, 0),
+            Phase::Sending => (6, self.base ^ 0x200, 0),
+        };
+        State {
+            phase,
+            base: self.base,
+            frame_base,
+            flipped: self.flipped,
+            left,
+        }
+    }
+
+    /// The operations of the frame that it writes.
+    #[allow(dead_code)]
+    pub fn written(&self) -> &[Op] {
+        match &self.phase {
+            Phase::Writing(cursor) => &cursor.frame.ops,
+            _ => &[],
+        }
+    }
+
+    /// A driver that keeps this, with the frame of this draft where it writes one, if one can.
+    #[allow(dead_code)]
+    pub fn resumed(state: &State, ops: &[Op], rom: &Rom) -> Option<Driver> {
+        let phase = match state.phase {
+            0 if !state.flipped => Phase::Start,
+            1 if !state.flipped => Phase::Booting,
+            2 => Phase::Resting,
+            3 if state.frame_base == state.base ^ 0x200 => {
+                let mut cursor = Cursor::new(check(ops, rom).ok()?, state.frame_base);
+                let passed = cursor.left().checked_sub(state.left)?;
+                for _ in 0..passed {
+                    cursor.next();
+                }
+                Phase::Writing(cursor)
+            }
+            4 if !state.flipped => Phase::Flipping,
+            5 if state.flipped => Phase::Waiting,
+            6 if state.flipped => Phase::Sending,
+            _ => return None,
+        };
+        Some(Driver {
+            phase,
+            base: state.base,
+            flipped: state.flipped,
+        })
     }
 
     /// Takes a frame for the other half. It is refused where the driver isn't idle.
@@ -157,34 +232,28 @@ impl Driver {
             Phase::Booting => self.read(halted, Phase::Resting),
             Phase::Resting => Action::Idle,
             Phase::Writing(cursor) => match cursor.next() {
-                Some((address, byte)) => {
-                    if cursor.from == cursor.to && cursor.next_op == cursor.frame.ops.len() {
-                        self.phase = if self.flipped {
-                            Phase::Flipping
-                        } else {
-                            Phase::WordZero
-                        };
-                    }
-                    Action::Wrote(address, byte)
+                Some((address, byte)) => Action::Wrote(address, byte),
+                None if self.flipped => self.flip(),
+                None => {
+                    self.phase = Phase::Flipping;
+                    Action::Wrote(0, 1)
                 }
-                None => Action::Idle,
             },
-            Phase::WordZero => {
-                self.phase = Phase::Flipping;
-                Action::Wrote(0, 1)
-            }
-            Phase::Flipping => {
-                self.base ^= 0x200;
-                self.flipped = true;
-                self.phase = Phase::Waiting;
-                Action::Wrote(1, if self.base == 0x001 { 0xE0 } else { 0xE2 })
-            }
+            Phase::Flipping => self.flip(),
             Phase::Waiting => self.read(halted, Phase::Sending),
             Phase::Sending => {
                 self.phase = Phase::Resting;
                 Action::Sent
             }
         }
+    }
+
+    /// Publishes the frame in the other half.
+    fn flip(&mut self) -> Action {
+        self.base ^= 0x200;
+        self.flipped = true;
+        self.phase = Phase::Waiting;
+        Action::Wrote(1, if self.base == 0x001 { 0xE0 } else { 0xE2 })
     }
 
     /// Reads the flag, and goes on where it shows halted.

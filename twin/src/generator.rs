@@ -211,11 +211,13 @@ impl Generator {
         }
     }
 
-    /// A generator that keeps this, if one can.
+    /// A generator that keeps this, if one can, whose stack wraps or not: then the four registers
+    /// are the return addresses.
     #[allow(dead_code)]
-    pub fn resumed(state: State) -> Option<Generator> {
+    pub fn resumed(state: State, wraps: bool) -> Option<Generator> {
         let is_address = |address: &u16| *address < 4096;
         if !is_address(&state.at)
+            || wraps && state.return_addresses.len() != 4
             || state.held.is_some_and(|word| word >= 0xB000)
             || (state.low.is_some() && !state.open)
             || !state.return_addresses.iter().all(is_address)
@@ -232,11 +234,11 @@ impl Generator {
             held: state.held,
             low: state.low,
             stack,
-            saved,
+            saved: if wraps { 0 } else { saved },
             beam: state.beam,
             strokes: state.strokes,
             open: state.open,
-            wraps: false,
+            wraps,
         })
     }
 

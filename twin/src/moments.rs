@@ -1,5 +1,5 @@
-//! Runs of one moment, in the log of any system: the twin's rule. It keeps of each byte when it was
-//! read and when it changed, by the numbers of lines, and a run is of one moment where all its
+//! Consistent runs, in the log of any system: the twin's rule. It keeps of each byte when it was
+//! read and when it changed, by the numbers of lines, and a run is consistent where all its
 //! bytes have one in common.
 
 use std::collections::HashMap;

@@ -4,7 +4,7 @@
 //! It exports `plain_new`, `plain_turn` and `plain_free`, where the proved archive has `dvg_new`,
 //! `dvg_turn` and `dvg_free`, so both can be linked into one program.
 
-use crate::driver::{Action, Driver};
+use crate::driver::{Action, Driver, State as DriverState};
 use crate::frames::{FrameFault, Instr, MOST, Op, Place, Rom, check};
 use crate::generator::{Beam, GenFault, Generator, Move, State, Stroke, Taken};
 use crate::memory::{BYTES, Flat, ROM_END};
@@ -14,9 +14,11 @@ use crate::world::{Entry, World};
 /// The most bytes that are staged.
 const MOST_STAGED: usize = 6144;
 
-/// The numbers of requests: the greatest one but the last, and that one, by which a state is told.
-const LAST_REQUEST: u8 = 31;
+/// The numbers of requests: the greatest one but the last two, and these, by which a state is told
+/// and a world goes on in it.
+const LAST_REQUEST: u8 = 34;
 const TELL_STATE: u8 = 35;
+const RESUME_WORLD: u8 = 38;
 
 /// A driver alone, with the ROM over which its drafts are checked.
 struct Desk {
@@ -277,6 +279,7 @@ fn holds(generator: &Generator) -> u64 {
     let bits = u16::from(generator.beam().scale)
         | u16::from(generator.wants_high()) << 4
         | u16::from(first.is_some()) << 5
+        | u16::from(generator.wraps()) << 6
         | (generator.return_addresses().len() as u16) << 8;
     packed(33, first.unwrap_or(0), bits)
 }
@@ -310,19 +313,81 @@ fn tell_of(generator: &Generator, request: u64) -> u64 {
         25 => point(generator.beam()),
         26 => holds(generator),
         27 => return_to(generator, request),
+        28 => part(generator, request),
         _ => UNKNOWN,
     }
 }
 
-impl Lone {
-    fn part(&self, request: u64) -> u64 {
-        let parts = parts_of(&self.generator.state());
-        parts
-            .get((request >> 8) as usize)
-            .copied()
-            .unwrap_or(NOTHING)
-    }
+/// The part of this number of a generator's state.
+fn part(generator: &Generator, request: u64) -> u64 {
+    let parts = parts_of(&generator.state());
+    parts
+        .get((request >> 8) as usize)
+        .copied()
+        .unwrap_or(NOTHING)
+}
 
+/// What a world keeps of its driver, and whether a strobe is under way: the request by which
+/// another one goes on so.
+fn driver_of(world: &World<Flat>) -> u64 {
+    let state = world.driver().state();
+    let is_half_1 = |base: u16| u64::from(base == 0x201);
+    u64::from(RESUME_WORLD)
+        | u64::from(state.phase) << 8
+        | is_half_1(state.base) << 16
+        | u64::from(state.flipped) << 17
+        | is_half_1(state.frame_base) << 18
+        | u64::from(world.strobed()) << 19
+        | u64::from(state.left) << 24
+}
+
+/// The state of a driver in a request.
+fn driver_in(request: u64) -> DriverState {
+    let base_at = |bit: u64| {
+        if request >> bit & 1 == 1 {
+            0x201
+        } else {
+            0x001
+        }
+    };
+    DriverState {
+        phase: (request >> 8) as u8,
+        base: base_at(16),
+        frame_base: base_at(18),
+        flipped: request >> 17 & 1 == 1,
+        left: (request >> 24) as u16,
+    }
+}
+
+/// The request that pushes an operation.
+fn pushing(op: Op) -> u64 {
+    let fields = |kind: u64, scale: u8, z: u8, x: u16, y: u16| {
+        8 | kind << 8
+            | u64::from(scale) << 16
+            | u64::from(z) << 24
+            | u64::from(x) << 32
+            | u64::from(y) << 48
+    };
+    match op {
+        Op::Draw(Instr::Vctr { scale, dx, dy, z }) => fields(0, scale, z, dx as u16, dy as u16),
+        Op::Draw(Instr::Svec { scale, dx, dy, z }) => fields(1, scale, z, dx as u16, dy as u16),
+        Op::Draw(Instr::Labs { x, y, scale }) => fields(2, scale, 0, x, y),
+        Op::Call(i) => fields(3, 0, 0, i, 0),
+        Op::Jump(i) => fields(4, 0, 0, i, 0),
+        Op::CallRom(a) => fields(5, 0, 0, a, 0),
+        Op::JumpRom(a) => fields(6, 0, 0, a, 0),
+        Op::Return => fields(7, 0, 0, 0, 0),
+        Op::Halt => fields(8, 0, 0, 0, 0),
+    }
+}
+
+/// The operation of this number of the frame that a world writes.
+fn written(world: &World<Flat>, request: u64) -> u64 {
+    let op = world.driver().written().get((request >> 8) as usize);
+    op.map_or(NOTHING, |op| pushing(*op))
+}
+
+impl Lone {
     /// Which byte it wants next, in bits from bit 40 on; 0 where no run is open.
     fn onward(&self) -> u64 {
         match self.generator.wants() {
@@ -367,7 +432,6 @@ impl Lone {
                 None => STILL,
                 Some(address) => packed(25, address, u16::from(self.generator.wants_high())),
             },
-            28 if !self.generator.wraps() => self.part(request),
             _ => tell_of(&self.generator, request),
         }
     }
@@ -433,6 +497,8 @@ fn ask_world(
                 None => NOTHING,
             };
         }
+        32 => return driver_of(world),
+        33 => return written(world, request),
         _ => return tell_of(world.generator(), request),
     };
     answered(entry, picture)
@@ -457,7 +523,11 @@ fn line_of(request: u64) -> Option<Line> {
 
 /// Whether a number is a request.
 fn is_request(request: u64) -> bool {
-    request as u8 <= LAST_REQUEST && (request as u8 != 22 || line_of(request).is_some())
+    match request as u8 {
+        22 => line_of(request).is_some(),
+        RESUME_WORLD => driver_in(request).phase <= 6,
+        code => code <= LAST_REQUEST,
+    }
 }
 
 /// Tells a judge.
@@ -536,13 +606,35 @@ impl Device {
         }
     }
 
-    fn resume(&mut self) -> u64 {
-        let Some(generator) = Generator::resumed(self.told.clone()) else {
+    /// Opens a generator in the state that was told, whose stack wraps or not.
+    fn resume(&mut self, wraps: bool) -> u64 {
+        let Some(generator) = Generator::resumed(self.told.clone(), wraps) else {
             return NO_STATE;
         };
         let last = self.told.low.unwrap_or(0);
         self.told = unbegun();
         self.open(Some(Part::Generator(Lone { generator, last })))
+    }
+
+    /// Has a world go on in what was told, with the staged RAM and the draft as its frame.
+    fn resume_world(&mut self, request: u64) -> u64 {
+        let Part::World(world) = &mut self.part else {
+            return UNKNOWN;
+        };
+        let Ok(image) = self.staged.as_slice().try_into() else {
+            return WRONG_SIZE;
+        };
+        let told = std::mem::replace(&mut self.told, unbegun());
+        let last = told.low.unwrap_or(0);
+        let Some(generator) = Generator::resumed(told, false) else {
+            return NO_STATE;
+        };
+        let (state, strobed) = (driver_in(request), request >> 19 & 1 == 1);
+        if world.resume(image, (generator, last), (&state, &self.draft), strobed) {
+            OPENED
+        } else {
+            NO_STATE
+        }
     }
 
     fn stroke(&self, request: u64) -> Option<&Stroke> {
@@ -574,7 +666,8 @@ impl Device {
                 *self = Device::new();
                 CLOSED
             }
-            29 => self.resume(),
+            29 => self.resume(false),
+            34 => self.resume(true),
             30 => self.open(Some(Part::Generator(Lone {
                 generator: Generator::wrapping(),
                 last: 0,
@@ -591,6 +684,9 @@ impl Device {
             _ => match &mut self.part {
                 Part::Nothing if !is_request(request) => UNKNOWN,
                 Part::Nothing => CLOSED,
+                Part::World(_) if request as u8 == RESUME_WORLD && is_request(request) => {
+                    self.resume_world(request)
+                }
                 Part::World(world) => {
                     ask_world(world, request, &self.draft, &self.staged, &mut self.picture)
                 }

@@ -10,8 +10,8 @@ const MOST_LINE_BYTES: usize = 64;
 /// The most bytes that one read takes.
 const PIECE: usize = 32_768;
 
-/// The byte addresses of the RAM end here.
-const RAM_END: u16 = 0x800;
+/// How many bytes the RAM has, which begins at byte address 0.
+const RAM_BYTES: u16 = 0x800;
 
 /// What a log shows up to a line.
 #[derive(Default)]
@@ -84,7 +84,7 @@ fn written(bytes: &[u8], base: Option<u16>) -> Option<(u16, u8)> {
     let (address, byte) = numbers(bytes, width, 2)?;
     let within = i32::from(address) - i32::from(base.unwrap_or(0));
     let within = u16::try_from(within).ok()?;
-    (within < RAM_END).then_some((within, byte as u8))
+    (within < RAM_BYTES).then_some((within, byte as u8))
 }
 
 /// What a line says, in small letters or capitals, and with a CR at its end or without.

@@ -1,6 +1,6 @@
 //! Both ends of the vector RAM in plain Rust, for the plain twins.
 
-use crate::driver::{Action, Driver};
+use crate::driver::{Action, Driver, State};
 use crate::frames::{FrameFault, Op, Rom, check};
 use crate::generator::{GenFault, Generator, Stroke, Taken};
 use crate::memory::{BYTES, Memory};
@@ -72,6 +72,38 @@ impl<M: Memory> World<M> {
 
     pub fn generator(&self) -> &Generator {
         &self.generator
+    }
+
+    #[allow(dead_code)]
+    pub fn driver(&self) -> &Driver {
+        &self.driver
+    }
+
+    /// Whether a strobe is under way.
+    #[allow(dead_code)]
+    pub fn strobed(&self) -> bool {
+        self.strobed
+    }
+
+    /// Goes on with this RAM, this generator, the low byte that it fetched last, and a driver in
+    /// this state, which writes the frame of this draft. Whether a driver over its ROM can.
+    #[allow(dead_code)]
+    pub fn resume(
+        &mut self,
+        image: &[u8; BYTES],
+        (generator, last): (Generator, u8),
+        (state, ops): (&State, &[Op]),
+        strobed: bool,
+    ) -> bool {
+        let Some(driver) = Driver::resumed(state, ops, &self.rom) else {
+            return false;
+        };
+        self.ram.load(image);
+        self.generator = generator;
+        self.last = last;
+        self.driver = driver;
+        self.strobed = strobed;
+        true
     }
 
     /// The byte of the RAM at a byte address.

@@ -95,14 +95,14 @@ pub publish_small : (set : Bool) → publish_byte set < 256
 publish_small true = omega arith
 publish_small false = omega arith
 
-module _ (q a x y s : ℕ) (n z c v : Bool) (mem flags : ℕ → ℕ) (log : List Access) (bytes : (b : ℕ)
+module _ (q a x y s : ℕ) (n z c v d i : Bool) (mem flags : ℕ → ℕ) (log : List Access) (bytes : (b : ℕ)
     → mem b < 256) (begin stop peeked : ℕ) (life : List Item) where
   abbrev pub page : ℕ → ℕ → ℕ → List ℕ
   page phase free publish = page_of phase free publish (mem 0x13) (mem 0x14) (mem 0x15) (mem 0x16) (mem 0x17)
       (mem 0x18) (mem 0x19) (mem 0x1A)
 
   abbrev pub from : ℕ → ℕ → Cpu
-  from phase free = at 0x686A a x y s n z c v (laid (page phase free (mem 0x12)) mem) flags log
+  from phase free = at 0x686A a x y s n z c v d i (laid (page phase free (mem 0x12)) mem) flags log
 
   small : (phase free publish : ℕ) → phase < 256 → free < 256 → publish < 256 → AreSmall (page phase free publish)
   small phase free publish p f l = small_page p f l (bytes 0x13) (bytes 0x14) (bytes 0x15) (bytes 0x16) (bytes 0x17)
@@ -129,7 +129,7 @@ module _ (q a x y s : ℕ) (n z c v : Bool) (mem flags : ℕ → ℕ) (log : Lis
       let f_small : f < 256 = subst (λ k. k < 256) (sym (looked (mem 0x4001))) (free_small now) in
       close q (from 0 (mem 0x11)) s (laid (page 1 f (mem 0x12)) mem) (Reads 0x4001 (mem 0x4001) ∷ []) Peek
       (stage Booting now false) begin stop peeked life
-      (λ tables covers. refl) (short.start q a x y s n z c v (mem 0x11) (mem 0x12) (mem 0x13) (mem 0x14) (mem 0x15) (mem 0x16) (mem 0x17)
+      (λ tables covers. refl) (short.start q a x y s n z c v d i (mem 0x11) (mem 0x12) (mem 0x13) (mem 0x14) (mem 0x15) (mem 0x16) (mem 0x17)
       (mem 0x18) (mem 0x19) (mem 0x1A) mem flags log) refl (mem 0x4001, refl) tt
       (record { place = goes Start Peek stands.place; half = refl; flipped = stands.flipped })
       (record { flipped = clear; place = (refl, looked (mem 0x4001), refl) })
@@ -141,7 +141,7 @@ module _ (q a x y s : ℕ) (n z c v : Bool) (mem flags : ℕ → ℕ) (log : Lis
   boot half free true is flag stands clear =
       close q (from 1 free) s (laid (page 1 free (mem 0x12)) mem) (Reads 0x2002 (flags 0) ∷ []) (Read false)
       (stage Booting half false) begin stop peeked life
-      (λ tables covers. refl) (short.boot q a x y s n z c v free (mem 0x12) (mem 0x13) (mem 0x14) (mem 0x15) (mem 0x16) (mem 0x17) (mem 0x18)
+      (λ tables covers. refl) (short.boot q a x y s n z c v d i free (mem 0x12) (mem 0x13) (mem 0x14) (mem 0x15) (mem 0x16) (mem 0x17) (mem 0x18)
       (mem 0x19) (mem 0x1A) mem flags log true flag) refl (flags 0, refl, sym (ap not flag)) (sym (ap not flag))
       (record { place = goes Booting (Read false) stands.place; half = stands.half; flipped = stands.flipped })
       (record { flipped = clear; place = (refl, is, refl) })
@@ -151,7 +151,7 @@ module _ (q a x y s : ℕ) (n z c v : Bool) (mem flags : ℕ → ℕ) (log : Lis
   boot half free false is flag stands clear =
       close q (from 1 free) s (laid (page 2 free (mem 0x12)) mem) (Reads 0x2002 (flags 0) ∷ []) (Read true)
       (stage (Resting true) half false) begin stop peeked life
-      (λ tables covers. refl) (short.boot q a x y s n z c v free (mem 0x12) (mem 0x13) (mem 0x14) (mem 0x15) (mem 0x16) (mem 0x17) (mem 0x18)
+      (λ tables covers. refl) (short.boot q a x y s n z c v d i free (mem 0x12) (mem 0x13) (mem 0x14) (mem 0x15) (mem 0x16) (mem 0x17) (mem 0x18)
       (mem 0x19) (mem 0x1A) mem flags log false flag) refl (flags 0, refl, sym (ap not flag)) (sym (ap not flag))
       (record { place = goes Booting (Read true) stands.place; half = stands.half; flipped = stands.flipped })
       (record { flipped = clear; place = (refl, is, refl) })
@@ -165,7 +165,7 @@ module _ (q a x y s : ℕ) (n z c v : Bool) (mem flags : ℕ → ℕ) (log : Lis
   rest half free first set is firsts stands clear =
       close q (from 2 free) s (laid (page 2 free (mem 0x12)) mem) [] Idle
       (stage (Resting first) half set) begin stop peeked life
-      (λ tables covers. refl) (short.idle q a x y s n z c v free (mem 0x12) (mem 0x13) (mem 0x14) (mem 0x15) (mem 0x16) (mem 0x17) (mem 0x18)
+      (λ tables covers. refl) (short.idle q a x y s n z c v d i free (mem 0x12) (mem 0x13) (mem 0x14) (mem 0x15) (mem 0x16) (mem 0x17) (mem 0x18)
       (mem 0x19) (mem 0x1A) mem flags log) refl refl tt
       (record { place = goes (Resting first) Idle stands.place; half = stands.half; flipped = stands.flipped })
       (record { flipped = clear; place = (refl, is, firsts) })
@@ -179,7 +179,7 @@ module _ (q a x y s : ℕ) (n z c v : Bool) (mem flags : ℕ → ℕ) (log : Lis
   zero_tick half free set is stands clear =
       close q (from 3 free) s (laid (page 4 free (mem 0x12)) (put 0x4000 1 mem)) (Writes 0x4000 1 ∷ []) (Wrote 0 1)
       (stage (Writing (word_zero (other half) false)) half set) begin stop peeked life
-      (λ tables covers. refl) (short.zero q a x y s n z c v free (mem 0x12) (mem 0x13) (mem 0x14) (mem 0x15) (mem 0x16) (mem 0x17) (mem 0x18)
+      (λ tables covers. refl) (short.zero q a x y s n z c v d i free (mem 0x12) (mem 0x13) (mem 0x14) (mem 0x15) (mem 0x16) (mem 0x17) (mem 0x18)
       (mem 0x19) (mem 0x1A) mem flags log) refl refl tt
       (record {
         place = goes (Writing (word_zero (other half) true)) (Wrote 0 1) stands.place;
@@ -198,7 +198,7 @@ module _ (q a x y s : ℕ) (n z c v : Bool) (mem flags : ℕ → ℕ) (log : Lis
   flip H0 set stands =
       close q (from 4 0xE2) s (laid (page 5 0xE0 4) (put 0x4001 0xE2 mem)) (Writes 0x4001 0xE2 ∷ []) (Wrote 1 0xE2)
       (stage (Waiting false) H1 true) begin stop peeked life
-      (λ tables covers. refl) (short.flip q a x y s n z c v 0xE2 (mem 0x12) (mem 0x13) (mem 0x14) (mem 0x15) (mem 0x16) (mem 0x17) (mem 0x18)
+      (λ tables covers. refl) (short.flip q a x y s n z c v d i 0xE2 (mem 0x12) (mem 0x13) (mem 0x14) (mem 0x15) (mem 0x16) (mem 0x17) (mem 0x18)
       (mem 0x19) (mem 0x1A) mem flags log) refl refl tt
       (record { place = goes (Writing (word_zero H1 false)) (Wrote 1 0xE2) stands.place; half = refl; flipped = refl })
       (record { flipped = refl; place = (refl, refl, refl) })
@@ -208,7 +208,7 @@ module _ (q a x y s : ℕ) (n z c v : Bool) (mem flags : ℕ → ℕ) (log : Lis
   flip H1 set stands =
       close q (from 4 0xE0) s (laid (page 5 0xE2 4) (put 0x4001 0xE0 mem)) (Writes 0x4001 0xE0 ∷ []) (Wrote 1 0xE0)
       (stage (Waiting false) H0 true) begin stop peeked life
-      (λ tables covers. refl) (short.flip q a x y s n z c v 0xE0 (mem 0x12) (mem 0x13) (mem 0x14) (mem 0x15) (mem 0x16) (mem 0x17) (mem 0x18)
+      (λ tables covers. refl) (short.flip q a x y s n z c v d i 0xE0 (mem 0x12) (mem 0x13) (mem 0x14) (mem 0x15) (mem 0x16) (mem 0x17) (mem 0x18)
       (mem 0x19) (mem 0x1A) mem flags log) refl refl tt
       (record { place = goes (Writing (word_zero H0 false)) (Wrote 1 0xE0) stands.place; half = refl; flipped = refl })
       (record { flipped = refl; place = (refl, refl, refl) })
@@ -222,7 +222,7 @@ module _ (q a x y s : ℕ) (n z c v : Bool) (mem flags : ℕ → ℕ) (log : Lis
   wait half free first set true is firsts flag stands clear =
       close q (from 5 free) s (laid (page 5 free (mem 0x12)) mem) (Reads 0x2002 (flags 0) ∷ []) (Read false)
       (stage (Waiting first) half set) begin stop peeked life
-      (λ tables covers. refl) (short.wait q a x y s n z c v free (mem 0x12) (mem 0x13) (mem 0x14) (mem 0x15) (mem 0x16) (mem 0x17) (mem 0x18)
+      (λ tables covers. refl) (short.wait q a x y s n z c v d i free (mem 0x12) (mem 0x13) (mem 0x14) (mem 0x15) (mem 0x16) (mem 0x17) (mem 0x18)
       (mem 0x19) (mem 0x1A) mem flags log true flag) refl (flags 0, refl, sym (ap not flag)) (sym (ap not flag))
       (record { place = goes (Waiting first) (Read false) stands.place; half = stands.half; flipped = stands.flipped })
       (record { flipped = clear; place = (refl, is, firsts) })
@@ -232,7 +232,7 @@ module _ (q a x y s : ℕ) (n z c v : Bool) (mem flags : ℕ → ℕ) (log : Lis
   wait half free first set false is firsts flag stands clear =
       close q (from 5 free) s (laid (page 6 free (mem 0x12)) mem) (Reads 0x2002 (flags 0) ∷ []) (Read true)
       (stage (Sending first) half set) begin stop peeked life
-      (λ tables covers. refl) (short.wait q a x y s n z c v free (mem 0x12) (mem 0x13) (mem 0x14) (mem 0x15) (mem 0x16) (mem 0x17) (mem 0x18)
+      (λ tables covers. refl) (short.wait q a x y s n z c v d i free (mem 0x12) (mem 0x13) (mem 0x14) (mem 0x15) (mem 0x16) (mem 0x17) (mem 0x18)
       (mem 0x19) (mem 0x1A) mem flags log false flag) refl (flags 0, refl, sym (ap not flag)) (sym (ap not flag))
       (record { place = goes (Waiting first) (Read true) stands.place; half = stands.half; flipped = stands.flipped })
       (record { flipped = clear; place = (refl, is, firsts) })
@@ -246,7 +246,7 @@ module _ (q a x y s : ℕ) (n z c v : Bool) (mem flags : ℕ → ℕ) (log : Lis
   send half free first set is firsts stands clear =
       close q (from 6 free) s (laid (page 2 free (mem 0x12)) (put 0x3000 2 mem)) (Writes 0x3000 2 ∷ []) Sent
       (stage (Resting first) half set) begin stop peeked life
-      (λ tables covers. refl) (short.send q a x y s n z c v free (mem 0x12) (mem 0x13) (mem 0x14) (mem 0x15) (mem 0x16) (mem 0x17) (mem 0x18)
+      (λ tables covers. refl) (short.send q a x y s n z c v d i free (mem 0x12) (mem 0x13) (mem 0x14) (mem 0x15) (mem 0x16) (mem 0x17) (mem 0x18)
       (mem 0x19) (mem 0x1A) mem flags log) refl (2, refl) tt
       (record { place = goes (Sending first) Sent stands.place; half = stands.half; flipped = stands.flipped })
       (record { flipped = clear; place = (refl, is, firsts) })

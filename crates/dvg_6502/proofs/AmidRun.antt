@@ -3,10 +3,13 @@ use Rattle.std.proofs.Common.{◌≡◌, ℕ, zero, suc, inl, inr, ◌+◌, ◌/
 use Rattle.std.proofs.Common.{ap, ◌∙◌, subst, arith, eqb-true, eq-eqb}
 use Rattle.std.specs.Prelude.{nat_eq, ◌&&◌, ◌||◌, ◌⊎◌, if◌then◌else◌}
 use Rattle.dvg_6502.specs.Processor.{Cpu, Instr, Mode, Immediate, ZeroPage, ZeroPageX, Absolute, IndirectIndexed, Load}
-use Rattle.dvg_6502.specs.Processor.{Store, Transfer, And, Or, Xor, Compare, TestBits, Change, Step, ShiftLeft, RotateLeft}
-use Rattle.dvg_6502.specs.Processor.{ShiftLeftA, ShiftRightA, SetCarry, Branch, Jump, Call, Return, Unknown}
+use Rattle.dvg_6502.specs.Processor.{Store, Transfer, And, Or, Xor, Compare, TestBits, Change, Step}
+use Rattle.dvg_6502.specs.Processor.{Branch, Jump, Call, Return, Unknown}
 use Rattle.dvg_6502.specs.Processor.{Register, A, X, Y, put, decoded, opcodes, does, stack_place, step, turn, run, at_return}
 use Rattle.dvg_6502.specs.Processor.{reading, setting}
+use Rattle.dvg_6502.specs.Processor.{ZeroPageY, AbsoluteX, AbsoluteY, IndexedIndirect, Add, Subtract, ShiftAt, ShiftA}
+use Rattle.dvg_6502.specs.Processor.{Set, JumpAt, PushA, PushFlags, PullA, PullFlags, FromStack, ToStack, Resume}
+use Rattle.dvg_6502.specs.Processor.{Pass, Flag, Negative, Zero, Carry, Overflow, Decimal, Interrupt, flagging}
 use Rattle.dvg_6502.proofs.Memory.{both_true}
 use Rattle.dvg_6502.specs.Amid.{changed, touches, amid, AreHarmless, guards, all_in, goes_home, is_steady}
 use Rattle.dvg_6502.specs.Amid.{are_steady, CameOut}
@@ -23,6 +26,12 @@ all_agree m mem guard (b ∷ bs) same is = let two = both_true (guard b) (all_in
 abbrev moves : Instr → Bool
 moves Call = true
 moves Return = true
+moves PushA = true
+moves PushFlags = true
+moves PullA = true
+moves PullFlags = true
+moves ToStack = true
+moves Resume = true
 moves instr = false
 
 set_s : (r : Register) (v : ℕ) (k : Cpu) → (setting r v k).s ≡ k.s
@@ -35,7 +44,19 @@ read_s Immediate cpu = refl
 read_s ZeroPage cpu = refl
 read_s ZeroPageX cpu = refl
 read_s Absolute cpu = refl
+read_s ZeroPageY cpu = refl
+read_s AbsoluteX cpu = refl
+read_s AbsoluteY cpu = refl
+read_s IndexedIndirect cpu = refl
 read_s IndirectIndexed cpu = refl
+
+flag_s : (f : Flag) (to : Bool) (k : Cpu) → (flagging f to k).s ≡ k.s
+flag_s Negative to k = refl
+flag_s Zero to k = refl
+flag_s Carry to k = refl
+flag_s Overflow to k = refl
+flag_s Decimal to k = refl
+flag_s Interrupt to k = refl
 
 s_stays : (i : Instr) (cpu : Cpu) → moves i ≡ false → (does i cpu).s ≡ cpu.s
 s_stays (Load r mode) cpu is = set_s r _ (reading mode cpu) ∙ read_s mode cpu
@@ -44,19 +65,28 @@ s_stays (Transfer r t) cpu is = set_s t _ (record cpu { pc = cpu.pc + 1 })
 s_stays (And mode) cpu is = read_s mode cpu
 s_stays (Or mode) cpu is = read_s mode cpu
 s_stays (Xor mode) cpu is = read_s mode cpu
+s_stays (Add mode) cpu is = read_s mode cpu
+s_stays (Subtract mode) cpu is = read_s mode cpu
 s_stays (Compare r mode) cpu is = read_s mode cpu
 s_stays (TestBits mode) cpu is = read_s mode cpu
 s_stays (Change mode by) cpu is = read_s mode cpu
 s_stays (Step r by) cpu is = set_s r _ (record cpu { pc = cpu.pc + 1 })
-s_stays ShiftLeft cpu is = refl
-s_stays RotateLeft cpu is = refl
-s_stays ShiftLeftA cpu is = refl
-s_stays ShiftRightA cpu is = refl
-s_stays (SetCarry to) cpu is = refl
+s_stays (ShiftAt shift mode) cpu is = read_s mode cpu
+s_stays (ShiftA shift) cpu is = refl
+s_stays (Set flag to) cpu is = flag_s flag to (record cpu { pc = cpu.pc + 1 })
 s_stays (Branch flag when) cpu is = refl
 s_stays Jump cpu is = refl
 s_stays Call cpu is = absurd (cc)
 s_stays Return cpu is = absurd (cc)
+s_stays JumpAt cpu is = refl
+s_stays PushA cpu is = absurd (cc)
+s_stays PushFlags cpu is = absurd (cc)
+s_stays PullA cpu is = absurd (cc)
+s_stays PullFlags cpu is = absurd (cc)
+s_stays FromStack cpu is = refl
+s_stays ToStack cpu is = absurd (cc)
+s_stays Resume cpu is = absurd (cc)
+s_stays Pass cpu is = refl
 s_stays Unknown cpu is = refl
 
 either : (t u : Bool) → (t || u) ≡ true → (t ≡ true) ⊎ (u ≡ true)
@@ -156,17 +186,26 @@ module _ (kept : ℕ → Bool) (s : ℕ) (cpu : Cpu) (m : ℕ → ℕ)
   grows (And mode) = flat (And mode) refl
   grows (Or mode) = flat (Or mode) refl
   grows (Xor mode) = flat (Xor mode) refl
+  grows (Add mode) = flat (Add mode) refl
+  grows (Subtract mode) = flat (Subtract mode) refl
   grows (Compare r mode) = flat (Compare r mode) refl
   grows (TestBits mode) = flat (TestBits mode) refl
   grows (Change mode by) = flat (Change mode by) refl
   grows (Step r by) = flat (Step r by) refl
-  grows ShiftLeft = flat ShiftLeft refl
-  grows RotateLeft = flat RotateLeft refl
-  grows ShiftLeftA = flat ShiftLeftA refl
-  grows ShiftRightA = flat ShiftRightA refl
-  grows (SetCarry to) = flat (SetCarry to) refl
+  grows (ShiftAt shift mode) = flat (ShiftAt shift mode) refl
+  grows (ShiftA shift) = flat (ShiftA shift) refl
+  grows (Set flag to) = flat (Set flag to) refl
   grows (Branch flag when) = flat (Branch flag when) refl
   grows Jump = flat Jump refl
+  grows JumpAt = flat JumpAt refl
+  grows PushA = λ e home b is. absurd (cc)
+  grows PushFlags = λ e home b is. absurd (cc)
+  grows PullA = λ e home b is. absurd (cc)
+  grows PullFlags = λ e home b is. absurd (cc)
+  grows FromStack = flat FromStack refl
+  grows ToStack = λ e home b is. absurd (cc)
+  grows Resume = λ e home b is. absurd (cc)
+  grows Pass = flat Pass refl
   grows Unknown = flat Unknown refl
 
   -- a step of a call amid others comes out as without them

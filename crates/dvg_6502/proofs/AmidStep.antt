@@ -1,14 +1,18 @@
 -- A step amid interrupts.
-use Rattle.std.proofs.Common.{◌≡◌, ℕ, ◌+◌, ◌-◌, ◌*◌, ◌/◌, ◌%◌, Bool, List, [], ◌∷◌, refl, sym}
+use Rattle.std.proofs.Common.{◌≡◌, ℕ, ◌+◌, ◌-◌, ◌*◌, ◌/◌, ◌%◌, Bool, true, List, [], ◌∷◌, refl, sym}
 use Rattle.std.proofs.Common.{ap, ◌∙◌}
 use Rattle.std.specs.Prelude.{nat_eq, nat_le, if◌then◌else◌, bit_and, bit_or, bit_xor}
 use Rattle.dvg_6502.specs.Processor.{Cpu, Instr, Mode, Immediate, ZeroPage, ZeroPageX, Absolute, IndirectIndexed, Load}
-use Rattle.dvg_6502.specs.Processor.{Store, Transfer, And, Or, Xor, Compare, TestBits, Change, Step, ShiftLeft, RotateLeft}
-use Rattle.dvg_6502.specs.Processor.{ShiftLeftA, ShiftRightA, SetCarry, Branch, Jump, Call, Return, Unknown}
+use Rattle.dvg_6502.specs.Processor.{Store, Transfer, And, Or, Xor, Compare, TestBits, Change, Step}
+use Rattle.dvg_6502.specs.Processor.{Branch, Jump, Call, Return, Unknown}
 use Rattle.dvg_6502.specs.Processor.{Register, A, X, Y, Flag, Negative, Zero, Carry, Overflow, Reads, put}
 use Rattle.dvg_6502.specs.Processor.{decoded, opcodes, address, operand, found, flags_after, reading, reads, writing}
 use Rattle.dvg_6502.specs.Processor.{setting, telling, carrying, next, size, of_register, of_flag, does, stack_place, step}
-use Rattle.dvg_6502.specs.Processor.{flag_place, is_so, target, changing, bit_of}
+use Rattle.dvg_6502.specs.Processor.{flag_place, is_so, target, changing}
+use Rattle.dvg_6502.specs.Processor.{ZeroPageY, AbsoluteX, AbsoluteY, IndexedIndirect, Add, Subtract, ShiftAt, ShiftA}
+use Rattle.dvg_6502.specs.Processor.{Set, JumpAt, PushA, PushFlags, PullA, PullFlags, FromStack, ToStack, Resume}
+use Rattle.dvg_6502.specs.Processor.{Pass, Shift, Decimal, Interrupt, adding, shifted, lost, with_flags}
+use Rattle.dvg_6502.specs.Processor.{flags_byte, beside}
 use Rattle.dvg_6502.specs.Amid.{changed, naming, named, touches}
 
 -- two memories agree on these bytes
@@ -36,7 +40,19 @@ module _ (cpu : Cpu) (m : ℕ → ℕ) where
   address_same Immediate e = refl
   address_same ZeroPage e = e.0
   address_same ZeroPageX e = ap (λ b. (b + cpu.x) % 256) e.0
+  address_same ZeroPageY e = ap (λ b. (b + cpu.y) % 256) e.0
   address_same Absolute e = ap (λ l. l + 256 * m (cpu.pc + 2)) e.0 ∙ ap (λ h. cpu.mem (cpu.pc + 1) + 256 * h) e.1.0
+  address_same AbsoluteX e =
+      ap (λ l. (l + 256 * m (cpu.pc + 2) + cpu.x) % 65536) e.0
+      ∙ ap (λ h. (cpu.mem (cpu.pc + 1) + 256 * h + cpu.x) % 65536) e.1.0
+  address_same AbsoluteY e =
+      ap (λ l. (l + 256 * m (cpu.pc + 2) + cpu.y) % 65536) e.0
+      ∙ ap (λ h. (cpu.mem (cpu.pc + 1) + 256 * h + cpu.y) % 65536) e.1.0
+  address_same IndexedIndirect e =
+      let zp : ℕ = (cpu.mem (cpu.pc + 1) + cpu.x) % 256 in
+      ap (λ b. m ((b + cpu.x) % 256) + 256 * m (((b + cpu.x) % 256 + 1) % 256)) e.0
+      ∙ ap (λ l. l + 256 * m ((zp + 1) % 256)) e.1.0
+      ∙ ap (λ h. cpu.mem zp + 256 * h) e.1.1.0
   address_same IndirectIndexed e =
       ap (λ zp. (m zp + 256 * m ((zp + 1) % 256) + cpu.y) % 65536) e.0
       ∙ ap (λ l. (l + 256 * m ((cpu.mem (cpu.pc + 1) + 1) % 256) + cpu.y) % 65536) e.1.0
@@ -50,6 +66,10 @@ module _ (cpu : Cpu) (m : ℕ → ℕ) where
   operand_same ZeroPage e = ap (λ p. found p it) (address_same ZeroPage e.1) ∙ found_same (address ZeroPage cpu) e.0
   operand_same ZeroPageX e = ap (λ p. found p it) (address_same ZeroPageX e.1) ∙ found_same (address ZeroPageX cpu) e.0
   operand_same Absolute e = ap (λ p. found p it) (address_same Absolute e.1) ∙ found_same (address Absolute cpu) e.0
+  operand_same ZeroPageY e = ap (λ p. found p it) (address_same ZeroPageY e.1) ∙ found_same (address ZeroPageY cpu) e.0
+  operand_same AbsoluteX e = ap (λ p. found p it) (address_same AbsoluteX e.1) ∙ found_same (address AbsoluteX cpu) e.0
+  operand_same AbsoluteY e = ap (λ p. found p it) (address_same AbsoluteY e.1) ∙ found_same (address AbsoluteY cpu) e.0
+  operand_same IndexedIndirect e = ap (λ p. found p it) (address_same IndexedIndirect e.1) ∙ found_same (address IndexedIndirect cpu) e.0
   operand_same IndirectIndexed e = ap (λ p. found p it) (address_same IndirectIndexed e.1)
       ∙ found_same (address IndirectIndexed cpu) e.0
 
@@ -62,6 +82,10 @@ module _ (cpu : Cpu) (m : ℕ → ℕ) where
   reading_same ZeroPage e = ap (next 2) (reads_same _ _ (address_same ZeroPage e.1) e.0)
   reading_same ZeroPageX e = ap (next 2) (reads_same _ _ (address_same ZeroPageX e.1) e.0)
   reading_same Absolute e = ap (next 3) (reads_same _ _ (address_same Absolute e.1) e.0)
+  reading_same ZeroPageY e = ap (next 2) (reads_same _ _ (address_same ZeroPageY e.1) e.0)
+  reading_same AbsoluteX e = ap (next 3) (reads_same _ _ (address_same AbsoluteX e.1) e.0)
+  reading_same AbsoluteY e = ap (next 3) (reads_same _ _ (address_same AbsoluteY e.1) e.0)
+  reading_same IndexedIndirect e = ap (next 2) (reads_same _ _ (address_same IndexedIndirect e.1) e.0)
   reading_same IndirectIndexed e = ap (next 2) (reads_same _ _ (address_same IndirectIndexed e.1) e.0)
 
   setting_same : (r : Register) (v : ℕ) (k : Cpu) → setting r v (changed m k) ≡ changed m (setting r v k)
@@ -82,6 +106,8 @@ module _ (cpu : Cpu) (m : ℕ → ℕ) where
   of_flag_same Zero = refl
   of_flag_same Carry = refl
   of_flag_same Overflow = refl
+  of_flag_same Decimal = refl
+  of_flag_same Interrupt = refl
 
   -- what writes nothing
   quiet : (after other : Cpu) → other ≡ changed m after → after.mem ≡ cpu.mem → Same cpu after other m
@@ -101,6 +127,10 @@ module _ (cpu : Cpu) (m : ℕ → ℕ) where
   reading_kept ZeroPage = refl
   reading_kept ZeroPageX = refl
   reading_kept Absolute = refl
+  reading_kept ZeroPageY = refl
+  reading_kept AbsoluteX = refl
+  reading_kept AbsoluteY = refl
+  reading_kept IndexedIndirect = refl
   reading_kept IndirectIndexed = refl
 
   load : (r : Register) (mode : Mode) → Ok (Load r mode)
@@ -117,6 +147,18 @@ module _ (cpu : Cpu) (m : ℕ → ℕ) where
 
   xor_same : (mode : Mode) → Ok (Xor mode)
   xor_same mode e = quiet _ _ (set_same A _ _ (reading mode it) (reading mode cpu) (ap (bit_xor cpu.a) (operand_same mode e)) (reading_same mode e))
+      (reading_kept mode)
+
+  add_as : (v w : ℕ) (k l : Cpu) → v ≡ w → k ≡ changed m l → adding v k ≡ changed m (adding w l)
+  add_as v w k l vs ks = ap (λ v. adding v k) vs ∙ ap (adding w) ks
+
+  add_same : (mode : Mode) → Ok (Add mode)
+  add_same mode e = quiet _ _ (add_as _ _ _ (reading mode cpu) (operand_same mode e) (reading_same mode e))
+      (reading_kept mode)
+
+  subtract_same : (mode : Mode) → Ok (Subtract mode)
+  subtract_same mode e = quiet _ _
+      (add_as _ _ _ (reading mode cpu) (ap (λ o. 255 - o) (operand_same mode e)) (reading_same mode e))
       (reading_kept mode)
 
   -- with a byte and a register's byte the same, and the state that has read it
@@ -157,6 +199,10 @@ module _ (cpu : Cpu) (m : ℕ → ℕ) where
   naming_same ZeroPage e = e.1
   naming_same ZeroPageX e = e.1
   naming_same Absolute e = e.1
+  naming_same ZeroPageY e = e.1
+  naming_same AbsoluteX e = e.1
+  naming_same AbsoluteY e = e.1
+  naming_same IndexedIndirect e = e.1
   naming_same IndirectIndexed e = e.1
 
   -- a byte is changed
@@ -173,15 +219,11 @@ module _ (cpu : Cpu) (m : ℕ → ℕ) where
       (change_as mode _ _ (ap (λ o. (o + by) % 256) (operand_same mode e)) e)
       (ap (put (address mode cpu) ((operand mode cpu + by) % 256)) (reading_kept mode))
 
-  shift_same : Ok ShiftLeft
-  shift_same e = writes _ _ (address ZeroPage cpu) (2 * operand ZeroPage cpu % 256)
-      (ap (λ o. carrying (nat_le 128 o) (changing ZeroPage (2 * o % 256) it)) (operand_same ZeroPage e)
-      ∙ ap (carrying (nat_le 128 (operand ZeroPage cpu))) (change_as ZeroPage _ _ refl e)) refl
-
-  rotate_same : Ok RotateLeft
-  rotate_same e = writes _ _ (address ZeroPage cpu) ((2 * operand ZeroPage cpu + bit_of cpu.c) % 256)
-      (ap (λ o. carrying (nat_le 128 o) (changing ZeroPage ((2 * o + bit_of cpu.c) % 256) it)) (operand_same ZeroPage e)
-      ∙ ap (carrying (nat_le 128 (operand ZeroPage cpu))) (change_as ZeroPage _ _ refl e)) refl
+  shift_same : (shift : Shift) (mode : Mode) → Ok (ShiftAt shift mode)
+  shift_same shift mode e = writes _ _ (address mode cpu) (shifted shift cpu.c (operand mode cpu))
+      (ap (λ o. carrying (lost shift o) (changing mode (shifted shift cpu.c o) it)) (operand_same mode e)
+      ∙ ap (carrying (lost shift (operand mode cpu))) (change_as mode _ _ refl e))
+      (ap (put (address mode cpu) (shifted shift cpu.c (operand mode cpu))) (reading_kept mode))
 
   transfer_same : (r t : Register) → Ok (Transfer r t)
   transfer_same r t e = quiet _ _ (set_same t _ _ (next 1 it) (next 1 cpu) (of_register_same r) refl) (set_kept t _ (next 1 cpu))
@@ -198,6 +240,53 @@ module _ (cpu : Cpu) (m : ℕ → ℕ) where
 
   jump_same : Ok Jump
   jump_same e = quiet _ _ (ap (λ p. record it { pc = p }) (address_same Absolute e)) refl
+
+  -- an indirect jump, by where its two bytes are
+  abbrev jumped : (low high : ℕ) → Cpu → Cpu
+  jumped low high k = record (reads high (reads low k)) { pc = found low k + 256 * found high k }
+
+  found_on : (p : ℕ) (k : Cpu) → m p ≡ k.mem p → found p (changed m k) ≡ found p k
+  found_on p k e = ap (λ (b : ℕ). if nat_eq p flag_place then k.flags 0 else b) e
+
+  reads_on : (p : ℕ) (k : Cpu) → m p ≡ k.mem p → reads p (changed m k) ≡ changed m (reads p k)
+  reads_on p k e = ap (λ (b : ℕ). record (changed m k) { flags = flags_after p k; log = Reads p b ∷ k.log }) (found_on p k e)
+
+  jumped_same : (low high : ℕ) → m low ≡ cpu.mem low → m high ≡ cpu.mem high
+      → jumped low high it ≡ changed m (jumped low high cpu)
+  jumped_same low high l h =
+      ap (λ k. to k (found low it) (found high it)) (ap (reads high) (reads_on low cpu l) ∙ reads_on high (reads low cpu) h)
+      ∙ ap (λ b. to (changed m (reads high (reads low cpu))) b (found high it)) (found_on low cpu l)
+      ∙ ap (λ b. to (changed m (reads high (reads low cpu))) (found low cpu) b) (found_on high cpu h)
+    where
+      to : Cpu → ℕ → ℕ → Cpu
+      to k b0 b1 = record k { pc = b0 + 256 * b1 }
+
+  beside_same : Agree m cpu.mem (naming Absolute cpu) → beside it ≡ beside cpu
+  beside_same e = ap (λ l. (l + 1) % 256 + 256 * m (cpu.pc + 2)) e.0
+      ∙ ap (λ h. (cpu.mem (cpu.pc + 1) + 1) % 256 + 256 * h) e.1.0
+
+  jump_at_same : Ok JumpAt
+  jump_at_same e = quiet _ _
+      (ap (λ p. jumped p (beside it) it) (address_same Absolute e.1.1)
+      ∙ ap (λ p. jumped (address Absolute cpu) p it) (beside_same e.1.1)
+      ∙ jumped_same (address Absolute cpu) (beside cpu) e.1.0 e.0) refl
+
+  set_flag_same : (f : Flag) (to : Bool) → Ok (Set f to)
+  set_flag_same Negative to e = quiet _ _ refl refl
+  set_flag_same Zero to e = quiet _ _ refl refl
+  set_flag_same Carry to e = quiet _ _ refl refl
+  set_flag_same Overflow to e = quiet _ _ refl refl
+  set_flag_same Decimal to e = quiet _ _ refl refl
+  set_flag_same Interrupt to e = quiet _ _ refl refl
+
+  resume_same : Ok Resume
+  resume_same e = quiet _ _
+      (ap (λ b. back b (m (stack_place (cpu.s + 2))) (m (stack_place (cpu.s + 3)))) e.0
+      ∙ ap (λ b. back (cpu.mem (stack_place (cpu.s + 1))) b (m (stack_place (cpu.s + 3)))) e.1.0
+      ∙ ap (back (cpu.mem (stack_place (cpu.s + 1))) (cpu.mem (stack_place (cpu.s + 2)))) e.1.1.0) refl
+    where
+      back : ℕ → ℕ → ℕ → Cpu
+      back flags low high = with_flags flags (record it { s = (cpu.s + 3) % 256; pc = low + 256 * high })
 
   return_same : Ok Return
   return_same e = quiet _ _
@@ -230,15 +319,24 @@ module _ (cpu : Cpu) (m : ℕ → ℕ) where
   does_same (TestBits mode) = bits_same mode
   does_same (Change mode by) = change_same mode by
   does_same (Step r by) = step_same r by
-  does_same ShiftLeft = shift_same
-  does_same RotateLeft = rotate_same
-  does_same ShiftLeftA = λ e. quiet _ _ refl refl
-  does_same ShiftRightA = λ e. quiet _ _ refl refl
-  does_same (SetCarry to) = λ e. quiet _ _ refl refl
+  does_same (Add mode) = add_same mode
+  does_same (Subtract mode) = subtract_same mode
+  does_same (ShiftAt shift mode) = shift_same shift mode
+  does_same (ShiftA shift) = λ e. quiet _ _ refl refl
+  does_same (Set f to) = set_flag_same f to
   does_same (Branch f when) = branch_same f when
   does_same Jump = jump_same
   does_same Call = call_same
   does_same Return = return_same
+  does_same JumpAt = jump_at_same
+  does_same PushA = λ e. writes _ _ (stack_place cpu.s) cpu.a refl refl
+  does_same PushFlags = λ e. writes _ _ (stack_place cpu.s) (flags_byte true cpu) refl refl
+  does_same PullA = λ e. quiet _ _ (ap (λ b. setting A b (record (next 1 it) { s = (cpu.s + 1) % 256 })) e.0) refl
+  does_same PullFlags = λ e. quiet _ _ (ap (λ b. with_flags b (record (next 1 it) { s = (cpu.s + 1) % 256 })) e.0) refl
+  does_same FromStack = λ e. quiet _ _ refl refl
+  does_same ToStack = λ e. quiet _ _ refl refl
+  does_same Resume = resume_same
+  does_same Pass = λ e. quiet _ _ refl refl
   does_same Unknown = λ e. quiet _ _ refl refl
 
   -- a step

@@ -13,21 +13,21 @@ use Rattle.dvg_6502.proofs.StoredByte.{carried}
 abbrev pub is_full : (last late : Bool) → Bool
 is_full last late = last && late
 
-module _ (q a x y s : ℕ) (n z c v : Bool) (free publish next t0 t1 pages end second f0 f1 : ℕ) (mem flags : ℕ
+module _ (q a x y s : ℕ) (n z c v d i : Bool) (free publish next t0 t1 pages end second f0 f1 : ℕ) (mem flags : ℕ
     → ℕ) (log : List Access) where
   abbrev page : ℕ → List ℕ
   page phase = page_of phase free publish next t0 t1 pages end second f0 f1
 
   -- no frame is being built
   pub put_refuses : (phase : ℕ) → phase < 256 → nat_eq phase 7 ≡ false
-      → Comes q (at 0x6957 a x y s n z c v (laid (page phase) mem) flags log) s true (laid (page phase) mem) (seen log)
+      → Comes q (at 0x6957 a x y s n z c v d i (laid (page phase) mem) flags log) s true (laid (page phase) mem) (seen log)
       []
   put_refuses phase small other =
       by q 2 _ (told false) s _ _ _ (ap told (compared phase 7 small (omega arith) ∙ other)) (λ tables is. refl)
       (comes 2 refl refl refl refl refl (λ tables is. refl) refl)
     where
       told : Bool → Cpu
-      told t = at 0x695B a x phase s (nat_le 128 ((phase + 256 - 7) % 256)) t (nat_le 7 phase) v (laid (page phase) mem)
+      told t = at 0x695B a x phase s (nat_le 128 ((phase + 256 - 7) % 256)) t (nat_le 7 phase) v d i (laid (page phase) mem)
           flags (Reads 0x10 phase ∷ log)
 
   -- where the two bytes go
@@ -57,17 +57,17 @@ module _ (q a x y s : ℕ) (n z c v : Bool) (free publish next t0 t1 pages end s
       (page1 : in_page to1 ≡ false) (code1 : in_code to1 ≡ false) (high1 : nat_le 0x200 to1 ≡ true)
       (wrap : Bool) (wraps : nat_eq up 0 ≡ wrap) where
     -- from the store on
-    word : (n z : Bool) → Comes q (at 0x6969 a x next s n z false v (laid (page 7) mem) flags log3) s false
+    word : (n z : Bool) → Comes q (at 0x6969 a x next s n z false v d i (laid (page 7) mem) flags log3) s false
         (laid (moved wrap) new) (Writes to1 x ∷ Writes to0 a ∷ seen log) []
     word n z =
-        by q 1 _ (at 0x696B a x next s n z false v (laid (page 7) (put to0 a mem)) flags log4) s false _ _
-        (ap (λ m. at 0x696B a x next s n z false v m flags log4) (put_out to0 a (page 7) mem page0 code0))
+        by q 1 _ (at 0x696B a x next s n z false v d i (laid (page 7) (put to0 a mem)) flags log4) s false _ _
+        (ap (λ m. at 0x696B a x next s n z false v d i m flags log4) (put_out to0 a (page 7) mem page0 code0))
         (λ tables is. refl)
-        (by q 3 _ (at 0x696F x x odd s (nat_le 128 x) (nat_eq x 0) false v (laid (page 7) new) flags log5) s false _ _
-        (ap (λ m. at 0x696F x x odd s (nat_le 128 x) (nat_eq x 0) false v m flags log5)
+        (by q 3 _ (at 0x696F x x odd s (nat_le 128 x) (nat_eq x 0) false v d i (laid (page 7) new) flags log5) s false _ _
+        (ap (λ m. at 0x696F x x odd s (nat_le 128 x) (nat_eq x 0) false v d i m flags log5)
         (put_out to1 x (page 7) (put to0 a mem) page1 code1)) (λ tables is. refl)
         (by q 2 _ (told wrap) s false _ _
-        (ap (λ m. at 0x6972 x x up s (nat_le 128 up) (nat_eq up 0) false v m flags log6)
+        (ap (λ m. at 0x6972 x x up s (nat_le 128 up) (nat_eq up 0) false v d i m flags log6)
         (put_page 3 up (page 7) new (omega arith) refl) ∙ ap told wraps) (λ tables is. refl)
         (subst (λ es. Comes q (told wrap) s false (laid (moved wrap) new) es []) shown (rest wrap))))
       where
@@ -84,7 +84,7 @@ module _ (q a x y s : ℕ) (n z c v : Bool) (free publish next t0 t1 pages end s
         there = page_of 7 free publish up t0 t1 pages end second f0 f1
 
         told : Bool → Cpu
-        told wrap = at 0x6972 x x up s (nat_le 128 up) wrap false v (laid there new) flags log6
+        told wrap = at 0x6972 x x up s (nat_le 128 up) wrap false v d i (laid there new) flags log6
 
         shown : seen log6 ≡ Writes to1 x ∷ Writes to0 a ∷ seen log
         shown = ap (λ (t : Bool). if t then Writes to1 x ∷ seen log4 else seen log4) high1
@@ -98,41 +98,41 @@ module _ (q a x y s : ℕ) (n z c v : Bool) (free publish next t0 t1 pages end s
             (omega arith) refl)
 
     abbrev told_page : Bool → Cpu
-    told_page last = at 0x6963 a x next s (nat_le 128 next) (nat_eq next 0) last v (laid (page 7) mem) flags log3
+    told_page last = at 0x6963 a x next s (nat_le 128 next) (nat_eq next 0) last v d i (laid (page 7) mem) flags log3
 
     abbrev told_place : Bool → Cpu
     told_place late = at 0x6967 a x next s (nat_le 128 ((next + 256 - 0xFE) % 256)) (nat_eq ((next + 256 - 0xFE) % 256) 0)
-        late v (laid (page 7) mem) flags log3
+        late v d i (laid (page 7) mem) flags log3
 
     pub put_room : (last late : Bool) → nat_le 3 pages ≡ last → nat_le 0xFE next ≡ late → is_full last late ≡ false
-        → Comes q (at 0x6957 a x y s n z c v (laid (page 7) mem) flags log) s false (laid (moved wrap) new)
+        → Comes q (at 0x6957 a x y s n z c v d i (laid (page 7) mem) flags log) s false (laid (moved wrap) new)
         (Writes to1 x ∷ Writes to0 a ∷ seen log) []
     put_room last late is also room =
         by q 6 _ (told_page last) s false _ _ (ap told_page is) (λ tables is. refl) (rest last late also room)
       where
         rest : (last late : Bool) → nat_le 0xFE next ≡ late → is_full last late ≡ false
             → Comes q (told_page last) s false (laid (moved wrap) new) (Writes to1 x ∷ Writes to0 a ∷ seen log) []
-        rest false late also room = by q 1 _ (at 0x6969 a x next s (nat_le 128 next) (nat_eq next 0) false v
+        rest false late also room = by q 1 _ (at 0x6969 a x next s (nat_le 128 next) (nat_eq next 0) false v d i
             (laid (page 7) mem) flags log3) s false _ _ refl (λ tables is. refl)
             (word (nat_le 128 next) (nat_eq next 0))
         rest true false also room = by q 2 _ (told_place false) s false _ _ (ap told_place also) (λ tables is. refl)
             (by q 1 _ (at 0x6969 a x next s (nat_le 128 ((next + 256 - 0xFE) % 256))
-            (nat_eq ((next + 256 - 0xFE) % 256) 0) false v (laid (page 7) mem) flags log3) s false _ _ refl
+            (nat_eq ((next + 256 - 0xFE) % 256) 0) false v d i (laid (page 7) mem) flags log3) s false _ _ refl
             (λ tables is. refl)
             (word (nat_le 128 ((next + 256 - 0xFE) % 256)) (nat_eq ((next + 256 - 0xFE) % 256) 0)))
         rest true true also room = absurd (cc)
 
   -- it is full
   pub put_full : nat_le 3 pages ≡ true → nat_le 0xFE next ≡ true
-      → Comes q (at 0x6957 a x y s n z c v (laid (page 7) mem) flags log) s true (laid (page 7) mem) (seen log) []
+      → Comes q (at 0x6957 a x y s n z c v d i (laid (page 7) mem) flags log) s true (laid (page 7) mem) (seen log) []
   put_full last late =
       by q 6 _ (told_page true) s true _ _ (ap told_page last) (λ tables is. refl)
       (by q 2 _ (told_place true) s true _ _ (ap told_place late) (λ tables is. refl)
       (comes 1 refl refl refl refl refl (λ tables is. refl) refl))
     where
       told_page : Bool → Cpu
-      told_page last = at 0x6963 a x next s (nat_le 128 next) (nat_eq next 0) last v (laid (page 7) mem) flags log3
+      told_page last = at 0x6963 a x next s (nat_le 128 next) (nat_eq next 0) last v d i (laid (page 7) mem) flags log3
 
       told_place : Bool → Cpu
       told_place late = at 0x6967 a x next s (nat_le 128 ((next + 256 - 0xFE) % 256))
-          (nat_eq ((next + 256 - 0xFE) % 256) 0) late v (laid (page 7) mem) flags log3
+          (nat_eq ((next + 256 - 0xFE) % 256) 0) late v d i (laid (page 7) mem) flags log3

@@ -36,7 +36,7 @@ abbrev paged : (ℕ → ℕ) → ℕ → ℕ
 paged mem = laid (page7 mem) mem
 
 abbrev form : ℕ → Cpu → Cpu
-form pc cpu = at pc cpu.a cpu.x cpu.y cpu.s cpu.n cpu.z cpu.c cpu.v (paged cpu.mem) cpu.flags cpu.log
+form pc cpu = at pc cpu.a cpu.x cpu.y cpu.s cpu.n cpu.z cpu.c cpu.v cpu.d cpu.i (paged cpu.mem) cpu.flags cpu.log
 
 paged_is : (mem : ℕ → ℕ) → HasCode mem → mem 0x10 ≡ 7 → paged mem ≡ mem
 paged_is mem has phase = ap (λ p. laid (page_of p (mem 0x11) (mem 0x12) (mem 0x13) (mem 0x14) (mem 0x15) (mem 0x16)
@@ -44,7 +44,7 @@ paged_is mem has phase = ap (λ p. laid (page_of p (mem 0x11) (mem 0x12) (mem 0x
 
 form_is : (pc : ℕ) (cpu : Cpu) → Here pc cpu → form pc cpu ≡ cpu
 form_is pc cpu h =
-    ap (λ (m : ℕ → ℕ). at pc cpu.a cpu.x cpu.y cpu.s cpu.n cpu.z cpu.c cpu.v m cpu.flags cpu.log)
+    ap (λ (m : ℕ → ℕ). at pc cpu.a cpu.x cpu.y cpu.s cpu.n cpu.z cpu.c cpu.v cpu.d cpu.i m cpu.flags cpu.log)
     (paged_is cpu.mem h.has h.phase ∙ code_known cpu.mem h.has) ∙ state_coded cpu pc cpu.s h.at_pc refl h.has
 
 put_has : (a v : ℕ) (mem : ℕ → ℕ) → in_code a ≡ false → HasCode mem → HasCode (put a v mem)

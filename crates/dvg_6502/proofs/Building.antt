@@ -99,7 +99,7 @@ on_word half place pages t1 len false small even page fits wraps =
         by true is = let e = eqb-true place 254 is in absurd (open_yet (omega (arith, e)))
         by false is = let e = eqb-false place 254 is in omega (arith, e, small, even)
 
-module _ (a x y s : ℕ) (n z c v : Bool) (mem flags : ℕ → ℕ) (log : List Access) (load : IsLoaded mem) (a_small : a < 256)
+module _ (a x y s : ℕ) (n z c v d i : Bool) (mem flags : ℕ → ℕ) (log : List Access) (load : IsLoaded mem) (a_small : a < 256)
     (x_small : x < 256) (half : Half) (flipped : Bool) (rest : List ℕ)
     (building : IsBuilding mem half flipped (a ∷ x ∷ rest)) (more : 2 ≤ length rest) where
   abbrev place : ℕ
@@ -119,7 +119,7 @@ module _ (a x y s : ℕ) (n z c v : Bool) (mem flags : ℕ → ℕ) (log : List 
       (mem 0x18) (mem 0x19) (mem 0x1A)
 
   abbrev from : ℕ → Cpu
-  from phase = at 0x6957 a x y s n z c v
+  from phase = at 0x6957 a x y s n z c v d i
       (laid (page_of phase (mem 0x11) (mem 0x12) place (mem 0x14) (mem 0x15) (mem 0x16) (mem 0x17) (mem 0x18) (mem 0x19)
       (mem 0x1A)) mem) flags log
 
@@ -156,7 +156,7 @@ module _ (a x y s : ℕ) (n z c v : Bool) (mem flags : ℕ → ℕ) (log : List 
       (Writes (suc goal) x ∷ Writes p a ∷ seen log) []) to0_is
       (subst (λ p. Comes s (from 7) s false (laid page (put p x (put to0 a mem))) (Writes p x ∷ Writes to0 a ∷ seen log) [])
       to1_is
-      (put_room s a x y s n z c v (mem 0x11) (mem 0x12) place (mem 0x14) (mem 0x15) (mem 0x16) (mem 0x17) (mem 0x18)
+      (put_room s a x y s n z c v d i (mem 0x11) (mem 0x12) place (mem 0x14) (mem 0x15) (mem 0x16) (mem 0x17) (mem 0x18)
       (mem 0x19) (mem 0x1A) mem flags log
       (ap in_page to0_is ∙ ram0.0) (ap in_code to0_is ∙ ram0.1) (ap (nat_le 0x200) to0_is ∙ ram0.2)
       (ap in_page to1_is ∙ ram1.0) (ap in_code to1_is ∙ ram1.1) (ap (nat_le 0x200) to1_is ∙ ram1.2)
@@ -236,12 +236,12 @@ pub put_steadily : (cpu : Cpu) (half : Half) (flipped : Bool) (rest : List ℕ) 
     → BuildsSo cpu half flipped (cpu.a ∷ cpu.x ∷ []) rest
 put_steadily cpu half flipped rest enters building more =
     subst (λ (k : Cpu). BuildsSo k half flipped (cpu.a ∷ cpu.x ∷ []) rest)
-    (ap (λ p. at 0x6957 cpu.a cpu.x cpu.y cpu.s cpu.n cpu.z cpu.c cpu.v
+    (ap (λ p. at 0x6957 cpu.a cpu.x cpu.y cpu.s cpu.n cpu.z cpu.c cpu.v cpu.d cpu.i
     (laid (page_of p (cpu.mem 0x11) (cpu.mem 0x12) (cpu.mem 0x13) (cpu.mem 0x14) (cpu.mem 0x15) (cpu.mem 0x16)
     (cpu.mem 0x17) (cpu.mem 0x18) (cpu.mem 0x19) (cpu.mem 0x1A)) cpu.mem) cpu.flags []) (sym building.phase)
-    ∙ ap (λ l. at 0x6957 cpu.a cpu.x cpu.y cpu.s cpu.n cpu.z cpu.c cpu.v (laid (page_in cpu.mem) cpu.mem) cpu.flags l)
+    ∙ ap (λ l. at 0x6957 cpu.a cpu.x cpu.y cpu.s cpu.n cpu.z cpu.c cpu.v cpu.d cpu.i (laid (page_in cpu.mem) cpu.mem) cpu.flags l)
     (sym enters.log) ∙ state_is cpu 0x6957 cpu.s enters.entry refl enters.loaded)
-    (builds cpu.a cpu.x cpu.y cpu.s cpu.n cpu.z cpu.c cpu.v cpu.mem cpu.flags [] enters.loaded enters.a enters.x half flipped
+    (builds cpu.a cpu.x cpu.y cpu.s cpu.n cpu.z cpu.c cpu.v cpu.d cpu.i cpu.mem cpu.flags [] enters.loaded enters.a enters.x half flipped
     rest building more refl)
 
 pub put_takes : PutTakes

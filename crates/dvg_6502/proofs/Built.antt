@@ -136,14 +136,14 @@ module _ (mem : ℕ → ℕ) (begin stop : ℕ) (frame : Option (ℕ × List ℕ
           at_place (Sending first) is = elsewhere (subst IsBusy (sym is) tt)
 
 -- a driver that builds, at a place of the code
-module _ (q a x y s : ℕ) (n z c v : Bool) (mem flags : ℕ → ℕ) (log : List Access) (begin stop : ℕ) (frame : ℕ × List ℕ)
+module _ (q a x y s : ℕ) (n z c v d i : Bool) (mem flags : ℕ → ℕ) (log : List Access) (begin stop : ℕ) (frame : ℕ × List ℕ)
     (life : List Item) where
   abbrev page : List ℕ
   page = page_of 7 (mem 0x11) (mem 0x12) (mem 0x13) (mem 0x14) (mem 0x15) (mem 0x16) (mem 0x17) (mem 0x18) (mem 0x19)
       (mem 0x1A)
 
   abbrev from : ℕ → Cpu
-  from pc = at pc a x y s n z c v (laid page mem) flags log
+  from pc = at pc a x y s n z c v d i (laid page mem) flags log
 
   -- a tick leaves it as it is
   idles : Built (laid page mem) frame life → TickMakes (holds_in begin stop (Some frame)) q (from 0x686A) begin stop life
@@ -194,7 +194,7 @@ holds_ticks begin stop None q cpu life at_pc stood =
 holds_ticks begin stop (Some frame) q cpu life at_pc built =
     let is = phase_is cpu 0x686A 7 at_pc built.building.phase built.loaded in
     subst (λ (k : Cpu). TickMakes (holds_in begin stop (Some frame)) q k begin stop life) is
-    (idles q cpu.a cpu.x cpu.y cpu.s cpu.n cpu.z cpu.c cpu.v cpu.mem cpu.flags cpu.log begin stop frame life
+    (idles q cpu.a cpu.x cpu.y cpu.s cpu.n cpu.z cpu.c cpu.v cpu.d cpu.i cpu.mem cpu.flags cpu.log begin stop frame life
     (subst (λ (m : ℕ → ℕ). Built m frame life) (ap (λ (k : Cpu). k.mem) (sym is)) built))
 
 pub holds_goes : (begin stop : ℕ) (frame : Option (ℕ × List ℕ)) → GoesByTicks (holds_in begin stop frame) begin stop
@@ -219,7 +219,7 @@ run_goes_on k cpu begin stop None life at_pc small stood =
 run_goes_on k cpu begin stop (Some frame) life at_pc small built =
     let is = phase_is cpu 0x6809 7 at_pc built.building.phase built.loaded in
     subst (λ (j : Cpu). GoesTo (holds_in begin stop (Some frame)) cpu.s k j begin stop life) is
-    (runs cpu.s cpu.a cpu.x cpu.y cpu.s cpu.n cpu.z cpu.c cpu.v cpu.mem cpu.flags cpu.log begin stop frame life
+    (runs cpu.s cpu.a cpu.x cpu.y cpu.s cpu.n cpu.z cpu.c cpu.v cpu.d cpu.i cpu.mem cpu.flags cpu.log begin stop frame life
     (subst (λ (m : ℕ → ℕ). Built m frame life) (ap (λ (k : Cpu). k.mem) (sym is)) built) k)
 
 -- what dvg_run leaves of memory, up to its return
@@ -230,4 +230,4 @@ run_leaves k cpu begin stop None life at_pc small stood back = run_spares k cpu 
 run_leaves k cpu begin stop (Some frame) life at_pc small built back =
     let is = phase_is cpu 0x6809 7 at_pc built.building.phase built.loaded in
     subst (λ (j : Cpu). at_return cpu.s (run cpu.s k j) ≡ true → Leaves cpu.s (run cpu.s k j).mem j.mem) is
-    (runs_spare cpu.s cpu.a cpu.x cpu.y cpu.s cpu.n cpu.z cpu.c cpu.v cpu.mem cpu.flags cpu.log begin stop frame life k) back
+    (runs_spare cpu.s cpu.a cpu.x cpu.y cpu.s cpu.n cpu.z cpu.c cpu.v cpu.d cpu.i cpu.mem cpu.flags cpu.log begin stop frame life k) back

@@ -136,7 +136,7 @@ next_byte mem begin stop life feeds odd second parity mark = by f.rest refl
         let long : length f.rest ≡ suc (length more) = ap length is in
         let zero' : source_in mem + 0 ≡ source_in mem = omega arith in
         let first = f.far 0 (omega (arith, some)) in
-        let done = step 0 0 0 0 0 false false false false mem mem [] feeds.loaded begin stop feeds.peeked life
+        let done = step 0 0 0 0 0 false false false false false false mem mem [] feeds.loaded begin stop feeds.peeked life
         feeds.half feeds.set odd second byte more feeds.writes feeds.free feeds.publish parity f.even
         (omega (arith, f.left, long)) (λ k h. f.reads k (omega (arith, h, long)) ∙ ap (λ l. slice_index l k) is)
         (λ k h. f.far k (omega (arith, h, long)))

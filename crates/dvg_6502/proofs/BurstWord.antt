@@ -260,8 +260,8 @@ module _ (q y : ℕ) (mem : ℕ → ℕ) (begin stop : ℕ) (life : List Item) (
       ∙ ap (laid page new0) from1_is
       ∙ real1 page (source_in vm1) two.far ∙ sym (virtual1 (source_in vm1) two.far) ∙ two.reads
 
-  abbrev from : (a x : ℕ) (n z c v : Bool) (flags : ℕ → ℕ) (log : List Access) → List ℕ → Cpu
-  from a x n z c v flags log page = at 0x6822 a x y q n z c v (laid page mem) flags log
+  abbrev from : (a x : ℕ) (n z c v d i : Bool) (flags : ℕ → ℕ) (log : List Access) → List ℕ → Cpu
+  from a x n z c v d i flags log page = at 0x6822 a x y q n z c v d i (laid page mem) flags log
 
   -- what is taken of the table
   abbrev pub heads : List ℕ
@@ -274,20 +274,20 @@ module _ (q y : ℕ) (mem : ℕ → ℕ) (begin stop : ℕ) (life : List Item) (
       ∙ ap (λ (t : Bool). t && (tables (source_in vm1) && true)) (covers (source_in vm) one.begun one.ended)
       ∙ ap (λ (t : Bool). t && true) (covers (source_in vm1) two.begun two.ended)
 
-  pub writes : (a x : ℕ) (n z c v : Bool) (flags : ℕ → ℕ) (log : List Access)
-      → Reaches q (from a x n z c v flags log (page_in mem)) (pc_then ends last) after q final
+  pub writes : (a x : ℕ) (n z c v d i : Bool) (flags : ℕ → ℕ) (log : List Access)
+      → Reaches q (from a x n z c v d i flags log (page_in mem)) (pc_then ends last) after q final
       (Writes (goal_in vm1) w1 ∷ Writes (goal_in vm) b0 ∷ seen log) heads
-  writes a x n z c v flags log =
-      subst (λ p. Reaches q (from a x n z c v flags log (with_mark p (mem 0x12) (mem 0x18)))
+  writes a x n z c v d i flags log =
+      subst (λ p. Reaches q (from a x n z c v d i flags log (with_mark p (mem 0x12) (mem 0x18)))
       (pc_then ends last) after q final events heads) (sym phase)
-      (subst (λ p. Reaches q (from a x n z c v flags log (with_mark 0x80 p (mem 0x18)))
+      (subst (λ p. Reaches q (from a x n z c v d i flags log (with_mark 0x80 p (mem 0x18)))
       (pc_then ends last) after q final events heads) (sym feeds.publish)
-      (subst (λ m. Reaches q (from a x n z c v flags log (with_mark 0x80 (publish_byte set) m))
+      (subst (λ m. Reaches q (from a x n z c v d i flags log (with_mark 0x80 (publish_byte set) m))
       (pc_then ends last) after q final events heads) (sym feeds.feeding.mark)
-      (subst (λ p. Reaches q (from a x n z c v flags log (with_mark 0x80 (publish_byte set) (second_byte second)))
+      (subst (λ p. Reaches q (from a x n z c v d i flags log (with_mark 0x80 (publish_byte set) (second_byte second)))
       (pc_then ends last) after q (laid page2 (put (goal_in vm1) w1 (put p b0 mem)))
       (Writes (goal_in vm1) w1 ∷ Writes p b0 ∷ seen log) heads) to0_is
-      (subst (λ p. Reaches q (from a x n z c v flags log (with_mark 0x80 (publish_byte set) (second_byte second)))
+      (subst (λ p. Reaches q (from a x n z c v d i flags log (with_mark 0x80 (publish_byte set) (second_byte second)))
       (pc_then ends last) after q (laid page2 (put p w1 (put to0 b0 mem)))
       (Writes p w1 ∷ Writes to0 b0 ∷ seen log) heads) to1_is
       (word q q (mem 0x11) set (mem 0x13) y (mem 0x14) (mem 0x15) (mem 0x16) (mem 0x17) (mem 0x19)
@@ -299,7 +299,7 @@ module _ (q y : ℕ) (mem : ℕ → ℕ) (begin stop : ℕ) (life : List Item) (
       (ap is_hardware from0_is ∙ one.silent) (ap is_hardware from1_is ∙ two.silent)
       (ap in_page to0_is ∙ ram0.0) (ap in_code to0_is ∙ ram0.1) (ap (nat_le 0x200) to0_is ∙ ram0.2)
       (ap in_page to1_is ∙ ram1.0) (ap in_code to1_is ∙ ram1.1) (ap (nat_le 0x200) to1_is ∙ ram1.2)
-      refl refl refl second a x n z c v log)))))
+      refl refl refl second a x n z c v d i log)))))
     where
       to0 : ℕ
       to0 = (mem 0x14 + 256 * mem 0x15 + y) % 65536

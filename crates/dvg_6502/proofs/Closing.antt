@@ -43,18 +43,18 @@ comes_back {q = q} {s = s} {from = from} did = returned s (run q did.steps from)
 
 -- any state of an entry, with another phase
 pub entered : (cpu : Cpu) (entry phase : ℕ) → Enters cpu entry → cpu.mem 0x10 ≡ phase
-    → at entry cpu.a cpu.x cpu.y cpu.s cpu.n cpu.z cpu.c cpu.v
+    → at entry cpu.a cpu.x cpu.y cpu.s cpu.n cpu.z cpu.c cpu.v cpu.d cpu.i
     (laid (page_of phase (cpu.mem 0x11) (cpu.mem 0x12) (cpu.mem 0x13) (cpu.mem 0x14) (cpu.mem 0x15) (cpu.mem 0x16)
     (cpu.mem 0x17) (cpu.mem 0x18) (cpu.mem 0x19) (cpu.mem 0x1A)) cpu.mem) cpu.flags [] ≡ cpu
 entered cpu entry phase enters is =
-    ap (λ p. at entry cpu.a cpu.x cpu.y cpu.s cpu.n cpu.z cpu.c cpu.v
+    ap (λ p. at entry cpu.a cpu.x cpu.y cpu.s cpu.n cpu.z cpu.c cpu.v cpu.d cpu.i
     (laid (page_of p (cpu.mem 0x11) (cpu.mem 0x12) (cpu.mem 0x13) (cpu.mem 0x14) (cpu.mem 0x15) (cpu.mem 0x16)
     (cpu.mem 0x17) (cpu.mem 0x18) (cpu.mem 0x19) (cpu.mem 0x1A)) cpu.mem) cpu.flags []) (sym is)
-    ∙ ap (λ l. at entry cpu.a cpu.x cpu.y cpu.s cpu.n cpu.z cpu.c cpu.v (laid (page_in cpu.mem) cpu.mem) cpu.flags l)
+    ∙ ap (λ l. at entry cpu.a cpu.x cpu.y cpu.s cpu.n cpu.z cpu.c cpu.v cpu.d cpu.i (laid (page_in cpu.mem) cpu.mem) cpu.flags l)
     (sym enters.log) ∙ state_is cpu entry cpu.s enters.entry refl enters.loaded
 
 -- two words
-module _ (a x y s : ℕ) (n z c v : Bool) (mem flags : ℕ → ℕ) (log : List Access) (load : IsLoaded mem)
+module _ (a x y s : ℕ) (n z c v d i : Bool) (mem flags : ℕ → ℕ) (log : List Access) (load : IsLoaded mem)
     (half : Half) (flipped : Bool) (b0 b1 b2 b3 : ℕ) (rest : List ℕ)
     (is0 : mem 0x1B ≡ b0) (is1 : mem 0x1C ≡ b1) (is2 : mem 0x1D ≡ b2) (is3 : mem 0x1E ≡ b3)
     (building : IsBuilding mem half flipped (b0 ∷ b1 ∷ b2 ∷ b3 ∷ rest)) (more : 2 ≤ length rest) where
@@ -87,7 +87,7 @@ module _ (a x y s : ℕ) (n z c v : Bool) (mem flags : ℕ → ℕ) (log : List 
       (mem 0x18) (mem 0x19) (mem 0x1A)
 
   abbrev from : Cpu
-  from = at 0x6989 a x y s n z c v
+  from = at 0x6989 a x y s n z c v d i
       (laid (page_of 7 (mem 0x11) (mem 0x12) place (mem 0x14) (mem 0x15) (mem 0x16) (mem 0x17) (mem 0x18) (mem 0x19)
       (mem 0x1A)) mem) flags log
 
@@ -154,7 +154,7 @@ module _ (a x y s : ℕ) (n z c v : Bool) (mem flags : ℕ → ℕ) (log : List 
       (subst (λ p. Comes s from s false (laid page (put p b3 (put to2 b2 (put to1 b1
       (put to0 b0 mem))))) (Writes p b3 ∷ Writes to2 b2 ∷ Writes to1 b1 ∷ Writes to0 b0
       ∷ seen log) []) g3
-      (pair_room s x s v (mem 0x11) (mem 0x12) place (mem 0x14) (mem 0x15) (mem 0x16) (mem 0x17) (mem 0x18) (mem 0x19)
+      (pair_room s x s v d i (mem 0x11) (mem 0x12) place (mem 0x14) (mem 0x15) (mem 0x16) (mem 0x17) (mem 0x18) (mem 0x19)
       (mem 0x1A) mem flags b0 b1 b2 b3 is0 is1 is2 is3 wrap over refl refl
       (place_of goal to0 g0 low (omega (arith, top)))
       (place_of (suc goal) to1 g1 (omega (arith, low)) (omega (arith, top)))
@@ -228,10 +228,10 @@ pair_steadily cpu half flipped rest enters building more =
     let b1 = cpu.mem 0x1C in
     let b2 = cpu.mem 0x1D in
     let b3 = cpu.mem 0x1E in
-    let did = comes cpu.a cpu.x cpu.y cpu.s cpu.n cpu.z cpu.c cpu.v cpu.mem cpu.flags [] enters.loaded half flipped b0 b1
+    let did = comes cpu.a cpu.x cpu.y cpu.s cpu.n cpu.z cpu.c cpu.v cpu.d cpu.i cpu.mem cpu.flags [] enters.loaded half flipped b0 b1
     b2 b3 rest refl refl refl refl building more in
     subst (λ (k : Cpu). BuildsSo k half flipped (b0 ∷ b1 ∷ b2 ∷ b3 ∷ []) rest) (entered cpu 0x6989 7 enters building.phase)
-    (builds_so (at 0x6989 cpu.a cpu.x cpu.y cpu.s cpu.n cpu.z cpu.c cpu.v
+    (builds_so (at 0x6989 cpu.a cpu.x cpu.y cpu.s cpu.n cpu.z cpu.c cpu.v cpu.d cpu.i
     (laid (page_of 7 (cpu.mem 0x11) (cpu.mem 0x12) (cpu.mem 0x13) (cpu.mem 0x14) (cpu.mem 0x15) (cpu.mem 0x16)
     (cpu.mem 0x17) (cpu.mem 0x18) (cpu.mem 0x19) (cpu.mem 0x1A)) cpu.mem) cpu.flags []) half flipped
     (b0 ∷ b1 ∷ b2 ∷ b3 ∷ []) rest
@@ -241,21 +241,21 @@ pair_steadily cpu half flipped rest enters building more =
       carry = did.carry;
       shows = did.accesses;
       alike = alike_if _ did.steps (comes_back did) (λ tables. did.steady tables refl) did.there;
-      goes_on = ap goal_in did.memory ∙ moved_on cpu.a cpu.x cpu.y cpu.s cpu.n cpu.z cpu.c cpu.v cpu.mem cpu.flags []
+      goes_on = ap goal_in did.memory ∙ moved_on cpu.a cpu.x cpu.y cpu.s cpu.n cpu.z cpu.c cpu.v cpu.d cpu.i cpu.mem cpu.flags []
           enters.loaded half flipped b0 b1 b2 b3 rest refl refl refl refl building more;
       building = subst (λ (m : ℕ → ℕ). IsBuilding m half flipped rest) (sym did.memory)
-          (built cpu.a cpu.x cpu.y cpu.s cpu.n cpu.z cpu.c cpu.v cpu.mem cpu.flags []
+          (built cpu.a cpu.x cpu.y cpu.s cpu.n cpu.z cpu.c cpu.v cpu.d cpu.i cpu.mem cpu.flags []
           enters.loaded half flipped b0 b1 b2 b3 rest refl refl refl refl building more);
       loaded = subst IsLoaded (sym did.memory)
-          (new_loaded cpu.a cpu.x cpu.y cpu.s cpu.n cpu.z cpu.c cpu.v cpu.mem cpu.flags []
+          (new_loaded cpu.a cpu.x cpu.y cpu.s cpu.n cpu.z cpu.c cpu.v cpu.d cpu.i cpu.mem cpu.flags []
           enters.loaded half flipped b0 b1 b2 b3 rest refl refl refl refl building more);
       kept = λ b own out ram. ap (λ (m : ℕ → ℕ). m b) did.memory
-          ∙ kept cpu.a cpu.x cpu.y cpu.s cpu.n cpu.z cpu.c cpu.v cpu.mem cpu.flags [] enters.loaded half flipped b0 b1 b2
+          ∙ kept cpu.a cpu.x cpu.y cpu.s cpu.n cpu.z cpu.c cpu.v cpu.d cpu.i cpu.mem cpu.flags [] enters.loaded half flipped b0 b1 b2
           b3 rest refl refl refl refl building more b own ram ∙ laid_at 7 cpu.mem enters.loaded b own;
     })
     (record {
       byte1 = ap (λ (m : ℕ → ℕ). m 0x4001) did.memory
-          ∙ byte1 cpu.a cpu.x cpu.y cpu.s cpu.n cpu.z cpu.c cpu.v cpu.mem cpu.flags [] enters.loaded half flipped b0 b1
+          ∙ byte1 cpu.a cpu.x cpu.y cpu.s cpu.n cpu.z cpu.c cpu.v cpu.d cpu.i cpu.mem cpu.flags [] enters.loaded half flipped b0 b1
           b2 b3 rest refl refl refl refl building more;
       steady = λ tables. did.steady tables refl;
       there = did.there;
@@ -265,7 +265,7 @@ pub pair_takes : PairTakes
 pair_takes cpu half flipped rest enters building more = (pair_steadily cpu half flipped rest enters building more).0
 
 -- dvg_labs
-module _ (a x y s : ℕ) (n z c v : Bool) (mem flags : ℕ → ℕ) (load : IsLoaded mem) (a_small : a < 256)
+module _ (a x y s : ℕ) (n z c v d i : Bool) (mem flags : ℕ → ℕ) (load : IsLoaded mem) (a_small : a < 256)
     (half : Half) (flipped : Bool) (rest : List ℕ)
     (building : IsBuilding mem half flipped
     (mem 0x1B ∷ bit_or (bit_and (mem 0x1C) 0x0F) 0xA0 ∷ mem 0x1D ∷
@@ -289,7 +289,7 @@ module _ (a x y s : ℕ) (n z c v : Bool) (mem flags : ℕ → ℕ) (load : IsLo
   log4 = Writes 0x1C h ∷ Reads 0x1C (mem 0x1C) ∷ Writes 0x1E l ∷ Reads 0x1E (mem 0x1E) ∷ Reads 0x1E (mem 0x1E) ∷ []
 
   abbrev start : Cpu
-  start = at 0x6979 a x y s n z c v
+  start = at 0x6979 a x y s n z c v d i
       (laid (page_of 7 (mem 0x11) (mem 0x12) (mem 0x13) (mem 0x14) (mem 0x15) (mem 0x16) (mem 0x17) (mem 0x18) (mem 0x19)
       (mem 0x1A)) mem) flags []
 
@@ -329,9 +329,9 @@ module _ (a x y s : ℕ) (n z c v : Bool) (mem flags : ℕ → ℕ) (load : IsLo
   labs_builds : BuildsSo start half flipped (mem 0x1B ∷ h ∷ mem 0x1D ∷ l ∷ []) rest
   labs_builds =
       let did = by s 8 start _ s false _ _
-      (labs_run s a x y s n z c v (page_of 7 (mem 0x11) (mem 0x12) (mem 0x13) (mem 0x14) (mem 0x15) (mem 0x16) (mem 0x17)
+      (labs_run s a x y s n z c v d i (page_of 7 (mem 0x11) (mem 0x12) (mem 0x13) (mem 0x14) (mem 0x15) (mem 0x16) (mem 0x17)
       (mem 0x18) (mem 0x19) (mem 0x1A)) mem flags []) (λ tables is. refl)
-      (comes h x y s (nat_le 128 h) (nat_eq h 0) c v set flags log4 set_load half flipped (mem 0x1B) h (mem 0x1D) l rest
+      (comes h x y s (nat_le 128 h) (nat_eq h 0) c v d i set flags log4 set_load half flipped (mem 0x1B) h (mem 0x1D) l rest
       refl refl refl refl set_building more) in (
         record {
           steps = did.steps;
@@ -339,22 +339,22 @@ module _ (a x y s : ℕ) (n z c v : Bool) (mem flags : ℕ → ℕ) (load : IsLo
           carry = did.carry;
           shows = did.accesses;
           alike = alike_if start did.steps (comes_back did) (λ tables. did.steady tables refl) did.there;
-          goes_on = ap goal_in did.memory ∙ moved_on h x y s (nat_le 128 h) (nat_eq h 0) c v set flags log4 set_load half
+          goes_on = ap goal_in did.memory ∙ moved_on h x y s (nat_le 128 h) (nat_eq h 0) c v d i set flags log4 set_load half
               flipped (mem 0x1B) h (mem 0x1D) l rest refl refl refl refl set_building more;
           building = subst (λ (m : ℕ → ℕ). IsBuilding m half flipped rest) (sym did.memory)
-              (built h x y s (nat_le 128 h) (nat_eq h 0) c v set flags log4 set_load half flipped (mem 0x1B) h (mem 0x1D) l
+              (built h x y s (nat_le 128 h) (nat_eq h 0) c v d i set flags log4 set_load half flipped (mem 0x1B) h (mem 0x1D) l
               rest refl refl refl refl set_building more);
           loaded = subst IsLoaded (sym did.memory)
-              (new_loaded h x y s (nat_le 128 h) (nat_eq h 0) c v set flags log4 set_load half flipped (mem 0x1B) h
+              (new_loaded h x y s (nat_le 128 h) (nat_eq h 0) c v d i set flags log4 set_load half flipped (mem 0x1B) h
               (mem 0x1D) l rest refl refl refl refl set_building more);
           kept = λ b own out ram. ap (λ (m : ℕ → ℕ). m b) did.memory
-              ∙ kept h x y s (nat_le 128 h) (nat_eq h 0) c v set flags log4 set_load half flipped (mem 0x1B) h
+              ∙ kept h x y s (nat_le 128 h) (nat_eq h 0) c v d i set flags log4 set_load half flipped (mem 0x1B) h
               (mem 0x1D) l rest refl refl refl refl set_building more b own ram
               ∙ set_out b out ∙ laid_at 7 mem load b own;
         },
         record {
           byte1 = ap (λ (m : ℕ → ℕ). m 0x4001) did.memory
-              ∙ byte1 h x y s (nat_le 128 h) (nat_eq h 0) c v set flags log4 set_load half flipped (mem 0x1B) h (mem 0x1D)
+              ∙ byte1 h x y s (nat_le 128 h) (nat_eq h 0) c v d i set flags log4 set_load half flipped (mem 0x1B) h (mem 0x1D)
               l rest refl refl refl refl set_building more;
           steady = λ tables. did.steady tables refl;
           there = did.there;
@@ -375,7 +375,7 @@ labs_steadily cpu half flipped rest enters building more =
     (cpu.mem 0x1B ∷ bit_or (bit_and (cpu.mem 0x1C) 0x0F) 0xA0 ∷ cpu.mem 0x1D ∷
     bit_xor (bit_and (bit_xor cpu.a (cpu.mem 0x1E)) 0xF0) (cpu.mem 0x1E) ∷ []) rest)
     (entered cpu 0x6979 7 enters building.phase)
-    (labs_builds cpu.a cpu.x cpu.y cpu.s cpu.n cpu.z cpu.c cpu.v cpu.mem cpu.flags enters.loaded enters.a half flipped
+    (labs_builds cpu.a cpu.x cpu.y cpu.s cpu.n cpu.z cpu.c cpu.v cpu.d cpu.i cpu.mem cpu.flags enters.loaded enters.a half flipped
     rest (subst (λ l'. IsBuilding cpu.mem half flipped
     (cpu.mem 0x1B ∷ bit_or (bit_and (cpu.mem 0x1C) 0x0F) 0xA0 ∷ cpu.mem 0x1D ∷ l' ∷ rest)) (sym l)
     (subst (λ h'. IsBuilding cpu.mem half flipped
@@ -400,15 +400,15 @@ open_steadily cpu begin stop half flipped first rest enters holds some fits = by
     at_half : (h : Bool) → cpu.mem 0x11 ≡ free_of h → free_of h ≡ high (other half) → high_of h < 256 → free_of h < 256
         → 256 * high_of h + 2 ≡ 0x4000 + 2 * base (other half) → OpensSo cpu half flipped rest
     at_half h free is small f_small place =
-        let did = open_takes cpu.s cpu.a cpu.x cpu.y cpu.s cpu.n cpu.z cpu.c cpu.v (cpu.mem 0x12) (cpu.mem 0x13)
+        let did = open_takes cpu.s cpu.a cpu.x cpu.y cpu.s cpu.n cpu.z cpu.c cpu.v cpu.d cpu.i (cpu.mem 0x12) (cpu.mem 0x13)
         (cpu.mem 0x14) (cpu.mem 0x15) (cpu.mem 0x16) (cpu.mem 0x17) (cpu.mem 0x18) (cpu.mem 0x19) (cpu.mem 0x1A) cpu.mem
         cpu.flags [] h in
         let bytes = enters.loaded.bytes in
         subst (λ (k : Cpu). OpensSo k half flipped rest) (entered cpu 0x6924 2 enters holds.place.0)
-        (subst (λ f. OpensSo (at 0x6924 cpu.a cpu.x cpu.y cpu.s cpu.n cpu.z cpu.c cpu.v
+        (subst (λ f. OpensSo (at 0x6924 cpu.a cpu.x cpu.y cpu.s cpu.n cpu.z cpu.c cpu.v cpu.d cpu.i
         (laid (page_of 2 f (cpu.mem 0x12) (cpu.mem 0x13) (cpu.mem 0x14) (cpu.mem 0x15) (cpu.mem 0x16)
         (cpu.mem 0x17) (cpu.mem 0x18) (cpu.mem 0x19) (cpu.mem 0x1A)) cpu.mem) cpu.flags []) half flipped rest) (sym free)
-        (opens_so (at 0x6924 cpu.a cpu.x cpu.y cpu.s cpu.n cpu.z cpu.c cpu.v
+        (opens_so (at 0x6924 cpu.a cpu.x cpu.y cpu.s cpu.n cpu.z cpu.c cpu.v cpu.d cpu.i
         (laid (page_of 2 (free_of h) (cpu.mem 0x12) (cpu.mem 0x13) (cpu.mem 0x14) (cpu.mem 0x15) (cpu.mem 0x16)
         (cpu.mem 0x17) (cpu.mem 0x18) (cpu.mem 0x19) (cpu.mem 0x1A)) cpu.mem) cpu.flags []) half flipped rest
         (record {
@@ -458,7 +458,7 @@ open_is_taken cpu begin stop half flipped first rest enters holds some fits =
 abbrev pub ClosesSo : (cpu : Cpu) (half : Half) (flipped : Bool) → Type 0
 ClosesSo cpu half flipped = (did : Closes cpu half flipped) × Keeping cpu did.steps
 
-module _ (a x y s : ℕ) (n z c v : Bool) (mem flags : ℕ → ℕ) (load : IsLoaded mem) (half : Half) (flipped : Bool)
+module _ (a x y s : ℕ) (n z c v d i : Bool) (mem flags : ℕ → ℕ) (load : IsLoaded mem) (half : Half) (flipped : Bool)
     (building : IsBuilding mem half flipped (0 ∷ 0xB0 ∷ [])) where
   abbrev end : ℕ
   end = goal_in mem
@@ -485,14 +485,14 @@ module _ (a x y s : ℕ) (n z c v : Bool) (mem flags : ℕ → ℕ) (load : IsLo
   abbrev ended : ℕ → ℕ
   ended = put (suc end) 0xB0 (put end 0 mem)
 
-  shuts : Comes s (at 0x6A00 a x y s n z c v (laid (shut 7) mem) flags []) s false (laid (shut (mem 0x12)) ended)
+  shuts : Comes s (at 0x6A00 a x y s n z c v d i (laid (shut 7) mem) flags []) s false (laid (shut (mem 0x12)) ended)
       (Writes (suc end) 0xB0 ∷ Writes end 0 ∷ []) []
   shuts =
-      subst (λ p. Comes s (at 0x6A00 a x y s n z c v (laid (shut 7) mem) flags []) s false
+      subst (λ p. Comes s (at 0x6A00 a x y s n z c v d i (laid (shut 7) mem) flags []) s false
       (laid (shut (mem 0x12)) (put (suc end) 0xB0 (put p 0 mem))) (Writes (suc end) 0xB0 ∷ Writes p 0 ∷ []) []) h0_is
-      (subst (λ p. Comes s (at 0x6A00 a x y s n z c v (laid (shut 7) mem) flags []) s false
+      (subst (λ p. Comes s (at 0x6A00 a x y s n z c v d i (laid (shut 7) mem) flags []) s false
       (laid (shut (mem 0x12)) (put p 0xB0 (put to0 0 mem))) (Writes p 0xB0 ∷ Writes to0 0 ∷ []) []) h1_is
-      (close_ends s a x y s n z c v (mem 0x11) (mem 0x12) (mem 0x13) (mem 0x14) (mem 0x15) (mem 0x16) (mem 0x17)
+      (close_ends s a x y s n z c v d i (mem 0x11) (mem 0x12) (mem 0x13) (mem 0x14) (mem 0x15) (mem 0x16) (mem 0x17)
       (mem 0x18) (mem 0x19) (mem 0x1A) mem flags [] (place_of end to0 h0_is end_low (omega (arith, end_high)))
       (place_of (suc end) _ h1_is (omega (arith, end_low)) (omega (arith, end_high)))))
     where
@@ -522,7 +522,7 @@ module _ (a x y s : ℕ) (n z c v : Bool) (mem flags : ℕ → ℕ) (load : IsLo
     );
   }
 
-  closes : ClosesSo (at 0x6A00 a x y s n z c v (laid (shut 7) mem) flags []) half flipped
+  closes : ClosesSo (at 0x6A00 a x y s n z c v d i (laid (shut 7) mem) flags []) half flipped
   closes = (
     record {
       steps = shuts.steps;
@@ -556,15 +556,15 @@ pub close_steadily : (cpu : Cpu) (half : Half) (flipped : Bool) → Enters cpu d
     → IsBuilding cpu.mem half flipped (0 ∷ 0xB0 ∷ []) → ClosesSo cpu half flipped
 close_steadily cpu half flipped enters building =
     subst (λ (k : Cpu). ClosesSo k half flipped) (entered cpu 0x6A00 7 enters building.phase)
-    (closes cpu.a cpu.x cpu.y cpu.s cpu.n cpu.z cpu.c cpu.v cpu.mem cpu.flags enters.loaded half flipped building)
+    (closes cpu.a cpu.x cpu.y cpu.s cpu.n cpu.z cpu.c cpu.v cpu.d cpu.i cpu.mem cpu.flags enters.loaded half flipped building)
 
 pub close_takes : CloseTakes
 close_takes cpu half flipped enters building = (close_steadily cpu half flipped enters building).0
 
 -- a tick that changes nothing, and a call of dvg_run that does
-module _ (a x y s : ℕ) (n z c v : Bool) (mem flags : ℕ → ℕ) where
+module _ (a x y s : ℕ) (n z c v d i : Bool) (mem flags : ℕ → ℕ) where
   abbrev resting : (entry phase : ℕ) → Cpu
-  resting entry phase = at entry a x y s n z c v (laid (page_at phase mem) mem) flags []
+  resting entry phase = at entry a x y s n z c v d i (laid (page_at phase mem) mem) flags []
 
   idles : (entry phase n : ℕ) → let end = run s n (resting entry phase) in
       end.mem end.pc ≡ 0x60 → end.s ≡ s → seen end.log ≡ [] → end.mem ≡ (resting entry phase).mem
@@ -596,12 +596,12 @@ module _ (a x y s : ℕ) (n z c v : Bool) (mem flags : ℕ → ℕ) where
 
 pub idle_ticks : IdleTicks
 idle_ticks cpu enters (inl is) = subst Idles (entered cpu 0x686A 2 enters is)
-    (tick2 cpu.a cpu.x cpu.y cpu.s cpu.n cpu.z cpu.c cpu.v cpu.mem cpu.flags).0
+    (tick2 cpu.a cpu.x cpu.y cpu.s cpu.n cpu.z cpu.c cpu.v cpu.d cpu.i cpu.mem cpu.flags).0
 idle_ticks cpu enters (inr is) = subst Idles (entered cpu 0x686A 7 enters is)
-    (tick7 cpu.a cpu.x cpu.y cpu.s cpu.n cpu.z cpu.c cpu.v cpu.mem cpu.flags).0
+    (tick7 cpu.a cpu.x cpu.y cpu.s cpu.n cpu.z cpu.c cpu.v cpu.d cpu.i cpu.mem cpu.flags).0
 
 pub run_returns : RunReturns
 run_returns cpu enters (inl is) = subst (λ (k : Cpu). (did : Idles k) × (did.steps ≤ 6)) (entered cpu 0x6809 2 enters is)
-    (run2 cpu.a cpu.x cpu.y cpu.s cpu.n cpu.z cpu.c cpu.v cpu.mem cpu.flags)
+    (run2 cpu.a cpu.x cpu.y cpu.s cpu.n cpu.z cpu.c cpu.v cpu.d cpu.i cpu.mem cpu.flags)
 run_returns cpu enters (inr is) = subst (λ (k : Cpu). (did : Idles k) × (did.steps ≤ 6)) (entered cpu 0x6809 7 enters is)
-    (run7 cpu.a cpu.x cpu.y cpu.s cpu.n cpu.z cpu.c cpu.v cpu.mem cpu.flags)
+    (run7 cpu.a cpu.x cpu.y cpu.s cpu.n cpu.z cpu.c cpu.v cpu.d cpu.i cpu.mem cpu.flags)

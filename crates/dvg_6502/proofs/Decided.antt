@@ -29,12 +29,12 @@ decided cpu end c steps is back carry quiet kept steady code =
       alike = comes_out is_code cpu steps (λ b is. is) there steady (ap (λ (k : Cpu). is_code k.pc) is ∙ code);
     }
 
-module _ (a x y s : ℕ) (n z c v : Bool) (mem flags : ℕ → ℕ) (log : List Access) where
+module _ (a x y s : ℕ) (n z c v d i : Bool) (mem flags : ℕ → ℕ) (log : List Access) where
   abbrev from : ℕ → Cpu
-  from pc = at pc a x y s n z c v (laid (page_in mem) mem) flags log
+  from pc = at pc a x y s n z c v d i (laid (page_in mem) mem) flags log
 
   abbrev taken : ℕ → Cpu
-  taken pc = at pc a x y s n z false v (laid (page_in mem) mem) flags log
+  taken pc = at pc a x y s n z false v d i (laid (page_in mem) mem) flags log
 
   takes1 : IsDecided (from 0x6941) false
   takes1 = decided (from 0x6941) (taken 0x6942) false 1 refl (returned s (taken 0x6942) refl refl) refl refl refl refl refl
@@ -47,11 +47,11 @@ module _ (a x y s : ℕ) (n z c v : Bool) (mem flags : ℕ → ℕ) (log : List 
 
   -- after the comparison with the phase that is wanted, and at the return
   abbrev told : (pc wanted : ℕ) → Bool → Cpu
-  told pc wanted t = at pc a x y s (nat_le 128 ((y + 256 - wanted) % 256)) t (nat_le wanted y) v (laid (page_in mem) mem)
+  told pc wanted t = at pc a x y s (nat_le 128 ((y + 256 - wanted) % 256)) t (nat_le wanted y) v d i (laid (page_in mem) mem)
       flags log
 
   abbrev refused : (pc wanted : ℕ) → Cpu
-  refused pc wanted = at pc a x y s (nat_le 128 ((y + 256 - wanted) % 256)) false true v (laid (page_in mem) mem) flags log
+  refused pc wanted = at pc a x y s (nat_le 128 ((y + 256 - wanted) % 256)) false true v d i (laid (page_in mem) mem) flags log
 
   refuses1 : y < 256 → nat_eq y 2 ≡ false → IsDecided (from 0x6900) true
   refuses1 small other =
@@ -95,11 +95,11 @@ module _ (a x y s : ℕ) (n z c v : Bool) (mem flags : ℕ → ℕ) (log : List 
 
   -- the same of what dvg_redraw compares
   abbrev told_a : (pc wanted : ℕ) → Bool → Cpu
-  told_a pc wanted t = at pc a x y s (nat_le 128 ((a + 256 - wanted) % 256)) t (nat_le wanted a) v
+  told_a pc wanted t = at pc a x y s (nat_le 128 ((a + 256 - wanted) % 256)) t (nat_le wanted a) v d i
       (laid (page_in mem) mem) flags log
 
   abbrev refused_a : ℕ → Cpu
-  refused_a wanted = at 0x6956 a x y s (nat_le 128 ((a + 256 - wanted) % 256)) false true v (laid (page_in mem) mem)
+  refused_a wanted = at 0x6956 a x y s (nat_le 128 ((a + 256 - wanted) % 256)) false true v d i (laid (page_in mem) mem)
       flags log
 
   refuses6 : a < 256 → nat_eq a 2 ≡ false → IsDecided (from 0x6945) true
@@ -120,7 +120,7 @@ module _ (a x y s : ℕ) (n z c v : Bool) (mem flags : ℕ → ℕ) (log : List 
 
 -- any state at a place
 at_place : (cpu : Cpu) (pc : ℕ) (c : Bool) → cpu.pc ≡ pc → IsLoaded cpu.mem
-    → IsDecided (from cpu.a cpu.x cpu.y cpu.s cpu.n cpu.z cpu.c cpu.v cpu.mem cpu.flags cpu.log pc) c → IsDecided cpu c
+    → IsDecided (from cpu.a cpu.x cpu.y cpu.s cpu.n cpu.z cpu.c cpu.v cpu.d cpu.i cpu.mem cpu.flags cpu.log pc) c → IsDecided cpu c
 at_place cpu pc c is load done = subst (λ (k : Cpu). IsDecided k c) (state_is cpu pc cpu.s is refl load) done
 
 pub decides : Decides
@@ -128,27 +128,27 @@ decides cpu load a_small small = (refusing, taking)
   where
     refusing : IsRefusing cpu → IsDecided cpu true
     refusing (inl (inl is, other)) = at_place cpu 0x6900 true is load
-        (refuses1 cpu.a cpu.x cpu.y cpu.s cpu.n cpu.z cpu.c cpu.v cpu.mem cpu.flags cpu.log small other)
+        (refuses1 cpu.a cpu.x cpu.y cpu.s cpu.n cpu.z cpu.c cpu.v cpu.d cpu.i cpu.mem cpu.flags cpu.log small other)
     refusing (inl (inr is, other)) = at_place cpu 0x6926 true is load
-        (refuses2 cpu.a cpu.x cpu.y cpu.s cpu.n cpu.z cpu.c cpu.v cpu.mem cpu.flags cpu.log small other)
+        (refuses2 cpu.a cpu.x cpu.y cpu.s cpu.n cpu.z cpu.c cpu.v cpu.d cpu.i cpu.mem cpu.flags cpu.log small other)
     refusing (inr (inl (inl is, other))) = at_place cpu 0x6959 true is load
-        (refuses3 cpu.a cpu.x cpu.y cpu.s cpu.n cpu.z cpu.c cpu.v cpu.mem cpu.flags cpu.log small other)
+        (refuses3 cpu.a cpu.x cpu.y cpu.s cpu.n cpu.z cpu.c cpu.v cpu.d cpu.i cpu.mem cpu.flags cpu.log small other)
     refusing (inr (inl (inr (inl is), other))) = at_place cpu 0x698B true is load
-        (refuses4 cpu.a cpu.x cpu.y cpu.s cpu.n cpu.z cpu.c cpu.v cpu.mem cpu.flags cpu.log small other)
+        (refuses4 cpu.a cpu.x cpu.y cpu.s cpu.n cpu.z cpu.c cpu.v cpu.d cpu.i cpu.mem cpu.flags cpu.log small other)
     refusing (inr (inl (inr (inr is), other))) = at_place cpu 0x6A02 true is load
-        (refuses5 cpu.a cpu.x cpu.y cpu.s cpu.n cpu.z cpu.c cpu.v cpu.mem cpu.flags cpu.log small other)
+        (refuses5 cpu.a cpu.x cpu.y cpu.s cpu.n cpu.z cpu.c cpu.v cpu.d cpu.i cpu.mem cpu.flags cpu.log small other)
     refusing (inr (inr (inl (is, other)))) = at_place cpu 0x6945 true is load
-        (refuses6 cpu.a cpu.x cpu.y cpu.s cpu.n cpu.z cpu.c cpu.v cpu.mem cpu.flags cpu.log a_small other)
+        (refuses6 cpu.a cpu.x cpu.y cpu.s cpu.n cpu.z cpu.c cpu.v cpu.d cpu.i cpu.mem cpu.flags cpu.log a_small other)
     refusing (inr (inr (inr (is, other)))) = at_place cpu 0x694B true is load
-        (refuses7 cpu.a cpu.x cpu.y cpu.s cpu.n cpu.z cpu.c cpu.v cpu.mem cpu.flags cpu.log a_small other)
+        (refuses7 cpu.a cpu.x cpu.y cpu.s cpu.n cpu.z cpu.c cpu.v cpu.d cpu.i cpu.mem cpu.flags cpu.log a_small other)
 
     taking : IsTaking cpu → IsDecided cpu false
     taking (inl is) = at_place cpu 0x6941 false is load
-        (takes1 cpu.a cpu.x cpu.y cpu.s cpu.n cpu.z cpu.c cpu.v cpu.mem cpu.flags cpu.log)
+        (takes1 cpu.a cpu.x cpu.y cpu.s cpu.n cpu.z cpu.c cpu.v cpu.d cpu.i cpu.mem cpu.flags cpu.log)
     taking (inr (inl is)) = at_place cpu 0x6953 false is load
-        (takes2 cpu.a cpu.x cpu.y cpu.s cpu.n cpu.z cpu.c cpu.v cpu.mem cpu.flags cpu.log)
+        (takes2 cpu.a cpu.x cpu.y cpu.s cpu.n cpu.z cpu.c cpu.v cpu.d cpu.i cpu.mem cpu.flags cpu.log)
     taking (inr (inr is)) = at_place cpu 0x6A15 false is load
-        (takes3 cpu.a cpu.x cpu.y cpu.s cpu.n cpu.z cpu.c cpu.v cpu.mem cpu.flags cpu.log)
+        (takes3 cpu.a cpu.x cpu.y cpu.s cpu.n cpu.z cpu.c cpu.v cpu.d cpu.i cpu.mem cpu.flags cpu.log)
 
 refuted : (t : Bool) → not t ≡ true → t ≡ false
 refuted true is = absurd (cc)
@@ -164,41 +164,41 @@ module _ (cpu : Cpu) (has : HasCode cpu.mem) (small : cpu.mem 0x10 < 256) where
 
   -- it is run by computing
   turned_at : (pc : ℕ) → cpu.pc ≡ pc
-      → (let k = at pc cpu.a cpu.x cpu.y cpu.s cpu.n cpu.z cpu.c cpu.v (laid (page_in cpu.mem) cpu.mem) cpu.flags cpu.log in
+      → (let k = at pc cpu.a cpu.x cpu.y cpu.s cpu.n cpu.z cpu.c cpu.v cpu.d cpu.i (laid (page_in cpu.mem) cpu.mem) cpu.flags cpu.log in
       IsDecided (run cpu.s 1 k) true × ((run cpu.s 1 k).s ≡ cpu.s)) → Turned
   turned_at pc is done = subst (λ (k : Cpu). IsDecided (run cpu.s 1 k) true × ((run cpu.s 1 k).s ≡ cpu.s))
       (state_coded cpu pc cpu.s is refl has) done
 
   pub looked : (routine : Routine) → cpu.pc ≡ entry routine → finds_busy routine cpu.mem ≡ true → Turned
   looked (calls.Offer F) is busy = turned_at 0x68FE is (
-    refuses1 cpu.a cpu.x phase cpu.s (nat_le 128 phase) (nat_eq phase 0) cpu.c cpu.v cpu.mem cpu.flags
+    refuses1 cpu.a cpu.x phase cpu.s (nat_le 128 phase) (nat_eq phase 0) cpu.c cpu.v cpu.d cpu.i cpu.mem cpu.flags
         (Reads 0x10 phase ∷ cpu.log) small (refuted (nat_eq phase 2) busy),
     refl,
   )
   looked (calls.Open F) is busy = turned_at 0x6924 is (
-    refuses2 cpu.a cpu.x phase cpu.s (nat_le 128 phase) (nat_eq phase 0) cpu.c cpu.v cpu.mem cpu.flags
+    refuses2 cpu.a cpu.x phase cpu.s (nat_le 128 phase) (nat_eq phase 0) cpu.c cpu.v cpu.d cpu.i cpu.mem cpu.flags
         (Reads 0x10 phase ∷ cpu.log) small (refuted (nat_eq phase 2) busy),
     refl,
   )
   looked calls.Redraw is busy = turned_at 0x6943 is (
-    refuses6 phase cpu.x cpu.y cpu.s (nat_le 128 phase) (nat_eq phase 0) cpu.c cpu.v cpu.mem cpu.flags
+    refuses6 phase cpu.x cpu.y cpu.s (nat_le 128 phase) (nat_eq phase 0) cpu.c cpu.v cpu.d cpu.i cpu.mem cpu.flags
         (Reads 0x10 phase ∷ cpu.log) small (refuted (nat_eq phase 2) busy),
     refl,
   )
   looked (calls.Puts Put) is busy = turned_at 0x6957 is (
-    refuses3 cpu.a cpu.x phase cpu.s (nat_le 128 phase) (nat_eq phase 0) cpu.c cpu.v cpu.mem cpu.flags
+    refuses3 cpu.a cpu.x phase cpu.s (nat_le 128 phase) (nat_eq phase 0) cpu.c cpu.v cpu.d cpu.i cpu.mem cpu.flags
         (Reads 0x10 phase ∷ cpu.log) small (refuted (nat_eq phase 7) busy),
     refl,
   )
   looked (calls.Puts Pair) is busy = turned_at 0x6989 is (
-    refuses4 cpu.a cpu.x phase cpu.s (nat_le 128 phase) (nat_eq phase 0) cpu.c cpu.v cpu.mem cpu.flags
+    refuses4 cpu.a cpu.x phase cpu.s (nat_le 128 phase) (nat_eq phase 0) cpu.c cpu.v cpu.d cpu.i cpu.mem cpu.flags
         (Reads 0x10 phase ∷ cpu.log) small (refuted (nat_eq phase 7) busy),
     refl,
   )
   looked (calls.Puts Labs) is busy = absurd (cc)
   looked (calls.Puts Vector) is busy = absurd (cc)
   looked calls.Close is busy = turned_at 0x6A00 is (
-    refuses5 cpu.a cpu.x phase cpu.s (nat_le 128 phase) (nat_eq phase 0) cpu.c cpu.v cpu.mem cpu.flags
+    refuses5 cpu.a cpu.x phase cpu.s (nat_le 128 phase) (nat_eq phase 0) cpu.c cpu.v cpu.d cpu.i cpu.mem cpu.flags
         (Reads 0x10 phase ∷ cpu.log) small (refuted (nat_eq phase 7) busy),
     refl,
   )

@@ -70,7 +70,7 @@ module _ (q : ℕ) (q_small : q < 256) (cpu : Cpu) (begin stop : ℕ) (life : Li
   fin = run q turned.steps mid
 
   abbrev head : Cpu
-  head = at 0x6809 fin.a fin.x fin.y q fin.n fin.z fin.c fin.v (laid (page_in fin.mem) fin.mem) fin.flags fin.log
+  head = at 0x6809 fin.a fin.x fin.y q fin.n fin.z fin.c fin.v fin.d fin.i (laid (page_in fin.mem) fin.mem) fin.flags fin.log
 
   jumped : run q 1 fin ≡ head
   jumped = ap (run q 1) (sym (state_is fin 0x6818 q turned.pc turned.stack turned.stood.loaded))
@@ -124,14 +124,14 @@ module _ (q : ℕ) (q_small : q < 256) (cpu : Cpu) (begin stop : ℕ) (life : Li
   }
 
 -- the head of dvg_run
-module _ (q : ℕ) (q_small : q < 256) (a x y : ℕ) (n z c v : Bool) (mem flags : ℕ → ℕ) (log : List Access)
+module _ (q : ℕ) (q_small : q < 256) (a x y : ℕ) (n z c v d i : Bool) (mem flags : ℕ → ℕ) (log : List Access)
     (begin stop : ℕ) (life : List Item) (stood : Stood mem begin stop life) where
   abbrev page : ℕ → List ℕ
   page phase = page_of phase (mem 0x11) (mem 0x12) (mem 0x13) (mem 0x14) (mem 0x15) (mem 0x16) (mem 0x17) (mem 0x18)
       (mem 0x19) (mem 0x1A)
 
   abbrev from : ℕ → Cpu
-  from phase = at 0x6809 a x y q n z c v (laid (page phase) mem) flags log
+  from phase = at 0x6809 a x y q n z c v d i (laid (page phase) mem) flags log
 
   abbrev Goal : ℕ → Type 0
   Goal phase = Round q (from phase) begin stop life
@@ -160,7 +160,7 @@ module _ (q : ℕ) (q_small : q < 256) (a x y : ℕ) (n z c v : Bool) (mem flags
 
   -- a table is being written: a tick where its next byte is a high one, and else the loop
   abbrev told : Bool → Cpu
-  told odd = at 0x6820 (mem 0x13 / 2) x (mem 0x13) q (nat_le 128 (mem 0x13 / 2)) (nat_eq (mem 0x13 / 2) 0) odd v
+  told odd = at 0x6820 (mem 0x13 / 2) x (mem 0x13) q (nat_le 128 (mem 0x13 / 2)) (nat_eq (mem 0x13 / 2) 0) odd v d i
       (laid (page 0x80) mem) flags (Reads 0x13 (mem 0x13) ∷ Reads 0x10 0x80 ∷ log)
 
   feeds : (odd : Bool) → mem 0x10 ≡ 0x80 → nat_eq (mem 0x13 % 2) 1 ≡ odd → Goal 0x80
@@ -265,12 +265,12 @@ place_free v mem begin stop life load other_phase stood = record {
         part (inr rest) = inr rest
 
 -- a word of the loop
-module _ (q : ℕ) (q_small : q < 256) (a x y : ℕ) (n z c v : Bool) (mem flags : ℕ → ℕ) (log : List Access)
+module _ (q : ℕ) (q_small : q < 256) (a x y : ℕ) (n z c v d i : Bool) (mem flags : ℕ → ℕ) (log : List Access)
     (begin stop : ℕ) (life : List Item)
     (load : IsLoaded mem) (phase : mem 0x10 ≡ 0x80) (even : y % 2 ≡ 0)
     (stood : Stood (put 0x13 y mem) begin stop life) where
   abbrev low : Cpu
-  low = at 0x6822 a x y q n z c v (laid (page_in mem) mem) flags log
+  low = at 0x6822 a x y q n z c v d i (laid (page_in mem) mem) flags log
 
   abbrev ends : Bool
   ends = word.ends q y mem begin stop life load phase even stood
@@ -307,7 +307,7 @@ module _ (q : ℕ) (q_small : q < 256) (a x y : ℕ) (n z c v : Bool) (mem flags
 
   reach : Reaches q low (pc_then ends last) after q final (Writes g1 w1 ∷ Writes g0 b0 ∷ seen log)
       (word.heads q y mem begin stop life load phase even stood)
-  reach = word.writes q y mem begin stop life load phase even stood a x n z c v flags log
+  reach = word.writes q y mem begin stop life load phase even stood a x n z c v d i flags log
 
   stood2 : Stood (put 0x13 after final) begin stop (item1 ∷ item0 ∷ life)
   stood2 = word.stood2 q y mem begin stop life load phase even stood
@@ -413,10 +413,10 @@ round : (there : Bool) (q : ℕ) (cpu : Cpu) (begin stop : ℕ) (life : List Ite
     → Here there q cpu begin stop life → Round q cpu begin stop life
 round true q cpu begin stop life q_small here =
     subst (λ (k : Cpu). Round q k begin stop life) (state_is cpu 0x6809 q here.0 here.1 here.2.loaded)
-    (head_round q q_small cpu.a cpu.x cpu.y cpu.n cpu.z cpu.c cpu.v cpu.mem cpu.flags cpu.log begin stop life here.2)
+    (head_round q q_small cpu.a cpu.x cpu.y cpu.n cpu.z cpu.c cpu.v cpu.d cpu.i cpu.mem cpu.flags cpu.log begin stop life here.2)
 round false q cpu begin stop life q_small here =
     subst (λ (k : Cpu). Round q k begin stop life) (state_is cpu 0x6822 q here.pc here.stack here.loaded)
-    (low_round q q_small cpu.a cpu.x cpu.y cpu.n cpu.z cpu.c cpu.v cpu.mem cpu.flags cpu.log begin stop life
+    (low_round q q_small cpu.a cpu.x cpu.y cpu.n cpu.z cpu.c cpu.v cpu.d cpu.i cpu.mem cpu.flags cpu.log begin stop life
     here.loaded here.phase here.even here.stood)
 
 -- rounds, one after the other

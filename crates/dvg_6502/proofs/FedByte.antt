@@ -75,32 +75,32 @@ module _ (q s : ℕ) (free publish next t0 t1 pages end f0 f1 : ℕ) (mem flags 
     phase = phase_then ends last publish
 
     -- the store, at either mark
-    stores : (second : Bool) (w x : ℕ) (n z c v : Bool) (log : List Access)
-        → Ends q (at 0x68E4 w x next s n z c v (laid (from second) mem) flags log) s
+    stores : (second : Bool) (w x : ℕ) (n z c v d i : Bool) (log : List Access)
+        → Ends q (at 0x68E4 w x next s n z c v d i (laid (from second) mem) flags log) s
         (laid (after second wrap phase) (put to w mem)) (Writes to w ∷ seen log) (source ∷ [])
-    stores second w x n z c v log =
-        store q s (source ∷ []) free publish next t0 t1 pages end (second_byte second) f0 f1 mem flags w x n z c v log wrap ends
+    stores second w x n z c v d i log =
+        store q s (source ∷ []) free publish next t0 t1 pages end (second_byte second) f0 f1 mem flags w x n z c v d i log wrap ends
         last not_page not_code high wraps ended is
 
     -- after the load
-    loads : (odd second : Bool) (byte x : ℕ) (n : Bool) (v : Bool) (log : List Access) → byte < 256
+    loads : (odd second : Bool) (byte x : ℕ) (n : Bool) (v d i : Bool) (log : List Access) → byte < 256
         → laid (from true) mem source ≡ byte → laid (from false) mem source ≡ byte
-        → Ends q (at 0x68C4 byte x next s n (nat_eq byte 0) odd v (laid (from second) mem) flags log) s
+        → Ends q (at 0x68C4 byte x next s n (nat_eq byte 0) odd v d i (laid (from second) mem) flags log) s
         (laid (after (second_then odd second byte) wrap phase) (put to (put_for free odd second byte) mem))
         (Writes to (put_for free odd second byte) ∷ seen log) (source ∷ [])
-    loads false second byte x n v log small reads reads' =
-        on q 1 _ (at 0x68E4 byte x next s n (nat_eq byte 0) false v (laid (from second) mem) flags log) s _ _ refl (λ tables held. refl)
-        (stores second byte x n (nat_eq byte 0) false v log)
-    loads true true byte x n v log small reads reads' =
-        on q 3 _ (at 0x68E4 byte x next s false true true v (laid (from false) mem) flags
+    loads false second byte x n v d i log small reads reads' =
+        on q 1 _ (at 0x68E4 byte x next s n (nat_eq byte 0) false v d i (laid (from second) mem) flags log) s _ _ refl (λ tables held. refl)
+        (stores second byte x n (nat_eq byte 0) false v d i log)
+    loads true true byte x n v d i log small reads reads' =
+        on q 3 _ (at 0x68E4 byte x next s false true true v d i (laid (from false) mem) flags
         (Writes 0x18 0 ∷ Reads 0x18 0x80 ∷ log)) s _ _
-        (ap (λ m. at 0x68E4 byte x next s false true true v m flags (Writes 0x18 0 ∷ Reads 0x18 0x80 ∷ log))
+        (ap (λ m. at 0x68E4 byte x next s false true true v d i m flags (Writes 0x18 0 ∷ Reads 0x18 0x80 ∷ log))
         (put_page 8 0 (from true) mem (omega arith) refl)) (λ tables held. refl)
-        (stores false byte x false true true v (Writes 0x18 0 ∷ Reads 0x18 0x80 ∷ log))
-    loads true false byte x n v log small reads reads' =
+        (stores false byte x false true true v d i (Writes 0x18 0 ∷ Reads 0x18 0x80 ∷ log))
+    loads true false byte x n v d i log small reads reads' =
         on q 4 _ (told (nat_le 0xB0 byte)) s _ _
         (ap (λ m. at 0x68CC byte x next s (nat_le 128 ((byte + 256 - 0xB0) % 256))
-        (nat_eq ((byte + 256 - 0xB0) % 256) 0) (nat_le 0xB0 byte) v m flags log')
+        (nat_eq ((byte + 256 - 0xB0) % 256) 0) (nat_le 0xB0 byte) v d i m flags log')
         (put_page 8 0 (from false) mem (omega arith) refl)) (λ tables held. refl)
         (opcode (nat_le 0xB0 byte) refl)
       where
@@ -109,14 +109,14 @@ module _ (q s : ℕ) (free publish next t0 t1 pages end f0 f1 : ℕ) (mem flags 
 
         told : Bool → Cpu
         told great = at 0x68CC byte x next s (nat_le 128 ((byte + 256 - 0xB0) % 256))
-            (nat_eq ((byte + 256 - 0xB0) % 256) 0) great v (laid (from false) mem) flags log'
+            (nat_eq ((byte + 256 - 0xB0) % 256) 0) great v d i (laid (from false) mem) flags log'
 
         masked : ℕ
         masked = bit_and byte 0xDC
 
         found : Bool → Cpu
         found ours = at 0x68D3 masked byte next s (nat_le 128 ((masked + 256 - 0xC0) % 256)) ours
-            (nat_le 0xC0 masked) v (laid (from false) mem) flags log'
+            (nat_le 0xC0 masked) v d i (laid (from false) mem) flags log'
 
         both : ℕ
         both = bit_or (bit_and free 2) byte
@@ -127,11 +127,11 @@ module _ (q s : ℕ) (free publish next t0 t1 pages end f0 f1 : ℕ) (mem flags 
         opcode false less =
             let e : byte ≡ moved_byte free byte = sym (stays free byte less) in
             subst (λ w. Ends q (told false) s (laid (after true wrap phase) (put to w mem)) (Writes to w ∷ seen log) (source ∷ [])) e
-            (on q 4 _ (at 0x68E4 byte 0x80 next s true false false v (laid (from true) mem) flags
+            (on q 4 _ (at 0x68E4 byte 0x80 next s true false false v d i (laid (from true) mem) flags
             (Writes 0x18 0x80 ∷ log')) s _ _
-            (ap (λ m. at 0x68E4 byte 0x80 next s true false false v m flags (Writes 0x18 0x80 ∷ log'))
+            (ap (λ m. at 0x68E4 byte 0x80 next s true false false v d i m flags (Writes 0x18 0x80 ∷ log'))
             (put_page 8 0x80 (from false) mem (omega arith) refl)) (λ tables held. refl)
-            (stores true byte 0x80 true false false v (Writes 0x18 0x80 ∷ log')))
+            (stores true byte 0x80 true false false v d i (Writes 0x18 0x80 ∷ log')))
         opcode true great = on q 4 _ (found (nat_eq masked 0xC0)) s _ _
             (ap found (compared masked 0xC0 below (omega arith))) (λ tables held. refl) (mine (nat_eq masked 0xC0))
           where
@@ -145,7 +145,7 @@ module _ (q s : ℕ) (free publish next t0 t1 pages end f0 f1 : ℕ) (mem flags 
             -- the OR, by whether its byte is the flag's, and by the byte
             ored : Bool → ℕ → Cpu
             ored t b = let w = bit_or (bit_and free 2) (byte_read t flags b) in
-                at 0x68E4 w byte next s (nat_le 128 w) (nat_eq w 0) (nat_le 0xC0 masked) v (laid (from false) mem)
+                at 0x68E4 w byte next s (nat_le 128 w) (nat_eq w 0) (nat_le 0xC0 masked) v d i (laid (from false) mem)
                 (flags_then t flags) (Reads source (byte_read t flags b) ∷ Reads 0x11 free ∷ log')
 
             mine : (t : Bool) → Ends q (found t) s
@@ -157,23 +157,23 @@ module _ (q s : ℕ) (free publish next t0 t1 pages end f0 f1 : ℕ) (mem flags 
                 (seen_as q _ s _ (Writes to both ∷ seen (Reads source byte ∷ Reads 0x11 free ∷ log'))
                 (Writes to both ∷ seen log)
                 (ap (λ (t : Bool). Writes to both ∷ (if t then Reads source byte ∷ seen log else seen log)) device)
-                (stores false both byte (nat_le 128 both) (nat_eq both 0) (nat_le 0xC0 masked) v
+                (stores false both byte (nat_le 128 both) (nat_eq both 0) (nat_le 0xC0 masked) v d i
                 (Reads source byte ∷ Reads 0x11 free ∷ log')))
             mine false = on q 2 _
-                (at 0x68D6 byte byte next s (nat_le 128 byte) false (nat_le 0xC0 masked) v
+                (at 0x68D6 byte byte next s (nat_le 128 byte) false (nat_le 0xC0 masked) v d i
                 (laid (from false) mem) flags log') s _ _
-                (ap (λ z. at 0x68D6 byte byte next s (nat_le 128 byte) z (nat_le 0xC0 masked) v
+                (ap (λ z. at 0x68D6 byte byte next s (nat_le 128 byte) z (nat_le 0xC0 masked) v d i
                 (laid (from false) mem) flags log') not_zero) (λ tables held. refl)
-                (on q 1 _ (at 0x68E4 byte byte next s (nat_le 128 byte) false (nat_le 0xC0 masked) v
+                (on q 1 _ (at 0x68E4 byte byte next s (nat_le 128 byte) false (nat_le 0xC0 masked) v d i
                 (laid (from false) mem) flags log') s _ _ refl (λ tables held. refl)
-                (stores false byte byte (nat_le 128 byte) false (nat_le 0xC0 masked) v log'))
+                (stores false byte byte (nat_le 128 byte) false (nat_le 0xC0 masked) v d i log'))
 
-    pub writes : (a x y : ℕ) (n z c v : Bool) (log : List Access) (odd second : Bool) (byte : ℕ) → byte < 256
+    pub writes : (a x y : ℕ) (n z c v d i : Bool) (log : List Access) (odd second : Bool) (byte : ℕ) → byte < 256
         → laid (from true) mem source ≡ byte → laid (from false) mem source ≡ byte → nat_eq (next % 2) 1 ≡ odd
-        → Ends q (at 0x686A a x y s n z c v (laid (from second) mem) flags log) s
+        → Ends q (at 0x686A a x y s n z c v d i (laid (from second) mem) flags log) s
         (laid (after (second_then odd second byte) wrap phase) (put to (put_for free odd second byte) mem))
         (Writes to (put_for free odd second byte) ∷ seen log) (source ∷ [])
-    writes a x y n z c v log odd second byte small reads reads' parity =
+    writes a x y n z c v d i log odd second byte small reads reads' parity =
         on q 6 _ (told false byte odd) s _ _
         (ap (λ t. told t (laid (from second) mem source) (nat_eq (next % 2) 1)) not_flag
         ∙ ap (λ b. told false b (nat_eq (next % 2) 1)) (same_read second) ∙ ap (told false byte) parity)
@@ -182,14 +182,14 @@ module _ (q s : ℕ) (free publish next t0 t1 pages end f0 f1 : ℕ) (mem flags 
         (Writes to (put_for free odd second byte) ∷ seen log)
         (ap (λ (t : Bool). Writes to (put_for free odd second byte)
         ∷ (if t then Reads source byte ∷ seen log else seen log)) device)
-        (loads odd second byte 0x80 (nat_le 128 byte) v log' small reads reads'))
+        (loads odd second byte 0x80 (nat_le 128 byte) v d i log' small reads reads'))
       where
         log' : List Access
         log' = Reads source byte ∷ Reads 0x13 next ∷ Reads 0x10 0x80 ∷ log
 
         told : Bool → ℕ → Bool → Cpu
         told t b odd = let byte = byte_read t flags b in
-            at 0x68C4 byte 0x80 next s (nat_le 128 byte) (nat_eq byte 0) odd v (laid (from second) mem)
+            at 0x68C4 byte 0x80 next s (nat_le 128 byte) (nat_eq byte 0) odd v d i (laid (from second) mem)
             (flags_then t flags) (Reads source byte ∷ Reads 0x13 next ∷ Reads 0x10 0x80 ∷ log)
 
         same_read : (second : Bool) → laid (from second) mem source ≡ byte

@@ -5,9 +5,13 @@ use Rattle.std.proofs.lemmas.Bool.{leb-false}
 use Rattle.std.specs.Prelude.{nat_le, ◌⊎◌, if◌then◌else◌}
 use Rattle.dvg_6502.specs.Processor.{Cpu, Access, Reads, Writes, Mode, Immediate, ZeroPage, ZeroPageX, Absolute}
 use Rattle.dvg_6502.specs.Processor.{IndirectIndexed, Register, A, X, Y, Instr, Load, Store, Transfer, And, Or, Xor, Compare, TestBits}
-use Rattle.dvg_6502.specs.Processor.{Change, Step, ShiftLeft, RotateLeft, ShiftLeftA, ShiftRightA, SetCarry, Branch}
+use Rattle.dvg_6502.specs.Processor.{Change, Step, Branch}
 use Rattle.dvg_6502.specs.Processor.{Jump, Call, Return, Unknown, run, turn, step, does, decoded, opcodes, at_return}
 use Rattle.dvg_6502.specs.Processor.{reading, setting, address, operand}
+use Rattle.dvg_6502.specs.Processor.{ZeroPageY, AbsoluteX, AbsoluteY, IndexedIndirect, Add, Subtract, ShiftAt, ShiftA}
+use Rattle.dvg_6502.specs.Processor.{Set, JumpAt, PushA, PushFlags, PullA, PullFlags, FromStack, ToStack, Resume}
+use Rattle.dvg_6502.specs.Processor.{Pass, Flag, Negative, Zero, Carry, Overflow, Decimal, Interrupt, flagging}
+use Rattle.dvg_6502.specs.Processor.{next, shifted}
 use Rattle.dvg_6502.specs.Board.{seen, is_hardware}
 use Rattle.dvg_6502.proofs.Running.{run_more}
 
@@ -20,12 +24,24 @@ reads_on Immediate cpu = ([], refl)
 reads_on ZeroPage cpu = (_ ∷ [], refl)
 reads_on ZeroPageX cpu = (_ ∷ [], refl)
 reads_on Absolute cpu = (_ ∷ [], refl)
+reads_on ZeroPageY cpu = (_ ∷ [], refl)
+reads_on AbsoluteX cpu = (_ ∷ [], refl)
+reads_on AbsoluteY cpu = (_ ∷ [], refl)
+reads_on IndexedIndirect cpu = (_ ∷ [], refl)
 reads_on IndirectIndexed cpu = (_ ∷ [], refl)
 
 sets_on : (r : Register) (byte : ℕ) (cpu : Cpu) → (setting r byte cpu).log ≡ cpu.log
 sets_on A byte cpu = refl
 sets_on X byte cpu = refl
 sets_on Y byte cpu = refl
+
+flags_on : (flag : Flag) (to : Bool) (cpu : Cpu) → (flagging flag to cpu).log ≡ cpu.log
+flags_on Negative to cpu = refl
+flags_on Zero to cpu = refl
+flags_on Carry to cpu = refl
+flags_on Overflow to cpu = refl
+flags_on Decimal to cpu = refl
+flags_on Interrupt to cpu = refl
 
 goes_as : (now also before : List Access) → now ≡ also → GoesOn also before → GoesOn now before
 goes_as now also before same on = (on.0, same ∙ on.1)
@@ -37,6 +53,8 @@ does_on (Transfer from to) cpu = ([], sets_on to _ _)
 does_on (And mode) cpu = reads_on mode cpu
 does_on (Or mode) cpu = reads_on mode cpu
 does_on (Xor mode) cpu = reads_on mode cpu
+does_on (Add mode) cpu = reads_on mode cpu
+does_on (Subtract mode) cpu = reads_on mode cpu
 does_on (Compare r mode) cpu = reads_on mode cpu
 does_on (TestBits mode) cpu = reads_on mode cpu
 does_on (Change mode k) cpu = changes_on (reads_on mode cpu)
@@ -44,15 +62,25 @@ does_on (Change mode k) cpu = changes_on (reads_on mode cpu)
     changes_on : GoesOn (reading mode cpu).log cpu.log → GoesOn (does (Change mode k) cpu).log cpu.log
     changes_on on = (_ ∷ on.0, ap (λ l. Writes (address mode cpu) ((operand mode cpu + k) % 256) ∷ l) on.1)
 does_on (Step r k) cpu = ([], sets_on r _ _)
-does_on ShiftLeft cpu = (_ ∷ _ ∷ [], refl)
-does_on RotateLeft cpu = (_ ∷ _ ∷ [], refl)
-does_on ShiftLeftA cpu = ([], refl)
-does_on ShiftRightA cpu = ([], refl)
-does_on (SetCarry to) cpu = ([], refl)
+does_on (ShiftAt shift mode) cpu = shifts_on (reads_on mode cpu)
+  where
+    shifts_on : GoesOn (reading mode cpu).log cpu.log → GoesOn (does (ShiftAt shift mode) cpu).log cpu.log
+    shifts_on on = (_ ∷ on.0, ap (λ l. Writes (address mode cpu) (shifted shift cpu.c (operand mode cpu)) ∷ l) on.1)
+does_on (ShiftA shift) cpu = ([], refl)
+does_on (Set flag to) cpu = ([], flags_on flag to (next 1 cpu))
 does_on (Branch flag when) cpu = ([], refl)
 does_on Jump cpu = ([], refl)
 does_on Call cpu = (_ ∷ _ ∷ [], refl)
 does_on Return cpu = ([], refl)
+does_on JumpAt cpu = (_ ∷ _ ∷ [], refl)
+does_on PushA cpu = (_ ∷ [], refl)
+does_on PushFlags cpu = (_ ∷ [], refl)
+does_on PullA cpu = ([], refl)
+does_on PullFlags cpu = ([], refl)
+does_on FromStack cpu = ([], refl)
+does_on ToStack cpu = ([], refl)
+does_on Resume cpu = ([], refl)
+does_on Pass cpu = ([], refl)
 does_on Unknown cpu = ([], refl)
 
 turn_on : (s : ℕ) (cpu : Cpu) → GoesOn (turn s cpu).log cpu.log

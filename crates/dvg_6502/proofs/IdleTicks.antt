@@ -45,7 +45,7 @@ module _ (q : ℕ) (q_small : q < 256) (t : Bool) where
   out1 : (in_page p1 ≡ false) × (in_code p1 ≡ false)
   out1 = on_stack p1 (omega arith) (omega arith)
 
-  module _ (a x y : ℕ) (n z c v : Bool) (mem flags : ℕ → ℕ) (log : List Access) where
+  module _ (a x y : ℕ) (n z c v d i : Bool) (mem flags : ℕ → ℕ) (log : List Access) where
     abbrev page : Bool → List ℕ
     page t = page_of (phase_of t) (mem 0x11) (mem 0x12) (mem 0x13) (mem 0x14) (mem 0x15) (mem 0x16) (mem 0x17) (mem 0x18)
         (mem 0x19) (mem 0x1A)
@@ -57,13 +57,13 @@ module _ (q : ℕ) (q_small : q < 256) (t : Bool) where
     log' = Writes p1 0x64 ∷ Writes p0 0x68 ∷ log
 
     abbrev from : Cpu
-    from = at 0x6862 a x y q n z c v (laid (page t) mem) flags log
+    from = at 0x6862 a x y q n z c v d i (laid (page t) mem) flags log
 
     abbrev start : Bool → Cpu
-    start t = at 0x686A a x y inner n z c v (laid (page t) stacked) flags log'
+    start t = at 0x686A a x y inner n z c v d i (laid (page t) stacked) flags log'
 
     called : run q 1 from ≡ start t
-    called = ap (λ m. at 0x686A a x y inner n z c v m flags log')
+    called = ap (λ m. at 0x686A a x y inner n z c v d i m flags log')
         (ap (put p1 0x64) (put_out p0 0x68 (page t) mem out0.0 out0.1)
         ∙ put_out p1 0x64 (page t) (put p0 0x68 mem) out1.0 out1.1)
 
@@ -137,11 +137,11 @@ module _ (q : ℕ) (q_small : q < 256) (t : Bool) where
   -- the same of any processor there
   tick_at : (cpu : Cpu) → cpu.pc ≡ 0x6862 → cpu.s ≡ q → HasCode cpu.mem → cpu.mem 0x10 ≡ phase_of t → Ticked q cpu
   tick_at cpu at_pc at_q has phase = subst (Ticked q)
-      (ap (λ p. at 0x6862 cpu.a cpu.x cpu.y q cpu.n cpu.z cpu.c cpu.v (laid (page_of p (cpu.mem 0x11) (cpu.mem 0x12)
+      (ap (λ p. at 0x6862 cpu.a cpu.x cpu.y q cpu.n cpu.z cpu.c cpu.v cpu.d cpu.i (laid (page_of p (cpu.mem 0x11) (cpu.mem 0x12)
       (cpu.mem 0x13) (cpu.mem 0x14) (cpu.mem 0x15) (cpu.mem 0x16) (cpu.mem 0x17) (cpu.mem 0x18) (cpu.mem 0x19)
       (cpu.mem 0x1A)) cpu.mem) cpu.flags cpu.log) (sym phase)
       ∙ state_coded cpu 0x6862 q at_pc at_q has)
-      (ticked cpu.a cpu.x cpu.y cpu.n cpu.z cpu.c cpu.v cpu.mem cpu.flags cpu.log)
+      (ticked cpu.a cpu.x cpu.y cpu.n cpu.z cpu.c cpu.v cpu.d cpu.i cpu.mem cpu.flags cpu.log)
 
   -- what the rest of the ticks leaves
   record Left (cpu : Cpu) : Type 0 where
@@ -169,14 +169,14 @@ module _ (q : ℕ) (q_small : q < 256) (t : Bool) where
     mid_has : HasCode mid.mem
     mid_has = λ i h. same (0x6800 + i) (inr (omega arith)) ∙ has i h
 
-    mid_is : at 0x6865 mid.a mid.x mid.y q mid.n mid.z mid.c mid.v (laid (page_in mid.mem) mid.mem) mid.flags mid.log ≡ mid
+    mid_is : at 0x6865 mid.a mid.x mid.y q mid.n mid.z mid.c mid.v mid.d mid.i (laid (page_in mid.mem) mid.mem) mid.flags mid.log ≡ mid
     mid_is = state_coded mid 0x6865 q tick.place tick.stack mid_has
 
     abbrev r : ℕ
     r = (mid.mem 0x1F + 255) % 256
 
     abbrev counted : ℕ → Bool → Cpu
-    counted pc z = then_at q mid.a mid.x mid.y mid.n mid.z mid.c mid.v mid.mem mid.flags mid.log pc z
+    counted pc z = then_at q mid.a mid.x mid.y mid.n mid.z mid.c mid.v mid.d mid.i mid.mem mid.flags mid.log pc z
 
     -- of memory the count alone is changed
     past_count : (b : ℕ) → b ≢ 0x1F → laid (page_in mid.mem) (put 0x1F r mid.mem) b ≡ mid.mem b
@@ -186,7 +186,7 @@ module _ (q : ℕ) (q_small : q < 256) (t : Bool) where
     last_left : nat_eq r 0 ≡ true → Left cpu
     last_left none =
         let is = ap (run q 2) (sym mid_is)
-        ∙ last q mid.a mid.x mid.y mid.n mid.z mid.c mid.v mid.mem mid.flags mid.log none in
+        ∙ last q mid.a mid.x mid.y mid.n mid.z mid.c mid.v mid.d mid.i mid.mem mid.flags mid.log none in
         let on = run_more q tick.steps 2 cpu ∙ is in
         record {
           steps = 2 + tick.steps;
@@ -199,7 +199,7 @@ module _ (q : ℕ) (q_small : q < 256) (t : Bool) where
     more_left : nat_eq r 0 ≡ false → Left (counted 0x6862 false) → Left cpu
     more_left some rest =
         let is = ap (run q 2) (sym mid_is)
-        ∙ again q mid.a mid.x mid.y mid.n mid.z mid.c mid.v mid.mem mid.flags mid.log some in
+        ∙ again q mid.a mid.x mid.y mid.n mid.z mid.c mid.v mid.d mid.i mid.mem mid.flags mid.log some in
         let on = run_more q (2 + tick.steps) rest.steps cpu ∙ ap (run q rest.steps) (run_more q tick.steps 2 cpu ∙ is) in
         record {
           steps = rest.steps + (2 + tick.steps);
@@ -243,17 +243,17 @@ ticks_idle_at t cpu enters phase = record {
 }
   where
     from : Cpu
-    from = at 0x6860 cpu.a cpu.x cpu.y cpu.s cpu.n cpu.z cpu.c cpu.v (laid (page_in cpu.mem) cpu.mem) cpu.flags cpu.log
+    from = at 0x6860 cpu.a cpu.x cpu.y cpu.s cpu.n cpu.z cpu.c cpu.v cpu.d cpu.i (laid (page_in cpu.mem) cpu.mem) cpu.flags cpu.log
 
     from_is : from ≡ cpu
     from_is = state_coded cpu 0x6860 cpu.s enters.entry refl enters.loaded.code
 
     next : Cpu
-    next = at 0x6862 cpu.a cpu.x cpu.y cpu.s cpu.n cpu.z cpu.c cpu.v (laid (page_in cpu.mem) (put 0x1F cpu.a cpu.mem))
+    next = at 0x6862 cpu.a cpu.x cpu.y cpu.s cpu.n cpu.z cpu.c cpu.v cpu.d cpu.i (laid (page_in cpu.mem) (put 0x1F cpu.a cpu.mem))
         cpu.flags (Writes 0x1F cpu.a ∷ cpu.log)
 
     stored : run cpu.s 1 from ≡ next
-    stored = ap (λ m. at 0x6862 cpu.a cpu.x cpu.y cpu.s cpu.n cpu.z cpu.c cpu.v m cpu.flags (Writes 0x1F cpu.a ∷ cpu.log))
+    stored = ap (λ m. at 0x6862 cpu.a cpu.x cpu.y cpu.s cpu.n cpu.z cpu.c cpu.v cpu.d cpu.i m cpu.flags (Writes 0x1F cpu.a ∷ cpu.log))
         (put_out 0x1F cpu.a (page_in cpu.mem) cpu.mem refl refl)
 
     past : (b : ℕ) → b ≢ 0x1F → next.mem b ≡ cpu.mem b

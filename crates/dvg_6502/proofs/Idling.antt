@@ -52,10 +52,10 @@ after p q k from is rest = record {
       rest.ends;
 }
 
-module _ (a x y s : ℕ) (n z c v : Bool) (free publish next t0 t1 pages end second f0 f1 : ℕ) (mem flags : ℕ → ℕ)
+module _ (a x y s : ℕ) (n z c v d i : Bool) (free publish next t0 t1 pages end second f0 f1 : ℕ) (mem flags : ℕ → ℕ)
     (log : List Access) where
   abbrev from : ℕ → Cpu
-  from pc = at pc a x y s n z c v (laid (page_of 2 free publish next t0 t1 pages end second f0 f1) mem) flags log
+  from pc = at pc a x y s n z c v d i (laid (page_of 2 free publish next t0 t1 pages end second f0 f1) mem) flags log
 
   same_s : nat_eq s s ≡ true
   same_s = eq-eqb s s refl
@@ -92,15 +92,15 @@ module _ (a x y s : ℕ) (n z c v : Bool) (free publish next t0 t1 pages end sec
 stays_to : (routine : Routine) (cpu : Cpu) → Enters cpu (calls.entry routine) → asks routine ≡ true → cpu.mem 0x10 ≡ 2
     → StaysTo 2 cpu.s cpu
 stays_to (calls.Offer F) cpu enters is idle = subst (StaysTo 2 cpu.s) (phase_is cpu 0x68FE 2 enters.entry idle enters.loaded)
-    (offer_idles cpu.a cpu.x cpu.y cpu.s cpu.n cpu.z cpu.c cpu.v (cpu.mem 0x11) (cpu.mem 0x12) (cpu.mem 0x13)
+    (offer_idles cpu.a cpu.x cpu.y cpu.s cpu.n cpu.z cpu.c cpu.v cpu.d cpu.i (cpu.mem 0x11) (cpu.mem 0x12) (cpu.mem 0x13)
     (cpu.mem 0x14) (cpu.mem 0x15) (cpu.mem 0x16) (cpu.mem 0x17) (cpu.mem 0x18) (cpu.mem 0x19) (cpu.mem 0x1A) cpu.mem
     cpu.flags cpu.log)
 stays_to (calls.Open F) cpu enters is idle = subst (StaysTo 2 cpu.s) (phase_is cpu 0x6924 2 enters.entry idle enters.loaded)
-    (open_idles cpu.a cpu.x cpu.y cpu.s cpu.n cpu.z cpu.c cpu.v (cpu.mem 0x11) (cpu.mem 0x12) (cpu.mem 0x13)
+    (open_idles cpu.a cpu.x cpu.y cpu.s cpu.n cpu.z cpu.c cpu.v cpu.d cpu.i (cpu.mem 0x11) (cpu.mem 0x12) (cpu.mem 0x13)
     (cpu.mem 0x14) (cpu.mem 0x15) (cpu.mem 0x16) (cpu.mem 0x17) (cpu.mem 0x18) (cpu.mem 0x19) (cpu.mem 0x1A) cpu.mem
     cpu.flags cpu.log)
 stays_to calls.Redraw cpu enters is idle = subst (StaysTo 2 cpu.s) (phase_is cpu 0x6943 2 enters.entry idle enters.loaded)
-    (redraw_idles cpu.a cpu.x cpu.y cpu.s cpu.n cpu.z cpu.c cpu.v (cpu.mem 0x11) (cpu.mem 0x12) (cpu.mem 0x13)
+    (redraw_idles cpu.a cpu.x cpu.y cpu.s cpu.n cpu.z cpu.c cpu.v cpu.d cpu.i (cpu.mem 0x11) (cpu.mem 0x12) (cpu.mem 0x13)
     (cpu.mem 0x14) (cpu.mem 0x15) (cpu.mem 0x16) (cpu.mem 0x17) (cpu.mem 0x18) (cpu.mem 0x19) (cpu.mem 0x1A) cpu.mem
     cpu.flags cpu.log)
 stays_to calls.Reset cpu enters is idle = absurd (cc)

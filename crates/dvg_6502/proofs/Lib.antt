@@ -4,6 +4,7 @@ pub mod Masks
 pub mod Memory
 pub mod AmidStep
 pub mod AmidRun
+pub mod Resuming
 pub mod ShortTicks
 pub mod StoredByte
 pub mod FedByte
@@ -33,6 +34,7 @@ pub mod BurstWord
 pub mod DvgRun
 pub mod Vectors
 pub mod MoveVectors
+pub mod FlowVectors
 pub mod ComputeVectors
 pub mod BuiltFrame
 pub mod BuildScript

@@ -226,23 +226,23 @@ out_of_page q low =
 
 -- any state, by its place
 pub state_coded : (cpu : Cpu) (pc s : ℕ) → cpu.pc ≡ pc → cpu.s ≡ s → HasCode cpu.mem
-    → at pc cpu.a cpu.x cpu.y s cpu.n cpu.z cpu.c cpu.v (laid (page_in cpu.mem) cpu.mem) cpu.flags cpu.log ≡ cpu
+    → at pc cpu.a cpu.x cpu.y s cpu.n cpu.z cpu.c cpu.v cpu.d cpu.i (laid (page_in cpu.mem) cpu.mem) cpu.flags cpu.log ≡ cpu
 state_coded cpu pc s at_pc at_s has =
-    ap (λ (m : ℕ → ℕ). at pc cpu.a cpu.x cpu.y s cpu.n cpu.z cpu.c cpu.v m cpu.flags cpu.log) (sym (code_known cpu.mem has))
-    ∙ ap (λ t. at pc cpu.a cpu.x cpu.y t cpu.n cpu.z cpu.c cpu.v cpu.mem cpu.flags cpu.log) (sym at_s)
-    ∙ ap (λ p. at p cpu.a cpu.x cpu.y cpu.s cpu.n cpu.z cpu.c cpu.v cpu.mem cpu.flags cpu.log) (sym at_pc)
+    ap (λ (m : ℕ → ℕ). at pc cpu.a cpu.x cpu.y s cpu.n cpu.z cpu.c cpu.v cpu.d cpu.i m cpu.flags cpu.log) (sym (code_known cpu.mem has))
+    ∙ ap (λ t. at pc cpu.a cpu.x cpu.y t cpu.n cpu.z cpu.c cpu.v cpu.d cpu.i cpu.mem cpu.flags cpu.log) (sym at_s)
+    ∙ ap (λ p. at p cpu.a cpu.x cpu.y cpu.s cpu.n cpu.z cpu.c cpu.v cpu.d cpu.i cpu.mem cpu.flags cpu.log) (sym at_pc)
 
 pub state_is : (cpu : Cpu) (pc s : ℕ) → cpu.pc ≡ pc → cpu.s ≡ s → IsLoaded cpu.mem
-    → at pc cpu.a cpu.x cpu.y s cpu.n cpu.z cpu.c cpu.v (laid (page_in cpu.mem) cpu.mem) cpu.flags cpu.log ≡ cpu
+    → at pc cpu.a cpu.x cpu.y s cpu.n cpu.z cpu.c cpu.v cpu.d cpu.i (laid (page_in cpu.mem) cpu.mem) cpu.flags cpu.log ≡ cpu
 state_is cpu pc s at_pc at_s load = state_coded cpu pc s at_pc at_s load.code
 
 -- the same, of a known phase
 pub phase_is : (cpu : Cpu) (pc phase : ℕ) → cpu.pc ≡ pc → cpu.mem 0x10 ≡ phase → IsLoaded cpu.mem
-    → at pc cpu.a cpu.x cpu.y cpu.s cpu.n cpu.z cpu.c cpu.v
+    → at pc cpu.a cpu.x cpu.y cpu.s cpu.n cpu.z cpu.c cpu.v cpu.d cpu.i
     (laid (page_of phase (cpu.mem 0x11) (cpu.mem 0x12) (cpu.mem 0x13) (cpu.mem 0x14) (cpu.mem 0x15) (cpu.mem 0x16)
     (cpu.mem 0x17) (cpu.mem 0x18) (cpu.mem 0x19) (cpu.mem 0x1A)) cpu.mem) cpu.flags cpu.log ≡ cpu
 phase_is cpu pc phase at_pc is load =
-    ap (λ p. at pc cpu.a cpu.x cpu.y cpu.s cpu.n cpu.z cpu.c cpu.v
+    ap (λ p. at pc cpu.a cpu.x cpu.y cpu.s cpu.n cpu.z cpu.c cpu.v cpu.d cpu.i
     (laid (page_of p (cpu.mem 0x11) (cpu.mem 0x12) (cpu.mem 0x13) (cpu.mem 0x14) (cpu.mem 0x15) (cpu.mem 0x16)
     (cpu.mem 0x17) (cpu.mem 0x18) (cpu.mem 0x19) (cpu.mem 0x1A)) cpu.mem) cpu.flags cpu.log) (sym is)
     ∙ state_is cpu pc cpu.s at_pc refl load

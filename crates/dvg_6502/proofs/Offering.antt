@@ -54,14 +54,14 @@ answers tables from c page mem begin stop new held no_log bytes small comes hold
 
 -- a state, with its memory as page, code and the rest
 abbrev from_of : Cpu → ℕ → Cpu
-from_of cpu entry = at entry cpu.a cpu.x cpu.y cpu.s cpu.n cpu.z cpu.c cpu.v
+from_of cpu entry = at entry cpu.a cpu.x cpu.y cpu.s cpu.n cpu.z cpu.c cpu.v cpu.d cpu.i
     (laid (page_in cpu.mem) cpu.mem) cpu.flags cpu.log
 
 from_is : (cpu : Cpu) (entry : ℕ) → cpu.pc ≡ entry → IsLoaded cpu.mem → from_of cpu entry ≡ cpu
 from_is cpu entry at_entry load =
-    ap (λ (m : ℕ → ℕ). at entry cpu.a cpu.x cpu.y cpu.s cpu.n cpu.z cpu.c cpu.v m cpu.flags cpu.log)
+    ap (λ (m : ℕ → ℕ). at entry cpu.a cpu.x cpu.y cpu.s cpu.n cpu.z cpu.c cpu.v cpu.d cpu.i m cpu.flags cpu.log)
     (sym (known cpu.mem load))
-    ∙ ap (λ p. at p cpu.a cpu.x cpu.y cpu.s cpu.n cpu.z cpu.c cpu.v cpu.mem cpu.flags cpu.log) (sym at_entry)
+    ∙ ap (λ p. at p cpu.a cpu.x cpu.y cpu.s cpu.n cpu.z cpu.c cpu.v cpu.d cpu.i cpu.mem cpu.flags cpu.log) (sym at_entry)
 
 -- a driver that doesn't rest isn't idle
 pub not_idle : (mem : ℕ → ℕ) (begin stop : ℕ) (place : Place) (half : Half) (flipped : Bool)
@@ -79,7 +79,7 @@ not_idle mem begin stop (Writing writes) half flipped holds busy = by holds.1
 not_idle mem begin stop (Waiting first) half flipped holds busy = ap (λ p. nat_eq p 2) holds.0
 not_idle mem begin stop (Sending first) half flipped holds busy = ap (λ p. nat_eq p 2) holds.0
 
-module _ (tables : ℕ → Bool) (a x y s : ℕ) (n z c v : Bool) (mem flags : ℕ → ℕ) (load : IsLoaded mem)
+module _ (tables : ℕ → Bool) (a x y s : ℕ) (n z c v d i : Bool) (mem flags : ℕ → ℕ) (load : IsLoaded mem)
     (begin stop : ℕ) where
   abbrev page : ℕ → ℕ → ℕ → List ℕ
   page phase free publish = page_of phase free publish (mem 0x13) (mem 0x14) (mem 0x15) (mem 0x16) (mem 0x17)
@@ -90,13 +90,13 @@ module _ (tables : ℕ → Bool) (a x y s : ℕ) (n z c v : Bool) (mem flags : �
       (load.bytes 0x16) (load.bytes 0x17) (load.bytes 0x18) (load.bytes 0x19) (load.bytes 0x1A)
 
   abbrev from : ℕ → Cpu
-  from entry = at entry a x y s n z c v (laid (page_in mem) mem) flags []
+  from entry = at entry a x y s n z c v d i (laid (page_in mem) mem) flags []
 
   resets : (half : Half) → Steadily tables (from 0x6800) c begin stop (record { place = Start; half = half; flipped = false })
   resets half = answers tables (from 0x6800) c (page 0 (mem 0x11) 3) mem begin stop
       (record { place = Start; half = half; flipped = false }) refl refl load.bytes
       (small 0 (mem 0x11) 3 (omega arith) (load.bytes 0x11) (omega arith))
-      (reset s a x y s n z c v (mem 0x11) (mem 0x13) (mem 0x14) (mem 0x15) (mem 0x16) (mem 0x17) (mem 0x18) (mem 0x19)
+      (reset s a x y s n z c v d i (mem 0x11) (mem 0x13) (mem 0x14) (mem 0x15) (mem 0x16) (mem 0x17) (mem 0x18) (mem 0x19)
       (mem 0x1A) mem flags [] (mem 0x10) (mem 0x12))
       (record { flipped = refl; place = (refl, refl) })
       (λ b own. same_out (page 0 (mem 0x11) 3) (page_in mem) mem b own)
@@ -114,7 +114,7 @@ module _ (tables : ℕ → Bool) (a x y s : ℕ) (n z c v : Bool) (mem flags : �
       → Steadily tables (from 0x68FE) true begin stop stage
   offer_busy stage holds busy =
       answers tables (from 0x68FE) true (page_in mem) mem begin stop stage refl refl load.bytes whole_small
-      (offer_refuses s a x y s n z c v (mem 0x11) (mem 0x13) (mem 0x14) (mem 0x15) (mem 0x16) (mem 0x17) (mem 0x18)
+      (offer_refuses s a x y s n z c v d i (mem 0x11) (mem 0x13) (mem 0x14) (mem 0x15) (mem 0x16) (mem 0x17) (mem 0x18)
       (mem 0x19) (mem 0x1A) mem flags [] (mem 0x10) (mem 0x12) (load.bytes 0x10)
       (not_idle mem begin stop stage.place stage.half stage.flipped holds.place busy))
       (holds_here stage holds) (λ b own. refl)
@@ -125,7 +125,7 @@ module _ (tables : ℕ → Bool) (a x y s : ℕ) (n z c v : Bool) (mem flags : �
     where
       with_both : ℕ → ℕ → Type 0
       with_both phase publish =
-          Comes s (at 0x6943 a x y s n z c v (laid (page phase (mem 0x11) publish) mem) flags []) s true
+          Comes s (at 0x6943 a x y s n z c v d i (laid (page phase (mem 0x11) publish) mem) flags []) s true
           (laid (page phase (mem 0x11) publish) mem) [] []
 
       ends : Comes s (from 0x6943) s true (laid (page_in mem) mem) [] [] → Steadily tables (from 0x6943) true begin stop stage
@@ -138,12 +138,12 @@ module _ (tables : ℕ → Bool) (a x y s : ℕ) (n z c v : Bool) (mem flags : �
           let f = sym (ap (λ p. nat_eq p 2) idle) ∙ e in cc)
       rests idle false is = ends (subst (λ p. with_both p (mem 0x12)) (sym idle)
           (subst (with_both 2) (sym (holds.flipped ∙ ap publish_byte is))
-          (redraw_first s a x y s n z c v (mem 0x11) (mem 0x13) (mem 0x14) (mem 0x15) (mem 0x16) (mem 0x17) (mem 0x18)
+          (redraw_first s a x y s n z c v d i (mem 0x11) (mem 0x13) (mem 0x14) (mem 0x15) (mem 0x16) (mem 0x17) (mem 0x18)
           (mem 0x19) (mem 0x1A) mem flags [])))
 
       by : (t : Bool) → nat_eq (mem 0x10) 2 ≡ t → Steadily tables (from 0x6943) true begin stop stage
       by true is = rests (eqb-true (mem 0x10) 2 is) stage.flipped refl
-      by false is = ends (redraw_refuses s a x y s n z c v (mem 0x11) (mem 0x13) (mem 0x14) (mem 0x15) (mem 0x16)
+      by false is = ends (redraw_refuses s a x y s n z c v d i (mem 0x11) (mem 0x13) (mem 0x14) (mem 0x15) (mem 0x16)
           (mem 0x17) (mem 0x18) (mem 0x19) (mem 0x1A) mem flags [] (mem 0x10) (mem 0x12) (load.bytes 0x10) is)
 
   redraw_rests : (half : Half) (first : Bool)
@@ -152,11 +152,11 @@ module _ (tables : ℕ → Bool) (a x y s : ℕ) (n z c v : Bool) (mem flags : �
   redraw_rests half first holds = answers tables (from 0x6943) false (page 5 (mem 0x11) 4) mem begin stop
       (record { place = Waiting first; half = half; flipped = true }) refl refl load.bytes
       (small 5 (mem 0x11) 4 (omega arith) (load.bytes 0x11) (omega arith))
-      (subst (λ p. Comes s (at 0x6943 a x y s n z c v (laid (page p (mem 0x11) (mem 0x12)) mem) flags []) s false
+      (subst (λ p. Comes s (at 0x6943 a x y s n z c v d i (laid (page p (mem 0x11) (mem 0x12)) mem) flags []) s false
       (laid (page 5 (mem 0x11) 4) mem) [] []) (sym holds.place.0)
-      (subst (λ p. Comes s (at 0x6943 a x y s n z c v (laid (page 2 (mem 0x11) p) mem) flags []) s false
+      (subst (λ p. Comes s (at 0x6943 a x y s n z c v d i (laid (page 2 (mem 0x11) p) mem) flags []) s false
       (laid (page 5 (mem 0x11) 4) mem) [] []) (sym holds.flipped)
-      (redraw_takes s a x y s n z c v (mem 0x11) (mem 0x13) (mem 0x14) (mem 0x15) (mem 0x16) (mem 0x17) (mem 0x18)
+      (redraw_takes s a x y s n z c v d i (mem 0x11) (mem 0x13) (mem 0x14) (mem 0x15) (mem 0x16) (mem 0x17) (mem 0x18)
       (mem 0x19) (mem 0x1A) mem flags [])))
       (record { flipped = refl; place = (refl, holds.place.1, holds.place.2) })
       (λ b own. same_out (page 5 (mem 0x11) 4) (page_in mem) mem b own)
@@ -180,7 +180,7 @@ counted wl wh len e2 false true low fits is e test none = let less = leb-false 1
 counted wl wh len e2 false false low fits is e test none = let less = leb-false 128 wl test in
     let some : e2 ≢ 0 = eqb-false e2 0 none in omega (arith, some)
 
-module _ (tables : ℕ → Bool) (a x y s : ℕ) (n z c v : Bool) (mem flags : ℕ → ℕ) (load : IsLoaded mem)
+module _ (tables : ℕ → Bool) (a x y s : ℕ) (n z c v d i : Bool) (mem flags : ℕ → ℕ) (load : IsLoaded mem)
     (a_small : a < 256)
     (x_small : x < 256)
     (half : Half) (set : Bool) (F : List OpKind) (h : Bool) (free_is : free_of h ≡ high (other half))
@@ -233,8 +233,8 @@ module _ (tables : ℕ → Bool) (a x y s : ℕ) (n z c v : Bool) (mem flags : �
   abbrev heads : List ℕ
   heads = ((a + 256 * x + 0) % 65536) ∷ ((a + 256 * x + 1) % 65536) ∷ []
 
-  comes : Comes s (at 0x68FE a x y s n z c v (laid begun mem) flags []) s false (laid final mem) [] heads
-  comes = offer_takes s a x y s n z c v (mem 0x12) (mem 0x13) (mem 0x14) (mem 0x15) (mem 0x16) (mem 0x17) (mem 0x18)
+  comes : Comes s (at 0x68FE a x y s n z c v d i (laid begun mem) flags []) s false (laid final mem) [] heads
+  comes = offer_takes s a x y s n z c v d i (mem 0x12) (mem 0x13) (mem 0x14) (mem 0x15) (mem 0x16) (mem 0x17) (mem 0x18)
       (mem 0x19) (mem 0x1A) mem flags [] h wl wh
       (λ page. ap (laid page mem) low_is ∙ reads page t table.low)
       (λ page. let low : 0x200 ≤ t + 1 = omega (arith, table.low) in ap (laid page mem) high_place_is
@@ -277,24 +277,24 @@ module _ (tables : ℕ → Bool) (a x y s : ℕ) (n z c v : Bool) (mem flags : �
   small_final = small_page (omega arith) f_small (load.bytes 0x12) (omega arith) (omega arith) h_small
       (p2_small (nat_eq e2 0)) (omega arith) (omega arith) a_small x_small
 
-  offers : (from : Cpu) → from ≡ at 0x68FE a x y s n z c v (laid begun mem) flags []
+  offers : (from : Cpu) → from ≡ at 0x68FE a x y s n z c v d i (laid begun mem) flags []
       → ((b : ℕ) → is_own b ≡ false → laid begun mem b ≡ from.mem b)
-      → Steadily tables (at 0x68FE a x y s n z c v (laid begun mem) flags []) false (t + 2) (t + 2 + len)
+      → Steadily tables (at 0x68FE a x y s n z c v d i (laid begun mem) flags []) false (t + 2) (t + 2 + len)
       (record { place = Writing (frame_writes (other half) F (not set)); half = half; flipped = set })
-  offers from is kept = answers tables (at 0x68FE a x y s n z c v (laid begun mem) flags []) false final mem (t + 2)
+  offers from is kept = answers tables (at 0x68FE a x y s n z c v d i (laid begun mem) flags []) false final mem (t + 2)
       (t + 2 + len)
       (record { place = Writing (frame_writes (other half) F (not set)); half = half; flipped = set }) held refl load.bytes
       small_final comes
       (table_begins (laid final mem) (t + 2) half set F clear begins)
       (λ b own. same_out final begun mem b own)
 
-module _ (tables : ℕ → Bool) (a x y s : ℕ) (n z c v : Bool) (mem flags : ℕ → ℕ) (load : IsLoaded mem)
+module _ (tables : ℕ → Bool) (a x y s : ℕ) (n z c v d i : Bool) (mem flags : ℕ → ℕ) (load : IsLoaded mem)
     (a_small : a < 256)
     (x_small : x < 256) (set : Bool) (F : List OpKind)
     (covers : all_in tables ((a + 256 * x) ∷ (a + 256 * x + 1) ∷ []) ≡ true) where
   abbrev with_phase : ℕ → ℕ → Cpu
   with_phase phase free =
-      at 0x68FE a x y s n z c v
+      at 0x68FE a x y s n z c v d i
       (laid (page_of phase free (mem 0x12) (mem 0x13) (mem 0x14) (mem 0x15) (mem 0x16) (mem 0x17) (mem 0x18)
       (mem 0x19) (mem 0x1A)) mem) flags []
 
@@ -306,20 +306,20 @@ module _ (tables : ℕ → Bool) (a x y s : ℕ) (n z c v : Bool) (mem flags : �
       → HasTable mem (a + 256 * x) F → Goal half (with_phase (mem 0x10) (mem 0x11))
   offer_rests H0 phase free clear table = subst (λ p. Goal H0 (with_phase p (mem 0x11))) (sym phase)
       (subst (λ f. Goal H0 (with_phase 2 f)) (sym free)
-      (offers tables a x y s n z c v mem flags load a_small x_small H0 set F true refl refl (omega arith)
+      (offers tables a x y s n z c v d i mem flags load a_small x_small H0 set F true refl refl (omega arith)
       (omega arith) clear table covers (with_phase 2 0xE2) refl (λ b own. refl)))
   offer_rests H1 phase free clear table = subst (λ p. Goal H1 (with_phase p (mem 0x11))) (sym phase)
       (subst (λ f. Goal H1 (with_phase 2 f)) (sym free)
-      (offers tables a x y s n z c v mem flags load a_small x_small H1 set F false refl refl (omega arith)
+      (offers tables a x y s n z c v d i mem flags load a_small x_small H1 set F false refl refl (omega arith)
       (omega arith) clear table covers (with_phase 2 0xE0) refl (λ b own. refl)))
 
 -- from any state at an entry
 module _ (cpu : Cpu) (entry : ℕ) (enters : Enters cpu entry) where
   abbrev here : Cpu
-  here = at entry cpu.a cpu.x cpu.y cpu.s cpu.n cpu.z cpu.c cpu.v (laid (page_in cpu.mem) cpu.mem) cpu.flags []
+  here = at entry cpu.a cpu.x cpu.y cpu.s cpu.n cpu.z cpu.c cpu.v cpu.d cpu.i (laid (page_in cpu.mem) cpu.mem) cpu.flags []
 
   here_is : here ≡ cpu
-  here_is = ap (λ l. at entry cpu.a cpu.x cpu.y cpu.s cpu.n cpu.z cpu.c cpu.v
+  here_is = ap (λ l. at entry cpu.a cpu.x cpu.y cpu.s cpu.n cpu.z cpu.c cpu.v cpu.d cpu.i
       (laid (page_in cpu.mem) cpu.mem) cpu.flags l) (sym enters.log) ∙ from_is cpu entry enters.entry enters.loaded
 
 pub resets_steadily : (tables : ℕ → Bool) (cpu : Cpu) (begin stop : ℕ) (half : Half) → Enters cpu 0x6800
@@ -327,7 +327,7 @@ pub resets_steadily : (tables : ℕ → Bool) (cpu : Cpu) (begin stop : ℕ) (ha
 resets_steadily tables cpu begin stop half enters =
     subst (λ (k : Cpu). Steadily tables k cpu.c begin stop (record { place = Start; half = half; flipped = false }))
     (here_is cpu 0x6800 enters)
-    (resets tables cpu.a cpu.x cpu.y cpu.s cpu.n cpu.z cpu.c cpu.v cpu.mem cpu.flags enters.loaded begin stop half)
+    (resets tables cpu.a cpu.x cpu.y cpu.s cpu.n cpu.z cpu.c cpu.v cpu.d cpu.i cpu.mem cpu.flags enters.loaded begin stop half)
 
 pub reset_refines : ResetRefines
 reset_refines cpu begin stop half enters = (resets_steadily (λ b. false) cpu begin stop half enters).did
@@ -336,7 +336,7 @@ pub refuses_steadily : (tables : ℕ → Bool) (cpu : Cpu) (begin stop : ℕ) (s
     → Holds cpu.mem begin stop stage → IsBusy stage.place → Steadily tables cpu true begin stop stage
 refuses_steadily tables cpu begin stop stage enters holds busy =
     subst (λ (k : Cpu). Steadily tables k true begin stop stage) (here_is cpu 0x68FE enters)
-    (offer_busy tables cpu.a cpu.x cpu.y cpu.s cpu.n cpu.z cpu.c cpu.v cpu.mem cpu.flags enters.loaded begin stop stage
+    (offer_busy tables cpu.a cpu.x cpu.y cpu.s cpu.n cpu.z cpu.c cpu.v cpu.d cpu.i cpu.mem cpu.flags enters.loaded begin stop stage
     holds busy)
 
 pub offer_is_refused : OfferRefuses
@@ -348,7 +348,7 @@ pub redraw_refuses_steadily : (tables : ℕ → Bool) (cpu : Cpu) (begin stop : 
     → Steadily tables cpu true begin stop stage
 redraw_refuses_steadily tables cpu begin stop stage enters holds busy =
     subst (λ (k : Cpu). Steadily tables k true begin stop stage) (here_is cpu 0x6943 enters)
-    (redraw_busy tables cpu.a cpu.x cpu.y cpu.s cpu.n cpu.z cpu.c cpu.v cpu.mem cpu.flags enters.loaded begin stop
+    (redraw_busy tables cpu.a cpu.x cpu.y cpu.s cpu.n cpu.z cpu.c cpu.v cpu.d cpu.i cpu.mem cpu.flags enters.loaded begin stop
     stage holds busy)
 
 pub redraw_is_refused : RedrawRefuses
@@ -361,7 +361,7 @@ pub redraw_takes_steadily : (tables : ℕ → Bool) (cpu : Cpu) (begin stop : �
 redraw_takes_steadily tables cpu begin stop half first enters holds =
     subst (λ (k : Cpu). Steadily tables k false begin stop
     (record { place = Waiting first; half = half; flipped = true })) (here_is cpu 0x6943 enters)
-    (redraw_rests tables cpu.a cpu.x cpu.y cpu.s cpu.n cpu.z cpu.c cpu.v cpu.mem cpu.flags enters.loaded begin stop
+    (redraw_rests tables cpu.a cpu.x cpu.y cpu.s cpu.n cpu.z cpu.c cpu.v cpu.d cpu.i cpu.mem cpu.flags enters.loaded begin stop
     half first holds)
 
 pub redraw_is_taken : RedrawTakes
@@ -380,7 +380,7 @@ takes_steadily tables cpu begin stop half set first F covers enters holds table 
     (cpu.a + 256 * cpu.x + 2 + length (table_of F))
     (record { place = Writing (frame_writes (other half) F (not set)); half = half; flipped = set }))
     (here_is cpu 0x68FE enters)
-    (offer_rests tables cpu.a cpu.x cpu.y cpu.s cpu.n cpu.z cpu.c cpu.v cpu.mem cpu.flags enters.loaded enters.a
+    (offer_rests tables cpu.a cpu.x cpu.y cpu.s cpu.n cpu.z cpu.c cpu.v cpu.d cpu.i cpu.mem cpu.flags enters.loaded enters.a
     enters.x set F covers half holds.place.0 holds.place.1 holds.flipped table)
 
 pub offer_is_taken : OfferTakes

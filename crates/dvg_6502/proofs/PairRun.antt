@@ -18,7 +18,7 @@ pub record Place (to : ℕ) : Type 0 where
   pub near : (b : ℕ) → b < 0x100 → nat_eq b to ≡ false
 
 -- the second word, from 69A5 on; old is the place in memory, and y the one in the register
-module _ (q x s : ℕ) (v : Bool) (free publish old next t0 t1 pages end second f0 f1 : ℕ) (mem flags : ℕ → ℕ) where
+module _ (q x s : ℕ) (v d i : Bool) (free publish old next t0 t1 pages end second f0 f1 : ℕ) (mem flags : ℕ → ℕ) where
   abbrev odd : ℕ
   odd = (next + 1) % 256
 
@@ -39,19 +39,19 @@ module _ (q x s : ℕ) (v : Bool) (free publish old next t0 t1 pages end second 
 
   last_word : (a : ℕ) (n z : Bool) (log : List Access) (b0 b1 : ℕ) → mem 0x1D ≡ b0 → mem 0x1E ≡ b1
       → Place to0 → Place to1 → (wrap : Bool) → nat_eq up 0 ≡ wrap
-      → Comes q (at 0x69AB a x next s n z false v (laid (here old) mem) flags log) s false
+      → Comes q (at 0x69AB a x next s n z false v d i (laid (here old) mem) flags log) s false
       (laid (moved wrap) (put to1 b1 (put to0 b0 mem))) (Writes to1 b1 ∷ Writes to0 b0 ∷ seen log) []
   last_word a n z log b0 b1 is0 is1 place0 place1 wrap wraps =
       by q 1 _ (told0 b0) s false _ _ (ap told0 is0) (λ tables is. refl)
-      (by q 1 _ (at 0x69AF b0 x next s (nat_le 128 b0) (nat_eq b0 0) false v (laid (here old) (put to0 b0 mem)) flags log2)
-      s false _ _ (ap (λ m. at 0x69AF b0 x next s (nat_le 128 b0) (nat_eq b0 0) false v m flags log2)
+      (by q 1 _ (at 0x69AF b0 x next s (nat_le 128 b0) (nat_eq b0 0) false v d i (laid (here old) (put to0 b0 mem)) flags log2)
+      s false _ _ (ap (λ m. at 0x69AF b0 x next s (nat_le 128 b0) (nat_eq b0 0) false v d i m flags log2)
       (put_out to0 b0 (here old) mem place0.page place0.code)) (λ tables is. refl)
       (by q 2 _ (told1 b1) s false _ _ (ap (λ (t : Bool). told1 (if t then b0 else mem 0x1E)) (place0.near 0x1E (omega arith))
       ∙ ap told1 is1) (λ tables is. refl)
-      (by q 1 _ (at 0x69B4 b1 x odd s (nat_le 128 b1) (nat_eq b1 0) false v (laid (here old) new) flags log4)
-      s false _ _ (ap (λ m. at 0x69B4 b1 x odd s (nat_le 128 b1) (nat_eq b1 0) false v m flags log4)
+      (by q 1 _ (at 0x69B4 b1 x odd s (nat_le 128 b1) (nat_eq b1 0) false v d i (laid (here old) new) flags log4)
+      s false _ _ (ap (λ m. at 0x69B4 b1 x odd s (nat_le 128 b1) (nat_eq b1 0) false v d i m flags log4)
       (put_out to1 b1 (here old) (put to0 b0 mem) place1.page place1.code)) (λ tables is. refl)
-      (by q 2 _ (told2 wrap) s false _ _ (ap (λ m. at 0x69B7 b1 x up s (nat_le 128 up) (nat_eq up 0) false v m flags log5)
+      (by q 2 _ (told2 wrap) s false _ _ (ap (λ m. at 0x69B7 b1 x up s (nat_le 128 up) (nat_eq up 0) false v d i m flags log5)
       (put_page 3 up (here old) new (omega arith) refl) ∙ ap told2 wraps) (λ tables is. refl)
       (subst (λ es. Comes q (told2 wrap) s false (laid (moved wrap) new) es []) shown (rest wrap))))))
     where
@@ -74,14 +74,14 @@ module _ (q x s : ℕ) (v : Bool) (free publish old next t0 t1 pages end second 
       log5 = Writes 0x13 up ∷ log4
 
       told0 : ℕ → Cpu
-      told0 b = at 0x69AD b x next s (nat_le 128 b) (nat_eq b 0) false v (laid (here old) mem) flags (Reads 0x1D b ∷ log)
+      told0 b = at 0x69AD b x next s (nat_le 128 b) (nat_eq b 0) false v d i (laid (here old) mem) flags (Reads 0x1D b ∷ log)
 
       told1 : ℕ → Cpu
-      told1 b = at 0x69B2 b x odd s (nat_le 128 b) (nat_eq b 0) false v (laid (here old) (put to0 b0 mem)) flags
+      told1 b = at 0x69B2 b x odd s (nat_le 128 b) (nat_eq b 0) false v d i (laid (here old) (put to0 b0 mem)) flags
           (Reads 0x1E b ∷ log2)
 
       told2 : Bool → Cpu
-      told2 wrap = at 0x69B7 b1 x up s (nat_le 128 up) wrap false v (laid (here up) new) flags log5
+      told2 wrap = at 0x69B7 b1 x up s (nat_le 128 up) wrap false v d i (laid (here up) new) flags log5
 
       shown : seen log5 ≡ Writes to1 b1 ∷ Writes to0 b0 ∷ seen log
       shown = ap (λ (t : Bool). if t then Writes to1 b1 ∷ seen log3 else seen log3) place1.high
@@ -95,7 +95,7 @@ module _ (q x s : ℕ) (v : Bool) (free publish old next t0 t1 pages end second 
           (omega arith) refl)
 
 -- the first word, from 6995 on
-module _ (q x s : ℕ) (v : Bool) (free publish next t0 t1 pages end second f0 f1 : ℕ) (mem flags : ℕ → ℕ) where
+module _ (q x s : ℕ) (v d i : Bool) (free publish next t0 t1 pages end second f0 f1 : ℕ) (mem flags : ℕ → ℕ) where
   abbrev odd' : ℕ
   odd' = (next + 1) % 256
 
@@ -140,17 +140,17 @@ module _ (q x s : ℕ) (v : Bool) (free publish next t0 t1 pages end second f0 f
       (wrap over : Bool) (wraps : nat_eq mid 0 ≡ wrap) (overs : nat_eq done 0 ≡ over)
       (place0 : Place at0) (place1 : Place at1) (place2 : Place (at2 wrap)) (place3 : Place (at3 wrap)) where
     words : (a : ℕ) (n z : Bool) (log : List Access)
-        → Comes q (at 0x699B a x next s n z false v (laid page mem) flags log) s false
+        → Comes q (at 0x699B a x next s n z false v d i (laid page mem) flags log) s false
         (laid (paired wrap over) (news wrap b0 b1 b2 b3)) (wrote4 wrap b0 b1 b2 b3 log) []
     words a n z log =
         by q 1 _ (told0 b0) s false _ _ (ap told0 is0) (λ tables is. refl)
-        (by q 1 _ (at 0x699F b0 x next s (nat_le 128 b0) (nat_eq b0 0) false v (laid page (put at0 b0 mem)) flags log2)
-        s false _ _ (ap (λ m. at 0x699F b0 x next s (nat_le 128 b0) (nat_eq b0 0) false v m flags log2)
+        (by q 1 _ (at 0x699F b0 x next s (nat_le 128 b0) (nat_eq b0 0) false v d i (laid page (put at0 b0 mem)) flags log2)
+        s false _ _ (ap (λ m. at 0x699F b0 x next s (nat_le 128 b0) (nat_eq b0 0) false v d i m flags log2)
         (put_out at0 b0 page mem place0.page place0.code)) (λ tables is. refl)
         (by q 2 _ (told1 b1) s false _ _ (ap (λ (t : Bool). told1 (if t then b0 else mem 0x1C)) (place0.near 0x1C (omega arith))
         ∙ ap told1 is1) (λ tables is. refl)
-        (by q 1 _ (at 0x69A4 b1 x odd' s (nat_le 128 b1) (nat_eq b1 0) false v (laid page new) flags log4)
-        s false _ _ (ap (λ m. at 0x69A4 b1 x odd' s (nat_le 128 b1) (nat_eq b1 0) false v m flags log4)
+        (by q 1 _ (at 0x69A4 b1 x odd' s (nat_le 128 b1) (nat_eq b1 0) false v d i (laid page new) flags log4)
+        s false _ _ (ap (λ m. at 0x69A4 b1 x odd' s (nat_le 128 b1) (nat_eq b1 0) false v d i m flags log4)
         (put_out at1 b1 page (put at0 b0 mem) place1.page place1.code)) (λ tables is. refl)
         (by q 1 _ (told2 wrap) s false _ _ (ap told2 wraps) (λ tables is. refl)
         (subst (λ es. Comes q (told2 wrap) s false (laid (paired wrap over) (news wrap b0 b1 b2 b3))
@@ -172,14 +172,14 @@ module _ (q x s : ℕ) (v : Bool) (free publish next t0 t1 pages end second f0 f
         log4 = Writes at1 b1 ∷ log3
 
         told0 : ℕ → Cpu
-        told0 b = at 0x699D b x next s (nat_le 128 b) (nat_eq b 0) false v (laid page mem) flags (Reads 0x1B b ∷ log)
+        told0 b = at 0x699D b x next s (nat_le 128 b) (nat_eq b 0) false v d i (laid page mem) flags (Reads 0x1B b ∷ log)
 
         told1 : ℕ → Cpu
-        told1 b = at 0x69A2 b x odd' s (nat_le 128 b) (nat_eq b 0) false v (laid page (put at0 b0 mem)) flags
+        told1 b = at 0x69A2 b x odd' s (nat_le 128 b) (nat_eq b 0) false v d i (laid page (put at0 b0 mem)) flags
             (Reads 0x1C b ∷ log2)
 
         told2 : Bool → Cpu
-        told2 wrap = at 0x69A5 b1 x mid s (nat_le 128 mid) wrap false v (laid page new) flags log4
+        told2 wrap = at 0x69A5 b1 x mid s (nat_le 128 mid) wrap false v d i (laid page new) flags log4
 
         shown : seen log4 ≡ Writes at1 b1 ∷ Writes at0 b0 ∷ seen log
         shown = ap (λ (t : Bool). if t then Writes at1 b1 ∷ seen log3 else seen log3) place1.high
@@ -192,21 +192,21 @@ module _ (q x s : ℕ) (v : Bool) (free publish next t0 t1 pages end second f0 f
         rest : (w : Bool) → Place (at2 w) → Place (at3 w)
             → Comes q (told2 w) s false (laid (paired w over) (news w b0 b1 b2 b3))
             (Writes (at3 w) b3 ∷ Writes (at2 w) b2 ∷ seen log4) []
-        rest false p2 p3 = by q 1 _ (at 0x69AB b1 x mid s (nat_le 128 mid) false false v (laid page new) flags log4)
+        rest false p2 p3 = by q 1 _ (at 0x69AB b1 x mid s (nat_le 128 mid) false false v d i (laid page new) flags log4)
             s false _ _ refl (λ tables is. refl)
-            (last_word q x s v free publish next mid t0 t1 pages end second f0 f1 new flags b1 (nat_le 128 mid) false log4
+            (last_word q x s v d i free publish next mid t0 t1 pages end second f0 f1 new flags b1 (nat_le 128 mid) false log4
             b2 b3 (later 0x1D b2 (omega arith) is2) (later 0x1E b3 (omega arith) is3) p2 p3 over overs)
         rest true p2 p3 =
             let t = (t1 + 1) % 256 in
             let p = (pages + 1) % 256 in
             let log' : List Access = Writes 0x16 p ∷ Reads 0x16 pages ∷ Writes 0x15 t ∷ Reads 0x15 t1 ∷ log4 in
-            by q 3 _ (at 0x69AB b1 x mid s (nat_le 128 p) (nat_eq p 0) false v
+            by q 3 _ (at 0x69AB b1 x mid s (nat_le 128 p) (nat_eq p 0) false v d i
             (laid (page_of 7 free publish next t0 t p end second f0 f1) new) flags log') s false _ _
-            (ap (λ m. at 0x69AB b1 x mid s (nat_le 128 p) (nat_eq p 0) false v m flags log')
+            (ap (λ m. at 0x69AB b1 x mid s (nat_le 128 p) (nat_eq p 0) false v d i m flags log')
             (ap (put 0x16 p) (put_page 5 t page new (omega arith) refl)
             ∙ put_page 6 p (page_of 7 free publish next t0 t pages end second f0 f1) new (omega arith) refl))
             (λ tables is. refl)
-            (last_word q x s v free publish next mid t0 t p end second f0 f1 new flags b1 (nat_le 128 p) (nat_eq p 0) log'
+            (last_word q x s v d i free publish next mid t0 t p end second f0 f1 new flags b1 (nat_le 128 p) (nat_eq p 0) log'
             b2 b3 (later 0x1D b2 (omega arith) is2) (later 0x1E b3 (omega arith) is3) p2 p3 over overs)
 
     abbrev log3' : List Access → List Access
@@ -214,51 +214,51 @@ module _ (q x s : ℕ) (v : Bool) (free publish next t0 t1 pages end second f0 f
 
     pub pair_room : (a y : ℕ) (n z c : Bool) (log : List Access) (last late : Bool) → nat_le 3 pages ≡ last
         → nat_le 0xFC next ≡ late → is_full last late ≡ false
-        → Comes q (at 0x6989 a x y s n z c v (laid page mem) flags log) s false
+        → Comes q (at 0x6989 a x y s n z c v d i (laid page mem) flags log) s false
         (laid (paired wrap over) (news wrap b0 b1 b2 b3)) (wrote4 wrap b0 b1 b2 b3 log) []
     pair_room a y n z c log last late is also room =
         by q 6 _ (told_page last) s false _ _ (ap told_page is) (λ tables is. refl) (rest last late also room)
       where
         told_page : Bool → Cpu
-        told_page last = at 0x6995 a x next s (nat_le 128 next) (nat_eq next 0) last v (laid page mem) flags (log3' log)
+        told_page last = at 0x6995 a x next s (nat_le 128 next) (nat_eq next 0) last v d i (laid page mem) flags (log3' log)
 
         told_place : Bool → Cpu
         told_place late = at 0x6999 a x next s (nat_le 128 ((next + 256 - 0xFC) % 256))
-            (nat_eq ((next + 256 - 0xFC) % 256) 0) late v (laid page mem) flags (log3' log)
+            (nat_eq ((next + 256 - 0xFC) % 256) 0) late v d i (laid page mem) flags (log3' log)
 
         rest : (last late : Bool) → nat_le 0xFC next ≡ late → is_full last late ≡ false
             → Comes q (told_page last) s false (laid (paired wrap over) (news wrap b0 b1 b2 b3))
             (wrote4 wrap b0 b1 b2 b3 log) []
-        rest false late also room = by q 1 _ (at 0x699B a x next s (nat_le 128 next) (nat_eq next 0) false v
+        rest false late also room = by q 1 _ (at 0x699B a x next s (nat_le 128 next) (nat_eq next 0) false v d i
             (laid page mem) flags (log3' log)) s false _ _ refl (λ tables is. refl)
             (words a (nat_le 128 next) (nat_eq next 0) (log3' log))
         rest true false also room = by q 2 _ (told_place false) s false _ _ (ap told_place also) (λ tables is. refl)
             (by q 1 _ (at 0x699B a x next s (nat_le 128 ((next + 256 - 0xFC) % 256))
-            (nat_eq ((next + 256 - 0xFC) % 256) 0) false v (laid page mem) flags (log3' log)) s false _ _ refl
+            (nat_eq ((next + 256 - 0xFC) % 256) 0) false v d i (laid page mem) flags (log3' log)) s false _ _ refl
             (λ tables is. refl)
             (words a (nat_le 128 ((next + 256 - 0xFC) % 256)) (nat_eq ((next + 256 - 0xFC) % 256) 0) (log3' log)))
         rest true true also room = absurd (cc)
 
 -- dvg_labs: the two words in place, and then dvg_pair
-pub labs_run : (q a x y s : ℕ) (n z c v : Bool) (page : List ℕ) (mem flags : ℕ → ℕ) (log : List Access)
-    → run q 8 (at 0x6979 a x y s n z c v (laid page mem) flags log)
+pub labs_run : (q a x y s : ℕ) (n z c v d i : Bool) (page : List ℕ) (mem flags : ℕ → ℕ) (log : List Access)
+    → run q 8 (at 0x6979 a x y s n z c v d i (laid page mem) flags log)
     ≡ (let h = bit_or (bit_and (mem 0x1C) 0x0F) 0xA0 in
     let l = bit_xor (bit_and (bit_xor a (mem 0x1E)) 0xF0) (mem 0x1E) in
-    at 0x6989 h x y s (nat_le 128 h) (nat_eq h 0) c v (laid page (put 0x1C h (put 0x1E l mem))) flags
+    at 0x6989 h x y s (nat_le 128 h) (nat_eq h 0) c v d i (laid page (put 0x1C h (put 0x1E l mem))) flags
     (Writes 0x1C h ∷ Reads 0x1C (mem 0x1C) ∷ Writes 0x1E l ∷ Reads 0x1E (mem 0x1E) ∷ Reads 0x1E (mem 0x1E) ∷ log))
-labs_run q a x y s n z c v page mem flags log =
+labs_run q a x y s n z c v d i page mem flags log =
     let h = bit_or (bit_and (mem 0x1C) 0x0F) 0xA0 in
     let l = bit_xor (bit_and (bit_xor a (mem 0x1E)) 0xF0) (mem 0x1E) in
-    ap (λ m. at 0x6989 h x y s (nat_le 128 h) (nat_eq h 0) c v m flags
+    ap (λ m. at 0x6989 h x y s (nat_le 128 h) (nat_eq h 0) c v d i m flags
     (Writes 0x1C h ∷ Reads 0x1C (mem 0x1C) ∷ Writes 0x1E l ∷ Reads 0x1E (mem 0x1E) ∷ Reads 0x1E (mem 0x1E) ∷ log))
     (ap (put 0x1C h) (put_out 0x1E l page mem refl refl) ∙ put_out 0x1C h page (put 0x1E l mem) refl refl)
 
 -- dvg_open and dvg_close
-module _ (q a x y s : ℕ) (n z c v : Bool) (publish next t0 t1 pages end second f0 f1 : ℕ) (mem flags : ℕ
+module _ (q a x y s : ℕ) (n z c v d i : Bool) (publish next t0 t1 pages end second f0 f1 : ℕ) (mem flags : ℕ
     → ℕ) (log : List Access) where
   -- a frame is begun in the free half
   pub open_takes : (h : Bool)
-      → Comes q (at 0x6924 a x y s n z c v (laid (page_of 2 (free_of h) publish next t0 t1 pages end second f0 f1) mem)
+      → Comes q (at 0x6924 a x y s n z c v d i (laid (page_of 2 (free_of h) publish next t0 t1 pages end second f0 f1) mem)
       flags log) s false (laid (page_of 7 (free_of h) publish 2 0 (high_of h) 0 end second f0 f1) mem) (seen log) []
   open_takes true = comes 16 refl refl refl refl refl (λ tables is. refl) (opened 0xE2 0x44)
     where
@@ -290,7 +290,7 @@ module _ (q a x y s : ℕ) (n z c v : Bool) (publish next t0 t1 pages end second
           ∙ put_page 0 7 (page_of 2 free publish 2 0 high 0 end second f0 f1) mem (omega arith) refl
 
 -- dvg_close: the HALT's two bytes
-module _ (q a x y s : ℕ) (n z c v : Bool) (free publish next t0 t1 pages end second f0 f1 : ℕ) (mem flags : ℕ
+module _ (q a x y s : ℕ) (n z c v d i : Bool) (free publish next t0 t1 pages end second f0 f1 : ℕ) (mem flags : ℕ
     → ℕ) (log : List Access) where
   abbrev hpage : ℕ → List ℕ
   hpage phase = page_of phase free publish next t0 t1 pages end second f0 f1
@@ -302,16 +302,16 @@ module _ (q a x y s : ℕ) (n z c v : Bool) (free publish next t0 t1 pages end s
   h1 = (t0 + 256 * t1 + (next + 1) % 256) % 65536
 
   pub close_ends : Place h0 → Place h1
-      → Comes q (at 0x6A00 a x y s n z c v (laid (hpage 7) mem) flags log) s false
+      → Comes q (at 0x6A00 a x y s n z c v d i (laid (hpage 7) mem) flags log) s false
       (laid (hpage publish) (put h1 0xB0 (put h0 0 mem))) (Writes h1 0xB0 ∷ Writes h0 0 ∷ seen log) []
   close_ends place0 place1 =
-      by q 6 _ (at 0x6A0C 0 x next s false true true v (laid (hpage 7) (put h0 0 mem)) flags log1) s false _ _
-      (ap (λ m. at 0x6A0C 0 x next s false true true v m flags log1)
+      by q 6 _ (at 0x6A0C 0 x next s false true true v d i (laid (hpage 7) (put h0 0 mem)) flags log1) s false _ _
+      (ap (λ m. at 0x6A0C 0 x next s false true true v d i m flags log1)
       (put_out h0 0 (hpage 7) mem place0.page place0.code)) (λ tables is. refl)
-      (by q 3 _ (at 0x6A11 0xB0 x odd1 s true false true v (laid (hpage 7) new) flags log2) s false _ _
-      (ap (λ m. at 0x6A11 0xB0 x odd1 s true false true v m flags log2)
+      (by q 3 _ (at 0x6A11 0xB0 x odd1 s true false true v d i (laid (hpage 7) new) flags log2) s false _ _
+      (ap (λ m. at 0x6A11 0xB0 x odd1 s true false true v d i m flags log2)
       (put_out h1 0xB0 (hpage 7) (put h0 0 mem) place1.page place1.code)) (λ tables is. refl)
-      (subst (λ es. Comes q (at 0x6A11 0xB0 x odd1 s true false true v (laid (hpage 7) new) flags log2) s false
+      (subst (λ es. Comes q (at 0x6A11 0xB0 x odd1 s true false true v d i (laid (hpage 7) new) flags log2) s false
       (laid (hpage publish) new) es []) shown
       (comes 3 refl refl refl refl refl (λ tables is. refl) (put_page 0 publish (hpage 7) new (omega arith) refl))))
     where

@@ -5,9 +5,13 @@ use Rattle.std.proofs.lemmas.Bool.{ne_eqb}
 use Rattle.std.specs.Prelude.{nat_eq, nat_lt, ◌&&◌, ◌||◌, if◌then◌else◌}
 use Rattle.dvg_6502.specs.Processor.{Cpu, Access, Reads, Writes, put, run, turn, at_return}
 use Rattle.dvg_6502.specs.Processor.{Mode, Immediate, ZeroPage, ZeroPageX, Absolute, IndirectIndexed, Register, A, X, Y}
-use Rattle.dvg_6502.specs.Processor.{Instr, Load, Store, Transfer, And, Or, Xor, Compare, TestBits, Change, Step, ShiftLeft}
-use Rattle.dvg_6502.specs.Processor.{RotateLeft, ShiftLeftA, ShiftRightA, SetCarry, Branch, Jump, Call as Jsr, Return, Unknown}
+use Rattle.dvg_6502.specs.Processor.{Instr, Load, Store, Transfer, And, Or, Xor, Compare, TestBits, Change, Step}
+use Rattle.dvg_6502.specs.Processor.{Branch, Jump, Call as Jsr, Return, Unknown}
 use Rattle.dvg_6502.specs.Processor.{address, of_register, reading, setting, next, stack_place, does, decoded, opcodes}
+use Rattle.dvg_6502.specs.Processor.{ZeroPageY, AbsoluteX, AbsoluteY, IndexedIndirect, Add, Subtract, ShiftAt, ShiftA}
+use Rattle.dvg_6502.specs.Processor.{Set, JumpAt, PushA, PushFlags, PullA, PullFlags, FromStack, ToStack, Resume}
+use Rattle.dvg_6502.specs.Processor.{Pass, Flag, Negative, Zero, Carry, Overflow, Decimal, Interrupt, flagging}
+use Rattle.dvg_6502.specs.Processor.{flags_byte}
 use Rattle.dvg_6502.specs.Amid.{is_code}
 use Rattle.dvg_6502.specs.Code.{code}
 use Rattle.dvg_6502.specs.Board.{IsLoaded}
@@ -19,7 +23,7 @@ use Rattle.dvg_6502.proofs.Interrupted.{still}
 
 -- a routine is entered over this memory, with this X and S; the flag gives this byte
 abbrev pub entered : (pc x s flag : ℕ) → (ℕ → ℕ) → Cpu
-entered pc x s flag mem = at pc 0 x 0 s false false false false mem (λ n. flag) []
+entered pc x s flag mem = at pc 0 x 0 s false false false false false false mem (λ n. flag) []
 
 pub enters : (pc x s flag : ℕ) (mem : ℕ → ℕ) → x < 256 → s < 256 → IsLoaded mem → Enters (entered pc x s flag mem) pc
 enters pc x s flag mem few level load = record {
@@ -102,7 +106,19 @@ module _ (mem : ℕ → ℕ) where
   wrote_reading ZeroPage cpu is = is
   wrote_reading ZeroPageX cpu is = is
   wrote_reading Absolute cpu is = is
+  wrote_reading ZeroPageY cpu is = is
+  wrote_reading AbsoluteX cpu is = is
+  wrote_reading AbsoluteY cpu is = is
+  wrote_reading IndexedIndirect cpu is = is
   wrote_reading IndirectIndexed cpu is = is
+
+  wrote_flagging : (flag : Flag) (to : Bool) (cpu : Cpu) → Wrote mem cpu → Wrote mem (flagging flag to cpu)
+  wrote_flagging Negative to cpu is = is
+  wrote_flagging Zero to cpu is = is
+  wrote_flagging Carry to cpu is = is
+  wrote_flagging Overflow to cpu is = is
+  wrote_flagging Decimal to cpu is = is
+  wrote_flagging Interrupt to cpu is = is
 
   wrote_setting : (r : Register) (byte : ℕ) (cpu : Cpu) → Wrote mem cpu → Wrote mem (setting r byte cpu)
   wrote_setting A byte cpu is = is
@@ -116,20 +132,29 @@ module _ (mem : ℕ → ℕ) where
   wrote_does (And mode) cpu is = wrote_reading mode cpu is
   wrote_does (Or mode) cpu is = wrote_reading mode cpu is
   wrote_does (Xor mode) cpu is = wrote_reading mode cpu is
+  wrote_does (Add mode) cpu is = wrote_reading mode cpu is
+  wrote_does (Subtract mode) cpu is = wrote_reading mode cpu is
   wrote_does (Compare r mode) cpu is = wrote_reading mode cpu is
   wrote_does (TestBits mode) cpu is = wrote_reading mode cpu is
   wrote_does (Change mode by) cpu is = ap (put _ _) (wrote_reading mode cpu is)
   wrote_does (Step r by) cpu is = wrote_setting r _ (next 1 cpu) is
-  wrote_does ShiftLeft cpu is = ap (put _ _) is
-  wrote_does RotateLeft cpu is = ap (put _ _) is
-  wrote_does ShiftLeftA cpu is = is
-  wrote_does ShiftRightA cpu is = is
-  wrote_does (SetCarry to) cpu is = is
+  wrote_does (ShiftAt shift mode) cpu is = ap (put _ _) (wrote_reading mode cpu is)
+  wrote_does (ShiftA shift) cpu is = is
+  wrote_does (Set flag to) cpu is = wrote_flagging flag to (next 1 cpu) is
   wrote_does (Branch flag when) cpu is = is
   wrote_does Jump cpu is = is
   wrote_does Jsr cpu is = ap (λ (m : ℕ → ℕ). put (stack_place (cpu.s + 255)) ((cpu.pc + 2) % 256)
       (put (stack_place cpu.s) ((cpu.pc + 2) / 256) m)) is
   wrote_does Return cpu is = is
+  wrote_does JumpAt cpu is = is
+  wrote_does PushA cpu is = ap (put (stack_place cpu.s) cpu.a) is
+  wrote_does PushFlags cpu is = ap (put (stack_place cpu.s) (flags_byte true cpu)) is
+  wrote_does PullA cpu is = is
+  wrote_does PullFlags cpu is = is
+  wrote_does FromStack cpu is = is
+  wrote_does ToStack cpu is = is
+  wrote_does Resume cpu is = is
+  wrote_does Pass cpu is = is
   wrote_does Unknown cpu is = is
 
   wrote_run : (s n : ℕ) (cpu : Cpu) → Wrote mem cpu → Wrote mem (run s n cpu)

@@ -54,42 +54,42 @@ refused_steady tables cpu k did = steady_all (is_kept tables) cpu.s did.comes.st
     (returned cpu.s (run cpu.s did.comes.steps cpu) did.comes.returns did.comes.stack)
     (code_kept tables (run cpu.s did.comes.steps cpu).pc did.comes.there)
 
-module _ (q a x y s : ℕ) (n z c v : Bool) (phase free publish next t0 t1 pages end second f0 f1 : ℕ) (mem flags : ℕ
+module _ (q a x y s : ℕ) (n z c v d i : Bool) (phase free publish next t0 t1 pages end second f0 f1 : ℕ) (mem flags : ℕ
     → ℕ) (log : List Access) (small : phase < 256) where
   abbrev page : List ℕ
   page = page_of phase free publish next t0 t1 pages end second f0 f1
 
   abbrev told : (pc wanted : ℕ) → Bool → Cpu
-  told pc wanted t = at pc a x phase s (nat_le 128 ((phase + 256 - wanted) % 256)) t (nat_le wanted phase) v
+  told pc wanted t = at pc a x phase s (nat_le 128 ((phase + 256 - wanted) % 256)) t (nat_le wanted phase) v d i
       (laid page mem) flags (Reads 0x10 phase ∷ log)
 
   open_refuses : nat_eq phase 2 ≡ false
-      → Comes q (at 0x6924 a x y s n z c v (laid page mem) flags log) s true (laid page mem) (seen log) []
+      → Comes q (at 0x6924 a x y s n z c v d i (laid page mem) flags log) s true (laid page mem) (seen log) []
   open_refuses other =
       by q 2 _ (told 0x6928 2 false) s true _ _ (ap (told 0x6928 2) (compared phase 2 small (omega arith) ∙ other))
       (λ tables is. refl)
       (comes 2 refl refl refl refl refl (λ tables is. refl) refl)
 
   pub pair_refuses : nat_eq phase 7 ≡ false
-      → Comes q (at 0x6989 a x y s n z c v (laid page mem) flags log) s true (laid page mem) (seen log) []
+      → Comes q (at 0x6989 a x y s n z c v d i (laid page mem) flags log) s true (laid page mem) (seen log) []
   pair_refuses other =
       by q 2 _ (told 0x698D 7 false) s true _ _ (ap (told 0x698D 7) (compared phase 7 small (omega arith) ∙ other))
       (λ tables is. refl)
       (comes 2 refl refl refl refl refl (λ tables is. refl) refl)
 
   close_refuses : nat_eq phase 7 ≡ false
-      → Comes q (at 0x6A00 a x y s n z c v (laid page mem) flags log) s true (laid page mem) (seen log) []
+      → Comes q (at 0x6A00 a x y s n z c v d i (laid page mem) flags log) s true (laid page mem) (seen log) []
   close_refuses other =
       by q 2 _ (told 0x6A04 7 false) s true _ _ (ap (told 0x6A04 7) (compared phase 7 small (omega arith) ∙ other))
       (λ tables is. refl)
       (comes 2 refl refl refl refl refl (λ tables is. refl) refl)
 
 -- two words have no room
-pub pair_full : (q a x y s : ℕ) (n z c v : Bool) (free publish next t0 t1 pages end second f0 f1 : ℕ) (mem flags : ℕ → ℕ)
+pub pair_full : (q a x y s : ℕ) (n z c v d i : Bool) (free publish next t0 t1 pages end second f0 f1 : ℕ) (mem flags : ℕ → ℕ)
     (log : List Access) → nat_le 3 pages ≡ true → nat_le 0xFC next ≡ true
     → let page = page_of 7 free publish next t0 t1 pages end second f0 f1 in
-    Comes q (at 0x6989 a x y s n z c v (laid page mem) flags log) s true (laid page mem) (seen log) []
-pair_full q a x y s n z c v free publish next t0 t1 pages end second f0 f1 mem flags log last late =
+    Comes q (at 0x6989 a x y s n z c v d i (laid page mem) flags log) s true (laid page mem) (seen log) []
+pair_full q a x y s n z c v d i free publish next t0 t1 pages end second f0 f1 mem flags log last late =
     by q 6 _ (told_page true) s true _ _ (ap told_page last) (λ tables is. refl)
     (by q 2 _ (told_place true) s true _ _ (ap told_place late) (λ tables is. refl)
     (comes 1 refl refl refl refl refl (λ tables is. refl) refl))
@@ -101,11 +101,11 @@ pair_full q a x y s n z c v free publish next t0 t1 pages end second f0 f1 mem f
     log3 = Reads 0x13 next ∷ Reads 0x16 pages ∷ Reads 0x10 7 ∷ log
 
     told_page : Bool → Cpu
-    told_page last = at 0x6995 a x next s (nat_le 128 next) (nat_eq next 0) last v (laid page mem) flags log3
+    told_page last = at 0x6995 a x next s (nat_le 128 next) (nat_eq next 0) last v d i (laid page mem) flags log3
 
     told_place : Bool → Cpu
     told_place late = at 0x6999 a x next s (nat_le 128 ((next + 256 - 0xFC) % 256))
-        (nat_eq ((next + 256 - 0xFC) % 256) 0) late v (laid page mem) flags log3
+        (nat_eq ((next + 256 - 0xFC) % 256) 0) late v d i (laid page mem) flags log3
 
 -- at a routine's entry
 module _ (cpu : Cpu) (entry : ℕ) (enters : Enters cpu entry) where
@@ -113,10 +113,10 @@ module _ (cpu : Cpu) (entry : ℕ) (enters : Enters cpu entry) where
   page_here = page_in cpu.mem
 
   abbrev here : Cpu
-  here = at entry cpu.a cpu.x cpu.y cpu.s cpu.n cpu.z cpu.c cpu.v (laid (page_in cpu.mem) cpu.mem) cpu.flags []
+  here = at entry cpu.a cpu.x cpu.y cpu.s cpu.n cpu.z cpu.c cpu.v cpu.d cpu.i (laid (page_in cpu.mem) cpu.mem) cpu.flags []
 
   here_is : here ≡ cpu
-  here_is = ap (λ l. at entry cpu.a cpu.x cpu.y cpu.s cpu.n cpu.z cpu.c cpu.v (laid (page_in cpu.mem) cpu.mem) cpu.flags l)
+  here_is = ap (λ l. at entry cpu.a cpu.x cpu.y cpu.s cpu.n cpu.z cpu.c cpu.v cpu.d cpu.i (laid (page_in cpu.mem) cpu.mem) cpu.flags l)
       (sym enters.log) ∙ state_is cpu entry cpu.s enters.entry refl enters.loaded
 
   -- a call that leaves all memory as it is
@@ -133,25 +133,25 @@ module _ (cpu : Cpu) (entry : ℕ) (enters : Enters cpu entry) where
 
 pub offer_refused : (cpu : Cpu) → Enters cpu 0x68FE → nat_eq (cpu.mem 0x10) 2 ≡ false → Refuses cpu
 offer_refused cpu enters other = unchanged cpu 0x68FE enters
-    (offer_refuses cpu.s cpu.a cpu.x cpu.y cpu.s cpu.n cpu.z cpu.c cpu.v (cpu.mem 0x11) (cpu.mem 0x13) (cpu.mem 0x14)
+    (offer_refuses cpu.s cpu.a cpu.x cpu.y cpu.s cpu.n cpu.z cpu.c cpu.v cpu.d cpu.i (cpu.mem 0x11) (cpu.mem 0x13) (cpu.mem 0x14)
     (cpu.mem 0x15) (cpu.mem 0x16) (cpu.mem 0x17) (cpu.mem 0x18) (cpu.mem 0x19) (cpu.mem 0x1A) cpu.mem cpu.flags []
     (cpu.mem 0x10) (cpu.mem 0x12) (enters.loaded.bytes 0x10) other)
 
 pub redraw_refused : (cpu : Cpu) → Enters cpu 0x6943 → nat_eq (cpu.mem 0x10) 2 ≡ false → Refuses cpu
 redraw_refused cpu enters other = unchanged cpu 0x6943 enters
-    (redraw_refuses cpu.s cpu.a cpu.x cpu.y cpu.s cpu.n cpu.z cpu.c cpu.v (cpu.mem 0x11) (cpu.mem 0x13) (cpu.mem 0x14)
+    (redraw_refuses cpu.s cpu.a cpu.x cpu.y cpu.s cpu.n cpu.z cpu.c cpu.v cpu.d cpu.i (cpu.mem 0x11) (cpu.mem 0x13) (cpu.mem 0x14)
     (cpu.mem 0x15) (cpu.mem 0x16) (cpu.mem 0x17) (cpu.mem 0x18) (cpu.mem 0x19) (cpu.mem 0x1A) cpu.mem cpu.flags []
     (cpu.mem 0x10) (cpu.mem 0x12) (enters.loaded.bytes 0x10) other)
 
 pub open_refused : (cpu : Cpu) → Enters cpu 0x6924 → nat_eq (cpu.mem 0x10) 2 ≡ false → Refuses cpu
 open_refused cpu enters other = unchanged cpu 0x6924 enters
-    (open_refuses cpu.s cpu.a cpu.x cpu.y cpu.s cpu.n cpu.z cpu.c cpu.v (cpu.mem 0x10) (cpu.mem 0x11) (cpu.mem 0x12)
+    (open_refuses cpu.s cpu.a cpu.x cpu.y cpu.s cpu.n cpu.z cpu.c cpu.v cpu.d cpu.i (cpu.mem 0x10) (cpu.mem 0x11) (cpu.mem 0x12)
     (cpu.mem 0x13) (cpu.mem 0x14) (cpu.mem 0x15) (cpu.mem 0x16) (cpu.mem 0x17) (cpu.mem 0x18) (cpu.mem 0x19) (cpu.mem 0x1A)
     cpu.mem cpu.flags [] (enters.loaded.bytes 0x10) other)
 
 pub close_refused : (cpu : Cpu) → Enters cpu 0x6A00 → nat_eq (cpu.mem 0x10) 7 ≡ false → Refuses cpu
 close_refused cpu enters other = unchanged cpu 0x6A00 enters
-    (close_refuses cpu.s cpu.a cpu.x cpu.y cpu.s cpu.n cpu.z cpu.c cpu.v (cpu.mem 0x10) (cpu.mem 0x11) (cpu.mem 0x12)
+    (close_refuses cpu.s cpu.a cpu.x cpu.y cpu.s cpu.n cpu.z cpu.c cpu.v cpu.d cpu.i (cpu.mem 0x10) (cpu.mem 0x11) (cpu.mem 0x12)
     (cpu.mem 0x13) (cpu.mem 0x14) (cpu.mem 0x15) (cpu.mem 0x16) (cpu.mem 0x17) (cpu.mem 0x18) (cpu.mem 0x19) (cpu.mem 0x1A)
     cpu.mem cpu.flags [] (enters.loaded.bytes 0x10) other)
 
@@ -170,17 +170,17 @@ module _ (cpu : Cpu) (enters : Enters cpu 0x6979) where
   log4 = Writes 0x1C h ∷ Reads 0x1C (cpu.mem 0x1C) ∷ Writes 0x1E l ∷ Reads 0x1E (cpu.mem 0x1E) ∷ Reads 0x1E (cpu.mem 0x1E) ∷ []
 
   abbrev start : Cpu
-  start = at 0x6979 cpu.a cpu.x cpu.y cpu.s cpu.n cpu.z cpu.c cpu.v (laid (page_in cpu.mem) cpu.mem) cpu.flags []
+  start = at 0x6979 cpu.a cpu.x cpu.y cpu.s cpu.n cpu.z cpu.c cpu.v cpu.d cpu.i (laid (page_in cpu.mem) cpu.mem) cpu.flags []
 
   abbrev paired : Cpu
-  paired = at 0x6989 h cpu.x cpu.y cpu.s (nat_le 128 h) (nat_eq h 0) cpu.c cpu.v (laid (page_in cpu.mem) set) cpu.flags log4
+  paired = at 0x6989 h cpu.x cpu.y cpu.s (nat_le 128 h) (nat_eq h 0) cpu.c cpu.v cpu.d cpu.i (laid (page_in cpu.mem) set) cpu.flags log4
 
   labs_as_pair : Comes cpu.s paired cpu.s true (laid (page_in cpu.mem) set) [] [] → Refuses cpu
   labs_as_pair comes = record {
     memory = laid (page_in cpu.mem) set;
     comes = subst (λ (k : Cpu). Comes cpu.s k cpu.s true (laid (page_in cpu.mem) set) [] []) (here_is cpu 0x6979 enters)
         (by cpu.s 8 start paired cpu.s true (laid (page_in cpu.mem) set) []
-        (labs_run cpu.s cpu.a cpu.x cpu.y cpu.s cpu.n cpu.z cpu.c cpu.v (page_in cpu.mem) cpu.mem cpu.flags [])
+        (labs_run cpu.s cpu.a cpu.x cpu.y cpu.s cpu.n cpu.z cpu.c cpu.v cpu.d cpu.i (page_in cpu.mem) cpu.mem cpu.flags [])
         (λ tables is. refl) comes);
     loaded = loaded (page_in cpu.mem) set (page_small cpu.mem enters.loaded)
         (put_small 0x1C h (put 0x1E l cpu.mem)
@@ -206,19 +206,19 @@ module _ (cpu : Cpu) (enters : Enters cpu 0x6979) where
 -- no frame is being built
 pub put_refused : (cpu : Cpu) → Enters cpu 0x6957 → nat_eq (cpu.mem 0x10) 7 ≡ false → Refuses cpu
 put_refused cpu enters other = unchanged cpu 0x6957 enters
-    (put_refuses cpu.s cpu.a cpu.x cpu.y cpu.s cpu.n cpu.z cpu.c cpu.v (cpu.mem 0x11) (cpu.mem 0x12)
+    (put_refuses cpu.s cpu.a cpu.x cpu.y cpu.s cpu.n cpu.z cpu.c cpu.v cpu.d cpu.i (cpu.mem 0x11) (cpu.mem 0x12)
     (cpu.mem 0x13) (cpu.mem 0x14) (cpu.mem 0x15) (cpu.mem 0x16) (cpu.mem 0x17) (cpu.mem 0x18) (cpu.mem 0x19) (cpu.mem 0x1A)
     cpu.mem cpu.flags [] (cpu.mem 0x10) (enters.loaded.bytes 0x10) other)
 
 pub pair_refused : (cpu : Cpu) → Enters cpu 0x6989 → nat_eq (cpu.mem 0x10) 7 ≡ false → Refuses cpu
 pair_refused cpu enters other = unchanged cpu 0x6989 enters
-    (pair_refuses cpu.s cpu.a cpu.x cpu.y cpu.s cpu.n cpu.z cpu.c cpu.v (cpu.mem 0x10) (cpu.mem 0x11) (cpu.mem 0x12)
+    (pair_refuses cpu.s cpu.a cpu.x cpu.y cpu.s cpu.n cpu.z cpu.c cpu.v cpu.d cpu.i (cpu.mem 0x10) (cpu.mem 0x11) (cpu.mem 0x12)
     (cpu.mem 0x13) (cpu.mem 0x14) (cpu.mem 0x15) (cpu.mem 0x16) (cpu.mem 0x17) (cpu.mem 0x18) (cpu.mem 0x19) (cpu.mem 0x1A)
     cpu.mem cpu.flags [] (enters.loaded.bytes 0x10) other)
 
 pub labs_refused : (cpu : Cpu) → Enters cpu 0x6979 → nat_eq (cpu.mem 0x10) 7 ≡ false → Refuses cpu
 labs_refused cpu enters other = labs_as_pair cpu enters
-    (pair_refuses cpu.s (h cpu enters) cpu.x cpu.y cpu.s (nat_le 128 (h cpu enters)) (nat_eq (h cpu enters) 0) cpu.c cpu.v
+    (pair_refuses cpu.s (h cpu enters) cpu.x cpu.y cpu.s (nat_le 128 (h cpu enters)) (nat_eq (h cpu enters) 0) cpu.c cpu.v cpu.d cpu.i
     (cpu.mem 0x10) (cpu.mem 0x11) (cpu.mem 0x12)
     (cpu.mem 0x13) (cpu.mem 0x14) (cpu.mem 0x15) (cpu.mem 0x16) (cpu.mem 0x17) (cpu.mem 0x18) (cpu.mem 0x19) (cpu.mem 0x1A)
     (set cpu enters) cpu.flags (log4 cpu enters) (enters.loaded.bytes 0x10) other)
@@ -227,24 +227,24 @@ labs_refused cpu enters other = labs_as_pair cpu enters
 pub full_put : (cpu : Cpu) → Enters cpu 0x6957 → cpu.mem 0x10 ≡ 7 → nat_le 3 (cpu.mem 0x16) ≡ true
     → nat_le 0xFE (cpu.mem 0x13) ≡ true → Refuses cpu
 full_put cpu enters is last late = unchanged cpu 0x6957 enters
-    (subst (λ p. Comes cpu.s (at 0x6957 cpu.a cpu.x cpu.y cpu.s cpu.n cpu.z cpu.c cpu.v (laid (page_of p (cpu.mem 0x11)
+    (subst (λ p. Comes cpu.s (at 0x6957 cpu.a cpu.x cpu.y cpu.s cpu.n cpu.z cpu.c cpu.v cpu.d cpu.i (laid (page_of p (cpu.mem 0x11)
     (cpu.mem 0x12) (cpu.mem 0x13) (cpu.mem 0x14) (cpu.mem 0x15) (cpu.mem 0x16) (cpu.mem 0x17) (cpu.mem 0x18) (cpu.mem 0x19)
     (cpu.mem 0x1A)) cpu.mem) cpu.flags []) cpu.s true (laid (page_of p (cpu.mem 0x11)
     (cpu.mem 0x12) (cpu.mem 0x13) (cpu.mem 0x14) (cpu.mem 0x15) (cpu.mem 0x16) (cpu.mem 0x17) (cpu.mem 0x18) (cpu.mem 0x19)
     (cpu.mem 0x1A)) cpu.mem) [] []) (sym is)
-    (put_full cpu.s cpu.a cpu.x cpu.y cpu.s cpu.n cpu.z cpu.c cpu.v (cpu.mem 0x11) (cpu.mem 0x12)
+    (put_full cpu.s cpu.a cpu.x cpu.y cpu.s cpu.n cpu.z cpu.c cpu.v cpu.d cpu.i (cpu.mem 0x11) (cpu.mem 0x12)
     (cpu.mem 0x13) (cpu.mem 0x14) (cpu.mem 0x15) (cpu.mem 0x16) (cpu.mem 0x17) (cpu.mem 0x18) (cpu.mem 0x19) (cpu.mem 0x1A)
     cpu.mem cpu.flags [] last late))
 
 pub full_pair : (cpu : Cpu) → Enters cpu 0x6989 → cpu.mem 0x10 ≡ 7 → nat_le 3 (cpu.mem 0x16) ≡ true
     → nat_le 0xFC (cpu.mem 0x13) ≡ true → Refuses cpu
 full_pair cpu enters is last late = unchanged cpu 0x6989 enters
-    (subst (λ p. Comes cpu.s (at 0x6989 cpu.a cpu.x cpu.y cpu.s cpu.n cpu.z cpu.c cpu.v (laid (page_of p (cpu.mem 0x11)
+    (subst (λ p. Comes cpu.s (at 0x6989 cpu.a cpu.x cpu.y cpu.s cpu.n cpu.z cpu.c cpu.v cpu.d cpu.i (laid (page_of p (cpu.mem 0x11)
     (cpu.mem 0x12) (cpu.mem 0x13) (cpu.mem 0x14) (cpu.mem 0x15) (cpu.mem 0x16) (cpu.mem 0x17) (cpu.mem 0x18) (cpu.mem 0x19)
     (cpu.mem 0x1A)) cpu.mem) cpu.flags []) cpu.s true (laid (page_of p (cpu.mem 0x11)
     (cpu.mem 0x12) (cpu.mem 0x13) (cpu.mem 0x14) (cpu.mem 0x15) (cpu.mem 0x16) (cpu.mem 0x17) (cpu.mem 0x18) (cpu.mem 0x19)
     (cpu.mem 0x1A)) cpu.mem) [] []) (sym is)
-    (pair_full cpu.s cpu.a cpu.x cpu.y cpu.s cpu.n cpu.z cpu.c cpu.v (cpu.mem 0x11) (cpu.mem 0x12)
+    (pair_full cpu.s cpu.a cpu.x cpu.y cpu.s cpu.n cpu.z cpu.c cpu.v cpu.d cpu.i (cpu.mem 0x11) (cpu.mem 0x12)
     (cpu.mem 0x13) (cpu.mem 0x14) (cpu.mem 0x15) (cpu.mem 0x16) (cpu.mem 0x17) (cpu.mem 0x18) (cpu.mem 0x19) (cpu.mem 0x1A)
     cpu.mem cpu.flags [] last late))
 
@@ -252,12 +252,12 @@ pub full_labs : (cpu : Cpu) → Enters cpu 0x6979 → cpu.mem 0x10 ≡ 7 → nat
     → nat_le 0xFC (cpu.mem 0x13) ≡ true → Refuses cpu
 full_labs cpu enters is last late = labs_as_pair cpu enters
     (subst (λ p. Comes cpu.s (at 0x6989 (h cpu enters) cpu.x cpu.y cpu.s (nat_le 128 (h cpu enters))
-    (nat_eq (h cpu enters) 0) cpu.c cpu.v (laid (page_of p (cpu.mem 0x11)
+    (nat_eq (h cpu enters) 0) cpu.c cpu.v cpu.d cpu.i (laid (page_of p (cpu.mem 0x11)
     (cpu.mem 0x12) (cpu.mem 0x13) (cpu.mem 0x14) (cpu.mem 0x15) (cpu.mem 0x16) (cpu.mem 0x17) (cpu.mem 0x18) (cpu.mem 0x19)
     (cpu.mem 0x1A)) (set cpu enters)) cpu.flags (log4 cpu enters)) cpu.s true (laid (page_of p (cpu.mem 0x11)
     (cpu.mem 0x12) (cpu.mem 0x13) (cpu.mem 0x14) (cpu.mem 0x15) (cpu.mem 0x16) (cpu.mem 0x17) (cpu.mem 0x18) (cpu.mem 0x19)
     (cpu.mem 0x1A)) (set cpu enters)) [] []) (sym is)
-    (pair_full cpu.s (h cpu enters) cpu.x cpu.y cpu.s (nat_le 128 (h cpu enters)) (nat_eq (h cpu enters) 0) cpu.c cpu.v
+    (pair_full cpu.s (h cpu enters) cpu.x cpu.y cpu.s (nat_le 128 (h cpu enters)) (nat_eq (h cpu enters) 0) cpu.c cpu.v cpu.d cpu.i
     (cpu.mem 0x11) (cpu.mem 0x12)
     (cpu.mem 0x13) (cpu.mem 0x14) (cpu.mem 0x15) (cpu.mem 0x16) (cpu.mem 0x17) (cpu.mem 0x18) (cpu.mem 0x19) (cpu.mem 0x1A)
     (set cpu enters) cpu.flags (log4 cpu enters) last late))
@@ -269,7 +269,7 @@ module _ (cpu : Cpu) (enters : Enters cpu 0x6979) where
 
   labs_at : run cpu.s 8 cpu ≡ now
   labs_at = sym (ap (run cpu.s 8) (here_is cpu 0x6979 enters))
-      ∙ labs_run cpu.s cpu.a cpu.x cpu.y cpu.s cpu.n cpu.z cpu.c cpu.v (page_in cpu.mem) cpu.mem cpu.flags []
+      ∙ labs_run cpu.s cpu.a cpu.x cpu.y cpu.s cpu.n cpu.z cpu.c cpu.v cpu.d cpu.i (page_in cpu.mem) cpu.mem cpu.flags []
 
   labs_kept : (b : ℕ) → b ≢ 0x1C → b ≢ 0x1E → now.mem b ≡ cpu.mem b
   labs_kept b not_y not_x = past_low 0x1C (h cpu enters) (page_in cpu.mem) (put 0x1E (l cpu enters) cpu.mem) refl refl b not_y

@@ -6,9 +6,23 @@ use Rattle.dvg_6502.specs.Board.{seen}
 use Rattle.dvg_6502.specs.Amid.{is_kept, is_code, is_steady, are_steady, all_in}
 
 -- the state of a processor
-abbrev pub at : ℕ → (a x y s : ℕ) → (n z c v : Bool) → (ℕ → ℕ) → (ℕ → ℕ) → List Access → Cpu
-at pc a x y s n z c v mem flags log =
-    record { a = a; x = x; y = y; s = s; pc = pc; n = n; z = z; c = c; v = v; mem = mem; flags = flags; log = log }
+abbrev pub at : ℕ → (a x y s : ℕ) → (n z c v d i : Bool) → (ℕ → ℕ) → (ℕ → ℕ) → List Access → Cpu
+at pc a x y s n z c v d i mem flags log = record {
+  a = a;
+  x = x;
+  y = y;
+  s = s;
+  pc = pc;
+  n = n;
+  z = z;
+  c = c;
+  v = v;
+  d = d;
+  i = i;
+  mem = mem;
+  flags = flags;
+  log = log;
+}
 
 abbrev times : {A : Type 0} → (A → A) → ℕ → A → A
 times f zero a = a

@@ -6,10 +6,10 @@ use Rattle.dvg_6502.specs.Board.{seen}
 use Rattle.dvg_6502.proofs.Running.{Ends, on, at, ends}
 use Rattle.dvg_6502.proofs.Memory.{laid, page_of, put_page, put_out}
 
-module _ (q a x y s : ℕ) (n z c v : Bool) (free publish next t0 t1 pages end second f0 f1 : ℕ) (mem flags : ℕ
+module _ (q a x y s : ℕ) (n z c v d i : Bool) (free publish next t0 t1 pages end second f0 f1 : ℕ) (mem flags : ℕ
     → ℕ) (log : List Access) where
   abbrev from : ℕ → Cpu
-  from phase = at 0x686A a x y s n z c v (laid (page_of phase free publish next t0 t1 pages end second f0 f1) mem)
+  from phase = at 0x686A a x y s n z c v d i (laid (page_of phase free publish next t0 t1 pages end second f0 f1) mem)
       flags log
 
   abbrev bytes : ℕ → ℕ → ℕ → List ℕ
@@ -56,7 +56,7 @@ module _ (q a x y s : ℕ) (n z c v : Bool) (free publish next t0 t1 pages end s
   boot running is = on q 6 (from 1) (flag running) s _ _ (ap flag is) (λ tables is. refl) (rest running)
     where
       flag : Bool → Cpu
-      flag running = at 0x6899 a 0 y s running (nat_eq (bit_and a (flags 0)) 0) c (nat_le 64 (flags 0 % 128))
+      flag running = at 0x6899 a 0 y s running (nat_eq (bit_and a (flags 0)) 0) c (nat_le 64 (flags 0 % 128)) d i
           (page 1 free publish) (λ n. flags (suc n)) (Reads 0x2002 (flags 0) ∷ Reads 0x10 1 ∷ log)
 
       rest : (running : Bool)
@@ -70,7 +70,7 @@ module _ (q a x y s : ℕ) (n z c v : Bool) (free publish next t0 t1 pages end s
   wait running is = on q 14 (from 5) (flag running) s _ _ (ap flag is) (λ tables is. refl) (rest running)
     where
       flag : Bool → Cpu
-      flag running = at 0x68B9 a 0 y s running (nat_eq (bit_and a (flags 0)) 0) c (nat_le 64 (flags 0 % 128))
+      flag running = at 0x68B9 a 0 y s running (nat_eq (bit_and a (flags 0)) 0) c (nat_le 64 (flags 0 % 128)) d i
           (page 5 free publish) (λ n. flags (suc n)) (Reads 0x2002 (flags 0) ∷ Reads 0x10 5 ∷ log)
 
       rest : (running : Bool)

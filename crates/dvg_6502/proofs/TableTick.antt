@@ -88,14 +88,14 @@ not_flag p not_device = by (nat_eq p 0x2002) refl
     by false is = is
     by true is = let e : is_hardware p ≡ true = ap is_hardware (eqb-true p 0x2002 is) in absurd (cc)
 
-module _ (q a x y s : ℕ) (n z c v : Bool) (mem flags : ℕ → ℕ) (log : List Access) (load : IsLoaded mem)
+module _ (q a x y s : ℕ) (n z c v d i : Bool) (mem flags : ℕ → ℕ) (log : List Access) (load : IsLoaded mem)
     (begin stop peeked : ℕ) (life : List Item) where
   abbrev bytes : (b : ℕ) → mem b < 256
   bytes = load.bytes
 
   abbrev from : ℕ → ℕ → ℕ → Cpu
   from phase free mark =
-      at 0x686A a x y s n z c v
+      at 0x686A a x y s n z c v d i
       (laid (page_of phase free (mem 0x12) (mem 0x13) (mem 0x14) (mem 0x15) (mem 0x16) (mem 0x17) mark (mem 0x19)
       (mem 0x1A)) mem) flags log
 
@@ -290,7 +290,7 @@ module _ (q a x y s : ℕ) (n z c v : Bool) (mem flags : ℕ → ℕ) (log : Lis
         refl refl refl
         (subst (λ q. nat_eq q 0x2002 ≡ false) (sym source_is) (not_flag (source_in mem) silent))
         (subst (λ q. is_hardware q ≡ false) (sym source_is) silent)
-        a x y n z c v log odd second byte byte_small
+        a x y n z c v d i log odd second byte byte_small
         (subst (λ q. laid (page_of 0x80 (mem 0x11) (mem 0x12) (mem 0x13) (mem 0x14) (mem 0x15) (mem 0x16)
         (mem 0x17) 0x80 (mem 0x19) (mem 0x1A)) mem q ≡ byte) (sym source_is) (first 0x80))
         (subst (λ q. laid (page_of 0x80 (mem 0x11) (mem 0x12) (mem 0x13) (mem 0x14) (mem 0x15) (mem 0x16) (mem 0x17) 0

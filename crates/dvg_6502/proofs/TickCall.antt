@@ -166,7 +166,7 @@ rts q cpu opcode inner =
     ap (λ b. if (nat_eq b 0x60 && nat_eq cpu.s q) then cpu else does (decoded opcodes b) cpu) opcode
     ∙ ap (λ (t : Bool). if t then cpu else does Return cpu) inner
 
-module _ (P : Claim) (begin stop : ℕ) (goes : GoesByTicks P begin stop) (q a x y : ℕ) (n z c v : Bool)
+module _ (P : Claim) (begin stop : ℕ) (goes : GoesByTicks P begin stop) (q a x y : ℕ) (n z c v d i : Bool)
     (mem flags : ℕ → ℕ) (log : List Access) (load : IsLoaded mem) (q_small : q < 256) (site : Bool) (life : List Item)
     (stood : P mem life) where
   abbrev p0 : ℕ
@@ -188,10 +188,10 @@ module _ (P : Claim) (begin stop : ℕ) (goes : GoesByTicks P begin stop) (q a x
   log' = Writes p1 (back_of site) ∷ Writes p0 0x68 ∷ log
 
   abbrev from : Cpu
-  from = at (site_of site) a x y q n z c v (laid page mem) flags log
+  from = at (site_of site) a x y q n z c v d i (laid page mem) flags log
 
   abbrev start : Cpu
-  start = at 0x686A a x y inner n z c v (laid page stacked) flags log'
+  start = at 0x686A a x y inner n z c v d i (laid page stacked) flags log'
 
   out0 : (in_page p0 ≡ false) × (in_code p0 ≡ false)
   out0 = on_stack p0 (omega arith) (omega arith)
@@ -199,14 +199,14 @@ module _ (P : Claim) (begin stop : ℕ) (goes : GoesByTicks P begin stop) (q a x
   out1 : (in_page p1 ≡ false) × (in_code p1 ≡ false)
   out1 = on_stack p1 (omega arith) (omega arith)
 
-  pushed : (site : Bool) → run q 1 (at (site_of site) a x y q n z c v (laid page mem) flags log)
-      ≡ at 0x686A a x y inner n z c v (put p1 (back_of site) (put p0 0x68 (laid page mem))) flags
+  pushed : (site : Bool) → run q 1 (at (site_of site) a x y q n z c v d i (laid page mem) flags log)
+      ≡ at 0x686A a x y inner n z c v d i (put p1 (back_of site) (put p0 0x68 (laid page mem))) flags
       (Writes p1 (back_of site) ∷ Writes p0 0x68 ∷ log)
   pushed true = refl
   pushed false = refl
 
   called : run q 1 from ≡ start
-  called = pushed site ∙ ap (λ m. at 0x686A a x y inner n z c v m flags log')
+  called = pushed site ∙ ap (λ m. at 0x686A a x y inner n z c v d i m flags log')
       (ap (put p1 (back_of site)) (put_out p0 0x68 page mem out0.0 out0.1)
       ∙ put_out p1 (back_of site) page (put p0 0x68 mem) out1.0 out1.1)
 
@@ -296,7 +296,7 @@ module _ (P : Claim) (begin stop : ℕ) (goes : GoesByTicks P begin stop) (q a x
       ∙ ap (λ h. (back_of site + 256 * h + 1) % 65536) high_back ∙ site_is site
 
   call_steady : (site : Bool) (tables : ℕ → Bool)
-      → are_steady (is_kept tables) q 1 (at (site_of site) a x y q n z c v (laid page mem) flags log) ≡ true
+      → are_steady (is_kept tables) q 1 (at (site_of site) a x y q n z c v d i (laid page mem) flags log) ≡ true
   call_steady true tables = refl
   call_steady false tables = refl
 
@@ -341,7 +341,7 @@ pub tick_call_to : (P : Claim) (begin stop : ℕ) → GoesByTicks P begin stop �
 tick_call_to P begin stop goes q site cpu life q_small at_site at_q stood =
     let load = goes.loaded cpu.mem life stood in
     subst (λ (k : Cpu). TurnedTo P q site k begin stop life) (state_is cpu (site_of site) q at_site at_q load)
-    (turned P begin stop goes q cpu.a cpu.x cpu.y cpu.n cpu.z cpu.c cpu.v cpu.mem cpu.flags cpu.log load q_small site life
+    (turned P begin stop goes q cpu.a cpu.x cpu.y cpu.n cpu.z cpu.c cpu.v cpu.d cpu.i cpu.mem cpu.flags cpu.log load q_small site life
     stood)
 
 pub tick_call : (q : ℕ) (site : Bool) (cpu : Cpu) (begin stop : ℕ) (life : List Item) → q < 256

@@ -19,14 +19,14 @@ use Rattle.dvg_6502.proofs.Acting as acting
 use Rattle.dvg_6502.proofs.Acting.{Acts}
 use Rattle.dvg_6502.proofs.TableTick.{tick}
 
-module _ (q a x y s : ℕ) (n z c v : Bool) (mem flags : ℕ → ℕ) (log : List Access) (load : IsLoaded mem)
+module _ (q a x y s : ℕ) (n z c v d i : Bool) (mem flags : ℕ → ℕ) (log : List Access) (load : IsLoaded mem)
     (begin stop peeked : ℕ) (life : List Item) where
   abbrev from : Cpu
-  from = at 0x686A a x y s n z c v (laid (page_in mem) mem) flags log
+  from = at 0x686A a x y s n z c v d i (laid (page_in mem) mem) flags log
 
   abbrev with_phase : ℕ → ℕ → Cpu
   with_phase phase free =
-      at 0x686A a x y s n z c v
+      at 0x686A a x y s n z c v d i
       (laid (page_of phase free (mem 0x12) (mem 0x13) (mem 0x14) (mem 0x15) (mem 0x16) (mem 0x17) (mem 0x18)
       (mem 0x19) (mem 0x1A)) mem) flags log
 
@@ -54,24 +54,24 @@ module _ (q a x y s : ℕ) (n z c v : Bool) (mem flags : ℕ → ℕ) (log : Lis
   fed_tick half set odd second (byte ∷ more) list phase free clear parity even mark some left reads far after ends top
       low high are stands =
       of_phase 0x80 phase
-      (subst (λ m. Goal (at 0x686A a x y s n z c v
+      (subst (λ m. Goal (at 0x686A a x y s n z c v d i
       (laid (page_of 0x80 (mem 0x11) (mem 0x12) (mem 0x13) (mem 0x14) (mem 0x15) (mem 0x16) (mem 0x17) m
       (mem 0x19) (mem 0x1A)) mem) flags log)) (sym mark)
-      (tick q a x y s n z c v mem flags log load begin stop peeked life half set odd second byte more list free clear
+      (tick q a x y s n z c v d i mem flags log load begin stop peeked life half set odd second byte more list free clear
       parity even left reads far after ends top low high are stands))
 
   core : (place : Place) (half : Half) (set : Bool) → HoldsPlace mem begin stop place half set
       → mem 0x12 ≡ publish_byte set → StandsAfter (stage place half set) peeked life → Goal from
   core Start half set holds clear stands =
-      of_phase 0 holds.0 (acting.start q a x y s n z c v mem flags log load.bytes begin stop peeked life half
+      of_phase 0 holds.0 (acting.start q a x y s n z c v d i mem flags log load.bytes begin stop peeked life half
       (subst (λ t. StandsAfter (stage Start half t) peeked life) holds.1 stands) (clear ∙ ap publish_byte holds.1))
   core Booting half set holds clear stands =
-      of_phase 1 holds.0 (acting.boot q a x y s n z c v mem flags log load.bytes begin stop peeked life half
+      of_phase 1 holds.0 (acting.boot q a x y s n z c v d i mem flags log load.bytes begin stop peeked life half
       (mem 0x11) (nat_le 128 (flags 0)) holds.1 refl
       (subst (λ t. StandsAfter (stage Booting half t) peeked life) holds.2 stands) (clear
       ∙ ap publish_byte holds.2))
   core (Resting first) half set holds clear stands =
-      of_phase 2 holds.0 (acting.rest q a x y s n z c v mem flags log load.bytes begin stop peeked life half
+      of_phase 2 holds.0 (acting.rest q a x y s n z c v d i mem flags log load.bytes begin stop peeked life half
       (mem 0x11) first set holds.1 holds.2 stands clear)
   core (Writing list) half set holds clear stands = by holds.1
     where
@@ -80,16 +80,16 @@ module _ (q a x y s : ℕ) (n z c v : Bool) (mem flags : ℕ → ℕ) (log : Lis
       by (inl f) = fed_tick half set f.odd f.second f.rest list f.phase holds.0 clear f.parity f.even f.mark f.some
           f.left f.reads f.far f.after f.ends f.top f.low f.high f.are stands
       by (inr (inl is)) = of_phase 3 is.0
-          (acting.zero_tick q a x y s n z c v mem flags log load.bytes begin stop peeked life half
+          (acting.zero_tick q a x y s n z c v d i mem flags log load.bytes begin stop peeked life half
           (mem 0x11) set holds.0 (subst (λ l. StandsAfter (stage (Writing l) half set) peeked life) is.1 stands) clear)
       by (inr (inr is)) = of_phase 4 is.0 (subst (λ free. Goal (with_phase 4 free)) (sym holds.0)
-          (acting.flip q a x y s n z c v mem flags log load.bytes begin stop peeked life half set
+          (acting.flip q a x y s n z c v d i mem flags log load.bytes begin stop peeked life half set
           (subst (λ l. StandsAfter (stage (Writing l) half set) peeked life) is.1 stands)))
   core (Waiting first) half set holds clear stands =
-      of_phase 5 holds.0 (acting.wait q a x y s n z c v mem flags log load.bytes begin stop peeked life half
+      of_phase 5 holds.0 (acting.wait q a x y s n z c v d i mem flags log load.bytes begin stop peeked life half
       (mem 0x11) first set (nat_le 128 (flags 0)) holds.1 holds.2 refl stands clear)
   core (Sending first) half set holds clear stands =
-      of_phase 6 holds.0 (acting.send q a x y s n z c v mem flags log load.bytes begin stop peeked life half
+      of_phase 6 holds.0 (acting.send q a x y s n z c v d i mem flags log load.bytes begin stop peeked life half
       (mem 0x11) first set holds.1 holds.2 stands clear)
 
 -- from any state at the tick's entry
@@ -97,13 +97,13 @@ pub acts : (q : ℕ) (cpu : Cpu) (begin stop : ℕ) (stage : Stage) (peeked : �
     → IsLoaded cpu.mem
     → Holds cpu.mem begin stop stage → StandsAfter stage peeked life → Acts q cpu begin stop peeked life
 acts q cpu begin stop stage peeked life at_entry load holds stands =
-    let is : at 0x686A cpu.a cpu.x cpu.y cpu.s cpu.n cpu.z cpu.c cpu.v
+    let is : at 0x686A cpu.a cpu.x cpu.y cpu.s cpu.n cpu.z cpu.c cpu.v cpu.d cpu.i
     (laid (page_in cpu.mem) cpu.mem) cpu.flags cpu.log ≡ cpu =
-    ap (λ (m : ℕ → ℕ). at 0x686A cpu.a cpu.x cpu.y cpu.s cpu.n cpu.z cpu.c cpu.v m cpu.flags cpu.log)
+    ap (λ (m : ℕ → ℕ). at 0x686A cpu.a cpu.x cpu.y cpu.s cpu.n cpu.z cpu.c cpu.v cpu.d cpu.i m cpu.flags cpu.log)
     (sym (known cpu.mem load))
-    ∙ ap (λ p. at p cpu.a cpu.x cpu.y cpu.s cpu.n cpu.z cpu.c cpu.v cpu.mem cpu.flags cpu.log) (sym at_entry) in
+    ∙ ap (λ p. at p cpu.a cpu.x cpu.y cpu.s cpu.n cpu.z cpu.c cpu.v cpu.d cpu.i cpu.mem cpu.flags cpu.log) (sym at_entry) in
     subst (λ (c : Cpu). Acts q c begin stop peeked life) is
-    (core q cpu.a cpu.x cpu.y cpu.s cpu.n cpu.z cpu.c cpu.v cpu.mem cpu.flags cpu.log load begin stop peeked life
+    (core q cpu.a cpu.x cpu.y cpu.s cpu.n cpu.z cpu.c cpu.v cpu.d cpu.i cpu.mem cpu.flags cpu.log load begin stop peeked life
     stage.place stage.half stage.flipped holds.place holds.flipped stands)
 
 pub append_none : {A : Type 0} (l : List A) → l ++ [] ≡ l

@@ -49,15 +49,15 @@ count_stood P begin stop goes mem r life small stood = goes.stays mem (laid (pag
     same b not = past_low 0x1F r (page_in mem) mem refl refl b not ∙ sym (ap (λ (m : ℕ → ℕ). m b) (known mem load))
 
 -- after a tick: the count goes down, and says whether it was the last one
-module _ (q a x y : ℕ) (n z c v : Bool) (mem flags : ℕ → ℕ) (log : List Access) where
+module _ (q a x y : ℕ) (n z c v d i : Bool) (mem flags : ℕ → ℕ) (log : List Access) where
   abbrev from : Cpu
-  from = at 0x6865 a x y q n z c v (laid (page_in mem) mem) flags log
+  from = at 0x6865 a x y q n z c v d i (laid (page_in mem) mem) flags log
 
   abbrev r : ℕ
   r = (mem 0x1F + 255) % 256
 
   abbrev told : Bool → (ℕ → ℕ) → Cpu
-  told t m = at 0x6867 a x y q (nat_le 128 r) t c v m flags (Writes 0x1F r ∷ Reads 0x1F (mem 0x1F) ∷ log)
+  told t m = at 0x6867 a x y q (nat_le 128 r) t c v d i m flags (Writes 0x1F r ∷ Reads 0x1F (mem 0x1F) ∷ log)
 
   abbrev pub then_at : ℕ → Bool → Cpu
   then_at pc t = record (told t (laid (page_in mem) (put 0x1F r mem))) { pc = pc }
@@ -92,7 +92,7 @@ module _ (P : Claim) (begin stop : ℕ) (goes : GoesByTicks P begin stop) (q : �
       mid : Cpu
       mid = run q t.steps cpu
 
-      from_is : at 0x6865 mid.a mid.x mid.y q mid.n mid.z mid.c mid.v
+      from_is : at 0x6865 mid.a mid.x mid.y q mid.n mid.z mid.c mid.v mid.d mid.i
           (laid (page_in mid.mem) mid.mem) mid.flags mid.log ≡ mid
       from_is = state_is mid 0x6865 q t.pc t.stack (goes.loaded mid.mem (t.made.items ++ life) t.stood)
 
@@ -103,7 +103,7 @@ module _ (P : Claim) (begin stop : ℕ) (goes : GoesByTicks P begin stop) (q : �
       count_is = ap (λ m. (m + 255) % 256) (sym t.kept)
 
       end : ℕ → Bool → Cpu
-      end pc z = then_at q mid.a mid.x mid.y mid.n mid.z mid.c mid.v mid.mem mid.flags mid.log pc z
+      end pc z = then_at q mid.a mid.x mid.y mid.n mid.z mid.c mid.v mid.d mid.i mid.mem mid.flags mid.log pc z
 
       left : P (laid (page_in mid.mem) (put 0x1F r mid.mem)) (t.made.items ++ life)
       left = count_stood P begin stop goes mid.mem r (t.made.items ++ life) (omega arith) t.stood
@@ -118,7 +118,7 @@ module _ (P : Claim) (begin stop : ℕ) (goes : GoesByTicks P begin stop) (q : �
       by : Follows cpu (t.made.items ++ life) → GoesTo P q k cpu begin stop life
       by (inl none) =
           let is = ap (run q 2) (sym from_is)
-          ∙ last q mid.a mid.x mid.y mid.n mid.z mid.c mid.v mid.mem mid.flags mid.log
+          ∙ last q mid.a mid.x mid.y mid.n mid.z mid.c mid.v mid.d mid.i mid.mem mid.flags mid.log
           (ap (λ m. nat_eq m 0) (sym count_is) ∙ none) in
           finish P q k cpu begin stop life (2 + t.steps) (made 0x6869 true is)
           (ap (at_return q) (whole 0x6869 true is) ∙ returned q (end 0x6869 true) refl refl)
@@ -126,7 +126,7 @@ module _ (P : Claim) (begin stop : ℕ) (goes : GoesByTicks P begin stop) (q : �
           (subst (λ (c : Cpu). P c.mem (t.made.items ++ life)) (sym (whole 0x6869 true is)) left)
       by (inr more) =
           let is = ap (run q 2) (sym from_is)
-          ∙ again q mid.a mid.x mid.y mid.n mid.z mid.c mid.v mid.mem mid.flags mid.log
+          ∙ again q mid.a mid.x mid.y mid.n mid.z mid.c mid.v mid.d mid.i mid.mem mid.flags mid.log
           (ap (λ m. nat_eq m 0) (sym count_is) ∙ more.0) in
           go_on P q k cpu begin stop life (2 + t.steps) (made 0x6862 false is) (omega arith)
           (ap (at_return q) (whole 0x6862 false is))
@@ -162,11 +162,11 @@ module _ (P : Claim) (begin stop : ℕ) (goes : GoesByTicks P begin stop) (q : �
       let t = tick_call_to P begin stop goes q false cpu life q_small at_pc at_q stood in
       let mid = run q t.steps cpu in
       let is = ap (run q 2) (sym (state_is mid 0x6865 q t.pc t.stack (goes.loaded mid.mem (t.made.items ++ life) t.stood)))
-      ∙ last q mid.a mid.x mid.y mid.n mid.z mid.c mid.v mid.mem mid.flags mid.log
+      ∙ last q mid.a mid.x mid.y mid.n mid.z mid.c mid.v mid.d mid.i mid.mem mid.flags mid.log
       (ap (λ m. nat_eq ((m + 255) % 256) 0) (t.kept ∙ count)) in (
         2 + t.steps,
         ap (at_return q) (run_more q t.steps 2 cpu ∙ is)
-            ∙ returned q (then_at q mid.a mid.x mid.y mid.n mid.z mid.c mid.v mid.mem mid.flags mid.log 0x6869 true) refl refl,
+            ∙ returned q (then_at q mid.a mid.x mid.y mid.n mid.z mid.c mid.v mid.d mid.i mid.mem mid.flags mid.log 0x6869 true) refl refl,
         ap (λ (c : Cpu). c.mem 0x1F) (run_more q t.steps 2 cpu ∙ is) ∙ ap (λ m. (m + 255) % 256) (t.kept ∙ count),
         (λ b own not out not0 not1. ap (λ (c : Cpu). c.mem b) (run_more q t.steps 2 cpu ∙ is)
             ∙ counted mid ((mid.mem 0x1F + 255) % 256) (t.made.items ++ life) t.stood b not
@@ -177,9 +177,9 @@ module _ (P : Claim) (begin stop : ℕ) (goes : GoesByTicks P begin stop) (q : �
       let mid = run q t.steps cpu in
       let down : (mid.mem 0x1F + 255) % 256 ≡ suc n % 256 = lower n (mid.mem 0x1F) (t.kept ∙ count) most in
       let is = ap (run q 2) (sym (state_is mid 0x6865 q t.pc t.stack (goes.loaded mid.mem (t.made.items ++ life) t.stood)))
-      ∙ again q mid.a mid.x mid.y mid.n mid.z mid.c mid.v mid.mem mid.flags mid.log
+      ∙ again q mid.a mid.x mid.y mid.n mid.z mid.c mid.v mid.d mid.i mid.mem mid.flags mid.log
       (ne_eqb ((mid.mem 0x1F + 255) % 256) 0 (some n (mid.mem 0x1F) (t.kept ∙ count) most)) in
-      let next = then_at q mid.a mid.x mid.y mid.n mid.z mid.c mid.v mid.mem mid.flags mid.log 0x6862 false in
+      let next = then_at q mid.a mid.x mid.y mid.n mid.z mid.c mid.v mid.d mid.i mid.mem mid.flags mid.log 0x6862 false in
       let rest = ticks_end n next (t.made.items ++ life) (omega (arith, most)) refl refl down
       (count_stood P begin stop goes mid.mem ((mid.mem 0x1F + 255) % 256) (t.made.items ++ life) (omega arith) t.stood) in (
         rest.0 + (2 + t.steps),
@@ -210,7 +210,7 @@ ticks_go P k cpu begin stop life goes at_pc a_small s_small stood =
     (omega arith) refl refl (omega (arith, a_small)) counted))
   where
     from : Cpu
-    from = at 0x6860 cpu.a cpu.x cpu.y cpu.s cpu.n cpu.z cpu.c cpu.v (laid (page_in cpu.mem) cpu.mem) cpu.flags cpu.log
+    from = at 0x6860 cpu.a cpu.x cpu.y cpu.s cpu.n cpu.z cpu.c cpu.v cpu.d cpu.i (laid (page_in cpu.mem) cpu.mem) cpu.flags cpu.log
 
     is : from ≡ cpu
     is = state_is cpu 0x6860 cpu.s at_pc refl (goes.loaded cpu.mem life stood)
@@ -236,7 +236,7 @@ ticks_return P cpu begin stop life goes at_pc a_small s_small stood =
     )
   where
     from : Cpu
-    from = at 0x6860 cpu.a cpu.x cpu.y cpu.s cpu.n cpu.z cpu.c cpu.v (laid (page_in cpu.mem) cpu.mem) cpu.flags cpu.log
+    from = at 0x6860 cpu.a cpu.x cpu.y cpu.s cpu.n cpu.z cpu.c cpu.v cpu.d cpu.i (laid (page_in cpu.mem) cpu.mem) cpu.flags cpu.log
 
     is : from ≡ cpu
     is = state_is cpu 0x6860 cpu.s at_pc refl (goes.loaded cpu.mem life stood)

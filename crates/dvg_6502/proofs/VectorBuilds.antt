@@ -112,18 +112,18 @@ module _ (cpu : Cpu) (enters : Enters cpu dvg_vector) where
       (cpu.mem 0x17) (cpu.mem 0x18) (cpu.mem 0x19) (cpu.mem 0x1A)
 
   abbrev start : ℕ → Cpu
-  start phase = at 0x6A17 cpu.a cpu.x cpu.y cpu.s cpu.n cpu.z cpu.c cpu.v
+  start phase = at 0x6A17 cpu.a cpu.x cpu.y cpu.s cpu.n cpu.z cpu.c cpu.v cpu.d cpu.i
       (laid (page phase) (worked (work_in cpu.mem) cpu.mem)) cpu.flags []
 
   start_is : (phase : ℕ) → cpu.mem 0x10 ≡ phase → start phase ≡ cpu
   start_is phase is =
-      ap (λ m. at 0x6A17 cpu.a cpu.x cpu.y cpu.s cpu.n cpu.z cpu.c cpu.v (laid (page phase) m) cpu.flags [])
+      ap (λ m. at 0x6A17 cpu.a cpu.x cpu.y cpu.s cpu.n cpu.z cpu.c cpu.v cpu.d cpu.i (laid (page phase) m) cpu.flags [])
       (known_work cpu.mem) ∙ entered cpu 0x6A17 phase enters is
 
-  coming : (phase : ℕ) → Coming cpu.s cpu.y cpu.s (cpu.mem 0x1F) cpu.a cpu.v (page phase) cpu.mem cpu.flags (start phase)
+  coming : (phase : ℕ) → Coming cpu.s cpu.y cpu.s (cpu.mem 0x1F) cpu.a cpu.v cpu.d cpu.i (page phase) cpu.mem cpu.flags (start phase)
       (put_by Vector cpu)
   coming phase = vector_comes cpu.s cpu.a cpu.x cpu.y cpu.s (cpu.mem 0x1B) (cpu.mem 0x1C) (cpu.mem 0x1D) (cpu.mem 0x1E)
-      (cpu.mem 0x1F) (cpu.mem 0x20) cpu.n cpu.z cpu.c cpu.v (page phase) cpu.mem cpu.flags enters.a
+      (cpu.mem 0x1F) (cpu.mem 0x20) cpu.n cpu.z cpu.c cpu.v cpu.d cpu.i (page phase) cpu.mem cpu.flags enters.a
       (enters.loaded.bytes 0x1B) (enters.loaded.bytes 0x1C) (enters.loaded.bytes 0x1D) (enters.loaded.bytes 0x1E)
       (enters.loaded.bytes 0x1F) (enters.loaded.bytes 0x20)
 
@@ -134,15 +134,15 @@ module _ (cpu : Cpu) (enters : Enters cpu dvg_vector) where
   -- where a frame is being built
   module _ (half : Half) (flipped : Bool) (rest : List ℕ) (more : 2 ≤ length rest) where
     one_builds : (b0 b1 : ℕ) (work : List ℕ) → b0 < 256 → b1 < 256 → (small : AreSmall work)
-        → (n z c v : Bool) → Led cpu.s (start 7) (at 0x6957 b0 b1 cpu.y cpu.s n z c v (laid (page 7) (worked work cpu.mem)) cpu.flags)
+        → (n z c v d i : Bool) → Led cpu.s (start 7) (at 0x6957 b0 b1 cpu.y cpu.s n z c v d i (laid (page 7) (worked work cpu.mem)) cpu.flags)
         → IsBuilding cpu.mem half flipped (b0 ∷ b1 ∷ rest) → BuildsSo (start 7) half flipped (b0 ∷ b1 ∷ []) rest
-    one_builds b0 b1 work b0_small b1_small small n z c v led built =
+    one_builds b0 b1 work b0_small b1_small small n z c v d i led built =
         let m = worked work cpu.mem in
         let load = worked_loaded work cpu.mem small enters.loaded in
         let building' = worked_building work cpu.mem half flipped (b0 ∷ b1 ∷ rest) built in
         let did = led_comes cpu.s (start 7) _ cpu.s false _ (written2 b0 b1) led
         (λ log quiet. after_quiet log (λ l. Writes (suc (goal_in cpu.mem)) b1 ∷ Writes (goal_in cpu.mem) b0 ∷ l) quiet
-        (building.comes b0 b1 cpu.y cpu.s n z c v m cpu.flags log load b0_small b1_small half flipped rest building' more)) in
+        (building.comes b0 b1 cpu.y cpu.s n z c v d i m cpu.flags log load b0_small b1_small half flipped rest building' more)) in
         builds_so (start 7) half flipped (b0 ∷ b1 ∷ []) rest
         (record {
           steps = did.steps;
@@ -150,20 +150,20 @@ module _ (cpu : Cpu) (enters : Enters cpu dvg_vector) where
           carry = did.carry;
           shows = did.accesses;
           alike = alike_if (start 7) did.steps (comes_back did) (λ tables. did.steady tables refl) did.there;
-          goes_on = ap goal_in did.memory ∙ building.moved_on b0 b1 cpu.y cpu.s n z c v m cpu.flags [] load b0_small b1_small
+          goes_on = ap goal_in did.memory ∙ building.moved_on b0 b1 cpu.y cpu.s n z c v d i m cpu.flags [] load b0_small b1_small
               half flipped rest building' more;
           building = subst (λ (m : ℕ → ℕ). IsBuilding m half flipped rest) (sym did.memory)
-              (building.built b0 b1 cpu.y cpu.s n z c v m cpu.flags [] load b0_small b1_small half flipped rest building' more);
+              (building.built b0 b1 cpu.y cpu.s n z c v d i m cpu.flags [] load b0_small b1_small half flipped rest building' more);
           loaded = subst IsLoaded (sym did.memory)
-              (building.new_loaded b0 b1 cpu.y cpu.s n z c v m cpu.flags [] load b0_small b1_small half flipped rest building'
+              (building.new_loaded b0 b1 cpu.y cpu.s n z c v d i m cpu.flags [] load b0_small b1_small half flipped rest building'
               more);
           kept = λ b own out ram. ap (λ (m : ℕ → ℕ). m b) did.memory
-              ∙ building.kept b0 b1 cpu.y cpu.s n z c v m cpu.flags [] load b0_small b1_small half flipped rest building' more
+              ∙ building.kept b0 b1 cpu.y cpu.s n z c v d i m cpu.flags [] load b0_small b1_small half flipped rest building' more
               b own ram ∙ worked_out work cpu.mem b out ∙ sym (start_kept b own out);
         })
         (record {
           byte1 = ap (λ (m : ℕ → ℕ). m 0x4001) did.memory
-              ∙ building.byte1 b0 b1 cpu.y cpu.s n z c v m cpu.flags [] load b0_small b1_small half flipped rest building' more;
+              ∙ building.byte1 b0 b1 cpu.y cpu.s n z c v d i m cpu.flags [] load b0_small b1_small half flipped rest building' more;
           steady = λ tables. did.steady tables refl;
           there = did.there;
         })
@@ -173,7 +173,7 @@ module _ (cpu : Cpu) (enters : Enters cpu dvg_vector) where
 
     two_build : (b0 b1 b2 b3 : ℕ) → (small : AreSmall (b0 ∷ b1 ∷ b2 ∷ b3 ∷ cpu.mem 0x1F ∷ cpu.a ∷ []))
         → (a x : ℕ) (n z c : Bool)
-        → Led cpu.s (start 7) (at 0x6989 a x cpu.y cpu.s n z c cpu.v
+        → Led cpu.s (start 7) (at 0x6989 a x cpu.y cpu.s n z c cpu.v cpu.d cpu.i
         (laid (page 7) (worked (b0 ∷ b1 ∷ b2 ∷ b3 ∷ cpu.mem 0x1F ∷ cpu.a ∷ []) cpu.mem)) cpu.flags)
         → IsBuilding cpu.mem half flipped (b0 ∷ b1 ∷ b2 ∷ b3 ∷ rest)
         → BuildsSo (start 7) half flipped (b0 ∷ b1 ∷ b2 ∷ b3 ∷ []) rest
@@ -187,7 +187,7 @@ module _ (cpu : Cpu) (enters : Enters cpu dvg_vector) where
         (Writes (suc (suc (suc g))) b3 ∷ Writes (suc (suc g)) b2 ∷ Writes (suc g) b1 ∷ Writes g b0 ∷ []) led
         (λ log quiet. after_quiet log
         (λ l. Writes (suc (suc (suc g))) b3 ∷ Writes (suc (suc g)) b2 ∷ Writes (suc g) b1 ∷ Writes g b0 ∷ l) quiet
-        (closing.comes a x cpu.y cpu.s n z c cpu.v m cpu.flags log load half flipped b0 b1 b2 b3 rest refl refl refl refl
+        (closing.comes a x cpu.y cpu.s n z c cpu.v cpu.d cpu.i m cpu.flags log load half flipped b0 b1 b2 b3 rest refl refl refl refl
         building' more)) in
         builds_so (start 7) half flipped (b0 ∷ b1 ∷ b2 ∷ b3 ∷ []) rest
         (record {
@@ -196,21 +196,21 @@ module _ (cpu : Cpu) (enters : Enters cpu dvg_vector) where
           carry = did.carry;
           shows = did.accesses;
           alike = alike_if (start 7) did.steps (comes_back did) (λ tables. did.steady tables refl) did.there;
-          goes_on = ap goal_in did.memory ∙ closing.moved_on a x cpu.y cpu.s n z c cpu.v m cpu.flags [] load half flipped b0
+          goes_on = ap goal_in did.memory ∙ closing.moved_on a x cpu.y cpu.s n z c cpu.v cpu.d cpu.i m cpu.flags [] load half flipped b0
               b1 b2 b3 rest refl refl refl refl building' more;
           building = subst (λ (m : ℕ → ℕ). IsBuilding m half flipped rest) (sym did.memory)
-              (closing.built a x cpu.y cpu.s n z c cpu.v m cpu.flags [] load half flipped b0 b1 b2 b3 rest refl refl refl refl
+              (closing.built a x cpu.y cpu.s n z c cpu.v cpu.d cpu.i m cpu.flags [] load half flipped b0 b1 b2 b3 rest refl refl refl refl
               building' more);
           loaded = subst IsLoaded (sym did.memory)
-              (closing.new_loaded a x cpu.y cpu.s n z c cpu.v m cpu.flags [] load half flipped b0 b1 b2 b3 rest refl refl refl
+              (closing.new_loaded a x cpu.y cpu.s n z c cpu.v cpu.d cpu.i m cpu.flags [] load half flipped b0 b1 b2 b3 rest refl refl refl
               refl building' more);
           kept = λ b own out ram. ap (λ (m : ℕ → ℕ). m b) did.memory
-              ∙ closing.kept a x cpu.y cpu.s n z c cpu.v m cpu.flags [] load half flipped b0 b1 b2 b3 rest refl refl refl refl
+              ∙ closing.kept a x cpu.y cpu.s n z c cpu.v cpu.d cpu.i m cpu.flags [] load half flipped b0 b1 b2 b3 rest refl refl refl refl
               building' more b own ram ∙ worked_out work cpu.mem b out ∙ sym (start_kept b own out);
         })
         (record {
           byte1 = ap (λ (m : ℕ → ℕ). m 0x4001) did.memory
-              ∙ closing.byte1 a x cpu.y cpu.s n z c cpu.v m cpu.flags [] load half flipped b0 b1 b2 b3 rest refl refl refl refl
+              ∙ closing.byte1 a x cpu.y cpu.s n z c cpu.v cpu.d cpu.i m cpu.flags [] load half flipped b0 b1 b2 b3 rest refl refl refl refl
               building' more;
           steady = λ tables. did.steady tables refl;
           there = did.there;
@@ -221,12 +221,12 @@ module _ (cpu : Cpu) (enters : Enters cpu dvg_vector) where
     vector_steadily some built =
         subst (λ (k : Cpu). BuildsSo k half flipped (put_by Vector cpu) rest) (start_is 7 built.phase) (which (coming 7))
       where
-        which : Coming cpu.s cpu.y cpu.s (cpu.mem 0x1F) cpu.a cpu.v (page 7) cpu.mem cpu.flags (start 7) (put_by Vector cpu)
+        which : Coming cpu.s cpu.y cpu.s (cpu.mem 0x1F) cpu.a cpu.v cpu.d cpu.i (page 7) cpu.mem cpu.flags (start 7) (put_by Vector cpu)
             → BuildsSo (start 7) half flipped (put_by Vector cpu) rest
         which (no_word is out) = absurd (let e = ap length is in omega (arith, e, some))
         which (one_word b0 b1 work is b0_small b1_small small to) =
             subst (λ l. BuildsSo (start 7) half flipped l rest) (sym is)
-            (one_builds b0 b1 work b0_small b1_small small to.n to.z to.c to.v' to.led
+            (one_builds b0 b1 work b0_small b1_small small to.n to.z to.c to.v' cpu.d cpu.i to.led
             (subst (λ l. IsBuilding cpu.mem half flipped (l ++ rest)) is built))
         which (two_words b0 b1 b2 b3 is small to) =
             subst (λ l. BuildsSo (start 7) half flipped l rest) (sym is)
@@ -243,8 +243,8 @@ module _ (cpu : Cpu) (enters : Enters cpu dvg_vector) where
 
   -- what dvg_put and dvg_pair then refuse
   abbrev Refusing : ℕ → Type 0
-  Refusing entry = (a x : ℕ) (n z c v : Bool) (m : ℕ → ℕ) (log : List Access)
-      → Comes cpu.s (at entry a x cpu.y cpu.s n z c v (laid (page_in cpu.mem) m) cpu.flags log) cpu.s true
+  Refusing entry = (a x : ℕ) (n z c v d i : Bool) (m : ℕ → ℕ) (log : List Access)
+      → Comes cpu.s (at entry a x cpu.y cpu.s n z c v d i (laid (page_in cpu.mem) m) cpu.flags log) cpu.s true
       (laid (page_in cpu.mem) m) (seen log) []
 
   refusal : (length (put_by Vector cpu) ≡ 2 → Refusing 0x6957) → (length (put_by Vector cpu) ≡ 4 → Refusing 0x6989)
@@ -256,7 +256,7 @@ module _ (cpu : Cpu) (enters : Enters cpu dvg_vector) where
       home work did = subst (λ (k : Cpu). Comes cpu.s k cpu.s true (laid (page_in cpu.mem) (worked work cpu.mem)) [] [])
           (start_is (cpu.mem 0x10) refl) did
 
-      which : Coming cpu.s cpu.y cpu.s (cpu.mem 0x1F) cpu.a cpu.v (page (cpu.mem 0x10)) cpu.mem cpu.flags first
+      which : Coming cpu.s cpu.y cpu.s (cpu.mem 0x1F) cpu.a cpu.v cpu.d cpu.i (page (cpu.mem 0x10)) cpu.mem cpu.flags first
           (put_by Vector cpu) → Refusal
       which (no_word is out) = (
         out.work,
@@ -269,7 +269,7 @@ module _ (cpu : Cpu) (enters : Enters cpu dvg_vector) where
         small,
         home work (led_comes cpu.s first _ cpu.s true _ [] to.led
             (λ log quiet. after_quiet log (λ l. l) quiet
-            (puts (ap length is) b0 b1 to.n to.z to.c to.v' (worked work cpu.mem) log))),
+            (puts (ap length is) b0 b1 to.n to.z to.c to.v' cpu.d cpu.i (worked work cpu.mem) log))),
       )
       which (two_words b0 b1 b2 b3 is small to) =
           let work = b0 ∷ b1 ∷ b2 ∷ b3 ∷ cpu.mem 0x1F ∷ cpu.a ∷ [] in (
@@ -277,7 +277,7 @@ module _ (cpu : Cpu) (enters : Enters cpu dvg_vector) where
             small,
             home work (led_comes cpu.s first _ cpu.s true _ [] to.led
                 (λ log quiet. after_quiet log (λ l. l) quiet
-                (pairs (ap length is) to.a to.x to.n to.z to.c cpu.v (worked work cpu.mem) log))),
+                (pairs (ap length is) to.a to.x to.n to.z to.c cpu.v cpu.d cpu.i (worked work cpu.mem) log))),
           )
 
   -- outside of these bytes memory is as it was
@@ -305,10 +305,10 @@ module _ (cpu : Cpu) (enters : Enters cpu dvg_vector) where
 
   pub not_building_vector : nat_eq (cpu.mem 0x10) 7 ≡ false → Refusal
   not_building_vector other = refusal
-      (λ two a x n z c v m log. put_refuses cpu.s a x cpu.y cpu.s n z c v (cpu.mem 0x11) (cpu.mem 0x12) (cpu.mem 0x13)
+      (λ two a x n z c v d i m log. put_refuses cpu.s a x cpu.y cpu.s n z c v d i (cpu.mem 0x11) (cpu.mem 0x12) (cpu.mem 0x13)
       (cpu.mem 0x14) (cpu.mem 0x15) (cpu.mem 0x16) (cpu.mem 0x17) (cpu.mem 0x18) (cpu.mem 0x19) (cpu.mem 0x1A) m cpu.flags
       log (cpu.mem 0x10) (enters.loaded.bytes 0x10) other)
-      (λ four a x n z c v m log. pair_refuses cpu.s a x cpu.y cpu.s n z c v (cpu.mem 0x10) (cpu.mem 0x11) (cpu.mem 0x12)
+      (λ four a x n z c v d i m log. pair_refuses cpu.s a x cpu.y cpu.s n z c v d i (cpu.mem 0x10) (cpu.mem 0x11) (cpu.mem 0x12)
       (cpu.mem 0x13) (cpu.mem 0x14) (cpu.mem 0x15) (cpu.mem 0x16) (cpu.mem 0x17) (cpu.mem 0x18) (cpu.mem 0x19)
       (cpu.mem 0x1A) m cpu.flags log (enters.loaded.bytes 0x10) other)
 
@@ -316,26 +316,26 @@ module _ (cpu : Cpu) (enters : Enters cpu dvg_vector) where
     no_room : (length (put_by Vector cpu) ≡ 2 → nat_le 0xFE (cpu.mem 0x13) ≡ true)
         → (length (put_by Vector cpu) ≡ 4 → nat_le 0xFC (cpu.mem 0x13) ≡ true) → Refusal
     no_room late_one late_two = refusal
-        (λ two a x n z c v m log. at_phase 0x6957 a x n z c v m log
-        (put_full cpu.s a x cpu.y cpu.s n z c v (cpu.mem 0x11) (cpu.mem 0x12) (cpu.mem 0x13) (cpu.mem 0x14) (cpu.mem 0x15)
+        (λ two a x n z c v d i m log. at_phase 0x6957 a x n z c v d i m log
+        (put_full cpu.s a x cpu.y cpu.s n z c v d i (cpu.mem 0x11) (cpu.mem 0x12) (cpu.mem 0x13) (cpu.mem 0x14) (cpu.mem 0x15)
         (cpu.mem 0x16) (cpu.mem 0x17) (cpu.mem 0x18) (cpu.mem 0x19) (cpu.mem 0x1A) m cpu.flags log last (late_one two)))
-        (λ four a x n z c v m log. at_phase 0x6989 a x n z c v m log
-        (pair_full cpu.s a x cpu.y cpu.s n z c v (cpu.mem 0x11) (cpu.mem 0x12) (cpu.mem 0x13) (cpu.mem 0x14) (cpu.mem 0x15)
+        (λ four a x n z c v d i m log. at_phase 0x6989 a x n z c v d i m log
+        (pair_full cpu.s a x cpu.y cpu.s n z c v d i (cpu.mem 0x11) (cpu.mem 0x12) (cpu.mem 0x13) (cpu.mem 0x14) (cpu.mem 0x15)
         (cpu.mem 0x16) (cpu.mem 0x17) (cpu.mem 0x18) (cpu.mem 0x19) (cpu.mem 0x1A) m cpu.flags log last (late_two four)))
       where
-        at_phase : (entry a x : ℕ) (n z c v : Bool) (m : ℕ → ℕ) (log : List Access)
-            → Comes cpu.s (at entry a x cpu.y cpu.s n z c v (laid (page 7) m) cpu.flags log) cpu.s true (laid (page 7) m)
+        at_phase : (entry a x : ℕ) (n z c v d i : Bool) (m : ℕ → ℕ) (log : List Access)
+            → Comes cpu.s (at entry a x cpu.y cpu.s n z c v d i (laid (page 7) m) cpu.flags log) cpu.s true (laid (page 7) m)
             (seen log) []
-            → Comes cpu.s (at entry a x cpu.y cpu.s n z c v (laid (page_in cpu.mem) m) cpu.flags log) cpu.s true
+            → Comes cpu.s (at entry a x cpu.y cpu.s n z c v d i (laid (page_in cpu.mem) m) cpu.flags log) cpu.s true
             (laid (page_in cpu.mem) m) (seen log) []
-        at_phase entry a x n z c v m log did = subst (λ p. Comes cpu.s (at entry a x cpu.y cpu.s n z c v (laid (page p) m)
+        at_phase entry a x n z c v d i m log did = subst (λ p. Comes cpu.s (at entry a x cpu.y cpu.s n z c v d i (laid (page p) m)
             cpu.flags log) cpu.s true (laid (page p) m) (seen log) []) (sym is) did
 
   -- a vector has one word, or two
   lengths : (length (put_by Vector cpu) ≡ 0) ⊎ ((length (put_by Vector cpu) ≡ 2) ⊎ (length (put_by Vector cpu) ≡ 4))
   lengths = which (coming 0)
     where
-      which : Coming cpu.s cpu.y cpu.s (cpu.mem 0x1F) cpu.a cpu.v (page 0) cpu.mem cpu.flags (start 0) (put_by Vector cpu)
+      which : Coming cpu.s cpu.y cpu.s (cpu.mem 0x1F) cpu.a cpu.v cpu.d cpu.i (page 0) cpu.mem cpu.flags (start 0) (put_by Vector cpu)
           → (length (put_by Vector cpu) ≡ 0) ⊎ ((length (put_by Vector cpu) ≡ 2) ⊎ (length (put_by Vector cpu) ≡ 4))
       which (no_word is out) = inl (ap length is)
       which (one_word b0 b1 work is b0_small b1_small small to) = inr (inl (ap length is))

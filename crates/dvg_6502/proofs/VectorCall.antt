@@ -120,13 +120,13 @@ module _ (s z wx wy : ℕ) (mx my : Bool) (x_small : wx < 65536) (y_small : wy <
           omega (arith, few, eg, ea, eg', ea', eh, less, less', fits, fits', z_small)
 
 -- what a call comes to: it puts nothing, one word, or two
-pub data Comes (q y s l len : ℕ) (v : Bool) (page : List ℕ) (mem flags : ℕ → ℕ) (from : Cpu) (now : List ℕ) : Type 0 where
-  no_word : now ≡ [] → Beyond q y s l len v page mem flags from → Comes q y s l len v page mem flags from now
+pub data Comes (q y s l len : ℕ) (v d i : Bool) (page : List ℕ) (mem flags : ℕ → ℕ) (from : Cpu) (now : List ℕ) : Type 0 where
+  no_word : now ≡ [] → Beyond q y s l len v d i page mem flags from → Comes q y s l len v d i page mem flags from now
   one_word : (b0 b1 : ℕ) (work : List ℕ) → now ≡ b0 ∷ b1 ∷ [] → b0 < 256 → b1 < 256 → AreSmall work
-      → ToPut q y s l len v page mem flags from b0 b1 work → Comes q y s l len v page mem flags from now
+      → ToPut q y s l len v d i page mem flags from b0 b1 work → Comes q y s l len v d i page mem flags from now
   two_words : (b0 b1 b2 b3 : ℕ) → now ≡ b0 ∷ b1 ∷ b2 ∷ b3 ∷ [] → AreSmall (b0 ∷ b1 ∷ b2 ∷ b3 ∷ l ∷ len ∷ [])
-      → ToPair q y s l len v page mem flags from (b0 ∷ b1 ∷ b2 ∷ b3 ∷ l ∷ len ∷ [])
-      → Comes q y s l len v page mem flags from now
+      → ToPair q y s l len v d i page mem flags from (b0 ∷ b1 ∷ b2 ∷ b3 ∷ l ∷ len ∷ [])
+      → Comes q y s l len v d i page mem flags from now
 
 right_false : (t : Bool) → (t && false) ≡ false
 right_false true = refl
@@ -148,17 +148,17 @@ high_small : (m : Bool) (w : ℕ) → magnitude m w ≤ 1023 → high_of m w < 8
 high_small true w fits = omega (arith, fits)
 high_small false w fits = omega (arith, fits)
 
-module _ (q a x y s y0 y1 x0 x1 l old : ℕ) (n z c v : Bool) (page : List ℕ) (mem flags : ℕ → ℕ) (a_small : a < 256)
+module _ (q a x y s y0 y1 x0 x1 l old : ℕ) (n z c v d i : Bool) (page : List ℕ) (mem flags : ℕ → ℕ) (a_small : a < 256)
     (y0_small : y0 < 256) (y1_small : y1 < 256) (x0_small : x0 < 256) (x1_small : x1 < 256) (l_small : l < 256)
     (old_small : old < 256) where
   abbrev pub from : Cpu
-  from = here q y s l a v page mem flags 0x6A17 a x n z c (y0 ∷ y1 ∷ x0 ∷ x1 ∷ l ∷ old ∷ []) []
+  from = here q y s l a v d i page mem flags 0x6A17 a x n z c (y0 ∷ y1 ∷ x0 ∷ x1 ∷ l ∷ old ∷ []) []
 
   abbrev pub now : List ℕ
   now = vector_bytes (a / 16) (number x0 x1) (number y0 y1) (a % 16)
 
   abbrev pub Coming : Type 0
-  Coming = Comes q y s l a v page mem flags from now
+  Coming = Comes q y s l a v d i page mem flags from now
 
   -- by the signs of the moves
   module _ (mx my : Bool) (x_is : nat_le 128 x1 ≡ mx) (y_is : nat_le 128 y1 ≡ my) where
@@ -199,31 +199,31 @@ module _ (q a x y s y0 y1 x0 x1 l old : ℕ) (n z c v : Bool) (page : List ℕ) 
     abs_y : unsigned_abs fy ≡ ey
     abs_y = abs_is my wy wy_small
 
-    begin : nat_le 0xA0 a ≡ false → Led q from (here q y s l a v page mem flags 0x6A1F a 2 false false false
+    begin : nat_le 0xA0 a ≡ false → Led q from (here q y s l a v d i page mem flags 0x6A1F a 2 false false false
         (y0 ∷ y1 ∷ x0 ∷ x1 ∷ l ∷ a ∷ []))
-    begin is = scale_in q y s l a v page mem flags y0 y1 x0 x1 old x n z c [] refl is
+    begin is = scale_in q y s l a v d i page mem flags y0 y1 x0 x1 old x n z c [] refl is
 
     abbrev at_first : List Access → Cpu
-    at_first = here q y s l a v page mem flags 0x6A1F a 2 false false false (y0 ∷ y1 ∷ x0 ∷ x1 ∷ l ∷ a ∷ [])
+    at_first = here q y s l a v d i page mem flags 0x6A1F a 2 false false false (y0 ∷ y1 ∷ x0 ∷ x1 ∷ l ∷ a ∷ [])
 
     scale_above : nat_le 0xA0 a ≡ true → Coming
     scale_above is = no_word (no_vector (ap (λ (t : Bool). t && (nat_le (unsigned_abs fx) 1023 && nat_le (unsigned_abs fy) 1023))
         (le_not (a / 16) 9 (let above = leb-true 0xA0 a is in omega (arith, above)))))
-        (scale_out q y s l a v page mem flags y0 y1 x0 x1 old x n z c [] refl is
+        (scale_out q y s l a v d i page mem flags y0 y1 x0 x1 old x n z c [] refl is
         (y0_small, (y1_small, (x0_small, (x1_small, (l_small, (old_small, tt)))))))
 
     x_above : nat_le 0xA0 a ≡ false → 1023 < ex → Coming
     x_above is above = no_word (no_vector (second_false (nat_le (a / 16) 9) (nat_le (unsigned_abs fx) 1023)
         (nat_le (unsigned_abs fy) 1023) (ap (λ k. nat_le k 1023) abs_x ∙ le_not ex 1023 above)))
-        (beyond_more q y s l a v page mem flags from at_first (begin is)
-        (λ log quiet. first_out q y s l a v page mem flags y0 y1 x0 x1 y0_small y1_small x0_small x1_small l_small a_small
+        (beyond_more q y s l a v d i page mem flags from at_first (begin is)
+        (λ log quiet. first_out q y s l a v d i page mem flags y0 y1 x0 x1 y0_small y1_small x0_small x1_small l_small a_small
         my mx y_is x_is a false false false log quiet above))
 
     y_above : nat_le 0xA0 a ≡ false → ex ≤ 1023 → 1023 < ey → Coming
     y_above is fits above = no_word (no_vector (third_false (nat_le (a / 16) 9) (nat_le (unsigned_abs fx) 1023)
         (nat_le (unsigned_abs fy) 1023) (ap (λ k. nat_le k 1023) abs_y ∙ le_not ey 1023 above)))
-        (beyond_more q y s l a v page mem flags from at_first (begin is)
-        (λ log quiet. second_out q y s l a v page mem flags y0 y1 x0 x1 y0_small y1_small x0_small x1_small l_small a_small
+        (beyond_more q y s l a v d i page mem flags from at_first (begin is)
+        (λ log quiet. second_out q y s l a v d i page mem flags y0 y1 x0 x1 y0_small y1_small x0_small x1_small l_small a_small
         my mx y_is x_is a false false false log quiet fits above))
 
     -- there is such a vector
@@ -263,11 +263,11 @@ module _ (q a x y s y0 y1 x0 x1 l old : ℕ) (n z c v : Bool) (page : List ℕ) 
       lx = ex % 256
 
       abbrev words : List Access → Cpu
-      words = here q y s l a v page mem flags 0x6A47 ky 254 true false false (ly ∷ ky ∷ lx ∷ kx ∷ l ∷ a ∷ [])
+      words = here q y s l a v d i page mem flags 0x6A47 ky 254 true false false (ly ∷ ky ∷ lx ∷ kx ∷ l ∷ a ∷ [])
 
       to_words : Led q from words
       to_words = more q from at_first words (begin scale_is)
-          (λ log quiet. both_in q y s l a v page mem flags y0 y1 x0 x1 y0_small y1_small x0_small x1_small l_small a_small
+          (λ log quiet. both_in q y s l a v d i page mem flags y0 y1 x0 x1 y0_small y1_small x0_small x1_small l_small a_small
           my mx y_is x_is a false false false log quiet fits_x fits_y)
 
       abbrev shifted : ℕ
@@ -298,7 +298,7 @@ module _ (q a x y s y0 y1 x0 x1 l old : ℕ) (n z c v : Bool) (page : List ℕ) 
 
       -- two words
       as_pair : is_short (a / 16) fx fy ≡ false
-          → ((log : List Access) → seen log ≡ [] → ToPair q y s l a v page mem flags (words log) wide) → Coming
+          → ((log : List Access) → seen log ≡ [] → ToPair q y s l a v d i page mem flags (words log) wide) → Coming
       as_pair is rest = two_words ly (bit_or (bit_and a 0xF0) ky) lx (bit_or shifted kx)
           (now_so false is ∙ long_bytes (a / 16) (a % 16) wx wy mx my wx_small wy_small (omega arith) fits_x fits_y
           ∙ four refl (sym top_is) refl (sym low_is)) (
@@ -308,25 +308,25 @@ module _ (q a x y s y0 y1 x0 x1 l old : ℕ) (n z c v : Bool) (page : List ℕ) 
               (omega arith, (omega (arith, low_is, kx_small), (l_small, (a_small, tt)))),
             ),
           )
-          (pair_more q y s l a v page mem flags from words wide to_words rest)
+          (pair_more q y s l a v d i page mem flags from words wide to_words rest)
 
       some : zeros ≡ false → Coming
       some is = as_pair
           (first_of_four (nat_eq (unsigned_abs fy % 256) 0) (nat_eq (unsigned_abs fx % 256) 0) (nat_le 2 (a / 16))
           (nat_le (a / 16) 5) (zeros_said ∙ is))
-          (λ log quiet. long_some q y s l a v page mem flags ly ky lx kx log quiet (zeros_code ∙ is))
+          (λ log quiet. long_some q y s l a v d i page mem flags ly ky lx kx log quiet (zeros_code ∙ is))
 
       below : zeros ≡ true → nat_le 0x20 a ≡ false → Coming
       below is less = as_pair
           (second_false (nat_eq (unsigned_abs fy % 256) 0 && nat_eq (unsigned_abs fx % 256) 0) (nat_le 2 (a / 16))
           (nat_le (a / 16) 5) (le_not 2 (a / 16) (let few = leb-false 0x20 a less in omega (arith, few))))
-          (λ log quiet. long_small q y s l a v page mem flags ly ky lx kx log quiet (zeros_code ∙ is) less)
+          (λ log quiet. long_small q y s l a v d i page mem flags ly ky lx kx log quiet (zeros_code ∙ is) less)
 
       above : zeros ≡ true → nat_le 0x20 a ≡ true → nat_le 0x60 a ≡ true → Coming
       above is two five = as_pair
           (third_false (nat_eq (unsigned_abs fy % 256) 0 && nat_eq (unsigned_abs fx % 256) 0) (nat_le 2 (a / 16))
           (nat_le (a / 16) 5) (le_not (a / 16) 5 (let many = leb-true 0x60 a five in omega (arith, many))))
-          (λ log quiet. long_large q y s l a v page mem flags ly ky lx kx log quiet (zeros_code ∙ is) two five)
+          (λ log quiet. long_large q y s l a v d i page mem flags ly ky lx kx log quiet (zeros_code ∙ is) two five)
 
       -- one word
       abbrev high : ℕ
@@ -374,12 +374,12 @@ module _ (q a x y s y0 y1 x0 x1 l old : ℕ) (n z c v : Bool) (page : List ℕ) 
             (puts t large)
           where
             puts : (t : Bool) → nat_le 64 (a % 128) ≡ t
-                → ToPut q y s l a v page mem flags from (low t) high (ly ∷ ky ∷ lx ∷ kx ∷ l ∷ a ∷ [])
-            puts true large = put_more q y s l a v page mem flags from words (low true) high _ to_words
-                (λ log quiet. short_fits q y s l a v page mem flags ly ky lx kx log quiet (zeros_code ∙ is) two_is five_is
+                → ToPut q y s l a v d i page mem flags from (low t) high (ly ∷ ky ∷ lx ∷ kx ∷ l ∷ a ∷ [])
+            puts true large = put_more q y s l a v d i page mem flags from words (low true) high _ to_words
+                (λ log quiet. short_fits q y s l a v d i page mem flags ly ky lx kx log quiet (zeros_code ∙ is) two_is five_is
                 true large)
-            puts false large = put_more q y s l a v page mem flags from words (low false) high _ to_words
-                (λ log quiet. short_fits q y s l a v page mem flags ly ky lx kx log quiet (zeros_code ∙ is) two_is five_is
+            puts false large = put_more q y s l a v d i page mem flags from words (low false) high _ to_words
+                (λ log quiet. short_fits q y s l a v d i page mem flags ly ky lx kx log quiet (zeros_code ∙ is) two_is five_is
                 false large)
 
       within : Coming

@@ -106,9 +106,9 @@ abbrev pub high_of : Bool → ℕ → ℕ
 high_of true w = 4 + magnitude true w / 256
 high_of false w = magnitude false w / 256
 
-module _ (q y s l len : ℕ) (v : Bool) (page : List ℕ) (mem flags : ℕ → ℕ) where
+module _ (q y s l len : ℕ) (v d i : Bool) (page : List ℕ) (mem flags : ℕ → ℕ) where
   abbrev pub here : (pc a x : ℕ) (n z c : Bool) (work : List ℕ) → List Access → Cpu
-  here pc a x n z c work log = at pc a x y s n z c v (laid page (worked work mem)) flags log
+  here pc a x n z c work log = at pc a x y s n z c v d i (laid page (worked work mem)) flags log
 
   -- the bytes of both numbers, where one of them is this one
   abbrev pair : Bool → (o0 o1 lo hi : ℕ) → List ℕ
@@ -398,7 +398,7 @@ module _ (q y s l len : ℕ) (v : Bool) (page : List ℕ) (mem flags : ℕ → �
     pub z : Bool
     pub c : Bool
     pub v' : Bool
-    pub led : Led q from (at 0x6957 a x y s n z c v' (laid page (worked work mem)) flags)
+    pub led : Led q from (at 0x6957 a x y s n z c v' d i (laid page (worked work mem)) flags)
 
   pub record ToPair (from : Cpu) (work : List ℕ) : Type 0 where
     pub a : ℕ
@@ -417,7 +417,7 @@ module _ (q y s l len : ℕ) (v : Bool) (page : List ℕ) (mem flags : ℕ → �
         z = two.z;
         c = two.c;
         v' = two.v';
-        led = joined q from mid (at 0x6957 a x y s two.n two.z two.c two.v' (laid page (worked work mem)) flags) one two.led;
+        led = joined q from mid (at 0x6957 a x y s two.n two.z two.c two.v' d i (laid page (worked work mem)) flags) one two.led;
       }
 
   pub pair_more : (from : Cpu) (mid : List Access → Cpu) (work : List ℕ) → Led q from mid
@@ -435,7 +435,7 @@ module _ (q y s l len : ℕ) (v : Bool) (page : List ℕ) (mem flags : ℕ → �
 
   -- so many steps come to dvg_put, and to dvg_pair
   to_put : (steps : ℕ) (from : Cpu) {a x : ℕ} {work : List ℕ} → let to = run q steps from in
-      to ≡ at 0x6957 a x y s to.n to.z to.c to.v (laid page (worked work mem)) flags to.log
+      to ≡ at 0x6957 a x y s to.n to.z to.c to.v d i (laid page (worked work mem)) flags to.log
       → IsSteady q steps [] from → seen to.log ≡ [] → ToPut from a x work
   to_put steps from is steady quiet = let to = run q steps from in
       record { n = to.n; z = to.z; c = to.c; v' = to.v; led = led steps is steady quiet }

@@ -2,9 +2,11 @@
 use Rattle.std.specs.Prelude.{◌≡◌, ℕ, zero, suc, ◌+◌, ◌%◌, ◌&&◌, ◌||◌, Bool, true, false, not, nat_eq, nat_le}
 use Rattle.std.specs.Prelude.{nat_lt, List, [], ◌∷◌}
 use Rattle.dvg_6502.specs.Processor.{Cpu, Instr, Mode, Immediate, ZeroPage, ZeroPageX, Absolute, IndirectIndexed, Load}
-use Rattle.dvg_6502.specs.Processor.{Store, And, Or, Xor, Compare, TestBits, Change, ShiftLeft, RotateLeft}
+use Rattle.dvg_6502.specs.Processor.{Store, And, Or, Xor, Compare, TestBits, Change}
 use Rattle.dvg_6502.specs.Processor.{Branch, Jump, Call, Return}
 use Rattle.dvg_6502.specs.Processor.{decoded, opcodes, address, stack_place, turn, run, at_return}
+use Rattle.dvg_6502.specs.Processor.{ZeroPageY, AbsoluteX, AbsoluteY, IndexedIndirect, Add, Subtract, ShiftAt, JumpAt}
+use Rattle.dvg_6502.specs.Processor.{PushA, PushFlags, PullA, PullFlags, ToStack, Resume, beside}
 use Rattle.dvg_6502.specs.Board.{is_own, is_hardware}
 
 -- the processor, with another memory
@@ -16,7 +18,12 @@ abbrev pub naming : Mode → Cpu → List ℕ
 naming Immediate cpu = []
 naming ZeroPage cpu = (cpu.pc + 1) ∷ []
 naming ZeroPageX cpu = (cpu.pc + 1) ∷ []
+naming ZeroPageY cpu = (cpu.pc + 1) ∷ []
 naming Absolute cpu = (cpu.pc + 1) ∷ (cpu.pc + 2) ∷ []
+naming AbsoluteX cpu = (cpu.pc + 1) ∷ (cpu.pc + 2) ∷ []
+naming AbsoluteY cpu = (cpu.pc + 1) ∷ (cpu.pc + 2) ∷ []
+naming IndexedIndirect cpu =
+    let zp = (cpu.mem (cpu.pc + 1) + cpu.x) % 256 in (cpu.pc + 1) ∷ zp ∷ ((zp + 1) % 256) ∷ []
 naming IndirectIndexed cpu = let zp = cpu.mem (cpu.pc + 1) in (cpu.pc + 1) ∷ zp ∷ ((zp + 1) % 256) ∷ []
 
 -- and these with the byte itself
@@ -24,7 +31,11 @@ abbrev pub named : Mode → Cpu → List ℕ
 named Immediate cpu = (cpu.pc + 1) ∷ []
 named ZeroPage cpu = address ZeroPage cpu ∷ naming ZeroPage cpu
 named ZeroPageX cpu = address ZeroPageX cpu ∷ naming ZeroPageX cpu
+named ZeroPageY cpu = address ZeroPageY cpu ∷ naming ZeroPageY cpu
 named Absolute cpu = address Absolute cpu ∷ naming Absolute cpu
+named AbsoluteX cpu = address AbsoluteX cpu ∷ naming AbsoluteX cpu
+named AbsoluteY cpu = address AbsoluteY cpu ∷ naming AbsoluteY cpu
+named IndexedIndirect cpu = address IndexedIndirect cpu ∷ naming IndexedIndirect cpu
 named IndirectIndexed cpu = address IndirectIndexed cpu ∷ naming IndirectIndexed cpu
 
 -- the bytes that an instruction reads after its opcode
@@ -34,15 +45,20 @@ touches (Store r mode) cpu = naming mode cpu
 touches (And mode) cpu = named mode cpu
 touches (Or mode) cpu = named mode cpu
 touches (Xor mode) cpu = named mode cpu
+touches (Add mode) cpu = named mode cpu
+touches (Subtract mode) cpu = named mode cpu
 touches (Compare r mode) cpu = named mode cpu
 touches (TestBits mode) cpu = named mode cpu
 touches (Change mode by) cpu = named mode cpu
-touches ShiftLeft cpu = named ZeroPage cpu
-touches RotateLeft cpu = named ZeroPage cpu
+touches (ShiftAt shift mode) cpu = named mode cpu
 touches (Branch flag when) cpu = (cpu.pc + 1) ∷ []
 touches Jump cpu = (cpu.pc + 1) ∷ (cpu.pc + 2) ∷ []
+touches JumpAt cpu = beside cpu ∷ named Absolute cpu
 touches Call cpu = (cpu.pc + 1) ∷ (cpu.pc + 2) ∷ []
 touches Return cpu = stack_place (cpu.s + 1) ∷ stack_place (cpu.s + 2) ∷ []
+touches PullA cpu = stack_place (cpu.s + 1) ∷ []
+touches PullFlags cpu = stack_place (cpu.s + 1) ∷ []
+touches Resume cpu = stack_place (cpu.s + 1) ∷ stack_place (cpu.s + 2) ∷ stack_place (cpu.s + 3) ∷ []
 touches instr cpu = []
 
 -- which bytes are guarded where S is this
@@ -66,9 +82,15 @@ abbrev pub all_in : (ℕ → Bool) → List ℕ → Bool
 all_in guard [] = true
 all_in guard (b ∷ bs) = guard b && all_in guard bs
 
--- a return leads back to the call's own level
+-- a return leads back to the call's own level, and nothing but calls and returns changes S
 abbrev pub goes_home : ℕ → Instr → Cpu → Bool
 goes_home s Return cpu = nat_eq ((cpu.s + 2) % 256) s
+goes_home s PushA cpu = false
+goes_home s PushFlags cpu = false
+goes_home s PullA cpu = false
+goes_home s PullFlags cpu = false
+goes_home s ToStack cpu = false
+goes_home s Resume cpu = false
 goes_home s instr cpu = true
 
 -- the driver's code

@@ -2,6 +2,7 @@ pub mod Processor
 pub mod Code
 pub mod Board
 pub mod Amid
+pub mod Interrupts
 pub mod Feed
 pub mod Holds
 pub mod Tables

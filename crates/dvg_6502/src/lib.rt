@@ -7,6 +7,7 @@ ghost use Rattle.dvg_6502.specs.Calls.{CallsLive, OfferAnswers, OneLife, OpenAns
 ghost use Rattle.dvg_6502.specs.Calls.{RedrawAnswers, RunSpares, TicksReturn};
 ghost use Rattle.dvg_6502.specs.Decided.{CallsDecide, Decides, LabsIsPair, StaysBuilding};
 ghost use Rattle.dvg_6502.specs.Decided.{StaysIdle};
+ghost use Rattle.dvg_6502.specs.Interrupts.{InterruptReturns};
 ghost use Rattle.dvg_6502.specs.Programs.{Hindsight};
 ghost use Rattle.dvg_6502.specs.Joined.{BoardKeeps, SomeBuilding, SomeCalls, SomeLogs, SomeTicks};
 ghost use Rattle.dvg_6502.specs.Routines.{OfferRefuses, OfferTakes, RedrawRefuses, RedrawTakes};
@@ -85,6 +86,13 @@ pub fn ticks_return()
 /// A call of `dvg_run` that has returned changed at most the same bytes, also amid interrupts.
 pub fn run_spares()
     ensures { RunSpares }
+{}
+
+/// An NMI's routine is a program like another one. Where it comes to an RTI, with S and the three
+/// bytes that the NMI pushed as they were, the program goes on where the NMI came, with the flags
+/// of then; A, X, Y and memory are as the routine left them.
+pub fn interrupt_returns()
+    ensures { InterruptReturns }
 {}
 
 /// Calls make at most one life.

@@ -6,7 +6,7 @@ use Rattle.clap.specs.Kinds.{HasKind, Kinds, or_else}
 use Rattle.clap.specs.declared.error.Error.{Error}
 use Rattle.clap.specs.declared.error.kind.ErrorKind.TheVariants.{ArgumentConflict, InvalidValue}
 use Rattle.clap.specs.Words.{Text}
-use Rattle.dvg_args.specs.Options.{form_by, given_count, refused_by}
+use Rattle.dvg_args.specs.Options.{form_by, forms_wanted, refused_by}
 use Rattle.dvg_job.specs.declared.form.LayForm.{LayForm}
 
 -- an error by the first kinds is one by these, or else by others
@@ -36,7 +36,7 @@ pub taken : (count : ℕ) (form : Option LayForm) (f : LayForm) → count ≤ 1 
 taken count form f few some = few_options count form few ∙ ap (λ g. cond (is_some g) [] (InvalidValue ∷ [])) some
 
 -- counts and forms of the same options
-pub same_count : (h h' t t' r r' e e' d d' : Bool) → h ≡ h' → t ≡ t' → r ≡ r' → e ≡ e' → d ≡ d' → given_count h t r e d ≡ given_count h' t' r' e' d'
+pub same_count : (h h' t t' r r' e e' d d' : Bool) → h ≡ h' → t ≡ t' → r ≡ r' → e ≡ e' → d ≡ d' → forms_wanted h t r e d ≡ forms_wanted h' t' r' e' d'
 same_count h h' t t' r r' e e' d d' a b c f g = rw (a, b, c, f, g) refl
 
 pub same_form : (t t' r r' e e' d d' : Bool) (h h' : Option Text) → t ≡ t' → r ≡ r' → e ≡ e' → d ≡ d' → h ≡ h' → form_by t r e d h ≡ form_by t' r' e' d' h'

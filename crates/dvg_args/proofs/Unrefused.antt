@@ -5,7 +5,7 @@ use Rattle.std.specs.Str.{bytes_eq}
 use Rattle.std.specs.Cmp.Lexicographic.{same_text}
 use Rattle.std.proofs.lemmas.List.Elements.{All-head, All-tail}
 use Rattle.clap.specs.Words.{Kinds, Row, Text, first_of, subcommand_of}
-use Rattle.dvg_args.specs.Options.{address_of, base_in, fault_in, form_by, gives, given_count, list_fault, number_of, refused_by, render_fault, sets}
+use Rattle.dvg_args.specs.Options.{address_of, base_in, fault_in, form_by, gives, forms_wanted, list_fault, number_of, percent_of, rate_of, refused_by, render_fault, sets}
 use Rattle.dvg_args.specs.Arguments.{dvg_app, options_fault}
 use Rattle.dvg_args.specs.Laws.{GivesNoneRefused, UnrefusedOptions}
 
@@ -36,7 +36,7 @@ no_clash false all moves true a b c = cc
 no_clash true all moves units a b c = cc
 
 good_form : (half : Option Text) (table rom equates draft : Bool) → is_some half ≡ false → table ≡ false → rom ≡ false → equates ≡ false → draft ≡ false
-    → refused_by (nat_lt 1 (given_count (is_some half) table rom equates draft)) false (is_some (form_by table rom equates draft half)) ≡ []
+    → refused_by (nat_lt 1 (forms_wanted (is_some half) table rom equates draft)) false (is_some (form_by table rom equates draft half)) ≡ []
 good_form half table rom equates draft a b c d e = rw (none_given half a, b, c, d, e) refl
 
 by_name : (b : Bool) (x : Kinds) → (b ≡ true → x ≡ []) → cond b x [] ≡ []
@@ -68,8 +68,8 @@ none_refused : (name : Text) (rows : List Row) → GivesNoneRefused name rows �
 none_refused name rows none =
     let set = seven (λ id. sets id rows ≡ false) (codes "svg") (codes "moves") (codes "units") (codes "table") (codes "rom") (codes "equates") (codes "draft") none.1 in
     let given = five (λ id. gives id rows ≡ false) (codes "at") (codes "scale") (codes "rate") (codes "half") (codes "base") none.2 in
-    let percents = good_number (codes "scale") 10 400 100 rows given.1 in
-    let rates = good_number (codes "rate") 1 60 30 rows given.2 in
+    let percents : is_some (percent_of rows) ≡ true = good_number _ _ _ _ rows given.1 in
+    let rates : is_some (rate_of rows) ≡ true = good_number _ _ _ _ rows given.2 in
     let free = no_clash _ (sets (codes "all") rows) _ _ set.0 set.1 set.2 in
     let drawn = good_show _ _ _ _ _ _ free given.1 given.2 percents rates in
     let played = good_show _ _ _ _ _ _ (ap (λ b. b && sets (codes "all") rows) set.0) given.1 given.2 percents rates in

@@ -16,10 +16,14 @@ use Rattle.dvg_job.specs.declared.form.Show.{Show}
 use Rattle.dvg_mem.specs.declared.half.Half.TheVariants.{H0, H1}
 use Rattle.dvg_job.specs.declared.form.LayForm.TheVariants.{Bytes, Table, Rom as RomBytes, Equates, Draft}
 
+-- the arguments are taken and ask for the job
+abbrev pub AreFor : List Text → Job → Type 0
+AreFor arguments job = TakesArguments arguments × (arguments_fault arguments ≡ [])
+    × IsJob job (subcommand_of dvg_app arguments)
+
 -- after any name of the program, the arguments are taken and ask for the job
 abbrev pub AskFor : List Text → Job → Type 0
-AskFor arguments job = (name : Text) → TakesArguments (name ∷ arguments) × (arguments_fault (name ∷ arguments) ≡ [])
-    × IsJob job (subcommand_of dvg_app (name ∷ arguments))
+AskFor arguments job = (name : Text) → AreFor (name ∷ arguments) job
 
 -- after any name of the program, each of these arguments fails by one of the kinds beside it
 abbrev pub FailAs : List (List Text × Kinds) → Type 0
@@ -54,6 +58,7 @@ TextJobArguments = AskFor (codes "list" ∷ []) list_job
     × AskFor (codes "torn" ∷ []) (Torn Halves None)
     × AskFor (codes "torn" ∷ codes "--base" ∷ codes "4000" ∷ []) (Torn Halves (Some 0x4000))
     × AskFor (codes "torn" ∷ codes "--moments" ∷ []) (Torn Moments None)
+    × AskFor (codes "torn" ∷ codes "--moments" ∷ codes "--all" ∷ []) (Torn AllMoments None)
     × AskFor (codes "torn" ∷ codes "--all" ∷ codes "--moments" ∷ []) (Torn AllMoments None)
     × AskFor (codes "torn" ∷ codes "--moments" ∷ codes "--base=fFfF" ∷ codes "--all" ∷ [])
     (Torn AllMoments (Some 0xFFFF))
@@ -64,7 +69,8 @@ abbrev pub SketchJobArguments : Type 0
 SketchJobArguments = AskFor (codes "render" ∷ []) (Render (show_of 100 30))
     × AskFor (codes "render" ∷ codes "--scale" ∷ codes "33" ∷ codes "--rate" ∷ codes "1" ∷ []) (Render (show_of 33 1))
     × AskFor (codes "render" ∷ codes "--check" ∷ []) RenderCheck
-    × AskFor (codes "render" ∷ codes "--check" ∷ codes "--scale" ∷ codes "50" ∷ codes "--rate" ∷ codes "3" ∷ []) RenderCheck
+    × AskFor (codes "render" ∷ codes "--check" ∷ codes "--scale" ∷ codes "50" ∷ codes "--rate" ∷ codes "3" ∷ [])
+    RenderCheck
     × AskFor (codes "lay" ∷ []) (Lay (Bytes H0))
     × AskFor (codes "lay" ∷ codes "--half" ∷ codes "0" ∷ []) (Lay (Bytes H0))
     × AskFor (codes "lay" ∷ codes "--half" ∷ codes "1" ∷ []) (Lay (Bytes H1))
@@ -142,4 +148,5 @@ GivesNoneRefused name rows = (name ≡ codes "torn" → sets (codes "all") rows 
 -- of memory
 abbrev pub UnrefusedOptions : Type 0
 UnrefusedOptions = (arguments : List Text)
-    → IfSome (subcommand_of dvg_app arguments) (λ met. GivesNoneRefused met.0 met.1) → options_fault (subcommand_of dvg_app arguments) ≡ []
+    → IfSome (subcommand_of dvg_app arguments) (λ met. GivesNoneRefused met.0 met.1)
+    → options_fault (subcommand_of dvg_app arguments) ≡ []

@@ -17,6 +17,8 @@ use Rattle.dvg_job.specs.declared.form.LayForm.TheVariants.{Bytes, Table, Rom as
 use Rattle.dvg_job.specs.declared.form.LogRule.{LogRule}
 use Rattle.dvg_job.specs.declared.form.LogRule.TheVariants.{Halves, Moments, AllMoments}
 use Rattle.dvg_job.specs.declared.form.Show.{Show}
+use Rattle.dvg_args.specs.declared.showing.TheConstants.{LEAST_PERCENT, LEAST_RATE, MOST_PERCENT, MOST_RATE}
+use Rattle.dvg_args.specs.declared.showing.TheConstants.{USUAL_PERCENT, USUAL_RATE}
 use Rattle.dvg_mem.specs.declared.half.Half.TheVariants.{H0, H1}
 
 -- the matching sets the flag
@@ -49,11 +51,11 @@ number_of id least most default rows = option_map_or (number_in least most) (fir
 
 -- the size of pictures, in percent
 abbrev pub percent_of : List Row → Option ℕ
-percent_of = number_of (codes "scale") 10 400 100
+percent_of = number_of (codes "scale") LEAST_PERCENT MOST_PERCENT USUAL_PERCENT
 
 -- how many pictures are shown a second
 abbrev pub rate_of : List Row → Option ℕ
-rate_of = number_of (codes "rate") 1 60 30
+rate_of = number_of (codes "rate") LEAST_RATE MOST_RATE USUAL_RATE
 
 -- the number that so many hexadecimal digits write
 abbrev pub hex_in : ℕ → Text → Option ℕ
@@ -82,9 +84,9 @@ base_of rows = base_in (first_of (codes "base") rows)
 
 -- ---- the forms of `lay`
 
--- how many of the five options of `lay` are given
-abbrev pub given_count : (half table rom equates draft : Bool) → ℕ
-given_count half table rom equates draft =
+-- how many forms of `lay` are asked for
+abbrev pub forms_wanted : (half table rom equates draft : Bool) → ℕ
+forms_wanted half table rom equates draft =
     count_by (λ is_given. is_given) (half ∷ table ∷ rom ∷ equates ∷ draft ∷ [])
 
 -- the form in a half of this number
@@ -102,7 +104,7 @@ form_by false false false false half = option_map_or half_form half (Some (Bytes
 
 -- how many of the options of `lay` the matching gives
 abbrev pub forms_given : List Row → ℕ
-forms_given rows = given_count (gives (codes "half") rows) (sets (codes "table") rows)
+forms_given rows = forms_wanted (gives (codes "half") rows) (sets (codes "table") rows)
     (sets (codes "rom") rows) (sets (codes "equates") rows) (sets (codes "draft") rows)
 
 -- the form that the options of `lay` ask for

@@ -7,8 +7,10 @@ ghost use Rattle.clap.specs.Words.{FailsBy, fault_of, found_of, has_subcommand, 
 ghost use Rattle.clap.specs.Words.{subcommand_name_of, subcommand_of, subcommand_rows_of, takes};
 
 use crate::command::command;
-use crate::drawing::{list_job, picture_job, play_job, render_job};
+use crate::common::common_job;
+use crate::drawing::{picture_job, play_job, render_job};
 use crate::laying::lay_job;
+use crate::listing::list_job;
 use crate::logging::torn_job;
 use crate::misuse::misuse;
 use crate::options::is_set;
@@ -111,6 +113,9 @@ pub fn job<'a>(alloc: Global, arguments: &'a [&'a str]) -> Result<Job, Error>
     // kinds that they come to, or an allocation failed.
     ensures kinds { FailsBy (arguments_fault (map (λ w. w.now) arguments.entry.now)) result }
 {
+    if let Some(job) = common_job(arguments) {
+        return Ok(job);
+    }
     let matches = match matched(alloc, arguments) {
         Ok(matches) => matches,
         Err(error) => return Err(error),

@@ -1,19 +1,23 @@
-//! The program's command, as `clap` reads it.
+//! The program's command, as `clap` reads it. A subcommand whose options may be refused stands in a
+//! file with what its options ask for. `render`, `lay`, `explain` and `--svg` are for authors of
+//! pictures; there is no `draw`.
 ghost use Rattle.std.specs.Prelude.{◌≡◌, IfOk, codes, false};
 ghost use Rattle.clap.specs.Words.{app_of, new_app, rule_of, with_rule, with_subcommand};
 ghost use Rattle.clap.specs.declared.builder.command.Command.TheViews.{out-Command as fields_of};
 ghost use Rattle.dvg_args.specs.Arguments as spec;
-ghost use Rattle.dvg_args.specs.Arguments.{check_app, dvg_app, flag, lay_app, list_app};
-ghost use Rattle.dvg_args.specs.Arguments.{picture_app, play_app, program_app, render_app};
-ghost use Rattle.dvg_args.specs.Arguments.{torn_app, valued};
+ghost use Rattle.dvg_args.specs.Arguments.{check_app, dvg_app, flag, program_app, valued};
 
+use crate::drawing::{picture_command, play_command, render_command};
 use crate::help;
+use crate::laying::lay_command;
+use crate::listing::list_command;
+use crate::logging::torn_command;
 use clap::{Arg, ArgAction, Command};
 use std::alloc::{AllocError, Global};
 
-// Returns the command `name` with its help: `about` says what it does, `usage` how it is called,
-// and `details` what it reads and writes.
-fn helped<'a>(
+/// Returns the command `name` with its help: `about` says what it does, `usage` how it is called,
+/// and `details` what it reads and writes.
+pub(crate) fn helped<'a>(
     alloc: Global,
     name: &'a str,
     about: &'a str,
@@ -53,9 +57,9 @@ fn valued<'a>(alloc: Global, option: &'a str, value: &'a str, details: &'a str) 
         .action(ArgAction::Set)
 }
 
-// Returns the command `part` with one more option, `--option`, which is given or not. Returns
-// `AllocError` where an allocation fails.
-fn with_flag<'a>(
+/// Returns the command `part` with one more option, `--option`, which is given or not. Returns
+/// `AllocError` where an allocation fails.
+pub(crate) fn with_flag<'a>(
     alloc: Global,
     part: Command<'a>,
     option: &'a str,
@@ -69,9 +73,9 @@ fn with_flag<'a>(
     part.arg(flag(alloc, option, details))
 }
 
-// Returns the command `part` with one more option, `--option`, which takes a value. Returns
-// `AllocError` where an allocation fails.
-fn with_value<'a>(
+/// Returns the command `part` with one more option, `--option`, which takes a value. Returns
+/// `AllocError` where an allocation fails.
+pub(crate) fn with_value<'a>(
     alloc: Global,
     part: Command<'a>,
     option: &'a str,
@@ -86,46 +90,6 @@ fn with_value<'a>(
     part.arg(valued(alloc, option, value, details))
 }
 
-// Returns the command `part` with the size and the rate of pictures as further options.
-fn showing<'a>(alloc: Global, part: Command<'a>) -> Result<Command<'a>, AllocError>
-    requires { (fields_of part).has_globals ≡ false }
-    ensures app { IfOk result (λ c. app_of c ≡ spec.showing (app_of part.entry)) }
-    ensures local { IfOk result (λ c. (fields_of c).has_globals ≡ false) }
-{
-    let with_scale = with_value(alloc, part, "scale", "N", help::SCALE)?;
-    let rate = "Show so many pictures a second, 1 to 60 [default: 30]";
-    with_value(alloc, with_scale, "rate", "N", rate)
-}
-
-// Returns the subcommand `list`.
-fn list_command<'a>(alloc: Global) -> Result<Command<'a>, AllocError>
-    ensures app { IfOk result (λ c. app_of c ≡ list_app) }
-    ensures local { IfOk result (λ c. (fields_of c).has_globals ≡ false) }
-{
-    let about = "List the instructions of words";
-    let list = helped(alloc, "list", about, help::LIST_USAGE, help::LIST);
-    let at = "Count addresses from this one, three hexadecimal digits";
-    with_value(alloc, list, "at", "HHH", at)
-}
-
-// Returns the subcommand `picture`.
-fn picture_command<'a>(alloc: Global) -> Result<Command<'a>, AllocError>
-    ensures app { IfOk result (λ c. app_of c ≡ picture_app) }
-    ensures local { IfOk result (λ c. (fields_of c).has_globals ≡ false) }
-{
-    let about = "Draw what a dump of the vector memory draws";
-    let usage = help::PICTURE_USAGE;
-    let picture = helped(alloc, "picture", about, usage, help::PICTURE);
-    let each = "Print each instruction that is run, too";
-    let with_all = with_flag(alloc, picture, "all", each)?;
-    let moves = "Print each move of the beam, too, also one that isn't seen";
-    let with_moves = with_flag(alloc, with_all, "moves", moves)?;
-    let units = "Print positions in whole screen units, as hardware counts them";
-    let with_units = with_flag(alloc, with_moves, "units", units)?;
-    let with_svg = with_flag(alloc, with_units, "svg", "Write the picture as SVG")?;
-    with_value(alloc, with_svg, "scale", "N", help::SCALE)
-}
-
 // Returns the subcommand `check`.
 fn check_command<'a>(alloc: Global) -> Result<Command<'a>, AllocError>
     ensures app { IfOk result (λ c. app_of c ≡ check_app) }
@@ -136,67 +100,6 @@ fn check_command<'a>(alloc: Global) -> Result<Command<'a>, AllocError>
     let check = helped(alloc, "check", about, usage, help::CHECK);
     let bound = "Also tell how many words the whole run of a good draft fetches";
     with_flag(alloc, check, "bound", bound)
-}
-
-// Returns the subcommand `play`.
-fn play_command<'a>(alloc: Global) -> Result<Command<'a>, AllocError>
-    ensures app { IfOk result (λ c. app_of c ≡ play_app) }
-    ensures local { IfOk result (λ c. (fields_of c).has_globals ≡ false) }
-{
-    let play = helped(alloc, "play", "Play a trace", help::PLAY_USAGE, help::PLAY);
-    let all = "Print each entry, not the finished pictures alone";
-    let with_all = with_flag(alloc, play, "all", all)?;
-    let banked = "Keep the RAM in banks, not in one piece";
-    let with_banked = with_flag(alloc, with_all, "banked", banked)?;
-    let svg = "Write the finished pictures as one SVG";
-    let with_svg = with_flag(alloc, with_banked, "svg", svg)?;
-    showing(alloc, with_svg)
-}
-
-// Returns the subcommand `torn`.
-fn torn_command<'a>(alloc: Global) -> Result<Command<'a>, AllocError>
-    ensures app { IfOk result (λ c. app_of c ≡ torn_app) }
-    ensures local { IfOk result (λ c. (fields_of c).has_globals ≡ false) }
-{
-    let about = "Say whether a log tears a picture, and where";
-    let torn = helped(alloc, "torn", about, help::TORN_USAGE, help::TORN);
-    let moments = "Say whether each run is of one moment, of any system";
-    let with_moments = with_flag(alloc, torn, "moments", moments)?;
-    let all = "With --moments, tell each torn run, not the first alone";
-    let with_all = with_flag(alloc, with_moments, "all", all)?;
-    let base = "Bytes are written at the processor's addresses, of a RAM from here on";
-    with_value(alloc, with_all, "base", "HHHH", base)
-}
-
-// Returns the subcommand `render`.
-fn render_command<'a>(alloc: Global) -> Result<Command<'a>, AllocError>
-    ensures app { IfOk result (λ c. app_of c ≡ render_app) }
-    ensures local { IfOk result (λ c. (fields_of c).has_globals ≡ false) }
-{
-    let about = "Draw the frames of a sketch";
-    let render = helped(alloc, "render", about, help::RENDER_USAGE, help::RENDER);
-    let check = "Say of each frame whether it may be drawn, and draw none";
-    let with_check = with_flag(alloc, render, "check", check)?;
-    showing(alloc, with_check)
-}
-
-// Returns the subcommand `lay`.
-fn lay_command<'a>(alloc: Global) -> Result<Command<'a>, AllocError>
-    ensures app { IfOk result (λ c. app_of c ≡ lay_app) }
-    ensures local { IfOk result (λ c. (fields_of c).has_globals ≡ false) }
-{
-    let about = "Lay out the frames of a sketch";
-    let lay = helped(alloc, "lay", about, help::LAY_USAGE, help::LAY);
-    let half = "Write the frames as they lie in this half [default: 0]";
-    let with_half = with_value(alloc, lay, "half", "0|1", half)?;
-    let table = "Write the frames as text for the assembler ca65";
-    let with_table = with_flag(alloc, with_half, "table", table)?;
-    let rom = "Write the bytes of the ROM";
-    let with_rom = with_flag(alloc, with_table, "rom", rom)?;
-    let equates = "Write the names of the ROM with their addresses";
-    let with_equates = with_flag(alloc, with_rom, "equates", equates)?;
-    let draft = "Write the frames as drafts without names, as check and play read them";
-    with_flag(alloc, with_equates, "draft", draft)
 }
 
 // Returns the program's command without its subcommands.

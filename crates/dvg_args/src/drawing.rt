@@ -1,30 +1,20 @@
-//! What the options of `list`, `picture`, `play` and `render` ask for. That some exclude each
-//! other, and which values they take, is this project's own choice.
-ghost use Rattle.std.specs.Prelude.{IfOk, Some, codes};
-ghost use Rattle.clap.specs.Words.{found_of, rows_of};
-ghost use Rattle.dvg_args.specs.Options.{Refuses, Shows, list_fault, picture_fault};
-ghost use Rattle.dvg_args.specs.Options.{play_fault, render_fault, svg_fault};
-ghost use Rattle.dvg_args.specs.Arguments.{IsJob};
+//! The subcommands `picture`, `play` and `render`, and what their options ask for. That some
+//! exclude each other is this project's own choice.
+ghost use Rattle.std.specs.Prelude.{◌≡◌, IfOk, Some, codes, false};
+ghost use Rattle.clap.specs.Words.{app_of, found_of, rows_of};
+ghost use Rattle.clap.specs.declared.builder.command.Command.TheViews.{out-Command as fields_of};
+ghost use Rattle.dvg_args.specs.Options.{Refuses, Shows, picture_fault, play_fault};
+ghost use Rattle.dvg_args.specs.Options.{render_fault, svg_fault};
+ghost use Rattle.dvg_args.specs.Arguments.{IsJob, picture_app, play_app, render_app};
 
-use crate::options::{hex_in, is_given, is_set, read_show};
-use clap::ArgMatches;
+use crate::command::{helped, with_flag};
+use crate::help;
+use crate::options::{is_given, is_set};
+use crate::showing::{read_show, with_scale, with_show};
 use clap::error::ErrorKind;
+use clap::{ArgMatches, Command};
 use dvg_job::{Job, PictureForm, Show};
-
-/// Returns what the option of `list` in `found` asks for. A value that isn't three hexadecimal
-/// digits is refused (`InvalidValue`).
-pub(crate) fn list_job(found: &ArgMatches) -> Result<Job, ErrorKind>
-    ensures ok { IfOk result (λ j. IsJob j (Some (codes "list", rows_of (found_of found.now)))) }
-    ensures kinds { Refuses result (list_fault (rows_of (found_of found.now))) }
-{
-    let Some(text) = found.get_str("at") else {
-        return Ok(Job::List);
-    };
-    match hex_in(3, text) {
-        Some(address) => Ok(Job::ListAt { address }),
-        None => Err(ErrorKind::InvalidValue),
-    }
-}
+use std::alloc::{AllocError, Global};
 
 // Returns the size and the rate that the options in `found` give, or the defaults. Refused are two
 // options that `clash` (`ArgumentConflict`), a size or a rate without `--svg`
@@ -48,9 +38,27 @@ fn svg_show(found: &ArgMatches, clash: bool) -> Result<Show, ErrorKind>
     }
 }
 
+/// Returns the subcommand `picture`.
+pub(crate) fn picture_command<'a>(alloc: Global) -> Result<Command<'a>, AllocError>
+    ensures app { IfOk result (λ c. app_of c ≡ picture_app) }
+    ensures local { IfOk result (λ c. (fields_of c).has_globals ≡ false) }
+{
+    let about = "Draw what a dump of the vector memory draws";
+    let usage = help::PICTURE_USAGE;
+    let picture = helped(alloc, "picture", about, usage, help::PICTURE);
+    let each = "Print each instruction that is run, too";
+    let with_all = with_flag(alloc, picture, "all", each)?;
+    let moves = "Print each move of the beam, too, also one that isn't seen";
+    let with_moves = with_flag(alloc, with_all, "moves", moves)?;
+    let units = "Print positions in whole screen units, as hardware counts them";
+    let with_units = with_flag(alloc, with_moves, "units", units)?;
+    let with_svg = with_flag(alloc, with_units, "svg", "Write the picture as SVG")?;
+    with_scale(alloc, with_svg)
+}
+
 /// Returns what the options of `picture` in `found` ask for. Refused are two of `--svg`, `--all`
 /// and either of `--moves` and `--units` (`ArgumentConflict`), a size without `--svg`
-/// (`MissingRequiredArgument`), and a size that isn't a number from 10 to 400 (`InvalidValue`).
+/// (`MissingRequiredArgument`), and a size out of range (`InvalidValue`).
 pub(crate) fn picture_job(found: &ArgMatches) -> Result<Job, ErrorKind>
     ensures ok { IfOk result (λ j.
         IsJob j (Some (codes "picture", rows_of (found_of found.now)))) }
@@ -75,9 +83,24 @@ pub(crate) fn picture_job(found: &ArgMatches) -> Result<Job, ErrorKind>
     })
 }
 
+/// Returns the subcommand `play`.
+pub(crate) fn play_command<'a>(alloc: Global) -> Result<Command<'a>, AllocError>
+    ensures app { IfOk result (λ c. app_of c ≡ play_app) }
+    ensures local { IfOk result (λ c. (fields_of c).has_globals ≡ false) }
+{
+    let play = helped(alloc, "play", "Play a trace", help::PLAY_USAGE, help::PLAY);
+    let all = "Print each entry, not the finished pictures alone";
+    let with_all = with_flag(alloc, play, "all", all)?;
+    let banked = "Keep the RAM in banks, not in one piece";
+    let with_banked = with_flag(alloc, with_all, "banked", banked)?;
+    let svg = "Write the finished pictures as one SVG";
+    let with_svg = with_flag(alloc, with_banked, "svg", svg)?;
+    with_show(alloc, with_svg)
+}
+
 /// Returns what the options of `play` in `found` ask for. Refused are `--svg` with `--all`
-/// (`ArgumentConflict`), a size or a rate without `--svg` (`MissingRequiredArgument`), and a size
-/// that isn't a number from 10 to 400, or a rate that isn't one from 1 to 60 (`InvalidValue`).
+/// (`ArgumentConflict`), a size or a rate without `--svg` (`MissingRequiredArgument`), and one out
+/// of range (`InvalidValue`).
 pub(crate) fn play_job(found: &ArgMatches) -> Result<Job, ErrorKind>
     ensures ok { IfOk result (λ j. IsJob j (Some (codes "play", rows_of (found_of found.now)))) }
     ensures kinds { Refuses result (play_fault (rows_of (found_of found.now))) }
@@ -93,6 +116,18 @@ pub(crate) fn play_job(found: &ArgMatches) -> Result<Job, ErrorKind>
         return Ok(Job::PlaySvg { banked, show });
     }
     Ok(Job::Play { all, banked })
+}
+
+/// Returns the subcommand `render`.
+pub(crate) fn render_command<'a>(alloc: Global) -> Result<Command<'a>, AllocError>
+    ensures app { IfOk result (λ c. app_of c ≡ render_app) }
+    ensures local { IfOk result (λ c. (fields_of c).has_globals ≡ false) }
+{
+    let about = "Draw the frames of a sketch";
+    let render = helped(alloc, "render", about, help::RENDER_USAGE, help::RENDER);
+    let check = "Say of each frame whether it may be drawn, and draw none";
+    let with_check = with_flag(alloc, render, "check", check)?;
+    with_show(alloc, with_check)
 }
 
 /// Returns what the options of `render` in `found` ask for. A size or a rate that is out of range

@@ -1,19 +1,47 @@
-//! What the options of `lay` ask for. They exclude each other, which is this project's own choice.
-ghost use Rattle.std.specs.Prelude.{◌≡◌, IfOk, Some, codes, option_map};
-ghost use Rattle.clap.specs.Words.{found_of, rows_of};
-ghost use Rattle.dvg_args.specs.Options.{Refuses, form_by, form_of, given_count, half_form};
+//! The subcommand `lay`, and what its options ask for. They exclude each other, which is this
+//! project's own choice.
+ghost use Rattle.std.specs.Prelude.{◌≡◌, IfOk, Some, codes, false, option_map};
+ghost use Rattle.clap.specs.Words.{app_of, found_of, rows_of};
+ghost use Rattle.clap.specs.declared.builder.command.Command.TheViews.{out-Command as fields_of};
+ghost use Rattle.dvg_args.specs.Options.{Refuses, form_by, form_of, forms_wanted, half_form};
 ghost use Rattle.dvg_args.specs.Options.{lay_fault};
-ghost use Rattle.dvg_args.specs.Arguments.{IsJob};
+ghost use Rattle.dvg_args.specs.Arguments.{IsJob, lay_app};
 
+use crate::command::{helped, with_flag, with_value};
+use crate::help;
 use crate::options::is_set;
-use clap::ArgMatches;
 use clap::error::ErrorKind;
+use clap::{ArgMatches, Command};
 use dvg_job::{Job, LayForm};
 use dvg_mem::Half;
+use std::alloc::{AllocError, Global};
 
-// Returns how many of `half`, `table`, `rom`, `equates` and `draft` are given.
-fn given_count(half: bool, table: bool, rom: bool, equates: bool, draft: bool) -> u8
-    ensures { result ≡ given_count half table rom equates draft }
+/// Which values `--half` takes.
+pub(crate) const HALF_TAKES: &str = "'--half' takes 0 or 1";
+
+/// Returns the subcommand `lay`.
+pub(crate) fn lay_command<'a>(alloc: Global) -> Result<Command<'a>, AllocError>
+    ensures app { IfOk result (λ c. app_of c ≡ lay_app) }
+    ensures local { IfOk result (λ c. (fields_of c).has_globals ≡ false) }
+{
+    let about = "Lay out the frames of a sketch";
+    let lay = helped(alloc, "lay", about, help::LAY_USAGE, help::LAY);
+    let half = "Write the frames as they lie in this half [default: 0]";
+    let with_half = with_value(alloc, lay, "half", "0|1", half)?;
+    let table = "Write the frames as text for the assembler ca65";
+    let with_table = with_flag(alloc, with_half, "table", table)?;
+    let rom = "Write the bytes of the ROM";
+    let with_rom = with_flag(alloc, with_table, "rom", rom)?;
+    let equates = "Write the names of the ROM with their addresses";
+    let with_equates = with_flag(alloc, with_rom, "equates", equates)?;
+    let draft = "Write the frames as drafts without names, as check and play read them";
+    with_flag(alloc, with_equates, "draft", draft)
+}
+
+// Returns how many forms are asked for, by `half`, `table`, `rom`, `equates` and `draft`. One is
+// the most that `lay` takes.
+fn forms_wanted(half: bool, table: bool, rom: bool, equates: bool, draft: bool) -> u8
+    ensures { result ≡ forms_wanted half table rom equates draft }
 {
     u8::from(half) + u8::from(table) + u8::from(rom) + u8::from(equates) + u8::from(draft)
 }
@@ -72,7 +100,7 @@ fn lay_form(found: &ArgMatches) -> Result<LayForm, ErrorKind>
     let rom = is_set(found, "rom");
     let equates = is_set(found, "equates");
     let draft = is_set(found, "draft");
-    if given_count(half.is_some(), table, rom, equates, draft) > 1 {
+    if forms_wanted(half.is_some(), table, rom, equates, draft) > 1 {
         return Err(ErrorKind::ArgumentConflict);
     }
     match form_by(table, rom, equates, draft, half) {

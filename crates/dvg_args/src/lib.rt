@@ -6,18 +6,24 @@
 //! arguments can come to; help that was asked for is such an error, too. That options exclude each
 //! other, which needs which, and which values they take, are this crate's own rules, after the
 //! matching.
+//!
+//! Of `help` clap says only that it is help or an unknown subcommand, so tests show which. This is
+//! a crate apart, as to check what clap says costs much memory.
 #![tactic(auto)]
 
 mod arguments;
 mod command;
+mod common;
 mod drawing;
 mod help;
 pub mod laws;
 mod laying;
+mod listing;
 mod logging;
 mod misuse;
 mod options;
 mod refusal;
+mod showing;
 
 pub use arguments::job;
-pub use refusal::arguments_status;
+pub use refusal::{MISUSE, arguments_status};

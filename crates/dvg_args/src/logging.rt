@@ -1,14 +1,36 @@
-//! What the options of `torn` ask for.
-ghost use Rattle.std.specs.Prelude.{◌≡◌, IfOk, IfNone, IfSome, None, Some, codes};
-ghost use Rattle.clap.specs.Words.{found_of, rows_of};
+//! The subcommand `torn`, and what its options ask for.
+ghost use Rattle.std.specs.Prelude.{◌≡◌, IfOk, IfNone, IfSome, None, Some, codes, false};
+ghost use Rattle.clap.specs.Words.{app_of, found_of, rows_of};
+ghost use Rattle.clap.specs.declared.builder.command.Command.TheViews.{out-Command as fields_of};
 ghost use Rattle.dvg_args.specs.Options as spec;
 ghost use Rattle.dvg_args.specs.Options.{Refuses, base_of, torn_fault};
-ghost use Rattle.dvg_args.specs.Arguments.{IsJob};
+ghost use Rattle.dvg_args.specs.Arguments.{IsJob, torn_app};
 
+use crate::command::{helped, with_flag, with_value};
+use crate::help;
 use crate::options::{hex_in, is_set};
-use clap::ArgMatches;
 use clap::error::ErrorKind;
+use clap::{ArgMatches, Command};
 use dvg_job::{Job, LogRule};
+use std::alloc::{AllocError, Global};
+
+/// Which values `--base` takes.
+pub(crate) const BASE_TAKES: &str = "'--base' takes an address of four hexadecimal digits";
+
+/// Returns the subcommand `torn`.
+pub(crate) fn torn_command<'a>(alloc: Global) -> Result<Command<'a>, AllocError>
+    ensures app { IfOk result (λ c. app_of c ≡ torn_app) }
+    ensures local { IfOk result (λ c. (fields_of c).has_globals ≡ false) }
+{
+    let about = "Say whether a log tears a picture, and where";
+    let torn = helped(alloc, "torn", about, help::TORN_USAGE, help::TORN);
+    let moments = "Say whether each run is consistent, for any system";
+    let with_moments = with_flag(alloc, torn, "moments", moments)?;
+    let all = "With --moments, tell each torn run, not the first alone";
+    let with_all = with_flag(alloc, with_moments, "all", all)?;
+    let base = "Bytes are written at the processor's addresses, of a RAM from here on";
+    with_value(alloc, with_all, "base", "HHHH", base)
+}
 
 // Returns the rule that the flags `--moments` and `--all` ask for.
 fn rule_of(moments: bool, all: bool) -> LogRule

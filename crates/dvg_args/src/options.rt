@@ -1,11 +1,10 @@
 //! What the options of a subcommand say.
-ghost use Rattle.std.specs.Prelude.{◌≡◌, ◌<◌, ◌≤◌, IfNone, IfSome, false};
+ghost use Rattle.std.specs.Prelude.{◌≡◌, ◌<◌, ◌≤◌};
 ghost use Rattle.clap.specs.Words.{found_of, rows_of};
 ghost use Rattle.dvg_args.specs.Options as spec;
-ghost use Rattle.dvg_args.specs.Options.{Shows, gives, sets, shows_well};
+ghost use Rattle.dvg_args.specs.Options.{gives, sets};
 
 use clap::ArgMatches;
-use dvg_job::Show;
 
 /// Whether `found` sets the flag `id`.
 pub(crate) fn is_set(found: &ArgMatches, id: &str) -> bool
@@ -37,35 +36,21 @@ fn number_in(least: u16, most: u16, text: &str) -> Option<u16>
     Some(number)
 }
 
-// Returns the number that `found` gives for the option `id`, or `default` where it isn't given.
-// Returns `None` where the value isn't a number from `least` to `most`.
-fn number_of(found: &ArgMatches, id: &str, least: u16, most: u16, default: u16) -> Option<u16>
+/// Returns the number that `found` gives for the option `id`, or `default` where it isn't given.
+/// Returns `None` where the value isn't a number from `least` to `most`.
+pub(crate) fn number_of(
+    found: &ArgMatches,
+    id: &str,
+    least: u16,
+    most: u16,
+    default: u16,
+) -> Option<u16>
     ensures { result ≡ spec.number_of id.now least most default (rows_of (found_of found.now)) }
 {
     match found.get_str(id) {
         Some(text) => number_in(least, most, text),
         None => Some(default),
     }
-}
-
-/// Whether the size that `found` gives is a number from 10 to 400, or none is given.
-pub(crate) fn has_scale(found: &ArgMatches) -> bool {
-    number_of(found, "scale", 10, 400, 100).is_some()
-}
-
-/// Returns the size and the rate that `found` gives, 100 percent and 30 by default. Returns `None`
-/// where the size isn't a number from 10 to 400, or the rate isn't one from 1 to 60.
-pub(crate) fn read_show(found: &ArgMatches) -> Option<Show>
-    ensures some { IfSome result (Shows (rows_of (found_of found.now))) }
-    ensures none { IfNone result (shows_well (rows_of (found_of found.now)) ≡ false) }
-{
-    let Some(percent) = number_of(found, "scale", 10, 400, 100) else {
-        return None;
-    };
-    let Some(rate) = number_of(found, "rate", 1, 60, 30) else {
-        return None;
-    };
-    Some(Show { percent, rate })
 }
 
 /// Returns the number that `text` writes, if it is so many hexadecimal `digits` of either case, 1

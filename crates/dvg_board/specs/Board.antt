@@ -5,7 +5,7 @@ use Rattle.dvg_core.specs.Core.{Core, Pins, zeros}
 use Rattle.dvg_core.specs.Core as cells
 use Rattle.dvg_board.specs.Memory.{memrd, memwr}
 
--- Yosys 0.23, digest f1d396d7f171b37c
+-- Yosys 0.23, digest cc6859fa35e62e1a
 
 -- the registers, the RAM, and the core
 pub record Board : Type 0 where

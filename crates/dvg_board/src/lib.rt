@@ -4,6 +4,9 @@
 //!
 //! `specs/Board.antt` is made by `core/cells dvg_board`. The core is one cell of it, that of
 //! `dvg_core`.
+//!
+//! Proofs compute the cells of the RAM and of what is read in it, case by case, so a wrong one is
+//! refused at once. Other lemmas name wires: there a refusal may say only that something changed.
 #![tactic(auto)]
 
 ghost use Rattle.dvg_log.specs.Headline.{KeepsHeadline};

@@ -2,7 +2,7 @@
 use Rattle.std.specs.Prelude.{ℕ}
 use Rattle.dvg_core.specs.Cells.{add, both, either, eq, lt, mux, none, shl, some, sub, part, joined}
 
--- Yosys 0.23, digest 4c0ad8ed093e69e9
+-- Yosys 0.23, digest fd82676271f91204
 
 -- the registers
 pub record Core : Type 0 where

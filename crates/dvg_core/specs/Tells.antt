@@ -1,5 +1,6 @@
 -- What the pins that tell of the clock itself tell: the moves of the run, one by one.
-use Rattle.std.specs.Prelude.{ℕ, ◌≡◌, ◌<◌, ◌*◌, ◌/◌, ◌⊎◌, nat_eq, nat_lt, not, Option, Some, None, ℤ, pos, ◌*ℤ◌, Bool, true, false, List, [], ◌∷◌, ◌++◌, All}
+use Rattle.std.specs.Prelude.{ℕ, ◌≡◌, ◌<◌, ◌*◌, ◌/◌, ◌⊎◌, nat_eq, nat_lt, not, Option, Some, None, ℤ, pos, ◌*ℤ◌, Bool}
+use Rattle.std.specs.Prelude.{true, false, List, [], ◌∷◌, ◌++◌, All}
 use Rattle.dvg_code.specs.Fields.{signed}
 use Rattle.dvg_gen.specs.declared.counters.Counters.{Counters}
 use Rattle.dvg_gen.specs.declared.moving.Move.{Move}
@@ -17,10 +18,12 @@ use Rattle.dvg_core.specs.Refines.{ArePins, after, Agrees}
 abbrev pub moves_of : Newest → List Move
 moves_of run = moves run.first run.visits
 
--- the pins tell of a LABS, which leaves x and y at its position, or of a vector, whose fields lead counters as the move does
+-- the pins tell of a LABS, which leaves x and y at its position, or of a vector, whose fields lead counters as the
+-- move does
 abbrev pub TellsMove : Bool → Core → Pins → Move → Type 0
 TellsMove true core pins move = (vec core pins ≡ 0) × (labs core pins ≡ 1)
-    × ((old : Counters) → followed old move ≡ record { x = part 9 12 (clock core pins).x; y = part 9 12 (clock core pins).y })
+    × ((old : Counters) → followed old move
+    ≡ record { x = part 9 12 (clock core pins).x; y = part 9 12 (clock core pins).y })
 TellsMove false core pins move = (vec core pins ≡ 1) × (labs core pins ≡ 0) × (pin.sum core pins < 16)
     × (pin.dx_sign core pins < 2) × (pin.dy_sign core pins < 2) × (pin.dx core pins < 1024) × (pin.dy core pins < 1024)
     × (pin.vec_z core pins ≡ move.z)
@@ -46,7 +49,8 @@ jsrl_by (Some first) word = 0
 
 -- so the pins tell of what was met, after the first word of an instruction or after none
 abbrev pub TellsKind : Option Met → Option ℕ → Core → Pins → Type 0
-TellsKind (Some (Whole (Some word))) held core pins = (pin.ends core pins ≡ ends_by held word) × (pin.jsrl core pins ≡ jsrl_by held word)
+TellsKind (Some (Whole (Some word))) held core pins = (pin.ends core pins ≡ ends_by held word)
+    × (pin.jsrl core pins ≡ jsrl_by held word)
 TellsKind (Some (Whole None)) held core pins = (pin.ends core pins ≡ 0) × (pin.jsrl core pins ≡ 0)
 TellsKind (Some (Waits byte)) held core pins = (pin.ends core pins ≡ 0) × (pin.jsrl core pins ≡ 0)
 TellsKind None held core pins = (pin.ends core pins ≡ 0) × (pin.jsrl core pins ≡ 0)
@@ -61,5 +65,5 @@ PinsTell = (clocks : List Pins) (pins : Pins) → All ArePins (pins ∷ clocks) 
 
 -- in those they tell of nothing
 abbrev pub PinsRest : Type 0
-PinsRest = (core : Core) (pins : Pins) → (pins.reset ≡ 1) ⊎ (pins.start ≡ 1) → (pin.ends core pins ≡ 0) × (pin.jsrl core pins ≡ 0)
-    × (labs core pins ≡ 0) × (vec core pins ≡ 0)
+PinsRest = (core : Core) (pins : Pins) → (pins.reset ≡ 1) ⊎ (pins.start ≡ 1) → (pin.ends core pins ≡ 0)
+    × (pin.jsrl core pins ≡ 0) × (labs core pins ≡ 0) × (vec core pins ≡ 0)

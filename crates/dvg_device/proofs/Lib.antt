@@ -5,3 +5,4 @@ pub mod Wanted
 pub mod Parted
 pub mod Worded
 pub mod Restored
+pub mod Resumed

@@ -13,6 +13,8 @@ use Rattle.dvg_gen.specs.Machine.{Machine, HasTaken}
 use Rattle.dvg_gen.specs.Position.{IsStroke}
 use Rattle.dvg_gen.specs.Saved.{IsState, machine_of}
 use Rattle.dvg_gen.specs.Told.{Told}
+use Rattle.dvg_gen.specs.Wrapping.{Wrapped, HasWrapped}
+use Rattle.dvg_device.specs.Wrappings.{saved_of}
 use Rattle.dvg_device.specs.States.{CanBeSaved, CanStand, drawing_parts, drawn_so_far, part_of_stroke, parts_of, stroke_parts}
 use Rattle.dvg_device.specs.declared.state.StatePart.{StatePart}
 use Rattle.dvg_device.specs.declared.state.StatePart.TheVariants.{ReturnAddress, Place}
@@ -134,6 +136,18 @@ can_be_saved machine state history low is valid four byte after = record {
   four = subst (λ (m : Machine). length m.stack ≤ 4) (sym is) (rw length-reverse four);
   byte = subst (λ (m : Machine). IfSome m.low (λ byte. byte < 0x100)) (sym is) byte;
   strokes = drawn_in_range machine history low after;
+}
+
+-- the same where the stack wraps, with the registers as return addresses
+pub can_be_saved_wrapped : (wrapped : Wrapped) (state : GeneratorState) (history : List Told) (low : Option ℕ)
+    → saved_of wrapped ≡ machine_of state wrapped.machine.strokes wrapped.machine.picture → IsState state
+    → length state.return_addresses.items ≤ 4 → IfSome state.low (λ byte. byte < 0x100)
+    → HasWrapped wrapped history low → CanBeSaved (saved_of wrapped)
+can_be_saved_wrapped wrapped state history low is valid four byte stands = record {
+  stands = subst CanStand (sym is) (can_stand state wrapped.machine.strokes wrapped.machine.picture valid);
+  four = subst (λ (m : Machine). length m.stack ≤ 4) (sym is) (rw length-reverse four);
+  byte = subst (λ (m : Machine). IfSome m.low (λ byte. byte < 0x100)) (sym is) byte;
+  strokes = drawn_in_range wrapped.machine stands.told low stands.after;
 }
 
 -- the place after the strokes, and nothing after it

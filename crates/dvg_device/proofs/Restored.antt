@@ -9,19 +9,22 @@ use Rattle.dvg_gen.specs.declared.stroke.Stroke.{Stroke}
 use Rattle.dvg_gen.specs.Machine.{Machine, HasTaken, IsInRun}
 use Rattle.dvg_gen.specs.Position.{IsStroke}
 use Rattle.dvg_gen.specs.Told.{Told, Newest}
+use Rattle.dvg_gen.specs.Wrapping.{Wrapped, HasWrapped}
+use Rattle.dvg_gen.specs.declared.TheConstants.{STACK_DEPTH}
 use Rattle.dvg_log.specs.declared.entry.Entry.TheVariants.{Cleared}
 use Rattle.dvg_code.specs.Spelling.{IsFirst}
-use Rattle.dvg_device.specs.Devices.{Answered, Generator, Held, ResumeAnswers}
+use Rattle.dvg_device.specs.Devices.{Answered, Generator, Held, ResumeAnswers, Wrapping, WrappingResumes}
+use Rattle.dvg_device.specs.Wrappings.{CanWrap, saved_of, wrapping_of}
 use Rattle.dvg_device.proofs.Parted.{all_reversed}
 use Rattle.dvg_device.proofs.Worded.{read_again}
 use Rattle.dvg_device.specs.Laws.{AllSuit, Fits, ToldInTurn, restored}
 use Rattle.dvg_device.specs.States.{CanBeSaved, CanStand, TakesPart, drawing_parts, drawn_so_far, part_in, part_of_stroke}
-use Rattle.dvg_device.specs.States.{parts_of, stroke_parts, told, unbegun, word_of}
+use Rattle.dvg_device.specs.States.{parts_of, stroke_parts, told, unbegun, with_stack, word_of}
 use Rattle.dvg_device.specs.declared.reply.Reply.{Reply}
 use Rattle.dvg_device.specs.declared.reply.Reply.TheVariants.{Came, NoState, Opened}
-use Rattle.dvg_device.specs.declared.request.Request.TheVariants.{Resume, TellState}
+use Rattle.dvg_device.specs.declared.request.Request.TheVariants.{Resume, ResumeWrapping, TellState}
 use Rattle.dvg_device.specs.declared.state.StatePart.{StatePart}
-use Rattle.dvg_device.specs.declared.state.StatePart.TheVariants.{Fields, ReturnAddress, Place, Line}
+use Rattle.dvg_device.specs.declared.state.StatePart.TheVariants.{Fields, ReturnAddress, Place}
 
 -- a machine that was told parts in turn
 abbrev pub told_all : List StatePart → Machine → Machine
@@ -181,6 +184,13 @@ read_by : (parts : List StatePart) → AllByRecursion Fits parts → AllByRecurs
 read_by [] all = tt
 read_by (part ∷ parts) all = (read_again part all.0, read_by parts all.1)
 
+-- a device that was told all parts of a machine's state has that machine
+pub told_state : (machine : Machine) (old between : Held) → CanBeSaved machine
+    → ToldInTurn (map word_of (parts_of machine)) old between → between ≡ record old { waiting = restored machine }
+told_state machine old between can in_turn =
+    told_parts (parts_of machine) old between (read_by (parts_of machine) (all_fit machine can)) in_turn
+    ∙ ap (λ waiting. record old { waiting = waiting }) (told_machine machine old.waiting)
+
 -- where a generator can stand so, it begins
 opened : (between new : Held) (reply : Reply) → CanStand between.waiting → ResumeAnswers between new reply
     → (reply ≡ Opened)
@@ -198,13 +208,47 @@ pub resumed : (machine : Machine) (old between new : Held) (reply : Reply) → C
     → (reply ≡ Opened)
     × (new ≡ record old { waiting = unbegun; open_part = Generator (restored machine) })
 resumed machine old between new reply can in_turn answers =
-    let is : between ≡ record old { waiting = restored machine } =
-    told_parts (parts_of machine) old between (read_by (parts_of machine) (all_fit machine can)) in_turn
-    ∙ ap (λ waiting. record old { waiting = waiting }) (told_machine machine old.waiting) in
+    let is = told_state machine old between can in_turn in
     let there = ap (λ held. held.waiting) is in
     let stands = subst CanStand (sym there) (restored_stands machine can.stands) in
     let done = opened between new reply stands answers in (
       done.0,
       done.1 ∙ ap (λ (held : Held). record held
           { waiting = unbegun; open_part = Generator held.waiting }) is,
+    )
+
+-- where a generator whose stack wraps can begin so, it does
+opened_wrapping : (between new : Held) (reply : Reply) → CanWrap between.waiting → WrappingResumes between new reply
+    → (reply ≡ Opened) × (new ≡ record between { waiting = unbegun; open_part = Wrapping (wrapping_of between.waiting) })
+opened_wrapping between new Opened can answers = (refl, answers.2)
+opened_wrapping between new NoState can answers = absurd (answers.0 can)
+opened_wrapping between new _ can answers = absurd answers
+
+-- it stands after each history after which the saved one stands, which saves no address itself
+goes_on_wrapped : (wrapped : Wrapped) → wrapped.machine.stack ≡ [] → (history : List Told) (low : Option ℕ)
+    → HasWrapped wrapped history low → HasWrapped (wrapping_of (restored (saved_of wrapped))) history low
+goes_on_wrapped wrapped unstacked history low stands = record {
+  told = stands.told;
+  wraps = stands.wraps;
+  after = subst (λ stack. HasTaken (with_stack stack (restored wrapped.machine)) stands.told low) unstacked
+      (goes_on wrapped.machine stands.told low stands.after);
+}
+
+-- a generator whose stack wraps that is resumed after all parts of another one's state stands as that one
+pub resumed_wrapping : (wrapped : Wrapped) (old between new : Held) (reply : Reply) → wrapped.machine.stack ≡ []
+    → length wrapped.registers ≡ STACK_DEPTH → CanBeSaved (saved_of wrapped)
+    → ToldInTurn (map word_of (parts_of (saved_of wrapped))) old between → Answered ResumeWrapping between new reply
+    → (reply ≡ Opened) × (later : Wrapped) × (new ≡ record old { waiting = unbegun; open_part = Wrapping later })
+    × ((history : List Told) (low : Option ℕ) → HasWrapped wrapped history low → HasWrapped later history low)
+resumed_wrapping wrapped old between new reply unstacked four can in_turn answers =
+    let machine = restored (saved_of wrapped) in
+    let is = told_state (saved_of wrapped) old between can in_turn in
+    let can_wrap : CanWrap machine = (restored_stands (saved_of wrapped) can.stands, four) in
+    let there = ap (λ held. held.waiting) is in
+    let done = opened_wrapping between new reply (subst CanWrap (sym there) can_wrap) answers in (
+      done.0,
+      wrapping_of machine,
+      done.1 ∙ ap (λ (held : Held). record held
+          { waiting = unbegun; open_part = Wrapping (wrapping_of held.waiting) }) is,
+      goes_on_wrapped wrapped unstacked,
     )

@@ -4,7 +4,8 @@ use Rattle.std.proofs.Common.{Bool, true, false, Option, Some, None}
 use Rattle.std.specs.Prelude.{◌==◌, if◌then◌else◌, IfSome, is_some, unwrap_or}
 use Rattle.dvg_device.specs.Laws.{Fits}
 use Rattle.dvg_device.specs.Lookup.{looked_up}
-use Rattle.dvg_device.specs.Replies.{bit, number_of}
+use Rattle.dvg_device.specs.Bits.{bit}
+use Rattle.dvg_device.specs.Replies.{number_of}
 use Rattle.dvg_device.specs.Requests.{request_of}
 use Rattle.dvg_device.specs.States.{fields_in, flags_of, optional, part_in, place_word, word_of, x_in, y_in, z_in}
 use Rattle.dvg_device.specs.declared.reply.Reply.TheVariants.{State}
@@ -17,12 +18,12 @@ few : (bound : ℕ) (o : Option ℕ) → 0 < bound → IfSome o (λ n. n < bound
 few bound None some below = some
 few bound (Some n) some below = below
 
-bit_few : (b : Bool) → bit b ≤ 1
+pub bit_few : (b : Bool) → bit b ≤ 1
 bit_few true = omega arith
 bit_few false = omega arith
 
 -- a flag is read in its bit
-flag_again : (b : Bool) (n : ℕ) → n ≡ bit b → ◌==◌ n 1 ≡ b
+pub flag_again : (b : Bool) (n : ℕ) → n ≡ bit b → ◌==◌ n 1 ≡ b
 flag_again true n is = ap (λ n. ◌==◌ n 1) is
 flag_again false n is = ap (λ n. ◌==◌ n 1) is
 

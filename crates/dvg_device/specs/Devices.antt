@@ -1,5 +1,6 @@
 -- What a device answers to a request.
-use Rattle.std.specs.Prelude.{◌≡◌, ◌+◌, ◌*◌, ◌<◌, ◌≤◌, ◌⊎◌, ℕ, List, [], ◌∷◌, ◌++◌, length, take, drop, replicate, slice_get}
+use Rattle.std.specs.Prelude.{◌≡◌, ◌≢◌, ◌+◌, ◌*◌, ◌<◌, ◌≤◌, ◌⊎◌, ℕ, List, [], ◌∷◌, ◌++◌, length}
+use Rattle.std.specs.Prelude.{take, drop, replicate, slice_get}
 use Rattle.std.specs.Prelude.{None}
 use Rattle.dvg_gen.specs.declared.stroke.Stroke.{Stroke}
 use Rattle.dvg_gen.specs.Machine.{Machine, HasTaken}
@@ -11,11 +12,12 @@ use Rattle.dvg_world.specs.Standing.{State}
 use Rattle.dvg_device.specs.Operations.{Names}
 use Rattle.dvg_device.specs.Requests.{request_of}
 use Rattle.dvg_device.specs.Replies.{number_of, begins, ends, shines}
-use Rattle.dvg_device.specs.Worlds.{IsBegun, TellsWorld, WorldAnswers}
+use Rattle.dvg_device.specs.Worlds.{IsBegun, Resumes, TellsWorld, WorldAnswers}
+use Rattle.dvg_device.specs.declared.driver.DriverFields.{DriverFields}
 use Rattle.dvg_world.specs.Desks.{Driven, IsFresh}
 use Rattle.dvg_device.specs.Drivers.{DriverAnswers}
 use Rattle.dvg_device.specs.Generators.{GeneratorAnswers, Tells}
-use Rattle.dvg_device.specs.Wrappings.{TellsWrapped, WrappingAnswers}
+use Rattle.dvg_device.specs.Wrappings.{CanWrap, TellsWrapped, WrappingAnswers, wrapping_of}
 use Rattle.dvg_device.specs.States.{CanStand, TakesPart, part_in, unbegun}
 use Rattle.dvg_moment.specs.declared.judge.MomentJudge.{MomentJudge}
 use Rattle.dvg_moment.specs.Judging.{StandsAfter}
@@ -109,6 +111,13 @@ ResumeAnswers old new replies.Opened = CanStand old.waiting × (old.waiting.pict
 ResumeAnswers old new replies.NoState = ¬ CanStand old.waiting × (new ≡ old)
 ResumeAnswers old new _ = ⊥
 
+-- so does a generator whose stack wraps
+abbrev pub WrappingResumes : Held → Held → Reply → Type 0
+WrappingResumes old new replies.Opened = CanWrap old.waiting × (old.waiting.picture ≡ [])
+    × (new ≡ record old { waiting = unbegun; open_part = Wrapping (wrapping_of old.waiting) })
+WrappingResumes old new replies.NoState = ¬ CanWrap old.waiting × (new ≡ old)
+WrappingResumes old new _ = ⊥
+
 -- what is answered where nothing is open
 abbrev pub unopened : Request → Reply
 unopened requests.Unknown = replies.Unknown
@@ -140,6 +149,20 @@ PartAnswers (Wrapping wrapped) asked old new answer = (later : Wrapped)
 PartAnswers (Judge judge) asked old new answer = (later : MomentJudge) × (new ≡ record old { open_part = Judge later })
     × JudgeAnswers asked judge later answer
 
+-- a world that is open goes on in the state that was told: the staged bytes are those of its RAM, and the draft is the
+-- frame that is being written. What was told is forgotten
+abbrev pub WorldResumes : DriverFields → State → Held → Held → Reply → Type 0
+WorldResumes fields world old new replies.WrongSize = (length old.staged ≢ MEMORY_BYTES) × (new ≡ old)
+WorldResumes fields world old new replies.NoMemory = (length old.staged ≡ MEMORY_BYTES) × (new ≡ old)
+WorldResumes fields world old new answer = (length old.staged ≡ MEMORY_BYTES) × (later : State)
+    × (new ≡ record old { waiting = unbegun; open_part = World later })
+    × Resumes old.staged old.waiting fields old.draft world later answer
+
+-- what isn't a world knows no such request
+abbrev pub ResumesIn : Open → DriverFields → Held → Held → Reply → Type 0
+ResumesIn (World world) fields old new answer = WorldResumes fields world old new answer
+ResumesIn part fields old new answer = PartAnswers part (requests.ResumeWorld fields) old new answer
+
 -- what a device comes to by a request, and what it answers
 abbrev pub Answered : Request → Held → Held → Reply → Type 0
 Answered (requests.Push numbers) old new answer = PushAnswers numbers old new answer
@@ -157,14 +180,19 @@ Answered requests.OpenWrapping old new answer = (wrapped : Wrapped) × HasWrappe
     × (answer ≡ replies.Opened)
 Answered requests.OpenJudge old new answer = OpenAnswers (Unit {0}) IsNewJudge old new answer
 Answered requests.Resume old new answer = ResumeAnswers old new answer
+Answered requests.ResumeWrapping old new answer = WrappingResumes old new answer
 Answered (requests.TellState word) old new answer = (later : Machine) × (new ≡ record old { waiting = later })
     × TakesPart (part_in word) old.waiting later answer
+Answered (requests.ResumeWorld fields) old new answer = ResumesIn old.open_part fields old new answer
 Answered requests.Close old new answer = (new ≡ closed) × (answer ≡ replies.Closed)
 Answered requests.CountStrokes old new answer = (new ≡ old)
     × (answer ≡ replies.Count (length (picture_in old.open_part)))
-Answered (requests.StrokeFrom n) old new answer = (new ≡ old) × (answer ≡ begins (slice_get (picture_in old.open_part) n))
-Answered (requests.StrokeTo n) old new answer = (new ≡ old) × (answer ≡ ends (slice_get (picture_in old.open_part) n))
-Answered (requests.StrokeIntensity n) old new answer = (new ≡ old) × (answer ≡ shines (slice_get (picture_in old.open_part) n))
+Answered (requests.StrokeFrom n) old new answer = (new ≡ old)
+    × (answer ≡ begins (slice_get (picture_in old.open_part) n))
+Answered (requests.StrokeTo n) old new answer = (new ≡ old)
+    × (answer ≡ ends (slice_get (picture_in old.open_part) n))
+Answered (requests.StrokeIntensity n) old new answer = (new ≡ old)
+    × (answer ≡ shines (slice_get (picture_in old.open_part) n))
 Answered asked old new answer = PartAnswers old.open_part asked old new answer
 
 -- a request as a number, with its answer as one

@@ -1,5 +1,5 @@
 -- What a generator alone answers to a request.
-use Rattle.std.specs.Prelude.{◌≡◌, ◌⊎◌, ◌↔◌, ◌+◌, ◌*◌, ℕ, true, false, List, ◌∷◌, length, slice_get, Option}
+use Rattle.std.specs.Prelude.{◌≡◌, ◌⊎◌, ◌↔◌, ◌+◌, ◌*◌, ℕ, Bool, true, false, List, ◌∷◌, length, slice_get, Option}
 use Rattle.std.specs.Prelude.{Some, None, IsNone, is_some, option_to_list}
 use Rattle.dvg_gen.specs.declared.beam.Beam.{Beam}
 use Rattle.dvg_gen.specs.declared.moving.Move.{Move}
@@ -12,7 +12,7 @@ use Rattle.dvg_gen.specs.Told.{Told, Start, Reset, Newest, wants}
 use Rattle.dvg_log.specs.Entries.{entry_by}
 use Rattle.dvg_log.specs.declared.entry.Entry.{Entry}
 use Rattle.dvg_log.specs.declared.entry.Entry.TheVariants.{Started, Cleared, Still}
-use Rattle.dvg_device.specs.Replies.{bit}
+use Rattle.dvg_device.specs.Bits.{bit}
 use Rattle.dvg_device.specs.States.{CanBeSaved, parts_of, told_part}
 use Rattle.dvg_device.specs.declared.reply.Reply.{Reply}
 use Rattle.dvg_device.specs.declared.reply.Reply.TheVariants.{Came, Onward, Wants, Point, Moves, Nothing}
@@ -96,10 +96,10 @@ first_or_none None = 0
 first_or_none (Some word) = word
 
 -- what is told of what a generator holds that has so many return addresses: its first word, and in bits its scale,
--- whether a low byte waits, whether there is a first word, and that number
-abbrev pub told_held : Machine → (returns : ℕ) → Reply
-told_held machine returns = Holds (first_or_none machine.held)
-    (machine.beam.scale + (0x10 * bit (is_some machine.low) + 0x20 * bit (is_some machine.held)) + 0x100 * returns)
+-- whether a low byte waits, whether there is a first word, whether its stack wraps, and that number
+abbrev pub told_held : Machine → (returns : ℕ) → (wraps : Bool) → Reply
+told_held machine returns wraps = Holds (first_or_none machine.held) (machine.beam.scale
+    + (0x10 * bit (is_some machine.low) + 0x20 * bit (is_some machine.held) + 0x40 * bit wraps) + 0x100 * returns)
 
 -- what is told of a return address
 abbrev pub told_return : Option ℕ → Reply
@@ -112,11 +112,11 @@ Tells (questions.Move byte) machine reply = (move : Option Move) × Foretold byt
 Tells (questions.MoveTo byte) machine reply = (move : Option Move) × Foretold byte machine move
     × (reply ≡ told_end move machine.beam)
 Tells questions.Beam machine reply = reply ≡ Point machine.beam.x machine.beam.y
-Tells questions.Holds machine reply = reply ≡ told_held machine (length machine.stack)
+Tells questions.Holds machine reply = reply ≡ told_held machine (length machine.stack) false
 Tells (questions.ReturnTo n) machine reply = reply ≡ told_return (slice_get machine.stack n)
 Tells (questions.State n) machine reply = OfHistories machine (λ history low run. CanBeSaved machine)
     × (reply ≡ told_part (slice_get (parts_of machine) n))
-Tells (questions.Byte n) machine reply = reply ≡ Unknown
+Tells question machine reply = reply ≡ Unknown
 
 -- what a generator comes to by a request. After a strobe the low byte of word zero is wanted
 abbrev pub GeneratorAnswers : Request → Machine → Machine → Reply → Type 0

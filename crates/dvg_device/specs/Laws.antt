@@ -1,16 +1,26 @@
 -- Laws of the numbers of replies, and of saved states.
-use Rattle.std.specs.Prelude.{◌≡◌, ◌<◌, ◌+◌, ◌*◌, ◌/◌, ◌%◌, ◌^◌, ℕ, Bool, List, [], ◌∷◌, map, All, Option}
+use Rattle.std.specs.Prelude.{◌≡◌, ◌<◌, ◌+◌, ◌*◌, ◌/◌, ◌%◌, ◌^◌, ℕ, Bool, List, [], ◌∷◌, length, map, All, Option}
 use Rattle.std.specs.Prelude.{Some, IfSome}
 use Rattle.dvg_gen.specs.Machine.{Machine, HasTaken}
 use Rattle.dvg_gen.specs.Told.{Told}
+use Rattle.dvg_gen.specs.Wrapping.{Wrapped, HasWrapped}
+use Rattle.dvg_gen.specs.declared.TheConstants.{STACK_DEPTH}
+use Rattle.dvg_driver.specs.Saved.{stage_in}
+use Rattle.dvg_world.specs.Standing.{KeepsLogs, State}
 use Rattle.dvg_log.specs.declared.entry.Entry.TheVariants.{Cleared}
-use Rattle.dvg_device.specs.Devices.{Answered, Generator, Held}
-use Rattle.dvg_device.specs.Replies.{bit, next, number_of, packed}
+use Rattle.dvg_device.specs.Devices.{Answered, Generator, Held, World, Wrapping}
+use Rattle.dvg_device.specs.Resuming.{state_of}
+use Rattle.dvg_device.specs.Wrappings.{saved_of}
+use Rattle.dvg_device.specs.declared.driver.DriverFields.{DriverFields}
+use Rattle.dvg_device.specs.declared.operation.Operation.{Operation}
+use Rattle.dvg_device.specs.Bits.{bit}
+use Rattle.dvg_device.specs.Replies.{next, number_of, packed}
 use Rattle.dvg_device.specs.Requests.{request_of}
 use Rattle.dvg_device.specs.States.{CanBeSaved, Suits, drawn_so_far, part_in, parts_of, told, unbegun, word_of}
 use Rattle.dvg_device.specs.declared.reply.Reply.{Reply}
-use Rattle.dvg_device.specs.declared.reply.Reply.TheVariants.{Came, Opened, State}
-use Rattle.dvg_device.specs.declared.request.Request.TheVariants.{Resume, TellState}
+use Rattle.dvg_device.specs.declared.reply.Reply.TheVariants as replies
+use Rattle.dvg_device.specs.declared.reply.Reply.TheVariants.{Came, Opened}
+use Rattle.dvg_device.specs.declared.request.Request.TheVariants.{Push, Resume, ResumeWorld, ResumeWrapping, TellState}
 use Rattle.dvg_device.specs.declared.state.StatePart.{StatePart}
 use Rattle.dvg_device.specs.declared.state.StatePart.TheVariants.{Fields, ReturnAddress, Place, Line}
 
@@ -44,7 +54,8 @@ IsReadAgain = (part : StatePart) → Fits part → part_in (word_of part) ≡ So
 
 -- the number of the reply that tells a part is the request that tells it
 abbrev pub IsPassedOn : Type 0
-IsPassedOn = (part : StatePart) → Fits part → request_of (number_of (State (word_of part))) ≡ TellState (word_of part)
+IsPassedOn = (part : StatePart) → Fits part
+    → request_of (number_of (replies.State (word_of part))) ≡ TellState (word_of part)
 
 -- each part of a state that can be saved fits
 abbrev pub AllFit : Type 0
@@ -79,3 +90,33 @@ IsRestored = (machine : Machine) (old between new : Held) (reply : Reply) → Ca
 abbrev pub GoesOn : Type 0
 GoesOn = (machine : Machine) (history : List Told) (low : Option ℕ) → HasTaken machine history low
     → HasTaken (restored machine) history low
+
+-- a generator whose stack wraps, which saves no address itself: its state is told and it resumes, and so there is one
+-- that stands after each history after which it stands
+abbrev pub IsWrappingRestored : Type 0
+IsWrappingRestored = (wrapped : Wrapped) (old between new : Held) (reply : Reply)
+    → wrapped.machine.stack ≡ [] → length wrapped.registers ≡ STACK_DEPTH → CanBeSaved (saved_of wrapped)
+    → ToldInTurn (map word_of (parts_of (saved_of wrapped))) old between → Answered ResumeWrapping between new reply
+    → (reply ≡ Opened) × (later : Wrapped) × (new ≡ record old { waiting = unbegun; open_part = Wrapping later })
+    × ((history : List Told) (low : Option ℕ) → HasWrapped wrapped history low → HasWrapped later history low)
+
+-- the number of the reply that tells what a world keeps of its driver is the request by which a world goes on with it,
+-- and the number of one that tells an operation is the request that pushes it
+abbrev pub DriversArePassedOn : Type 0
+DriversArePassedOn = (fields : DriverFields) → fields.left < 0x1_0000
+    → request_of (number_of (replies.Driver fields)) ≡ ResumeWorld fields
+
+abbrev pub OperationsArePassedOn : Type 0
+OperationsArePassedOn = (o : Operation) → o.kind < 0x100 → o.scale < 0x100 → o.z < 0x100
+    → o.x < 0x1_0000 → o.y < 0x1_0000 → request_of (number_of (replies.Operation o)) ≡ Push o
+
+-- a device with a world over a saved world's ROM was told all that the saved one tells: its RAM is staged, the draft is
+-- a frame, and with it these fields of a driver are a state of its stage, and the parts of its generator were told in
+-- turn.
+-- Where the world goes on, it stands after each log after which the saved one stands
+abbrev pub IsWorldResumed : Type 0
+IsWorldResumed = (saved world : State) (fields : DriverFields) (old between new : Held) → CanBeSaved saved.machine
+    → world.rom ≡ saved.rom → old.staged ≡ saved.ram → stage_in (state_of fields old.draft) ≡ saved.stage
+    → fields.strobe_sent ≡ saved.sent → old.open_part ≡ World world
+    → ToldInTurn (map word_of (parts_of saved.machine)) old between → Answered (ResumeWorld fields) between new Opened
+    → (later : State) × (new.open_part ≡ World later) × KeepsLogs saved later

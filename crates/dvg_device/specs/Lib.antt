@@ -1,5 +1,7 @@
 pub mod Lookup
 pub mod Operations
+pub mod Bits
+pub mod Resuming
 pub mod Requests
 pub mod Replies
 pub mod States

@@ -11,11 +11,15 @@ use Rattle.dvg_frame.specs.declared.place.Place.TheVariants.{InFrame, InRom}
 use Rattle.dvg_log.specs.declared.entry.Entry.{Entry}
 use Rattle.dvg_log.specs.declared.entry.Entry.TheVariants.{Offered, Refused, Busy, Asked, NothingPublished, Acted}
 use Rattle.dvg_log.specs.declared.entry.Entry.TheVariants.{Started, NoStrobe, Low, Fetched, Done, Broke, Still, Cleared}
+use Rattle.dvg_device.specs.Bits.{bit}
+use Rattle.dvg_device.specs.Resuming.{driver_number}
+use Rattle.dvg_device.specs.declared.operation.Operation.{Operation}
 use Rattle.dvg_device.specs.declared.reply.Reply.{Reply}
 use Rattle.dvg_device.specs.declared.reply.Reply.TheVariants.{Came, Onward, Pushed, NoOperation, Full, Staged}
 use Rattle.dvg_device.specs.declared.reply.Reply.TheVariants.{Opened, WrongSize, Closed, Wants, Count, Point, Intensity}
 use Rattle.dvg_device.specs.declared.reply.Reply.TheVariants.{Judged, Moves, Nothing, Holds, ReturnsTo, State, NoState}
-use Rattle.dvg_device.specs.declared.reply.Reply.TheVariants.{Byte, Unknown, NoMemory}
+use Rattle.dvg_device.specs.declared.reply.Reply.TheVariants.{Byte, Driver, Unknown, NoMemory}
+use Rattle.dvg_device.specs.declared.reply.Reply.TheVariants as replies
 use Rattle.dvg_device.specs.declared.reply.RunState.{RunState}
 use Rattle.dvg_device.specs.declared.reply.RunState.TheVariants as runs
 
@@ -68,14 +72,13 @@ judged runs.NoMoment value = packed 28 0 value
 judged runs.Whole value = packed 29 0 value
 judged runs.Torn value = packed 30 0 value
 
--- a flag as a bit
-abbrev pub bit : Bool → ℕ
-bit true = 1
-bit false = 0
-
 -- which byte is wanted next: its byte address from bit 40 on, and 1 in bit 60
 abbrev pub next : ℕ → Bool → ℕ
 next address high = 2 ^ 60 + 2 ^ 40 * (2 * address + bit high)
+
+-- an operation: the number of the request that pushes it
+abbrev pub pushing : Operation → ℕ
+pushing o = 8 + 0x100 * o.kind + 0x1_0000 * o.scale + 0x100_0000 * o.z + 2 ^ 32 * o.x + 2 ^ 48 * o.y
 
 -- the number of a reply
 abbrev pub number_of : Reply → ℕ
@@ -102,6 +105,8 @@ number_of (ReturnsTo address) = packed 34 address 0
 number_of (State word) = 35 + 0x100 * (word % 2 ^ 56)
 number_of NoState = packed 36 0 0
 number_of (Byte address byte) = packed 37 address byte
+number_of (Driver fields) = driver_number fields
+number_of (replies.Operation o) = pushing o
 number_of Unknown = packed 254 0 0
 number_of NoMemory = packed 255 0 0
 

@@ -1,6 +1,8 @@
 -- Requests as numbers of 64 bits.
 use Rattle.std.specs.Prelude.{ℕ, ◌/◌, ◌%◌, [], ◌∷◌, ◌==◌, nat_lt, if◌then◌else◌, Option, Some, None, Bool}
 use Rattle.dvg_device.specs.Lookup.{looked_up}
+use Rattle.dvg_device.specs.Resuming.{driver_in}
+use Rattle.dvg_device.specs.declared.driver.DriverFields.{DriverFields}
 use Rattle.dvg_device.specs.declared.judging.JudgeLine.{JudgeLine}
 use Rattle.dvg_device.specs.declared.judging.JudgeLine.TheVariants.{Passed, Started, Low, Fetched, Done, Wrote, Ended}
 use Rattle.dvg_device.specs.declared.operation.Operation.{Operation}
@@ -9,9 +11,11 @@ use Rattle.dvg_device.specs.declared.request.Request.TheVariants.{Offer, Redraw,
 use Rattle.dvg_device.specs.declared.request.Request.TheVariants.{ResetProcessor, ResetAll, Push, ClearDraft, Stage}
 use Rattle.dvg_device.specs.declared.request.Request.TheVariants.{Unstage, OpenWorld, OpenDriver, OpenGenerator, Close}
 use Rattle.dvg_device.specs.declared.request.Request.TheVariants.{Wants, CountStrokes, StrokeFrom, StrokeTo}
-use Rattle.dvg_device.specs.declared.request.Request.TheVariants.{StrokeIntensity, OpenJudge, Tell, Ask, Resume, OpenWrapping}
-use Rattle.dvg_device.specs.declared.request.Request.TheVariants.{TellState, Unknown}
+use Rattle.dvg_device.specs.declared.request.Request.TheVariants.{StrokeIntensity, OpenJudge, Tell, Ask, Resume}
+use Rattle.dvg_device.specs.declared.request.Request.TheVariants.{OpenWrapping}
+use Rattle.dvg_device.specs.declared.request.Request.TheVariants.{ResumeWrapping, TellState, ResumeWorld, Unknown}
 use Rattle.dvg_device.specs.declared.request.Question.TheVariants.{Move, MoveTo, Beam, Holds, ReturnTo, State, Byte}
+use Rattle.dvg_device.specs.declared.request.Question.TheVariants as questions
 
 -- the fields of an operation: a byte each of its kind, its scale and its intensity above the lowest byte, and 16 bits
 -- each of x and y
@@ -48,6 +52,11 @@ abbrev pub telling : Option JudgeLine → Request
 telling None = Unknown
 telling (Some line) = Tell line
 
+-- a world goes on with these fields of its driver; with none there is no request
+abbrev pub resuming : Option DriverFields → Request
+resuming None = Unknown
+resuming (Some fields) = ResumeWorld fields
+
 -- a byte to be handed over, or a hole where a flag says so
 abbrev pub handed : Bool → ℕ → Option ℕ
 handed flag byte = if flag then None else Some byte
@@ -65,4 +74,5 @@ request_of n = looked_up Unknown (n % 0x100)
     ∷ (23, Ask (Move (handed (flag_of n) (byte_of n)))) ∷ (24, Ask (MoveTo (handed (flag_of n) (byte_of n))))
     ∷ (25, Ask Beam) ∷ (26, Ask Holds) ∷ (27, Ask (ReturnTo (n / 0x100)))
     ∷ (28, Ask (State (n / 0x100))) ∷ (29, Resume) ∷ (30, OpenWrapping) ∷ (31, Ask (Byte (n / 0x100)))
-    ∷ (35, TellState (n / 0x100)) ∷ [])
+    ∷ (32, Ask questions.Driver) ∷ (33, Ask (questions.Operation (n / 0x100)))
+    ∷ (34, ResumeWrapping) ∷ (35, TellState (n / 0x100)) ∷ (38, resuming (driver_in n)) ∷ [])

@@ -7,7 +7,7 @@ use Rattle.dvg_gen.specs.Machine.{Machine, IsKept}
 use Rattle.dvg_gen.specs.Position.{IsBeam, IsStroke}
 use Rattle.dvg_log.specs.declared.entry.Entry.TheVariants.{Cleared}
 use Rattle.dvg_device.specs.Lookup.{looked_up}
-use Rattle.dvg_device.specs.Replies.{bit}
+use Rattle.dvg_device.specs.Bits.{bit}
 use Rattle.dvg_device.specs.declared.reply.Reply.{Reply}
 use Rattle.dvg_device.specs.declared.reply.Reply.TheVariants.{Came, State, Nothing, NoState, NoMemory}
 use Rattle.dvg_device.specs.declared.state.StatePart.{StatePart}
@@ -66,6 +66,10 @@ part_of_stroke stroke true = Line stroke.x1 stroke.y1 stroke.z
 abbrev pub stroke_parts : List Stroke → List StatePart
 stroke_parts [] = []
 stroke_parts (stroke ∷ strokes) = part_of_stroke stroke false ∷ part_of_stroke stroke true ∷ stroke_parts strokes
+
+-- a machine with these return addresses, newest first
+abbrev pub with_stack : List ℕ → Machine → Machine
+with_stack addresses machine = record machine { stack = addresses }
 
 -- what is saved of the strokes: those that an open run drew so far
 abbrev pub drawn_so_far : Machine → List Stroke

@@ -1,16 +1,17 @@
 -- What a generator alone whose stack wraps answers to a request.
-use Rattle.std.specs.Prelude.{◌≡◌, ◌⊎◌, ℕ, false, ◌∷◌, slice_get, List, Option, Some, None}
+use Rattle.std.specs.Prelude.{◌≡◌, ◌⊎◌, ℕ, true, false, [], ◌∷◌, length, slice_get, List, Option, Some, None}
 use Rattle.dvg_gen.specs.declared.TheConstants.{STACK_DEPTH}
 use Rattle.dvg_gen.specs.declared.taken.Step.{Step}
 use Rattle.dvg_gen.specs.Bytes.{met}
 use Rattle.dvg_gen.specs.Completing.{DrawsNothing}
-use Rattle.dvg_gen.specs.Machine.{answer_by, picture_after}
+use Rattle.dvg_gen.specs.Machine.{Machine, answer_by, picture_after}
 use Rattle.dvg_gen.specs.Told.{Told, Start, Reset, Newest, wants}
 use Rattle.dvg_gen.specs.Wrapping.{Wrapped, HasWrapped, AnswersWrapped}
 use Rattle.dvg_log.specs.Entries.{entry_by}
 use Rattle.dvg_log.specs.declared.entry.Entry.{Entry}
 use Rattle.dvg_log.specs.declared.entry.Entry.TheVariants.{Started, Cleared, Still}
 use Rattle.dvg_device.specs.Generators.{GoesOn, Tells, onward, told_held, told_return, wanting}
+use Rattle.dvg_device.specs.States.{CanBeSaved, CanStand, parts_of, told_part, with_stack}
 use Rattle.dvg_device.specs.declared.reply.Reply.{Reply}
 use Rattle.dvg_device.specs.declared.reply.Reply.TheVariants.{Came, Onward, Unknown, NoMemory}
 use Rattle.dvg_device.specs.declared.request.Request.{Request}
@@ -50,12 +51,27 @@ pub record StaysStillWrapped (wrapped later : Wrapped) (reply : Reply) : Type 0 
   pub answered : reply ≡ Came Still
   pub same : later ≡ wrapped
 
+-- what is saved of it: the machine in it, with the registers as return addresses
+abbrev pub saved_of : Wrapped → Machine
+saved_of wrapped = with_stack wrapped.registers wrapped.machine
+
+-- a generator whose stack wraps can begin in what was told of a machine: a generator can stand so, with four return
+-- addresses
+abbrev pub CanWrap : Machine → Type 0
+CanWrap machine = CanStand machine × (length machine.stack ≡ STACK_DEPTH)
+
+-- it, with those addresses as its registers
+abbrev pub wrapping_of : Machine → Wrapped
+wrapping_of machine = record { machine = with_stack [] machine; registers = machine.stack }
+
 -- the answer to a question, which changes nothing: that of the generator in it, but the return addresses are the four
--- registers, the newest first. A state of it isn't saved
+-- registers, the newest first
 abbrev pub TellsWrapped : Question → Wrapped → Reply → Type 0
-TellsWrapped questions.Holds wrapped reply = reply ≡ told_held wrapped.machine STACK_DEPTH
+TellsWrapped questions.Holds wrapped reply = reply ≡ told_held wrapped.machine STACK_DEPTH true
 TellsWrapped (questions.ReturnTo n) wrapped reply = reply ≡ told_return (slice_get wrapped.registers n)
-TellsWrapped (questions.State n) wrapped reply = reply ≡ Unknown
+TellsWrapped (questions.State n) wrapped reply = (wrapped.machine.stack ≡ [])
+    × OfWraps wrapped (λ history low run. CanBeSaved (saved_of wrapped))
+    × (reply ≡ told_part (slice_get (parts_of (saved_of wrapped)) n))
 TellsWrapped question wrapped reply = Tells question wrapped.machine reply
 
 -- what it comes to by a request

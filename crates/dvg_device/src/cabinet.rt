@@ -1,4 +1,5 @@
-//! A world, beside the image that it is reset to.
+//! A world, beside the image that it is reset to. Others say state for `Cabinet`, mode for `Part`
+//! and standalone for `lone`.
 ghost use Rattle.std.specs.Prelude.{◌≡◌, length, IfSome, MatchBool};
 ghost use Rattle.dvg_mem.specs.declared.TheConstants.{MEMORY_BYTES};
 ghost use Rattle.dvg_device.specs.Worlds.{IsBegun};

@@ -1,4 +1,5 @@
-//! A driver alone.
+//! A driver alone. It has a ROM, over which drafts are checked: the headline is of one ROM, that of
+//! the generator.
 ghost use Rattle.std.specs.Prelude.{◌≡◌};
 ghost use Rattle.dvg_device.specs.Drivers.{DriverAnswers, OfAction};
 ghost use Rattle.dvg_world.specs.Desks.{TickAnswers};

@@ -1,6 +1,8 @@
 //! Laws of the definitions alone. Each is the contract of a function that does nothing.
-ghost use Rattle.dvg_device.specs.Laws.{AllFit, GoesOn, IsNeverRefused, IsPassedOn, IsReadAgain};
-ghost use Rattle.dvg_device.specs.Laws.{IsRestored, OnwardTakenApart, TakenApart};
+ghost use Rattle.dvg_device.specs.Laws.{AllFit, DriversArePassedOn, GoesOn, IsNeverRefused};
+ghost use Rattle.dvg_device.specs.Laws.{IsPassedOn, IsReadAgain, IsRestored, IsWorldResumed};
+ghost use Rattle.dvg_device.specs.Laws.{IsWrappingRestored, OnwardTakenApart};
+ghost use Rattle.dvg_device.specs.Laws.{OperationsArePassedOn, TakenApart};
 
 /// The number of a reply that has a kind, and isn't `Onward`, gives back the kind by its lowest
 /// byte, the address by the next 16 bits, and the value by what stands above. Where the value has
@@ -31,4 +33,15 @@ pub fn state_is_restored()
     ensures suits { IsNeverRefused }
     ensures restored { IsRestored }
     ensures goes_on { GoesOn }
+    ensures wrapping { IsWrappingRestored }
+{}
+
+/// What a world tells of its driver, and each operation of the frame that is being written, is told
+/// by a number that is the request by which another world goes on with it. A device that was told
+/// all that a world tells, over the same ROM, and resumes, has a world that stands after each log
+/// after which the saved one stands: so it goes on as that does.
+pub fn world_is_resumed()
+    ensures driver { DriversArePassedOn }
+    ensures operations { OperationsArePassedOn }
+    ensures resumed { IsWorldResumed }
 {}

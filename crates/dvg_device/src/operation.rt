@@ -52,6 +52,65 @@ impl Operation {
         }
     }
 
+    /// Returns the fields of `op`: `op` gives that operation back.
+    pub fn of(op: Op) -> Operation
+        ensures { Names result op }
+    {
+        match op.kind() {
+            OpKind::Draw(code) => Operation::drawing(code.instr()),
+            OpKind::Call(i) => Operation::numbered(3, i),
+            OpKind::Jump(i) => Operation::numbered(4, i),
+            OpKind::CallRom(a) => Operation::numbered(5, a),
+            OpKind::JumpRom(a) => Operation::numbered(6, a),
+            OpKind::Return => Operation::numbered(7, 0),
+            OpKind::Halt => Operation::numbered(8, 0),
+        }
+    }
+
+    // Returns the fields of an operation of this kind that brings the number `x`.
+    fn numbered(kind: u8, x: u16) -> Operation
+        ensures { result ≡ record { kind = kind; scale = 0; z = 0; x = x; y = 0 } }
+    {
+        Operation {
+            kind,
+            scale: 0,
+            z: 0,
+            x,
+            y: 0,
+        }
+    }
+
+    // Returns the fields of an operation that draws by `instr`, or fields of no operation where no
+    // draft holds it.
+    fn drawing(instr: Instr) -> Operation
+        ensures { IsOp (Draw instr) → Names result (Draw instr) }
+    {
+        match instr {
+            Instr::Vctr { scale, dx, dy, z } => Operation {
+                kind: 0,
+                scale,
+                z,
+                x: dx.cast_unsigned(),
+                y: dy.cast_unsigned(),
+            },
+            Instr::Svec { scale, dx, dy, z } => Operation {
+                kind: 1,
+                scale,
+                z,
+                x: i16::from(dx).cast_unsigned(),
+                y: i16::from(dy).cast_unsigned(),
+            },
+            Instr::Labs { x, y, scale } => Operation {
+                kind: 2,
+                scale,
+                z: 0,
+                x,
+                y,
+            },
+            _ => Operation::numbered(9, 0),
+        }
+    }
+
     // Returns the fields as those of a VCTR.
     fn vctr(self) -> Instr
         ensures { result ≡ vctr_of self }

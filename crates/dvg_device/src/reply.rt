@@ -1,8 +1,11 @@
 //! What a device replies.
 ghost use Rattle.std.specs.Prelude.{◌≡◌, ◌≤◌, ◌<◌, ◌+◌, ◌*◌};
-ghost use Rattle.dvg_device.specs.Replies.{acted, bit, came, judged, next, number_of, packed};
-ghost use Rattle.dvg_device.specs.Replies.{placed, refusal};
+ghost use Rattle.dvg_device.specs.Bits.{bit};
+ghost use Rattle.dvg_device.specs.Replies.{acted, came, judged, next, number_of, packed};
+ghost use Rattle.dvg_device.specs.Replies.{placed, pushing, refusal};
 
+use crate::driver::DriverFields;
+use crate::operation::Operation;
 use dvg_driver::Action;
 use dvg_frame::{FrameFault, Place};
 use dvg_log::Entry;
@@ -12,13 +15,13 @@ use dvg_log::Entry;
 pub enum RunState {
     /// No run is open.
     NoRun,
-    /// A run is open, and so far it is of one moment.
+    /// A run is open, and so far it is consistent.
     OneMoment,
-    /// A run is open, and it is of no moment.
+    /// A run is open, and it is mixed.
     NoMoment,
-    /// The line is the HALT of a run of one moment.
+    /// The line is the HALT of a consistent run.
     Whole,
-    /// The line is the HALT of a run of no moment.
+    /// The line is the HALT of a mixed run.
     Torn,
 }
 
@@ -27,6 +30,7 @@ pub enum RunState {
 /// differ:
 ///
 /// - `Count`, `Point` and `Intensity` have no kind: the number is what was asked for;
+/// - `Driver` and `Operation` are the numbers of requests;
 /// - `State` has a word above its kind;
 /// - `Onward` has the byte that is wanted next above its value.
 #[derive(Clone, Copy, Debug, PartialEq, Eq)]
@@ -92,19 +96,26 @@ pub enum Reply {
     /// 32: there is no move, or no such return address or byte.
     Nothing,
     /// 33: what a generator holds: the first word of the instruction whose second word comes next,
-    /// or 0, and bits: the global scale in bits 0 to 3; in bit 4 whether a low byte waits, and in
-    /// bit 5 whether there is such a first word; and from bit 8 on how many return addresses there
-    /// are, 0 to 4. The word stands in the place of the address, and the bits are the value.
+    /// or 0, and bits: the global scale in bits 0 to 3; in bit 4 whether a low byte waits, in bit 5
+    /// whether there is such a first word, and in bit 6 whether the stack wraps; and from bit 8 on
+    /// how many return addresses there are, 0 to 4. The word stands in the place of the address,
+    /// and the bits are the value.
     Holds(u16, u16),
     /// 34: a return address.
     ReturnsTo(u16),
     /// 35: a part of a state. Its word, below 2^56, stands from bit 8 on.
     State(u64),
-    /// 36: what was told is no part that suits the state before it, or no generator can be in that
-    /// state. Nothing has changed.
+    /// 36: what was told is no part that suits the state before it, or what resumes can't be in
+    /// that state. Nothing has changed, but that a world forgets what was told.
     NoState,
     /// 37: the byte of a RAM at this byte address, as the value.
     Byte(u16, u8),
+    /// 38: what a world keeps of its driver. The number is that of the request `ResumeWorld` with
+    /// these fields.
+    Driver(DriverFields),
+    /// An operation of the frame that is being written. The number is that of the request that
+    /// pushes it.
+    Operation(Operation),
     /// 254: there is no such request, or what is open has no such request. Nothing has changed.
     Unknown,
     /// 255: there was no memory for it, and nothing has changed.
@@ -141,10 +152,23 @@ impl Reply {
             Reply::State(word) => 35 + 0x100 * (word % 0x100_0000_0000_0000),
             Reply::NoState => packed(36, 0, 0),
             Reply::Byte(address, byte) => packed(37, address, u16::from(byte)),
+            Reply::Driver(fields) => fields.number(),
+            Reply::Operation(operation) => pushing(operation),
             Reply::Unknown => packed(254, 0, 0),
             Reply::NoMemory => packed(255, 0, 0),
         }
     }
+}
+
+// Returns the number of the request that pushes `operation`.
+fn pushing(operation: Operation) -> u64
+    ensures { result ≡ pushing operation }
+{
+    8 + 0x100 * u64::from(operation.kind)
+        + 0x1_0000 * u64::from(operation.scale)
+        + 0x100_0000 * u64::from(operation.z)
+        + 0x1_0000_0000 * u64::from(operation.x)
+        + 0x1_0000_0000_0000 * u64::from(operation.y)
 }
 
 // Returns 1 where `flag` is true, else 0.

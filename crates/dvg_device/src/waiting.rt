@@ -1,13 +1,17 @@
-//! What was told of a generator's state, before one begins in it.
+//! What was told of a generator's state, before one begins in it. An answer that tells a part is
+//! the request that tells another device the same part. What was open stays until the whole state
+//! is there; the first part begins anew.
 ghost use Rattle.std.specs.Prelude.{◌≡◌, ◌↔◌, ◌<◌, [], IsTrue, MatchOption, Some};
 ghost use Rattle.dvg_gen.specs.Position.{IsStroke};
+ghost use Rattle.dvg_gen.specs.Saved.{machine_of};
 ghost use Rattle.dvg_device.specs.States.{CanStand, TakesPart, part_in, unbegun};
+ghost use Rattle.dvg_device.specs.Wrappings.{CanWrap, wrapping_of};
 ghost use Rattle.dvg_device.specs.declared.state.StatePart.TheVariants.{Line, ReturnAddress};
 
 use crate::reply::Reply;
 use crate::state::StatePart;
 use arrayvec::ArrayVec;
-use dvg_gen::{Generator, GeneratorState, Stroke};
+use dvg_gen::{Generator, GeneratorState, Stroke, WrappingGenerator};
 use dvg_log::Entry;
 use std::alloc::Global;
 use std::marker::Model;
@@ -117,6 +121,15 @@ impl Waiting {
         }
     }
 
+    // Takes the state and the strokes that were told, and forgets them.
+    pub(crate) fn take_told(&mut self, alloc: Global) -> (GeneratorState, Vec<Stroke>)
+        ensures told { self.old ≡ machine_of result.0 result.1.items [] }
+        ensures forgotten { self.new ≡ unbegun }
+    {
+        let Waiting { state, strokes } = mem::replace(self, Waiting::new(alloc));
+        (state, strokes)
+    }
+
     // Returns a generator in this state, and forgets the state, where a generator can be in it.
     // Otherwise it returns `None`, and nothing has changed.
     pub(crate) fn generator(&mut self, alloc: Global) -> Option<Generator<Global>>
@@ -127,10 +140,26 @@ impl Waiting {
         if !self.state.is_valid() {
             return None;
         }
-        let Waiting { state, strokes } = mem::replace(self, Waiting::new(alloc));
+        let (state, strokes) = self.take_told(alloc);
         let mut generator = Generator::new(alloc);
         generator.resume(&state, strokes);
         Some(generator)
+    }
+
+    // Returns a generator whose stack wraps in this state, and forgets the state, where such a one
+    // can be in it. Otherwise it returns `None`, and nothing has changed.
+    pub(crate) fn wrapping(&mut self, alloc: Global) -> Option<WrappingGenerator<Global>>
+        ensures { MatchOption result ((CanWrap self.old → ⊥) × (self.new ≡ self.old))
+            (λ generator. CanWrap self.old × (self.old.picture ≡ [])
+            × (generator ≡ wrapping_of self.old) × (self.new ≡ unbegun)) }
+    {
+        if !self.state.return_addresses.is_full() || !self.state.is_valid() {
+            return None;
+        }
+        let (state, strokes) = self.take_told(alloc);
+        let mut wrapping = WrappingGenerator::new(alloc);
+        wrapping.resume(&state, strokes);
+        Some(wrapping)
     }
 }
 

@@ -1,11 +1,14 @@
-//! A generator alone whose stack wraps.
-ghost use Rattle.std.specs.Prelude.{◌≡◌, ◌⊎◌, slice_get};
+//! A generator alone whose stack wraps. A request of its own opens it: else a run breaks where
+//! documents have no rule.
+ghost use Rattle.std.specs.Prelude.{◌≡◌, ◌⊎◌, [], slice_get};
 ghost use Rattle.dvg_gen.specs.Told.{wants};
 ghost use Rattle.dvg_device.specs.Generators.{told_return, wanting};
 ghost use Rattle.dvg_device.specs.Wrappings.{FetchesWrapped, LacksRoomWrapped, OfWraps};
+ghost use Rattle.dvg_device.specs.States.{CanBeSaved, parts_of, told_part};
 ghost use Rattle.dvg_device.specs.Wrappings.{StaysStillWrapped, TellsWrapped, WrappingAnswers};
+ghost use Rattle.dvg_device.specs.Wrappings.{saved_of};
 
-use crate::lone::{held, onward, tell, wanted};
+use crate::lone::{held, is_saved, onward, part, tell, told_part, wanted};
 use crate::reply::Reply;
 use crate::request::{Question, Request};
 use dvg_gen::{STACK_DEPTH, WrappingGenerator};
@@ -46,9 +49,9 @@ pub(crate) fn tell_wrapping(generator: &WrappingGenerator<Global>, question: Que
     ensures { TellsWrapped question generator.now result }
 {
     match question {
-        Question::Holds => held(generator.generator(), STACK_DEPTH as u16),
+        Question::Holds => held(generator.generator(), STACK_DEPTH as u16, true),
         Question::ReturnTo(i) => register(generator, i),
-        Question::State(_) => Reply::Unknown,
+        Question::State(i) => state(generator, i),
         question => tell(generator.generator(), question),
     }
 }
@@ -63,6 +66,17 @@ fn register(generator: &WrappingGenerator<Global>, i: u64) -> Reply
     } else {
         Reply::Nothing
     }
+}
+
+// Returns the reply that says what part `i` of the state of `generator` is, from 0.
+fn state(generator: &WrappingGenerator<Global>, i: u64) -> Reply
+    ensures stack { generator.now.machine.stack ≡ [] }
+    ensures saved { OfWraps generator.now (λ history low run. CanBeSaved (saved_of generator.now)) }
+    ensures told { result ≡ told_part (slice_get (parts_of (saved_of generator.now)) i) }
+{
+    let state = generator.state();
+    is_saved(&state);
+    told_part(part(&state, generator.generator(), i))
 }
 
 // Hands `byte` to `generator`, where `None` is a hole. Returns the reply.

@@ -1,19 +1,19 @@
 -- How a driver goes on standing after its life.
-use Rattle.std.proofs.Common.{◌≡◌, ℕ, ◌≤◌, Bool, true, false, not, List, [], ◌∷◌, ◌++◌, refl, sym, ◌∙◌, ap, subst, Option, Some, None, nat_eq, arith, inl, inr, eq-eqb, length-append}
+use Rattle.std.proofs.Common.{◌≡◌, ℕ, ◌≤◌, Bool, false, not, List, [], ◌∷◌, ◌++◌, refl, sym, ◌∙◌, ap, subst, Option, Some, None, nat_eq, arith, inl, inr, eq-eqb, length-append}
 use Rattle.std.specs.Prelude.{All, IfNone, IfSome, IsSome, IsSomeAnd, length, option_and_then}
-use Rattle.std.proofs.lemmas.List.Elements.{All-head, All-nil, All-tail}
+use Rattle.std.proofs.lemmas.List.Elements.{All-nil, All-tail}
 use Rattle.std.proofs.lemmas.Bool.Decides.{eqb_tells}
 use Rattle.dvg_mem.specs.declared.half.Half.{Half}
 use Rattle.dvg_mem.specs.Areas.{half_of_high, other}
 use Rattle.dvg_frame.specs.Bytes.{IsBehindWordZero}
-use Rattle.dvg_driver.specs.declared.driver.Phase.{Phase}
-use Rattle.dvg_driver.specs.declared.driver.Phase.TheVariants as phase
+use Rattle.dvg_driver.specs.declared.state.Phase.{Phase}
+use Rattle.dvg_driver.specs.declared.state.Phase.TheVariants as phase
 use Rattle.dvg_driver.specs.declared.driver.Driver.TheInside.{Inside}
 use Rattle.dvg_driver.specs.declared.action.Action.TheVariants.{Wrote}
 use Rattle.dvg_driver.specs.Script.{Item, Did, IsWhole, IsLife, word_zero}
 use Rattle.dvg_driver.specs.Place.{Place, Resting, Writing, next_place, place_of_life, with_left}
 use Rattle.dvg_driver.specs.Stands.{KnowsHalf, Stage, StandsAfter, WritesNext, WritesNoByte, byte1_of}
-use Rattle.dvg_driver.specs.Phases.{KeepsPhase, items_of, place_in, stage_of}
+use Rattle.dvg_driver.specs.Phases.{items_of, place_in, stage_of}
 use Rattle.dvg_driver.proofs.Places.{whole_rests, with_left-append}
 use Rattle.dvg_driver.proofs.Shapes.{place_life}
 

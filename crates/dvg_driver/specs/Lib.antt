@@ -5,3 +5,4 @@ pub mod Stands
 pub mod Laws
 -- What the driver's own model cites.
 pub mod Phases
+pub mod Saved

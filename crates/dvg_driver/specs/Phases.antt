@@ -3,8 +3,8 @@ use Rattle.std.specs.Prelude.{All, Bool, false, not, ℕ, List, [], ◌++◌, �
 use Rattle.dvg_mem.specs.declared.half.Half.{Half}
 use Rattle.dvg_mem.specs.Areas.{other}
 use Rattle.dvg_frame.specs.Bytes.{IsBehindWordZero}
-use Rattle.dvg_driver.specs.declared.driver.Phase.{Phase}
-use Rattle.dvg_driver.specs.declared.driver.Phase.TheVariants as phase
+use Rattle.dvg_driver.specs.declared.state.Phase.{Phase}
+use Rattle.dvg_driver.specs.declared.state.Phase.TheVariants as phase
 use Rattle.dvg_driver.specs.declared.driver.Driver.TheInside.{Inside}
 use Rattle.dvg_driver.specs.Script.{word_zero}
 use Rattle.dvg_driver.specs.Place.{Place, Start, Booting, Resting, Writing, Waiting, Sending}

@@ -1,4 +1,5 @@
--- After which lives a driver stands.
+-- After which lives a driver stands. A driver is specified by all that it has done since its reset,
+-- not by its state.
 use Rattle.std.specs.Prelude.{ℕ, Bool, not, List, [], ◌∷◌, ◌≡◌, ◌<◌, ◌≤◌, Some, length, nat_eq, if◌then◌else◌}
 use Rattle.dvg_mem.specs.declared.half.Half.{Half}
 use Rattle.dvg_mem.specs.Areas.{half_of_high, other}

@@ -17,7 +17,9 @@ mod action;
 mod driver;
 mod fault;
 pub mod laws;
+mod state;
 
 pub use action::Action;
 pub use driver::Driver;
 pub use fault::DriverFault;
+pub use state::{DriverState, Phase};

@@ -1,6 +1,9 @@
 //! What an input of `dvg` is, and what is wrong with it, told for people. The readers of each kind
 //! are asked, so nothing is found that a command doesn't find. Of the texts nothing is proved but
 //! that they are written whole: they are tested.
+//!
+//! This is a command, as faults have fixed texts. No definition has its sentences, nor which of the
+//! nearest kinds a text is that no reader takes whole: both can be made better without a proof.
 #![tactic(auto)]
 
 mod asking;

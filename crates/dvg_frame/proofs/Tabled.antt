@@ -2,7 +2,6 @@
 use Rattle.std.proofs.Common.{◌≡◌, ℕ, suc, ◌+◌, ◌-◌, ◌<◌, ◌≤◌, ◌⊎◌, inl, inr, ⊎_elim, Option, Some, None, true, false}
 use Rattle.std.proofs.Common.{List, [], ◌∷◌, ◌++◌, length, set, append_assoc, refl, sym, ap, ◌∙◌, subst}
 use Rattle.std.proofs.Common.{arith}
-use Rattle.std.specs.Prelude.{Ok, Err}
 use Rattle.std.proofs.lemmas.Bool.{cases_lt, cases_eq}
 use Rattle.dvg_code.specs.Spelling.{word_count}
 use Rattle.dvg_code.specs.Acts.{Act, Moves, Jumps, Calls, Returns as GoesBack, Halts as Stops}
@@ -171,7 +170,7 @@ fits_longer rest extra new d longer fits =
 
 rest_fits : (inside rest new : Drawn) (d : ℕ) → IsCalled inside rest new → FitsAt new d → FitsAt rest d
 rest_fits inside rest new d called fits =
-    let calls = called.behind in
+    let calls = called.rest_calls in
     let low = fits.deep in
     record { deep = omega arith; back = λ is. fits.back (called.returns ∙ is) }
 
@@ -295,8 +294,8 @@ module _ (F : List OpKind) (R : List ℕ) (table : List (Option Drawn)) (p : Pla
     rest_is : known_at table after ≡ Some rest
     rest_is = (knows_next after (goes_call F R stands)).1
 
-    behind : IsKnown F R table after rest
-    behind = ready.entries after rest (goes_place after (goes_call F R stands)) rest_is
+    rest_known : IsKnown F R table after rest
+    rest_known = ready.entries after rest (goes_place after (goes_call F R stands)) rest_is
 
     call_draws : (end : Ending) → inside.end ≡ end → IsDrawnFrom F R p new
     call_draws Halts ends =
@@ -308,22 +307,22 @@ module _ (F : List OpKind) (R : List ℕ) (table : List (Option Drawn)) (p : Pla
           few = λ low. let words = deeper.draws.few (omega arith) in let sum = by.1 (omega arith) in omega arith;
           draws = subst (λ e. DrawnSo F R p (end_of e) (suc deeper.draws.count)) (sym by.0)
               (drawn_call_halts F R deeper.draws.count stands drew);
-          ends = ends_more F R p after (goes_call F R stands) behind.draws.ends;
+          ends = ends_more F R p after (goes_call F R stands) rest_known.draws.ends;
         }
     call_draws Returns ends =
         let by = called.goes_on ends in
         let drew : DrawnSo F R to AtReturn deeper.draws.count =
         subst (λ e. DrawnSo F R to (end_of e) deeper.draws.count) ends deeper.draws.draws in
         record {
-          count = suc (deeper.draws.count + behind.draws.count);
+          count = suc (deeper.draws.count + rest_known.draws.count);
           few = λ low.
               let words = deeper.draws.few (omega arith) in
-              let others = behind.draws.few (omega arith) in
+              let others = rest_known.draws.few (omega arith) in
               let sum = by.1 (omega arith) in
               omega arith;
-          draws = subst (λ e. DrawnSo F R p (end_of e) (suc (deeper.draws.count + behind.draws.count))) (sym by.0)
-              (drawn_calls F R (end_of rest.end) deeper.draws.count behind.draws.count stands drew behind.draws.draws);
-          ends = ends_more F R p after (goes_call F R stands) behind.draws.ends;
+          draws = subst (λ e. DrawnSo F R p (end_of e) (suc (deeper.draws.count + rest_known.draws.count))) (sym by.0)
+              (drawn_calls F R (end_of rest.end) deeper.draws.count rest_known.draws.count stands drew rest_known.draws.draws);
+          ends = ends_more F R p after (goes_call F R stands) rest_known.draws.ends;
         }
 
     known_call : IsKnown F R table p new
@@ -349,7 +348,7 @@ module _ (F : List OpKind) (R : List ℕ) (table : List (Option Drawn)) (p : Pla
       tight = λ all e reached.
           let fine = all p e reached in
           fits_called inside rest new e called (deeper.tight all (suc e) (step reached fine (call stands)))
-          (behind.tight all e (step reached fine (back stands)));
+          (rest_known.tight all e (step reached fine (back stands)));
       draws = call_draws inside.end refl;
     }
 

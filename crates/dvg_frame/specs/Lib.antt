@@ -1,6 +1,7 @@
 pub mod Ops
 pub mod Layout
 pub mod Bytes
+pub mod Left
 pub mod Steps
 pub mod Faults
 pub mod FaultNumbers

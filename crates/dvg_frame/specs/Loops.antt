@@ -1,4 +1,5 @@
--- Which drafts have steps that come to no end.
+-- Which drafts have steps that come to no end. Steps are judged, not runs: a loop after a call that
+-- halts is one, too.
 use Rattle.std.specs.Prelude.{ℕ, suc, ◌+◌, ◌/◌, List, length}
 use Rattle.dvg_frame.specs.declared.op.OpKind.{OpKind}
 use Rattle.dvg_frame.specs.declared.place.Place.{Place}

@@ -1,4 +1,6 @@
--- Where a draft's run can go, and what is wrong there.
+-- Where a draft's run can go, and what is wrong there. A call leads to its target, and to the place
+-- after it, whether or not the called part returns. So a draft may be refused for a part that no
+-- run would come to.
 use Rattle.std.specs.Prelude.{◌≡◌, ℕ, suc, ◌+◌, ◌≤◌, List, [], ◌∷◌, length, Option, Some, None, slice_get}
 use Rattle.dvg_code.specs.declared.instr.Instr.{Instr}
 use Rattle.dvg_code.specs.declared.instr.Instr.TheVariants.{Labs}

@@ -50,10 +50,11 @@ impl Model for Cursor {
 }
 
 impl Cursor {
-    ghost use Rattle.std.specs.Prelude.{◌≡◌, ◌*◌, All, length};
+    ghost use Rattle.std.specs.Prelude.{◌≡◌, ◌≤◌, ◌*◌, All, length};
     ghost use Rattle.dvg_mem.specs.Areas.{base};
     ghost use Rattle.dvg_frame.specs.Bytes.{IsBehindWordZero, addressed, bytes};
-    ghost use Rattle.dvg_frame.specs.Layout.{laid};
+    ghost use Rattle.dvg_frame.specs.Layout.{laid, size};
+    ghost use Rattle.dvg_frame.specs.Left.{last_items};
 
     /// Returns a cursor over the bytes of `frame`, laid out for `half`.
     pub fn new(frame: Frame, half: Half) -> Cursor
@@ -82,6 +83,21 @@ impl Cursor {
         }
     }
 
+    /// Returns a cursor over the last `left` bytes of `checked`, laid out for `half`. So it goes on
+    /// as a cursor that gave the bytes before them. `left` must be at most twice the number of
+    /// words. The time is linear in the bytes that are passed over.
+    pub fn with_left(checked: &Checked, half: Half, left: u16) -> Cursor
+        requires { left ≤ 2 * size checked.now.operations }
+        ensures items { result ≡ last_items half checked.now.operations left }
+        ensures in_ram { All IsBehindWordZero result }
+    {
+        let mut cursor = Cursor::of(checked, half);
+        for _ in 0..cursor.left() - left {
+            cursor.next();
+        }
+        cursor
+    }
+
     /// Begins anew, with the bytes of `checked`, laid out for `half`. The operations are copied
     /// into the memory that the cursor has: the time is linear in them, and in those that it kept.
     pub fn restart(&mut self, checked: &Checked, half: Half)
@@ -97,6 +113,14 @@ impl Cursor {
         self.op = 0;
         self.left = 2 * checked.len_words();
         self.end = 2 * half.base() + self.left;
+    }
+
+    /// Returns the draft whose bytes the cursor gives, and the half that it is laid out for.
+    pub fn source(&self) -> (&Draft, Half)
+        ensures items { self.now ≡ last_items result.1 result.0.now (length self.now) }
+        ensures left { length self.now ≤ 2 * size result.0.now }
+    {
+        (&self.draft, self.half)
     }
 
     /// Returns the number of items that are still to come.

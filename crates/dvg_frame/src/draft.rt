@@ -92,6 +92,16 @@ impl Draft {
         Ok(())
     }
 
+    /// Returns a draft of the same operations. It is what `clone` returns, which needs no memory
+    /// here.
+    pub fn copy(&self) -> Draft
+        ensures { result ≡ self.now }
+    {
+        let mut draft = Draft::new();
+        draft.try_extend_from_slice(self.ops()).unwrap();
+        draft
+    }
+
     /// Removes all operations.
     pub fn clear(&mut self)
         ensures { self.new ≡ [] }

@@ -1,4 +1,4 @@
--- How fetched bytes make words.
+-- How fetched bytes make words. Histories are of words, and each list of bytes makes one history.
 use Rattle.std.specs.Prelude.{ℕ, ◌+◌, ◌*◌, Option, Some, None}
 
 -- what a fetched byte comes to: a low byte that waits for its high byte, or a whole word or hole

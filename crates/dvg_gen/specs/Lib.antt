@@ -11,7 +11,7 @@ pub mod Stacks
 pub mod Obeyed
 pub mod Moving
 pub mod Counting
-pub mod Saved
 pub mod Numbers
 pub mod Wrapping
+pub mod Saved
 pub mod Laws

@@ -1,10 +1,11 @@
 -- A generator's state as a plain value.
-use Rattle.std.specs.Prelude.{◌≡◌, ℕ, ◌+◌, ◌<◌, List, length, reverse, slice_index, IsSome, true}
+use Rattle.std.specs.Prelude.{◌≡◌, ℕ, ◌+◌, ◌<◌, List, [], length, reverse, slice_index, IsSome, true}
 use Rattle.dvg_gen.specs.declared.state.GeneratorState.{GeneratorState}
 use Rattle.dvg_gen.specs.declared.stroke.Stroke.{Stroke}
 use Rattle.dvg_gen.specs.Machine.{Machine, IsKept}
 use Rattle.dvg_gen.specs.Position.{IsBeam}
 use Rattle.dvg_gen.specs.Run.{Visit, past_call, calls, returns}
+use Rattle.dvg_gen.specs.Wrapping.{Wrapped}
 
 -- these are the return addresses of a run, newest first: one past each call that is still open
 pub record IsReturns (addresses : List ℕ) (visits : List Visit) : Type 0 where
@@ -18,6 +19,11 @@ pub record IsState (state : GeneratorState) : Type 0 where
   pub waits : IsSome state.low → state.is_open ≡ true
   pub beam : IsBeam state.x state.y state.scale
 
+-- a generator whose stack wraps can be in a state: a generator can, and there are four return addresses
+pub record IsWrappedState (state : GeneratorState) : Type 0 where
+  pub plain : IsState state
+  pub four : length state.return_addresses.items ≡ 4
+
 -- the machine in a state, with these strokes of its run and this picture
 abbrev pub machine_of : GeneratorState → List Stroke → List Stroke → Machine
 machine_of state strokes picture = record {
@@ -29,4 +35,12 @@ machine_of state strokes picture = record {
   strokes = strokes;
   picture = picture;
   is_open = state.is_open;
+}
+
+-- the same where the stack wraps: the machine in it saves no address, and the registers are the return addresses,
+-- newest first
+abbrev pub wrapped_of : GeneratorState → List Stroke → List Stroke → Wrapped
+wrapped_of state strokes picture = record {
+  machine = record (machine_of state strokes picture) { stack = [] };
+  registers = reverse state.return_addresses.items;
 }

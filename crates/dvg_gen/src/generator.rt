@@ -16,6 +16,7 @@ ghost use Rattle.dvg_gen.specs.Obeyed.{IsLabs, Obeyed};
 ghost use Rattle.dvg_gen.specs.Run as spec;
 ghost use Rattle.dvg_gen.specs.Saved.{IsReturns, IsState, machine_of};
 ghost use Rattle.dvg_gen.specs.Told.{Drew, Told, Start, Reset, wants};
+ghost use Rattle.dvg_gen.specs.Wrapping.{is_turn, turn_of};
 ghost use Rattle.dvg_gen.specs.declared.TheConstants.{STACK_DEPTH};
 ghost use Rattle.dvg_gen.specs.declared.stroke.Stroke.{Stroke};
 
@@ -84,6 +85,7 @@ impl<A: Allocator + Copy> Generator<A> {
     pub fn new(alloc: A) -> Generator<A>
         ensures stands { HasTaken result [] None }
         ensures halted { result.is_open ≡ false }
+        ensures stack { result.stack ≡ [] }
         ensures picture { result.picture ≡ [] }
     {
         Generator {
@@ -212,9 +214,10 @@ impl<A: Allocator + Copy> Generator<A> {
         self.strokes.as_slice()
     }
 
-    /// Returns the move that `byte`, the next one, completes, before it is taken. The generator
-    /// stays as it is. `None` means that no run is open or that the byte moves no beam: a low byte
-    /// or a first word, a word of another instruction than VCTR, SVEC and LABS, or no memory.
+    /// Returns the move that `byte`, the next one, completes, before it is taken: so who takes one
+    /// pays nothing for its move. The generator stays as it is. `None` means that no run is open or
+    /// that the byte moves no beam: a low byte or a first word, a word of another instruction than
+    /// VCTR, SVEC and LABS, or no memory.
     pub fn move_by(&self, byte: Option<u8>) -> Option<Move>
         ensures moves { (history : List Told) (low : Option ℕ)
             (after : HasTaken self.now history low) → after.run.is_open ≡ true
@@ -255,8 +258,10 @@ impl<A: Allocator + Copy> Generator<A> {
 
     /// Takes `byte`, and returns what it led to. `byte` is the low byte of the word at the address
     /// that `wants` returns, or its high byte where `wants_high` is true. `None` means that no
-    /// memory answers there. A run must be open. After `Done` or `Broke` the generator is halted;
-    /// `Done` makes the picture of the run's strokes, and every other step leaves it as it was.
+    /// memory answers there; it may come after a low byte, too, which is then dropped, as only the
+    /// generator knows of it. A run must be open. After `Done` or `Broke` the generator is halted;
+    /// `Done` makes the picture of the run's strokes, and every other step leaves it as it was. The
+    /// return addresses change only where a call or a return is completed.
     ///
     /// Returns `OutOfMemory` where an allocation fails, and then nothing has changed. That comes
     /// only where a high byte completes a vector with an intensity of at least 1.
@@ -272,6 +277,8 @@ impl<A: Allocator + Copy> Generator<A> {
             → IsSome (word_of (met self.old.low byte))) }
         ensures goes_on { IfOk result (λ step. (self.new.is_open ≡ true)
             ↔ IsOnward (answer_by step self.new.picture)) }
+        ensures stack { turn_of self.old.held (met self.old.low byte) ≡ None
+            → self.new.stack ≡ self.old.stack }
         ensures room { DrawsNothing self.old.held (met self.old.low byte) → IsOk result }
         ensures refused { OnErr result (self.new ≡ self.old) }
     {
@@ -323,7 +330,7 @@ impl<A: Allocator + Copy> Generator<A> {
             at: self.at,
             held: self.held,
             low: self.low_byte(),
-            return_addresses: copied(&self.stack),
+            return_addresses: copied(self.stack.as_slice()),
             x,
             y,
             scale,
@@ -352,7 +359,7 @@ impl<A: Allocator + Copy> Generator<A> {
         self.held = state.held;
         self.has_low = state.low.is_some();
         self.low = state.low.unwrap_or(0);
-        self.stack = copied(&state.return_addresses);
+        self.stack = copied(state.return_addresses.as_slice());
         self.beam = Beam {
             x: state.x,
             y: state.y,
@@ -389,6 +396,7 @@ impl<A: Allocator + Copy> Generator<A> {
         ensures strokes { IfOk result (λ step. step ≡ Step.Done → self.new.strokes ≡ []) }
         ensures goes_on { IfOk result (λ step. (self.new.is_open ≡ true)
             ↔ IsOnward (answer_by step self.new.picture)) }
+        ensures stack { is_turn self.old.held word ≡ false → self.new.stack ≡ self.old.stack }
         ensures room { DrawsNothing self.old.held (Whole (Some word)) → IsOk result }
         ensures refused { OnErr result (self.new ≡ self.old) }
     {
@@ -421,7 +429,8 @@ impl<A: Allocator + Copy> Generator<A> {
     fn place(&mut self, code: Code) -> Step
         requires open { self.old.is_open ≡ true }
         requires labs { IsLabs code }
-        ensures { Obeyed self.old code self.new result }
+        ensures obeyed { Obeyed self.old code self.new result }
+        ensures stack { self.new.stack ≡ self.old.stack }
     {
         let Instr::Labs { x, y, scale } = code.instr() else {
             unreachable!()
@@ -437,6 +446,7 @@ impl<A: Allocator + Copy> Generator<A> {
         requires open { self.old.is_open ≡ true }
         requires moves { act_of code ≡ Moves code }
         ensures obeyed { IfOk result (Obeyed self.old code self.new) }
+        ensures stack { self.new.stack ≡ self.old.stack }
         ensures room { (IsSeen code → ⊥) → IsOk result }
         ensures refused { OnErr result (self.new ≡ self.old) }
     {
@@ -497,7 +507,8 @@ impl<A: Allocator + Copy> Generator<A> {
 
     // Ends the run, and makes the picture of its strokes.
     fn finish(&mut self) -> Step
-        ensures { Obeyed self.old Instr.Halt self.new result }
+        ensures obeyed { Obeyed self.old Instr.Halt self.new result }
+        ensures stack { self.new.stack ≡ self.old.stack }
     {
         self.has_low = false;
         self.is_open = false;
@@ -525,12 +536,13 @@ fn after(address: u16) -> u16
     (address + 1) % 4096
 }
 
-// Returns a copy of `addresses`.
-fn copied(addresses: &ArrayVec<u16, STACK_DEPTH>) -> ArrayVec<u16, STACK_DEPTH>
-    ensures { result.items ≡ addresses.now.items }
+// Returns a copy of `addresses`, which are at most four.
+pub(crate) fn copied(addresses: &[u16]) -> ArrayVec<u16, STACK_DEPTH>
+    requires { length addresses.now ≤ STACK_DEPTH }
+    ensures { result.items ≡ addresses.now }
 {
     let mut copies = ArrayVec::new();
-    match copies.try_extend_from_slice(addresses.as_slice()) {
+    match copies.try_extend_from_slice(addresses) {
         Ok(()) => copies,
         Err(_) => unreachable!(),
     }

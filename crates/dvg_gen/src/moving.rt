@@ -1,4 +1,5 @@
-//! What an instruction did to the beam.
+//! What an instruction did to the beam. A LABS is a move of intensity 0 with a mark, as it loads
+//! counters of whole units, and a blank vector moves them.
 ghost use Rattle.std.specs.Prelude.{◌≡◌, ◌<◌, ◌≤◌, IfSome, option_to_list};
 ghost use Rattle.dvg_gen.specs.Drawing.{moved};
 ghost use Rattle.dvg_gen.specs.Moving as spec;

@@ -1,17 +1,21 @@
 //! A generator whose stack wraps.
-ghost use Rattle.std.specs.Prelude.{◌≡◌, ◌+◌, ◌<◌, ◌≤◌, ℕ, List, [], ◌∷◌, Option, None, Some};
-ghost use Rattle.std.specs.Prelude.{IsOk, IfOk, OnErr, true, false};
+ghost use Rattle.std.specs.Prelude.{◌≡◌, ◌↔◌, ◌+◌, ◌<◌, ◌≤◌, ℕ, List, [], ◌∷◌, Option, None, Some};
+ghost use Rattle.std.specs.Prelude.{IsOk, IfOk, IsTrue, OnErr, true, false, length, reverse};
 ghost use Rattle.dvg_gen.specs.Bytes.{met};
 ghost use Rattle.dvg_gen.specs.Completing.{DrawsNothing};
 ghost use Rattle.dvg_gen.specs.Machine.{answer_by, picture_after};
 ghost use Rattle.dvg_gen.specs.Run.{on};
+ghost use Rattle.dvg_gen.specs.Saved.{IsWrappedState, wrapped_of};
 ghost use Rattle.dvg_gen.specs.Told.{Told, Start, Reset};
-ghost use Rattle.dvg_gen.specs.Wrapping.{AnswersWrapped, HasWrapped, jump_of, turn_of, turned};
+ghost use Rattle.dvg_gen.specs.Wrapping.{AnswersWrapped, HasWrapped, Wrapped, jump_of, turn_of};
+ghost use Rattle.dvg_gen.specs.Wrapping.{turned};
 
 use crate::STACK_DEPTH;
-use crate::generator::Generator;
+use crate::generator::{Generator, copied};
+use crate::state::GeneratorState;
 use crate::stroke::Stroke;
 use crate::taken::Step;
+use arrayvec::ArrayVec;
 use dvg_code::OutOfMemory;
 use std::alloc::{Allocator, Global};
 use std::marker::Model;
@@ -26,6 +30,7 @@ use std::marker::Model;
 /// registers are 0 at first, and stay at a start and at a reset, is this project's own choice.
 #[derive(Drop)]
 pub struct WrappingGenerator<A: Allocator = Global> {
+    // It jumps for each call and each return, so no address is on its own stack.
     generator: Generator<A>,
     // The newest first.
     registers: [u16; STACK_DEPTH],
@@ -33,6 +38,7 @@ pub struct WrappingGenerator<A: Allocator = Global> {
 
 /// Contracts see a `Wrapped`.
 impl<A: Allocator> Model for WrappingGenerator<A> {
+    ghost use Rattle.std.specs.Prelude.{◌≡◌, []};
     ghost use Rattle.dvg_gen.specs.Wrapping.{AreRegisters, Wrapped};
 
     ghost Value = { Wrapped };
@@ -42,7 +48,8 @@ impl<A: Allocator> Model for WrappingGenerator<A> {
       registers = wrapping.registers;
     } };
 
-    ghost invariant = { λ wrapping. AreRegisters wrapping.registers };
+    ghost invariant = { λ wrapping. (wrapping.generator.stack ≡ [])
+        × AreRegisters wrapping.registers };
 }
 
 impl<A: Allocator + Copy> WrappingGenerator<A> {
@@ -111,6 +118,40 @@ impl<A: Allocator + Copy> WrappingGenerator<A> {
         self.generator.take_picture()
     }
 
+    /// Returns all that the generator keeps but its strokes and its picture. The return addresses
+    /// are the four registers, the newest last.
+    pub fn state(&self) -> GeneratorState
+        ensures machine { self.now
+            ≡ wrapped_of result self.now.machine.strokes self.now.machine.picture }
+        ensures valid { (history : List Told) (low : Option ℕ) → HasWrapped self.now history low
+            → IsWrappedState result }
+    {
+        let mut state = self.generator.state();
+        state.return_addresses = oldest_first(&self.registers);
+        state
+    }
+
+    /// Brings the generator into `state`, with `strokes` as what its run drew so far, and returns
+    /// `true`. So it goes on as the one whose `state` and `strokes` these were. Of a run that goes
+    /// on with other strokes nothing is said. The picture stays as it was. Returns `false` exactly
+    /// where `state` isn't valid or hasn't four return addresses, and then nothing has changed.
+    pub fn resume(&mut self, state: &GeneratorState, strokes: Vec<Stroke, A>) -> bool
+        ensures taken { IsTrue result ↔ IsWrappedState state.now }
+        ensures machine { IsTrue result
+            → self.new ≡ wrapped_of state.now strokes.items self.old.machine.picture }
+        ensures stands { IsTrue result → (saved : Wrapped) (picture : List Stroke)
+            (history : List Told) (low : Option ℕ)
+            → saved ≡ wrapped_of state.now strokes.items picture → HasWrapped saved history low
+            → HasWrapped self.new history low }
+        ensures refused { (IsTrue result → ⊥) → self.new ≡ self.old }
+    {
+        if !state.return_addresses.is_full() || !state.is_valid() {
+            return false;
+        }
+        self.registers = newest_first(&state.return_addresses);
+        self.generator.resume(&without_addresses(state), strokes)
+    }
+
     /// Takes `byte`, as `Generator::feed` does, and returns what it led to. A run must be open. No
     /// call and no return breaks it.
     #[inline(always)]
@@ -164,5 +205,42 @@ impl<A: Allocator + Copy> WrappingGenerator<A> {
             self.registers.rotate_left(1);
             self.generator.jump(back)
         }
+    }
+}
+
+// Returns the addresses of `registers`, the oldest first.
+fn oldest_first(registers: &[u16; STACK_DEPTH]) -> ArrayVec<u16, STACK_DEPTH>
+    ensures { result.items ≡ reverse registers.now }
+{
+    let mut addresses = *registers;
+    addresses.reverse();
+    copied(&addresses)
+}
+
+// Returns the registers with these `addresses`, of which there are four, the oldest first.
+fn newest_first(addresses: &ArrayVec<u16, STACK_DEPTH>) -> [u16; STACK_DEPTH]
+    requires { length addresses.now.items ≡ 4 }
+    ensures { result ≡ reverse addresses.now.items }
+{
+    let mut registers = [0; STACK_DEPTH];
+    registers.copy_from_slice(addresses.as_slice());
+    registers.reverse();
+    registers
+}
+
+// Returns `state` without its return addresses.
+fn without_addresses(state: &GeneratorState) -> GeneratorState
+    ensures rest { result ≡ record state.now { return_addresses = result.return_addresses } }
+    ensures none { result.return_addresses.items ≡ [] }
+{
+    GeneratorState {
+        is_open: state.is_open,
+        at: state.at,
+        held: state.held,
+        low: state.low,
+        return_addresses: ArrayVec::new(),
+        x: state.x,
+        y: state.y,
+        scale: state.scale,
     }
 }

@@ -13,6 +13,7 @@ mod ChecksSaid
 mod EndsDrawn
 mod FramesDrawn
 mod RamLaid
+mod Walked
 mod PictureTimes
 mod DraftsRead
 mod RomRead

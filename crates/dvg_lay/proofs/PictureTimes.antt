@@ -1,22 +1,17 @@
 -- How long runs over a memory take that has a frame.
-use Rattle.std.proofs.Common.{◌≡◌, ◌<◌, ◌≤◌, ◌+◌, ◌-◌, ◌∷◌, [], ◌∙◌, ℕ, suc, List, Option, Some, None}
+use Rattle.std.proofs.Common.{◌≡◌, ◌<◌, ◌≤◌, ◌+◌, ◌-◌, ◌∙◌, ℕ, suc, List, Option, Some, None}
 use Rattle.std.proofs.Common.{Bool, true, false, ◌&&◌}
-use Rattle.std.proofs.Common.{ap, arith, inl, inr, length, length-append, nat_le, nat_lt, refl, slice_index, subst, sym}
-use Rattle.std.specs.Prelude.{fold, if◌then◌else◌}
+use Rattle.std.proofs.Common.{ap, arith, inl, inr, length, nat_le, nat_lt, refl, slice_index, sym}
+use Rattle.std.specs.Prelude.{if◌then◌else◌}
 use Rattle.std.proofs.lemmas.Bool.{le-leb, leb-true}
 use Rattle.std.proofs.lemmas.Bool.Decides.{eqb_tells, leb_tells}
-use Rattle.std.proofs.lemmas.List.Sums.{fold_push}
 use Rattle.dvg_code.specs.Words.{word_in}
-use Rattle.dvg_code.specs.declared.instr.Instr.{Instr}
-use Rattle.dvg_code.specs.declared.instr.Instr.TheVariants.{Vctr, Labs, Halt, Jsrl, Rtsl, Jmpl, Svec}
 use Rattle.dvg_mem.specs.declared.half.Half.{Half}
 use Rattle.dvg_mem.specs.declared.half.Half.TheVariants.{H0}
 use Rattle.dvg_mem.specs.Areas.{base}
 use Rattle.dvg_mem.specs.Memory.{IsRom, fetched, rom_word}
 use Rattle.dvg_mem.proofs.Roms.{behind_ram, rom_some}
-use Rattle.dvg_gen.specs.declared.beam.Beam.{Beam}
-use Rattle.dvg_gen.specs.Drawing.{moved}
-use Rattle.dvg_gen.specs.Run.{Visit, Finished, Runs, beam_after, begins, fate, fetches, first, one, two}
+use Rattle.dvg_gen.specs.Run.{Visit, Finished, Runs, begins, fate, fetches}
 use Rattle.dvg_gen.specs.Told.{nothing}
 use Rattle.dvg_gen.proofs.Same.{one_end as same_end}
 use Rattle.dvg_frame.specs.declared.op.OpKind.{OpKind}
@@ -28,53 +23,12 @@ use Rattle.dvg_frame.proofs.Sizes.{closed_fits}
 use Rattle.dvg_log.specs.Held.{HoldsFrame}
 use Rattle.dvg_theorem.specs.Law.{AnyMemory, Finishes, HasFrame, IsDrawn}
 use Rattle.dvg_theorem.proofs.Least.{frame_memory, least_has}
-use Rattle.dvg_dump.specs.declared.ran.Ran.{Ran}
-use Rattle.dvg_dump.specs.Ends.{Complete, End, drawn_by, halts}
-use Rattle.dvg_dump.specs.Following.{TellsRun}
+use Rattle.dvg_dump.specs.Ends.{Complete, drawn_by, halts}
 use Rattle.dvg_dump.specs.Laws.{OneEnd}
-use Rattle.dvg_dump.specs.Memory.{DumpBytes, memory_of}
-use Rattle.dvg_dump.specs.Traces.{ran_of, trace}
-use Rattle.dvg_lay.specs.declared.time.Spent.{Spent}
-use Rattle.dvg_lay.specs.Times.{IsTimeOf, local_scale, nothing_spent, spent_by, told, with_one}
-use Rattle.dvg_lay.specs.Timing.{with_ran}
+use Rattle.dvg_lay.specs.declared.time.PictureTime.{PictureTime}
+use Rattle.dvg_lay.specs.Times.{IsTimeOf, spent_by, told}
+use Rattle.dvg_lay.specs.Walks.{IsRunTime}
 use Rattle.dvg_dump.specs.declared.runs.TheConstants.{MOST_WORDS}
-
--- a vector leaves the global scale as it was
-scale_stays : (spent : Spent) (before : Beam) (code : Instr)
-    → with_one spent (moved before code).scale (local_scale code)
-    ≡ with_one spent before.scale (local_scale code)
-scale_stays spent before (Vctr scale dx dy z) = refl
-scale_stays spent before (Labs x y scale) = refl
-scale_stays spent before Halt = refl
-scale_stays spent before (Jsrl address) = refl
-scale_stays spent before Rtsl = refl
-scale_stays spent before (Jmpl address) = refl
-scale_stays spent before (Svec scale dx dy z) = refl
-
--- what is added up of the recorded instructions is what they take
-trace_spent : (memory : ℕ → Option ℕ) (visits : List Visit)
-    → fold with_ran nothing_spent (trace memory visits) ≡ spent_by visits
-trace_spent memory [] = refl
-trace_spent memory (visit ∷ older) =
-    let before = beam_after nothing.first older in
-    fold_push with_ran nothing_spent (trace memory older) (ran_of memory before visit)
-    ∙ ap (λ spent. with_ran spent (ran_of memory before visit)) (trace_spent memory older)
-    ∙ scale_stays (spent_by older) before visit.code
-
--- as many instructions are recorded as were run, of one word each at least
-trace_length : (memory : ℕ → Option ℕ) (visits : List Visit) → length (trace memory visits) ≡ length visits
-trace_length memory [] = refl
-trace_length memory (visit ∷ older) =
-    let so_far = trace_length memory older in
-    length-append (trace memory older) (ran_of memory (beam_after nothing.first older) visit ∷ [])
-    ∙ omega (arith, so_far)
-
-runs_length : {memory : ℕ → Option ℕ} {words : ℕ} {visits : List Visit} {held : Option ℕ}
-    → Runs memory words visits held → length visits ≤ words
-runs_length begins = omega arith
-runs_length (fetches r g m (first p)) = let so_far = runs_length r in omega (arith, so_far)
-runs_length (fetches r g m (one s)) = let so_far = runs_length r in omega (arith, so_far)
-runs_length (fetches r g m (two s)) = let so_far = runs_length r in omega (arith, so_far)
 
 -- a run over a memory is one over each memory that has its words
 grown_run : {small large : ℕ → Option ℕ} {words : ℕ} {visits : List Visit} {held : Option ℕ}
@@ -148,27 +102,11 @@ module _ (law : AnyMemory) (F : List OpKind) (R : List ℕ) (n : ℕ) (draft : I
       → Runs memory words visits None → fate visits ≡ Finished → least_run.visits ≡ visits
   same_visits memory words visits has runs finished = (same_end (there memory has) least_run.finished runs finished).1
 
-  module _ (one_end : OneEnd) (few : n ≤ MOST_WORDS) (ram : List ℕ) (holds : HoldsFrame ram H0 F) (dump : DumpBytes)
-      (ran : List Ran) (end : End) (is : dump ≡ record { ram = ram; rom = R })
-      (told_run : TellsRun true (memory_of dump) ran end) where
-    tells : TellsRun true (fetched ram R) ran end
-    tells = subst (λ bytes. TellsRun true (memory_of bytes) ran end) is told_run
-
-    recorded : ran ≡ trace (fetched ram R) least_run.visits
-    recorded =
-        let has = ram_has ram R F fits holds in
-        tells.2
-        ∙ ap (trace (fetched ram R)) (one_end.1 (fetched ram R) tells.0 least_run.visits end
-        (Complete n (drawn_by least_run.visits)) tells.1 (halts (there (fetched ram R) has) few least_run.finished)).0
-
-    pub few_ran : length ran ≤ MOST_WORDS
-    few_ran =
-        let count = ap length recorded ∙ trace_length (fetched ram R) least_run.visits in
-        let short = runs_length least_run.runs in
-        omega (arith, count, short, few)
-
-    pub time_is : IsTimeOf F R (told (fold with_ran nothing_spent ran))
-    time_is memory words visits has runs finished =
-        ap (λ l. told (fold with_ran nothing_spent l)) recorded
-        ∙ ap told (trace_spent (fetched ram R) least_run.visits
-        ∙ ap spent_by (same_visits memory words visits has runs finished))
+  -- so the run over a RAM that has the frame takes the time
+  pub time_is : OneEnd → n ≤ MOST_WORDS → (ram : List ℕ) → HoldsFrame ram H0 F → (time : PictureTime)
+      → IsRunTime (fetched ram R) time → IsTimeOf F R time
+  time_is one_end few ram holds time timed memory words visits has runs finished =
+      let ram_runs = there (fetched ram R) (ram_has ram R F fits holds) in
+      let same = one_end.1 (fetched ram R) timed.0 least_run.visits timed.1 (Complete n (drawn_by least_run.visits))
+      timed.2 (halts ram_runs few least_run.finished) in
+      timed.3 ∙ ap (λ v. told (spent_by v)) (same.0 ∙ same_visits memory words visits has runs finished)

@@ -6,7 +6,7 @@ pub mod Forms
 pub mod Sketches
 pub mod Laws
 pub mod Times
-pub mod Timing
+pub mod Walks
 pub mod Checks
 pub mod Drawings
 pub mod DrawnSketches

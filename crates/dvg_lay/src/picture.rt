@@ -6,7 +6,8 @@ ghost use Rattle.dvg_lay.specs.Times.{IsTimeOf};
 ghost use Rattle.dvg_dump.specs.declared.runs.TheConstants.{MOST_WORDS};
 
 use crate::memory::laid_ram;
-use crate::time::{PictureTime, time_by};
+use crate::time::PictureTime;
+use crate::walk::time_over;
 use dvg_code::OutOfMemory;
 use dvg_dump::laws::one_end;
 use dvg_dump::{Dump, Ending};
@@ -42,7 +43,7 @@ pub(crate) fn picture_of<A: Allocator + Copy>(
 }
 
 /// Returns how long the generator of the arcade emulator takes for the picture of `frame`, by the
-/// same run. Returns `OutOfMemory` where an allocation fails.
+/// same run, of which nothing else is kept. Returns `OutOfMemory` where an allocation fails.
 pub(crate) fn time_of<A: Allocator + Copy>(
     alloc: A,
     rom: Rom<A>,
@@ -59,6 +60,5 @@ pub(crate) fn time_of<A: Allocator + Copy>(
     let _ = frame.len_words();
     let _ = rom.len_words();
     let ram = laid_ram(alloc, frame, Half::H0)?;
-    let traced = Dump::of(alloc, ram, rom).run_traced()?;
-    Ok(time_by(traced.ran.as_slice()))
+    Ok(time_over(&ram, &rom))
 }

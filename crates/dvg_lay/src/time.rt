@@ -1,12 +1,11 @@
 //! How long the generator of the arcade emulator takes for a picture.
-ghost use Rattle.std.specs.Prelude.{◌≡◌, ◌+◌, ◌*◌, ◌<◌, ◌≤◌, ◌++◌, IfSome, OnOk, fold, length};
+ghost use Rattle.std.specs.Prelude.{◌≡◌, ◌+◌, ◌*◌, ◌<◌, ◌≤◌, ◌++◌, IfSome, OnOk};
 ghost use Rattle.dvg_lay.specs.Times.{local_scale, nothing_spent, time_text, told, vector_parts};
-ghost use Rattle.dvg_lay.specs.Timing.{with_ran};
+ghost use Rattle.dvg_lay.specs.Times.{with_one};
 ghost use Rattle.dvg_dump.specs.declared.runs.TheConstants.{MOST_WORDS};
 
 use crate::text::{put, put_decimal};
 use dvg_code::{Code, Instr};
-use dvg_dump::Ran;
 use std::alloc::{AllocError, Allocator};
 
 /// How long the generator of the arcade emulator takes for a picture, by its rule: a vector takes
@@ -22,10 +21,10 @@ pub struct PictureTime {
     pub microseconds: u32,
 }
 
-// What instructions take. `parts` is in 189ths of a microsecond: in these each time of the rule is
-// a whole number.
+/// What instructions take. `parts` is in 189ths of a microsecond: in these each time of the rule is
+/// a whole number.
 #[derive(Clone, Copy)]
-struct Spent {
+pub(crate) struct Spent {
     vectors: u32,
     others: u32,
     parts: u64,
@@ -60,20 +59,34 @@ fn vector_parts(scales: u8) -> u64
 }
 
 impl Spent {
-    // Adds the instruction `ran`.
-    fn add(&mut self, ran: &Ran)
+    /// Returns what no instruction takes.
+    pub(crate) fn nothing() -> Spent
+        ensures { result ≡ nothing_spent }
+    {
+        Spent {
+            vectors: 0,
+            others: 0,
+            parts: 0,
+        }
+    }
+
+    /// Adds the instruction `code`, which is run at the global scale `global`, at most 15. So many
+    /// may be added as a run is followed for words.
+    #[inline(always)]
+    pub(crate) fn add(&mut self, code: &Code, global: u8)
+        requires global { global ≤ 15 }
         requires vectors { self.old.vectors < MOST_WORDS }
         requires others { self.old.others < MOST_WORDS }
         requires parts { self.old.parts ≤ 128756 * MOST_WORDS }
-        ensures added { self.new ≡ with_ran self.old ran.now }
+        ensures added { self.new ≡ with_one self.old global (local_scale code.now) }
         ensures vectors { self.new.vectors ≤ self.old.vectors + 1 }
         ensures others { self.new.others ≤ self.old.others + 1 }
         ensures parts { self.new.parts ≤ self.old.parts + 128756 }
     {
-        match local_scale(&ran.code) {
+        match local_scale(code) {
             Some(scale) => {
                 self.vectors += 1;
-                self.parts += vector_parts(ran.beam.scale + scale);
+                self.parts += vector_parts(global + scale);
             }
             None => {
                 self.others += 1;
@@ -82,8 +95,8 @@ impl Spent {
         }
     }
 
-    // Returns what is told of it. The half of a microsecond is no whole number of parts.
-    fn told(self) -> PictureTime
+    /// Returns what is told of it. The half of a microsecond is no whole number of parts.
+    pub(crate) fn told(self) -> PictureTime
         requires { self.parts ≤ 128756 * MOST_WORDS }
         ensures { result ≡ told self }
     {
@@ -93,22 +106,6 @@ impl Spent {
             microseconds: ((self.parts + 94) / 189) as u32,
         }
     }
-}
-
-/// Returns how long the instructions `ran`, at most 65,536, take together.
-pub(crate) fn time_by(ran: &[Ran]) -> PictureTime
-    requires { length ran.now ≤ MOST_WORDS }
-    ensures { result ≡ told (fold with_ran nothing_spent ran.now) }
-{
-    let mut spent = Spent {
-        vectors: 0,
-        others: 0,
-        parts: 0,
-    };
-    for one in ran {
-        spent.add(one);
-    }
-    spent.told()
 }
 
 /// Appends `time` to `text`, after a comma and a space. Returns `AllocError` where an allocation

@@ -1,4 +1,5 @@
--- Events, wherever their drafts and images lie in memory.
+-- Events, wherever their drafts and images lie in memory. Logs speak of lists as values: one in
+-- memory has a place, so equal events would differ.
 use Rattle.std.specs.Prelude.{ℕ, List, [], Box, replicate}
 use Rattle.std.specs.declared.convert.Infallible.{Infallible}
 use Rattle.dvg_mem.specs.declared.TheConstants.{MEMORY_BYTES}

@@ -1,4 +1,5 @@
--- What every legal log shows.
+-- What every legal log shows. A half holds its frame without the jump to it, as a flip may come
+-- before the run has ended.
 use Rattle.std.specs.Prelude.{◌≡◌, ℕ, suc, ◌+◌, ◌*◌, ◌/◌, ◌^◌, ◌≤◌, ◌<◌, true, List, [], ◌∷◌, length, Option, Some}
 use Rattle.std.specs.Prelude.{None}
 use Rattle.dvg_mem.specs.declared.half.Half.{Half}

@@ -1,4 +1,5 @@
 -- Logs, and what they show: memory, runs, lives of the driver, what is published and what is drawn.
+-- A line is read by its entry, whatever its event: so a log that isn't legal has runs, too.
 use Rattle.std.specs.Prelude.{◌≡◌, ◌+◌, ◌==◌, ℕ, Bool, true, false, List, [], ◌∷◌, ◌++◌, length, slice_index, slice_set}
 use Rattle.std.specs.Prelude.{if◌then◌else◌, Option, Some, None, is_some, option_and_then, option_map}
 use Rattle.dvg_mem.specs.declared.half.Half.{Half}

@@ -1,4 +1,4 @@
-//! What can happen to a world.
+//! What can happen to a world. Events have no `map`: its closures would borrow from `self`.
 ghost use Rattle.std.specs.Prelude.{◌≡◌};
 ghost use Rattle.dvg_log.specs.Events.{happening_of};
 ghost use Rattle.dvg_log.specs.Traces.{BringsDraft, seen_as};

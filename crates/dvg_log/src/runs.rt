@@ -1,4 +1,4 @@
-//! Runs of equal events in a trace.
+//! Runs of equal events in a trace. Others call this a run-length encoding.
 ghost use Rattle.std.specs.Prelude.{◌≡◌, length, map};
 ghost use Rattle.dvg_frame.specs.Ops.{IsOp};
 ghost use Rattle.dvg_log.specs.Traces.{BringsDraft, all_events, ops_in, seen_as, step_event};

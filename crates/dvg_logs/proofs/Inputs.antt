@@ -1,27 +1,19 @@
 -- From what was read of a log to what the reader had.
-use Rattle.std.proofs.Common.{◌≡◌, ◌<◌, ◌≤◌, ◌+◌, ◌-◌, ℕ, List, [], ◌∷◌, ◌++◌, Option, Some, None, IfSome, length, take, sym, ap, ◌∙◌, subst, arith, append_assoc, append-nil, length-append, Bool, true, false, cond}
+use Rattle.std.proofs.Common.{◌≡◌, ◌<◌, ◌≤◌, ◌+◌, ◌-◌, ℕ, List, [], ◌∷◌, ◌++◌, Option, Some, None, IfSome, length, take, sym, ap, ◌∙◌, subst, arith, append_assoc, append-nil, length-append}
 use Rattle.std.proofs.Math.Seq.{take-append-add}
 use Rattle.std.proofs.lemmas.Grind.{flat_map-append}
 use Rattle.std.specs.Io.KnownBytes.{Consumes, IsAtEnd}
-use Rattle.std.specs.Prelude.{Result, Ok, Err}
-use Rattle.dvg_log.specs.Log.{Line, Log, Throughout}
-use Rattle.dvg_log.specs.Torn.{IsUntorn}
+use Rattle.std.specs.Prelude.{Result, Ok}
+use Rattle.dvg_log.specs.Log.{Line, Log}
 use Rattle.dvg_read.specs.Texts.{lines}
 use Rattle.dvg_io.specs.declared.fault.ToolFault.{ToolFault}
-use Rattle.dvg_io.specs.declared.fault.ToolFault.TheVariants.{Text, Reader, Writer, Memory}
-use Rattle.dvg_print.specs.declared.log_verdict.LogFinding.TheVariants.{NotTorn, NoRunDrew, Torn}
-use Rattle.dvg_print.specs.declared.log_verdict.LogVerdict.{LogVerdict}
 use Rattle.dvg_logs.specs.declared.log_reading.LogStop.{LogStop}
 use Rattle.dvg_logs.specs.declared.log_reading.LogStop.TheVariants.{Found, Syntax, TooLong}
 use Rattle.dvg_logs.specs.declared.log_reading.LogReading.{LogReading}
-use Rattle.dvg_logs.specs.HalfLines.{EndsUntorn, FindsTorn}
-use Rattle.dvg_logs.specs.Judging.{JudgesInput, ReadsAs, answer_of}
-use Rattle.dvg_logs.specs.LogCounts.{counts_of, no_run_drew}
+use Rattle.dvg_logs.specs.Judging.{ReadsAs, answer_of}
 use Rattle.dvg_logs.specs.LogReading.{HasRead, StopsAt, number_of}
-use Rattle.dvg_logs.specs.LogTexts.{IsWhole, Says}
-use Rattle.dvg_logs.specs.Tears.{TakesFor, TakesTo, TakesUpTo, ended}
-use Rattle.dvg_logs.proofs.LogReads.{log_length}
-use Rattle.dvg_logs.proofs.OneVerdict.{halves_judged}
+use Rattle.dvg_logs.specs.LogTexts.{IsWhole}
+use Rattle.dvg_logs.specs.Tears.{TakesUpTo, ended}
 
 -- the bytes of the lines before line n are no fewer than those of fewer lines
 ended_front : (before more : List (List ℕ)) (k : ℕ) → length before ≤ k → length (ended before) ≤ length (ended (take k (before ++ more)))
@@ -88,28 +80,3 @@ module _ {J V : Type 0} (base : Option ℕ) (Stands : J → Log → Type 0) (Pas
       let is : input ≡ text ++ [] = before ∙ ap (λ l. text ++ l) (takes ∙ at_end) in
       let said = stops_known reading stop text [] [] read (omega arith) later (subst (λ l. StopsAt base Passes Finds stop (lines l)) (sym (append-nil text)) stops) in
       subst (λ input. Reads (answer_of stop) input (Some input) (Some rest)) (sym is) (subst (λ rest. Reads (answer_of stop) (text ++ []) (Some (text ++ [])) (Some rest)) (sym at_end) said)
-
--- ---- by the rule of halves
-
--- all was taken where nothing is torn, and else the lines up to the torn one
-takes_halves : (base : Option ℕ) (text : List ℕ) (verdict : LogVerdict) (decided : Option ℕ) (old new : Option (List ℕ)) → Says base (Throughout IsUntorn) FindsTorn EndsUntorn verdict (lines text) decided → TakesTo decided text old new
-    → TakesFor verdict.finding text old new
-takes_halves base text verdict (Some n) old new found takes =
-    let at : length found.log + 1 ≡ n = omega (arith, log_length _ found.log found.before found.fine.tells, found.number) in
-    subst (λ finding. TakesFor finding text old new) (sym (found.finds.finding ∙ ap (λ n. Torn n found.finds.address found.finds.byte) at)) takes
-takes_halves base text verdict None old new (log, whole, is) takes = subst (λ verdict. TakesFor verdict.finding text old new) (sym is) (by_case (no_run_drew (counts_of log)))
-  where
-    by_case : (none : Bool) → TakesFor (cond none NoRunDrew NotTorn) text old new
-    by_case true = takes
-    by_case false = takes
-
-pub halves_of : (base : Option ℕ) (answer : Result LogVerdict ToolFault) (input : List ℕ) (old new : Option (List ℕ)) → ReadsAs base (Throughout IsUntorn) FindsTorn EndsUntorn answer input old new → JudgesInput base answer input old new
-halves_of base (Ok verdict) input old new (decided, says, takes) = (halves_judged input verdict decided says, takes_halves base input verdict decided old new says takes)
-halves_of base (Err (Text fault)) input old new (stops, takes) = (stops, takes)
-halves_of base (Err Reader) input old new reads = (tt, tt)
-halves_of base (Err Writer) input old new reads = absurd reads
-halves_of base (Err Memory) input old new reads = absurd reads
-
-pub halves_known : (base : Option ℕ) (answer : Result LogVerdict ToolFault) (old new : Option (List ℕ)) → IfSome old (λ input. ReadsAs base (Throughout IsUntorn) FindsTorn EndsUntorn answer input old new) → IfSome old (λ input. JudgesInput base answer input old new)
-halves_known base answer None new reads = tt
-halves_known base answer (Some input) new reads = halves_of base answer input (Some input) new reads

@@ -4,19 +4,15 @@ use Rattle.std.specs.List.{AllZip, onto_first}
 use Rattle.std.proofs.lemmas.List.{reverse-append, length-reverse}
 use Rattle.std.proofs.lemmas.List.Elements.{All-head, All-tail, All-append}
 use Rattle.std.proofs.lemmas.Grind.{flat_map-append}
-use Rattle.dvg_driver.specs.declared.action.Action.TheVariants.{Wrote}
-use Rattle.dvg_log.specs.declared.entry.Entry.TheVariants.{Acted}
-use Rattle.dvg_log.specs.declared.event.Event.TheVariants.{Tick}
-use Rattle.dvg_log.specs.Log.{◌⟼◌, Line, Log}
+use Rattle.dvg_log.specs.Log.{Line, Log}
 use Rattle.std.proofs.lemmas.Bool.{cases_lt, eqb-true}
 use Rattle.dvg_read.specs.Texts.{lines}
 use Rattle.dvg_read.proofs.LineEnds.{line_at, line_last}
 use Rattle.dvg_read.proofs.FirstBytes.{IsCutAt, behind}
 use Rattle.dvg_read.proofs.Zips.{zip_length, zip_push}
 use Rattle.dvg_logs.specs.LogLines.{IsLogOf, Tells, logged, passed}
-use Rattle.dvg_logs.specs.LogTexts.{IsFoundAt, IsLogSo, IsTornAt, IsUntornLog, IsWhole}
+use Rattle.dvg_logs.specs.LogTexts.{IsFoundAt, IsLogSo, IsWhole}
 use Rattle.dvg_logs.specs.declared.log_reading.JudgedLines.{JudgedLines}
-use Rattle.dvg_logs.specs.HalfLines.{IsTornLine}
 use Rattle.dvg_logs.specs.LogReading.{IsOpen, IsRead, HasJudged}
 use Rattle.dvg_logs.specs.Tears.{ended}
 
@@ -49,21 +45,6 @@ found_at log before line text after verdict fine tells finds n number = record {
   tells = tells;
   finds = finds;
 }
-
-pub torn_at : {base : Option ℕ} (log : Log) (before : List (List ℕ)) (line : Line) (a byte : ℕ) (text : List ℕ) (after : List (List ℕ)) → line ≡ Tick ⟼ Acted (Wrote a byte) → IsUntornLog base log before → Tells base line text → IsTornLine log line
-    → (n : ℕ) → n ≡ length before + 1 → IsTornAt base (before ++ text ∷ after) (line ∷ log) n a byte
-torn_at {base = base} log before line a byte text after is fine tells torn n number = subst (λ last. IsTornAt base (before ++ text ∷ after) (last ∷ log) n a byte) (sym is) (
-    let wrote = subst (λ line. Tells base line text) is tells in
-    record {
-      before = before;
-      line = text;
-      after = after;
-      cut = refl;
-      number = number;
-      tells = tells_more log before (Tick ⟼ Acted (Wrote a byte)) text fine.tells wrote;
-      torn = record { later = []; event = Tick; entry = Acted (Wrote a byte); before = log; split = refl; at = log_length _ log before fine.tells; torn = subst (IsTornLine log) is torn; untorn = fine.holds };
-      wrote = wrote;
-    })
 
 -- ---- lines of a text
 

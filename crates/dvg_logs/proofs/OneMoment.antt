@@ -1,5 +1,5 @@
 -- Of the text of a log one verdict by moments is given at most, and none where a line tells nothing.
-use Rattle.std.proofs.Common.{◌≡◌, ℕ, List, [], ◌∷◌, length, refl, sym, ap, ◌∙◌, subst, inl, inr, true, false, true≢false, Option, Some, None, arith}
+use Rattle.std.proofs.Common.{◌≡◌, ℕ, List, [], ◌∷◌, refl, sym, ap, ◌∙◌, subst, inl, inr, true, false, true≢false, Option, Some, arith}
 use Rattle.dvg_log.specs.declared.entry.Entry.TheVariants.{Offered, Refused, Busy, Asked, NothingPublished, Acted, Started, NoStrobe, Low, Fetched, Done, Broke, Still, Cleared}
 use Rattle.dvg_log.specs.declared.event.Event.TheVariants.{Fetch}
 use Rattle.dvg_log.specs.Log.{◌⟼◌, Line, Log, Throughout}
@@ -14,13 +14,11 @@ use Rattle.dvg_logs.specs.declared.log_reading.LogStop.{LogStop}
 use Rattle.dvg_logs.specs.declared.log_reading.LogStop.TheVariants as stop
 use Rattle.dvg_logs.specs.LogLaws.{IsJudgedByMoments}
 use Rattle.dvg_logs.specs.LogCounts.{halts}
-use Rattle.dvg_logs.specs.LogLines.{IsLogOf, Tells}
 use Rattle.dvg_logs.specs.LogReading as reading
-use Rattle.dvg_logs.specs.LogTexts.{IsFoundAt}
 use Rattle.dvg_logs.specs.MomentLogs.{Decides, Ends, IsSound, TornSince, judged_log, reading_entry}
 use Rattle.dvg_logs.specs.MomentTears.{JudgesMoments}
 use Rattle.dvg_logs.proofs.MomentLines.{torn_of}
-use Rattle.dvg_logs.proofs.OneVerdict.{Of, StopsAt, log_once, never_stops, one_stop, same_fronts, same_lines, tells_once}
+use Rattle.dvg_logs.proofs.OneVerdict.{Of, one_said}
 
 -- ---- what decides
 
@@ -56,18 +54,6 @@ unsound (say.Torn n read) line log decides sound =
     halt.sound sound (torn_of (judged_log log) n (Fetch ⟼ reading_entry read) halt.since)
 unsound (say.Contradicts n (of.Low address byte)) line log (is, at, contradicts) sound = subst (Of IsSound log) is sound contradicts
 unsound (say.Contradicts n (of.Fetched address word)) line log (is, at, contradicts) sound = subst (Of IsSound log) is sound contradicts
-
-found_stops : {base : Option ℕ} {texts : List (List ℕ)} {n : ℕ} {verdict : MomentVerdict} (found : IsFoundAt base (Throughout IsSound) Decides texts n verdict) → StopsAt base IsSound texts (length found.before)
-found_stops {verdict = verdict} found = record {
-  before = found.before;
-  line = found.text;
-  after = found.after;
-  cut = found.cut;
-  at = refl;
-  log = found.log;
-  fine = found.fine;
-  stops = λ logged tells. subst (λ line. ¬ Of IsSound found.log line) (tells_once found.line logged found.text found.tells tells) (unsound verdict found.line found.log found.finds);
-}
 
 -- the line by which no moment is left is one
 since_once : (log : Log) (n m : ℕ) (one other : Line) → TornSince log n one → TornSince log m other → (n ≡ m) × (one ≡ other)
@@ -112,15 +98,6 @@ decides_once (say.Contradicts n read) (say.Contradicts m other) line log a b =
     let same = read_once other read (sym b.0 ∙ a.0) in
     let number : m ≡ n = b.1 ∙ sym a.1 in rw (number, same) refl
 
-found_once : {base : Option ℕ} (texts : List (List ℕ)) (n m : ℕ) (one other : MomentVerdict) → IsFoundAt base (Throughout IsSound) Decides texts n one → IsFoundAt base (Throughout IsSound) Decides texts m other → other ≡ one
-found_once {base = base} texts n m one other a b =
-    let at = one_stop IsSound (found_stops b) (found_stops a) in
-    let line = same_lines b.before a.before b.text a.text b.after a.after b.cut a.cut at in
-    let before = same_fronts b.before a.before b.text a.text b.after a.after b.cut a.cut at in
-    let log = log_once _ b.log a.log a.before (subst (IsLogOf base b.log) before b.fine.tells) a.fine.tells in
-    let said = tells_once b.line a.line a.text (subst (Tells base b.line) line b.tells) a.tells in
-    decides_once one other a.line a.log a.finds (subst (λ line. Decides other line a.log) said (subst (Decides other b.line) log b.finds))
-
 -- ---- what is said at the end
 
 pub ends_once : (one other : MomentVerdict) (log : Log) → Ends one log → Ends other log → other ≡ one
@@ -142,12 +119,7 @@ ends_once (say.Contradicts n read) other log a b = absurd a
 -- ---- the laws
 
 pub one_moment_verdict : (base : Option ℕ) (text : List ℕ) (one other : MomentVerdict) (at end : Option ℕ) → JudgesMoments base text one at → JudgesMoments base text other end → other ≡ one
-one_moment_verdict base text one other None None (log, whole, says) (same, also, ends) =
-    let is = log_once _ same log (lines text) also.fine.tells whole.fine.tells in
-    ends_once one other log says (subst (Ends other) is ends)
-one_moment_verdict base text one other None (Some m) (log, whole, says) found = absurd (never_stops IsSound log whole.fine (found_stops found))
-one_moment_verdict base text one other (Some n) None found (log, whole, says) = absurd (never_stops IsSound log whole.fine (found_stops found))
-one_moment_verdict base text one other (Some n) (Some m) a b = found_once (lines text) n m one other a b
+one_moment_verdict base text one other at end a b = one_said base IsSound Decides Ends unsound decides_once ends_once (lines text) one other at end a b
 
 pub moments_judged_at : {base : Option ℕ} (text : List ℕ) (why : LogStop MomentVerdict) → reading.StopsAt base (Throughout IsSound) Decides why (lines text) → IsJudgedByMoments base text
 moments_judged_at text (stop.Found n verdict) stops = inl (verdict, Some n, stops)

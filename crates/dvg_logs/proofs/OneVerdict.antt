@@ -1,11 +1,13 @@
 -- Of the text of a log one verdict is given at most, and none where a line tells nothing.
-use Rattle.std.proofs.Common.{◌≡◌, ◌<◌, ◌+◌, ◌-◌, ℕ, suc, List, [], ◌∷◌, ◌++◌, codes, length, take, drop, reverse, refl, sym, ap, ◌∙◌, subst, arith, append_assoc, length-append, ⊎_elim, inl, inr, Bool, true, false, true≢false, cond, Option, Some, None}
+use Rattle.std.proofs.Common.{◌≡◌, ◌<◌, ◌+◌, ◌-◌, ℕ, suc, List, [], ◌∷◌, ◌++◌, codes, length, take, drop, reverse, refl, sym, ap, ◌∙◌, subst, arith, append_assoc, ⊎_elim, inl, inr, Option, Some, None}
+use Rattle.std.specs.Prelude.{bytes_eq, if◌then◌else◌, unwrap_or}
 use Rattle.std.specs.List.{AllZip}
+use Rattle.std.specs.Str.Parse.{digits_value}
 use Rattle.std.proofs.lemmas.Bool.{cases_lt}
-use Rattle.std.proofs.lemmas.List.{nil_from_length, reverse-append, reverse-reverse}
+use Rattle.std.proofs.lemmas.List.{reverse-append, reverse-reverse}
 use Rattle.std.proofs.Math.Seq.{take-append_seam, take-append-add, drop-append_seam}
 use Rattle.dvg_driver.specs.declared.action.Action.TheVariants.{Wrote}
-use Rattle.dvg_log.specs.declared.entry.Entry.TheVariants.{Acted, Started, Done, Cleared}
+use Rattle.dvg_log.specs.declared.entry.Entry.TheVariants.{Acted, Started, Low, Fetched, Done, Cleared}
 use Rattle.dvg_log.specs.declared.event.Event.TheVariants.{Tick, Strobe, Fetch, ResetGen}
 use Rattle.dvg_log.specs.Entries.{Shown}
 use Rattle.dvg_log.specs.Events.{Happening}
@@ -13,64 +15,46 @@ use Rattle.dvg_log.specs.Log.{◌⟼◌, Line, Log, Throughout}
 use Rattle.dvg_log.specs.Torn.{IsUntorn}
 use Rattle.dvg_read.specs.Texts.{IsHex, lines}
 use Rattle.dvg_read.specs.declared.fault.TextFault.TheVariants.{Syntax, TooLong}
-use Rattle.dvg_print.specs.declared.log_verdict.LogCounts.{LogCounts}
-use Rattle.dvg_print.specs.declared.log_verdict.LogFinding.{LogFinding}
-use Rattle.dvg_print.specs.declared.log_verdict.LogFinding.TheVariants.{NotTorn, NoRunDrew, Torn}
+use Rattle.dvg_print.specs.declared.log_verdict.LogFinding.TheVariants.{Torn}
 use Rattle.dvg_print.specs.declared.log_verdict.LogVerdict.{LogVerdict}
 use Rattle.dvg_read.proofs.Zips.{zip_same}
 use Rattle.dvg_logs.specs.LogLines.{IsLogOf, IsWrittenAt, LogRow, Tells, started, fetched, low, wrote, halted, reset, passed, logged}
 use Rattle.dvg_logs.specs.declared.log_reading.LogStop.{LogStop}
 use Rattle.dvg_logs.specs.declared.log_reading.LogStop.TheVariants as stop
 use Rattle.dvg_logs.specs.LogLaws.{IsJudged}
-use Rattle.dvg_logs.specs.HalfLines.{EndsUntorn, FindsTorn, IsTornLine}
 use Rattle.dvg_logs.specs.LogReading as reading
-use Rattle.dvg_logs.specs.Judging.{found_in}
-use Rattle.dvg_logs.specs.LogCounts.{counts_of, no_run_drew}
-use Rattle.dvg_logs.specs.LogTexts.{Finds, HasLogFault, IsFoundAt, IsLogSo, IsTornAt, IsWhole, JudgesLog, MeetsSyntax, Says}
-use Rattle.dvg_logs.proofs.LogReads.{log_length, torn_at}
-use Rattle.dvg_logs.proofs.LogRows.{NumberRow, WrittenRow, fetched_line, fetched_row, low_line, low_row, passed_alone, row_of, wrote_line, wrote_row}
+use Rattle.dvg_logs.specs.LogTexts.{EndsUntorn, FindsTorn, HasLogFault, IsFoundAt, IsLogSo, JudgesLog, MeetsSyntax, Says, IsWhole}
+use Rattle.dvg_logs.proofs.LogRows.{passed_alone, row_of}
 
 -- ---- a line tells one thing at most
 
-numbers_once : (made : ℕ → ℕ → Line) {count a n : ℕ} {front back : List ℕ} {line : Line} → IsHex 3 a front → IsHex count n back → NumberRow count made line (front ∷ back ∷ []) → made a n ≡ line
-numbers_once made {count = count} {a = a} {n = n} {front = front} {back = back} address number row =
-    let split = row.split in
-    let one : front ≡ row.front = cc in
-    let two : back ≡ row.back = cc in
-    let first = subst (λ part. IsHex 3 a part) one address in
-    let second = subst (λ part. IsHex count n part) two number in
-    ap (λ k. made k n) (sym first.value ∙ row.address.value) ∙ (ap (λ k. made row.a k) (sym second.value ∙ row.number.value) ∙ sym row.is)
+-- it is read back from the parts that spell it
+abbrev hex : List ℕ → ℕ
+hex = digits_value 16
 
--- the digits of an address are those of one
-address_once : (base : Option ℕ) (a b : ℕ) (digits : List ℕ) → IsWrittenAt base a digits → IsWrittenAt base b digits → a ≡ b
-address_once None a b digits h k = sym h.value ∙ k.value
-address_once (Some base) a b digits h k = omega (arith, h.value, k.value)
+abbrev read_back : (base : Option ℕ) → List (List ℕ) → Line
+read_back base (name ∷ a ∷ n ∷ []) =
+    if bytes_eq name (codes "fetched") then Fetch ⟼ Fetched (hex a) (hex n)
+    else (if bytes_eq name (codes "low") then Fetch ⟼ Low (hex a) (hex n) else Tick ⟼ Acted (Wrote (hex a - unwrap_or base 0) (hex n)))
+read_back base (name ∷ ps) =
+    if bytes_eq name (codes "started") then Strobe ⟼ Started
+    else (if bytes_eq name (codes "halted") then Fetch ⟼ Done 0 0 [] else ResetGen ⟼ Cleared)
+read_back base [] = ResetGen ⟼ Cleared
 
-written_once : (base : Option ℕ) {a byte : ℕ} {front back : List ℕ} {line : Line} → IsWrittenAt base a front → IsHex 2 byte back → WrittenRow base line (front ∷ back ∷ []) → wrote_line a byte ≡ line
-written_once base {a = a} {byte = byte} {front = front} {back = back} address number row =
-    let split = row.split in
-    let one : front ≡ row.front = cc in
-    let two : back ≡ row.back = cc in
-    let first = address_once base a row.a row.front (subst (IsWrittenAt base a) one address) row.address in
-    let second = subst (IsHex 2 byte) two number in
-    ap (λ k. wrote_line k byte) first ∙ (ap (λ k. wrote_line row.a k) (sym second.value ∙ row.byte_is.value) ∙ sym row.is)
+written_back : (base : Option ℕ) {a : ℕ} (digits : List ℕ) → IsWrittenAt base a digits → hex digits - unwrap_or base 0 ≡ a
+written_back None digits h = omega (arith, h.value)
+written_back (Some base) digits h = omega (arith, h.value)
 
-started_once : {base : Option ℕ} {line : Line} → LogRow base line (codes "started" ∷ []) → Strobe ⟼ Started ≡ line
-started_once started = refl
-
-halted_once : {base : Option ℕ} {line : Line} → LogRow base line (codes "halted" ∷ []) → Fetch ⟼ Done 0 0 [] ≡ line
-halted_once halted = refl
-
-reset_once : {base : Option ℕ} {line : Line} → LogRow base line (codes "reset" ∷ []) → ResetGen ⟼ Cleared ≡ line
-reset_once reset = refl
+back : {base : Option ℕ} {line : Line} {ps : List (List ℕ)} → LogRow base line ps → read_back base ps ≡ line
+back started = refl
+back halted = refl
+back reset = refl
+back (fetched h k) = rw (h.value, k.value) refl
+back (low h k) = rw (h.value, k.value) refl
+back {base} (wrote ram h k) = rw (written_back base _ h, k.value) refl
 
 row_once : {base : Option ℕ} {line other : Line} {ps : List (List ℕ)} → LogRow base line ps → LogRow base other ps → line ≡ other
-row_once started row = started_once row
-row_once halted row = halted_once row
-row_once reset row = reset_once row
-row_once {base = base} (wrote ram h k) row = written_once base h k (wrote_row row)
-row_once (fetched h k) row = numbers_once fetched_line h k (fetched_row row)
-row_once (low h k) row = numbers_once low_line h k (low_row row)
+row_once p q = sym (back p) ∙ back q
 
 pub tells_once : {base : Option ℕ} (line other : Line) (text : List ℕ) → Tells base line text → Tells base other text → line ≡ other
 tells_once line other text (passed short is) also = passed_alone text is also
@@ -179,76 +163,6 @@ module _ {base : Option ℕ} (P : Log → Happening → Shown → Type 0) where
   pub never_stops : {texts : List (List ℕ)} {k : ℕ} (log : Log) → IsLogSo base (Throughout P) log texts → StopsAt base P texts k → ⊥
   never_stops log fine stop = stops_none log stop.after stop (subst (IsLogSo base (Throughout P) log) stop.cut fine)
 
--- ---- by the rule of halves
-
-is_wrong : (log : Log) (line : Line) → IsTornLine log line → ¬ Of IsUntorn log line
-is_wrong log (event ⟼ entry) torn untorn = untorn torn
-
-torn_stops : {base : Option ℕ} {texts : List (List ℕ)} {log : Log} {n address byte : ℕ} (torn : IsTornAt base texts log n address byte) → StopsAt base IsUntorn texts (length torn.before)
-torn_stops {log = log} torn =
-    let front = front_of log torn.before torn.line [] torn.tells in
-    let first = torn.torn in
-    let whole : length log ≡ length torn.before + 1 = log_length _ log (torn.before ++ torn.line ∷ []) torn.tells ∙ length-append torn.before (torn.line ∷ []) in
-    let one = ap length front.split ∙ length-append front.later (front.line ∷ front.older) in
-    let two = ap length first.split ∙ length-append first.later ((first.event ⟼ first.entry) ∷ first.before) in
-    let older = log_length _ front.older torn.before front.tells_older in
-    let at = first.at in
-    let none = nil_from_length front.later (omega arith) in
-    let no_more = nil_from_length first.later (omega arith) in
-    let same : front.line ∷ front.older ≡ (first.event ⟼ first.entry) ∷ first.before
-    = sym (front.split ∙ ap (λ later. later ++ front.line ∷ front.older) none) ∙ (first.split ∙ ap (λ later. later ++ (first.event ⟼ first.entry) ∷ first.before) no_more) in
-    let line : first.event ⟼ first.entry ≡ front.line = cc in
-    let log : first.before ≡ front.older = cc in
-    let is_torn = subst (λ log. IsTornLine log front.line) log (subst (IsTornLine first.before) line first.torn) in
-    record {
-      before = torn.before;
-      line = torn.line;
-      after = torn.after;
-      cut = torn.cut;
-      at = refl;
-      log = front.older;
-      fine = record { tells = front.tells_older; holds = subst (Throughout IsUntorn) log first.untorn };
-      stops = λ logged tells. is_wrong front.older logged (subst (IsTornLine front.older) (tells_once front.line logged torn.line front.tells tells) is_torn);
-    }
-
--- ---- each text
-
--- what is found in a log that was read to its end
-pub whole_judged : {base : Option ℕ} (text : List ℕ) (counts : LogCounts) (log : Log) → IsWhole base (Throughout IsUntorn) (lines text) log → counts ≡ counts_of log → JudgesLog base text (record { finding = found_in counts; counts = counts })
-whole_judged {base = base} text counts log whole is = record {
-  log = log;
-  finds = subst (λ counts. Finds base (found_in counts) (lines text) log) (sym is) (found (no_run_drew (counts_of log)) refl);
-  counts = is;
-}
-  where
-    found : (none : Bool) → no_run_drew (counts_of log) ≡ none → Finds base (cond none NoRunDrew NotTorn) (lines text) log
-    found true is = (whole, is)
-    found false is = (whole, is)
-
--- what decides in a text, and is said of it
-finding_torn : {base : Option ℕ} (verdict : LogVerdict) (n a byte : ℕ) (log : Log) (text : List ℕ) → verdict.finding ≡ Torn n a byte → verdict.counts ≡ counts_of log → IsTornAt base (lines text) log n a byte → JudgesLog base text verdict
-finding_torn {base = base} verdict n a byte log text is counts torn = record { log = log; finds = subst (λ found. Finds base found (lines text) log) (sym is) torn; counts = counts }
-
-pub torn_judged : {base : Option ℕ} (text : List ℕ) (n : ℕ) (verdict : LogVerdict) → IsFoundAt base (Throughout IsUntorn) FindsTorn (lines text) n verdict → JudgesLog base text verdict
-torn_judged {base = base} text n verdict found =
-    let finds = found.finds in
-    let at : length found.log + 1 ≡ n = omega (arith, log_length _ found.log found.before found.fine.tells, found.number) in
-    let finding = finds.finding ∙ ap (λ n. Torn n finds.address finds.byte) at in
-    finding_torn verdict n finds.address finds.byte (found.line ∷ found.log) text finding finds.counts
-    (subst (λ texts. IsTornAt base texts (found.line ∷ found.log) n finds.address finds.byte) (sym found.cut)
-    (torn_at found.log found.before found.line finds.address finds.byte found.text found.after finds.is found.fine found.tells finds.torn n found.number))
-
-pub halves_judged : {base : Option ℕ} (text : List ℕ) (verdict : LogVerdict) (decided : Option ℕ) → Says base (Throughout IsUntorn) FindsTorn EndsUntorn verdict (lines text) decided → JudgesLog base text verdict
-halves_judged text verdict (Some n) found = torn_judged text n verdict found
-halves_judged {base = base} text verdict None (log, whole, is) = subst (JudgesLog base text) (sym is) (whole_judged text (counts_of log) log whole refl)
-
-pub judged_at : {base : Option ℕ} (text : List ℕ) (why : LogStop LogVerdict) → reading.StopsAt base (Throughout IsUntorn) FindsTorn why (lines text) → IsJudged base text
-judged_at text (stop.Found n verdict) stops = inl (verdict, torn_judged text n verdict stops)
-judged_at text (stop.Syntax n) stops = inr (Syntax n, stops)
-judged_at text stop.TooLong stops = inr (TooLong, stops)
-
--- ---- the laws
-
 -- two lines at one place are one
 pub same_lines : {texts : List (List ℕ)} (before other : List (List ℕ)) (x y : List ℕ) (after rest : List (List ℕ)) → texts ≡ before ++ x ∷ after → texts ≡ other ++ y ∷ rest → length before ≡ length other → x ≡ y
 same_lines before other x y after rest one two e =
@@ -260,52 +174,67 @@ pub same_fronts : {texts : List (List ℕ)} (before other : List (List ℕ)) (x 
 same_fronts before other x y after rest one two e =
     sym (take-append_seam before (x ∷ after)) ∙ (ap (take (length before)) (sym one ∙ two) ∙ (ap (λ n. take n (other ++ y ∷ rest)) e ∙ take-append_seam other (y ∷ rest)))
 
-same_torn : (n m a b x y : ℕ) → n ≡ m → Tick ⟼ Acted (Wrote a b) ≡ Tick ⟼ Acted (Wrote x y) → Torn n a b ≡ Torn m x y
-same_torn n m a b x y e f = let one : a ≡ x = cc in let two : b ≡ y = cc in rw (e, one, two)
+-- ---- what is said of lines
 
--- two findings of one text are the same, and of the same log
-record AreOne (one other : LogFinding) (log older : Log) : Type 0 where
-  pub finding : other ≡ one
-  pub same : older ≡ log
+module _ {V : Type 0} (base : Option ℕ) (P : Log → Happening → Shown → Type 0) (Finds : V → Line → Log → Type 0) (Ends : V → Log → Type 0)
+    (unsound : (said : V) (line : Line) (log : Log) → Finds said line log → ¬ Of P log line) where
+  found_stops : {texts : List (List ℕ)} {n : ℕ} {said : V} (found : IsFoundAt base (Throughout P) Finds texts n said) → StopsAt base P texts (length found.before)
+  found_stops {said = said} found = record {
+    before = found.before;
+    line = found.text;
+    after = found.after;
+    cut = found.cut;
+    at = refl;
+    log = found.log;
+    fine = found.fine;
+    stops = λ logged tells. subst (λ line. ¬ Of P found.log line) (tells_once found.line logged found.text found.tells tells) (unsound said found.line found.log found.finds);
+  }
 
-whole_once : {base : Option ℕ} (texts : List (List ℕ)) (finding : LogFinding) (log other : Log) → IsWhole base (Throughout IsUntorn) texts log → IsWhole base (Throughout IsUntorn) texts other → AreOne finding finding log other
-whole_once texts finding log other one two = record { finding = refl; same = log_once _ other log texts two.fine.tells one.fine.tells }
+  -- no line is at fault before or where something is said
+  pub no_fault : (texts : List (List ℕ)) (said : V) (decided : Option ℕ) (n : ℕ) → Says base (Throughout P) Finds Ends said texts decided → ¬ MeetsSyntax base (Throughout P) texts n
+  no_fault texts said None n (log, whole, ends) at_fault = never_stops P log whole.fine (syntax_stops P at_fault)
+  no_fault texts said (Some m) n found at_fault =
+      let at = one_stop P (found_stops found) (syntax_stops P at_fault) in
+      let line = same_lines found.before at_fault.before found.text at_fault.line found.after at_fault.after found.cut at_fault.cut at in
+      at_fault.wrong found.line (subst (Tells base found.line) line found.tells)
 
--- runs drew in a log or didn't
-drew_once : {base : Option ℕ} (texts : List (List ℕ)) (log other : Log) → IsWhole base (Throughout IsUntorn) texts log → IsWhole base (Throughout IsUntorn) texts other → no_run_drew (counts_of log) ≡ true → no_run_drew (counts_of other) ≡ false → ⊥
-drew_once texts log other one two none some =
-    true≢false (sym none ∙ (ap (λ log. no_run_drew (counts_of log)) (log_once _ log other texts one.fine.tells two.fine.tells) ∙ some))
+  module _ (finds_once : (one other : V) (line : Line) (log : Log) → Finds one line log → Finds other line log → other ≡ one)
+      (ends_once : (one other : V) (log : Log) → Ends one log → Ends other log → other ≡ one) where
+    found_once : (texts : List (List ℕ)) (n m : ℕ) (one other : V) → IsFoundAt base (Throughout P) Finds texts n one → IsFoundAt base (Throughout P) Finds texts m other → other ≡ one
+    found_once texts n m one other a b =
+        let at = one_stop P (found_stops b) (found_stops a) in
+        let line = same_lines b.before a.before b.text a.text b.after a.after b.cut a.cut at in
+        let before = same_fronts b.before a.before b.text a.text b.after a.after b.cut a.cut at in
+        let log = log_once _ b.log a.log a.before (subst (IsLogOf base b.log) before b.fine.tells) a.fine.tells in
+        let said = tells_once b.line a.line a.text (subst (Tells base b.line) line b.tells) a.tells in
+        finds_once one other a.line a.log a.finds (subst (λ line. Finds other line a.log) said (subst (Finds other b.line) log b.finds))
 
-torn_once : {base : Option ℕ} (texts : List (List ℕ)) (log other : Log) (n m x y v w : ℕ) → IsTornAt base texts log n x y → IsTornAt base texts other m v w → AreOne (Torn n x y) (Torn m v w) log other
-torn_once {base = base} texts log other n m x y v w a b =
-    let at = one_stop IsUntorn (torn_stops b) (torn_stops a) in
-    let p = a.number in
-    let q = b.number in
-    let line = same_lines b.before a.before b.line a.line b.after a.after b.cut a.cut at in
-    let before = same_fronts b.before a.before b.line a.line b.after a.after b.cut a.cut at in
-    record {
-      finding = same_torn m n v w x y (omega arith) (tells_once (Tick ⟼ Acted (Wrote v w)) (Tick ⟼ Acted (Wrote x y)) a.line (subst (Tells base (Tick ⟼ Acted (Wrote v w))) line b.wrote) a.wrote);
-      same = log_once _ other log (a.before ++ a.line ∷ []) (subst (IsLogOf base other) (ap (λ l. l ++ b.line ∷ []) before ∙ ap (λ l. a.before ++ l ∷ []) line) b.tells) a.tells;
-    }
+    -- one thing is
+    pub one_said : (texts : List (List ℕ)) (one other : V) (at end : Option ℕ) → Says base (Throughout P) Finds Ends one texts at → Says base (Throughout P) Finds Ends other texts end → other ≡ one
+    one_said texts one other None None (log, whole, says) (same, also, ends) =
+        let is = log_once _ same log texts also.fine.tells whole.fine.tells in
+        ends_once one other log says (subst (Ends other) is ends)
+    one_said texts one other None (Some m) (log, whole, says) found = absurd (never_stops P log whole.fine (found_stops found))
+    one_said texts one other (Some n) None found (log, whole, says) = absurd (never_stops P log whole.fine (found_stops found))
+    one_said texts one other (Some n) (Some m) a b = found_once texts n m one other a b
 
-one_finding : (base : Option ℕ) (texts : List (List ℕ)) (one other : LogFinding) (log older : Log) → Finds base one texts log → Finds base other texts older → AreOne one other log older
-one_finding base texts NotTorn NotTorn log older a b = whole_once texts NotTorn log older a.0 b.0
-one_finding base texts NoRunDrew NoRunDrew log older a b = whole_once texts NoRunDrew log older a.0 b.0
-one_finding base texts NotTorn NoRunDrew log older a b = absurd (drew_once texts older log b.0 a.0 b.1 a.1)
-one_finding base texts NoRunDrew NotTorn log older a b = absurd (drew_once texts log older a.0 b.0 a.1 b.1)
-one_finding base texts NotTorn (Torn n x y) log older a b = absurd (never_stops IsUntorn log a.0.fine (torn_stops b))
-one_finding base texts NoRunDrew (Torn n x y) log older a b = absurd (never_stops IsUntorn log a.0.fine (torn_stops b))
-one_finding base texts (Torn n x y) NotTorn log older a b = absurd (never_stops IsUntorn older b.0.fine (torn_stops a))
-one_finding base texts (Torn n x y) NoRunDrew log older a b = absurd (never_stops IsUntorn older b.0.fine (torn_stops a))
-one_finding base texts (Torn n x y) (Torn m v w) log older a b = torn_once texts log older n m x y v w a b
+-- ---- by the rule of halves
 
-same_verdict : (one other : LogVerdict) → other.finding ≡ one.finding → other.counts ≡ one.counts → other ≡ one
-same_verdict one other e f = rw (e, f)
+is_wrong : (verdict : LogVerdict) (line : Line) (log : Log) → FindsTorn verdict line log → ¬ Of IsUntorn log line
+is_wrong verdict (event ⟼ entry) log finds untorn = untorn finds.torn
+
+same_torn : (one other : LogVerdict) (line : Line) (log : Log) → FindsTorn one line log → FindsTorn other line log → other ≡ one
+same_torn one other line log a b =
+    let is : Tick ⟼ Acted (Wrote b.address b.byte) ≡ Tick ⟼ Acted (Wrote a.address a.byte) = sym b.is ∙ a.is in
+    let address : b.address ≡ a.address = cc in
+    let byte : b.byte ≡ a.byte = cc in
+    let finding = b.finding ∙ (ap (λ a. Torn (length log + 1) a b.byte) address ∙ (ap (Torn (length log + 1) a.address) byte ∙ sym a.finding)) in
+    let counts = b.counts ∙ sym a.counts in
+    rw (finding, counts)
 
 pub one_verdict : (base : Option ℕ) (text : List ℕ) (one other : LogVerdict) → JudgesLog base text one → JudgesLog base text other → other ≡ one
-one_verdict base text one other a b =
-    let are = one_finding _ (lines text) one.finding other.finding a.log b.log a.finds b.finds in
-    same_verdict one other are.finding (b.counts ∙ (ap counts_of are.same ∙ sym a.counts))
+one_verdict base text one other (at, a) (end, b) =
+    one_said base IsUntorn FindsTorn EndsUntorn is_wrong same_torn (λ one other log a b. b ∙ sym a) (lines text) one other at end a b
 
 pub one_fault : (base : Option ℕ) (text : List ℕ) (n m : ℕ) → HasLogFault base text (Syntax n) → HasLogFault base text (Syntax m) → m ≡ n
 one_fault base text n m a b =
@@ -314,13 +243,13 @@ one_fault base text n m a b =
     let q = b.number in
     omega arith
 
-no_finding_beside_fault : {base : Option ℕ} (text : List ℕ) (finding : LogFinding) (log : Log) (n : ℕ) → Finds base finding (lines text) log → ¬ HasLogFault base text (Syntax n)
-no_finding_beside_fault text NotTorn log n found at_fault = never_stops IsUntorn log found.0.fine (syntax_stops IsUntorn at_fault)
-no_finding_beside_fault text NoRunDrew log n found at_fault = never_stops IsUntorn log found.0.fine (syntax_stops IsUntorn at_fault)
-no_finding_beside_fault {base = base} text (Torn m x y) log n judged at_fault =
-    let at = one_stop IsUntorn (torn_stops judged) (syntax_stops IsUntorn at_fault) in
-    let line = same_lines judged.before at_fault.before judged.line at_fault.line judged.after at_fault.after judged.cut at_fault.cut at in
-    at_fault.wrong (Tick ⟼ Acted (Wrote x y)) (subst (Tells base (Tick ⟼ Acted (Wrote x y))) line judged.wrote)
-
 pub no_verdict_beside_fault : (base : Option ℕ) (text : List ℕ) (verdict : LogVerdict) (n : ℕ) → JudgesLog base text verdict → ¬ HasLogFault base text (Syntax n)
-no_verdict_beside_fault base text verdict n judged = no_finding_beside_fault text verdict.finding judged.log n judged.finds
+no_verdict_beside_fault base text verdict n (decided, judged) = no_fault base IsUntorn FindsTorn EndsUntorn is_wrong (lines text) verdict decided n judged
+
+pub judged_at : {base : Option ℕ} (text : List ℕ) (why : LogStop LogVerdict) → reading.StopsAt base (Throughout IsUntorn) FindsTorn why (lines text) → IsJudged base text
+judged_at text (stop.Found n verdict) stops = inl (verdict, (Some n, stops))
+judged_at text (stop.Syntax n) stops = inr (Syntax n, stops)
+judged_at text stop.TooLong stops = inr (TooLong, stops)
+
+pub judged_whole : (base : Option ℕ) (text : List ℕ) (verdict : LogVerdict) → (log : Log) × IsWhole base (Throughout IsUntorn) (lines text) log × EndsUntorn verdict log → IsJudged base text
+judged_whole base text verdict says = inl (verdict, (None, says))

@@ -1,5 +1,6 @@
 -- What `torn --moments --all` answers, writes and takes.
-use Rattle.std.specs.Prelude.{◌≡◌, ◌++◌, ◌==◌, ℕ, List, ◌∷◌, flat_map, length, reverse, Option, Some, None, Result, Ok, Err, if◌then◌else◌}
+use Rattle.std.specs.Prelude.{◌≡◌, ◌++◌, ◌==◌, ℕ, List, ◌∷◌, flat_map, length, reverse, Option, Some, None}
+use Rattle.std.specs.Prelude.{Result, Ok, Err, if◌then◌else◌}
 use Rattle.std.specs.List.{AllByRecursion}
 use Rattle.std.specs.Io.KnownBytes.{Appends}
 use Rattle.dvg_log.specs.Log.{Log}
@@ -89,8 +90,8 @@ AllTakes base (Err Writer) input old new = (tears : List MomentVerdict) × (one 
     × IsNext base input one tears decided × TakesTo decided input old new
 AllTakes base (Err _) input old new = Unit {0}
 
--- both at once, of the same torn runs: what it answers, what it took, and what went out; so where writing fails, what was
--- taken goes up to the line whose text failed
+-- both at once, of the same torn runs: what it answers, what it took, and what went out; so where writing fails, what
+-- was taken goes up to the line whose text failed
 abbrev pub TellsAs : (base : Option ℕ) → Result MomentVerdict ToolFault → (input : List ℕ) → (old new : Option (List ℕ))
     → (before after : Option (List ℕ)) → Type 0
 TellsAs base (Ok verdict) input old new before after = (tears : List MomentVerdict) × (decided : Option ℕ)

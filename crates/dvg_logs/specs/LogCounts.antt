@@ -6,6 +6,9 @@ use Rattle.dvg_log.specs.declared.entry.Entry.TheVariants.{Acted, Started, Done}
 use Rattle.dvg_log.specs.Log.{◌⟼◌, Line, Log, open_run}
 use Rattle.dvg_world.specs.Judging.{draws_half}
 use Rattle.dvg_print.specs.declared.log_verdict.LogCounts.{LogCounts}
+use Rattle.dvg_print.specs.declared.log_verdict.LogFinding.{LogFinding}
+use Rattle.dvg_print.specs.declared.log_verdict.LogFinding.TheVariants.{NoRunDrew, NotTorn}
+use Rattle.dvg_print.specs.declared.log_verdict.LogVerdict.{LogVerdict}
 
 -- the line says that a strobe began a run
 abbrev pub begins : Line → Bool
@@ -43,3 +46,11 @@ counts_of log = record {
 -- no run drew a half, so nothing could be torn
 abbrev pub no_run_drew : LogCounts → Bool
 no_run_drew counts = counts.drew == 0
+
+-- what is found where no line is torn
+abbrev pub found_in : LogCounts → LogFinding
+found_in counts = if no_run_drew counts then NoRunDrew else NotTorn
+
+-- what is said where no line is torn
+abbrev pub said_of : LogCounts → LogVerdict
+said_of counts = record { finding = found_in counts; counts = counts }

@@ -93,7 +93,8 @@ GoesOn TooLong Holds = Unit {0}
 pub record JudgesOn {J V : Type 0} (Stands : J → Log → Type 0) (Passes : List V → Log → Type 0)
     (old new : JudgedLines J) (line : List ℕ) (one : V) : Type 0 where
   pub judged : (base : Option ℕ) (said : List V) (before : List (List ℕ))
-      → HasJudged base Stands (Passes said) old before → HasJudged base Stands (Passes (one ∷ said)) new (before ++ line ∷ [])
+      → HasJudged base Stands (Passes said) old before
+      → HasJudged base Stands (Passes (one ∷ said)) new (before ++ line ∷ [])
   pub count : new.count ≡ old.count + 1
 
 -- a front of a piece was read, of which no line decides, and this is the rest

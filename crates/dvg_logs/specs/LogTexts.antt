@@ -1,38 +1,22 @@
 -- What is said of the text of a log.
-use Rattle.std.specs.Prelude.{◌≡◌, ◌+◌, ◌-◌, ◌^◌, ◌<◌, ℕ, List, [], ◌∷◌, ◌++◌, length, true, false, Option, Some, None}
+use Rattle.std.specs.Prelude.{◌≡◌, ◌+◌, ◌-◌, ◌^◌, ◌<◌, ℕ, List, ◌∷◌, ◌++◌, length, Option, Some, None}
 use Rattle.dvg_driver.specs.declared.action.Action.TheVariants.{Wrote}
 use Rattle.dvg_log.specs.declared.entry.Entry.TheVariants.{Acted}
 use Rattle.dvg_log.specs.declared.event.Event.TheVariants.{Tick}
 use Rattle.dvg_log.specs.Log.{◌⟼◌, Line, Log, Throughout}
-use Rattle.dvg_log.specs.Torn.{IsFirstTorn, IsUntorn}
+use Rattle.dvg_log.specs.Torn.{IsTorn, IsUntorn}
 use Rattle.dvg_read.specs.Texts.{lines}
 use Rattle.dvg_read.specs.declared.fault.TextFault.{TextFault}
 use Rattle.dvg_read.specs.declared.fault.TextFault.TheVariants.{TooLong, Syntax}
-use Rattle.dvg_print.specs.declared.log_verdict.LogFinding.{LogFinding}
-use Rattle.dvg_print.specs.declared.log_verdict.LogFinding.TheVariants.{NotTorn, NoRunDrew, Torn}
+use Rattle.dvg_print.specs.declared.log_verdict.LogFinding.TheVariants.{Torn}
 use Rattle.dvg_print.specs.declared.log_verdict.LogVerdict.{LogVerdict}
-use Rattle.dvg_logs.specs.LogCounts.{counts_of, no_run_drew}
+use Rattle.dvg_logs.specs.LogCounts.{counts_of, said_of}
 use Rattle.dvg_logs.specs.LogLines.{IsLogOf, Tells}
 
 -- the lines give this log, of which this holds
 pub record IsLogSo (base : Option ℕ) (Holds : Log → Type 0) (log : Log) (texts : List (List ℕ)) : Type 0 where
   pub tells : IsLogOf base log texts
   pub holds : Holds log
-
--- the lines give this log, and none of it is torn
-abbrev pub IsUntornLog : (base : Option ℕ) → Log → List (List ℕ) → Type 0
-IsUntornLog base = IsLogSo base (Throughout IsUntorn)
-
--- line n is the first torn one, and wrote this byte at this byte address; the lines up to it give this log
-pub record IsTornAt (base : Option ℕ) (texts : List (List ℕ)) (log : Log) (n address byte : ℕ) : Type 0 where
-  pub before : List (List ℕ)
-  pub line : List ℕ
-  pub after : List (List ℕ)
-  pub cut : texts ≡ before ++ line ∷ after
-  pub number : n ≡ length before + 1
-  pub tells : IsLogOf base log (before ++ line ∷ [])
-  pub torn : IsFirstTorn log (length before)
-  pub wrote : Tells base (Tick ⟼ Acted (Wrote address byte)) line
 
 -- line n is the first that says nothing that a line may say, and of the log before it this holds
 pub record MeetsSyntax (base : Option ℕ) (Holds : Log → Type 0) (texts : List (List ℕ)) (n : ℕ) : Type 0 where
@@ -80,18 +64,6 @@ abbrev pub Says : {V : Type 0} → (base : Option ℕ) → (Log → Type 0) → 
 Says base Passes Finds Ends verdict texts None = (log : Log) × IsWhole base Passes texts log × Ends verdict log
 Says base Passes Finds Ends verdict texts (Some n) = IsFoundAt base Passes Finds texts n verdict
 
--- this is found in lines; those that are judged give this log
-abbrev pub Finds : (base : Option ℕ) → LogFinding → List (List ℕ) → Log → Type 0
-Finds base NotTorn texts log = IsWhole base (Throughout IsUntorn) texts log × (no_run_drew (counts_of log) ≡ false)
-Finds base NoRunDrew texts log = IsWhole base (Throughout IsUntorn) texts log × (no_run_drew (counts_of log) ≡ true)
-Finds base (Torn n address byte) texts log = IsTornAt base texts log n address byte
-
--- this is said of the text of a log: what is found in it, and what is counted up to there
-pub record JudgesLog (base : Option ℕ) (text : List ℕ) (verdict : LogVerdict) : Type 0 where
-  pub log : Log
-  pub finds : Finds base verdict.finding (lines text) log
-  pub counts : verdict.counts ≡ counts_of log
-
 -- the fault of a log's text, where this holds of the log before it
 abbrev pub HasFaultIn : (base : Option ℕ) → (Log → Type 0) → List ℕ → TextFault → Type 0
 HasFaultIn base Holds text (Syntax n) = MeetsSyntax base Holds (lines text) n
@@ -101,3 +73,29 @@ HasFaultIn base Holds text _ = ⊥
 -- the fault of a log's text, before which no line is torn
 abbrev pub HasLogFault : (base : Option ℕ) → List ℕ → TextFault → Type 0
 HasLogFault base = HasFaultIn base (Throughout IsUntorn)
+
+-- the line is torn
+abbrev pub IsTornLine : Log → Line → Type 0
+IsTornLine log (event ⟼ entry) = IsTorn log event entry
+
+-- a line is torn: its number and what it wrote are said, and what is counted up to it
+pub record FindsTorn (verdict : LogVerdict) (line : Line) (log : Log) : Type 0 where
+  pub address : ℕ
+  pub byte : ℕ
+  pub is : line ≡ Tick ⟼ Acted (Wrote address byte)
+  pub torn : IsTornLine log line
+  pub finding : verdict.finding ≡ Torn (length log + 1) address byte
+  pub counts : verdict.counts ≡ counts_of (line ∷ log)
+
+-- what is said where no line is
+abbrev pub EndsUntorn : LogVerdict → Log → Type 0
+EndsUntorn verdict log = verdict ≡ said_of (counts_of log)
+
+-- this is said of the text of a log by the rule of halves: at line n, or at its end
+abbrev pub JudgesHalves : (base : Option ℕ) → (text : List ℕ) → LogVerdict → Option ℕ → Type 0
+JudgesHalves base text verdict decided =
+    Says base (Throughout IsUntorn) FindsTorn EndsUntorn verdict (lines text) decided
+
+-- the same, wherever it is decided
+abbrev pub JudgesLog : (base : Option ℕ) → (text : List ℕ) → LogVerdict → Type 0
+JudgesLog base text verdict = (decided : Option ℕ) × JudgesHalves base text verdict decided

@@ -32,7 +32,7 @@ abbrev pub reading_entry : Reading → Shown
 reading_entry (reads.Low address byte) = Low address byte
 reading_entry (reads.Fetched address word) = Fetched address word
 
--- the open run is of no moment, and since line n none was left: this one
+-- the open run is mixed, and since line n none was left: this one
 abbrev pub TornSince : Log → ℕ → Line → Type 0
 TornSince [] n last = ⊥
 TornSince (line ∷ log) n last = IsTorn (line ∷ log)

@@ -1,17 +1,16 @@
 -- What `torn` answers, writes and takes.
-use Rattle.std.specs.Prelude.{◌+◌, ◌-◌, ◌^◌, ℕ, List, [], ◌∷◌, ◌++◌, flat_map, length, take, Option, Some, None, Result, Ok, Err}
+use Rattle.std.specs.Prelude.{◌+◌, ◌-◌, ◌^◌, ℕ, List, [], ◌∷◌, ◌++◌, flat_map, length, take, Option, Some, None}
+use Rattle.std.specs.Prelude.{Result, Ok, Err}
 use Rattle.std.specs.Io.KnownBytes.{Appends, Consumes, IsAtEnd}
 use Rattle.dvg_read.specs.Texts.{lines}
 use Rattle.dvg_print.specs.LogVerdicts.{log_verdict_text}
 use Rattle.dvg_read.specs.declared.fault.TextFault.{TextFault}
 use Rattle.dvg_read.specs.declared.fault.TextFault.TheVariants.{Syntax}
 use Rattle.dvg_print.specs.declared.log_verdict.LogVerdict.{LogVerdict}
-use Rattle.dvg_print.specs.declared.log_verdict.LogFinding.{LogFinding}
-use Rattle.dvg_print.specs.declared.log_verdict.LogFinding.TheVariants.{NotTorn, NoRunDrew, Torn}
 use Rattle.dvg_io.specs.declared.fault.ToolFault.{ToolFault}
 use Rattle.dvg_io.specs.declared.fault.ToolFault.TheVariants.{Text, Reader, Writer, Memory}
 use Rattle.dvg_io.specs.Watching.{BeginsToWrite, TakesAtMost}
-use Rattle.dvg_logs.specs.LogTexts.{HasLogFault, JudgesLog}
+use Rattle.dvg_logs.specs.LogTexts.{HasLogFault, JudgesHalves, JudgesLog}
 
 -- what `torn` answers to an input, and what went out: the verdict's text, or at `Writer` a beginning of it (that
 -- nothing went out at the others is a clause of its own)
@@ -43,17 +42,12 @@ abbrev pub TakesAtFault : TextFault → (input : List ℕ) → Option (List ℕ)
 TakesAtFault (Syntax n) input old new = TakesUpTo n input old new
 TakesAtFault _ input old new = TakesUpTo (2 ^ 64) input old new
 
--- what was taken of an input, when this was found: all of it, or up to the torn line
-abbrev pub TakesFor : LogFinding → (input : List ℕ) → Option (List ℕ) → Option (List ℕ) → Type 0
-TakesFor NotTorn input old new = Consumes old new input × IsAtEnd new
-TakesFor NoRunDrew input old new = Consumes old new input × IsAtEnd new
-TakesFor (Torn n address byte) input old new = TakesUpTo n input old new
-
--- what `torn` took of an input, by its answer
+-- what `torn` took of an input, by its answer: all of it, or up to the torn line
 abbrev pub Takes : (base : Option ℕ) → Result LogVerdict ToolFault → (input : List ℕ) → Option (List ℕ)
     → Option (List ℕ) → Type 0
-Takes base (Ok verdict) input old new = TakesFor verdict.finding input old new
+Takes base (Ok verdict) input old new =
+    (decided : Option ℕ) × JudgesHalves base input verdict decided × TakesTo decided input old new
 Takes base (Err (Text fault)) input old new = TakesAtFault fault input old new
-Takes base (Err Writer) input old new = (verdict : LogVerdict) × JudgesLog base input verdict
-    × TakesFor verdict.finding input old new
+Takes base (Err Writer) input old new = (verdict : LogVerdict) × (decided : Option ℕ)
+    × JudgesHalves base input verdict decided × TakesTo decided input old new
 Takes base (Err _) input old new = Unit {0}

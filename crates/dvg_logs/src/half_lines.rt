@@ -5,10 +5,9 @@ ghost use Rattle.dvg_log.specs.declared.entry.Entry.TheVariants.{Acted};
 ghost use Rattle.dvg_log.specs.declared.event.Event.TheVariants.{Tick};
 ghost use Rattle.dvg_world.specs.Judging.{StandsAfter};
 ghost use Rattle.dvg_log.specs.Log.{Log, ◌⟼◌};
-ghost use Rattle.dvg_logs.specs.LogCounts.{counts_of, draws_from};
+ghost use Rattle.dvg_logs.specs.LogCounts.{counts_of, draws_from, found_in};
 ghost use Rattle.dvg_logs.specs.LogLineTells.{line_of};
-ghost use Rattle.dvg_logs.specs.HalfLines.{IsTornLine};
-ghost use Rattle.dvg_logs.specs.Judging.{found_in};
+ghost use Rattle.dvg_logs.specs.LogTexts.{IsTornLine};
 
 use crate::line_judge::LineJudge;
 use crate::log_line::LogLine;
@@ -93,7 +92,8 @@ impl HalfLines {
     ghost use Rattle.dvg_log.specs.declared.event.Event.TheVariants.{Tick};
     ghost use Rattle.dvg_log.specs.Log.{Log, ◌⟼◌};
     ghost use Rattle.dvg_logs.specs.LogLineTells.{line_of};
-    ghost use Rattle.dvg_logs.specs.HalfLines.{IsTornLine, StandsSo};
+    ghost use Rattle.dvg_logs.specs.HalfLines.{StandsSo};
+    ghost use Rattle.dvg_logs.specs.LogTexts.{IsTornLine};
 
     /// Returns what is known before the first line.
     pub fn new() -> HalfLines
@@ -131,7 +131,8 @@ impl HalfLines {
 }
 
 impl LineJudge for HalfLines {
-    ghost use Rattle.dvg_logs.specs.HalfLines.{EndsUntorn, FindsTorn, PassesUntorn, StandsSo};
+    ghost use Rattle.dvg_logs.specs.HalfLines.{PassesUntorn, StandsSo};
+    ghost use Rattle.dvg_logs.specs.LogTexts.{EndsUntorn, FindsTorn};
 
     type Verdict = LogVerdict;
 

@@ -25,6 +25,7 @@ pub fn no_verdict_beside_fault()
 
 /// A verdict is given of each `text`, or it has a fault. That one of them holds is shown by what a
 /// reading of it comes to.
+#[tactic(auto, using(crate::proofs::OneVerdict::judged_whole))]
 pub fn each_is_judged(text: &[u8], base: Option<u16>)
     ensures { IsJudged base text.now }
 {

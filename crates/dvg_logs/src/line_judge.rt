@@ -1,4 +1,6 @@
-//! What the lines of a log are told.
+//! What the lines of a log are told. One reader serves all rules of `torn`, by a trait: what is
+//! found at a line is asked first, and then the line is taken, so no copy of a judge is needed.
+//! What was said before is a list, at first empty.
 ghost use Rattle.std.specs.Prelude.{◌≡◌, ◌+◌, ◌-◌, ◌^◌, ◌<◌, ◌∷◌, List, length, IfSome, IsNone};
 ghost use Rattle.dvg_log.specs.Log.{Line, Log};
 ghost use Rattle.dvg_logs.specs.LogLineTells.{line_of};

@@ -10,8 +10,8 @@ ghost use Rattle.dvg_logs.specs.LogLineTells.{AreNumbers, AreWritten, line_of};
 use arrayvec::ArrayVec;
 use dvg_read::{hex, is_passed};
 
-/// The first byte address that isn't one of the RAM.
-pub(crate) const RAM_END: u16 = 0x800;
+/// How many bytes the RAM has, which begins at byte address 0.
+pub(crate) const RAM_BYTES: u16 = 0x800;
 
 /// The most bytes of a line, without its end (this project's own choice).
 pub const MOST_LINE_BYTES: usize = 64;
@@ -154,7 +154,7 @@ fn in_ram(address: u16, byte: u16) -> Option<(u16, u8)>
     ensures some { IfSome result (λ w. (w.0 ≡ address) × (w.1 ≡ byte) × (address < 0x800)) }
     ensures only { address < 0x800 → result ≡ Some (address, byte) }
 {
-    if address >= RAM_END {
+    if address >= RAM_BYTES {
         return None;
     }
     Some((address, byte as u8))

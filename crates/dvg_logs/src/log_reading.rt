@@ -1,4 +1,5 @@
-//! The text of a log, as it is read in pieces.
+//! The text of a log, as it is read in pieces. A log has at most 2^64 - 1 lines, as their numbers
+//! have 64 bits: so reading is proved to end, whatever the reader.
 ghost use Rattle.std.specs.Prelude.{◌≡◌, ◌+◌, ◌-◌, ◌^◌, ◌<◌, ◌≤◌, [], ◌∷◌, ◌++◌, ℕ, List, Option};
 ghost use Rattle.std.specs.Prelude.{IfErr, IsTrue, OnOk, length};
 ghost use Rattle.dvg_log.specs.Log.{Line, Log};

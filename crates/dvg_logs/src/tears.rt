@@ -1,33 +1,16 @@
 //! The engine `torn`.
-ghost use Rattle.std.specs.Prelude.{◌≡◌, ◌⊎◌, ◌↔◌, ◌≤◌, IfErr, IfSome, IsErrOf, OnErr, OnOk};
+ghost use Rattle.std.specs.Prelude.{◌≡◌, ◌↔◌, ◌≤◌, IfErr, IfSome, IsErrOf, OnErr, OnOk};
 ghost use Rattle.std.specs.Io.KnownBytes.{Appends};
 ghost use Rattle.dvg_io.specs.Faults.{StopsBeforeWriting};
 ghost use Rattle.dvg_io.specs.Watching.{BeginsToWrite, CountsErrors, failures_of, stream_of};
 ghost use Rattle.dvg_print.specs.LogVerdicts.{log_verdict_text};
 ghost use Rattle.dvg_logs.specs.Tears.{Takes, Tears};
-ghost use Rattle.dvg_logs.specs.Judging.{IsReadingFault, JudgesInput};
 
 use crate::half_lines::HalfLines;
 use crate::judging::judge_text;
 use dvg_io::{StreamFailed, ToolFault, Watched, write_lines};
 use dvg_print::{Line, LogVerdict};
 use std::io::{Read, Write};
-
-// Returns what is said of the text of a log, which comes from `reader`.
-fn judge_halves<R: Read>(
-    base: Option<u16>,
-    reader: &mut Watched<R>,
-) -> Result<LogVerdict, ToolFault>
-    requires fresh { failures_of reader.old ≡ 0 }
-    ensures judges { IfSome (R.remaining (stream_of reader.old))
-        (λ input. JudgesInput base result input (R.remaining (stream_of reader.old))
-        (R.remaining (stream_of reader.new))) }
-    ensures fault { IfErr result IsReadingFault }
-    ensures reader { IsErrOf result ToolFault.Reader ↔ (failures_of reader.new ≡ 1) }
-    ensures stops { failures_of reader.new ≤ 1 }
-{
-    judge_text(HalfLines::new(), base, reader)
-}
 
 // Writes `verdict`, what is said of a log, to `writer`.
 fn write_verdict<W: Write>(writer: &mut Watched<W>, verdict: LogVerdict) -> Result<(), StreamFailed>
@@ -88,7 +71,7 @@ pub fn torn<R: Read, W: Write>(
     ensures writer { IsErrOf result ToolFault.Writer ↔ (failures_of writer.new ≡ 1) }
     ensures stops { (failures_of reader.new ≤ 1) × (failures_of writer.new ≤ 1) }
 {
-    let verdict = match judge_halves(base, reader) {
+    let verdict = match judge_text(HalfLines::new(), base, reader) {
         Ok(verdict) => verdict,
         Err(fault) => return Err(fault),
     };

@@ -1,4 +1,5 @@
-//! The engine `torn --moments --all`.
+//! The engine `torn --moments --all`. By halves there is no such engine: one write that tears is
+//! followed by others of the same kind.
 ghost use Rattle.std.specs.Prelude.{◌≡◌, ◌↔◌, ◌≤◌, IfSome, IsErrOf, IsTrue};
 ghost use Rattle.dvg_io.specs.Watching.{failures_of, stream_of};
 ghost use Rattle.dvg_logs.specs.AllTears.{AllTakes, AllTears, IsTear, TellsAs, of_all};
@@ -196,7 +197,7 @@ impl Telling {
 /// Reads the text of a log from `reader`, of any length and of any system, up to the first line
 /// that contradicts or is at fault, and writes to `writer` (the text is this project's own choice):
 ///
-/// - `torn at line N: ..`, as `torn_moments` does, for each run that is of no moment and comes to
+/// - `torn at line N: ..`, as `torn_moments` does, for each run that is mixed and comes to
 ///   its HALT, in the order of these;
 /// - and then `in all: R runs, H halted, T torn`: R runs began, H of them came to their HALT, and T
 ///   of these are torn; where none is, what `torn_moments` writes then;

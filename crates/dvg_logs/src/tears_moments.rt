@@ -32,7 +32,7 @@ pub(crate) fn write_verdict<W: Write>(
 /// that decides or is at fault, and writes what is said of it to `writer` (the text is this
 /// project's own choice):
 ///
-/// - `torn at line N: ..`, where a run of no moment comes to its HALT: after line N, which is
+/// - `torn at line N: ..`, where a mixed run comes to its HALT: after line N, which is
 ///   shown, no moment of it was left. No byte that a run reads may change between its moment and
 ///   its reading;
 /// - `line N reads what was not written: ..`, where a line reads another byte than the log told

@@ -20,14 +20,21 @@ pub enum MemFault {
     OutOfMemory,
 }
 
-/// The 2,048 bytes that a vector RAM holds.
-#[derive(Drop)]
-#[derive_where(Debug)]
-pub struct Image<A: Allocator = Global> {
-    bytes: Box<[u8; MEMORY_BYTES], A>,
+// What an image keeps in its block of memory.
+#[derive(Clone, Debug, Drop)]
+struct Held {
+    bytes: [u8; MEMORY_BYTES],
     /// The byte that stands everywhere, if that was seen: then a store is filled, and nothing is
     /// copied.
     filled: Option<u8>,
+}
+
+/// The 2,048 bytes that a vector RAM holds. The block of memory has what is known of them, too, so
+/// an image itself is no more than a pointer.
+#[derive(Drop)]
+#[derive_where(Debug)]
+pub struct Image<A: Allocator = Global> {
+    held: Box<Held, A>,
 }
 
 /// Contracts see the list of the bytes.
@@ -38,10 +45,10 @@ impl<A: Allocator> Model for Image<A> {
 
     ghost Value = { List ℕ };
 
-    ghost view = { λ image. image.bytes.value };
+    ghost view = { λ image. image.held.value.bytes };
 
-    ghost invariant = { λ image. IsImage image.bytes.value
-        × IfSome image.filled (IsFilled image.bytes.value) };
+    ghost invariant = { λ image. IsImage image.held.value.bytes
+        × IfSome image.held.value.filled (IsFilled image.held.value.bytes) };
 }
 
 /// A copy of the bytes. `clone` returns `AllocError` where an allocation fails.
@@ -49,7 +56,7 @@ impl<A: Allocator + Clone> Clone for Image<A> {
     ghost is_clone = { λ image copy. copy ≡ image };
 
     fn clone(&self) -> Result<Image<A>, AllocError> {
-        let alloc = Box::allocator(&self.bytes).clone()?;
+        let alloc = Box::allocator(&self.held).clone()?;
         match Image::new(alloc, self.bytes()) {
             Ok(copy) => Ok(copy),
             Err(_) => Err(AllocError),
@@ -91,11 +98,12 @@ impl<A: Allocator> Image<A> {
         }
         let mut copy = [0; MEMORY_BYTES];
         copy.copy_from_slice(bytes);
-        match Box::new(alloc, copy) {
-            Ok(boxed) => Ok(Image {
-                bytes: boxed,
-                filled: only_byte(bytes),
-            }),
+        let held = Held {
+            bytes: copy,
+            filled: only_byte(bytes),
+        };
+        match Box::new(alloc, held) {
+            Ok(held) => Ok(Image { held }),
             Err(_) => Err(MemFault::OutOfMemory),
         }
     }
@@ -106,8 +114,8 @@ impl<A: Allocator> Image<A> {
         requires { length bytes.now ≡ MEMORY_BYTES }
         ensures { self.new ≡ bytes.now }
     {
-        self.bytes.copy_from_slice(bytes);
-        self.filled = None;
+        self.held.bytes.copy_from_slice(bytes);
+        self.held.filled = None;
     }
 
     // Returns the byte that stands everywhere, if that was seen.
@@ -115,7 +123,7 @@ impl<A: Allocator> Image<A> {
         ensures byte { IfSome result (IsFilled self.now) }
         ensures image { IsImage self.now }
     {
-        self.filled
+        self.held.filled
     }
 
     /// Returns the bytes, from address 000 on.
@@ -123,7 +131,7 @@ impl<A: Allocator> Image<A> {
         ensures bytes { result.now ≡ self.now }
         ensures image { IsImage result.now }
     {
-        self.bytes.as_slice()
+        self.held.bytes.as_slice()
     }
 }
 

@@ -1,4 +1,4 @@
--- A run of one moment draws what a run over that moment's memory draws, whoever wrote it.
+-- A consistent run draws what a run over that moment's memory draws, whoever wrote it.
 use Rattle.std.proofs.Common.{◌≡◌, ◌≢◌, ℕ, zero, suc, ◌+◌, ◌*◌, ◌/◌, ◌%◌, ◌≤◌, ◌<◌, ◌⊎◌, inl, inr, List, [], ◌∷◌, ◌++◌, length, refl, sym, ◌∙◌, ap, subst, Option, Some, None, Bool, true, false, nat_lt, arith}
 use Rattle.std.specs.Prelude.{if◌then◌else◌, option_map, is_some, slice_index, slice_set}
 use Rattle.std.specs.List.{AllByRecursion}

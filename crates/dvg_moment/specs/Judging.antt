@@ -7,7 +7,7 @@ use Rattle.dvg_moment.specs.declared.judge.Phase.TheVariants.{Closed, Whole, Pas
 use Rattle.dvg_moment.specs.declared.judge.MomentJudge.{MomentJudge}
 use Rattle.dvg_moment.specs.Moment.{told, HasRead, HasChanged, StillStands, IsMoment, OfOneMoment}
 
--- a run is open, and is of no moment
+-- a run is open, and is mixed
 abbrev pub IsTorn : Log → Type 0
 IsTorn log = (open_run log ≢ None) × ¬ OfOneMoment told log
 

@@ -1,4 +1,4 @@
--- Runs of one moment, in any log.
+-- Consistent runs, in any log.
 use Rattle.std.specs.Prelude.{◌≡◌, ◌≢◌, ℕ, ◌+◌, ◌*◌, ◌/◌, ◌%◌, ◌<◌, ◌==◌, nat_lt, ◌&&◌, ◌++◌, List, [], ◌∷◌, Option}
 use Rattle.std.specs.Prelude.{Some, None, ◌⊎◌, Bool, false, not, if◌then◌else◌, slice_index}
 use Rattle.std.specs.Option.{option_or}
@@ -96,11 +96,11 @@ pub record IsMoment (known : Known) (log since moment : Log) : Type 0 where
   pub read_before : StillStands known moment
   pub read_since : Throughout (ReadsThen known moment) since
 
--- the newest run of a log is of one moment
+-- the newest run of a log is consistent
 abbrev pub OfOneMoment : Known → Log → Type 0
 OfOneMoment known log = (since : Log) × (moment : Log) × IsMoment known log since moment
 
--- a run that reaches HALT is of one moment
+-- a run that reaches HALT is consistent
 abbrev pub IsOfOneMoment : Known → Log → Happening → Shown → Type 0
 IsOfOneMoment known log event (Done address word drew) = open_run log ≢ None
     → OfOneMoment known ((event ⟼ Done address word drew) ∷ log)

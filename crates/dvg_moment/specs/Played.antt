@@ -1,4 +1,4 @@
--- Logs of any driver, and what a run of one moment draws.
+-- Logs of any driver, and what a consistent run draws.
 use Rattle.std.specs.Prelude.{◌≡◌, ℕ, suc, ◌<◌, List, ◌∷◌, Some, None, length}
 use Rattle.std.specs.List.{AllByRecursion}
 use Rattle.dvg_mem.specs.Memory.{IsImage, fetched}
@@ -34,7 +34,7 @@ IsPlayed R image log ResetCpu Cleared = Unit {0}
 IsPlayed R image log (ResetAll bytes) Cleared = IsImage bytes
 IsPlayed R image log event entry = ⊥
 
--- a run of one moment that reaches HALT drew what a run over that moment's memory draws, in as many words
+-- a consistent run that reaches HALT drew what a run over that moment's memory draws, in as many words
 abbrev pub DrewItsMoment : Known → List ℕ → List ℕ → Log → Happening → Shown → Type 0
 DrewItsMoment known R image log event (Done address word drew) = (fetches : List (ℕ × ℕ))
     → open_run log ≡ Some fetches
@@ -77,7 +77,7 @@ StoodThen R image log event (Done address word drew) = (fetches : List (ℕ × �
     AllByRecursion (λ fetch. fetched (ram image moment) R fetch.0 ≡ Some fetch.1) ((address, word) ∷ fetches))
 StoodThen R image log event entry = Unit {0}
 
--- over each ROM a generator makes a log in which a run comes to its HALT and is of no moment, also by what is told
+-- over each ROM a generator makes a log in which a run comes to its HALT and is mixed, also by what is told
 abbrev pub SomeRunIsTorn : Type 0
 SomeRunIsTorn = (R : List ℕ) → (image : List ℕ) × (log : Log) × IsImage image × Throughout (IsPlayed R image) log
     × (¬ Throughout (IsOfOneMoment (stands image)) log) × ¬ Throughout (IsOfOneMoment told) log

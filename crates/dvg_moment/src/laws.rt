@@ -4,7 +4,7 @@ ghost use Rattle.dvg_moment.specs.Moment.{IsOfOneMoment, stands, told};
 ghost use Rattle.dvg_moment.specs.Played.{DrawsTheMoment, DrewAMoment, ErrsUntold};
 ghost use Rattle.dvg_moment.specs.Played.{IsPlayed, NeverContradicts, SomeRunIsTorn, StoodThen};
 
-/// In every legal log each run that reaches HALT is of one moment: there is a moment of the run
+/// In every legal log each run that reaches HALT is consistent: there is a moment of the run
 /// such that no byte which the run reads changes between that moment and its reading. `world` says
 /// it where memory is known, `told` where only what the log tells of memory counts.
 pub fn of_one_moment()
@@ -24,7 +24,7 @@ pub fn drew_a_moment()
     ensures { Always DrewAMoment }
 {}
 
-/// Whoever drives: a run of one moment that reaches HALT drew what a run over that moment's memory
+/// Whoever drives: a consistent run that reaches HALT drew what a run over that moment's memory
 /// draws. Only what the generator does has to be right: it fetches what is in memory then.
 pub fn draws_the_moment()
     ensures { DrawsTheMoment stands }
@@ -55,8 +55,8 @@ pub fn errs_untold()
 {}
 
 /// Over each ROM there is a log in which the generator fetches what is in memory then, and a run
-/// comes to its HALT that is of no moment: neither where memory is known, nor by what the log alone
-/// tells. So the premise of `draws_the_moment` and of `told_is_enough` asks for something.
+/// comes to its HALT that is mixed: where memory is known, and by what the log alone tells. So the
+/// premise of `draws_the_moment` and of `told_is_enough` asks for something.
 pub fn some_run_is_torn()
     ensures { SomeRunIsTorn }
 {}

@@ -1,10 +1,11 @@
--- The example is computed.
+-- The examples are computed.
 use Rattle.std.proofs.Common.{◌≡◌, ℕ, zero, suc, ◌<◌, Bool, true, false, List, [], ◌∷◌, refl, arith}
 use Rattle.std.specs.Prelude.{nat_eq, if◌then◌else◌, All}
 use Rattle.std.proofs.lemmas.List.Elements.{All-cons, All-nil}
 use Rattle.dvg_motion.specs.Machine.{IsBus, AreBytes}
+use Rattle.dvg_motion.specs.Times.{AtOnce}
 use Rattle.dvg_motion.specs.Vectors.{Bus}
-use Rattle.dvg_motion.specs.Example.{some_held, idle, strobe, and_ticks, some_clocks, SomeMotion}
+use Rattle.dvg_motion.specs.Example.{some_held, idle, strobe, and_ticks, some_clocks, SomeMotion, halt_held, started, SomePicture}
 
 bytes : AreBytes some_held
 bytes a = by (nat_eq a 3)
@@ -30,3 +31,27 @@ are_ticks (suc n) clocks all =
 
 pub some_motion_law : SomeMotion
 some_motion_law = (bytes, are_ticks 9 (strobe ∷ []) (All-cons IsBus strobe [] is_strobe (All-nil IsBus)), (refl, refl), refl)
+
+halt_bytes : AreBytes halt_held
+halt_bytes a = by (nat_eq a 1)
+  where
+    by : (b : Bool) → (if b then 0xB0 else 0) < 256
+    by true = omega arith
+    by false = omega arith
+
+once : (n : ℕ) → AtOnce (and_ticks n [])
+once zero = tt
+once (suc n) =
+    (λ e. absurd (omega arith), λ e. absurd (omega arith), (λ e. (refl, refl), λ e. refl, (λ e. (refl, refl), λ e. refl, (λ e. (refl, refl), λ e. refl, once n))))
+
+pub some_picture_law : SomePicture
+some_picture_law = (
+  halt_bytes,
+  are_ticks 4 started (All-cons IsBus (idle 0) (strobe ∷ []) (is_idle 0 (omega arith)) (All-cons IsBus strobe [] is_strobe (All-nil IsBus))),
+  refl,
+  refl,
+  (refl, refl, refl, (refl, refl, refl, (refl, refl, refl, (refl, refl, refl, (refl, refl, refl, (refl, refl, refl, (refl, refl, refl, (refl, refl, refl, (refl, refl, refl, (refl, refl, refl, (refl, refl, refl, (refl, refl, refl, (refl, refl, refl, (refl, refl, refl, (refl, refl, refl, (refl, refl, refl, tt)))))))))))))))),
+  refl,
+  once 4,
+  refl,
+)

@@ -4,4 +4,8 @@ pub mod Tied
 pub mod Machine
 pub mod Timing
 pub mod Wiring
+pub mod Spends
+pub mod Pictures
+pub mod Halts
+pub mod Resets
 pub mod Example

@@ -444,7 +444,7 @@ powered = record {
   };
 }
 
-all_run : (clocks : List Bus) → AreServed clocks → Runs clocks
+pub all_run : (clocks : List Bus) → AreServed clocks → Runs clocks
 all_run [] are = powered
 all_run (bus ∷ clocks) are = run_on clocks bus are.0 (all_run clocks are.1)
 
@@ -465,7 +465,7 @@ over_of m is = by (nat_eq m.count m.last) refl is
 pub going_of : (m : Motion) → m.count ≡ m.last → going m ≡ 0
 going_of m over = rw (eq-eqb m.count m.last over) refl
 
-none_is : (n : ℕ) → none n ≡ 1 → n ≡ 0
+pub none_is : (n : ℕ) → none n ≡ 1 → n ≡ 0
 none_is zero is = refl
 none_is (suc n) is = let never : none (suc n) ≡ 0 = rw (ne_eqb (suc n) 0 (λ e. absurd (omega arith))) refl in absurd (omega arith)
 

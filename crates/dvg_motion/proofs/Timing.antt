@@ -21,24 +21,24 @@ use Rattle.dvg_motion.proofs.Moves.{last_is, time_small}
 use Rattle.dvg_motion.proofs.Machine.{unserved, in_start, both_none, mux_same, stays, held_rests}
 
 -- the count of a vector that began at this one, of which so many ticks are to come
-abbrev gone : ℕ → ℕ → ℕ
+abbrev pub gone : ℕ → ℕ → ℕ
 gone t k = if nat_le k t then k else t
 
 -- where all is after so many ticks
-record Times (beside : Beside) (own t base k : ℕ) : Type 0 where
-  left : beside.pace.left ≡ own - k
-  ready : none beside.pace.ready ≡ bit (leb k (own + t))
-  last : beside.motion.last ≡ base + t
-  count : beside.motion.count ≡ base + gone t (k - own)
-  kind : (t ≡ 0) ⊎ ((beside.pace.placing ≡ 0) × (base + t ≤ 1024))
+pub record Times (beside : Beside) (own t base k : ℕ) : Type 0 where
+  pub left : beside.pace.left ≡ own - k
+  pub ready : none beside.pace.ready ≡ bit (leb k (own + t))
+  pub last : beside.motion.last ≡ base + t
+  pub count : beside.motion.count ≡ base + gone t (k - own)
+  pub kind : (t ≡ 0) ⊎ ((beside.pace.placing ≡ 0) × (base + t ≤ 1024))
 
-gone_le : (t k : ℕ) → k ≤ t → gone t k ≡ k
+pub gone_le : (t k : ℕ) → k ≤ t → gone t k ≡ k
 gone_le t k h = rw (le-leb k t h) refl
 
 gone_gt : (t k : ℕ) → t < k → gone t k ≡ t
 gone_gt t k h = rw (lt-leb k t h) refl
 
-gone_ge : (t k : ℕ) → t ≤ k → gone t k ≡ t
+pub gone_ge : (t k : ℕ) → t ≤ k → gone t k ≡ t
 gone_ge t k h = choose (cases_lt t k)
   where
     choose : (t < k) ⊎ (k ≤ t) → gone t k ≡ t
@@ -46,24 +46,24 @@ gone_ge t k h = choose (cases_lt t k)
     choose (inr more) = gone_le t k more ∙ (omega arith)
 
 -- a clock of the counter without an event
-counted_on : (m : Motion) (pins : motion.Pins) → pins.vec ≡ 0 → (m.count ≡ m.last) ⊎ (pins.places ≡ 0)
+pub counted_on : (m : Motion) (pins : motion.Pins) → pins.vec ≡ 0 → (m.count ≡ m.last) ⊎ (pins.places ≡ 0)
     → ((motion.clock m pins).last ≡ m.last) × ((motion.clock m pins).count ≡ mux (both (ne m.count m.last) pins.tick) (add 11 m.count 1) m.count)
 counted_on m pins vec (inl over) = (rw vec (mux_same pins.places m.last), rw vec (rw (eq-eqb m.count m.last over) (mux_same pins.places m.count)))
 counted_on m pins vec (inr labs) = (rw vec (rw labs refl), rw vec (rw labs refl))
 
-down : (l : ℕ) → l ≤ 2 → mux (none l) l (sub 2 l 1) ≡ l - 1
+pub down : (l : ℕ) → l ≤ 2 → mux (none l) l (sub 2 l 1) ≡ l - 1
 down zero h = refl
 down (suc zero) h = refl
 down (suc (suc zero)) h = refl
 down (suc (suc (suc n))) h = absurd (omega arith)
 
-none_more : (l : ℕ) → 0 < l → none l ≡ 0
+pub none_more : (l : ℕ) → 0 < l → none l ≡ 0
 none_more l h = rw (ne_eqb l 0 (λ e. absurd (omega arith))) refl
 
-ne_more : (a b : ℕ) → a < b → ne a b ≡ 1
+pub ne_more : (a b : ℕ) → a < b → ne a b ≡ 1
 ne_more a b h = rw (ne_eqb a b (λ e. absurd (omega arith))) refl
 
-ne_same : (a b : ℕ) → a ≡ b → ne a b ≡ 0
+pub ne_same : (a b : ℕ) → a ≡ b → ne a b ≡ 0
 ne_same a b e = rw (eq-eqb a b e) refl
 
 module _ (c : Core) (beside : Beside) (bus : Bus) (idle : IsIdle bus) (own t base k : ℕ) (few : own ≤ 2) (at : Times beside own t base k) where
@@ -169,7 +169,7 @@ module _ (c : Core) (beside : Beside) (bus : Bus) (idle : IsIdle bus) (own t bas
       by (suc zero) e = let same : suc k ≡ k + 1 = omega arith in subst (Times next own t base) same (with_one e)
       by (suc (suc n)) e = let small = idle.tick in absurd (omega arith)
 
-own_few : (jsrl ends : ℕ) → own_ticks jsrl ends ≤ 2
+pub own_few : (jsrl ends : ℕ) → own_ticks jsrl ends ≤ 2
 own_few zero zero = omega arith
 own_few zero (suc e) = rw (ne_eqb (suc e) 0 (λ e. absurd (omega arith))) (omega arith)
 own_few (suc c) ends = rw (ne_eqb (suc c) 0 (λ e. absurd (omega arith))) (omega arith)
@@ -183,7 +183,7 @@ nothing n = omega arith
 pub mux_more : (s a b : ℕ) → mux (suc s) a b ≡ a
 mux_more s a b = rw (ne_eqb (suc s) 0 (λ e. absurd (omega arith))) refl
 
-all_pins : (clocks : List Bus) → AreServed clocks → All ArePins (cores clocks)
+pub all_pins : (clocks : List Bus) → AreServed clocks → All ArePins (cores clocks)
 all_pins [] are = λ k d less. absurd (omega arith)
 all_pins (bus ∷ clocks) are = All-cons ArePins bus.pins (cores clocks) are.0.pins (all_pins clocks are.1)
 
@@ -222,7 +222,7 @@ module _ (clocks : List Bus) (bus : Bus) (are : AreServed (bus ∷ clocks)) (val
   abbrev Begun : ℕ → Type 0
   Begun t = (base : ℕ) × Times taken own0 t base 0
 
-  by_goes : (g : ℕ) → vec c0 bus.pins ≡ g → Begun (vector_ticks g (core.sum c0 bus.pins))
+  pub by_goes : (g : ℕ) → vec c0 bus.pins ≡ g → Begun (vector_ticks g (core.sum c0 bus.pins))
   by_goes zero e =
       let same = stays (after clocks).motion (driven c0 (after clocks) bus) no_place e rest.0 in
       let none_more_left : gone 0 (0 - own0) ≡ 0 = gone_ge 0 (0 - own0) (omega arith) in
@@ -260,7 +260,7 @@ module _ (clocks : List Bus) (bus : Bus) (are : AreServed (bus ∷ clocks)) (val
         },
       )
 
-later_times : (older : List Bus) (own t base : ℕ) → own ≤ 2 → Times (after older) own t base 0 → (later : List Bus) → All IsIdle later
+pub later_times : (older : List Bus) (own t base : ℕ) → own ≤ 2 → Times (after older) own t base 0 → (later : List Bus) → All IsIdle later
     → Times (after (later ++ older)) own t base (ticks_of later)
 later_times older own t base few at [] idle = at
 later_times older own t base few at (b ∷ later) idle =

@@ -31,15 +31,15 @@ zero_or : (a : ℕ) → (a ≡ 0) ⊎ (0 < a)
 zero_or zero = inl refl
 zero_or (suc a) = inr (omega arith)
 
-none_zero : (a : ℕ) → 0 < none a → a ≡ 0
+pub none_zero : (a : ℕ) → 0 < none a → a ≡ 0
 none_zero zero h = refl
 none_zero (suc a) h = let never : none (suc a) ≡ 0 = rw (ne_eqb (suc a) 0 (λ e. absurd (omega arith))) refl in absurd (omega arith)
 
-both_left : (a b : ℕ) → 0 < both a b → 0 < a
+pub both_left : (a b : ℕ) → 0 < both a b → 0 < a
 both_left zero b h = h
 both_left (suc a) b h = omega arith
 
-both_right : (a b : ℕ) → 0 < both a b → 0 < b
+pub both_right : (a b : ℕ) → 0 < both a b → 0 < b
 both_right a zero h = let never = both_none a in absurd (omega arith)
 both_right a (suc b) h = omega arith
 
@@ -59,7 +59,7 @@ either_right a zero is = refl
 either_right zero (suc b) is = let one : some (suc b) ≡ 1 = rw (ne_eqb (suc b) 0 (λ e. absurd (omega arith))) refl in absurd (omega arith)
 either_right (suc a) (suc b) is = let one = either_one (suc a) (suc b) (omega arith) in absurd (omega arith)
 
-one_of : (a : ℕ) → 0 < none a → none a ≡ 1
+pub one_of : (a : ℕ) → 0 < none a → none a ≡ 1
 one_of a h = ap none (none_zero a h)
 
 more_none : (a : ℕ) → 0 < a → none a ≡ 0
@@ -70,7 +70,7 @@ both_one : (a : ℕ) → both a 1 ≡ 0 → a ≡ 0
 both_one zero is = refl
 both_one (suc a) is = let never : both (suc a) 1 ≡ 1 = rw (ne_eqb (suc a) 0 (λ e. absurd (omega arith))) refl in absurd (omega arith)
 
-shut_of : (b : Bool) → bit (not b) ≡ 1 → b ≡ false
+pub shut_of : (b : Bool) → bit (not b) ≡ 1 → b ≡ false
 shut_of true is = absurd (omega arith)
 shut_of false is = refl
 
@@ -131,19 +131,19 @@ ram_small (suc w) place byte undefined ram all small a = rw (ne_eqb (suc w) 0 (�
     by true = small
     by false = all a
 
-record Sound (v : Vectors) : Type 0 where
-  read : v.board.read < 256
-  starting : v.board.starting < 2
-  pending : v.board.pending < 2
-  ram : (a : ℕ) → v.board.ram a < 256
-  asked : v.board.pending ≡ 1 → hold v.pace ≡ 0
-  left : hold v.pace ≡ 0 → v.pace.left ≡ 0
+pub record Sound (v : Vectors) : Type 0 where
+  pub read : v.board.read < 256
+  pub starting : v.board.starting < 2
+  pub pending : v.board.pending < 2
+  pub ram : (a : ℕ) → v.board.ram a < 256
+  pub asked : v.board.pending ≡ 1 → hold v.pace ≡ 0
+  pub left : hold v.pace ≡ 0 → v.pace.left ≡ 0
 
 -- one clock, with its state as Tied has it
-abbrev beside_of : Vectors → Beside
+abbrev pub beside_of : Vectors → Beside
 beside_of v = record { pace = v.pace; motion = v.motion }
 
-abbrev tied_bus : Vectors → Bus → tied_clocks.Bus
+abbrev pub tied_bus : Vectors → Bus → tied_clocks.Bus
 tied_bus v bus = record { pins = core_pins v bus; tick = bus.tick }
 
 abbrev step : Core → Beside → tied_clocks.Bus → Beside
@@ -153,27 +153,27 @@ step c beside bus = record {
 }
 
 module _ (held : ℕ → ℕ) (bytes : AreBytes held) where
-  abbrev tied : List Bus → List tied_clocks.Bus
+  abbrev pub tied : List Bus → List tied_clocks.Bus
   tied [] = []
   tied (bus ∷ clocks) = tied_bus (after held clocks) bus ∷ tied clocks
 
-  cores_is : (clocks : List Bus) → tied_clocks.cores (tied clocks) ≡ cores held clocks
+  pub cores_is : (clocks : List Bus) → tied_clocks.cores (tied clocks) ≡ cores held clocks
   cores_is [] = refl
   cores_is (bus ∷ clocks) = ap (λ k. core_pins (after held clocks) bus ∷ k) (cores_is clocks)
 
-  core_is : (clocks : List Bus) → (after held clocks).board.core ≡ core_after (tied clocks)
+  pub core_is : (clocks : List Bus) → (after held clocks).board.core ≡ core_after (tied clocks)
   core_is [] = refl
   core_is (bus ∷ clocks) = ap (λ c. core.clock c (core_pins (after held clocks) bus)) (core_is clocks)
 
-  beside_is : (clocks : List Bus) → beside_of (after held clocks) ≡ tied_clocks.after (tied clocks)
+  pub beside_is : (clocks : List Bus) → beside_of (after held clocks) ≡ tied_clocks.after (tied clocks)
   beside_is [] = refl
   beside_is (bus ∷ clocks) =
       ap (λ c. step c (beside_of (after held clocks)) (tied_bus (after held clocks) bus)) (core_is clocks)
       ∙ ap (λ b. step (core_after (tied clocks)) b (tied_bus (after held clocks) bus)) (beside_is clocks)
 
-  record Wired (clocks : List Bus) : Type 0 where
-    sound : Sound (after held clocks)
-    served : AreServed (tied clocks)
+  pub record Wired (clocks : List Bus) : Type 0 where
+    pub sound : Sound (after held clocks)
+    pub served : AreServed (tied clocks)
 
   module _ (clocks : List Bus) (bus : Bus) (is : IsBus bus) (was : Wired clocks) where
     abbrev v : Vectors
@@ -238,7 +238,7 @@ module _ (held : ℕ → ℕ) (bytes : AreBytes held) where
       valid = λ e. sym (ap (λ k. hold k.pace) (beside_is clocks)) ∙ was.sound.asked e;
     }
 
-  wired : (clocks : List Bus) → All IsBus clocks → Wired clocks
+  pub wired : (clocks : List Bus) → All IsBus clocks → Wired clocks
   wired [] all = record {
     sound = record { read = omega arith; starting = omega arith; pending = omega arith; ram = bytes; asked = λ e. absurd (omega arith); left = λ e. refl };
     served = tt;
@@ -248,30 +248,30 @@ module _ (held : ℕ → ℕ) (bytes : AreBytes held) where
       let is = All-head IsBus bus clocks all in
       record { sound = sound_now clocks bus is was; served = (served_now clocks bus is was, was.served) }
 
-  follows : (clocks : List Bus) → All IsBus clocks → Follows (cores held clocks) (after held clocks).pace (after held clocks).motion
+  pub follows : (clocks : List Bus) → All IsBus clocks → Follows (cores held clocks) (after held clocks).pace (after held clocks).motion
   follows clocks all =
       let is = follows_tied (tied clocks) (wired clocks all).served in
       subst (λ b. Follows (cores held clocks) b.pace b.motion) (sym (beside_is clocks))
       (subst (λ l. Follows l (tied_clocks.after (tied clocks)).pace (tied_clocks.after (tied clocks)).motion) (cores_is clocks) is)
 
   -- the later clocks
-  abbrev tied_later : List Bus → List Bus → List tied_clocks.Bus
+  abbrev pub tied_later : List Bus → List Bus → List tied_clocks.Bus
   tied_later older [] = []
   tied_later older (bus ∷ later) = tied_bus (after held (later ++ older)) bus ∷ tied_later older later
 
-  tied_both : (later older : List Bus) → tied (later ++ older) ≡ tied_later older later ++ tied older
+  pub tied_both : (later older : List Bus) → tied (later ++ older) ≡ tied_later older later ++ tied older
   tied_both [] older = refl
   tied_both (bus ∷ later) older = ap (λ k. tied_bus (after held (later ++ older)) bus ∷ k) (tied_both later older)
 
-  ticks_same : (later older : List Bus) → ticks_of (tied_later older later) ≡ ticks later
+  pub ticks_same : (later older : List Bus) → ticks_of (tied_later older later) ≡ ticks later
   ticks_same [] older = refl
   ticks_same (bus ∷ later) older = ap (λ n. n + bus.tick) (ticks_same later older)
 
-  all_older : (later older : List Bus) → All IsBus (later ++ older) → All IsBus older
+  pub all_older : (later older : List Bus) → All IsBus (later ++ older) → All IsBus older
   all_older [] older all = all
   all_older (bus ∷ later) older all = all_older later older (All-tail IsBus bus (later ++ older) all)
 
-  idle_all : (older later : List Bus) → All IsBus (later ++ older) → AreIdle held older later → All IsIdle (tied_later older later)
+  pub idle_all : (older later : List Bus) → All IsBus (later ++ older) → AreIdle held older later → All IsIdle (tied_later older later)
   idle_all older [] all idle = All-nil IsIdle
   idle_all older (bus ∷ later) all idle =
       let v = after held (later ++ older) in
@@ -299,7 +299,7 @@ module _ (held : ℕ → ℕ) (bytes : AreBytes held) where
       let asked = both_left b.pending (none bus.reset) first in
       (omega arith, none_zero bus.reset (both_right b.pending (none bus.reset) first), none_zero b.starting (both_right (both b.pending (none bus.reset)) (none b.starting) most))
 
-  starts_in : (b : Board) (bus : board.Bus) → b.starting < 2 → board.starts b bus ≡ 1 → (bus.reset ≡ 0) × (b.starting ≡ 1)
+  pub starts_in : (b : Board) (bus : board.Bus) → b.starting < 2 → board.starts b bus ≡ 1 → (bus.reset ≡ 0) × (b.starting ≡ 1)
   starts_in b bus small starts =
       let high : both b.starting (none bus.reset) ≡ 1 = starts in
       let most : 0 < both b.starting (none bus.reset) = omega arith in

@@ -4,4 +4,5 @@ pub mod Vectors
 pub mod Pulses
 pub mod Shown
 pub mod Machine
+pub mod Times
 pub mod Example

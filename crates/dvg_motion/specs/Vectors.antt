@@ -8,7 +8,7 @@ use Rattle.dvg_motion.specs.Pace as pace
 use Rattle.dvg_motion.specs.Motion.{Motion}
 use Rattle.dvg_motion.specs.Motion as motion
 
--- Yosys 0.23, digest eb4070deddbf3d3a
+-- Yosys 0.23, digest 1f10c98194c795a6
 
 -- the board, the pace, and the motion
 pub record Vectors : Type 0 where

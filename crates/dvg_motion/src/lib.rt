@@ -8,11 +8,12 @@
 //! ticks are, is the arcade emulator's, and no schematic's.
 #![tactic(auto)]
 
-ghost use Rattle.dvg_motion.specs.Example.{SomeMotion};
+ghost use Rattle.dvg_motion.specs.Example.{SomeMotion, SomePicture};
 ghost use Rattle.dvg_motion.specs.Machine.{HaltedTells, MachineFollows, StartTakes, TakesTime};
 ghost use Rattle.dvg_motion.specs.Pulses.{FollowsSvec, FollowsVctr, GoesByPulses, MovesRight};
 ghost use Rattle.dvg_motion.specs.Pulses.{Places, PulsesAre, Shows};
 ghost use Rattle.dvg_motion.specs.Shown.{ShowsParts};
+ghost use Rattle.dvg_motion.specs.Times.{ResetDraws, TakesPicture};
 
 /// In the 2^(s+1) ticks of a vector at scale s, 0 to 9, a rate multiplier gives as many pulses as
 /// the vector is long, in whole units: a magnitude of m moves by (m * 2^s + 256) / 512.
@@ -68,6 +69,20 @@ pub fn start_takes()
     ensures { StartTakes }
 {}
 
+/// A picture's time: from a start where `halted` is high to the next clock in which it is, as many
+/// ticks come as `run_ticks` adds up over the instructions of the run, if it came to a HALT; and
+/// beside them those that came while a byte might be fetched and wasn't taken. Where memory answers
+/// at once there are none of these.
+pub fn takes_picture()
+    ensures { TakesPicture }
+{}
+
+/// After a reset, also amid a vector, the board's flag is high at once, and the pin `halted` as
+/// soon as the ticks came that the vector and its instruction had left: it is drawn to its end.
+pub fn reset_draws()
+    ensures { ResetDraws }
+{}
+
 /// The pins of the whole are those of its parts; until an instruction's own ticks are over it is
 /// dark.
 pub fn vectors_show()
@@ -77,4 +92,10 @@ pub fn vectors_show()
 /// An example: a machine that draws a vector, after which x has moved by one unit.
 pub fn some_motion()
     ensures { SomeMotion }
+{}
+
+/// An example: a picture of a HALT alone, which takes four ticks where memory answers at once. So
+/// the premises of `takes_picture` can be met.
+pub fn some_picture()
+    ensures { SomePicture }
 {}

@@ -1,4 +1,6 @@
-//! Where sections of the ROM are laid.
+//! Where sections of the ROM are laid. A section may overwrite words of `rom` lines, so one can
+//! change a shape of an old ROM. The first free word is the one after the highest, so none lands in
+//! a gap too small for it.
 ghost use Rattle.std.specs.Prelude.{◌≡◌, ◌≤◌, ◌<◌, ◌+◌, ◌^◌, ℕ, List, [], ◌∷◌, ◌++◌, length, max};
 ghost use Rattle.std.specs.Prelude.{unwrap_or, IfNone, IfOk, IfSome, Some};
 ghost use Rattle.dvg_mem.specs.declared.TheConstants.{ROM_END};

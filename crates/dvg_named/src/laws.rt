@@ -1,4 +1,5 @@
-//! Laws of sketches. Each is the contract of a function that does nothing.
+//! Laws of sketches. Each is the contract of a function that does nothing. That a text has a
+//! meaning or a fault is said as "none lacks both": no function tells which without memory.
 ghost use Rattle.dvg_named.specs.SketchLaws.{NoFaultBeside, NoneLacksBoth, OneFault, OneMeaning};
 ghost use Rattle.dvg_named.specs.SketchLaws.{OneSketch, PlainDrafts, TokensAreParts};
 

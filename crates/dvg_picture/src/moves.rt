@@ -1,4 +1,5 @@
-//! What is written of the moves of a run.
+//! What is written of the moves of a run. Moves and whole units are printed of a dump alone: they
+//! are read off the recorded instructions, so no fetch asks for them.
 ghost use Rattle.std.specs.Prelude.{◌≡◌, flat_map, option_to_list};
 ghost use Rattle.dvg_dump.specs.Units.{moves_ahead, setting_out};
 ghost use Rattle.dvg_gen.specs.Moving.{seen_by};

@@ -4,7 +4,7 @@ ghost use Rattle.std.specs.Prelude.{decimal, take};
 ghost use Rattle.dvg_log.specs.Entries.{map_entry};
 ghost use Rattle.dvg_print.specs.Shows.{entry_line};
 
-use crate::digits::{NUMBER_BYTES, count_up};
+use crate::digits::{NUMBER_BYTES, add_one};
 use crate::line::Line;
 use dvg_log::Entry;
 use itoa::Buffer;
@@ -156,7 +156,7 @@ impl EntryLines {
     {
         self.next += 1;
         self.ones = b'0';
-        if !count_up(&mut self.tens, self.count) {
+        if !add_one(&mut self.tens, self.count) {
             (self.tens, self.count) = tens_of(self.next);
         }
     }

@@ -19,7 +19,7 @@ pub enum Reading {
 /// What the judge of moments says of a log, or of a torn run in it.
 #[derive(Clone, Copy, Debug, PartialEq, Eq)]
 pub enum MomentVerdict {
-    /// No run that came to its HALT is of no moment, and no line contradicts. So many runs began,
+    /// Each run that came to its HALT is consistent, and no line contradicts. So many runs began,
     /// so many of them came to their HALT, and so many of these were judged, one or more: they had
     /// fetched past word zero.
     Whole {
@@ -44,7 +44,7 @@ pub enum MomentVerdict {
         line: usize,
         reading: Reading,
     },
-    /// So many runs that came to their HALT are of no moment, each of which was told, and no line
+    /// So many runs that came to their HALT are mixed, each of which was told, and no line
     /// contradicts. So many runs began, and so many of them came to their HALT.
     SomeTorn {
         runs: usize,

@@ -1,4 +1,5 @@
-//! What `check` says of a draft.
+//! What `check` says of a draft. A verdict with the bound is a type of its own, so `check` can't
+//! return one by mistake.
 ghost use Rattle.std.specs.Prelude.{◌≡◌};
 ghost use Rattle.dvg_print.specs.Verdicts.{without_bound};
 

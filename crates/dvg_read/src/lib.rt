@@ -1,5 +1,6 @@
 //! Texts in memory that are read: the lines of numbers, drafts, ROMs and traces, which are the
-//! input of the program `dvg` (all formats are this project's own choice).
+//! input of the program `dvg` (all formats are this project's own choice). What a text means is a
+//! relation to a draft and a ROM (`specs/`), in no order of reading.
 #![tactic(auto)]
 
 mod draft_text;

@@ -1,4 +1,6 @@
-//! What a line of a sketch spells. Names are slices of the text.
+//! What a line of a sketch spells. Names are slices of the text. Others say statement for `Row`,
+//! directive for `Head` and operand for `Doing`: a row gives a name, or takes words, or both; a
+//! head begins a section.
 ghost use Rattle.std.specs.Prelude.{◌≡◌, ◌↔◌, ◌∷◌, ◌++◌, [], ℕ, List, IfSome, IsSomeAnd, IsTrue};
 ghost use Rattle.dvg_read.specs.LineParts.{bytes_of};
 ghost use Rattle.dvg_rows.specs.Rows.{Doing as SpelledDoing, Head as SpelledHead};

@@ -4,10 +4,14 @@ use Rattle.std.proofs.Common.{subst, arith, le-leb, inl, inr}
 use Rattle.std.specs.Prelude.{nat_eq, nat_le, nat_lt, ◌&&◌, ◌||◌, if◌then◌else◌}
 use Rattle.std.proofs.lemmas.Bool.Decides.{eqb_tells}
 use Rattle.dvg_6502.specs.Processor.{Cpu, Access, Reads, Writes, Instr, Mode, Register, Immediate, ZeroPage, ZeroPageX, Absolute, IndirectIndexed}
-use Rattle.dvg_6502.specs.Processor.{A, X, Y, Load, Store, Transfer, And, Or, Xor, Compare, TestBits, Change, Step, ShiftLeft}
-use Rattle.dvg_6502.specs.Processor.{RotateLeft, ShiftLeftA, ShiftRightA, SetCarry, Branch, Jump, Call, Return, Unknown}
+use Rattle.dvg_6502.specs.Processor.{A, X, Y, Load, Store, Transfer, And, Or, Xor, Compare, TestBits, Change, Step}
+use Rattle.dvg_6502.specs.Processor.{Branch, Jump, Call, Return, Unknown}
 use Rattle.dvg_6502.specs.Processor.{flag_place, reads, reading, writing, setting, found, operand, address, of_register, next, bit_of, stack_place}
 use Rattle.dvg_6502.specs.Processor.{does, step, turn, at_return, decoded, opcodes}
+use Rattle.dvg_6502.specs.Processor.{ZeroPageY, AbsoluteX, AbsoluteY, IndexedIndirect, Add, Subtract, ShiftAt, ShiftA}
+use Rattle.dvg_6502.specs.Processor.{Set, JumpAt, PushA, PushFlags, PullA, PullFlags, FromStack, ToStack, Resume}
+use Rattle.dvg_6502.specs.Processor.{Pass, Shift, shifted, Flag, Negative, Zero, Carry, Overflow, Decimal, Interrupt}
+use Rattle.dvg_6502.specs.Processor.{flagging, flags_byte, beside}
 use Rattle.dvg_6502.specs.Amid.{amid, changed, AreHarmless, Guard, guards, is_kept, is_code, is_work}
 use Rattle.dvg_6502.specs.Board.{seen, is_hardware, is_ram, is_own}
 use Rattle.dvg_6502.specs.Calls as calls
@@ -80,10 +84,22 @@ module _ (b old : ℕ) (high : 0x200 ≤ b) (other : nat_eq b flag_place ≡ fal
   reading_keeps ZeroPage cpu h = read_keeps (address ZeroPage cpu) cpu h
   reading_keeps ZeroPageX cpu h = read_keeps (address ZeroPageX cpu) cpu h
   reading_keeps Absolute cpu h = read_keeps (address Absolute cpu) cpu h
+  reading_keeps ZeroPageY cpu h = read_keeps (address ZeroPageY cpu) cpu h
+  reading_keeps AbsoluteX cpu h = read_keeps (address AbsoluteX cpu) cpu h
+  reading_keeps AbsoluteY cpu h = read_keeps (address AbsoluteY cpu) cpu h
+  reading_keeps IndexedIndirect cpu h = read_keeps (address IndexedIndirect cpu) cpu h
   reading_keeps IndirectIndexed cpu h = read_keeps (address IndirectIndexed cpu) cpu h
 
   changing_keeps : (mode : Mode) (byte : ℕ) (cpu : Cpu) → Has cpu → Has (writing (address mode cpu) byte (reading mode cpu))
   changing_keeps mode byte cpu h = write_keeps (address mode cpu) byte (reading mode cpu) (reading_keeps mode cpu h)
+
+  flagging_keeps : (flag : Flag) (to : Bool) (cpu : Cpu) → Has cpu → Has (flagging flag to cpu)
+  flagging_keeps Negative to cpu h = h
+  flagging_keeps Zero to cpu h = h
+  flagging_keeps Carry to cpu h = h
+  flagging_keeps Overflow to cpu h = h
+  flagging_keeps Decimal to cpu h = h
+  flagging_keeps Interrupt to cpu h = h
 
   does_keeps : (instr : Instr) (cpu : Cpu) → Has cpu → Has (does instr cpu)
   does_keeps (Load r mode) cpu h = setting_keeps r (operand mode cpu) (reading mode cpu) (reading_keeps mode cpu h)
@@ -92,21 +108,30 @@ module _ (b old : ℕ) (high : 0x200 ≤ b) (other : nat_eq b flag_place ≡ fal
   does_keeps (And mode) cpu h = reading_keeps mode cpu h
   does_keeps (Or mode) cpu h = reading_keeps mode cpu h
   does_keeps (Xor mode) cpu h = reading_keeps mode cpu h
+  does_keeps (Add mode) cpu h = reading_keeps mode cpu h
+  does_keeps (Subtract mode) cpu h = reading_keeps mode cpu h
   does_keeps (Compare r mode) cpu h = reading_keeps mode cpu h
   does_keeps (TestBits mode) cpu h = reading_keeps mode cpu h
   does_keeps (Change mode by) cpu h = changing_keeps mode ((operand mode cpu + by) % 256) cpu h
   does_keeps (Step r by) cpu h = setting_keeps r ((of_register r cpu + by) % 256) (next 1 cpu) h
-  does_keeps ShiftLeft cpu h = changing_keeps ZeroPage (2 * operand ZeroPage cpu % 256) cpu h
-  does_keeps RotateLeft cpu h = changing_keeps ZeroPage ((2 * operand ZeroPage cpu + bit_of cpu.c) % 256) cpu h
-  does_keeps ShiftLeftA cpu h = h
-  does_keeps ShiftRightA cpu h = h
-  does_keeps (SetCarry to) cpu h = h
+  does_keeps (ShiftAt shift mode) cpu h = changing_keeps mode (shifted shift cpu.c (operand mode cpu)) cpu h
+  does_keeps (ShiftA shift) cpu h = h
+  does_keeps (Set flag to) cpu h = flagging_keeps flag to (next 1 cpu) h
   does_keeps (Branch flag when) cpu h = h
   does_keeps Jump cpu h = h
   does_keeps Call cpu h = write_keeps (stack_place (cpu.s + 255)) ((cpu.pc + 2) % 256)
       (writing (stack_place cpu.s) ((cpu.pc + 2) / 256) cpu)
       (write_keeps (stack_place cpu.s) ((cpu.pc + 2) / 256) cpu h)
   does_keeps Return cpu h = h
+  does_keeps JumpAt cpu h = read_keeps (beside cpu) (reads (address Absolute cpu) cpu) (read_keeps (address Absolute cpu) cpu h)
+  does_keeps PushA cpu h = write_keeps (stack_place cpu.s) cpu.a cpu h
+  does_keeps PushFlags cpu h = write_keeps (stack_place cpu.s) (flags_byte true cpu) cpu h
+  does_keeps PullA cpu h = h
+  does_keeps PullFlags cpu h = h
+  does_keeps FromStack cpu h = h
+  does_keeps ToStack cpu h = h
+  does_keeps Resume cpu h = h
+  does_keeps Pass cpu h = h
   does_keeps Unknown cpu h = h
 
   turn_keeps : (s : ℕ) (cpu : Cpu) → Has cpu → Has (turn s cpu)

@@ -1,5 +1,5 @@
 -- What is reported of what an engine answers.
-use Rattle.std.proofs.Common.{◌≡◌, ◌∙◌, ℕ, List, [], ◌∷◌, Option, None, Some, Result, Ok, Err, All, refl, subst, sym}
+use Rattle.std.proofs.Common.{◌≡◌, ◌∙◌, ℕ, List, [], ◌∷◌, Option, None, Some, Result, All, refl, subst, sym}
 use Rattle.std.specs.Prelude.{IfSome}
 use Rattle.std.proofs.lemmas.List.Elements.{All-cons, All-head, All-nil, All-tail}
 use Rattle.dvg_io.specs.Serving.{Meaning}
@@ -7,14 +7,12 @@ use Rattle.dvg_io.specs.declared.fault.ToolFault.{ToolFault}
 use Rattle.dvg_job.specs.declared.task.Job.{Job}
 use Rattle.dvg_lay.specs.Checks.{IsGoodVerdict, SaysGood}
 use Rattle.dvg_lay.specs.declared.verdicts.FrameVerdict.{FrameVerdict}
-use Rattle.dvg_logs.specs.Tears.{Takes, Tears}
-use Rattle.dvg_print.specs.declared.log_verdict.LogVerdict.{LogVerdict}
 use Rattle.dvg_print.specs.declared.verdict.BoundedVerdict.{BoundedVerdict}
 use Rattle.dvg_print.specs.declared.verdict.BoundedVerdict.TheVariants as bounded
 use Rattle.dvg_tool.specs.declared.outcome.Done.{Done}
 use Rattle.dvg_tool.specs.declared.outcome.Done.TheVariants.{Good, Bad}
-use Rattle.dvg_tool.specs.Jobs.{IsJudged, TakesRightly, task_of}
-use Rattle.dvg_tool.specs.Reports.{IsReported, Reports, and_of, of_frames, of_log}
+use Rattle.dvg_tool.specs.Jobs.{task_of}
+use Rattle.dvg_tool.specs.Reports.{IsReported, Reports, and_of, of_frames}
 
 -- where the input is known, so is what is reported of it
 pub reports : {A V : Type 0} (done : V → Done A) (Means : Meaning V) (answer : Result V ToolFault) (report : Result (Done A) ToolFault)
@@ -33,21 +31,6 @@ reports_at job asked same done Means answer report None old new kept is means = 
 reports_at job asked same done Means answer report (Some input) old new kept is means =
     subst (λ j. (task_of j).Means report input old new) (sym same)
     (kept input (record { answer = answer; means = means; reported = is }))
-
--- what is taken of a log, of which the right thing is said
-pub taken_rightly : {A : Type 0} (base : Option ℕ) (answer : Result LogVerdict ToolFault)
-    (report : Result (Done A) ToolFault) (known old new old_written new_written : Option (List ℕ))
-    → IsReported of_log answer report → IfSome known (λ input. Tears base answer input old_written new_written)
-    → IfSome known (λ input. Takes base answer input old new)
-    → IfSome known (λ input. Reports of_log (TakesRightly base) report input old new)
-taken_rightly base answer report None old new old_written new_written is tears takes = tt
-taken_rightly base answer report (Some input) old new old_written new_written is tears takes =
-    record { answer = answer; means = (judged answer tears, takes); reported = is }
-  where
-    judged : (answer : Result LogVerdict ToolFault) → Tears base answer input old_written new_written
-        → IsJudged base answer input
-    judged (Ok verdict) tears = tears.0
-    judged (Err fault) tears = tt
 
 -- a good verdict leaves it to the others, and one that isn't good doesn't
 and_good : {A : Type 0} (verdict : BoundedVerdict) (others : Done A) → SaysGood verdict → and_of verdict others ≡ others

@@ -15,7 +15,7 @@ use Rattle.dvg_io.proofs.Inputs.{Read, whole, whole_or_long}
 use Rattle.dvg_print.specs.Lines.{rom_text}
 use Rattle.dvg_tool.specs.Roms.{HasRomFault, HasRomSize, IsRomFault, IsRomOf, WritesRom, words_text}
 use Rattle.dvg_tool.proofs.RomLines.{text_of_words}
-use Rattle.dvg_tool.specs.Lists.{IsListable, Lists, ListsAt, ListsWords, ListsWordsAt}
+use Rattle.dvg_tool.specs.Lists.{IsListable, Lists, ListsWords}
 use Rattle.dvg_read.specs.declared.fault.TextFault.TheVariants.{TooLong, Cut, RomSize, Syntax, Full}
 use Rattle.dvg_read.specs.declared.fault.Unread.{Unread}
 use Rattle.dvg_read.specs.declared.fault.Unread.TheVariants as unread
@@ -30,37 +30,21 @@ pub odd : (known : Option (List ℕ)) (read : List ℕ) → Read MOST_LIST_BYTES
 odd None read e h o = tt
 odd (Some input) read e h o = let same = ap length (whole MOST_LIST_BYTES read input e h) in (omega arith, omega arith)
 
-listed : {T : Type 0} (answer : Result T ToolFault) (input : List ℕ) (old new : Option (List ℕ)) → IsListable input → ListsWords answer (words_of input) old new → Lists answer input old new
-listed (Ok done) input old new w h = (w, h)
-listed (Err (Text (Cut place))) input old new w h = (w, h)
-listed (Err (Text _)) input old new w h = absurd h
-listed (Err Reader) input old new w h = absurd h
-listed (Err Writer) input old new w h = (w, h)
-listed (Err Memory) input old new w h = absurd h
+listed : {T : Type 0} (at : ℕ) (answer : Result T ToolFault) (input : List ℕ) (old new : Option (List ℕ)) → IsListable input → ListsWords at answer (words_of input) old new → Lists at answer input old new
+listed at (Ok done) input old new w h = (w, h)
+listed at (Err (Text (Cut place))) input old new w h = (w, h)
+listed at (Err (Text _)) input old new w h = absurd h
+listed at (Err Reader) input old new w h = absurd h
+listed at (Err Writer) input old new w h = (w, h)
+listed at (Err Memory) input old new w h = absurd h
 
-pub lists : {T : Type 0} (answer : Result T ToolFault) (known old new : Option (List ℕ)) (read : List ℕ) → Read MOST_LIST_BYTES known read → length read ≤ MOST_LIST_BYTES → length read % 2 ≡ 0
-    → ListsWords answer (words_of read) old new → IfSome known (λ input. Lists answer input old new)
-lists answer None old new read e h o w = tt
-lists answer (Some input) old new read e h o w =
+pub lists : {T : Type 0} (at : ℕ) (answer : Result T ToolFault) (known old new : Option (List ℕ)) (read : List ℕ) → Read MOST_LIST_BYTES known read → length read ≤ MOST_LIST_BYTES → length read % 2 ≡ 0
+    → ListsWords at answer (words_of read) old new → IfSome known (λ input. Lists at answer input old new)
+lists at answer None old new read e h o w = tt
+lists at answer (Some input) old new read e h o w =
     let same = whole MOST_LIST_BYTES read input e h in
     let n = ap length same in
-    listed answer input old new (omega arith, omega arith) (subst (λ l. ListsWords answer (words_of l) old new) same w)
-
-listed_at : {T : Type 0} (at : ℕ) (answer : Result T ToolFault) (input : List ℕ) (old new : Option (List ℕ)) → IsListable input → ListsWordsAt at answer (words_of input) old new → ListsAt at answer input old new
-listed_at at (Ok done) input old new w h = (w, h)
-listed_at at (Err (Text (Cut place))) input old new w h = (w, h)
-listed_at at (Err (Text _)) input old new w h = absurd h
-listed_at at (Err Reader) input old new w h = absurd h
-listed_at at (Err Writer) input old new w h = (w, h)
-listed_at at (Err Memory) input old new w h = absurd h
-
-pub lists_at : {T : Type 0} (at : ℕ) (answer : Result T ToolFault) (known old new : Option (List ℕ)) (read : List ℕ) → Read MOST_LIST_BYTES known read → length read ≤ MOST_LIST_BYTES → length read % 2 ≡ 0
-    → ListsWordsAt at answer (words_of read) old new → IfSome known (λ input. ListsAt at answer input old new)
-lists_at at answer None old new read e h o w = tt
-lists_at at answer (Some input) old new read e h o w =
-    let same = whole MOST_LIST_BYTES read input e h in
-    let n = ap length same in
-    listed_at at answer input old new (omega arith, omega arith) (subst (λ l. ListsWordsAt at answer (words_of l) old new) same w)
+    listed at answer input old new (omega arith, omega arith) (subst (λ l. ListsWords at answer (words_of l) old new) same w)
 
 -- of another size than a ROM has, so is what was read
 wrong_size : (input read : List ℕ) → read ≡ take (LARGE_ROM_BYTES + 1) input → ¬ HasRomSize read → ¬ HasRomSize input

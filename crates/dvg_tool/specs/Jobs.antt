@@ -1,5 +1,5 @@
 -- What is done for a job.
-use Rattle.std.specs.Prelude.{◌+◌, ℕ, List, Option, Result, Ok, Err, IfSome, IsErrAnd}
+use Rattle.std.specs.Prelude.{◌+◌, ℕ, List, Option, Result, IfSome, IsErrAnd}
 use Rattle.std.specs.Prelude.{false, true}
 use Rattle.dvg_io.specs.Faults.{ComesBeforeText, StopsBeforeWriting}
 use Rattle.dvg_io.specs.Serving.{Meaning}
@@ -11,18 +11,16 @@ use Rattle.dvg_lay.specs.DrawnSketches.{Draws}
 use Rattle.dvg_lay.specs.Sketches.{Lays}
 use Rattle.dvg_logs.specs.AllTears.{AllTakes, AllTears}
 use Rattle.dvg_logs.specs.MomentTears.{MomentTakes, MomentTears}
-use Rattle.dvg_logs.specs.LogTexts.{JudgesLog}
 use Rattle.dvg_logs.specs.Tears.{Takes, Tears}
-use Rattle.dvg_print.specs.declared.log_verdict.LogVerdict.{LogVerdict}
 use Rattle.dvg_picture.specs.Pictures.{Pictures}
 use Rattle.dvg_picture.specs.Svgs.{DrawsSvg}
-use Rattle.dvg_tool.specs.Lists.{Lists, ListsAt}
+use Rattle.dvg_tool.specs.Lists.{Lists}
 use Rattle.dvg_tool.specs.Roms.{WritesRom}
 use Rattle.dvg_tool.specs.Checks.{Checks, ChecksBound}
 use Rattle.dvg_tool.specs.Plays.{Plays, StopsBeforeShowing}
 use Rattle.dvg_tool.specs.PlaysSvg.{PlaysSvg}
-use Rattle.dvg_tool.specs.Reports.{Reports, of_bounded, of_explained, of_frames, of_log, of_made, of_moments, of_outcome}
-use Rattle.dvg_tool.specs.Reports.{of_undrawn, of_verdict, written}
+use Rattle.dvg_tool.specs.Reports.{Reports, of_bounded, of_explained, of_frames, of_log, of_made, of_moments}
+use Rattle.dvg_tool.specs.Reports.{of_outcome, of_undrawn, of_verdict, written}
 use Rattle.dvg_tool.specs.declared.outcome.Done.{Done}
 use Rattle.dvg_job.specs.declared.task.Job.{Job}
 use Rattle.dvg_job.specs.declared.task.Job.TheVariants.{List as list_job, ListAt, Rom, Picture, PictureSvg, Check}
@@ -60,19 +58,10 @@ judging IsEarly done Means Takes = record {
 abbrev pub NeverEarly : ToolFault → Type 0
 NeverEarly fault = ⊥
 
--- what is said of a log is right
-abbrev pub IsJudged : (base : Option ℕ) → Result LogVerdict ToolFault → (input : List ℕ) → Type 0
-IsJudged base (Ok verdict) input = JudgesLog base input verdict
-IsJudged base (Err fault) input = Unit {0}
-
--- what is taken of a log of which the right thing is said: no more than a piece after the line that decides
-abbrev pub TakesRightly : (base : Option ℕ) → Meaning LogVerdict
-TakesRightly base answer input old new = IsJudged base answer input × Takes base answer input old new
-
 -- what is kept of each job
 abbrev pub task_of : {A : Type 0} → Job → Task A
-task_of list_job = served MOST_LIST_BYTES StopsBeforeWriting written (Lists {T = Unit {0}})
-task_of (ListAt address) = served MOST_LIST_BYTES StopsBeforeWriting written (ListsAt {T = Unit {0}} address)
+task_of list_job = served MOST_LIST_BYTES StopsBeforeWriting written (Lists {T = Unit {0}} 0)
+task_of (ListAt address) = served MOST_LIST_BYTES StopsBeforeWriting written (Lists {T = Unit {0}} address)
 task_of Rom = served LARGE_ROM_BYTES ComesBeforeText written (WritesRom {T = Unit {0}})
 task_of (Picture form) = served LARGE_DUMP_BYTES ComesBeforeText of_outcome (Pictures form)
 task_of (PictureSvg percent) = served LARGE_DUMP_BYTES ComesBeforeText of_undrawn (DrawsSvg percent)
@@ -80,7 +69,7 @@ task_of (Check false) = served MOST_TEXT_BYTES ComesBeforeText of_verdict Checks
 task_of (Check true) = served MOST_TEXT_BYTES ComesBeforeText of_bounded ChecksBound
 task_of (Play all banked) = served MOST_TEXT_BYTES StopsBeforeShowing written (Plays {T = Unit {0}} all)
 task_of (PlaySvg banked show) = served MOST_TEXT_BYTES ComesBeforeText written (PlaysSvg {T = Unit {0}} show)
-task_of (Torn Halves base) = judging StopsBeforeWriting of_log (Tears base) (TakesRightly base)
+task_of (Torn Halves base) = judging StopsBeforeWriting of_log (Tears base) (Takes base)
 task_of (Torn Moments base) = judging StopsBeforeWriting of_moments (MomentTears base) (MomentTakes base)
 task_of (Torn AllMoments base) = judging NeverEarly of_moments (AllTears base) (AllTakes base)
 task_of {A} (Render show) = served MOST_TEXT_BYTES ComesBeforeText of_made (Draws {A = A} show)

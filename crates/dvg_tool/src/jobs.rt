@@ -4,8 +4,7 @@ ghost use Rattle.dvg_tool.specs.Jobs.{task_of};
 ghost use Rattle.dvg_io.specs.Watching.{failures_of, stream_of};
 
 use crate::checks::{check_bound, check_text};
-use crate::lists::list;
-use crate::lists_at::list_at;
+use crate::lists::{list, list_at};
 use crate::outcome::Done;
 use crate::plays::{play, play_in};
 use crate::plays_svg::play_svg_in;

@@ -42,9 +42,9 @@ pub fn finish<A: Allocator, W: Write>(
 /// Returns the program's exit status for `answer` (this project's own choice):
 ///
 /// - 0: the job is done.
-/// - 1: a fault of the text, or what was asked about isn't good: a draft that `check` refuses, also
-///   in a sketch, a dump that draws no picture, a log with a torn picture or of which no run can
-///   be judged.
+/// - 1: a fault of the text, or the answer is no: a draft that `check` refuses, also in a sketch, a
+///   dump that draws no picture, a log with a torn picture, one that contradicts itself, or one
+///   that has nothing to judge.
 /// - 2: a stream or an allocation failed.
 ///
 /// Arguments that ask for no job are 64, which no engine returns.

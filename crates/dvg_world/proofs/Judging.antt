@@ -23,7 +23,7 @@ use Rattle.dvg_log.specs.Legal.{IsLegal}
 use Rattle.dvg_world.specs.Runs.{log_of}
 use Rattle.dvg_log.specs.Torn.{IsFirstTorn, IsTorn, IsUntorn}
 use Rattle.dvg_world.specs.Judging.{FitsRun, IsRunIn, StandsAfter}
-use Rattle.dvg_world.specs.own.Leaving.{behind, left_by}
+use Rattle.dvg_world.specs.own.Leaving.{run_after, left_by}
 use Rattle.dvg_theorem.proofs.Headline.{never_torn}
 use Rattle.dvg_world.proofs.WholeRuns.{log_of-more, log_of-none}
 
@@ -89,17 +89,17 @@ none_torn drawing not log event (Acted (Wrote a byte)) draws torn =
 none_torn drawing not log event entry draws torn = absurd torn
 
 -- the open run after a line
-open_behind : (log : Log) (event : Happening) (entry : Shown) → behind entry (left_by event (open_run log)) ≡ open_run ((event ⟼ entry) ∷ log)
-open_behind log event Started = refl
-open_behind log ResetGen entry = refl
-open_behind log (ResetAll bytes) entry = refl
-open_behind log event entry = refl
+open_run_after : (log : Log) (event : Happening) (entry : Shown) → run_after entry (left_by event (open_run log)) ≡ open_run ((event ⟼ entry) ∷ log)
+open_run_after log event Started = refl
+open_run_after log ResetGen entry = refl
+open_run_after log (ResetAll bytes) entry = refl
+open_run_after log event entry = refl
 
 -- what is drawn after a line
-pub drawn_behind : (old left new : Drawing) (log : Log) (event : Happening) (entry : Shown) → FitsRun old (open_run log) → ((run : Run) → FitsRun old run → FitsRun left (left_by event run))
-    → ((run : Run) → FitsRun left run → FitsRun new (behind entry run)) → FitsRun new (open_run ((event ⟼ entry) ∷ log))
-drawn_behind old left new log event entry draws leaves goes =
-    subst (FitsRun new) (open_behind log event entry) (goes (left_by event (open_run log)) (leaves (open_run log) draws))
+pub drawn_after : (old left new : Drawing) (log : Log) (event : Happening) (entry : Shown) → FitsRun old (open_run log) → ((run : Run) → FitsRun old run → FitsRun left (left_by event run))
+    → ((run : Run) → FitsRun left run → FitsRun new (run_after entry run)) → FitsRun new (open_run ((event ⟼ entry) ∷ log))
+drawn_after old left new log event entry draws leaves goes =
+    subst (FitsRun new) (open_run_after log event entry) (goes (left_by event (open_run log)) (leaves (open_run log) draws))
 
 -- ---- the log of a part of the entries
 

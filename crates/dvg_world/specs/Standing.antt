@@ -1,4 +1,5 @@
--- After which logs a world stands.
+-- After which logs a world stands. That it stands after a log includes that the log is legal: so
+-- one premise serves each clause of `apply`.
 use Rattle.std.specs.Prelude.{◌≡◌, ℕ, Bool, List, [], ◌∷◌, slice_index, Option}
 use Rattle.dvg_gen.specs.Machine as generator
 use Rattle.dvg_gen.specs.Machine.{Machine}

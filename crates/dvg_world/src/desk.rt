@@ -1,12 +1,13 @@
-//! A driver at its desk.
+//! A driver at its desk. Others call it a checked driver.
 ghost use Rattle.std.specs.Prelude.{◌≡◌, ◌≢◌, ◌↔◌, length, IfOk, IsErrOf, IsOk, IsTrue, OnErr};
 ghost use Rattle.std.specs.Prelude.{OnOk};
 ghost use Rattle.dvg_mem.specs.declared.TheConstants.{LARGE_ROM_BYTES, MEMORY_BYTES};
+ghost use Rattle.dvg_driver.specs.Saved.{IsState, stage_in};
 ghost use Rattle.dvg_driver.specs.Script.{IsWhole};
 ghost use Rattle.dvg_world.specs.Desks.{IsFresh, OfferAnswers, OfLives, RedrawAnswers, TickAnswers};
 
 use dvg_code::OutOfMemory;
-use dvg_driver::{Action, Driver, DriverFault};
+use dvg_driver::{Action, Driver, DriverFault, DriverState};
 use dvg_frame::{Checker, Op};
 use dvg_log::Entry;
 use dvg_mem::{MemFault, Rom};
@@ -114,6 +115,25 @@ impl<A: Allocator> Desk<A> {
         ensures idle { result ≡ Action.Idle → self.new ≡ self.old }
     {
         self.driver.tick(halted, byte1)
+    }
+
+    /// Returns all that the driver keeps.
+    pub fn state(&self) -> DriverState
+        ensures { self.now.stage ≡ stage_in result }
+    {
+        self.driver.state()
+    }
+
+    /// Brings the driver into `state`, and returns `true`: it goes on as the one whose state this
+    /// is. Returns `false` exactly where the parts of `state` don't fit together over this ROM, and
+    /// then nothing has changed.
+    pub fn resume(&mut self, state: &DriverState) -> bool
+        ensures taken { IsTrue result ↔ IsState self.old.rom state.now }
+        ensures stage { IsTrue result
+            → self.new ≡ record { rom = self.old.rom; stage = stage_in state.now } }
+        ensures refused { (IsTrue result → ⊥) → self.new ≡ self.old }
+    {
+        self.driver.resume(state, &mut self.checker, &self.rom)
     }
 
     /// Resets the driver.

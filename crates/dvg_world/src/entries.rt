@@ -1,4 +1,4 @@
-//! The entries of events, in little room.
+//! The entries of events, in little room. Others call this a run-length encoding.
 ghost use Rattle.std.specs.Prelude.{◌≡◌, ◌≤◌, length};
 ghost use Rattle.dvg_log.specs.declared.trace.TheConstants.{MOST_EVENTS};
 

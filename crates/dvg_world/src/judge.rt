@@ -14,7 +14,7 @@ ghost use Rattle.dvg_world.specs.Runs.{log_of};
 ghost use Rattle.dvg_log.specs.Torn.{IsFirstTorn, IsTorn, IsUntorn};
 ghost use Rattle.dvg_mem.specs.declared.half.Half.{Half};
 ghost use Rattle.dvg_world.specs.Judging.{FitsRun, StandsAfter, draws_half};
-ghost use Rattle.dvg_world.specs.own.Leaving.{behind, left_by};
+ghost use Rattle.dvg_world.specs.own.Leaving.{run_after, left_by};
 
 use dvg_driver::Action;
 use dvg_log::{Entry, Event, OwnEntry, OwnEvent};
@@ -60,7 +60,7 @@ impl Drawing {
     // Returns what is drawn after the fetch of `word` at `address`.
     fn after_fetch(self, address: u16, word: u16) -> Drawing
         ensures { (run : Option (List (ℕ × ℕ))) → FitsRun self run
-            → FitsRun result (behind (Fetched address word) run) }
+            → FitsRun result (run_after (Fetched address word) run) }
     {
         match self {
             Drawing::Begun => Drawing::from_first(address, word),
@@ -71,7 +71,7 @@ impl Drawing {
     // Returns what is drawn after `entry`.
     fn after_entry<A: Allocator>(self, entry: &OwnEntry<A>) -> Drawing
         ensures { (run : Option (List (ℕ × ℕ))) → FitsRun self run
-            → FitsRun result (behind (shown_of entry.now) run) }
+            → FitsRun result (run_after (shown_of entry.now) run) }
     {
         match entry {
             Entry::Started => Drawing::Begun,

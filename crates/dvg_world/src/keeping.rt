@@ -1,4 +1,6 @@
-//! Traces that happen to a world, and what is kept of them.
+//! Traces that happen to a world, and what is kept of them. One loop lets a trace happen, and a
+//! `Keeper` has what is kept of it. It is lent the world, as a contract can't speak of what was
+//! moved into a method of a trait.
 ghost use Rattle.std.specs.Prelude.{◌≡◌, ◌+◌, ◌^◌, ◌<◌, ◌≤◌, ◌∷◌, ◌++◌, [], List, ℕ, length};
 ghost use Rattle.std.specs.Prelude.{IsTrue, None, OnErr, OnOk, replicate};
 ghost use Rattle.dvg_gen.specs.declared.stroke.Stroke.{Stroke};
@@ -30,8 +32,8 @@ pub(crate) trait Keeper<S: Store> {
     fn passes_over(&self, event: TraceEvent<'_, S::Alloc>) -> bool
         ensures { IsTrue result → IsPassedOver (IsKept self.now) (seen_as event.entry) };
 
-    // Keeps the next line, the line number `number`, of `entry`, the newest one of `world`. The
-    // picture may be taken out. There must be room.
+    // Records line `number` of the log: `entry`, which `world` just returned. The picture may be
+    // taken out. There must be room.
     fn keep(&mut self, number: usize, entry: Entry<()>, world: &mut World<S>)
         requires { 1 ≤ room self.old }
         ensures kept { (event : Happening) (log : Log) → IsKept self.old log → length log ≡ number

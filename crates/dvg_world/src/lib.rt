@@ -15,6 +15,7 @@ mod keeping;
 mod logging;
 mod pictures;
 mod runs;
+mod state;
 mod stopped;
 mod world;
 
@@ -26,5 +27,6 @@ pub use judge::{Judge, first_torn};
 pub use logging::{Logged, log_trace};
 pub use pictures::{Drawn, Picture, draw_trace};
 pub use runs::{run, run_trace};
+pub use state::WorldState;
 pub use stopped::Stopped;
 pub use world::World;

@@ -1,9 +1,12 @@
-//! The world: both ends of the vector RAM, one event at a time.
+//! The world: both ends of the vector RAM, one event at a time. It keeps the picture, and its
+//! entries have none: so memory is used again. Who needs the strokes takes them out, as `apply`
+//! does.
 ghost use Rattle.std.specs.Prelude.{◌≡◌, ◌≢◌, ◌↔◌, ◌<◌, ℕ, List, [], length, IfOk};
 ghost use Rattle.std.specs.Prelude.{IsErrOf, IsOk, IsSome, IsTrue, None, OnErr, OnOk, slice_index};
 ghost use Rattle.dvg_mem.specs.Memory.{IsImage};
 ghost use Rattle.dvg_mem.specs.declared.TheConstants.{LARGE_ROM_BYTES, MEMORY_BYTES};
 ghost use Rattle.dvg_gen.specs.Machine.{HasTaken};
+ghost use Rattle.dvg_driver.specs.Saved.{stage_in};
 ghost use Rattle.dvg_driver.specs.Script.{IsWhole};
 ghost use Rattle.dvg_driver.specs.Stands.{IsInRam};
 ghost use Rattle.dvg_frame.specs.Ops.{IsDraft};
@@ -17,6 +20,7 @@ ghost use Rattle.dvg_log.specs.Legal.{IsLegal};
 ghost use Rattle.dvg_log.specs.Log.{Log};
 ghost use Rattle.dvg_log.specs.Traces.{BringsDraft, seen_as};
 ghost use Rattle.dvg_world.specs.Desks.{OfLives};
+ghost use Rattle.dvg_world.specs.Saved.{GoesOnAs, IsState, world_in};
 ghost use Rattle.dvg_world.specs.Standing.{AddsLine, ChangesNothing, DrawsNow};
 ghost use Rattle.dvg_world.specs.Standing.{KeepsHeadlineAfter, KeepsLogs, OfBeam, OfHistory, OfRam};
 ghost use Rattle.dvg_world.specs.Standing.{WorldAfter, picture_left, shown_in};
@@ -24,8 +28,9 @@ ghost use Rattle.dvg_world.specs.own.Stepping.{IsDrawnBy, WantsMemory, ram_by, s
 ghost use Rattle.dvg_world.specs.Wanting.{TakesMemory};
 
 use crate::desk::Desk;
+use crate::state::WorldState;
 use dvg_code::OutOfMemory;
-use dvg_driver::Action;
+use dvg_driver::{Action, DriverState};
 use dvg_frame::{Draft, Op};
 use dvg_gen::{Beam, Generator, Stroke};
 use dvg_log::{Entry, Event, OwnEntry, OwnEvent, TraceEvent};
@@ -372,6 +377,21 @@ impl<S: Store> World<S> {
         &self.generator
     }
 
+    /// Returns all that the driver keeps.
+    pub fn driver(&self) -> DriverState
+        ensures { self.now.stage ≡ stage_in result }
+    {
+        self.desk.state()
+    }
+
+    /// Returns whether a strobe is under way: the driver has sent one since the newest reset of the
+    /// whole system.
+    pub fn strobe_sent(&self) -> bool
+        ensures { result ≡ self.now.sent }
+    {
+        self.strobe_sent
+    }
+
     /// Returns the picture: the strokes of the newest run that came to a HALT, in the order drawn.
     /// There are none before the first HALT, and after the picture was taken.
     pub fn picture(&self) -> &[Stroke]
@@ -402,6 +422,63 @@ impl<S: Store> World<S> {
             Entry::Done(..) => Some(self.take_picture()),
             _ => None,
         }
+    }
+
+    /// Returns all that the world keeps but its ROM and its picture, as a value that `resume`
+    /// takes. It is copied into memory of the world's allocator. Returns `OutOfMemory` where an
+    /// allocation fails.
+    pub fn state(&self) -> Result<WorldState<S::Alloc>, OutOfMemory>
+        ensures { IfOk result (λ state. self.now
+            ≡ world_in self.now.rom state self.now.machine.picture) }
+    {
+        let mut strokes = Vec::new(self.alloc);
+        strokes.extend_from_slice(self.generator.strokes())?;
+        Ok(WorldState {
+            ram: self.image()?,
+            generator: self.generator.state(),
+            strokes,
+            driver: self.desk.state(),
+            strobe_sent: self.strobe_sent,
+        })
+    }
+
+    // Returns a copy of the RAM. Returns `OutOfMemory` where an allocation fails.
+    fn image(&self) -> Result<Image<S::Alloc>, OutOfMemory>
+        ensures { IfOk result (λ image. image ≡ self.now.ram) }
+    {
+        let Ok(image) = Image::new(self.alloc, &self.ram()) else {
+            return Err(OutOfMemory);
+        };
+        Ok(image)
+    }
+
+    /// Brings the world into `state`, and returns `true`: it goes on as each world over this ROM
+    /// that was in `state` (`stands`). The ROM stays, and so does the picture. Returns `false`
+    /// exactly where the generator's state isn't valid or the parts of the driver's don't fit
+    /// together, and then nothing has changed. Of parts that fit, and that no world had at once,
+    /// nothing is said. That a state of a world over the same ROM is always taken is tested, not
+    /// proved.
+    pub fn resume(&mut self, state: WorldState<S::Alloc>) -> bool
+        ensures taken { IsTrue result ↔ IsState self.old.rom state }
+        ensures state { IsTrue result
+            → self.new ≡ world_in self.old.rom state self.old.machine.picture }
+        ensures stands { IsTrue result → GoesOnAs self.old.rom state self.new }
+        ensures refused { (IsTrue result → ⊥) → self.new ≡ self.old }
+    {
+        let WorldState {
+            ram,
+            generator,
+            strokes,
+            driver,
+            strobe_sent,
+        } = state;
+        if !generator.is_valid() || !self.desk.resume(&driver) {
+            return false;
+        }
+        self.store.load(&ram);
+        self.generator.resume(&generator, strokes);
+        self.strobe_sent = strobe_sent;
+        true
     }
 
     /// Resets the generator, as by `Event::ResetGen`. Returns the entry.

@@ -68,11 +68,15 @@ fn a_closed_device_has_an_answer_to_each_request(rt: HostRuntime) {
     for code in 23..29 {
         assert_eq!(rt; device.turn(code), 24, "{code}");
     }
-    assert_eq!(rt; device.turn(31), 24);
-    for code in 32..35 {
+    for code in [31, 32, 33, 38] {
+        assert_eq!(rt; device.turn(code), 24, "{code}");
+    }
+    // A phase over 6 is that of no driver.
+    assert_eq!(rt; device.turn(0x0726), 254);
+    for code in [36, 37] {
         assert_eq!(rt; device.turn(code), 254, "{code}");
     }
-    for code in 36..256 {
+    for code in 39..256 {
         assert_eq!(rt; device.turn(code), 254, "{code}");
     }
 }

@@ -16,7 +16,7 @@ const SHAPES: &str = ".rom\nrock: return\nship: return\nshot: return\n";
 /// A log that is torn, of which two lines are written.
 const TORN: &str = "started\nfetched 000 E201\nwrote 402 90\n";
 
-/// A log of two runs that are of no moment.
+/// A log of two runs that are mixed.
 const TWICE_TORN: &str = "\
 started
 fetched 001 0101

@@ -107,7 +107,7 @@ pub const GOOD: &str = "labs 0 0 0\nhalt\n";
 /// A log that isn't torn, so that it is read to its end.
 pub const LOG: &str = "started\n\nfetched 000 E201\nlow 201 00\nhalted\nwrote 402 90\n";
 
-/// A log with addresses of a processor. Its run is of no moment, which is known at its last line.
+/// A log with addresses of a processor. Its run is mixed, which is known at its last line.
 pub const TORN_LOG: &str = "started\nfetched 001 0101\nwrote 4002 05\nfetched 001 0105\nhalted";
 
 /// A sketch, and one with a frame that is refused.

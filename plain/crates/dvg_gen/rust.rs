@@ -20,18 +20,48 @@ impl<A: Allocator + Copy + Default> Default for Generator<A> {
 /// The number of the request that tells a part of a state: the lowest byte of each part.
 const TELLS: u64 = 35;
 
-/// The bytes that a saved state begins with: a name and a version.
+/// The bytes that a saved state begins with, and one of a generator whose stack wraps: a name and a
+/// version.
 const NAME: [u8; 4] = *b"DVG\x01";
+const WRAPPING_NAME: [u8; 4] = *b"DVR\x01";
 
 impl GeneratorState {
     /// Returns the state as bytes, those that `dvg_save` of `dvg.h` writes, with `strokes` as what
     /// its open run drew so far; where no run is open, `strokes` aren't part of it. Returns
     /// `OutOfMemory` where an allocation fails.
     pub fn to_bytes(&self, strokes: &[Stroke]) -> Result<Vec<u8>, OutOfMemory> {
+        self.named(NAME, strokes)
+    }
+
+    /// Returns the state of which `bytes` are, as `to_bytes` or `dvg_save` wrote them, and what its
+    /// open run drew so far: `Generator::resume` takes both. Returns `None` exactly where
+    /// `dvg_restore` refuses the bytes as those of a generator, and `OutOfMemory` where an
+    /// allocation fails.
+    pub fn from_bytes(
+        bytes: &[u8],
+    ) -> Result<Option<(GeneratorState, Vec<Stroke>)>, OutOfMemory> {
+        GeneratorState::of_named(NAME, bytes)
+    }
+
+    /// As `to_bytes`, of a `WrappingGenerator`.
+    pub fn to_wrapping_bytes(&self, strokes: &[Stroke]) -> Result<Vec<u8>, OutOfMemory> {
+        self.named(WRAPPING_NAME, strokes)
+    }
+
+    /// As `from_bytes`, of a `WrappingGenerator`, whose state has four return addresses.
+    pub fn from_wrapping_bytes(
+        bytes: &[u8],
+    ) -> Result<Option<(GeneratorState, Vec<Stroke>)>, OutOfMemory> {
+        let told = GeneratorState::of_named(WRAPPING_NAME, bytes)?;
+        Ok(told.filter(|(state, _)| state.return_addresses.is_full()))
+    }
+
+    /// Returns the state as bytes that begin with `name`.
+    fn named(&self, name: [u8; 4], strokes: &[Stroke]) -> Result<Vec<u8>, OutOfMemory> {
         let drawn = if self.is_open { strokes } else { &[] };
         let count = 2 + self.return_addresses.len() + 2 * drawn.len();
         let mut bytes = Vec::with_capacity(Global, 8 * (count + 1))?;
-        put(&mut bytes, u64::from(u32::from_le_bytes(NAME)) | (count as u64) << 32)?;
+        put(&mut bytes, u64::from(u32::from_le_bytes(name)) | (count as u64) << 32)?;
         put(&mut bytes, self.fields())?;
         for address in self.return_addresses.iter() {
             put(&mut bytes, TELLS | 1 << 8 | u64::from(*address) << 16)?;
@@ -44,10 +74,9 @@ impl GeneratorState {
         Ok(bytes)
     }
 
-    /// Returns the state of which `bytes` are, as `to_bytes` or `dvg_save` wrote them, and what its
-    /// open run drew so far: `Generator::resume` takes both. Returns `None` exactly where
-    /// `dvg_restore` refuses the bytes, and `OutOfMemory` where an allocation fails.
-    pub fn from_bytes(
+    /// Returns the state of which `bytes` are, if they begin with `name`, and its strokes.
+    fn of_named(
+        name: [u8; 4],
         bytes: &[u8],
     ) -> Result<Option<(GeneratorState, Vec<Stroke>)>, OutOfMemory> {
         let Some((&[d, v, g, version, ref count @ ..], parts)) = bytes.split_first_chunk::<8>() else {
@@ -55,7 +84,7 @@ impl GeneratorState {
         };
         let is_whole = Ok(8 * u64::from(u32::from_le_bytes(*count))) == u64::try_from(parts.len());
         let begins = parts.starts_with(&[TELLS as u8, 0]);
-        if [d, v, g, version] != NAME || !is_whole || !begins {
+        if [d, v, g, version] != name || !is_whole || !begins {
             return Ok(None);
         }
         let (mut state, mut strokes) = (GeneratorState::default(), Vec::new(Global));
@@ -119,6 +148,16 @@ impl GeneratorState {
         }
     }
 }
+
+/// States are equal where all that they have is.
+impl PartialEq for GeneratorState {
+    fn eq(&self, other: &GeneratorState) -> bool {
+        let rest = |it: &GeneratorState| (it.is_open, it.at, it.held, it.low, it.x, it.y, it.scale);
+        rest(self) == rest(other) && self.return_addresses == other.return_addresses
+    }
+}
+
+impl Eq for GeneratorState {}
 
 /// As of a new generator.
 impl Default for GeneratorState {

@@ -6,9 +6,9 @@
 //! A [`Draft`] is a frame in the making. A [`World`] is both ends over one memory, and has a call
 //! for each event; a [`Driver`] and a [`Generator`] are each end alone. A [`Judge`] says which
 //! write tears a picture of two halves, and a [`MomentJudge`] whether a picture of any system is
-//! torn. [`dump`], [`read`], [`named`] and [`sketch`] have what is read: a memory, and texts. The
-//! page of each of these types has an example, and so have [`dump::Dump`], [`read::read_trace`],
-//! [`named::read_sketch`] and [`sketch::draft_of`].
+//! torn. [`dump`], [`read`], [`sketch`] and [`steps`] have what is read, a memory and texts, and
+//! frames by names. The page of each of these types has an example, and so have [`dump::Dump`],
+//! [`read::read_trace`], [`sketch::read_sketch`] and [`steps::draft_of`].
 //!
 //! A place is in 1/512 of a screen unit, 0 to 2,097,151 along both axes, y upwards; a LABS names
 //! whole screen units, 0 to 4,095. An intensity is 0 (nothing is seen) to 15. A word address is 000
@@ -51,7 +51,7 @@ pub use dvg_code::*;
 pub use dvg_mem::*;
 // What has an example below is named there; the pages of rustdoc show it where no `*` brings it,
 // too.
-pub use dvg_driver::{Action, DriverFault};
+pub use dvg_driver::{Action, DriverFault, DriverState, Phase};
 pub use dvg_frame::{BadOp, Checked, Checker, Cursor, DraftFull, Frame, FrameFault, MAX_OPS, Op};
 pub use dvg_frame::{OpKind, Place, check};
 pub use dvg_gen::{Beam, Counters, GenFault, GeneratorState, Move, STACK_DEPTH, Step};
@@ -109,6 +109,31 @@ pub use dvg_frame::Draft;
 ///
 #[doc(inline)]
 pub use dvg_world::World;
+
+/// All that a world keeps but its ROM and its picture: it is saved so, and goes on.
+///
+/// ```
+/// use gerbilargent::{WorldState, prelude::*};
+///
+/// let ram = Image::new(Global, &[0; 2048])?;
+/// let mut world = World::<Flat>::new(Global, Rom::new(Global, &[0; 2048])?, &ram)?;
+/// world.tick();
+/// let saved = world.state()?.to_bytes()?; // Those of `dvg_save`, which a file may have.
+/// let later = world.tick();
+///
+/// let mut other = World::<Flat>::new(Global, Rom::new(Global, &[0; 2048])?, &ram)?;
+/// let state = WorldState::from_bytes(&saved)?.ok_or("that is no saved world")?;
+/// assert!(other.resume(state)); // `false`: its parts don't fit, or the ROM refuses its frame.
+/// assert_eq!(other.tick(), later);
+/// # Ok::<(), Box<dyn std::error::Error>>(())
+/// ```
+///
+/// A state belongs to its ROM, which isn't in it and isn't compared: over another one a run of the
+/// world may draw something else, end by `Entry::Broke`, or never end. A strobe that was sent may
+/// not have arrived yet: where `world.generator().halted()`, let it arrive.
+///
+#[doc(inline)]
+pub use dvg_world::WorldState;
 
 /// The driver alone, over a RAM of yours.
 ///

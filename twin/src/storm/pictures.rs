@@ -101,7 +101,7 @@ fn op_at(place: Place, draft: &[Op], rom: &Rom) -> Option<Op> {
 }
 
 /// The place after an operation.
-fn behind(place: Place, op: Op) -> Place {
+fn after(place: Place, op: Op) -> Place {
     match place {
         Place::Op(i) => Place::Op(i + 1),
         Place::Word(a) => Place::Word(a + op.words() as u16),
@@ -117,7 +117,7 @@ pub fn picture(draft: &[Op], rom: &Rom) -> Result<Picture, String> {
     for _ in 0..MOST_STEPS {
         let op = op_at(place, draft, rom).ok_or("the draft runs off")?;
         picture.words += op.words();
-        let next = behind(place, op);
+        let next = after(place, op);
         place = match op {
             Op::Vctr { scale, dx, dy, z } => {
                 picture.strokes.extend(beam.moved(scale, dx, dy, z));

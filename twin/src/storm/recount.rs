@@ -145,7 +145,7 @@ pub fn recount(schedule: &Schedule, output: &str) -> Result<Counts, String> {
             .map_err(|fault| format!("at event {number}: {fault}"))?;
     }
     if recount.lines.next().is_some() {
-        return Err("there are lines behind the last event".to_owned());
+        return Err("there are lines after the last event".to_owned());
     }
     recount.counts.events = schedule.events.len() as u64;
     recount.counts.showing = u64::from(recount.counts.pictures > 0);

@@ -174,6 +174,6 @@ pub record IsCalled (inside rest new : Drawn) : Type 0 where
   pub goes_on : inside.end ≡ Returns
       → (new.end ≡ rest.end) × (inside.words + rest.words + 1 < 2 ^ 64 → new.words ≡ inside.words + rest.words + 1)
   pub returns : new.returns ≡ rest.returns
-  pub behind : rest.calls ≤ new.calls
+  pub rest_calls : rest.calls ≤ new.calls
   pub deeper : new.calls < 255 → inside.calls < new.calls
   pub least : (most : ℕ) → rest.calls ≤ most → inside.calls < most → new.calls ≤ most

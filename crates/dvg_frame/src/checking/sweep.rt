@@ -37,12 +37,12 @@ fn spread(list: &mut Worklist, way: Way, depth: u8)
                 place: target,
                 depth: depth + 1,
             };
-            let behind = Pair {
+            let past = Pair {
                 place: after,
                 depth,
             };
             list.add(inside);
-            list.add(behind);
+            list.add(past);
         }
         Way::Return | Way::Halt => {}
     }

@@ -12,9 +12,9 @@ left_by (ResetAll bytes) run = None
 left_by event run = run
 
 -- the run after an entry
-abbrev pub behind : Shown → Option (List (ℕ × ℕ)) → Option (List (ℕ × ℕ))
-behind Started run = Some []
-behind (Fetched address word) run = option_map (λ fetches. (address, word) ∷ fetches) run
-behind (Done address word strokes) run = None
-behind (Broke address fault) run = None
-behind entry run = run
+abbrev pub run_after : Shown → Option (List (ℕ × ℕ)) → Option (List (ℕ × ℕ))
+run_after Started run = Some []
+run_after (Fetched address word) run = option_map (λ fetches. (address, word) ∷ fetches) run
+run_after (Done address word strokes) run = None
+run_after (Broke address fault) run = None
+run_after entry run = run

@@ -12,17 +12,14 @@ use clap::error::ErrorKind;
 use dvg_explain::{Explained, explain_line};
 use dvg_io::read_up_to;
 use dvg_tool::{
-    Done, Job, LogRule, MOST_TEXT_BYTES, TextFault, ToolFault, Watched, arguments_status, finish,
-    job, perform, status,
+    Done, Job, LogRule, MISUSE, MOST_TEXT_BYTES, TextFault, ToolFault, Watched, arguments_status,
+    finish, job, perform, status,
 };
 use std::alloc::Global;
 use std::io::{BufWriter, IsTerminal, Read, Write};
 use std::process::ExitCode;
 use std::{env, io};
 use told::Told;
-
-/// The exit status of arguments that can't be read as text.
-const MISUSE: u8 = 64;
 
 /// The most bytes of output that are kept, to be written together.
 const OUTPUT_BYTES: usize = 65_536;

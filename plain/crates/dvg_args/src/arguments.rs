@@ -1,7 +1,9 @@
 //! What the arguments of the program ask for.
 use crate::command::command;
-use crate::drawing::{list_job, picture_job, play_job, render_job};
+use crate::common::common_job;
+use crate::drawing::{picture_job, play_job, render_job};
 use crate::laying::lay_job;
+use crate::listing::list_job;
 use crate::logging::torn_job;
 use crate::misuse::misuse;
 use crate::options::is_set;
@@ -74,6 +76,9 @@ fn matched<'a>(alloc: Global, arguments: &'a [&'a str]) -> Result<ArgMatches<'a>
 /// refusal of arguments that ask for nothing the program can do, or a failed allocation
 /// (`OutOfMemory`). Its text is its `Display`.
 pub fn job<'a>(alloc: Global, arguments: &'a [&'a str]) -> Result<Job, Error> {
+    if let Some(job) = common_job(arguments) {
+        return Ok(job);
+    }
     let matches = match matched(alloc, arguments) {
         Ok(matches) => matches,
         Err(error) => return Err(error),

@@ -6,9 +6,6 @@ pub(crate) const VERSION: &str = "0.9.0 (proved)";
 /// How the program is called.
 pub(crate) const USAGE: &str = "dvg COMMAND [OPTIONS] < INPUT";
 
-/// The help of the option for a size.
-pub(crate) const SCALE: &str = "Show pictures in this size in percent, 10 to 400 [default: 100]";
-
 /// What the program's help prints after its commands.
 pub(crate) const PROGRAM: &str =
     "Each command reads standard input and writes standard output. `dvg help COMMAND`
@@ -17,9 +14,9 @@ A fault of the input is printed on standard error, after `dvg: `.
 
 Exit status:
    0  done, or a help text or the version that was asked for
-   1  a fault of the input, or what was asked about isn't good: a draft that may
-      not be drawn, also in a sketch, a dump that draws no picture, a log with a
-      torn picture, one that contradicts itself, or one that says too little
+   1  a fault of the input, or the answer is no: an invalid draft or frame, a dump
+      that draws no picture, a log with a torn picture, one that contradicts
+      itself, or one that has nothing to judge
    2  a failing read or write, or out of memory
   64  arguments that ask for nothing the program can do: a file is no argument,
       it is read by `<`
@@ -105,9 +102,9 @@ them: along each axis a vector of d in 1/512 counts (|d| + 256) / 512, rounded d
 with the sign of d, also where nothing is seen, and a LABS sets the count.
 
 With `--svg` standard output is the picture as SVG, in which at 100 percent a
-screen unit is a pixel. Of a run that broke or is endless it has the strokes up
-to there, and `broke HHH F` or `endless` as its title, which standard error tells,
-too. The status is 1 wherever there is no picture.
+screen unit is a pixel. If the run breaks or never ends, the SVG has the strokes
+so far; its title, also on standard error, says why: `broke HHH F` or `endless`.
+The status is 1 wherever there is no picture.
 
 Fault: `dump size N: wanted are 4096 or 6144 bytes` for N bytes, any other number;
 N is `6145 or more` for more than 6,144.
@@ -147,7 +144,7 @@ most 511, which are numbered from 0:
 With scales that add up to 9, moves are in units of the screen; each step less
 halves them, and from 10 to 15 nothing moves (scales add up modulo 16).
 
-Exactly one space parts two parts of a line, and numbers have no leading zeros.
+Parts of a line are separated by one space, and numbers have no leading zeros.
 An empty line and a line that begins with `#` are passed over.
 
 Standard output: `ok W words` for a draft that may be drawn, and with `--bound`
@@ -260,8 +257,8 @@ have the addresses of the generator all the same.
 
 Take `torn` alone for a system that draws one half of the RAM while it writes the
 other: it names the first byte that breaks this. Take `torn --moments` for any
-other system, with one buffer or many: it says whether each run drew what stood in
-memory at one moment.
+other system, with one buffer or many: it says whether each run is consistent, or
+mixes two states of memory.
 
 A half of the RAM is being drawn from the first word that a run fetched on, if
 that is word 000, a jump to the half, until the run ends. Half 0 is bytes 002 to
@@ -270,13 +267,14 @@ that is word 000, a jump to the half, until the run ends. Half 0 is bytes 002 to
 Standard output: `torn at line N: wrote HHH HH` for the first byte that is
 written in the half being drawn, and on a line of its own what was seen so far;
 else `not torn: R runs, D drew a half, H halted, W writes`. Where no run drew a
-half, nothing could be torn, and it is `no run drew a half: ..`: often word zero
-isn't logged after `started`, or the bytes of it are swapped. Lines are numbered
-from 1. Nothing is judged after the first line that is torn or at fault.
+half, nothing could be torn, and it is `no run drew a half: ..`. Usual causes: the
+log omits word zero after `started`, or swaps its bytes. Lines are numbered from 1.
+Nothing is judged after the first line that is torn or at fault.
 
-With `--moments` it is `torn at line N: ..` for the first run that comes to its
-HALT and is of no moment: no byte that it reads may change between its moment and
-its reading, and by line N, which is shown, no such moment was left. It is
+With `--moments` it is `torn at line N: ..` for the first finished run that is
+mixed: at no moment did memory hold all that it read. A moment is ruled out if a
+byte that the run reads changes between the moment and its reading. Line N, which
+is shown, is the read that ruled out the last one. It is
 `line N reads what was not written: ..` for the first line that reads another byte
 than the log told last of it: of the RAM, of the ROM, or of the low byte that was
 told of this very word. Else it is `whole: R runs, H halted, J judged`, where H
@@ -289,8 +287,8 @@ there counts as changed.
 
 With `--moments --all` there is a line `torn at line N: ..` for each such run, and
 at the end `in all: R runs, H halted, T torn`, or what is said where none is torn.
-A line that reads what was not written ends it: then somebody writes who isn't in
-the log. At a fault the lines before it are written.
+It stops at a read that contradicts the log: something unlogged wrote that byte.
+At a fault the lines before it are written.
 
 Fault: `syntax at line N`. The status is 0 for `not torn` and `whole`, and 1 for
 all else that is said of a log.
@@ -325,13 +323,13 @@ it of a draft, after the frame's name and a colon, if it has one. Where the run 
 the frame fetches at most 65,536 words, the line goes on with its vectors, its other
 instructions, and how many microseconds the arcade emulator counts for all of them:
 2^(s+1) * 8 / 12.096 + 4 for a vector of an effective scale s of 0 to 9, and 4 for
-each other instruction and vector. Nothing is said of real hardware. A size and a
-rate then say nothing. The status is 1 where a frame may not be drawn.
+each other instruction and vector. Nothing is said of real hardware. `--scale` and
+`--rate` have no effect then. The status is 1 where a frame may not be drawn.
 
 Without `--check` nothing is written of a sketch with such a frame: standard error
 tells the line at fault, or the word of the ROM and the name before it, with the
-fault, and the status is 1. So it is where the run of a frame fetches more than
-65,536 words.
+fault, and the status is 1. The same happens if a frame takes more than 65,536
+words to draw.
 
 Faults of the text: those that `dvg help lay` tells.
 
@@ -360,8 +358,8 @@ pub(crate) const LAY: &str = "Standard input: a sketch as text, at most 1,048,57
                     `map 4096`, and else 800
   NAME:             names the next operation; one may stand on the same line
   labs X Y S ..     an operation as in a draft, at most 511 in a frame
-  call NAME         call an operation of the same frame, or in the ROM one of it;
-  call N            a frame may also tell its number
+  call NAME         call an operation of this frame; below `.rom`, of the ROM.
+  call N            A frame may also tell its number
   jump NAME         go on there
   jump N
   callrom NAME      call an operation of the ROM, or the word at an address
@@ -405,9 +403,8 @@ line at fault the first of these:
   out of rom at line N         it begins before the ROM's first word, or goes past
                                C00
   overlap at line N            it lies on a word of another `.rom`
-  unknown name at line N       it wants a name that isn't given where it is looked
-                               for; this one comes after the faults of all other
-                               lines
+  unknown name at line N       it uses a name that isn't given in its frame or in
+                               the ROM; reported only if no line has another fault
 
 Lines are numbered from 1. After the number stands the text of the line, and a
 second line tells what was expected.

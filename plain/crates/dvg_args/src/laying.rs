@@ -1,12 +1,36 @@
-//! What the options of `lay` ask for. They exclude each other, which is this project's own choice.
+//! The subcommand `lay`, and what its options ask for. They exclude each other, which is this
+//! project's own choice.
+use crate::command::{helped, with_flag, with_value};
+use crate::help;
 use crate::options::is_set;
-use clap::ArgMatches;
 use clap::error::ErrorKind;
+use clap::{ArgMatches, Command};
 use dvg_job::{Job, LayForm};
 use dvg_mem::Half;
+use std::alloc::{AllocError, Global};
 
-// Returns how many of `half`, `table`, `rom`, `equates` and `draft` are given.
-fn given_count(half: bool, table: bool, rom: bool, equates: bool, draft: bool) -> u8 {
+/// Which values `--half` takes.
+pub(crate) const HALF_TAKES: &str = "'--half' takes 0 or 1";
+
+/// Returns the subcommand `lay`.
+pub(crate) fn lay_command<'a>(alloc: Global) -> Result<Command<'a>, AllocError> {
+    let about = "Lay out the frames of a sketch";
+    let lay = helped(alloc, "lay", about, help::LAY_USAGE, help::LAY);
+    let half = "Write the frames as they lie in this half [default: 0]";
+    let with_half = with_value(alloc, lay, "half", "0|1", half)?;
+    let table = "Write the frames as text for the assembler ca65";
+    let with_table = with_flag(alloc, with_half, "table", table)?;
+    let rom = "Write the bytes of the ROM";
+    let with_rom = with_flag(alloc, with_table, "rom", rom)?;
+    let equates = "Write the names of the ROM with their addresses";
+    let with_equates = with_flag(alloc, with_rom, "equates", equates)?;
+    let draft = "Write the frames as drafts without names, as check and play read them";
+    with_flag(alloc, with_equates, "draft", draft)
+}
+
+// Returns how many forms are asked for, by `half`, `table`, `rom`, `equates` and `draft`. One is
+// the most that `lay` takes.
+fn forms_wanted(half: bool, table: bool, rom: bool, equates: bool, draft: bool) -> u8 {
     u8::from(half) + u8::from(table) + u8::from(rom) + u8::from(equates) + u8::from(draft)
 }
 
@@ -57,7 +81,7 @@ fn lay_form(found: &ArgMatches) -> Result<LayForm, ErrorKind> {
     let rom = is_set(found, "rom");
     let equates = is_set(found, "equates");
     let draft = is_set(found, "draft");
-    if given_count(half.is_some(), table, rom, equates, draft) > 1 {
+    if forms_wanted(half.is_some(), table, rom, equates, draft) > 1 {
         return Err(ErrorKind::ArgumentConflict);
     }
     match form_by(table, rom, equates, draft, half) {

@@ -1,8 +1,26 @@
-//! What the options of `torn` ask for.
+//! The subcommand `torn`, and what its options ask for.
+use crate::command::{helped, with_flag, with_value};
+use crate::help;
 use crate::options::{hex_in, is_set};
-use clap::ArgMatches;
 use clap::error::ErrorKind;
+use clap::{ArgMatches, Command};
 use dvg_job::{Job, LogRule};
+use std::alloc::{AllocError, Global};
+
+/// Which values `--base` takes.
+pub(crate) const BASE_TAKES: &str = "'--base' takes an address of four hexadecimal digits";
+
+/// Returns the subcommand `torn`.
+pub(crate) fn torn_command<'a>(alloc: Global) -> Result<Command<'a>, AllocError> {
+    let about = "Say whether a log tears a picture, and where";
+    let torn = helped(alloc, "torn", about, help::TORN_USAGE, help::TORN);
+    let moments = "Say whether each run is consistent, for any system";
+    let with_moments = with_flag(alloc, torn, "moments", moments)?;
+    let all = "With --moments, tell each torn run, not the first alone";
+    let with_all = with_flag(alloc, with_moments, "all", all)?;
+    let base = "Bytes are written at the processor's addresses, of a RAM from here on";
+    with_value(alloc, with_all, "base", "HHHH", base)
+}
 
 // Returns the rule that the flags `--moments` and `--all` ask for.
 fn rule_of(moments: bool, all: bool) -> LogRule {

@@ -1,6 +1,9 @@
 //! The error of options that are refused after the matching.
 use crate::help;
-use crate::options::has_scale;
+use crate::laying::HALF_TAKES;
+use crate::listing::AT_TAKES;
+use crate::logging::BASE_TAKES;
+use crate::showing::{RATE_TAKES, SCALE_TAKES, has_scale};
 use clap::error::ErrorKind;
 use clap::{ArgMatches, Command, Error};
 use std::alloc::Global;
@@ -39,17 +42,17 @@ fn clash_of(name: &str) -> &'static str {
 // refused.
 fn range_of(name: &str, found: Option<&ArgMatches>) -> &'static str {
     if name == "list" {
-        return "'--at' takes an address of three hexadecimal digits";
+        return AT_TAKES;
     }
     if name == "torn" {
-        return "'--base' takes an address of four hexadecimal digits";
+        return BASE_TAKES;
     }
     if name == "lay" {
-        return "'--half' takes 0 or 1";
+        return HALF_TAKES;
     }
     match found {
-        Some(found) if has_scale(found) => "'--rate' takes a number from 1 to 60",
-        _ => "'--scale' takes a number from 10 to 400",
+        Some(found) if has_scale(found) => RATE_TAKES,
+        _ => SCALE_TAKES,
     }
 }
 

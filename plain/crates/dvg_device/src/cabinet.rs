@@ -1,4 +1,5 @@
-//! A world, beside the image that it is reset to.
+//! A world, beside the image that it is reset to. Others say state for `Cabinet`, mode for `Part`
+//! and standalone for `lone`.
 use dvg_mem::{Flat, Image, Rom};
 use dvg_world::World;
 use std::alloc::Global;

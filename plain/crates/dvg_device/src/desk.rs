@@ -1,4 +1,5 @@
-//! A driver alone.
+//! A driver alone. It has a ROM, over which drafts are checked: the headline is of one ROM, that of
+//! the generator.
 use crate::reply::Reply;
 use crate::request::Request;
 use dvg_frame::Draft;

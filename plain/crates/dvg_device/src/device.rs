@@ -3,6 +3,7 @@ use std::prelude::*;
 
 use crate::cabinet::Cabinet;
 use crate::desk::{ask_driver, tick_driver};
+use crate::driver::DriverFields;
 use crate::happening::{ask_world, fetch_world, fetch_world_high, tell_world, tick_world};
 use crate::judging::ask_judge;
 use crate::lone::{ask_generator, fetch_high, fetch_number, tell, wanted};
@@ -12,11 +13,11 @@ use crate::request::{Question, Request};
 use crate::waiting::Waiting;
 use crate::wrapping::{ask_wrapping, fetch_wrapping, tell_wrapping, wanted_wrapping};
 use dvg_frame::Draft;
-use dvg_gen::{Generator, Stroke, WrappingGenerator};
+use dvg_gen::{Generator, GeneratorState, Stroke, WrappingGenerator};
 use dvg_log::Entry;
-use dvg_mem::{LARGE_ROM_BYTES, MEMORY_BYTES, Rom};
+use dvg_mem::{Flat, Image, LARGE_ROM_BYTES, MEMORY_BYTES, Rom};
 use dvg_moment::MomentJudge;
-use dvg_world::Desk;
+use dvg_world::{Desk, World, WorldState};
 use std::alloc::Global;
 use std::mem;
 
@@ -74,9 +75,9 @@ impl Device {
             Request::Ask(_) => self.turn_ask(request),
             Request::Push(_) => self.turn_push(request),
             Request::Stage { .. } => self.turn_stage(request),
-            Request::StrokeFrom(_) | Request::StrokeTo(_) | Request::StrokeIntensity(_) => {
-                self.turn_stroke(request)
-            }
+            Request::StrokeFrom(_) => self.turn_stroke_from(request),
+            Request::StrokeTo(_) => self.turn_stroke_to(request),
+            Request::StrokeIntensity(_) => self.turn_stroke_intensity(request),
             _ => self.turn_seldom(request),
         }
     }
@@ -125,15 +126,34 @@ impl Device {
         self.stage(byte, count).number()
     }
 
-    // Does `request` as `turn` does. It is made for parts of strokes: others go to `turn_seldom`.
+    // Does `request` as `turn` does. It is made for the beginnings of strokes: others go to
+    // `turn_seldom`.
     #[inline(never)]
-    fn turn_stroke(&mut self, request: u64) -> u64 {
-        match Request::of(request) {
-            Request::StrokeFrom(i) => self.stroke_from(i).number(),
-            Request::StrokeTo(i) => self.stroke_to(i).number(),
-            Request::StrokeIntensity(i) => self.stroke_intensity(i).number(),
-            _ => self.turn_seldom(request),
-        }
+    fn turn_stroke_from(&mut self, request: u64) -> u64 {
+        let Request::StrokeFrom(i) = Request::of(request) else {
+            return self.turn_seldom(request);
+        };
+        self.stroke_from(i).number()
+    }
+
+    // Does `request` as `turn` does. It is made for the ends of strokes: others go to
+    // `turn_seldom`.
+    #[inline(never)]
+    fn turn_stroke_to(&mut self, request: u64) -> u64 {
+        let Request::StrokeTo(i) = Request::of(request) else {
+            return self.turn_seldom(request);
+        };
+        self.stroke_to(i).number()
+    }
+
+    // Does `request` as `turn` does. It is made for the intensities of strokes: others go to
+    // `turn_seldom`.
+    #[inline(never)]
+    fn turn_stroke_intensity(&mut self, request: u64) -> u64 {
+        let Request::StrokeIntensity(i) = Request::of(request) else {
+            return self.turn_seldom(request);
+        };
+        self.stroke_intensity(i).number()
     }
 
     // Does `request` as `turn` does. It is made for questions: others go to `turn_seldom`.
@@ -170,7 +190,9 @@ impl Device {
             Request::OpenWrapping => self.open_wrapping(),
             Request::OpenJudge => self.open_judge(),
             Request::Resume => self.resume(),
+            Request::ResumeWrapping => self.resume_wrapping(),
             Request::TellState(word) => self.tell_state(word),
+            Request::ResumeWorld(fields) => self.resume_world(fields),
             Request::Close => self.close(),
             Request::CountStrokes => Reply::Count(self.picture().len() as u64),
             Request::StrokeFrom(i) => self.stroke_from(i),
@@ -280,6 +302,33 @@ impl Device {
         }
     }
 
+    // Opens a generator whose stack wraps in the state that was told.
+    #[inline(never)]
+    fn resume_wrapping(&mut self) -> Reply {
+        match self.waiting.wrapping(self.alloc) {
+            Some(generator) => self.open(Part::Wrapping(generator)),
+            None => Reply::NoState,
+        }
+    }
+
+    // Has the world that is open go on in the state that was told, with `fields` of its driver.
+    #[inline(never)]
+    fn resume_world(&mut self, fields: DriverFields) -> Reply {
+        match &mut self.part {
+            Part::World(cabinet) => {
+                if self.staged.len() != MEMORY_BYTES {
+                    return Reply::WrongSize;
+                }
+                let Ok(ram) = Image::new(self.alloc, self.staged.as_slice()) else {
+                    return Reply::NoMemory;
+                };
+                let told = self.waiting.take_told(self.alloc);
+                resumed(&mut cabinet.world, ram, told, fields, &self.draft)
+            }
+            _ => self.ask(Request::ResumeWorld(fields)),
+        }
+    }
+
     // Takes the part of a state that `word` is.
     #[inline(never)]
     fn tell_state(&mut self, word: u64) -> Reply {
@@ -309,11 +358,21 @@ impl Device {
         Reply::Closed
     }
 
-    // Returns the strokes of the newest run of what is open that came to a HALT.
+    // Returns the strokes of the newest run of what is open that came to a HALT. It is made for
+    // worlds: others go to `picture_of_any`.
     #[inline(always)]
     fn picture(&self) -> &[Stroke] {
         match &self.part {
             Part::World(cabinet) => cabinet.world.picture(),
+            _ => self.picture_of_any(),
+        }
+    }
+
+    // Returns what `picture` does.
+    #[inline(never)]
+    fn picture_of_any(&self) -> &[Stroke] {
+        match &self.part {
+            Part::World(open) => open.world.picture(),
             Part::Generator(generator) => generator.picture(),
             Part::Wrapping(generator) => generator.generator().picture(),
             Part::Nothing | Part::Driver(_) | Part::Judge(_) => &[],
@@ -429,6 +488,30 @@ impl Device {
             Part::Wrapping(generator) => ask_wrapping(generator, request),
             Part::Judge(judge) => ask_judge(judge, request),
         }
+    }
+}
+
+// Has `world` go on with a RAM that holds `ram`, with the generator's state and strokes `told`, and
+// with `fields` of its driver, whose frame is `draft`. Returns the reply.
+fn resumed(
+    world: &mut World<Flat>,
+    ram: Image,
+    told: (GeneratorState, Vec<Stroke>),
+    fields: DriverFields,
+    draft: &Draft,
+) -> Reply {
+    let (generator, strokes) = told;
+    let state = WorldState {
+        ram,
+        generator,
+        strokes,
+        driver: fields.state(draft.copy()),
+        strobe_sent: fields.strobe_sent,
+    };
+    if world.resume(state) {
+        Reply::Opened
+    } else {
+        Reply::NoState
     }
 }
 

@@ -1,5 +1,7 @@
 //! What happens in a world.
+use crate::driver::DriverFields;
 use crate::lone::tell;
+use crate::operation::Operation;
 use crate::reply::Reply;
 use crate::request::{Question, Request};
 use dvg_frame::Draft;
@@ -35,9 +37,15 @@ pub(crate) fn ask_world(
 pub(crate) fn tell_world(world: &World<Flat>, question: Question) -> Reply {
     match question {
         Question::Byte(address) => byte_of(world, address),
-        Question::State(_) => Reply::Unknown,
-        question => tell(world.generator(), question),
+        Question::Driver => driver_of(world),
+        Question::Operation(i) => operation_of(world, i),
+        question => tell_generator(world, question),
     }
+}
+
+// Returns the reply of the generator of `world` to `question`.
+fn tell_generator(world: &World<Flat>, question: Question) -> Reply {
+    tell(world.generator(), question)
 }
 
 // Returns the reply that says which byte the RAM of `world` holds at `address`, if there is one.
@@ -45,6 +53,22 @@ fn byte_of(world: &World<Flat>, address: u64) -> Reply {
     let _ = world.byte(0); // The RAM is an image, so it has 2,048 bytes.
     if address < MEMORY_BYTES as u64 {
         Reply::Byte(address as u16, world.byte(address as u16))
+    } else {
+        Reply::Nothing
+    }
+}
+
+// Returns the reply that says what `world` keeps of its driver, and whether a strobe is under way.
+fn driver_of(world: &World<Flat>) -> Reply {
+    Reply::Driver(DriverFields::of(&world.driver(), world.strobe_sent()))
+}
+
+// Returns the reply that says which operation has the number `i` in the frame that the driver of
+// `world` writes, if there is one.
+fn operation_of(world: &World<Flat>, i: u64) -> Reply {
+    let frame = world.driver().frame;
+    if i < frame.len() as u64 {
+        Reply::Operation(Operation::of(frame.op(i as usize)))
     } else {
         Reply::Nothing
     }

@@ -1,4 +1,7 @@
-//! A judge of moments.
+//! A judge of moments. It is told a reply as it is, which doesn't say which reset was done: of that
+//! it is told by the request. It says after each line how the run stands, and keeps no number of a
+//! line, as its caller counts them. A judge of halves isn't here: its rule fits in 20 lines of each
+//! language.
 use crate::reply::{Reply, RunState};
 use crate::request::Request;
 use dvg_moment::MomentJudge;

@@ -31,10 +31,10 @@ pub(crate) fn tell(generator: &Generator<Global>, question: Question) -> Reply {
         Question::Move(byte) => move_of(generator.move_by(byte)),
         Question::MoveTo(byte) => end_of(generator.move_by(byte), generator),
         Question::Beam => place_of(generator),
-        Question::Holds => held(generator, generator.return_addresses().len() as u16),
+        Question::Holds => held(generator, generator.return_addresses().len() as u16, false),
         Question::ReturnTo(i) => return_address(generator, i),
         Question::State(i) => state(generator, i),
-        Question::Byte(_) => Reply::Unknown,
+        Question::Byte(_) | Question::Driver | Question::Operation(_) => Reply::Unknown,
     }
 }
 
@@ -68,12 +68,15 @@ fn place_of(generator: &Generator<Global>) -> Reply {
     Reply::Point(beam.x, beam.y)
 }
 
-// Returns the reply that says what else `generator` holds, with `returns` return addresses.
-pub(crate) fn held(generator: &Generator<Global>, returns: u16) -> Reply {
+// Returns the reply that says what else `generator` holds, with `returns` return addresses, and
+// whether its stack `wraps`.
+pub(crate) fn held(generator: &Generator<Global>, returns: u16, wraps: bool) -> Reply {
     let first = generator.first_word();
     let scale = u16::from(generator.beam().scale);
-    let waits = 0x10 * bit(generator.low_byte().is_some()) + 0x20 * bit(first.is_some());
-    Reply::Holds(first.unwrap_or(0), scale + waits + 0x100 * returns)
+    let flags = 0x10 * bit(generator.low_byte().is_some())
+        + 0x20 * bit(first.is_some())
+        + 0x40 * bit(wraps);
+    Reply::Holds(first.unwrap_or(0), scale + flags + 0x100 * returns)
 }
 
 // Returns the reply that says what return address `i` of `generator` is, from 0, the newest one.
@@ -89,30 +92,42 @@ fn return_address(generator: &Generator<Global>, i: u64) -> Reply {
 
 // Returns the reply that says what part `i` of the state of `generator` is, from 0.
 fn state(generator: &Generator<Global>, i: u64) -> Reply {
-    match part(generator, i) {
+    let state = generator.state();
+    is_saved(&state);
+    told_part(part(&state, generator, i))
+}
+
+// Returns the reply that says what `part` is, if there is one.
+pub(crate) fn told_part(part: Option<StatePart>) -> Reply {
+    match part {
         Some(part) => Reply::State(part.word()),
         None => Reply::Nothing,
     }
 }
 
-// Returns part `i` of the state of `generator`, if there is one.
-fn part(generator: &Generator<Global>, i: u64) -> Option<StatePart> {
-    let state = generator.state();
-    is_byte(state.low);
+// Returns part `i` of `state`, which is that of `generator`, but for the return addresses, if there
+// is one.
+pub(crate) fn part(
+    state: &GeneratorState,
+    generator: &Generator<Global>,
+    i: u64,
+) -> Option<StatePart> {
     let addresses = state.return_addresses.as_slice();
     let returns = addresses.len() as u64;
     if i == 0 {
-        Some(fields(&state))
+        Some(fields(state))
     } else if i <= returns {
         Some(StatePart::ReturnAddress(addresses[(i - 1) as usize]))
     } else {
-        part_of_drawing(generator, i - 1 - returns)
+        drawing_part(generator, i - 1 - returns)
     }
 }
 
-// For the proof alone: a low byte that waits is below 256, as its type says. Nothing is done.
-fn is_byte(low: Option<u8>) {
-    if let Some(byte) = low {
+// For the proof alone: a low byte that waits in `state` is below 256, and there are four return
+// addresses at most, as their types say. Nothing is done.
+pub(crate) fn is_saved(state: &GeneratorState) {
+    let _ = state.return_addresses.as_slice();
+    if let Some(byte) = state.low {
         let _ = u16::from(byte);
     }
 }
@@ -129,7 +144,8 @@ fn fields(state: &GeneratorState) -> StatePart {
 }
 
 // Returns part `i` of those that say what the open run of `generator` drew, and where its beam is.
-fn part_of_drawing(generator: &Generator<Global>, i: u64) -> Option<StatePart> {
+// Part 2k is where stroke k begins, part 2k + 1 where it ends; after all strokes comes the beam.
+fn drawing_part(generator: &Generator<Global>, i: u64) -> Option<StatePart> {
     let strokes = strokes_so_far(generator);
     let count = strokes.len() as u64;
     let stroke = i / 2;

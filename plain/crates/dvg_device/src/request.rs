@@ -1,9 +1,11 @@
-//! What a device is asked for.
+//! What a device is asked for. Questions are apart, as they made ticks slower. A move is told by
+//! three answers, so that nothing is kept from one to the next.
+use crate::driver::DriverFields;
 use crate::judging::JudgeLine;
 use crate::operation::Operation;
 
-/// What a generator alone is asked, or that of a world, which changes nothing. Of these `Byte` is
-/// asked of a world alone.
+/// What a generator alone is asked, or that of a world, which changes nothing. Of these `Byte`,
+/// `Driver` and `Operation` are asked of a world alone.
 #[derive(Clone, Copy, Debug, PartialEq, Eq, Hash)]
 pub enum Question {
     /// Which move would this byte make, or `None`, by the flag, if it were handed over next?
@@ -20,6 +22,11 @@ pub enum Question {
     State(u64),
     /// Which byte does the RAM hold at this byte address?
     Byte(u64),
+    /// What does it keep of its driver, but the operations of the frame that is being written?
+    Driver,
+    /// Which operation has this number in the frame that is being written? The first one has the
+    /// number 0.
+    Operation(u64),
 }
 
 /// What a device is asked for. As a number, its lowest byte is the code, which stands first here,
@@ -96,8 +103,8 @@ pub enum Request {
     /// reply that the line's event had: its kind in bits 8 to 15, its address in 16 to 31, and its
     /// value in 32 to 47. A kind above 16 is that of no line.
     Tell(JudgeLine),
-    /// 23 to 28, and then 31, in the order of `Question`: what is asked of a generator alone, or of
-    /// that of a world.
+    /// 23 to 28, and then 31 to 33, in the order of `Question`: what is asked of a generator alone,
+    /// or of a world.
     Ask(Question),
     /// 29: a generator alone begins in the state that was told, which is forgotten. Before any part
     /// was told, that is the state of a new one. Strokes of a finished run are no part of it.
@@ -105,10 +112,18 @@ pub enum Request {
     /// 30: a generator alone whose stack wraps begins, as hardware goes on: halted, with the beam
     /// at 0, 0 and scale 0, and four return addresses of 0.
     OpenWrapping,
+    /// 34: a generator alone whose stack wraps begins in the state that was told, which is
+    /// forgotten. That state has four return addresses, the oldest first: the registers.
+    ResumeWrapping,
     /// 35: a part of a state is told. Its word stands above the code, so the number of the reply
     /// that tells a part is the request by which another device is told it. `StatePart` says which
     /// there are.
     TellState(u64),
+    /// 38: the world that is open goes on in the state that was told, which is forgotten. Its
+    /// generator's parts were told; the 2,048 bytes that are staged are those of its RAM; and the
+    /// draft is the frame that is being written. What it keeps of its driver stands above the code:
+    /// the number of the reply to `Driver` is this request. Its ROM and its picture stay.
+    ResumeWorld(DriverFields),
     /// Any other number.
     Unknown,
 }
@@ -118,6 +133,14 @@ impl Request {
     fn telling(line: Option<JudgeLine>) -> Request {
         match line {
             Some(line) => Request::Tell(line),
+            None => Request::Unknown,
+        }
+    }
+
+    // Returns the request by which a world goes on with `fields` of its driver.
+    fn resuming(fields: Option<DriverFields>) -> Request {
+        match fields {
+            Some(fields) => Request::ResumeWorld(fields),
             None => Request::Unknown,
         }
     }
@@ -166,7 +189,11 @@ impl Request {
             29 => Request::Resume,
             30 => Request::OpenWrapping,
             31 => Request::Ask(Question::Byte(number / 0x100)),
+            32 => Request::Ask(Question::Driver),
+            33 => Request::Ask(Question::Operation(number / 0x100)),
+            34 => Request::ResumeWrapping,
             35 => Request::TellState(number / 0x100),
+            38 => Request::resuming(DriverFields::in_number(number)),
             _ => Request::Unknown,
         }
     }

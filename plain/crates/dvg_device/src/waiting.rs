@@ -1,10 +1,12 @@
-//! What was told of a generator's state, before one begins in it.
+//! What was told of a generator's state, before one begins in it. An answer that tells a part is
+//! the request that tells another device the same part. What was open stays until the whole state
+//! is there; the first part begins anew.
 use std::prelude::*;
 
 use crate::reply::Reply;
 use crate::state::StatePart;
 use arrayvec::ArrayVec;
-use dvg_gen::{Generator, GeneratorState, Stroke};
+use dvg_gen::{Generator, GeneratorState, Stroke, WrappingGenerator};
 use dvg_log::Entry;
 use std::alloc::Global;
 use std::mem;
@@ -93,16 +95,34 @@ impl Waiting {
         }
     }
 
+    // Takes the state and the strokes that were told, and forgets them.
+    pub(crate) fn take_told(&mut self, alloc: Global) -> (GeneratorState, Vec<Stroke>) {
+        let Waiting { state, strokes } = mem::replace(self, Waiting::new(alloc));
+        (state, strokes)
+    }
+
     // Returns a generator in this state, and forgets the state, where a generator can be in it.
     // Otherwise it returns `None`, and nothing has changed.
     pub(crate) fn generator(&mut self, alloc: Global) -> Option<Generator<Global>> {
         if !self.state.is_valid() {
             return None;
         }
-        let Waiting { state, strokes } = mem::replace(self, Waiting::new(alloc));
+        let (state, strokes) = self.take_told(alloc);
         let mut generator = Generator::new(alloc);
         generator.resume(&state, strokes);
         Some(generator)
+    }
+
+    // Returns a generator whose stack wraps in this state, and forgets the state, where such a one
+    // can be in it. Otherwise it returns `None`, and nothing has changed.
+    pub(crate) fn wrapping(&mut self, alloc: Global) -> Option<WrappingGenerator<Global>> {
+        if !self.state.return_addresses.is_full() || !self.state.is_valid() {
+            return None;
+        }
+        let (state, strokes) = self.take_told(alloc);
+        let mut wrapping = WrappingGenerator::new(alloc);
+        wrapping.resume(&state, strokes);
+        Some(wrapping)
     }
 }
 

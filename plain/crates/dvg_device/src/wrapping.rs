@@ -1,5 +1,6 @@
-//! A generator alone whose stack wraps.
-use crate::lone::{held, onward, tell, wanted};
+//! A generator alone whose stack wraps. A request of its own opens it: else a run breaks where
+//! documents have no rule.
+use crate::lone::{held, is_saved, onward, part, tell, told_part, wanted};
 use crate::reply::Reply;
 use crate::request::{Question, Request};
 use dvg_gen::{STACK_DEPTH, WrappingGenerator};
@@ -34,9 +35,9 @@ pub(crate) fn wanted_wrapping(generator: &WrappingGenerator<Global>) -> Reply {
 // Returns the reply of `generator` to `question`.
 pub(crate) fn tell_wrapping(generator: &WrappingGenerator<Global>, question: Question) -> Reply {
     match question {
-        Question::Holds => held(generator.generator(), STACK_DEPTH as u16),
+        Question::Holds => held(generator.generator(), STACK_DEPTH as u16, true),
         Question::ReturnTo(i) => register(generator, i),
-        Question::State(_) => Reply::Unknown,
+        Question::State(i) => state(generator, i),
         question => tell(generator.generator(), question),
     }
 }
@@ -49,6 +50,13 @@ fn register(generator: &WrappingGenerator<Global>, i: u64) -> Reply {
     } else {
         Reply::Nothing
     }
+}
+
+// Returns the reply that says what part `i` of the state of `generator` is, from 0.
+fn state(generator: &WrappingGenerator<Global>, i: u64) -> Reply {
+    let state = generator.state();
+    is_saved(&state);
+    told_part(part(&state, generator.generator(), i))
 }
 
 // Hands `byte` to `generator`, where `None` is a hole. Returns the reply.

@@ -1,29 +1,10 @@
 //! The driver.
 use crate::action::Action;
 use crate::fault::DriverFault;
-use dvg_frame::{Checked, Cursor, Frame};
-use dvg_mem::Half;
-
-/// How far the driver is. What it writes of a frame stands beside it, so that a change of the phase
-/// moves no frame.
-#[derive(Clone, Copy)]
-#[derive(Debug)]
-enum Phase {
-    /// It has done nothing since its reset.
-    Start,
-    /// It waits for the first time until the generator is halted.
-    Booting,
-    /// It is idle.
-    Resting,
-    /// It writes a frame into the free half, and then word zero.
-    Writing,
-    /// It has written byte 000, and flips next.
-    Flipping,
-    /// It waits until the generator is halted.
-    Waiting,
-    /// It sends the strobe next.
-    Sending,
-}
+use crate::state::{DriverState, Phase};
+use dvg_frame::{Checked, Checker, Cursor, Draft, Frame};
+use dvg_mem::{Half, Rom};
+use std::alloc::Allocator;
 
 /// The driver of the vector generator, from one reset to the next and beyond. It keeps at most one
 /// frame: the one that it writes.
@@ -111,6 +92,48 @@ impl Driver {
         }
     }
 
+    /// Returns all that the driver keeps, as a value that `resume` takes. The frame that is being
+    /// written is copied.
+    pub fn state(&self) -> DriverState {
+        let written = match (self.phase, &self.cursor) {
+            (Phase::Writing, Some(cursor)) => written_by(cursor),
+            _ => (Draft::new(), self.half.other(), 0),
+        };
+        DriverState {
+            phase: self.phase,
+            half: self.half,
+            flipped: self.flipped,
+            frame: written.0,
+            frame_half: written.1,
+            left: written.2,
+        }
+    }
+
+    /// Brings the driver into `state`, and returns `true`: it goes on as the one whose state this
+    /// is. A frame that is being written is checked by `checker`, over `rom`. Returns `false`
+    /// exactly where the parts of `state` don't fit together over that ROM, and then nothing has
+    /// changed.
+    pub fn resume<A: Allocator>(
+        &mut self,
+        state: &DriverState,
+        checker: &mut Checker,
+        rom: &Rom<A>,
+    ) -> bool {
+        match state.phase {
+            Phase::Start | Phase::Booting | Phase::Flipping if state.flipped => return false,
+            Phase::Waiting | Phase::Sending if !state.flipped => return false,
+            Phase::Writing => match cursor_of(state, checker, rom) {
+                Some(cursor) => self.cursor = Some(cursor),
+                None => return false,
+            },
+            _ => {}
+        }
+        self.phase = state.phase;
+        self.half = state.half;
+        self.flipped = state.flipped;
+        true
+    }
+
     // Returns the next byte of a frame that the driver writes, with its address before it: it is
     // written now. Returns `None` where no byte of a frame comes next, and then nothing has
     // changed.
@@ -171,6 +194,28 @@ impl Driver {
         self.phase = Phase::Waiting;
         Action::Wrote(1, self.half.high())
     }
+}
+
+// Returns the draft whose bytes `cursor` gives, the half that it is laid out for, and how many of
+// them are still to come.
+fn written_by(cursor: &Cursor) -> (Draft, Half, u16) {
+    let source = cursor.source();
+    (source.0.copy(), source.1, cursor.left())
+}
+
+// Returns a cursor over those bytes of the frame in `state` that are still to come. Returns `None`
+// exactly where the check by `checker` over `rom` refuses that frame, it isn't laid out for the
+// half that is free, or it has fewer bytes.
+fn cursor_of<A: Allocator>(
+    state: &DriverState,
+    checker: &mut Checker,
+    rom: &Rom<A>,
+) -> Option<Cursor> {
+    let checked = checker.check(state.frame.ops(), rom).ok()?;
+    if state.frame_half != state.half.other() || state.left > 2 * checked.len_words() {
+        return None;
+    }
+    Some(Cursor::with_left(&checked, state.frame_half, state.left))
 }
 
 // Makes `cursor` begin with the bytes of `checked`, laid out for `half`.

@@ -18,10 +18,12 @@ extern crate plain_std as std;
 mod action;
 mod driver;
 mod fault;
+mod state;
 
 pub use action::Action;
 pub use driver::Driver;
 pub use fault::DriverFault;
+pub use state::{DriverState, Phase};
 
 #[path = "../rust.rs"]
 mod rust;

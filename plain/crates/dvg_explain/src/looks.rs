@@ -6,7 +6,7 @@ struct Look {
 }
 
 /// Files that are no texts.
-static FILES: [Look; 11] = [
+static FILES: [Look; 13] = [
     Look {
         begin: b"\x89PNG\r\n\x1A\n",
         is: "a PNG picture",
@@ -50,6 +50,14 @@ static FILES: [Look; 11] = [
     Look {
         begin: b"DVG\x01",
         is: "a saved generator: dvg_restore of dvg.h reads it",
+    },
+    Look {
+        begin: b"DVR\x01",
+        is: "a saved generator whose stack wraps: dvg_restore of dvg.h reads it",
+    },
+    Look {
+        begin: b"DVW\x01",
+        is: "a saved world: dvg_restore of dvg.h reads it",
     },
 ];
 

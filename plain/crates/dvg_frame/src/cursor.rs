@@ -51,6 +51,17 @@ impl Cursor {
         }
     }
 
+    /// Returns a cursor over the last `left` bytes of `checked`, laid out for `half`. So it goes on
+    /// as a cursor that gave the bytes before them. `left` must be at most twice the number of
+    /// words. The time is linear in the bytes that are passed over.
+    pub fn with_left(checked: &Checked, half: Half, left: u16) -> Cursor {
+        let mut cursor = Cursor::of(checked, half);
+        for _ in 0..cursor.left() - left {
+            cursor.next();
+        }
+        cursor
+    }
+
     /// Begins anew, with the bytes of `checked`, laid out for `half`. The operations are copied
     /// into the memory that the cursor has: the time is linear in them, and in those that it kept.
     pub fn restart(&mut self, checked: &Checked, half: Half) {
@@ -62,6 +73,11 @@ impl Cursor {
         self.op = 0;
         self.left = 2 * checked.len_words();
         self.end = 2 * half.base() + self.left;
+    }
+
+    /// Returns the draft whose bytes the cursor gives, and the half that it is laid out for.
+    pub fn source(&self) -> (&Draft, Half) {
+        (&self.draft, self.half)
     }
 
     /// Returns the number of items that are still to come.

@@ -58,6 +58,14 @@ impl Draft {
         Ok(())
     }
 
+    /// Returns a draft of the same operations. It is what `clone` returns, which needs no memory
+    /// here.
+    pub fn copy(&self) -> Draft {
+        let mut draft = Draft::new();
+        draft.try_extend_from_slice(self.ops()).unwrap();
+        draft
+    }
+
     /// Removes all operations.
     pub fn clear(&mut self) {
         self.ops.clear();

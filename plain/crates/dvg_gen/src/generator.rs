@@ -120,9 +120,10 @@ impl<A: Allocator + Copy> Generator<A> {
         self.strokes.as_slice()
     }
 
-    /// Returns the move that `byte`, the next one, completes, before it is taken. The generator
-    /// stays as it is. `None` means that no run is open or that the byte moves no beam: a low byte
-    /// or a first word, a word of another instruction than VCTR, SVEC and LABS, or no memory.
+    /// Returns the move that `byte`, the next one, completes, before it is taken: so who takes one
+    /// pays nothing for its move. The generator stays as it is. `None` means that no run is open or
+    /// that the byte moves no beam: a low byte or a first word, a word of another instruction than
+    /// VCTR, SVEC and LABS, or no memory.
     pub fn move_by(&self, byte: Option<u8>) -> Option<Move> {
         if self.halted() {
             return None;
@@ -150,8 +151,10 @@ impl<A: Allocator + Copy> Generator<A> {
 
     /// Takes `byte`, and returns what it led to. `byte` is the low byte of the word at the address
     /// that `wants` returns, or its high byte where `wants_high` is true. `None` means that no
-    /// memory answers there. A run must be open. After `Done` or `Broke` the generator is halted;
-    /// `Done` makes the picture of the run's strokes, and every other step leaves it as it was.
+    /// memory answers there; it may come after a low byte, too, which is then dropped, as only the
+    /// generator knows of it. A run must be open. After `Done` or `Broke` the generator is halted;
+    /// `Done` makes the picture of the run's strokes, and every other step leaves it as it was. The
+    /// return addresses change only where a call or a return is completed.
     ///
     /// Returns `OutOfMemory` where an allocation fails, and then nothing has changed. That comes
     /// only where a high byte completes a vector with an intensity of at least 1.
@@ -188,7 +191,7 @@ impl<A: Allocator + Copy> Generator<A> {
             at: self.at,
             held: self.held,
             low: self.low_byte(),
-            return_addresses: copied(&self.stack),
+            return_addresses: copied(self.stack.as_slice()),
             x,
             y,
             scale,
@@ -208,7 +211,7 @@ impl<A: Allocator + Copy> Generator<A> {
         self.held = state.held;
         self.has_low = state.low.is_some();
         self.low = state.low.unwrap_or(0);
-        self.stack = copied(&state.return_addresses);
+        self.stack = copied(state.return_addresses.as_slice());
         self.beam = Beam {
             x: state.x,
             y: state.y,
@@ -335,10 +338,10 @@ fn after(address: u16) -> u16 {
     (address + 1) % 4096
 }
 
-// Returns a copy of `addresses`.
-fn copied(addresses: &ArrayVec<u16, STACK_DEPTH>) -> ArrayVec<u16, STACK_DEPTH> {
+// Returns a copy of `addresses`, which are at most four.
+pub(crate) fn copied(addresses: &[u16]) -> ArrayVec<u16, STACK_DEPTH> {
     let mut copies = ArrayVec::new();
-    match copies.try_extend_from_slice(addresses.as_slice()) {
+    match copies.try_extend_from_slice(addresses) {
         Ok(()) => copies,
         Err(_) => unreachable!(),
     }

@@ -1,4 +1,5 @@
-//! What an instruction did to the beam.
+//! What an instruction did to the beam. A LABS is a move of intensity 0 with a mark, as it loads
+//! counters of whole units, and a blank vector moves them.
 use crate::beam::Beam;
 use dvg_code::{Code, Instr};
 

@@ -1,9 +1,11 @@
-//! A generator's state as a plain value.
+//! A generator's state as a plain value. A generator is saved without its strokes, and resumed with
+//! them: so each clause goes on after the same history.
 use crate::STACK_DEPTH;
 use arrayvec::ArrayVec;
 
 /// All that a generator keeps but its strokes, as a value that can be stored anywhere. Its fields
-/// may hold anything: `is_valid` tells whether a generator can be in it.
+/// may hold anything: `is_valid` tells whether a generator can be in it. A `WrappingGenerator` can
+/// where there are four return addresses, too: its registers.
 #[derive(Debug)]
 #[derive(Clone)]
 pub struct GeneratorState {

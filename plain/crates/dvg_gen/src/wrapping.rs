@@ -2,9 +2,11 @@
 use std::prelude::*;
 
 use crate::STACK_DEPTH;
-use crate::generator::Generator;
+use crate::generator::{Generator, copied};
+use crate::state::GeneratorState;
 use crate::stroke::Stroke;
 use crate::taken::Step;
+use arrayvec::ArrayVec;
 use dvg_code::OutOfMemory;
 use std::alloc::{Allocator, Global};
 
@@ -18,6 +20,7 @@ use std::alloc::{Allocator, Global};
 /// registers are 0 at first, and stay at a start and at a reset, is this project's own choice.
 #[derive(Clone, Debug)]
 pub struct WrappingGenerator<A: Allocator = Global> {
+    // It jumps for each call and each return, so no address is on its own stack.
     generator: Generator<A>,
     // The newest first.
     registers: [u16; STACK_DEPTH],
@@ -64,6 +67,26 @@ impl<A: Allocator + Copy> WrappingGenerator<A> {
         self.generator.take_picture()
     }
 
+    /// Returns all that the generator keeps but its strokes and its picture. The return addresses
+    /// are the four registers, the newest last.
+    pub fn state(&self) -> GeneratorState {
+        let mut state = self.generator.state();
+        state.return_addresses = oldest_first(&self.registers);
+        state
+    }
+
+    /// Brings the generator into `state`, with `strokes` as what its run drew so far, and returns
+    /// `true`. So it goes on as the one whose `state` and `strokes` these were. Of a run that goes
+    /// on with other strokes nothing is said. The picture stays as it was. Returns `false` exactly
+    /// where `state` isn't valid or hasn't four return addresses, and then nothing has changed.
+    pub fn resume(&mut self, state: &GeneratorState, strokes: Vec<Stroke, A>) -> bool {
+        if !state.return_addresses.is_full() || !state.is_valid() {
+            return false;
+        }
+        self.registers = newest_first(&state.return_addresses);
+        self.generator.resume(&without_addresses(state), strokes)
+    }
+
     /// Takes `byte`, as `Generator::feed` does, and returns what it led to. A run must be open. No
     /// call and no return breaks it.
     #[inline(always)]
@@ -95,5 +118,34 @@ impl<A: Allocator + Copy> WrappingGenerator<A> {
             self.registers.rotate_left(1);
             self.generator.jump(back)
         }
+    }
+}
+
+// Returns the addresses of `registers`, the oldest first.
+fn oldest_first(registers: &[u16; STACK_DEPTH]) -> ArrayVec<u16, STACK_DEPTH> {
+    let mut addresses = *registers;
+    addresses.reverse();
+    copied(&addresses)
+}
+
+// Returns the registers with these `addresses`, of which there are four, the oldest first.
+fn newest_first(addresses: &ArrayVec<u16, STACK_DEPTH>) -> [u16; STACK_DEPTH] {
+    let mut registers = [0; STACK_DEPTH];
+    registers.copy_from_slice(addresses.as_slice());
+    registers.reverse();
+    registers
+}
+
+// Returns `state` without its return addresses.
+fn without_addresses(state: &GeneratorState) -> GeneratorState {
+    GeneratorState {
+        is_open: state.is_open,
+        at: state.at,
+        held: state.held,
+        low: state.low,
+        return_addresses: ArrayVec::new(),
+        x: state.x,
+        y: state.y,
+        scale: state.scale,
     }
 }

@@ -1,4 +1,6 @@
-//! What the engines of the program `dvg` have in common.
+//! What the engines of the program `dvg` have in common. What is read is lent to `find`, as an
+//! implementation has no clauses where a trait's method takes a list by value. So `play` holds its
+//! text while its events happen.
 use std::prelude::*;
 
 use crate::fault::ToolFault;

@@ -53,6 +53,23 @@ pub fn collect_words<A: Allocator>(alloc: A, bytes: &[u8]) -> Result<Vec<u16, A>
 /// beginning of `text` went out.
 #[inline(always)]
 pub fn write_whole<W: Write>(writer: &mut Watched<W>, text: &[u8]) -> Result<(), StreamFailed> {
+    if text.is_empty() {
+        return Ok(());
+    }
+    let Ok(count) = writer.write(text) else {
+        return Err(StreamFailed);
+    };
+    if count == text.len() {
+        return Ok(());
+    }
+    write_rest(writer, &text[count..])
+}
+
+// Writes `text`, what a first write left of a longer one, by as many writes as it takes. After a
+// failure a beginning of it went out. A writer mostly takes all at once, so this loop stays out of
+// the functions that write.
+#[inline(never)]
+fn write_rest<W: Write>(writer: &mut Watched<W>, text: &[u8]) -> Result<(), StreamFailed> {
     let mut rest = text;
     while !rest.is_empty() {
         let Ok(count) = writer.write(rest) else {

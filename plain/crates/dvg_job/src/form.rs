@@ -53,7 +53,7 @@ pub enum LayForm {
 pub enum LogRule {
     /// By the halves of the RAM, up to the first write that tears a picture.
     Halves,
-    /// By whether each run is of one moment, up to the first that isn't.
+    /// By whether each run is consistent, up to the first that isn't.
     Moments,
     /// The same, and each run that isn't is told.
     AllMoments,

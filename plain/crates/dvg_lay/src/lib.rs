@@ -28,6 +28,7 @@ mod table;
 mod text;
 mod time;
 mod verdicts;
+mod walk;
 
 pub use checking::check_all;
 pub use drawing::{SketchPictures, draw_sketch};

@@ -2,7 +2,8 @@
 use std::prelude::*;
 
 use crate::memory::laid_ram;
-use crate::time::{PictureTime, time_by};
+use crate::time::PictureTime;
+use crate::walk::time_over;
 use dvg_code::OutOfMemory;
 use dvg_dump::{Dump, Ending};
 use dvg_frame::Checked;
@@ -28,7 +29,7 @@ pub(crate) fn picture_of<A: Allocator + Copy>(
 }
 
 /// Returns how long the generator of the arcade emulator takes for the picture of `frame`, by the
-/// same run. Returns `OutOfMemory` where an allocation fails.
+/// same run, of which nothing else is kept. Returns `OutOfMemory` where an allocation fails.
 pub(crate) fn time_of<A: Allocator + Copy>(
     alloc: A,
     rom: Rom<A>,
@@ -38,6 +39,5 @@ pub(crate) fn time_of<A: Allocator + Copy>(
     let _ = frame.len_words();
     let _ = rom.len_words();
     let ram = laid_ram(alloc, frame, Half::H0)?;
-    let traced = Dump::of(alloc, ram, rom).run_traced()?;
-    Ok(time_by(traced.ran.as_slice()))
+    Ok(time_over(&ram, &rom))
 }

@@ -3,7 +3,6 @@ use std::prelude::*;
 
 use crate::text::{put, put_decimal};
 use dvg_code::{Code, Instr};
-use dvg_dump::Ran;
 use std::alloc::{AllocError, Allocator};
 
 /// How long the generator of the arcade emulator takes for a picture, by its rule: a vector takes
@@ -19,10 +18,10 @@ pub struct PictureTime {
     pub microseconds: u32,
 }
 
-// What instructions take. `parts` is in 189ths of a microsecond: in these each time of the rule is
-// a whole number.
+/// What instructions take. `parts` is in 189ths of a microsecond: in these each time of the rule is
+/// a whole number.
 #[derive(Clone, Copy)]
-struct Spent {
+pub(crate) struct Spent {
     vectors: u32,
     others: u32,
     parts: u64,
@@ -51,12 +50,23 @@ fn vector_parts(scales: u8) -> u64 {
 }
 
 impl Spent {
-    // Adds the instruction `ran`.
-    fn add(&mut self, ran: &Ran) {
-        match local_scale(&ran.code) {
+    /// Returns what no instruction takes.
+    pub(crate) fn nothing() -> Spent {
+        Spent {
+            vectors: 0,
+            others: 0,
+            parts: 0,
+        }
+    }
+
+    /// Adds the instruction `code`, which is run at the global scale `global`, at most 15. So many
+    /// may be added as a run is followed for words.
+    #[inline(always)]
+    pub(crate) fn add(&mut self, code: &Code, global: u8) {
+        match local_scale(code) {
             Some(scale) => {
                 self.vectors += 1;
-                self.parts += vector_parts(ran.beam.scale + scale);
+                self.parts += vector_parts(global + scale);
             }
             None => {
                 self.others += 1;
@@ -65,27 +75,14 @@ impl Spent {
         }
     }
 
-    // Returns what is told of it. The half of a microsecond is no whole number of parts.
-    fn told(self) -> PictureTime {
+    /// Returns what is told of it. The half of a microsecond is no whole number of parts.
+    pub(crate) fn told(self) -> PictureTime {
         PictureTime {
             vectors: self.vectors,
             others: self.others,
             microseconds: ((self.parts + 94) / 189) as u32,
         }
     }
-}
-
-/// Returns how long the instructions `ran`, at most 65,536, take together.
-pub(crate) fn time_by(ran: &[Ran]) -> PictureTime {
-    let mut spent = Spent {
-        vectors: 0,
-        others: 0,
-        parts: 0,
-    };
-    for one in ran {
-        spent.add(one);
-    }
-    spent.told()
 }
 
 /// Appends `time` to `text`, after a comma and a space. Returns `AllocError` where an allocation

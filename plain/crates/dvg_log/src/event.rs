@@ -1,4 +1,4 @@
-//! What can happen to a world.
+//! What can happen to a world. Events have no `map`: its closures would borrow from `self`.
 use std::prelude::*;
 
 use dvg_frame::{Draft, Op};

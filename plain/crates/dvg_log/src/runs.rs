@@ -1,4 +1,4 @@
-//! Runs of equal events in a trace.
+//! Runs of equal events in a trace. Others call this a run-length encoding.
 use crate::event::{Event, TraceEvent};
 use dvg_frame::Op;
 use dvg_mem::Image;

@@ -1,5 +1,5 @@
 //! Logs as texts, of any length and from anyone: what each line says, and the engines that find
-//! the first write that tears a picture, or the first run that is of no moment, or each (the format
+//! the first write that tears a picture, or the first run that is mixed, or each (the format
 //! is this project's own choice). A log is read in pieces and takes no memory.
 #![no_std]
 

@@ -2,8 +2,8 @@
 use arrayvec::ArrayVec;
 use dvg_read::{hex, is_passed};
 
-/// The first byte address that isn't one of the RAM.
-pub(crate) const RAM_END: u16 = 0x800;
+/// How many bytes the RAM has, which begins at byte address 0.
+pub(crate) const RAM_BYTES: u16 = 0x800;
 
 /// The most bytes of a line, without its end (this project's own choice).
 pub const MOST_LINE_BYTES: usize = 64;
@@ -115,7 +115,7 @@ fn based(bytes: &[u8], base: u16) -> Option<(u16, u16)> {
 
 // Returns the byte address `address` and the byte `byte`, if the address is one of the RAM.
 fn in_ram(address: u16, byte: u16) -> Option<(u16, u8)> {
-    if address >= RAM_END {
+    if address >= RAM_BYTES {
         return None;
     }
     Some((address, byte as u8))

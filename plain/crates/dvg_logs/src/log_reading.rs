@@ -1,4 +1,5 @@
-//! The text of a log, as it is read in pieces.
+//! The text of a log, as it is read in pieces. A log has at most 2^64 - 1 lines, as their numbers
+//! have 64 bits: so reading is proved to end, whatever the reader.
 use crate::line_judge::LineJudge;
 use crate::log_line::{LogLine, MOST_LINE_BYTES, read_log_line};
 use arrayvec::ArrayVec;

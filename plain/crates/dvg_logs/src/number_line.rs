@@ -1,7 +1,7 @@
 //! Lines of logs that have numbers, as most do, and comments. Each is taken from the head of a
 //! text, one that has numbers with no search for its end.
 use crate::line_judge::LineJudge;
-use crate::log_line::{LogLine, MOST_LINE_BYTES, RAM_END};
+use crate::log_line::{LogLine, MOST_LINE_BYTES, RAM_BYTES};
 use crate::log_reading::JudgedLines;
 use dvg_read::digit_of;
 use memchr::memchr;
@@ -69,7 +69,7 @@ impl<J: LineJudge> JudgedLines<J> {
             return None;
         };
         let (address, byte, rest) = address_and_byte(numbers)?;
-        if address < RAM_END && self.take_logged(LogLine::Wrote(address, byte)) {
+        if address < RAM_BYTES && self.take_logged(LogLine::Wrote(address, byte)) {
             Some(rest)
         } else {
             None

@@ -5,14 +5,6 @@ use dvg_io::{StreamFailed, ToolFault, Watched, write_lines};
 use dvg_print::{Line, LogVerdict};
 use std::io::{Read, Write};
 
-// Returns what is said of the text of a log, which comes from `reader`.
-fn judge_halves<R: Read>(
-    base: Option<u16>,
-    reader: &mut Watched<R>,
-) -> Result<LogVerdict, ToolFault> {
-    judge_text(HalfLines::new(), base, reader)
-}
-
 // Writes `verdict`, what is said of a log, to `writer`.
 fn write_verdict<W: Write>(writer: &mut Watched<W>, verdict: LogVerdict) -> Result<(), StreamFailed> {
     let mut line = Line::new();
@@ -47,7 +39,7 @@ pub fn torn<R: Read, W: Write>(
     writer: &mut Watched<W>,
     base: Option<u16>,
 ) -> Result<LogVerdict, ToolFault> {
-    let verdict = match judge_halves(base, reader) {
+    let verdict = match judge_text(HalfLines::new(), base, reader) {
         Ok(verdict) => verdict,
         Err(fault) => return Err(fault),
     };

@@ -17,19 +17,27 @@ pub enum MemFault {
     OutOfMemory,
 }
 
-/// The 2,048 bytes that a vector RAM holds.
-#[derive(Debug)]
-pub struct Image<A: Allocator = Global> {
-    bytes: Box<[u8; MEMORY_BYTES], A>,
+// What an image keeps in its block of memory.
+#[derive(Clone, Debug)]
+struct Held {
+    bytes: [u8; MEMORY_BYTES],
     /// The byte that stands everywhere, if that was seen: then a store is filled, and nothing is
     /// copied.
     filled: Option<u8>,
 }
 
+/// The 2,048 bytes that a vector RAM holds. The block of memory has what is known of them, too, so
+/// an image itself is no more than a pointer.
+#[derive(Debug)]
+#[derive(Clone)]
+pub struct Image<A: Allocator = Global> {
+    held: Box<Held, A>,
+}
+
 /// A copy of the bytes. `clone` returns `AllocError` where an allocation fails.
 impl<A: Allocator + Clone> Clone for Image<A> {
-    fn clone(&self) -> Result<Image<A>, AllocError> {
-        let alloc = Box::allocator(&self.bytes).clone()?;
+    fn try_clone(&self) -> Result<Image<A>, AllocError> {
+        let alloc = Box::allocator(&self.held).try_clone()?;
         match Image::new(alloc, self.bytes()) {
             Ok(copy) => Ok(copy),
             Err(_) => Err(AllocError),
@@ -57,11 +65,12 @@ impl<A: Allocator> Image<A> {
         }
         let mut copy = [0; MEMORY_BYTES];
         copy.copy_from_slice(bytes);
-        match Box::new(alloc, copy) {
-            Ok(boxed) => Ok(Image {
-                bytes: boxed,
-                filled: only_byte(bytes),
-            }),
+        let held = Held {
+            bytes: copy,
+            filled: only_byte(bytes),
+        };
+        match Box::new(alloc, held) {
+            Ok(held) => Ok(Image { held }),
             Err(_) => Err(MemFault::OutOfMemory),
         }
     }
@@ -69,18 +78,18 @@ impl<A: Allocator> Image<A> {
     /// Replaces the bytes with `bytes`, whose length must be 2,048. They go into the memory that
     /// the image has.
     pub fn copy_from(&mut self, bytes: &[u8]) {
-        self.bytes.copy_from_slice(bytes);
-        self.filled = None;
+        self.held.bytes.copy_from_slice(bytes);
+        self.held.filled = None;
     }
 
     // Returns the byte that stands everywhere, if that was seen.
     pub(crate) fn filled(&self) -> Option<u8> {
-        self.filled
+        self.held.filled
     }
 
     /// Returns the bytes, from address 000 on.
     pub fn bytes(&self) -> &[u8] {
-        self.bytes.as_slice()
+        self.held.bytes.as_slice()
     }
 }
 

@@ -1,4 +1,4 @@
-//! A judge of logs, whoever made them: is each run of one moment?
+//! A judge of logs, whoever made them: is each run consistent?
 use dvg_driver::Action;
 use dvg_log::{Entry, Event, OwnEntry, OwnEvent};
 use dvg_mem::MEMORY_BYTES;
@@ -27,7 +27,7 @@ enum Phase {
 ///
 /// A byte changes where one is written that isn't what the log told of it last. So a byte that
 /// comes back to what it was has changed twice. Of a byte that nothing was told of, each write is a
-/// change: if just that was there already, a run may be called torn that is of one moment.
+/// change: if just that was there already, a run may be called torn that is consistent.
 ///
 /// It takes no memory, and counts nothing, so a log may be of any length. A call takes constant
 /// time.
@@ -136,7 +136,7 @@ impl MomentJudge {
         self.told = [None; TOLD_BYTES];
     }
 
-    // Returns whether the run is known to be of no moment.
+    // Returns whether the run is known to be mixed.
     fn has_no_moment(&self) -> bool {
         self.phase == Phase::Torn
     }
@@ -151,7 +151,7 @@ impl MomentJudge {
         !self.has_no_run()
     }
 
-    /// Returns whether a run is open that is of no moment.
+    /// Returns whether a run is open that is mixed.
     pub fn is_torn(&self) -> bool {
         self.has_no_moment()
     }
@@ -178,7 +178,7 @@ impl MomentJudge {
     }
 
     /// Takes a line that says that a fetch completed `word`, at the word address `address`, a HALT
-    /// that ended the run. Returns whether that run is of no moment.
+    /// that ended the run. Returns whether that run is mixed.
     pub fn done(&mut self, address: u16, word: u16) -> bool {
         self.read_word(address, word);
         let torn = self.has_no_moment();
@@ -250,7 +250,7 @@ impl MomentJudge {
         }
     }
 
-    // Takes `entry` as that of a tick. Returns whether it ends a run that is of no moment.
+    // Takes `entry` as that of a tick. Returns whether it ends a run that is mixed.
     fn take_entry<A: Allocator>(&mut self, entry: &OwnEntry<A>) -> bool {
         match entry {
             Entry::Started => {
@@ -279,7 +279,7 @@ impl MomentJudge {
     }
 
     /// Takes one more line, by its `event` and its `entry`. Returns whether it is the HALT of a run
-    /// that is of no moment.
+    /// that is mixed.
     pub fn take<A: Allocator>(&mut self, event: &OwnEvent<A>, entry: &OwnEntry<A>) -> bool {
         let torn = self.take_entry(entry);
         self.take_event(event, matches!(entry, Entry::Started));
@@ -296,15 +296,16 @@ impl MomentJudge {
 
     /// Returns whether a fetch that brings `byte`, the low byte of the word at the word address
     /// `address`, contradicts what was told of that byte last, be it of the RAM or of the ROM: then
-    /// somebody writes who isn't in the log, or the log isn't right. `false` from the word address
-    /// 1000 on, which no word has.
+    /// something unlogged wrote that byte, or the log is wrong. `false` from the word address 1000
+    /// on, which no word has.
     pub fn contradicts_low(&self, address: u16, byte: u8) -> bool {
         self.is_told_as_another(2 * usize::from(address), byte)
     }
 
     /// Like `contradicts_low`, for a fetch that completes `word`, at the word address `address`,
     /// whether or not it ends the run. If the low byte was told before, by `low`, it is that one
-    /// which the word has to have, also where another was written since.
+    /// which the word has to have, also where another was written since: a generator keeps what it
+    /// fetched.
     pub fn contradicts_word(&self, address: u16, word: u16) -> bool {
         let low = (word % 0x100) as u8;
         if self.waits_as_another(address, low) {

@@ -1,4 +1,6 @@
-//! Where sections of the ROM are laid.
+//! Where sections of the ROM are laid. A section may overwrite words of `rom` lines, so one can
+//! change a shape of an old ROM. The first free word is the one after the highest, so none lands in
+//! a gap too small for it.
 use std::prelude::*;
 
 use crate::meaning::RomName;

@@ -1,4 +1,5 @@
-//! What is written of the moves of a run.
+//! What is written of the moves of a run. Moves and whole units are printed of a dump alone: they
+//! are read off the recorded instructions, so no fetch asks for them.
 use dvg_dump::{Follower, Ran};
 use dvg_gen::{Move, Stroke};
 use dvg_io::{StreamFailed, Watched, write_strokes, write_whole};

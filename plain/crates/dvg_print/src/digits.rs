@@ -94,11 +94,10 @@ pub(crate) fn put_position(bytes: &mut [u8; BLOCK_BYTES], end: usize, x: u32, y:
     put_number(bytes, at, x)
 }
 
-// Counts up the number whose digits are the first `count` of `bytes`, those before a last nine.
-// Returns whether the next number has as many digits: it ends with a zero. Where it has more, zeros
-// stand there.
+// Adds 1 to the decimal number whose digits are the first `count` of `bytes`, in place. Returns
+// false if all were nines: they are zeros then.
 #[inline(always)]
-pub(crate) fn count_up(bytes: &mut [u8; NUMBER_BYTES], count: usize) -> bool {
+pub(crate) fn add_one(bytes: &mut [u8; NUMBER_BYTES], count: usize) -> bool {
     let mut at = count;
     while at > 0 && bytes[at - 1] == b'9' {
         at -= 1;

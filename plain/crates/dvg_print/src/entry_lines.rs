@@ -1,5 +1,5 @@
 //! Lines of entries, which are numbered.
-use crate::digits::{NUMBER_BYTES, count_up};
+use crate::digits::{NUMBER_BYTES, add_one};
 use crate::line::Line;
 use dvg_log::Entry;
 use itoa::Buffer;
@@ -101,7 +101,7 @@ impl EntryLines {
     fn next_ten(&mut self) {
         self.next += 1;
         self.ones = b'0';
-        if !count_up(&mut self.tens, self.count) {
+        if !add_one(&mut self.tens, self.count) {
             (self.tens, self.count) = tens_of(self.next);
         }
     }

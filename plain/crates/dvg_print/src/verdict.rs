@@ -1,4 +1,5 @@
-//! What `check` says of a draft.
+//! What `check` says of a draft. A verdict with the bound is a type of its own, so `check` can't
+//! return one by mistake.
 use dvg_frame::FrameFault;
 
 /// What the check says of a draft over a ROM.

@@ -11,6 +11,7 @@ use dvg_mem::LARGE_ROM_BYTES;
 pub const MOST_TEXT_BYTES: usize = 1_048_576;
 
 /// What the text of a draft denotes.
+#[derive(Clone, Debug)]
 pub struct DraftText {
     /// Its operations.
     pub draft: Draft,

@@ -1,4 +1,6 @@
-//! What a line of a sketch spells. Names are slices of the text.
+//! What a line of a sketch spells. Names are slices of the text. Others say statement for `Row`,
+//! directive for `Head` and operand for `Doing`: a row gives a name, or takes words, or both; a
+//! head begins a section.
 use dvg_frame::Op;
 use dvg_read::{hex, read_op_parts};
 

@@ -1,5 +1,5 @@
 //! The engines `check_text` and `check_bound`.
-use dvg_frame::check;
+use dvg_frame::Checker;
 use dvg_io::{Engine, StreamFailed, ToolFault, Watched, serve, write_whole};
 use dvg_mem::Rom;
 use dvg_print::{BoundedVerdict, Line, Verdict};
@@ -17,10 +17,10 @@ fn judge<A: Allocator>(alloc: A, text: &[u8]) -> Result<BoundedVerdict, Unread> 
     let Ok(rom) = Rom::new(alloc, drafted.rom.as_slice()) else {
         return Err(Unread::Memory);
     };
-    match check(&drafted.draft, &rom) {
-        Ok(frame) => Ok(BoundedVerdict::Good {
-            words: frame.len_words(),
-            bound: frame.bound(),
+    match Checker::new().check(drafted.draft.ops(), &rom) {
+        Ok(checked) => Ok(BoundedVerdict::Good {
+            words: checked.len_words(),
+            bound: checked.bound(),
         }),
         Err(fault) => Ok(BoundedVerdict::Refused(fault)),
     }

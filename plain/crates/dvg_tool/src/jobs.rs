@@ -1,7 +1,6 @@
 //! Which engine does which job.
 use crate::checks::{check_bound, check_text};
-use crate::lists::list;
-use crate::lists_at::list_at;
+use crate::lists::{list, list_at};
 use crate::outcome::Done;
 use crate::plays::{play, play_in};
 use crate::plays_svg::play_svg_in;

@@ -1,6 +1,7 @@
 //! The engines of the program `dvg` but `picture`, `torn`, `render` and `lay`, over any watched
 //! reader and writer; and each job of `dvg_job` by its engine. What it reads are the texts of
-//! `dvg_read`, and what it writes the lines of `dvg_print`.
+//! `dvg_read`, and what it writes the lines of `dvg_print`. Those four are in crates below, so a
+//! change here proves none of them anew.
 //!
 //! An engine reads its whole input before it writes, and takes no memory after its first write: its
 //! lines are made in an array of fixed size. That no allocator reaches what writes is seen by
@@ -12,7 +13,6 @@ extern crate plain_std as std;
 mod checks;
 mod jobs;
 mod lists;
-mod lists_at;
 mod outcome;
 mod plays;
 mod plays_pictures;
@@ -22,7 +22,7 @@ mod roms;
 mod shows;
 
 pub use checks::{check_bound, check_text};
-pub use dvg_args::{arguments_status, job};
+pub use dvg_args::{MISUSE, arguments_status, job};
 pub use dvg_io::{ToolFault, Watched};
 pub use dvg_job::{Job, LayForm, LogRule, PictureForm, Show};
 pub use dvg_logs::{

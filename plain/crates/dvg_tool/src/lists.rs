@@ -1,5 +1,5 @@
-//! The engine `list`. Its fault `Cut` comes in the middle of its writing, so it isn't an `Engine`
-//! that is served.
+//! The engines `list` and `list_at`. Their fault `Cut` comes in the middle of their writing, so
+//! neither is an `Engine` that is served.
 use dvg_code::{Code, Listed, Listing, encode};
 use dvg_io::{StreamFailed, ToolFault, Watched, collect_words, read_up_to, write_whole};
 use dvg_print::InstrLine;
@@ -10,6 +10,9 @@ use std::io::{Read, Write};
 /// The most bytes that `list` takes as its input: 4,096 words, all that an address of 12 bits names
 /// (this project's own choice).
 pub const MOST_LIST_BYTES: usize = 8192;
+
+/// How many word addresses there are.
+const ADDRESSES: usize = 4096;
 
 // Whether `words` begin with `spelled`. An instruction has one word or two: these are compared as
 // words, which takes less time than a comparison of their bytes.
@@ -25,10 +28,10 @@ fn begin_with(words: &[u16], spelled: &[u16]) -> bool {
     }
 }
 
-/// Writes the line of `code`, the instruction that stands at `place` in `words`, to `writer`,
-/// listed at `address`. The line is made in `line`.
+// Writes the line of `code`, the instruction that stands at `place` in `words`, to `writer`, listed
+// at `address`. The line is made in `line`.
 #[inline(always)]
-pub(crate) fn write_item<W: Write>(
+fn write_item<W: Write>(
     line: &mut InstrLine,
     words: &[u16],
     place: usize,
@@ -41,20 +44,48 @@ pub(crate) fn write_item<W: Write>(
     write_whole(writer, line.as_bytes())
 }
 
-// Writes a line to `writer` for each instruction of `words`.
-fn list_words<W: Write>(words: &[u16], writer: &mut Watched<W>) -> Result<(), ToolFault> {
+// Returns the address of `place` among words of which the first has the address `at`, modulo 4,096.
+fn address_from(at: u16, place: usize) -> usize {
+    (usize::from(at) + place % ADDRESSES) % ADDRESSES
+}
+
+// Writes a line to `writer` for each instruction of `words`, of which the first has the address
+// `at`.
+fn list_words<W: Write>(at: u16, words: &[u16], writer: &mut Watched<W>) -> Result<(), ToolFault> {
     let mut line = InstrLine::new();
     for item in Listing::new(words) {
         match item {
             Listed::At(place, code) => {
-                if write_item(&mut line, words, place, place, &code, writer).is_err() {
+                let address = address_from(at, place);
+                if write_item(&mut line, words, place, address, &code, writer).is_err() {
                     return Err(ToolFault::Writer);
                 }
             }
-            Listed::Cut(place) => return Err(ToolFault::Text(TextFault::Cut(place))),
+            Listed::Cut(place) => {
+                return Err(ToolFault::Text(TextFault::Cut(address_from(at, place))));
+            }
         }
     }
     Ok(())
+}
+
+/// Lists words from `reader` to `writer` as `list` does, where the first one has the address `at`
+/// and the others count on from it, modulo 4,096. Lines and the fault `Cut` give these addresses.
+pub(crate) fn list_at<A: Allocator, R: Read, W: Write>(
+    alloc: A,
+    reader: &mut Watched<R>,
+    writer: &mut Watched<W>,
+    at: u16,
+) -> Result<(), ToolFault> {
+    let bytes = read_up_to(&alloc, reader, MOST_LIST_BYTES)?;
+    if bytes.len() > MOST_LIST_BYTES {
+        return Err(ToolFault::Text(TextFault::TooLong));
+    }
+    if bytes.len() % 2 == 1 {
+        return Err(ToolFault::Text(TextFault::Odd));
+    }
+    let words = collect_words(&alloc, bytes.as_slice())?;
+    list_words(at, words.as_slice(), writer)
 }
 
 /// Reads words from `reader`, two bytes each, the low one first, and writes a line to `writer` for
@@ -75,13 +106,5 @@ pub fn list<A: Allocator, R: Read, W: Write>(
     reader: &mut Watched<R>,
     writer: &mut Watched<W>,
 ) -> Result<(), ToolFault> {
-    let bytes = read_up_to(&alloc, reader, MOST_LIST_BYTES)?;
-    if bytes.len() > MOST_LIST_BYTES {
-        return Err(ToolFault::Text(TextFault::TooLong));
-    }
-    if bytes.len() % 2 == 1 {
-        return Err(ToolFault::Text(TextFault::Odd));
-    }
-    let words = collect_words(&alloc, bytes.as_slice())?;
-    list_words(words.as_slice(), writer)
+    list_at(alloc, reader, writer, 0)
 }

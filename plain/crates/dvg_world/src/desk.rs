@@ -1,8 +1,8 @@
-//! A driver at its desk.
+//! A driver at its desk. Others call it a checked driver.
 use std::prelude::*;
 
 use dvg_code::OutOfMemory;
-use dvg_driver::{Action, Driver, DriverFault};
+use dvg_driver::{Action, Driver, DriverFault, DriverState};
 use dvg_frame::{Checker, Op};
 use dvg_log::Entry;
 use dvg_mem::{MemFault, Rom};
@@ -78,6 +78,18 @@ impl<A: Allocator> Desk<A> {
     #[inline(always)]
     pub fn tick(&mut self, halted: bool, byte1: u8) -> Action {
         self.driver.tick(halted, byte1)
+    }
+
+    /// Returns all that the driver keeps.
+    pub fn state(&self) -> DriverState {
+        self.driver.state()
+    }
+
+    /// Brings the driver into `state`, and returns `true`: it goes on as the one whose state this
+    /// is. Returns `false` exactly where the parts of `state` don't fit together over this ROM, and
+    /// then nothing has changed.
+    pub fn resume(&mut self, state: &DriverState) -> bool {
+        self.driver.resume(state, &mut self.checker, &self.rom)
     }
 
     /// Resets the driver.

@@ -1,4 +1,4 @@
-//! The entries of events, in little room.
+//! The entries of events, in little room. Others call this a run-length encoding.
 use std::prelude::*;
 
 use dvg_gen::Stroke;

@@ -1,4 +1,6 @@
-//! Traces that happen to a world, and what is kept of them.
+//! Traces that happen to a world, and what is kept of them. One loop lets a trace happen, and a
+//! `Keeper` has what is kept of it. It is lent the world, as a contract can't speak of what was
+//! moved into a method of a trait.
 use crate::world::World;
 use dvg_code::OutOfMemory;
 use dvg_driver::Action;
@@ -11,8 +13,8 @@ pub(crate) trait Keeper<S: Store> {
     // the keeper keeps nothing of one that isn't taken.
     fn passes_over(&self, event: TraceEvent<'_, S::Alloc>) -> bool;
 
-    // Keeps the next line, the line number `number`, of `entry`, the newest one of `world`. The
-    // picture may be taken out. There must be room.
+    // Records line `number` of the log: `entry`, which `world` just returned. The picture may be
+    // taken out. There must be room.
     fn keep(&mut self, number: usize, entry: Entry<()>, world: &mut World<S>);
 
     // Keeps the next `times` lines, which are all of `entry`, where no run is finished. There must

@@ -1,9 +1,12 @@
-//! The world: both ends of the vector RAM, one event at a time.
+//! The world: both ends of the vector RAM, one event at a time. It keeps the picture, and its
+//! entries have none: so memory is used again. Who needs the strokes takes them out, as `apply`
+//! does.
 use std::prelude::*;
 
 use crate::desk::Desk;
+use crate::state::WorldState;
 use dvg_code::OutOfMemory;
-use dvg_driver::Action;
+use dvg_driver::{Action, DriverState};
 use dvg_frame::{Draft, Op};
 use dvg_gen::{Beam, Generator, Stroke};
 use dvg_log::{Entry, Event, OwnEntry, OwnEvent, TraceEvent};
@@ -234,6 +237,17 @@ impl<S: Store> World<S> {
         &self.generator
     }
 
+    /// Returns all that the driver keeps.
+    pub fn driver(&self) -> DriverState {
+        self.desk.state()
+    }
+
+    /// Returns whether a strobe is under way: the driver has sent one since the newest reset of the
+    /// whole system.
+    pub fn strobe_sent(&self) -> bool {
+        self.strobe_sent
+    }
+
     /// Returns the picture: the strokes of the newest run that came to a HALT, in the order drawn.
     /// There are none before the first HALT, and after the picture was taken.
     pub fn picture(&self) -> &[Stroke] {
@@ -253,6 +267,52 @@ impl<S: Store> World<S> {
             Entry::Done(..) => Some(self.take_picture()),
             _ => None,
         }
+    }
+
+    /// Returns all that the world keeps but its ROM and its picture, as a value that `resume`
+    /// takes. It is copied into memory of the world's allocator. Returns `OutOfMemory` where an
+    /// allocation fails.
+    pub fn state(&self) -> Result<WorldState<S::Alloc>, OutOfMemory> {
+        let mut strokes = Vec::new(self.alloc);
+        strokes.extend_from_slice(self.generator.strokes())?;
+        Ok(WorldState {
+            ram: self.image()?,
+            generator: self.generator.state(),
+            strokes,
+            driver: self.desk.state(),
+            strobe_sent: self.strobe_sent,
+        })
+    }
+
+    // Returns a copy of the RAM. Returns `OutOfMemory` where an allocation fails.
+    fn image(&self) -> Result<Image<S::Alloc>, OutOfMemory> {
+        let Ok(image) = Image::new(self.alloc, &self.ram()) else {
+            return Err(OutOfMemory);
+        };
+        Ok(image)
+    }
+
+    /// Brings the world into `state`, and returns `true`: it goes on as each world over this ROM
+    /// that was in `state` (`stands`). The ROM stays, and so does the picture. Returns `false`
+    /// exactly where the generator's state isn't valid or the parts of the driver's don't fit
+    /// together, and then nothing has changed. Of parts that fit, and that no world had at once,
+    /// nothing is said. That a state of a world over the same ROM is always taken is tested, not
+    /// proved.
+    pub fn resume(&mut self, state: WorldState<S::Alloc>) -> bool {
+        let WorldState {
+            ram,
+            generator,
+            strokes,
+            driver,
+            strobe_sent,
+        } = state;
+        if !generator.is_valid() || !self.desk.resume(&driver) {
+            return false;
+        }
+        self.store.load(&ram);
+        self.generator.resume(&generator, strokes);
+        self.strobe_sent = strobe_sent;
+        true
     }
 
     /// Resets the generator, as by `Event::ResetGen`. Returns the entry.

@@ -25,7 +25,7 @@ fn own_event(rt: &HostRuntime, event: TraceEvent) -> Option<Event> {
         TraceEvent::Fetch => Event::Fetch,
         TraceEvent::ResetGen => Event::ResetGen,
         TraceEvent::ResetCpu => Event::ResetCpu,
-        TraceEvent::ResetAll(image) => Event::ResetAll(image.clone().ok()?),
+        TraceEvent::ResetAll(image) => Event::ResetAll(image.try_clone().ok()?),
     })
 }
 

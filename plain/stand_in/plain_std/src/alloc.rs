@@ -60,14 +60,14 @@ pub trait Drop: Sized {}
 
 impl<T> Drop for T {}
 
-/// A copy, for which memory may be refused.
+/// A copy, for which memory may be refused. Rattle calls it `clone`.
 pub trait Clone: Sized {
     /// The copy.
-    fn clone(&self) -> Result<Self, AllocError>;
+    fn try_clone(&self) -> Result<Self, AllocError>;
 }
 
 impl<T: Copy> Clone for T {
-    fn clone(&self) -> Result<T, AllocError> {
+    fn try_clone(&self) -> Result<T, AllocError> {
         Ok(*self)
     }
 }
@@ -237,6 +237,12 @@ impl<T, A: Allocator> Deref for Vec<T, A> {
 impl<T, A: Allocator> DerefMut for Vec<T, A> {
     fn deref_mut(&mut self) -> &mut [T] {
         &mut self.items
+    }
+}
+
+impl<T, A: Allocator> AsRef<[T]> for Vec<T, A> {
+    fn as_ref(&self) -> &[T] {
+        self
     }
 }
 

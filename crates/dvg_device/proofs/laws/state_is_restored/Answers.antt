@@ -1,4 +1,4 @@
-use Rattle.dvg_device.proofs.Restored.{all_suit, goes_on, resumed}
+use Rattle.dvg_device.proofs.Restored.{all_suit, goes_on, resumed, resumed_wrapping}
 use Rattle.dvg_device.proofs.laws.state_is_restored.Goals as goal
 
 pub returns-clause-suits : goal.returns-clause-suits
@@ -9,3 +9,6 @@ returns-clause-restored c = resumed
 
 pub returns-clause-goes_on : goal.returns-clause-goes_on
 returns-clause-goes_on c = goes_on
+
+pub returns-clause-wrapping : goal.returns-clause-wrapping
+returns-clause-wrapping c = resumed_wrapping

@@ -1,25 +1,16 @@
-use Rattle.std.proofs.Common.{◌++◌, ◌∙◌, take, rules}
-use Rattle.dvg_io.specs.Watching.{BeginsToWrite}
-use Rattle.dvg_io.proofs.Known.{Appends-trans, Appends-kept, moves_front}
+use Rattle.std.proofs.Common.{length, take}
+use Rattle.std.specs.Prelude.{slice_range}
+use Rattle.dvg_io.specs.Watching.{stream_of}
+use Rattle.dvg_io.proofs.Known.{front_and_rest}
+use Rattle.dvg_io.proofs.Went.{nothing, piece_more, writes_rest}
 use Rattle.dvg_io.proofs.transfer.write_whole.Goals as goal
 
-pub loop-rest-preserved : goal.loop-rest-preserved
-loop-rest-preserved g c =
-    let (done, split, appended) = c.loop-rest.invariant.went_out in
-    let rest = c.loop-rest.rest.now in
+pub returns : goal.returns
+returns g c =
+    let text = c.args.text.now in
     let count = c.in-Ok.count in
-    record {
-      went_out = (done ++ take count rest, moves_front _ done rest count split, Appends-trans _ _ _ _ _ appended c.in-Ok.ensures.bytes);
-      counted = c.in-Ok.ensures.counts ∙ c.loop-rest.invariant.counted;
-    }
-
-pub returns-in_default : goal.returns-in_default
-returns-in_default g c =
-    let (done, split, appended) = c.loop-rest.invariant.went_out in
-    let begun : BeginsToWrite c.args.text.now _ _ = record {
-      front = done;
-      rest = c.loop-rest.rest.now;
-      parts = split;
-      wrote = Appends-kept _ _ _ _ appended c.in_default.ensures.bytes;
-    } in
-    (begun, search rules)
+    let later = slice_range text count (length text) in
+    writes_rest g.W.Write.contents text later c.write_rest.result c.args.writer.now c.write.new.self c.write_rest.new.writer
+    (piece_more (take count text) later (nothing text (g.W.Write.contents (stream_of c.args.writer.now)))
+    (front_and_rest text count) c.in-Ok.ensures.bytes)
+    c.in-Ok.ensures.counts c.write_rest.ensures

@@ -1,7 +1,8 @@
 use Rattle.std.proofs.Common.{[], append-nil, subst}
 use Rattle.dvg_read.specs.Texts.{lines}
-use Rattle.dvg_logs.specs.HalfLines.{FindsTorn, PassesUntorn}
+use Rattle.dvg_logs.specs.HalfLines.{PassesUntorn}
 use Rattle.dvg_logs.specs.LogReading.{StopsAt}
+use Rattle.dvg_logs.specs.LogTexts.{FindsTorn}
 use Rattle.dvg_logs.proofs.OneVerdict.{judged_at}
 use Rattle.dvg_logs.proofs.laws.each_is_judged.Goals as goal
 

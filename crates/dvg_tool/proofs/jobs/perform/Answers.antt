@@ -13,24 +13,24 @@ use Rattle.dvg_logs.specs.Tears.{Tears}
 use Rattle.dvg_io.specs.Watching.{stream_of}
 use Rattle.dvg_picture.specs.Pictures.{Pictures}
 use Rattle.dvg_picture.specs.Svgs.{DrawsSvg}
-use Rattle.dvg_tool.specs.Lists.{Lists, ListsAt}
+use Rattle.dvg_tool.specs.Lists.{Lists}
 use Rattle.dvg_tool.specs.Roms.{WritesRom}
 use Rattle.dvg_tool.specs.Checks.{Checks, ChecksBound}
 use Rattle.dvg_tool.specs.Plays.{Plays}
 use Rattle.dvg_tool.specs.PlaysSvg.{PlaysSvg}
 use Rattle.dvg_tool.specs.Reports.{of_explained, of_frames, of_made, of_bounded, of_log, of_moments, of_outcome, of_undrawn, of_verdict, written}
-use Rattle.dvg_tool.proofs.Reported.{reports, reports_at, taken_rightly}
+use Rattle.dvg_tool.proofs.Reported.{reports, reports_at}
 use Rattle.dvg_tool.proofs.jobs.perform.Goals as goal
 
 pub returns-in-List-clause-performs : goal.returns-in-List-clause-performs
 returns-in-List-clause-performs g c =
     let asked : c.args.job ≡ list_job = search rules in
-    rw asked (reports written (Lists {T = Unit {0}}) c.list.result c.reported.result _ _ _ c.reported.ensures c.list.ensures.means)
+    rw asked (reports written (Lists {T = Unit {0}} 0) c.list.result c.reported.result _ _ _ c.reported.ensures c.list.ensures.means)
 
 pub returns-in-ListAt-clause-performs : goal.returns-in-ListAt-clause-performs
 returns-in-ListAt-clause-performs g c =
     let asked : c.args.job ≡ ListAt c.in-ListAt.address = search rules in
-    rw asked (reports written (ListsAt {T = Unit {0}} c.in-ListAt.address) c.list_at.result c.reported-in-ListAt.result _ _ _ c.reported-in-ListAt.ensures c.list_at.ensures.means)
+    rw asked (reports written (Lists {T = Unit {0}} c.in-ListAt.address) c.list_at.result c.reported-in-ListAt.result _ _ _ c.reported-in-ListAt.ensures c.list_at.ensures.means)
 
 pub returns-in-Rom-clause-performs : goal.returns-in-Rom-clause-performs
 returns-in-Rom-clause-performs g c =
@@ -127,9 +127,3 @@ pub returns-in-Explain-clause-performs : goal.returns-in-Explain-clause-performs
 returns-in-Explain-clause-performs g c =
     let asked : c.args.job ≡ Explain = search rules in
     rw asked (reports of_explained Explains c.explain.result c.reported-in-Explain.result _ _ _ c.reported-in-Explain.ensures c.explain.ensures.means)
-
-pub returns-in-Torn-Halves-default-clause-took : goal.returns-in-Torn-Halves-default-clause-took
-returns-in-Torn-Halves-default-clause-took g c =
-    let asked : c.args.job ≡ Torn Halves c.in-Torn-Halves-default.base = search rules in
-    rw asked (taken_rightly c.in-Torn-Halves-default.base c.torn.result c.reported-in-Torn-Halves-default.result _ _ _ _ _
-    c.reported-in-Torn-Halves-default.ensures c.torn.ensures.tears c.torn.ensures.took)

@@ -11,6 +11,6 @@ invariant-loop-item g l = record {
   ends : (goal.iterator-loop-item g).is_finite l.item-iterator;
   counted : failures_of l.writer ≡ failures_of l.initial.writer;
   stands : Stands l.words (words_left l.item-iterator) (place_of l.item-iterator);
-  progress : (cutting : Cutting l.words) → Progress (λ place. place) cutting.items cutting.end cutting.rest (words_left l.item-iterator) (place_of l.item-iterator)
+  progress : (cutting : Cutting l.words) → Progress l.at cutting.items cutting.end cutting.rest (words_left l.item-iterator) (place_of l.item-iterator)
       (g.W.Write.contents (stream_of l.initial.writer)) (g.W.Write.contents (stream_of l.writer));
 }

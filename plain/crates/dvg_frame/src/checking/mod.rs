@@ -1,5 +1,6 @@
 //! The check of drafts: what is drawn from each place, and which pairs of place and depth are
-//! reached.
+//! reached. Others say flow for `Way`, cost for `Span`, state for `Pair`, resolve for `settle` and
+//! explore for `sweep`.
 mod bounds;
 mod chain;
 mod checks;

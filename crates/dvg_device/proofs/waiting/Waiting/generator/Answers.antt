@@ -19,13 +19,13 @@ pub returns : goal.returns
 returns c =
     let valid = c.is_valid.ensures.0 c.if-not-is_valid.false in
     let stands = subst CanStand c.self.view_is (can_stand c.self.inside.state c.self.inside.strokes.items [] valid) in
-    let same = c.state.view_is ∙ c.replace.ensures.value in
-    let state = c.state.inside.state in
-    let strokes = c.state.inside.strokes.items in
-    let there = is_state state strokes [] (subst CanStand (sym same) stands) in (
+    let told = c.take_told-state.ensures.told in
+    let state = c.take_told-state.result.0 in
+    let strokes = c.take_told-state.result.1.items in
+    let there = is_state state strokes [] (subst CanStand told stands) in (
       stands,
-      sym (ap (λ (machine : Machine). machine.picture) c.self.view_is),
+      ap (λ (machine : Machine). machine.picture) told,
       c.resume.ensures.machine (c.resume.ensures.taken.1 there)
-          ∙ ap (machine_of state strokes) c.new-generator.ensures.picture ∙ same,
-      c.replace.ensures.after ∙ c.new.ensures,
+          ∙ ap (machine_of state strokes) c.new-generator.ensures.picture ∙ sym told,
+      c.take_told-state.ensures.forgotten,
     )

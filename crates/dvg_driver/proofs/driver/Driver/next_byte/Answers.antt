@@ -1,5 +1,4 @@
 use Rattle.std.proofs.Common.{subst, sym}
-use Rattle.dvg_driver.specs.declared.driver.Phase.TheVariants as phase
 use Rattle.std.specs.Prelude.{IfSome}
 use Rattle.dvg_driver.specs.Phases.{KeepsPhase, stage_of}
 use Rattle.dvg_driver.specs.Stands.{WritesNext}

@@ -1,5 +1,5 @@
 use Rattle.std.proofs.Common.{not, refl}
-use Rattle.dvg_driver.specs.declared.driver.Phase.TheVariants as phase
+use Rattle.dvg_driver.specs.declared.state.Phase.TheVariants as phase
 use Rattle.dvg_driver.proofs.Shapes.{rests_whole}
 use Rattle.dvg_driver.proofs.Standing.{at_phase, not_whole}
 use Rattle.dvg_driver.proofs.driver.Driver.offer_checked.Goals as goal

@@ -1,8 +1,28 @@
-use Rattle.std.proofs.Common.{◌-◌, length, refl, sym, ap, ◌∙◌, subst, arith}
-use Rattle.dvg_frame.specs.Cursors.{bytes_from}
-use Rattle.dvg_frame.proofs.Cursors.{one_more, turns, GoesOn, IsNext, next_items, next_kept}
+use Rattle.std.proofs.Common.{◌≡◌, ◌≢◌, ◌<◌, ◌-◌, [], length, refl, sym, ap, ◌∙◌, subst, arith}
+use Rattle.dvg_frame.specs.declared.cursor.Cursor.TheInside.{Inside}
+use Rattle.dvg_frame.specs.Cursors.{IsCursor, bytes_from}
+use Rattle.dvg_frame.proofs.Cursors.{left_is, none_left, one_more, turns, GoesOn, IsNext, next_items, next_kept}
 use Rattle.dvg_frame.proofs.cursor.CursorIterator.next.Goals as goal
 use Rattle.dvg_frame.proofs.cursor.CursorIterator.next.Goals.{Joined-is_empty, After-take, then-is_empty, else-is_empty}
+
+pub returns-then-self-eq0-clause-steps : goal.returns-then-self-eq0-clause-steps
+returns-then-self-eq0-clause-steps c =
+    let none = none_left c.self.inside _ c.self.view_is c.self.invariant c.if-self-eq0.true in
+    (none, none)
+
+-- there is one more operation
+within : (S : Inside) → IsCursor S → S.left ≢ 0 → S.at_hand ≡ [] → S.op < length S.draft
+within S kept some none = one_more S.half S.draft S.at_hand S.op S.left (left_is S kept) some none
+
+pub bytes_of-self-inside-requires-clause-within : goal.bytes_of-self-inside-requires-clause-within
+bytes_of-self-inside-requires-clause-within c =
+    within c.self.inside c.self.invariant c.if-self-eq0.false (c.is_empty.ensures.0 c.if-is_empty.true)
+
+pub overflow_add-self : goal.overflow_add-self
+overflow_add-self c =
+    let op = within c.self.inside c.self.invariant c.if-self-eq0.false (c.is_empty.ensures.0 c.if-is_empty.true) in
+    let few = c.self.invariant.counted.draft.count in
+    omega arith
 
 -- a byte is at hand
 ready : (c : Joined-is_empty) → GoesOn c.self.inside c.if-is_empty.self-inside
@@ -11,13 +31,12 @@ ready c =
     elim c.if-is_empty.branch [
       | then-is_empty w ↦ (
           let none = c.is_empty.ensures.0 w.if-is_empty.true in
-          let within = one_more S.half S.draft S.at_hand S.op S.left c.self.invariant.left c.if-self-eq0.false none in
-          let next = turns S.half S.draft S.at_hand w.bytes_of-self-inside.result S.op none within w.bytes_of-self-inside.ensures in
+          let next = turns S.half S.draft S.at_hand w.bytes_of-self-inside.result S.op none (within S c.self.invariant c.if-self-eq0.false none) w.bytes_of-self-inside.ensures in
           subst (λ N. GoesOn S N) (sym w.self-inside-is)
-          (record { same = next.same; some = next.some; end = refl; left = refl; begins = c.self.invariant.begins; counted = c.self.invariant.counted }))
+          (record { same = next.same; some = next.some; draft = refl; half = refl; end = refl; left = refl; counted = c.self.invariant.counted }))
       | else-is_empty w ↦
           subst (λ N. GoesOn S N) (sym w.self-inside-is)
-          (record { same = refl; some = λ none. absurd (let is = c.is_empty.ensures.1 none in cc); end = refl; left = refl; begins = c.self.invariant.begins; counted = c.self.invariant.counted })
+          (record { same = refl; some = λ none. absurd (let is = c.is_empty.ensures.1 none in cc); draft = refl; half = refl; end = refl; left = refl; counted = c.self.invariant.counted })
     ]
 
 pub take-requires : goal.take-requires
@@ -32,9 +51,10 @@ gave c on =
     record {
       here = let end = on.end in let left = on.left in omega arith;
       bytes = on.same ∙ ap (λ bs. bytes_from N.half N.draft bs N.op) c.take.ensures;
+      draft = on.draft;
+      half = on.half;
       end = on.end;
       left = let same = on.left in omega arith;
-      begins = on.begins;
       counted = on.counted;
     }
 

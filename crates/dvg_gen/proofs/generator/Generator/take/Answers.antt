@@ -22,7 +22,7 @@ returns-else-first-lt40960-clause-answers g c =
     let instr = c.of_two-else-first-lt40960.result in
     let completes = subst (λ h. Completes h c.args.word instr) (sym held) c.of_two-else-first-lt40960.ensures in
     claim_result {E = OutOfMemory} (Ok c.place.result) c.args.word c.args.self.now c.place.new.self instr c.requires
-    completes c.place.ensures
+    completes c.place.ensures.obeyed
 
 pub returns-then-word-lt45056-clause-answers : goal.returns-then-word-lt45056-clause-answers
 returns-then-word-lt45056-clause-answers g c =
@@ -37,7 +37,7 @@ returns-in-11-clause-answers g c =
     let held = ap (λ m. m.held) (sym c.self.view_is) ∙ c.in_default.is in
     let opcode = c.in-11.is in
     claim_alone {E = OutOfMemory} (Ok c.finish.result) c.args.word c.args.self.now c.finish.new.self Halt c.requires
-    held (halt (omega arith) (omega arith)) c.finish.ensures
+    held (halt (omega arith) (omega arith)) c.finish.ensures.obeyed
 
 pub returns-in-12-clause-answers : goal.returns-in-12-clause-answers
 returns-in-12-clause-answers g c =

@@ -20,6 +20,6 @@ returns-then-take_logged-clause-taken g c =
     let is : firsts 0 2 text ≡ codes "e " = rw (letter, space) refl in
     let named : text ≡ codes "e " ++ numbers = head_of text 2 c.in-101.len_at_least ∙ ap (λ front. front ++ numbers) is in
     let line = wrote_line c.in_ok-address.address c.in_ok-address.byte in
-    let head = wrote_head c.in_ok-address.ensures (omega (arith, c.if-address-lt-RAM_END.true)) in
+    let head = wrote_head c.in_ok-address.ensures (omega (arith, c.if-address-lt-RAM_BYTES.true)) in
     line_taken (subst (λ text. HeadLine (λ base. base ≡ None) line (codes "wrot" ++ text) c.in_ok-address.rest.now) (sym named) head)
     (λ base is. sym is ∙ none) (c.take_logged.ensures.taken c.if-take_logged.true)

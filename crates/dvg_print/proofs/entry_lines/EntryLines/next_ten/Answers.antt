@@ -11,8 +11,8 @@ invariant_of-self c =
       ap (λ d. take c.tens_of.result.1 c.tens_of.result.0 ++ d ∷ []) zero ∙ c.tens_of.ensures.digits,
     )
 
-pub invariant_of-self-else-not-count_up : goal.invariant_of-self-else-not-count_up
-invariant_of-self-else-not-count_up c =
+pub invariant_of-self-else-not-add_one : goal.invariant_of-self-else-not-add_one
+invariant_of-self-else-not-add_one c =
     let old = c.self.inside in
     let nine : old.next % 10 ≡ 9 = search rules in
     let small : old.next + 1 < 2 ^ 64 = search rules in
@@ -20,4 +20,4 @@ invariant_of-self-else-not-count_up c =
     let last = last_digit old.next old.ones front (omega (arith, small)) (sym c.self.invariant.1) in
     let high : 57 ≤ old.ones = omega (arith, last, nine) in
     let split = nine_at_end old.next old.ones front small c.self.invariant.1 high in
-    (c.self.invariant.0, c.if-not-count_up.ensures refl old.next small split.1)
+    (c.self.invariant.0, c.if-not-add_one.ensures refl old.next small split.1)

@@ -1,0 +1,277 @@
+"""What the checker asks of a program, rule by rule: the same as crates/dvg_game/specs/Checker.antt,
+which is what is proved, and why it refuses. tests/games compares the answers of both.
+
+A note says what holds at an instruction:
+
+    level   main, sub or nmi, which end with nothing, RTS and RTI
+    depth   how many bytes were pushed since the level began
+    held    what A, X and Y hold: 'a', 'x', 'y' for what was there where the NMI came, or '.'
+    slots   the same of the bytes that were pushed last, the newest first
+    room    how many bytes it may still push, with all that it calls
+    fuel    how many instructions the NMI may still do
+    awake   dvg_reset was called, and none of the driver's bytes were written since
+    blank   a frame that is being built may have nothing in it
+    ends    the same, where this subroutine returns
+"""
+from collections import namedtuple
+
+from opcodes import BRANCHES, TRANSFERS, Instruction
+from program import (NMI_VECTOR, RESET_VECTOR, ROUTINES, START, is_code, is_driver, is_free,
+                     is_operand, is_own, is_strobe, place)
+
+Note = namedtuple('Note', 'level depth held slots room fuel awake blank ends')
+NMI_INSTRUCTIONS = 800
+NMI_STACK = 32                  # bytes that an NMI may push, with its own three
+BOOT_INSTRUCTIONS = 32
+ANYTHING, UNCHANGED = '...', 'axy'
+TOO_EARLY = 'comes before dvg_reset, or after a store of a byte of 10 to 20'
+EMPTY = 'the frame may be empty yet: begin it with dvg_labs'
+GOES_ON = {'dvg_put', 'dvg_pair', 'dvg_vector', 'dvg_close'}
+
+
+class Refused(Exception):
+    """Why an instruction is refused."""
+
+
+def bytes_of(number):
+    return f'{number} byte{"s" * (number != 1)}'
+
+
+def may_write(level, a):
+    return is_free(a) or level != 'nmi' and is_operand(a) or level == 'main' and is_own(a)
+
+
+def stores_own(i):
+    """Whether an instruction may store a byte of the driver's, but dvg_y and dvg_x."""
+    return i.writes() and any(map(is_own, i.reached() or ()))
+
+
+def check_store(i, level):
+    if i.reached() is None:
+        raise Refused('it stores through a pointer, which may lead anywhere: store by an index')
+    for a in i.reached():
+        if may_write(level, a):
+            continue
+        if len(i.reached()) > 1:
+            cure = ('let the array stand from 0200 on, and begin at 0300 or before (.segment "BSS")'
+                    if i.operand < 0x400 else 'an index is for arrays in RAM alone')
+            raise Refused(f'by its index it may reach {a:04X}, {place(a)}: {cure}')
+        raise Refused(f'it writes {a:04X}, {place(a)}{", in the NMI" * (level == "nmi")}')
+
+
+def check_read(i):
+    if i.size < 3:
+        return
+    for a in i.reached():
+        if is_strobe(a):
+            raise Refused(f'it may read {a:04X}, the strobe')
+
+
+def check_next(program, notes, now, to):
+    """What is to come is noted, and its note asks for no more than this one leaves."""
+    new = notes.get(to) if is_code(to) else None
+    where = program.where(to)
+    if new is None:
+        raise Refused(f'it goes on at {to:04X}, where no instruction of the game is known')
+    if new.level != now.level:
+        raise Refused(f'it goes on at {where}, which is {new.level}, not {now.level}: '
+                      'is there an RTS or JMP too few?')
+    if new.depth != now.depth:
+        raise Refused(f'{bytes_of(now.depth)} on the stack, and at {where} {new.depth}: '
+                      'push and pull as much on each way')
+    if new.room > now.room:
+        raise Refused('it needs more of the stack than there is: does a subroutine call itself, '
+                      'or a loop push?')
+    if now.level == 'nmi' and new.fuel >= now.fuel:
+        raise Refused('the NMI may loop, or lasts too long: it waits for nothing')
+    if new.awake and not now.awake:
+        raise Refused('dvg_reset may not have been called, or a byte of 10 to 20 was stored since')
+    if any(n not in ('.', h) for n, h in zip(new.held, now.held)):
+        raise Refused('a register is not what it is taken for')
+    if len(new.slots) > len(now.slots) or any(
+            n not in ('.', s) for n, s in zip(new.slots, now.slots)):
+        raise Refused('a byte of the stack is not what it is taken for')
+    if now.blank and not new.blank:
+        raise Refused('the frame may be empty')
+    if new.ends and not now.ends:
+        raise Refused('its RTS may leave an empty frame')
+
+
+def check_driver(to, now):
+    """A call of the driver; gives what is blank after it."""
+    name = ROUTINES.get(to)
+    if name is None:
+        raise Refused(f'it goes to {to:04X}, which is no routine that is proved')
+    if now.level == 'nmi':
+        raise Refused(f'the NMI calls {name}: let the program call it')
+    if now.room < 4:
+        raise Refused('the stack has no room for the driver')
+    if name != 'dvg_reset' and not now.awake:
+        raise Refused(f'{name} {TOO_EARLY}')
+    if name in GOES_ON and now.blank:
+        raise Refused(f'{name} comes where {EMPTY}')
+    return name == 'dvg_open' or now.blank and name not in ('dvg_labs', 'dvg_reset')
+
+
+def check_return(now, blank):
+    if now.level != 'sub':
+        raise Refused(f'it returns from level {now.level}, where no call is open')
+    if now.depth:
+        raise Refused(f'it returns with {bytes_of(now.depth)} more on the stack: '
+                      'pull what was pushed, on each way')
+    if blank and not now.ends:
+        raise Refused('it returns with an empty frame')
+
+
+def check_jump(program, notes, now, to):
+    if to == program.word(RESET_VECTOR):
+        if now.level == 'nmi':
+            raise Refused('the NMI jumps to the reset: let the program look, and jump')
+    elif is_driver(to):
+        check_return(now, check_driver(to, now))
+    else:
+        check_next(program, notes, now, to)
+
+
+def check_call(program, notes, now, to, back):
+    if is_driver(to):
+        blank = check_driver(to, now)
+        return check_next(program, notes, now._replace(awake=True, blank=blank), back)
+    if now.level == 'nmi':
+        raise Refused('the NMI calls a subroutine: write its instructions there')
+    if now.room < 2:
+        raise Refused('the stack has no room for the call')
+    called = notes.get(to) if is_code(to) else None
+    ends = called is None or called.ends
+    check_next(program, notes, now._replace(level='sub', depth=0, slots='', room=now.room - 2,
+                                            ends=ends), to)
+    check_next(program, notes, now._replace(blank=ends), back)
+
+
+def check_finish(now):
+    if now.level != 'nmi':
+        raise Refused(f'RTI from level {now.level}: the NMI alone ends with it')
+    if now.depth:
+        raise Refused(f'RTI with {bytes_of(now.depth)} more on the stack: pull what was pushed')
+    for register, held in zip(UNCHANGED, now.held):
+        if held != register:
+            raise Refused(f'the NMI does not give back {register.upper()}: '
+                          'push it first of all, and pull it before RTI')
+
+
+def held_after(i, now, top):
+    """What A, X and Y hold after an instruction; top is what a PLA brings."""
+    held = dict(zip(UNCHANGED, now.held))
+    if i.name == 'pla':
+        held['a'] = top
+    elif i.name in TRANSFERS:
+        held[TRANSFERS[i.name][1]] = held[TRANSFERS[i.name][0]]
+    elif i.sets():
+        held[i.sets()] = '.'
+    return ''.join(held.values())
+
+
+def after(i, now):
+    """What holds after an instruction that goes on behind itself."""
+    held = held_after(i, now, now.slots[:1] or '.')
+    if i.name in ('pha', 'php'):
+        slot = now.held[0] if i.name == 'pha' else '.'
+        return now._replace(depth=now.depth + 1, room=now.room - 1, slots=slot + now.slots)
+    if i.name in ('pla', 'plp'):
+        return now._replace(depth=now.depth - 1, room=now.room + 1, slots=now.slots[1:], held=held)
+    if i.writes():
+        return now._replace(awake=now.awake and not stores_own(i))
+    return now._replace(held=held)
+
+
+def check_alone(i, now):
+    """What is asked of an instruction by itself."""
+    if i.name == 'none':
+        raise Refused(f'{i.opcode:02X} is no opcode: does the program run on into data?')
+    if i.name in ('brk', 'sed', 'txs') or i.mode == '(abs)':
+        raise Refused({'brk': 'it goes where an IRQ does', 'sed': 'decimal sums are not proved',
+                       'txs': 'S is set at a reset alone: LDX #$FF, TXS, before any call'}.get(
+                           i.name, 'a jump by a table leads nobody knows where: compare, and JMP'))
+    if i.writes():
+        check_store(i, now.level)
+    elif i.name not in ('jmp', 'jsr'):
+        check_read(i)
+    if i.name in ('pha', 'php') and now.room < 1:
+        raise Refused('the stack has no room for it')
+    if i.name in ('pla', 'plp') and now.depth < 1:
+        raise Refused('it takes what was not pushed here: a subroutine ends by RTS alone')
+
+
+def check_one(program, notes, at):
+    i, now = Instruction(program.rom, at), notes[at]
+    check_alone(i, now)
+    if i.name == 'jmp':
+        check_jump(program, notes, now, i.operand)
+    elif i.name == 'jsr':
+        check_call(program, notes, now, i.operand, i.next)
+    elif i.name == 'rts':
+        check_return(now, now.blank)
+    elif i.name == 'rti':
+        check_finish(now)
+    else:
+        if i.name in BRANCHES:
+            check_next(program, notes, now, i.operand)
+        check_next(program, notes, after(i, now), i.next)
+
+
+def boot(program):
+    """Where a program starts, after its reset's LDX #$FF, TXS. Refused gives the address, too."""
+    at = program.word(RESET_VECTOR)
+    for _ in range(BOOT_INSTRUCTIONS):
+        if not is_code(at):
+            raise Refused(at, 'the reset leads out of the game')
+        if [program.rom[at + k] for k in range(3)] == [0xA2, 0xFF, 0x9A]:
+            return at + 3
+        i = Instruction(program.rom, at)
+        try:
+            check_boot(i)
+        except Refused as why:
+            raise Refused(at, *why.args) from None
+        at = i.next
+    raise Refused(at, 'LDX #$FF, TXS comes too late')
+
+
+def check_boot(i):
+    """A reset stores, and sets A, X, Y and flags, up to its LDX #$FF, TXS."""
+    check_alone(i, Note('main', 0, ANYTHING, '', 0, 0, False, False, False))
+    others = {'jmp', 'jsr', 'rts', 'rti', 'pla', 'plp'} | BRANCHES | set(TRANSFERS)
+    if i.name in others or i.writes() and i.size == 3 and ',' in i.mode:
+        raise Refused('a reset begins with LDX #$FF, TXS; before it come loads and stores alone')
+
+
+def check_begin(program, notes, start):
+    first, nmi = notes.get(start), notes.get(program.word(NMI_VECTOR))
+    if first is None or first.level != 'main' or first.depth or first.awake:
+        raise Refused('the note of the start is not one')
+    if nmi is None or nmi.level != 'nmi' or nmi.depth or nmi.slots or nmi.awake:
+        raise Refused('the NMI\'s vector leads nowhere')
+    if nmi.fuel > NMI_INSTRUCTIONS:
+        raise Refused(f'the NMI may loop, or does more than {NMI_INSTRUCTIONS} instructions')
+    if nmi.room + 3 > NMI_STACK:
+        raise Refused(f'the NMI may push {nmi.room} bytes: {NMI_STACK - 3} are left for it')
+    if first.room + NMI_STACK > 255:
+        raise Refused(f'the program may push {first.room} bytes, and {255 - NMI_STACK} are there: '
+                      'does a subroutine call itself?')
+
+
+def refusals(program, notes, start, driver):
+    """Lines, one for each instruction that is refused; none: the program is accepted."""
+    lines = []
+    for at, byte in enumerate(driver, START):
+        if program.rom[at] != byte:
+            return [f"{at:04X}: the code there isn't the driver's"]
+    for at in sorted(notes):
+        try:
+            check_one(program, notes, at)
+        except Refused as why:
+            lines.append(f'{program.where(at)}: {Instruction(program.rom, at)}: {why}')
+    try:
+        check_begin(program, notes, start)
+    except Refused as why:
+        lines.append(f'the vectors: {why}')
+    return lines

@@ -1,0 +1,5 @@
+pub mod Cells
+pub mod Cpu
+pub mod Refines
+pub mod Interrupts
+pub mod Widths

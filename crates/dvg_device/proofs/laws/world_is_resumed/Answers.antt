@@ -1,0 +1,11 @@
+use Rattle.dvg_device.proofs.Resumed.{driver_passed, operation_passed, world_resumed}
+use Rattle.dvg_device.proofs.laws.world_is_resumed.Goals as goal
+
+pub returns-clause-driver : goal.returns-clause-driver
+returns-clause-driver c = driver_passed
+
+pub returns-clause-operations : goal.returns-clause-operations
+returns-clause-operations c = operation_passed
+
+pub returns-clause-resumed : goal.returns-clause-resumed
+returns-clause-resumed c = world_resumed

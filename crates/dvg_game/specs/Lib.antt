@@ -1,0 +1,13 @@
+pub mod Kinds
+pub mod Machine
+pub mod Checker
+pub mod Safe
+pub mod Between
+pub mod Alike
+pub mod Written
+pub mod Bat
+pub mod First
+pub mod Rocks
+pub mod Asteroid
+pub mod TestRom
+pub mod SomeRun

@@ -1,0 +1,11 @@
+pub mod Fits
+pub mod Found
+pub mod Quiet
+pub mod Few
+pub mod Seen
+pub mod Stepping
+pub mod Playing
+pub mod Owning
+pub mod Going
+pub mod ExampleCalls
+pub mod Example

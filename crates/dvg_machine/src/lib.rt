@@ -1,0 +1,61 @@
+//! The whole machine as cells: a processor (`core/dvg_cpu.v`) and the generator's board
+//! (`core/dvg_board.v`) on one clock (`core/dvg_machine.v`). There is no code here. Each law is the
+//! contract of a function that does nothing.
+//!
+//! `specs/Machine.antt` is made by `core/cells`, and the cycles of the example by `tables`.
+#![tactic(auto)]
+
+ghost use Rattle.dvg_machine.specs.Example.{SomePlayed};
+ghost use Rattle.dvg_machine.specs.GoesOn.{CallGoesOn, CellsGoOn};
+ghost use Rattle.dvg_machine.specs.Own.{NmiIsQuiet, OwnIsQuiet};
+ghost use Rattle.dvg_machine.specs.Played.{CellsKeep, ResetWaits};
+ghost use Rattle.dvg_machine.specs.Shown.{ShowsParts};
+ghost use Rattle.dvg_machine.specs.Steps.{CellsStep};
+
+use dvg_system::machine_keeps;
+
+/// Each instruction of a call of the driver's code is done by the cells: it is a step of the call,
+/// and its access is made on the board.
+pub fn cells_step()
+    ensures { CellsStep }
+{}
+
+/// For every run of the cells since power-up, whose processor calls the driver's routines, and
+/// else writes neither the vector RAM nor the strobe: there is a log that its clocks make; it is
+/// legal and keeps the headline, and the RAM holds what it says. What the program reads by itself
+/// isn't in it, and before the first call it may write the RAM.
+pub fn cells_keep()
+    ensures { CellsKeep }
+{
+    machine_keeps();
+}
+
+/// What leaves the board alone, said of the definition of the processor: where an instruction's
+/// step does, the cycles in which the cells do it do, too; and so does an NMI.
+pub fn own_is_quiet()
+    ensures own { OwnIsQuiet }
+    ensures nmi { NmiIsQuiet }
+{}
+
+/// A reset is taken between two cycles: in the second clock of one it does nothing.
+pub fn reset_waits()
+    ensures { ResetWaits }
+{}
+
+/// A run can always go on: by a cycle of the program, whatever its pins are, and by the next
+/// instruction of a call, if the board's answers are what the call has.
+pub fn goes_on()
+    ensures alone { CellsGoOn }
+    ensures calls { CallGoesOn }
+{}
+
+/// The machine's pins are those of its processor and its board, in each clock.
+pub fn machine_shows()
+    ensures { ShowsParts }
+{}
+
+/// An example: cells since power-up, whose program tells the watchdog, boot the driver, and calls
+/// of `dvg_tick` look at byte 001 and at the flag.
+pub fn some_played()
+    ensures { SomePlayed }
+{}

@@ -1,0 +1,28 @@
+-- A world's state as a plain value.
+use Rattle.std.specs.Prelude.{◌≡◌, ℕ, List}
+use Rattle.dvg_gen.specs.declared.stroke.Stroke.{Stroke}
+use Rattle.dvg_gen.specs.Saved as generator
+use Rattle.dvg_gen.specs.Saved.{machine_of}
+use Rattle.dvg_driver.specs.Saved as driver
+use Rattle.dvg_driver.specs.Saved.{stage_in}
+use Rattle.dvg_world.specs.declared.state.WorldState.{WorldState}
+use Rattle.dvg_world.specs.Standing.{KeepsLogs, State}
+
+-- the parts of a state fit, over this ROM: a generator can be in one of them, and those of the driver fit together
+abbrev pub IsState : {A : Type 0} → List ℕ → WorldState A → Type 0
+IsState R state = generator.IsState state.generator × driver.IsState R state.driver
+
+-- the world in a state, over this ROM and with this picture
+abbrev pub world_in : {A : Type 0} → List ℕ → WorldState A → List Stroke → State
+world_in R state picture = record {
+  rom = R;
+  ram = state.ram;
+  machine = machine_of state.generator state.strokes.items picture;
+  stage = stage_in state.driver;
+  sent = state.strobe_sent;
+}
+
+-- a world stands after each log that a world in this state over this ROM stands after
+abbrev pub GoesOnAs : {A : Type 0} → List ℕ → WorldState A → State → Type 0
+GoesOnAs R state world = (saved : State) (picture : List Stroke) → saved ≡ world_in R state picture
+    → KeepsLogs saved world

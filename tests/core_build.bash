@@ -1,0 +1,43 @@
+# How tests/core and tests/core_top build a bench by Verilator. What no bench changes, Verilator's
+# own objects and the headers, is compiled once for a version of both compilers, and kept in
+# build/verilated of this repository.
+bench_flags="-O1 -I$top/include"
+
+# Where that is kept.
+common_folder() {
+    { verilator --version && c++ --version && echo "$bench_flags"; } | sha256sum |
+        sed -E "s|^(.{16}).*|$top/build/verilated/\1|"
+}
+
+# Makes that folder, if it isn't there: the folder of a bench, and what Verilator calls the circuit.
+make_common() {
+    local made
+    [ ! -d "$common" ] || return 0
+    mkdir -p "$top/build/verilated" && made=$(mktemp -d "$top/build/verilated/new.XXXXXX") || return
+    printf '#include <%s>\n' verilated.h cinttypes cstdio cstdlib vector >"$made/common.h"
+    make -s -C "$1" -f "$tests/core_build.mk" MADE="$2" INTO="$made" common \
+        VM_USER_CFLAGS="$bench_flags" || return
+    mv -T "$made" "$common" 2>/dev/null || rm -rf "$made"
+    [ -d "$common" ]
+}
+
+# Whether the object of a bench is that of another folder, as the headers of the circuit are: the
+# folders, and what Verilator calls the circuit.
+is_alike() {
+    [ -n "$2" ] && [ "$1" != "$2" ] && cmp -s "$1/$3.h" "$2/$3.h" &&
+        cmp -s "$1/$3___024root.h" "$2/$3___024root.h"
+}
+
+# Builds a bench as FOLDER/bench: the folder, its name, the module that it plays, and what else
+# Verilator is given. `prefix` is what Verilator calls the circuit, if it isn't V and the module's
+# name; `like` is a folder in which the same bench was built of other Verilog, if there is one.
+build_simulation() {
+    local made=${prefix:-V$3}
+    [ -n "${common-}" ] || common=$(common_folder)
+    verilator --cc --exe -O3 -Wno-fatal --Mdir "$1" -o bench --top-module "$3" --prefix "$made" \
+        "${@:4}" "$tests/$2.cpp" "$top/build/libdvg.a" \
+        -CFLAGS "$bench_flags -include $common/common.h" || return
+    make_common "$1" "$made" && cp "$common"/*.o "$1" || return
+    ! is_alike "$1" "${like-}" "$made" || cp "$like/$2.o" "$1"
+    make -s -C "$1" -f "$made.mk" OPT_FAST= OPT_SLOW= OPT_GLOBAL=
+}

@@ -1,0 +1,62 @@
+"""Faults of what a program offers and puts, planted in programs of examples/: of each the program,
+its source, what it is, the old text, the new one, and words of the line that is wanted."""
+
+BAT = 'bat', 'game.s'
+FIRST = 'first', 'first.s'
+DRAW = 'draw:   jsr dvg_open\n        draw_at wall_x, wall_y, wall\n'
+OFFER = '        jsr dvg_offer       ; takes the frame\n'
+LISTS = '        ldx tables_high,y\n        lda tables_low,y\n'
+CODE = '.segment "CODE"\nreset:'
+OWN = CODE, '.segment "DATA"\n.scope own\nwalk_0: .word {}\n.endscope\n' + CODE
+BY_OWN = LISTS + '        lda #<own::walk_0\n        ldx #>own::walk_0\n'
+
+
+def put(word):
+    """Puts a word into the bat's picture."""
+    return DRAW, f'{DRAW}        lda #<({word})\n        ldx #>({word})\n        jsr dvg_put\n'
+
+
+def offer(low, high):
+    """Offers a table before the bat's picture is drawn."""
+    return 'draw:   jsr dvg_open', '\n        '.join(
+        ['draw:   ' + low, high, 'jsr dvg_offer', 'jsr dvg_open'])
+
+
+CONTENTS = [
+    (*BAT, [put('$1234')], 'a vector of one word', 'it puts 1234'),
+    (*BAT, [put('bat')], 'the place of a shape without the opcode of a call', 'it puts 0A'),
+    (*BAT, [put('$C123')], 'a call into the frame', 'it puts C123'),
+    (*BAT, [put('$C000 | bat + 1')], 'a call amid a shape', 'which is no call of a shape'),
+    (*BAT, [put('$E201')], 'a jump into the other half', 'it puts E201'),
+    (*BAT, [put('$F400')], 'a short vector whose zero has a sign', 'it puts F400'),
+    (*BAT, [put('$F0F1')], 'a short vector', '46 words checked; there are no others'),
+    (*BAT, [(DRAW, DRAW + '        ldx letters_high,y\n        jsr dvg_put\n')],
+     'a shape by an index that is not looked at', 'not seen is what is offered or put at'),
+    (*BAT, [(DRAW, DRAW + '        jsr dvg_pair\n')], 'two words', 'not seen is what'),
+    (*BAT, [offer('lda #<title', 'ldx #>title')],
+     'a text for a table', 'where no table stands'),
+    (*BAT, [offer('lda #0', 'ldx #2')],
+     'a table in the RAM', 'it offers 0200'),
+    (*FIRST, [(LISTS, BY_OWN), (OWN[0], OWN[1].format('3, $A190, $0190, $E201'))],
+     'a table of its own, by the name of another one', 'where no table stands'),
+    (*FIRST, [(LISTS, BY_OWN), (OWN[0], OWN[1].format(
+        '600, $A190, $1190, $C800, $A17C, $212C, $C815, $B000'))],
+     'a table with a wrong count', 'where no table stands'),
+    (*FIRST, [(LISTS, BY_OWN), (OWN[0], OWN[1].format(
+        '7, $A190, $1190, $C800, $A17C, $212C, $C815, $B000'))],
+     'the bytes of a table, once more', '1 tables checked'),
+    (*FIRST, [('cpy #tables_high - tables_low', 'cpy #tables_high - tables_low + 1')],
+     'a number of a table that is one too large', 'where no table stands'),
+    (*FIRST, [('bcs again', 'bcc again')], 'the wrong branch', 'not seen is what'),
+    (*FIRST, [('        bcs again\n', '')], 'a number that is not looked at', 'not seen is what'),
+    (*FIRST, [(LISTS, LISTS.replace('\n', '\n        iny\n', 1))],
+     'the low byte of the next table', 'not seen is what'),
+    (*FIRST, [(OFFER, 'here:' + OFFER[5:]),
+              ('again:  lda #0\n', 'again:  bmi here\n        lda #0\n')],
+     'a jump between the loads and the call', 'not seen is what'),
+    (*FIRST, [(OFFER, '        lda #0\n' + OFFER)], 'a low byte that is lost',
+     'where no table stands'),
+    (*FIRST, [(OFFER, '        adc #2\n' + OFFER)], 'a sum', 'not seen is what'),
+    ('asteroid_game', 'game.s', [('cpy #SHAPE_FLAME + 16', 'cpy #SHAPE_FLAME + 17')],
+     'a list that is read beyond its end', 'which is no call of a shape'),
+]
