@@ -109,9 +109,6 @@ pair_full q a x y s n z c v d i free publish next t0 t1 pages end second f0 f1 m
 
 -- at a routine's entry
 module _ (cpu : Cpu) (entry : ℕ) (enters : Enters cpu entry) where
-  abbrev page_here : List ℕ
-  page_here = page_in cpu.mem
-
   abbrev here : Cpu
   here = at entry cpu.a cpu.x cpu.y cpu.s cpu.n cpu.z cpu.c cpu.v cpu.d cpu.i (laid (page_in cpu.mem) cpu.mem) cpu.flags []
 
