@@ -16,7 +16,7 @@ use Rattle.dvg_log.specs.Entries.{Shown}
 use Rattle.dvg_log.specs.declared.entry.Entry.TheVariants.{Started, Low, Still, Cleared}
 use Rattle.dvg_log.specs.Log.{◌⟼◌, Log, ram, strobed}
 use Rattle.dvg_core.specs.Cells.{bit, both, lt, mux, none, some, part, joined}
-use Rattle.dvg_core.specs.Core.{Core, Pins, halted}
+use Rattle.dvg_core.specs.Core.{Core, halted}
 use Rattle.dvg_core.specs.Core as cells
 use Rattle.dvg_board.specs.Memory.{memwr}
 use Rattle.dvg_board.specs.Board.{Board, Bus, clock}
