@@ -17,7 +17,7 @@ use Rattle.dvg_motion.specs.Motion.{going}
 use Rattle.dvg_motion.specs.Motion as motion
 use Rattle.dvg_motion.specs.Pace.{hold}
 use Rattle.dvg_motion.specs.Pace as pace
-use Rattle.dvg_motion.specs.Vectors.{Vectors, Bus, halted, drives_board, drives_pace, drives_motion}
+use Rattle.dvg_motion.specs.Vectors.{Vectors, Bus, halted, drives_board}
 use Rattle.dvg_motion.specs.Pulses.{counters_of}
 use Rattle.dvg_motion.specs.Machine.{IsBus, AreBytes, AtRest, after, core_pins, cores, Follows, MachineFollows, HaltedTells, AreIdle, ticks, ticks_of_byte}
 use Rattle.dvg_motion.specs.Machine.{own_ticks, vector_ticks, TakesTime, StartTakes}
