@@ -141,26 +141,10 @@ module _ (a x y s : ℕ) (n z c v d i : Bool) (mem flags : ℕ → ℕ) (load : 
 
   closes_at : (set : Bool) → flipped ≡ set → (begin stop : ℕ) → Holds (laid (shut (mem 0x12)) ended) begin stop
       (record { place = Writing (word_zero (other half) (not flipped)); half = half; flipped = flipped })
-  closes_at true is begin stop = record {
-    flipped = building.publish;
-    place = (
-      building.free,
-      inr (inr (
-        building.publish ∙ ap publish_byte is,
-        ap (λ (t : Bool). word_zero (other half) (not t)) is,
-      )),
-    );
-  }
-  closes_at false is begin stop = record {
-    flipped = building.publish;
-    place = (
-      building.free,
-      inr (inl (
-        building.publish ∙ ap publish_byte is,
-        ap (λ (t : Bool). word_zero (other half) (not t)) is,
-      )),
-    );
-  }
+  closes_at true is begin stop = let word = ap (λ (t : Bool). word_zero (other half) (not t)) is in
+      record { flipped = building.publish; place = (building.free, inr (inr (building.publish ∙ ap publish_byte is, word))) }
+  closes_at false is begin stop = let word = ap (λ (t : Bool). word_zero (other half) (not t)) is in
+      record { flipped = building.publish; place = (building.free, inr (inl (building.publish ∙ ap publish_byte is, word))) }
 
   closes : ClosesSo (at 0x6A00 a x y s n z c v d i (laid (shut 7) mem) flags []) half flipped
   closes = (
@@ -202,16 +186,16 @@ pub close_takes : CloseTakes
 close_takes cpu half flipped enters building = (close_steadily cpu half flipped enters building).0
 
 -- a tick that changes nothing, and a call of dvg_run that does
-module _ (a x y s : ℕ) (n z c v d i : Bool) (mem flags : ℕ → ℕ) where
+module _ (cpu : Cpu) where
   abbrev resting : (entry phase : ℕ) → Cpu
-  resting entry phase = at entry a x y s n z c v d i (laid (page_at phase mem) mem) flags []
+  resting entry phase = at entry cpu.a cpu.x cpu.y cpu.s cpu.n cpu.z cpu.c cpu.v cpu.d cpu.i (laid (page_at phase cpu.mem) cpu.mem) cpu.flags []
 
-  idles : (entry phase n : ℕ) → let end = run s n (resting entry phase) in
-      end.mem end.pc ≡ 0x60 → end.s ≡ s → seen end.log ≡ [] → end.mem ≡ (resting entry phase).mem
-      → ((tables : ℕ → Bool) → are_steady (is_kept tables) s n (resting entry phase) ≡ true) → is_code end.pc ≡ true
+  idles : (entry phase n : ℕ) → let end = run cpu.s n (resting entry phase) in
+      end.mem end.pc ≡ 0x60 → end.s ≡ cpu.s → seen end.log ≡ [] → end.mem ≡ (resting entry phase).mem
+      → ((tables : ℕ → Bool) → are_steady (is_kept tables) cpu.s n (resting entry phase) ≡ true) → is_code end.pc ≡ true
       → (did : Idles (resting entry phase)) × (did.steps ≡ n)
   idles entry phase n opcode level quiet same steady there =
-      let back = returned s (run s n (resting entry phase)) opcode level in (
+      let back = returned cpu.s (run cpu.s n (resting entry phase)) opcode level in (
         record {
           steps = n;
           returns = back;
@@ -222,26 +206,14 @@ module _ (a x y s : ℕ) (n z c v d i : Bool) (mem flags : ℕ → ℕ) where
         refl,
       )
 
-  tick2 : (did : Idles (resting 0x686A 2)) × (did.steps ≡ 7)
-  tick2 = idles 0x686A 2 7 refl refl refl refl (λ tables. refl) refl
-
-  tick7 : (did : Idles (resting 0x686A 7)) × (did.steps ≡ 15)
-  tick7 = idles 0x686A 7 15 refl refl refl refl (λ tables. refl) refl
-
-  run2 : (did : Idles (resting 0x6809 2)) × (did.steps ≤ 6)
-  run2 = let it = idles 0x6809 2 4 refl refl refl refl (λ tables. refl) refl in (it.0, omega (arith, it.1))
-
-  run7 : (did : Idles (resting 0x6809 7)) × (did.steps ≤ 6)
-  run7 = let it = idles 0x6809 7 6 refl refl refl refl (λ tables. refl) refl in (it.0, omega (arith, it.1))
-
 pub idle_ticks : IdleTicks
 idle_ticks cpu enters (inl is) = subst Idles (entered cpu 0x686A 2 enters is)
-    (tick2 cpu.a cpu.x cpu.y cpu.s cpu.n cpu.z cpu.c cpu.v cpu.d cpu.i cpu.mem cpu.flags).0
+    (idles cpu 0x686A 2 7 refl refl refl refl (λ tables. refl) refl).0
 idle_ticks cpu enters (inr is) = subst Idles (entered cpu 0x686A 7 enters is)
-    (tick7 cpu.a cpu.x cpu.y cpu.s cpu.n cpu.z cpu.c cpu.v cpu.d cpu.i cpu.mem cpu.flags).0
+    (idles cpu 0x686A 7 15 refl refl refl refl (λ tables. refl) refl).0
 
 pub run_returns : RunReturns
 run_returns cpu enters (inl is) = subst (λ (k : Cpu). (did : Idles k) × (did.steps ≤ 6)) (entered cpu 0x6809 2 enters is)
-    (run2 cpu.a cpu.x cpu.y cpu.s cpu.n cpu.z cpu.c cpu.v cpu.d cpu.i cpu.mem cpu.flags)
+    (let it = idles cpu 0x6809 2 4 refl refl refl refl (λ tables. refl) refl in (it.0, omega (arith, it.1)))
 run_returns cpu enters (inr is) = subst (λ (k : Cpu). (did : Idles k) × (did.steps ≤ 6)) (entered cpu 0x6809 7 enters is)
-    (run7 cpu.a cpu.x cpu.y cpu.s cpu.n cpu.z cpu.c cpu.v cpu.d cpu.i cpu.mem cpu.flags)
+    (let it = idles cpu 0x6809 7 6 refl refl refl refl (λ tables. refl) refl in (it.0, omega (arith, it.1)))

@@ -12,13 +12,14 @@ use Rattle.dvg_6502.specs.Decided.{is_labs, LabsIsPair}
 use Rattle.dvg_6502.proofs.Alike.{alike_if}
 use Rattle.dvg_6502.proofs.AmidRun.{came_out}
 use Rattle.dvg_6502.proofs.Running.{Comes, by, at, returned, comes}
-use Rattle.dvg_6502.proofs.Memory.{laid, page_of, page_in, known, loaded, put_small, both_true, state_is}
+use Rattle.dvg_6502.proofs.Memory.{laid, page_of, page_in, known, loaded, put_small, both_true}
 use Rattle.dvg_6502.proofs.FedByte.{compared}
 use Rattle.dvg_6502.proofs.Masks.{opened, mixed}
 use Rattle.dvg_6502.proofs.Steady.{steady_all, code_kept}
 use Rattle.dvg_6502.proofs.TickCall.{past_low}
 use Rattle.dvg_6502.proofs.TicksRun.{page_small}
 use Rattle.dvg_6502.proofs.OfferRun.{offer_refuses, redraw_refuses}
+use Rattle.dvg_6502.proofs.Offering.{here, here_is}
 use Rattle.dvg_6502.proofs.BuildRun.{put_refuses, put_full}
 use Rattle.dvg_6502.proofs.PairRun.{labs_run}
 
@@ -109,19 +110,12 @@ pair_full q a x y s n z c v d i free publish next t0 t1 pages end second f0 f1 m
 
 -- at a routine's entry
 module _ (cpu : Cpu) (entry : ℕ) (enters : Enters cpu entry) where
-  abbrev here : Cpu
-  here = at entry cpu.a cpu.x cpu.y cpu.s cpu.n cpu.z cpu.c cpu.v cpu.d cpu.i (laid (page_in cpu.mem) cpu.mem) cpu.flags []
-
-  here_is : here ≡ cpu
-  here_is = ap (λ l. at entry cpu.a cpu.x cpu.y cpu.s cpu.n cpu.z cpu.c cpu.v cpu.d cpu.i (laid (page_in cpu.mem) cpu.mem) cpu.flags l)
-      (sym enters.log) ∙ state_is cpu entry cpu.s enters.entry refl enters.loaded
-
   -- a call that leaves all memory as it is
-  unchanged : Comes cpu.s here cpu.s true (laid (page_in cpu.mem) cpu.mem) [] [] → Refuses cpu
+  unchanged : Comes cpu.s (here cpu entry enters) cpu.s true (laid (page_in cpu.mem) cpu.mem) [] [] → Refuses cpu
   unchanged comes = record {
     memory = cpu.mem;
     comes = subst (λ (m : ℕ → ℕ). Comes cpu.s cpu cpu.s true m [] []) (sym (known cpu.mem enters.loaded))
-        (subst (λ (k : Cpu). Comes cpu.s k cpu.s true (laid (page_in cpu.mem) cpu.mem) [] []) here_is comes);
+        (subst (λ (k : Cpu). Comes cpu.s k cpu.s true (laid (page_in cpu.mem) cpu.mem) [] []) (here_is cpu entry enters) comes);
     loaded = enters.loaded;
     own = λ b is. refl;
     far = λ b is. refl;
