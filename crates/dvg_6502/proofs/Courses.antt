@@ -158,7 +158,7 @@ module _ (from : Cpu) (calls : List Call) (life : List Item) (is_life : IsLifeOf
 
   pub ticks_course : Enters from 0x6860 → Course Calls.Ticks from calls
   ticks_course enters = acts Calls.Ticks Stays (λ steps others items shown. shown) (λ items made. made) enters.log
-      (λ k. ticks_go Stays k from (bounds calls).0 (bounds calls).1 life
+      (ticks_go Stays from (bounds calls).0 (bounds calls).1 life
       (holds_goes (bounds calls).0 (bounds calls).1 (frame_of calls)) enters.entry enters.a enters.s holds)
       (λ steps others came here mem items is. is)
 

@@ -46,7 +46,7 @@ ticks_come_back from others (older ∷ olds) session =
     let P = holds_in ends.0 ends.1 (frame_of (older ∷ olds)) in
     let done = ticks_return P from ends.0 ends.1 was.life goes first.0.entry first.0.a first.0.s was.holds in
     let call = call_of Ticks from done.0 others in
-    let steady = (ticks_go P done.0 from ends.0 ends.1 was.life goes first.0.entry first.0.a first.0.s was.holds).steady in
+    let steady = (ticks_go P from ends.0 ends.1 was.life goes first.0.entry first.0.a first.0.s was.holds done.0).steady in
     let all = came_of call (older ∷ olds) (session done.0) in (
       done.0,
       all.returned ∙ done.1,
