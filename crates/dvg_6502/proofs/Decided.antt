@@ -1,5 +1,5 @@
 -- Calls that are decided.
-use Rattle.std.proofs.Common.{◌≡◌, ℕ, inl, inr, ◌+◌, ◌-◌, ◌%◌, ◌<◌, Bool, true, false, not, ◌∷◌, refl, ap, ◌∙◌, subst, arith}
+use Rattle.std.proofs.Common.{◌≡◌, ℕ, inl, inr, ◌+◌, ◌-◌, ◌%◌, ◌<◌, Bool, true, false, ◌∷◌, refl, ap, ◌∙◌, subst, arith}
 use Rattle.std.proofs.Common.{eqb-true, sym}
 use Rattle.std.specs.Prelude.{nat_eq, nat_le, ◌&&◌, ◌||◌, if◌then◌else◌}
 use Rattle.dvg_6502.specs.Processor.{Cpu, Reads, run, turn, at_return, decoded, opcodes, does, next, carrying}
@@ -13,6 +13,7 @@ use Rattle.dvg_6502.proofs.Running.{at, returned, run_more, steady_more, and_tru
 use Rattle.dvg_6502.proofs.Memory.{laid, page_in, state_is, state_coded, HasCode, both_true}
 use Rattle.dvg_6502.proofs.FedByte.{compared}
 use Rattle.dvg_6502.proofs.Alike.{comes_out}
+use Rattle.std.proofs.lemmas.Bool.{not-true as refuted}
 
 -- a run that ends so is decided
 decided : (cpu end : Cpu) (c : Bool) (steps : ℕ) → run cpu.s steps cpu ≡ end → at_return cpu.s end ≡ true → end.c ≡ c
@@ -113,10 +114,6 @@ decides cpu load a_small small = (refusing, taking)
     taking (inl is) = at_place cpu 0x6941 false is load (takes1 cpu)
     taking (inr (inl is)) = at_place cpu 0x6953 false is load (takes2 cpu)
     taking (inr (inr is)) = at_place cpu 0x6A15 false is load (takes3 cpu)
-
-refuted : (t : Bool) → not t ≡ true → t ≡ false
-refuted true is = absurd (cc)
-refuted false is = refl
 
 -- the first instruction of a call that it refuses
 module _ (cpu : Cpu) (has : HasCode cpu.mem) (small : cpu.mem 0x10 < 256) where

@@ -1,8 +1,8 @@
 -- For the calls of a program that builds there are drafts; and dvg_ticks comes back.
 use Rattle.std.proofs.Common.{◌≡◌, ℕ, ◌+◌, Bool, true, false, List, [], ◌∷◌, refl}
 use Rattle.std.proofs.Common.{sym, ap, ◌∙◌, subst, arith, Some, Option, None}
-use Rattle.std.proofs.lemmas.Bool.{eqb-false}
-use Rattle.std.specs.Prelude.{nat_eq, ◌||◌, if◌then◌else◌}
+use Rattle.std.proofs.lemmas.Bool.{eqb-false, or_parts as neither}
+use Rattle.std.specs.Prelude.{nat_eq, if◌then◌else◌}
 use Rattle.dvg_frame.specs.declared.op.OpKind.{OpKind}
 use Rattle.dvg_frame.specs.declared.op.OpKind.TheVariants.{Halt as Stop}
 use Rattle.dvg_6502.specs.Processor.{Cpu, run, stack_place}
@@ -21,10 +21,6 @@ use Rattle.dvg_6502.proofs.Drafts.{is_draft, only_halt, Fits, shortest, shortest
 use Rattle.dvg_6502.proofs.Found.{MayCome, HasRoom, with_later, some_later, some_may_come}
 use Rattle.dvg_6502.proofs.Found.{call_with, Found, Finds, told, held}
 use Rattle.dvg_6502.proofs.Found.{olds', alone', follows', frame', taken_is, puts_find}
-
-neither : (t u : Bool) → (t || u) ≡ false → (t ≡ false) × (u ≡ false)
-neither true u is = absurd (cc)
-neither false u is = (refl, is)
 
 -- what dvg_ticks may change, one by one
 leaves : (q : ℕ) (now before : ℕ → ℕ) → Leaves q now before → (b : ℕ) → is_ticked q b ≡ false → now b ≡ before b

@@ -2,7 +2,7 @@
 use Rattle.std.proofs.Common.{◌≡◌, ◌≢◌, ℕ, suc, ◌+◌, ◌-◌, ◌%◌, ◌<◌, ◌≤◌, Bool, true, false, List, [], ◌∷◌, refl, sym, ap, ◌∙◌}
 use Rattle.std.proofs.Common.{subst, arith, leb-true}
 use Rattle.std.specs.Prelude.{nat_eq, nat_le, nat_lt, ◌||◌, bit_and, bit_or, bit_xor}
-use Rattle.std.proofs.lemmas.Bool.{eqb-false}
+use Rattle.std.proofs.lemmas.Bool.{eqb-false, or_parts as neither}
 use Rattle.dvg_6502.specs.Processor.{Cpu, Access, Reads, Writes, put, run}
 use Rattle.dvg_6502.specs.Board.{IsLoaded, seen, is_own}
 use Rattle.dvg_6502.specs.Amid.{is_kept, are_steady}
@@ -45,10 +45,6 @@ refused_so cpu did =
       kept = λ b out. ap (λ (m : ℕ → ℕ). m b) comes.memory ∙ did.kept b out;
       alike = alike_if cpu comes.steps back (λ tables. comes.steady tables refl) comes.there;
     }
-
-neither : (t u : Bool) → (t || u) ≡ false → (t ≡ false) × (u ≡ false)
-neither true u is = absurd (cc)
-neither false u is = (refl, is)
 
 pub refused_steady : (tables : ℕ → Bool) (cpu : Cpu) (k : ℕ) → Refuses cpu → are_steady (is_kept tables) cpu.s k cpu ≡ true
 refused_steady tables cpu k did = steady_all (is_kept tables) cpu.s did.comes.steps k cpu (did.comes.steady tables refl)

@@ -53,7 +53,7 @@ covers_after (Calls.Offer F) call bounds b low high = by (Calls.is_taken call) l
 kept_own : (tables : ℕ → Bool) (b : ℕ) → is_own b ≡ true → is_kept tables b ≡ true
 kept_own tables b is = left_true (is_own b) _ is
 
-kept_ram : (tables : ℕ → Bool) (b : ℕ) → is_ram b ≡ true → is_kept tables b ≡ true
+pub kept_ram : (tables : ℕ → Bool) (b : ℕ) → is_ram b ≡ true → is_kept tables b ≡ true
 kept_ram tables b is = right_true (is_own b) _ (right_true (is_work b) _ (right_true (is_code b) _
     (left_true (is_hardware b) (tables b) (left_true (is_ram b) _ is))))
 
