@@ -1,5 +1,5 @@
 -- Each step of the NMI leaves what held.
-use Rattle.std.proofs.Common.{◌-◌, ◌≡◌, ℕ, ◌+◌, ◌%◌, ◌≤◌, inl, inr, Bool, true, false, refl, sym}
+use Rattle.std.proofs.Common.{suc, ◌-◌, ◌≡◌, ℕ, ◌+◌, ◌%◌, ◌≤◌, inl, inr, Bool, true, false, refl, sym}
 use Rattle.std.proofs.Common.{◌∙◌}
 use Rattle.std.proofs.Common.{subst, arith, eqb-true}
 use Rattle.std.specs.Prelude.{nat_eq, nat_le, ◌&&◌, ◌||◌, not, if◌then◌else◌, Option, None, Some}
@@ -49,6 +49,22 @@ first_there rom mem pc loaded at = let low = at.0 in let high = at.1 in
 pub second_there : (rom mem : ℕ → ℕ) (pc : ℕ) → IsLoaded rom mem → IsInside pc → mem (pc + 1 + 1) ≡ rom (pc + 1 + 1)
 second_there rom mem pc loaded at = let low = at.0 in let high = at.1 in
     loaded (pc + 1 + 1) (omega (arith, low)) (omega (arith, high))
+
+-- what holds doesn't rest on when the last NMI was
+later : (notes : Notes) (st : State) (since : ℕ) → Runs notes st → Runs notes (record st { since = since })
+later notes st since runs = record {
+  stands = record {
+    now = runs.stands.now;
+    is = runs.stands.is;
+    below = runs.stands.below;
+    fresh = runs.stands.fresh;
+    room = runs.stands.room;
+    awake = runs.stands.awake;
+  };
+  outside = runs.outside;
+  homeless = runs.homeless;
+  blank = runs.blank;
+}
 
 module _ (rom : ℕ → ℕ) (notes : Notes) (st : State) (loaded : IsLoaded rom st.mem)
     (h : Handles notes st) where
@@ -150,49 +166,12 @@ module _ (rom : ℕ → ℕ) (notes : Notes) (st : State) (loaded : IsLoaded rom
       after : State
       after = record st { pc = resumed_at st; s = (st.s + 3) % 256; amid = None; home = None }
 
-      same_rom : (o : Option (ℕ × ℕ)) (b : ℕ)
-          → (goes_home o (record (ticked st) {
-            pc = resumed_at st;
-            s = (st.s + 3) % 256;
-            amid = None;
-            home =
-                None;
-          })).mem b ≡ st.mem b
+      same_rom : (o : Option (ℕ × ℕ)) (b : ℕ) → (goes_home o (record after { since = suc st.since })).mem b ≡ st.mem b
       same_rom None b = refl
       same_rom (Some place) b = refl
 
       resumes : (o : Option (ℕ × ℕ)) → Runs notes (goes_home o after)
-          → Runs notes (goes_home o (record (ticked st) {
-            pc = resumed_at st;
-            s = (st.s + 3) % 256;
-            amid =
-                None;
-            home = None;
-          }))
-      resumes None runs = record {
-        stands = record {
-          now = runs.stands.now;
-          is = runs.stands.is;
-          below = runs.stands.below;
-          fresh = runs.stands.fresh;
-          room = runs.stands.room;
-          awake = runs.stands.awake;
-        };
-        outside = runs.outside;
-        homeless = runs.homeless;
-        blank = runs.blank;
-      }
-      resumes (Some place) runs = record {
-        stands = record {
-          now = runs.stands.now;
-          is = runs.stands.is;
-          below = runs.stands.below;
-          fresh = runs.stands.fresh;
-          room = runs.stands.room;
-          awake = runs.stands.awake;
-        };
-        outside = runs.outside;
-        homeless = runs.homeless;
-        blank = runs.blank;
-      }
+          → Runs notes (goes_home o (record after { since = suc st.since }))
+      resumes None runs = later notes after (suc st.since) runs
+      resumes (Some place) runs = later notes (goes_home (Some place) after) (suc st.since) runs
   nmi_step Wild choice fine go = absurd (cc)

@@ -18,7 +18,7 @@ use Rattle.dvg_game.specs.Safe.{MayWrite, IsCalled, ComesBack, InCase, IsSafeBy}
 use Rattle.dvg_game.proofs.Facts.{IsInside, placed, implied, both_true, not_true, same}
 use Rattle.dvg_game.proofs.Standing.{Below, Runs, Handles, low}
 use Rattle.dvg_game.proofs.Memory.{either, reaching}
-use Rattle.dvg_game.proofs.Calling.{leads_back, open_call}
+use Rattle.dvg_game.proofs.Calling.{leads_back, open_call, or_more as or_awake}
 use Rattle.dvg_game.proofs.Saved.{holds_less}
 use Rattle.dvg_game.proofs.Stepping.{vector}
 use Rattle.dvg_game.proofs.Handling.{two_levels, is_nmi, not_entered, first_there}
@@ -70,10 +70,6 @@ may_nmi st Nmi a is fine = inl fine
 not_blank : (t u : Bool) → (t ≡ true → u ≡ true) → not u ≡ true → t ≡ false
 not_blank true u up is = let e = up refl in absurd (cc)
 not_blank false u up is = refl
-
-or_awake : (t u v : Bool) → (u ≡ true → v ≡ true) → (t || u) ≡ true → (t || v) ≡ true
-or_awake true u v up is = refl
-or_awake false u v up is = up is
 
 module _ (rom : ℕ → ℕ) (notes : Notes) (st : State) (loaded : IsLoaded rom st.mem)
     (runs : Runs notes st) where
