@@ -19,7 +19,7 @@ use Rattle.dvg_board.specs.Board.{Board, Bus}
 use Rattle.dvg_board.specs.Clocks.{changes}
 use Rattle.dvg_board.specs.Logs.{did, answered}
 use Rattle.dvg_system.specs.Machine
-use Rattle.dvg_system.specs.Machine.{IsMachine, IsChecked, SharesRam, begun, later}
+use Rattle.dvg_system.specs.Machine.{IsMachine, IsChecked, SharesRam, later}
 use Rattle.dvg_system.specs.Hindsight.{IsCheckedTable, IsProgram, HindsightKeeps}
 use Rattle.dvg_system.proofs.Machine.{legal, headline}
 
