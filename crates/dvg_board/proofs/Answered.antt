@@ -10,13 +10,10 @@ use Rattle.dvg_board.specs.Board.{Board, Bus, q, clock}
 use Rattle.dvg_board.specs.Clocks.{IsBus, after, reads}
 use Rattle.dvg_board.specs.Logs.{OfEachBoard}
 use Rattle.dvg_board.specs.Answers.{uses_ram, Answers, AnswersNext}
-use Rattle.dvg_board.proofs.System.{pin_is}
+use Rattle.dvg_board.proofs.System.{pin_is, never}
 use Rattle.dvg_board.proofs.Cores.{cores, core_is}
 use Rattle.dvg_board.proofs.Board.{holds}
 use Rattle.dvg_board.proofs.Wires.{on_of, writes_of, place_of, asks_of, not_one}
-
-never : {A : Type 0} → false ≡ true → A
-never e = cc
 
 never' : {A : Type 0} → true ≡ false → A
 never' e = cc

@@ -41,10 +41,10 @@ pub record Keeps (R image : List ℕ) (log : Log) (clocks : List Pins) : Type 0 
   pub opened : is_none (open_run log) ≡ not stands.run.is_open
   pub legal : IsLegal R image log
 
-differ : {A : Type 0} {n : ℕ} → n ≡ 0 → n ≡ 1 → A
+pub differ : {A : Type 0} {n : ℕ} → n ≡ 0 → n ≡ 1 → A
 differ is_zero is_one = absurd (omega arith)
 
-never : {A : Type 0} → false ≡ true → A
+pub never : {A : Type 0} → false ≡ true → A
 never e = cc
 
 -- the answer to a word says whether the run goes on

@@ -23,9 +23,7 @@ use Rattle.dvg_board.specs.Board.{Board, Bus, clock}
 use Rattle.dvg_board.specs.Fetches.{entry_by, entry_of}
 use Rattle.dvg_board.specs.Clocks.{reads, writes, sends, looks, changes}
 use Rattle.dvg_board.specs.Logs.{did}
-
-pub differ : {A : Type 0} {n : ℕ} → n ≡ 0 → n ≡ 1 → A
-differ is_zero is_one = absurd (omega arith)
+pub use Rattle.dvg_board.proofs.System.{differ}
 
 pub zero_or_one : (n : ℕ) → n < 2 → (n ≡ 0) ⊎ (n ≡ 1)
 zero_or_one zero l = inl refl
