@@ -82,6 +82,14 @@ pub both_none : (a : ℕ) → both a 0 ≡ 0
 both_none zero = refl
 both_none (suc a) = rw (ne_eqb (suc a) 0 (λ e. absurd (omega arith))) refl
 
+pub both_one : (a : ℕ) → both a 1 ≡ 0 → a ≡ 0
+both_one zero is = refl
+both_one (suc a) is = let never : both (suc a) 1 ≡ 1 = rw (ne_eqb (suc a) 0 (λ e. absurd (omega arith))) refl in absurd (omega arith)
+
+pub zero_or : (a : ℕ) → (a ≡ 0) ⊎ (0 < a)
+zero_or zero = inl refl
+zero_or (suc a) = inr (omega arith)
+
 pub mux_same : (s a : ℕ) → mux s a a ≡ a
 mux_same zero a = refl
 mux_same (suc s) a = rw (ne_eqb (suc s) 0 (λ e. absurd (omega arith))) refl

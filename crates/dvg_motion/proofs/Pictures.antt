@@ -24,6 +24,8 @@ use Rattle.dvg_motion.proofs.Timing.{Times, by_goes, gone_le, own_few, counted_o
 use Rattle.dvg_motion.proofs.TickSums.{few_more, taken_sum, sum_on, owed_sum, still_sum, late_sum}
 use Rattle.dvg_motion.proofs.TickSums.{own_sum, go_sum, end_sum, begin_sum, finish_sum, add_one}
 use Rattle.dvg_motion.proofs.TickSums.{few_less, none_less, within, is_over, goes_less}
+pub use Rattle.dvg_motion.proofs.Machine.{both_one as both_is_zero}
+use Rattle.dvg_motion.proofs.Machine.{zero_or}
 
 -- the ticks until the next byte may be fetched
 abbrev owed : Beside → ℕ
@@ -54,17 +56,9 @@ ready_owes (suc r) rest e = rw (ne_eqb (suc r) 0 (λ e. absurd (omega arith))) r
 pub not_ready : (ready : ℕ) → none ready ≡ 0 → ready ≡ 0 → ⊥
 not_ready ready low off = let never : ◌≡◌ {A = ℕ} 1 0 = sym (ap none off) ∙ low in absurd (omega arith)
 
-zero_or : (n : ℕ) → (n ≡ 0) ⊎ (0 < n)
-zero_or zero = inl refl
-zero_or (suc n) = inr (omega arith)
-
 pub none_or : (n : ℕ) → (none n ≡ 0) ⊎ (n ≡ 0)
 none_or zero = inr refl
 none_or (suc n) = inl (none_more (suc n) (omega arith))
-
-pub both_is_zero : (a : ℕ) → both a 1 ≡ 0 → a ≡ 0
-both_is_zero zero is = refl
-both_is_zero (suc a) is = let never : both (suc a) 1 ≡ 1 = rw (ne_eqb (suc a) 0 (λ e. absurd (omega arith))) refl in absurd (omega arith)
 
 -- one clock more, without a reset and a start
 module _ (older : List Bus) (b : Bus) (are : AreServed (b ∷ older)) (reset : b.pins.reset ≡ 0) (start : b.pins.start ≡ 0) (t l : ℕ) (was : Progress older t l)
