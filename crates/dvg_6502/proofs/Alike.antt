@@ -1,14 +1,11 @@
 -- A call that is steady up to its return comes out amid others as without them.
-use Rattle.std.proofs.Common.{◌≡◌, ℕ, suc, Bool, true, false, refl, ap, ◌∙◌}
-use Rattle.std.specs.Prelude.{nat_eq, ◌&&◌, ◌||◌}
+use Rattle.std.proofs.Common.{◌≡◌, ℕ, suc, Bool, true, refl, ap, ◌∙◌}
+use Rattle.std.specs.Prelude.{nat_eq, ◌&&◌}
 use Rattle.dvg_6502.specs.Processor.{Cpu, run, at_return}
 use Rattle.dvg_6502.specs.Amid.{ComesOut, CameOut, amid, guards, is_kept, are_steady, is_code}
 use Rattle.dvg_6502.proofs.AmidRun.{came_out}
 use Rattle.dvg_6502.proofs.Steady.{steady_all, code_kept, last_kept}
-
-left_true : (t u : Bool) → t ≡ true → (t || u) ≡ true
-left_true true u is = refl
-left_true false u is = absurd (cc)
+use Rattle.std.proofs.lemmas.Bool.{or_left as left_true}
 
 pub comes_out : (kept : ℕ → Bool) (cpu : Cpu) (steps : ℕ) → ((b : ℕ) → is_code b ≡ true → kept b ≡ true)
     → at_return cpu.s (run cpu.s steps cpu) ≡ true → are_steady kept cpu.s steps cpu ≡ true

@@ -14,6 +14,7 @@ use Rattle.dvg_6502.proofs.Memory.{both_true}
 use Rattle.dvg_6502.specs.Amid.{changed, touches, amid, AreHarmless, guards, all_in, goes_home, is_steady}
 use Rattle.dvg_6502.specs.Amid.{are_steady, CameOut}
 use Rattle.dvg_6502.proofs.AmidStep.{Agree, stepped, does_same}
+use Rattle.std.proofs.lemmas.Bool.{or_left as left_true, or_cases as either}
 
 -- guarded bytes agree
 pub all_agree : (m mem : ℕ → ℕ) (guard : ℕ → Bool) (bs : List ℕ) → ((b : ℕ) → guard b ≡ true → m b ≡ mem b)
@@ -88,14 +89,6 @@ s_stays ToStack cpu is = absurd (cc)
 s_stays Resume cpu is = absurd (cc)
 s_stays Pass cpu is = refl
 s_stays Unknown cpu is = refl
-
-either : (t u : Bool) → (t || u) ≡ true → (t ≡ true) ⊎ (u ≡ true)
-either true u is = inl refl
-either false u is = inr is
-
-left_true : (t u : Bool) → t ≡ true → (t || u) ≡ true
-left_true true u is = refl
-left_true false u is = absurd (cc)
 
 neither : (t u : Bool) → (not t && u) ≡ true → t ≡ true → ⊥
 neither true u is t = absurd (cc)

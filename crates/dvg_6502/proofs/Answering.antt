@@ -21,7 +21,8 @@ use Rattle.dvg_6502.proofs.Closing.{open_is_taken}
 use Rattle.dvg_6502.proofs.Standing.{Stood}
 use Rattle.dvg_6502.proofs.Refusing.{Refuses, offer_refused, open_refused, redraw_refused}
 use Rattle.dvg_6502.proofs.Built.{holds_in, by_rest}
-use Rattle.dvg_6502.proofs.Sessions.{Quietly, of_answer, of_refusal, came_of, before_call, one_life}
+use Rattle.dvg_6502.proofs.Courses.{Quietly, of_answer, of_refusal}
+use Rattle.dvg_6502.proofs.Sessions.{came_of, before_call, one_life}
 
 -- where a life is whole, the driver rests
 module _ (from : Cpu) (begin stop : ℕ) (life : List Item) where

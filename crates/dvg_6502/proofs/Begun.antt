@@ -34,7 +34,7 @@ pub record BeginsTable (mem : ℕ → ℕ) (t : ℕ) (half : Half) (F : List OpK
   pub low : 0x202 ≤ t
   pub ends : t + length (table_of F) ≤ 65536
 
-base_low : (half : Half) → (1 ≤ base half) × (base half ≤ 0x201)
+pub base_low : (half : Half) → (1 ≤ base half) × (base half ≤ 0x201)
 base_low H0 = (omega arith, omega arith)
 base_low H1 = (omega arith, omega arith)
 

@@ -25,7 +25,8 @@ use Rattle.dvg_6502.proofs.Standing.{Stood}
 use Rattle.dvg_6502.proofs.Going.{GoesTo, append_items, finish}
 use Rattle.dvg_6502.proofs.BuildScript.{builds_script}
 use Rattle.dvg_6502.proofs.Building.{BuildsSo, goal_is, goal_low, put_steadily}
-use Rattle.dvg_6502.proofs.Closing.{ClosesSo, pair_steadily, labs_steadily, close_steadily}
+use Rattle.dvg_6502.proofs.Pairing.{pair_steadily, labs_steadily}
+use Rattle.dvg_6502.proofs.Closing.{ClosesSo, close_steadily}
 use Rattle.dvg_6502.proofs.Refusing.{Refuses, refused_so, put_refused, pair_refused, labs_refused, full_put, full_pair, full_labs}
 use Rattle.dvg_6502.proofs.Refusing.{open_refused, close_refused}
 use Rattle.dvg_6502.proofs.VectorBuilds.{vector_steadily, refuses_so, no_vector, not_building_vector, full_vector}

@@ -19,7 +19,7 @@ use Rattle.dvg_6502.proofs.Idling.{are_in, StaysTo, after, call_stays}
 use Rattle.dvg_6502.proofs.Building.{goal_low, goal_high, place_low, base_low}
 use Rattle.dvg_6502.proofs.Built.{holds_in}
 use Rattle.dvg_6502.proofs.BuildCalls.{not_building}
-use Rattle.dvg_6502.proofs.Programs.{held}
+use Rattle.dvg_6502.proofs.Found.{held}
 use Rattle.dvg_6502.proofs.Sessions.{by_reset}
 
 -- at a place, while a frame is being built

@@ -4,7 +4,6 @@ use Rattle.std.proofs.Common.{refl, sym, ap, ◌∙◌, subst, arith, leb-true, 
 use Rattle.std.proofs.lemmas.Bool.{eqb-false, ne_eqb}
 use Rattle.std.specs.Prelude.{nat_eq, nat_le, nat_lt, if◌then◌else◌, slice_index, ◌-◌}
 use Rattle.dvg_mem.specs.declared.half.Half.{Half}
-use Rattle.dvg_mem.specs.declared.half.Half.TheVariants.{H0, H1}
 use Rattle.dvg_mem.specs.Areas.{base, other}
 use Rattle.dvg_6502.specs.Processor.{Cpu, Access, Writes, put, run}
 use Rattle.dvg_6502.specs.Code.{code, dvg_put}
@@ -17,6 +16,7 @@ use Rattle.dvg_6502.proofs.StoredByte.{carried}
 use Rattle.dvg_6502.proofs.TableTick.{in_ram, carried_small}
 use Rattle.dvg_6502.proofs.Alike.{alike_if, Keeping}
 use Rattle.dvg_6502.proofs.BuildRun.{put_room, is_full}
+pub use Rattle.dvg_6502.proofs.Begun.{base_low}
 
 -- a part is put, by a call that keeps byte 001 and takes guarded bytes alone
 abbrev pub BuildsSo : (cpu : Cpu) (half : Half) (flipped : Bool) (now rest : List ℕ) → Type 0
@@ -25,10 +25,6 @@ BuildsSo cpu half flipped now rest = (did : Builds cpu half flipped now rest) ×
 pub builds_so : (cpu : Cpu) (half : Half) (flipped : Bool) (now rest : List ℕ) → (did : Builds cpu half flipped now rest)
     → Keeping cpu did.steps → BuildsSo cpu half flipped now rest
 builds_so cpu half flipped now rest did keeping = (did, keeping)
-
-pub base_low : (half : Half) → (1 ≤ base half) × (base half ≤ 0x201)
-base_low H0 = (omega arith, omega arith)
-base_low H1 = (omega arith, omega arith)
 
 -- a write of the vector RAM changes no other byte
 pub put_far : (p v : ℕ) (m : ℕ → ℕ) (b : ℕ) → is_ram b ≡ false → 0x4002 ≤ p → p < 0x4800 → put p v m b ≡ m b

@@ -5,31 +5,14 @@ use Rattle.std.specs.Prelude.{All, nat_le, slice_get}
 use Rattle.std.proofs.lemmas.Bool.{leb-false}
 use Rattle.std.proofs.lemmas.List.Elements.{All-head, All-tail}
 use Rattle.dvg_mem.specs.declared.half.Half.TheVariants.{H0}
-use Rattle.dvg_code.specs.declared.instr.Instr.TheVariants.{Vctr, Labs, Svec, Halt as Stops, Jsrl, Rtsl, Jmpl}
 use Rattle.dvg_frame.specs.declared.op.OpKind.{OpKind}
 use Rattle.dvg_frame.specs.declared.op.OpKind.TheVariants.{Draw, CallRom, JumpRom, Call, Jump, Return, Halt}
 use Rattle.dvg_frame.specs.declared.place.Place.TheVariants.{InFrame}
 use Rattle.dvg_frame.specs.Layout.{at, op_words, size}
 use Rattle.dvg_frame.specs.Ops.{IsOp}
 use Rattle.dvg_frame.specs.Steps.{Names, op_act, misses, Begins}
-use Rattle.dvg_frame.proofs.Sizes.{size-take_le, size-take_more}
+use Rattle.dvg_frame.proofs.Sizes.{size-take_le, size-take_more, some_words}
 use Rattle.dvg_6502.specs.Tables.{IsExpressible, AreExpressible, NamesRom, CheckedExpressible}
-
--- an operation has a word at least
-some_words : (op : OpKind) → 1 ≤ op_words op
-some_words (Draw (Vctr scale dx dy z)) = omega arith
-some_words (Draw (Labs x y scale)) = omega arith
-some_words (Draw (Svec scale dx dy z)) = omega arith
-some_words (Draw Stops) = omega arith
-some_words (Draw (Jsrl a)) = omega arith
-some_words (Draw Rtsl) = omega arith
-some_words (Draw (Jmpl a)) = omega arith
-some_words (CallRom a) = omega arith
-some_words (JumpRom a) = omega arith
-some_words (Call j) = omega arith
-some_words (Jump j) = omega arith
-some_words Return = omega arith
-some_words Halt = omega arith
 
 op_at : (F : List OpKind) (j : ℕ) → j < length F → (op : OpKind) × (slice_get F j ≡ Some op)
 op_at [] j h = absurd (omega (arith, h))

@@ -1,8 +1,8 @@
 -- Calls that are decided.
-use Rattle.std.proofs.Common.{◌≡◌, ℕ, inl, inr, ◌+◌, ◌-◌, ◌%◌, ◌<◌, Bool, true, false, not, List, ◌∷◌, refl, ap, ◌∙◌, subst, arith}
+use Rattle.std.proofs.Common.{◌≡◌, ℕ, inl, inr, ◌+◌, ◌-◌, ◌%◌, ◌<◌, Bool, true, false, ◌∷◌, refl, ap, ◌∙◌, subst, arith}
 use Rattle.std.proofs.Common.{eqb-true, sym}
 use Rattle.std.specs.Prelude.{nat_eq, nat_le, ◌&&◌, ◌||◌, if◌then◌else◌}
-use Rattle.dvg_6502.specs.Processor.{Cpu, Access, Reads, run, turn, at_return, decoded, opcodes, does, next, carrying}
+use Rattle.dvg_6502.specs.Processor.{Cpu, Reads, run, turn, at_return, decoded, opcodes, does, next, carrying}
 use Rattle.dvg_6502.specs.Board.{IsLoaded, seen}
 use Rattle.dvg_6502.specs.Amid.{is_code, are_steady, all_in, guards, touches, goes_home}
 use Rattle.dvg_6502.specs.Routines.{Put, Pair, Labs, Vector}
@@ -13,6 +13,7 @@ use Rattle.dvg_6502.proofs.Running.{at, returned, run_more, steady_more, and_tru
 use Rattle.dvg_6502.proofs.Memory.{laid, page_in, state_is, state_coded, HasCode, both_true}
 use Rattle.dvg_6502.proofs.FedByte.{compared}
 use Rattle.dvg_6502.proofs.Alike.{comes_out}
+use Rattle.std.proofs.lemmas.Bool.{not-true as refuted}
 
 -- a run that ends so is decided
 decided : (cpu end : Cpu) (c : Bool) (steps : ℕ) → run cpu.s steps cpu ≡ end → at_return cpu.s end ≡ true → end.c ≡ c
@@ -29,130 +30,90 @@ decided cpu end c steps is back carry quiet kept steady code =
       alike = comes_out is_code cpu steps (λ b is. is) there steady (ap (λ (k : Cpu). is_code k.pc) is ∙ code);
     }
 
-module _ (a x y s : ℕ) (n z c v d i : Bool) (mem flags : ℕ → ℕ) (log : List Access) where
+module _ (cpu : Cpu) where
+  -- it, at a place
   abbrev from : ℕ → Cpu
-  from pc = at pc a x y s n z c v d i (laid (page_in mem) mem) flags log
+  from pc = at pc cpu.a cpu.x cpu.y cpu.s cpu.n cpu.z cpu.c cpu.v cpu.d cpu.i (laid (page_in cpu.mem) cpu.mem) cpu.flags cpu.log
 
   abbrev taken : ℕ → Cpu
-  taken pc = at pc a x y s n z false v d i (laid (page_in mem) mem) flags log
+  taken pc = record (from pc) { c = false }
 
   takes1 : IsDecided (from 0x6941) false
-  takes1 = decided (from 0x6941) (taken 0x6942) false 1 refl (returned s (taken 0x6942) refl refl) refl refl refl refl refl
+  takes1 = decided (from 0x6941) (taken 0x6942) false 1 refl (returned cpu.s (taken 0x6942) refl refl) refl refl refl refl refl
 
   takes2 : IsDecided (from 0x6953) false
-  takes2 = decided (from 0x6953) (taken 0x6954) false 1 refl (returned s (taken 0x6954) refl refl) refl refl refl refl refl
+  takes2 = decided (from 0x6953) (taken 0x6954) false 1 refl (returned cpu.s (taken 0x6954) refl refl) refl refl refl refl refl
 
   takes3 : IsDecided (from 0x6A15) false
-  takes3 = decided (from 0x6A15) (taken 0x6A16) false 1 refl (returned s (taken 0x6A16) refl refl) refl refl refl refl refl
+  takes3 = decided (from 0x6A15) (taken 0x6A16) false 1 refl (returned cpu.s (taken 0x6A16) refl refl) refl refl refl refl refl
 
-  -- after the comparison with the phase that is wanted, and at the return
-  abbrev told : (pc wanted : ℕ) → Bool → Cpu
-  told pc wanted t = at pc a x y s (nat_le 128 ((y + 256 - wanted) % 256)) t (nat_le wanted y) v d i (laid (page_in mem) mem)
-      flags log
+  -- after the comparison of A or Y with what is wanted, and at the return
+  abbrev told : (pc byte wanted : ℕ) → Bool → Cpu
+  told pc byte wanted t = record (from pc) { n = nat_le 128 ((byte + 256 - wanted) % 256); z = t; c = nat_le wanted byte }
 
-  abbrev refused : (pc wanted : ℕ) → Cpu
-  refused pc wanted = at pc a x y s (nat_le 128 ((y + 256 - wanted) % 256)) false true v d i (laid (page_in mem) mem) flags log
+  abbrev refused : (pc byte wanted : ℕ) → Cpu
+  refused pc byte wanted = record (from pc) { n = nat_le 128 ((byte + 256 - wanted) % 256); z = false; c = true }
 
-  refuses1 : y < 256 → nat_eq y 2 ≡ false → IsDecided (from 0x6900) true
-  refuses1 small other =
-      let e = compared y 2 small (omega arith) ∙ other in
-      decided (from 0x6900) (refused 0x6956 2) true 3
-      (run_more s 1 2 (from 0x6900) ∙ ap (λ t. run s 2 (told 0x6902 2 t)) e)
-      (returned s (refused 0x6956 2) refl refl) refl refl refl
-      (steady_more is_code s 1 2 (from 0x6900) refl (ap (λ t. are_steady is_code s 2 (told 0x6902 2 t)) e)) refl
+  -- so it is refused, where the instructions are run by computing
+  refuses : (pc next home byte wanted : ℕ) → byte < 256 → wanted < 256 → nat_eq byte wanted ≡ false
+      → run cpu.s 1 (from pc) ≡ told next byte wanted (nat_eq ((byte + 256 - wanted) % 256) 0)
+      → run cpu.s 2 (told next byte wanted false) ≡ refused home byte wanted → at_return cpu.s (refused home byte wanted) ≡ true
+      → are_steady is_code cpu.s 1 (from pc) ≡ true → are_steady is_code cpu.s 2 (told next byte wanted false) ≡ true
+      → is_code home ≡ true → IsDecided (from pc) true
+  refuses pc next home byte wanted small wanted_small other one two back steady1 steady2 code =
+      let e = one ∙ ap (told next byte wanted) (compared byte wanted small wanted_small ∙ other) in
+      decided (from pc) (refused home byte wanted) true 3
+      (run_more cpu.s 1 2 (from pc) ∙ ap (run cpu.s 2) e ∙ two) back refl refl refl
+      (steady_more is_code cpu.s 1 2 (from pc) steady1 (ap (are_steady is_code cpu.s 2) e ∙ steady2)) code
 
-  refuses2 : y < 256 → nat_eq y 2 ≡ false → IsDecided (from 0x6926) true
-  refuses2 small other =
-      let e = compared y 2 small (omega arith) ∙ other in
-      decided (from 0x6926) (refused 0x6956 2) true 3
-      (run_more s 1 2 (from 0x6926) ∙ ap (λ t. run s 2 (told 0x6928 2 t)) e)
-      (returned s (refused 0x6956 2) refl refl) refl refl refl
-      (steady_more is_code s 1 2 (from 0x6926) refl (ap (λ t. are_steady is_code s 2 (told 0x6928 2 t)) e)) refl
+  refuses1 : cpu.y < 256 → nat_eq cpu.y 2 ≡ false → IsDecided (from 0x6900) true
+  refuses1 small other = refuses 0x6900 0x6902 0x6956 cpu.y 2 small (omega arith) other refl refl
+      (returned cpu.s (refused 0x6956 cpu.y 2) refl refl) refl refl refl
 
-  refuses3 : y < 256 → nat_eq y 7 ≡ false → IsDecided (from 0x6959) true
-  refuses3 small other =
-      let e = compared y 7 small (omega arith) ∙ other in
-      decided (from 0x6959) (refused 0x6956 7) true 3
-      (run_more s 1 2 (from 0x6959) ∙ ap (λ t. run s 2 (told 0x695B 7 t)) e)
-      (returned s (refused 0x6956 7) refl refl) refl refl refl
-      (steady_more is_code s 1 2 (from 0x6959) refl (ap (λ t. are_steady is_code s 2 (told 0x695B 7 t)) e)) refl
+  refuses2 : cpu.y < 256 → nat_eq cpu.y 2 ≡ false → IsDecided (from 0x6926) true
+  refuses2 small other = refuses 0x6926 0x6928 0x6956 cpu.y 2 small (omega arith) other refl refl
+      (returned cpu.s (refused 0x6956 cpu.y 2) refl refl) refl refl refl
 
-  refuses4 : y < 256 → nat_eq y 7 ≡ false → IsDecided (from 0x698B) true
-  refuses4 small other =
-      let e = compared y 7 small (omega arith) ∙ other in
-      decided (from 0x698B) (refused 0x69BF 7) true 3
-      (run_more s 1 2 (from 0x698B) ∙ ap (λ t. run s 2 (told 0x698D 7 t)) e)
-      (returned s (refused 0x69BF 7) refl refl) refl refl refl
-      (steady_more is_code s 1 2 (from 0x698B) refl (ap (λ t. are_steady is_code s 2 (told 0x698D 7 t)) e)) refl
+  refuses3 : cpu.y < 256 → nat_eq cpu.y 7 ≡ false → IsDecided (from 0x6959) true
+  refuses3 small other = refuses 0x6959 0x695B 0x6956 cpu.y 7 small (omega arith) other refl refl
+      (returned cpu.s (refused 0x6956 cpu.y 7) refl refl) refl refl refl
 
-  refuses5 : y < 256 → nat_eq y 7 ≡ false → IsDecided (from 0x6A02) true
-  refuses5 small other =
-      let e = compared y 7 small (omega arith) ∙ other in
-      decided (from 0x6A02) (refused 0x69BF 7) true 3
-      (run_more s 1 2 (from 0x6A02) ∙ ap (λ t. run s 2 (told 0x6A04 7 t)) e)
-      (returned s (refused 0x69BF 7) refl refl) refl refl refl
-      (steady_more is_code s 1 2 (from 0x6A02) refl (ap (λ t. are_steady is_code s 2 (told 0x6A04 7 t)) e)) refl
+  refuses4 : cpu.y < 256 → nat_eq cpu.y 7 ≡ false → IsDecided (from 0x698B) true
+  refuses4 small other = refuses 0x698B 0x698D 0x69BF cpu.y 7 small (omega arith) other refl refl
+      (returned cpu.s (refused 0x69BF cpu.y 7) refl refl) refl refl refl
 
-  -- the same of what dvg_redraw compares
-  abbrev told_a : (pc wanted : ℕ) → Bool → Cpu
-  told_a pc wanted t = at pc a x y s (nat_le 128 ((a + 256 - wanted) % 256)) t (nat_le wanted a) v d i
-      (laid (page_in mem) mem) flags log
+  refuses5 : cpu.y < 256 → nat_eq cpu.y 7 ≡ false → IsDecided (from 0x6A02) true
+  refuses5 small other = refuses 0x6A02 0x6A04 0x69BF cpu.y 7 small (omega arith) other refl refl
+      (returned cpu.s (refused 0x69BF cpu.y 7) refl refl) refl refl refl
 
-  abbrev refused_a : ℕ → Cpu
-  refused_a wanted = at 0x6956 a x y s (nat_le 128 ((a + 256 - wanted) % 256)) false true v d i (laid (page_in mem) mem)
-      flags log
+  refuses6 : cpu.a < 256 → nat_eq cpu.a 2 ≡ false → IsDecided (from 0x6945) true
+  refuses6 small other = refuses 0x6945 0x6947 0x6956 cpu.a 2 small (omega arith) other refl refl
+      (returned cpu.s (refused 0x6956 cpu.a 2) refl refl) refl refl refl
 
-  refuses6 : a < 256 → nat_eq a 2 ≡ false → IsDecided (from 0x6945) true
-  refuses6 small other =
-      let e = compared a 2 small (omega arith) ∙ other in
-      decided (from 0x6945) (refused_a 2) true 3
-      (run_more s 1 2 (from 0x6945) ∙ ap (λ t. run s 2 (told_a 0x6947 2 t)) e)
-      (returned s (refused_a 2) refl refl) refl refl refl
-      (steady_more is_code s 1 2 (from 0x6945) refl (ap (λ t. are_steady is_code s 2 (told_a 0x6947 2 t)) e)) refl
-
-  refuses7 : a < 256 → nat_eq a 4 ≡ false → IsDecided (from 0x694B) true
-  refuses7 small other =
-      let e = compared a 4 small (omega arith) ∙ other in
-      decided (from 0x694B) (refused_a 4) true 3
-      (run_more s 1 2 (from 0x694B) ∙ ap (λ t. run s 2 (told_a 0x694D 4 t)) e)
-      (returned s (refused_a 4) refl refl) refl refl refl
-      (steady_more is_code s 1 2 (from 0x694B) refl (ap (λ t. are_steady is_code s 2 (told_a 0x694D 4 t)) e)) refl
+  refuses7 : cpu.a < 256 → nat_eq cpu.a 4 ≡ false → IsDecided (from 0x694B) true
+  refuses7 small other = refuses 0x694B 0x694D 0x6956 cpu.a 4 small (omega arith) other refl refl
+      (returned cpu.s (refused 0x6956 cpu.a 4) refl refl) refl refl refl
 
 -- any state at a place
-at_place : (cpu : Cpu) (pc : ℕ) (c : Bool) → cpu.pc ≡ pc → IsLoaded cpu.mem
-    → IsDecided (from cpu.a cpu.x cpu.y cpu.s cpu.n cpu.z cpu.c cpu.v cpu.d cpu.i cpu.mem cpu.flags cpu.log pc) c → IsDecided cpu c
+at_place : (cpu : Cpu) (pc : ℕ) (c : Bool) → cpu.pc ≡ pc → IsLoaded cpu.mem → IsDecided (from cpu pc) c → IsDecided cpu c
 at_place cpu pc c is load done = subst (λ (k : Cpu). IsDecided k c) (state_is cpu pc cpu.s is refl load) done
 
 pub decides : Decides
 decides cpu load a_small small = (refusing, taking)
   where
     refusing : IsRefusing cpu → IsDecided cpu true
-    refusing (inl (inl is, other)) = at_place cpu 0x6900 true is load
-        (refuses1 cpu.a cpu.x cpu.y cpu.s cpu.n cpu.z cpu.c cpu.v cpu.d cpu.i cpu.mem cpu.flags cpu.log small other)
-    refusing (inl (inr is, other)) = at_place cpu 0x6926 true is load
-        (refuses2 cpu.a cpu.x cpu.y cpu.s cpu.n cpu.z cpu.c cpu.v cpu.d cpu.i cpu.mem cpu.flags cpu.log small other)
-    refusing (inr (inl (inl is, other))) = at_place cpu 0x6959 true is load
-        (refuses3 cpu.a cpu.x cpu.y cpu.s cpu.n cpu.z cpu.c cpu.v cpu.d cpu.i cpu.mem cpu.flags cpu.log small other)
-    refusing (inr (inl (inr (inl is), other))) = at_place cpu 0x698B true is load
-        (refuses4 cpu.a cpu.x cpu.y cpu.s cpu.n cpu.z cpu.c cpu.v cpu.d cpu.i cpu.mem cpu.flags cpu.log small other)
-    refusing (inr (inl (inr (inr is), other))) = at_place cpu 0x6A02 true is load
-        (refuses5 cpu.a cpu.x cpu.y cpu.s cpu.n cpu.z cpu.c cpu.v cpu.d cpu.i cpu.mem cpu.flags cpu.log small other)
-    refusing (inr (inr (inl (is, other)))) = at_place cpu 0x6945 true is load
-        (refuses6 cpu.a cpu.x cpu.y cpu.s cpu.n cpu.z cpu.c cpu.v cpu.d cpu.i cpu.mem cpu.flags cpu.log a_small other)
-    refusing (inr (inr (inr (is, other)))) = at_place cpu 0x694B true is load
-        (refuses7 cpu.a cpu.x cpu.y cpu.s cpu.n cpu.z cpu.c cpu.v cpu.d cpu.i cpu.mem cpu.flags cpu.log a_small other)
+    refusing (inl (inl is, other)) = at_place cpu 0x6900 true is load (refuses1 cpu small other)
+    refusing (inl (inr is, other)) = at_place cpu 0x6926 true is load (refuses2 cpu small other)
+    refusing (inr (inl (inl is, other))) = at_place cpu 0x6959 true is load (refuses3 cpu small other)
+    refusing (inr (inl (inr (inl is), other))) = at_place cpu 0x698B true is load (refuses4 cpu small other)
+    refusing (inr (inl (inr (inr is), other))) = at_place cpu 0x6A02 true is load (refuses5 cpu small other)
+    refusing (inr (inr (inl (is, other)))) = at_place cpu 0x6945 true is load (refuses6 cpu a_small other)
+    refusing (inr (inr (inr (is, other)))) = at_place cpu 0x694B true is load (refuses7 cpu a_small other)
 
     taking : IsTaking cpu → IsDecided cpu false
-    taking (inl is) = at_place cpu 0x6941 false is load
-        (takes1 cpu.a cpu.x cpu.y cpu.s cpu.n cpu.z cpu.c cpu.v cpu.d cpu.i cpu.mem cpu.flags cpu.log)
-    taking (inr (inl is)) = at_place cpu 0x6953 false is load
-        (takes2 cpu.a cpu.x cpu.y cpu.s cpu.n cpu.z cpu.c cpu.v cpu.d cpu.i cpu.mem cpu.flags cpu.log)
-    taking (inr (inr is)) = at_place cpu 0x6A15 false is load
-        (takes3 cpu.a cpu.x cpu.y cpu.s cpu.n cpu.z cpu.c cpu.v cpu.d cpu.i cpu.mem cpu.flags cpu.log)
-
-refuted : (t : Bool) → not t ≡ true → t ≡ false
-refuted true is = absurd (cc)
-refuted false is = refl
+    taking (inl is) = at_place cpu 0x6941 false is load (takes1 cpu)
+    taking (inr (inl is)) = at_place cpu 0x6953 false is load (takes2 cpu)
+    taking (inr (inr is)) = at_place cpu 0x6A15 false is load (takes3 cpu)
 
 -- the first instruction of a call that it refuses
 module _ (cpu : Cpu) (has : HasCode cpu.mem) (small : cpu.mem 0x10 < 256) where
@@ -162,46 +123,28 @@ module _ (cpu : Cpu) (has : HasCode cpu.mem) (small : cpu.mem 0x10 < 256) where
   abbrev phase : ℕ
   phase = cpu.mem 0x10
 
+  -- after its load of Y, and of A
+  abbrev with_y : Cpu
+  with_y = record cpu { y = phase; n = nat_le 128 phase; z = nat_eq phase 0; log = Reads 0x10 phase ∷ cpu.log }
+
+  abbrev with_a : Cpu
+  with_a = record cpu { a = phase; n = nat_le 128 phase; z = nat_eq phase 0; log = Reads 0x10 phase ∷ cpu.log }
+
   -- it is run by computing
   turned_at : (pc : ℕ) → cpu.pc ≡ pc
-      → (let k = at pc cpu.a cpu.x cpu.y cpu.s cpu.n cpu.z cpu.c cpu.v cpu.d cpu.i (laid (page_in cpu.mem) cpu.mem) cpu.flags cpu.log in
-      IsDecided (run cpu.s 1 k) true × ((run cpu.s 1 k).s ≡ cpu.s)) → Turned
+      → IsDecided (run cpu.s 1 (from cpu pc)) true × ((run cpu.s 1 (from cpu pc)).s ≡ cpu.s) → Turned
   turned_at pc is done = subst (λ (k : Cpu). IsDecided (run cpu.s 1 k) true × ((run cpu.s 1 k).s ≡ cpu.s))
       (state_coded cpu pc cpu.s is refl has) done
 
   pub looked : (routine : Routine) → cpu.pc ≡ entry routine → finds_busy routine cpu.mem ≡ true → Turned
-  looked (calls.Offer F) is busy = turned_at 0x68FE is (
-    refuses1 cpu.a cpu.x phase cpu.s (nat_le 128 phase) (nat_eq phase 0) cpu.c cpu.v cpu.d cpu.i cpu.mem cpu.flags
-        (Reads 0x10 phase ∷ cpu.log) small (refuted (nat_eq phase 2) busy),
-    refl,
-  )
-  looked (calls.Open F) is busy = turned_at 0x6924 is (
-    refuses2 cpu.a cpu.x phase cpu.s (nat_le 128 phase) (nat_eq phase 0) cpu.c cpu.v cpu.d cpu.i cpu.mem cpu.flags
-        (Reads 0x10 phase ∷ cpu.log) small (refuted (nat_eq phase 2) busy),
-    refl,
-  )
-  looked calls.Redraw is busy = turned_at 0x6943 is (
-    refuses6 phase cpu.x cpu.y cpu.s (nat_le 128 phase) (nat_eq phase 0) cpu.c cpu.v cpu.d cpu.i cpu.mem cpu.flags
-        (Reads 0x10 phase ∷ cpu.log) small (refuted (nat_eq phase 2) busy),
-    refl,
-  )
-  looked (calls.Puts Put) is busy = turned_at 0x6957 is (
-    refuses3 cpu.a cpu.x phase cpu.s (nat_le 128 phase) (nat_eq phase 0) cpu.c cpu.v cpu.d cpu.i cpu.mem cpu.flags
-        (Reads 0x10 phase ∷ cpu.log) small (refuted (nat_eq phase 7) busy),
-    refl,
-  )
-  looked (calls.Puts Pair) is busy = turned_at 0x6989 is (
-    refuses4 cpu.a cpu.x phase cpu.s (nat_le 128 phase) (nat_eq phase 0) cpu.c cpu.v cpu.d cpu.i cpu.mem cpu.flags
-        (Reads 0x10 phase ∷ cpu.log) small (refuted (nat_eq phase 7) busy),
-    refl,
-  )
+  looked (calls.Offer F) is busy = turned_at 0x68FE is (refuses1 with_y small (refuted (nat_eq phase 2) busy), refl)
+  looked (calls.Open F) is busy = turned_at 0x6924 is (refuses2 with_y small (refuted (nat_eq phase 2) busy), refl)
+  looked calls.Redraw is busy = turned_at 0x6943 is (refuses6 with_a small (refuted (nat_eq phase 2) busy), refl)
+  looked (calls.Puts Put) is busy = turned_at 0x6957 is (refuses3 with_y small (refuted (nat_eq phase 7) busy), refl)
+  looked (calls.Puts Pair) is busy = turned_at 0x6989 is (refuses4 with_y small (refuted (nat_eq phase 7) busy), refl)
+  looked calls.Close is busy = turned_at 0x6A00 is (refuses5 with_y small (refuted (nat_eq phase 7) busy), refl)
   looked (calls.Puts Labs) is busy = absurd (cc)
   looked (calls.Puts Vector) is busy = absurd (cc)
-  looked calls.Close is busy = turned_at 0x6A00 is (
-    refuses5 cpu.a cpu.x phase cpu.s (nat_le 128 phase) (nat_eq phase 0) cpu.c cpu.v cpu.d cpu.i cpu.mem cpu.flags
-        (Reads 0x10 phase ∷ cpu.log) small (refuted (nat_eq phase 7) busy),
-    refl,
-  )
   looked calls.Reset is busy = absurd (cc)
   looked calls.Tick is busy = absurd (cc)
   looked calls.Ticks is busy = absurd (cc)

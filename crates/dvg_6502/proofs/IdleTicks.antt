@@ -10,7 +10,7 @@ use Rattle.dvg_6502.specs.Build.{IdlesAll, IdleTicksAll}
 use Rattle.dvg_6502.proofs.Running.{at, run_more, returned}
 use Rattle.dvg_6502.proofs.Memory.{laid, page_of, page_in, HasCode, code_known, state_coded, put_out, in_page, in_code, le_not}
 use Rattle.dvg_6502.proofs.TickCall.{on_stack, found, past_low, rts}
-use Rattle.dvg_6502.proofs.TicksRun.{then_at, last, again}
+use Rattle.dvg_6502.proofs.TicksRun.{then_at, last, again, lower, not_last}
 
 -- the two phases, and the instructions of a tick up to its RTS
 abbrev phase_of : Bool → ℕ
@@ -223,15 +223,9 @@ module _ (q : ℕ) (q_small : q < 256) (t : Bool) where
   ticks_leave (suc n) cpu most at_pc at_q has phase count =
       let is = same cpu at_pc at_q has phase 0x1F (inl (omega arith)) ∙ count in
       let down = lower n _ is most in
-      more_left cpu at_pc at_q has phase (ne_eqb _ 0 (some n _ is most))
+      more_left cpu at_pc at_q has phase (ne_eqb _ 0 (not_last n _ is most))
       (ticks_leave n (counted cpu at_pc at_q has phase 0x6862 false) (omega (arith, most)) refl refl
       (next_has cpu at_pc at_q has phase) (next_phase cpu at_pc at_q has phase) down)
-    where
-      lower : (n m : ℕ) → m ≡ suc (suc n) % 256 → suc n ≤ 255 → (m + 255) % 256 ≡ suc n % 256
-      lower n m count most = omega (arith, count, most)
-
-      some : (n m : ℕ) → m ≡ suc (suc n) % 256 → suc n ≤ 255 → (m + 255) % 256 ≢ 0
-      some n m count most none = absurd (omega (arith, count, most, none))
 
 ticks_idle_at : (t : Bool) (cpu : Cpu) → Enters cpu 0x6860 → cpu.mem 0x10 ≡ phase_of t → IdlesAll cpu
 ticks_idle_at t cpu enters phase = record {

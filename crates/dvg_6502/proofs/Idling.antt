@@ -15,6 +15,7 @@ use Rattle.dvg_6502.proofs.Steady.{code_kept}
 use Rattle.dvg_6502.proofs.Decided.{clears}
 use Rattle.dvg_6502.proofs.Interrupted.{leaves_too}
 use Rattle.dvg_6502.proofs.Sessions.{came_of}
+use Rattle.std.proofs.lemmas.Bool.{or_left as left_true}
 
 -- the phase is this one before each of so many steps
 abbrev pub are_in : (p q n : ℕ) → Cpu → Bool
@@ -139,10 +140,6 @@ module _ (p q : ℕ) (from : Cpu) (stays_so : StaysTo p q from) (k : ℕ) where
       by (inr more) = above more.0 more.1
       by (inl (zero, is)) = above 0 (omega (arith, is))
       by (inl (suc i, is)) = inl (in_at p q stays_so.steps k from stays_so.so (omega (arith, is)))
-
-left_true : (t u : Bool) → t ≡ true → (t || u) ≡ true
-left_true true u is = refl
-left_true false u is = absurd (cc)
 
 one_of : (t u w : Bool) → ((t ≡ true) ⊎ (w ≡ true)) → (t || (u || w)) ≡ true
 one_of true u w is = refl

@@ -14,6 +14,8 @@ use Rattle.dvg_6502.proofs.Memory.{both_true}
 use Rattle.dvg_6502.proofs.Decided.{looked, leaving}
 use Rattle.dvg_6502.proofs.AmidRun.{came_out}
 use Rattle.dvg_6502.proofs.Steady.{last_kept, code_kept}
+pub use Rattle.std.proofs.lemmas.Bool.{or_left as left_true, or_right as right_true}
+use Rattle.std.proofs.lemmas.Bool.{and_from as both}
 
 -- a call that is over goes on to its return, where nobody interrupts: memory stays, and nothing more is seen
 record GoesHome (call : calls.Call) : Type 0 where
@@ -44,18 +46,6 @@ decided_home call c over told is level =
       memory = ap (λ (k : Cpu). k.mem) on ∙ m_is;
       shows = ap (λ (k : Cpu). seen k.log) on ∙ l_is;
     }
-
-pub left_true : (t u : Bool) → t ≡ true → (t || u) ≡ true
-left_true true u is = refl
-left_true false u is = absurd (cc)
-
-pub right_true : (t u : Bool) → u ≡ true → (t || u) ≡ true
-right_true true u is = refl
-right_true false u is = is
-
-both : (t u : Bool) → t ≡ true → u ≡ true → (t && u) ≡ true
-both true u a b = b
-both false u a b = absurd (cc)
 
 or_false : (t : Bool) → (t || false) ≡ t
 or_false true = refl

@@ -17,7 +17,7 @@ use Rattle.dvg_6502.proofs.BuiltFrame.{built_accepted}
 use Rattle.dvg_6502.proofs.Sessions.{calls_live, one_life}
 use Rattle.dvg_6502.proofs.Answering.{offer_answers, open_answers, redraw_answers}
 
-made_lives : (items : List Item) → IsMade items → IsLife items
+pub made_lives : (items : List Item) → IsMade items → IsLife items
 made_lives items made = let lives = calls_live made.0 made.1 in
     subst IsLife (one_life made.0 lives.0 items lives.1 made.2) lives.2
 

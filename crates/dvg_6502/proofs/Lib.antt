@@ -19,6 +19,7 @@ pub mod OfferRun
 pub mod BuildRun
 pub mod PairRun
 pub mod VectorRun
+pub mod WordsRun
 pub mod VectorCall
 pub mod Offering
 pub mod Growing
@@ -39,6 +40,7 @@ pub mod ComputeVectors
 pub mod BuiltFrame
 pub mod BuildScript
 pub mod Building
+pub mod Pairing
 pub mod Closing
 pub mod Refusing
 pub mod VectorBuilds
@@ -48,10 +50,12 @@ pub mod Decided
 pub mod BuildCalls
 pub mod Whole
 pub mod Interrupted
+pub mod Courses
 pub mod Sessions
 pub mod Answering
 pub mod Idling
 pub mod Drafts
+pub mod Found
 pub mod Programs
 pub mod BuildStays
 pub mod Joined

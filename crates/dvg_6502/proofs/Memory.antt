@@ -1,6 +1,6 @@
 -- Memories of which the driver's bytes and code are known.
 use Rattle.std.proofs.Common.{◌≡◌, ◌≢◌, ℕ, zero, suc, ◌+◌, ◌-◌, ◌<◌, ◌≤◌, Bool, true, false, cond, List, [], ◌∷◌}
-use Rattle.std.proofs.Common.{length, refl, sym, ap, ◌∙◌, subst, arith, eqb-true, eq-eqb, set, le-leb, leb-true}
+use Rattle.std.proofs.Common.{length, refl, sym, ap, ◌∙◌, subst, arith, eqb-true, set, le-leb, leb-true}
 use Rattle.std.proofs.Common.{get_or-set_same, get_or-set_other}
 use Rattle.std.proofs.lemmas.Bool.{ne_eqb}
 use Rattle.std.specs.Prelude.{nat_eq, nat_le, nat_lt, if◌then◌else◌, ◌&&◌, slice_index}
@@ -9,6 +9,7 @@ use Rattle.dvg_6502.specs.Processor.{Cpu, put}
 use Rattle.dvg_6502.specs.Code.{code}
 use Rattle.dvg_6502.specs.Board.{IsLoaded}
 use Rattle.dvg_6502.proofs.Running.{at}
+pub use Rattle.std.proofs.lemmas.Bool.{and_parts as both_true, lt-leb as le_not, eq-eqb as same_eqb}
 
 abbrev pub in_page : ℕ → Bool
 in_page b = nat_le 0x10 b && nat_lt b 0x1B
@@ -39,21 +40,6 @@ swap3 false t u byte a b rest out = refl
 swap3 true false false byte a b rest out = refl
 swap3 true true u byte a b rest out = absurd (let e = (out refl).0 in cc)
 swap3 true false true byte a b rest out = absurd (let e = (out refl).1 in cc)
-
-pub both_true : (t u : Bool) → (t && u) ≡ true → (t ≡ true) × (u ≡ true)
-both_true true true is = (refl, refl)
-both_true true false is = absurd (cc)
-both_true false u is = absurd (cc)
-
-pub same_eqb : (a b : ℕ) → a ≡ b → nat_eq a b ≡ true
-same_eqb a b e = eq-eqb a b e
-
-pub le_not : (k b : ℕ) → b < k → nat_le k b ≡ false
-le_not k b h = test (nat_le k b) refl
-  where
-    test : (t : Bool) → nat_le k b ≡ t → nat_le k b ≡ false
-    test false is = is
-    test true is = let most = leb-true k b is in absurd (omega arith)
 
 within : (i : ℕ) → i < 11 → in_page (0x10 + i) ≡ true
 within i h =

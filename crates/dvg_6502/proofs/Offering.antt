@@ -18,7 +18,7 @@ use Rattle.dvg_6502.specs.Tables.{HasTable, table_of}
 use Rattle.dvg_6502.specs.Routines.{Answers, IsBusy, Enters, ResetRefines, OfferTakes, OfferRefuses, RedrawTakes}
 use Rattle.dvg_6502.specs.Routines.{RedrawRefuses}
 use Rattle.dvg_6502.proofs.Running.{Comes, at, returned}
-use Rattle.dvg_6502.proofs.Memory.{AreSmall, known, page_in, laid, page_of, loaded, same_out, out_of_page, small_page}
+use Rattle.dvg_6502.proofs.Memory.{AreSmall, known, page_in, laid, state_is, page_of, loaded, same_out, out_of_page, small_page}
 use Rattle.dvg_6502.proofs.TableTick.{not_flag}
 use Rattle.dvg_6502.proofs.Begun.{BeginsTable, table_begins}
 use Rattle.dvg_6502.proofs.Steady.{steady_all, code_kept}
@@ -51,17 +51,6 @@ answers tables from c page mem begin stop new held no_log bytes small comes hold
       steady = λ k. steady_all (is_kept tables) from.s comes.steps k from (comes.steady tables held) back
           (code_kept tables (run from.s comes.steps from).pc comes.there);
     }
-
--- a state, with its memory as page, code and the rest
-abbrev from_of : Cpu → ℕ → Cpu
-from_of cpu entry = at entry cpu.a cpu.x cpu.y cpu.s cpu.n cpu.z cpu.c cpu.v cpu.d cpu.i
-    (laid (page_in cpu.mem) cpu.mem) cpu.flags cpu.log
-
-from_is : (cpu : Cpu) (entry : ℕ) → cpu.pc ≡ entry → IsLoaded cpu.mem → from_of cpu entry ≡ cpu
-from_is cpu entry at_entry load =
-    ap (λ (m : ℕ → ℕ). at entry cpu.a cpu.x cpu.y cpu.s cpu.n cpu.z cpu.c cpu.v cpu.d cpu.i m cpu.flags cpu.log)
-    (sym (known cpu.mem load))
-    ∙ ap (λ p. at p cpu.a cpu.x cpu.y cpu.s cpu.n cpu.z cpu.c cpu.v cpu.d cpu.i cpu.mem cpu.flags cpu.log) (sym at_entry)
 
 -- a driver that doesn't rest isn't idle
 pub not_idle : (mem : ℕ → ℕ) (begin stop : ℕ) (place : Place) (half : Half) (flipped : Bool)
@@ -277,11 +266,9 @@ module _ (tables : ℕ → Bool) (a x y s : ℕ) (n z c v d i : Bool) (mem flags
   small_final = small_page (omega arith) f_small (load.bytes 0x12) (omega arith) (omega arith) h_small
       (p2_small (nat_eq e2 0)) (omega arith) (omega arith) a_small x_small
 
-  offers : (from : Cpu) → from ≡ at 0x68FE a x y s n z c v d i (laid begun mem) flags []
-      → ((b : ℕ) → is_own b ≡ false → laid begun mem b ≡ from.mem b)
-      → Steadily tables (at 0x68FE a x y s n z c v d i (laid begun mem) flags []) false (t + 2) (t + 2 + len)
+  offers : Steadily tables (at 0x68FE a x y s n z c v d i (laid begun mem) flags []) false (t + 2) (t + 2 + len)
       (record { place = Writing (frame_writes (other half) F (not set)); half = half; flipped = set })
-  offers from is kept = answers tables (at 0x68FE a x y s n z c v d i (laid begun mem) flags []) false final mem (t + 2)
+  offers = answers tables (at 0x68FE a x y s n z c v d i (laid begun mem) flags []) false final mem (t + 2)
       (t + 2 + len)
       (record { place = Writing (frame_writes (other half) F (not set)); half = half; flipped = set }) held refl load.bytes
       small_final comes
@@ -307,20 +294,20 @@ module _ (tables : ℕ → Bool) (a x y s : ℕ) (n z c v d i : Bool) (mem flags
   offer_rests H0 phase free clear table = subst (λ p. Goal H0 (with_phase p (mem 0x11))) (sym phase)
       (subst (λ f. Goal H0 (with_phase 2 f)) (sym free)
       (offers tables a x y s n z c v d i mem flags load a_small x_small H0 set F true refl refl (omega arith)
-      (omega arith) clear table covers (with_phase 2 0xE2) refl (λ b own. refl)))
+      (omega arith) clear table covers))
   offer_rests H1 phase free clear table = subst (λ p. Goal H1 (with_phase p (mem 0x11))) (sym phase)
       (subst (λ f. Goal H1 (with_phase 2 f)) (sym free)
       (offers tables a x y s n z c v d i mem flags load a_small x_small H1 set F false refl refl (omega arith)
-      (omega arith) clear table covers (with_phase 2 0xE0) refl (λ b own. refl)))
+      (omega arith) clear table covers))
 
 -- from any state at an entry
 module _ (cpu : Cpu) (entry : ℕ) (enters : Enters cpu entry) where
-  abbrev here : Cpu
+  abbrev pub here : Cpu
   here = at entry cpu.a cpu.x cpu.y cpu.s cpu.n cpu.z cpu.c cpu.v cpu.d cpu.i (laid (page_in cpu.mem) cpu.mem) cpu.flags []
 
-  here_is : here ≡ cpu
-  here_is = ap (λ l. at entry cpu.a cpu.x cpu.y cpu.s cpu.n cpu.z cpu.c cpu.v cpu.d cpu.i
-      (laid (page_in cpu.mem) cpu.mem) cpu.flags l) (sym enters.log) ∙ from_is cpu entry enters.entry enters.loaded
+  pub here_is : here ≡ cpu
+  here_is = ap (λ l. at entry cpu.a cpu.x cpu.y cpu.s cpu.n cpu.z cpu.c cpu.v cpu.d cpu.i (laid (page_in cpu.mem) cpu.mem) cpu.flags l)
+      (sym enters.log) ∙ state_is cpu entry cpu.s enters.entry refl enters.loaded
 
 pub resets_steadily : (tables : ℕ → Bool) (cpu : Cpu) (begin stop : ℕ) (half : Half) → Enters cpu 0x6800
     → Steadily tables cpu cpu.c begin stop (record { place = Start; half = half; flipped = false })

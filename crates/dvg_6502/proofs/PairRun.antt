@@ -256,38 +256,25 @@ labs_run q a x y s n z c v d i page mem flags log =
 -- dvg_open and dvg_close
 module _ (q a x y s : ℕ) (n z c v d i : Bool) (publish next t0 t1 pages end second f0 f1 : ℕ) (mem flags : ℕ
     → ℕ) (log : List Access) where
+  opened : (free high : ℕ) → put 0x10 7 (put 0x13 2 (put 0x15 high (put 0x14 0 (put 0x16 0
+      (laid (page_of 2 free publish next t0 t1 pages end second f0 f1) mem)))))
+      ≡ laid (page_of 7 free publish 2 0 high 0 end second f0 f1) mem
+  opened free high =
+      ap (λ m. put 0x10 7 (put 0x13 2 (put 0x15 high (put 0x14 0 m))))
+      (put_page 6 0 (page_of 2 free publish next t0 t1 pages end second f0 f1) mem (omega arith) refl)
+      ∙ ap (λ m. put 0x10 7 (put 0x13 2 (put 0x15 high m)))
+      (put_page 4 0 (page_of 2 free publish next t0 t1 0 end second f0 f1) mem (omega arith) refl)
+      ∙ ap (λ m. put 0x10 7 (put 0x13 2 m))
+      (put_page 5 high (page_of 2 free publish next 0 t1 0 end second f0 f1) mem (omega arith) refl)
+      ∙ ap (put 0x10 7) (put_page 3 2 (page_of 2 free publish next 0 high 0 end second f0 f1) mem (omega arith) refl)
+      ∙ put_page 0 7 (page_of 2 free publish 2 0 high 0 end second f0 f1) mem (omega arith) refl
+
   -- a frame is begun in the free half
   pub open_takes : (h : Bool)
       → Comes q (at 0x6924 a x y s n z c v d i (laid (page_of 2 (free_of h) publish next t0 t1 pages end second f0 f1) mem)
       flags log) s false (laid (page_of 7 (free_of h) publish 2 0 (high_of h) 0 end second f0 f1) mem) (seen log) []
   open_takes true = comes 16 refl refl refl refl refl (λ tables is. refl) (opened 0xE2 0x44)
-    where
-      opened : (free high : ℕ) → put 0x10 7 (put 0x13 2 (put 0x15 high (put 0x14 0 (put 0x16 0
-          (laid (page_of 2 free publish next t0 t1 pages end second f0 f1) mem)))))
-          ≡ laid (page_of 7 free publish 2 0 high 0 end second f0 f1) mem
-      opened free high =
-          ap (λ m. put 0x10 7 (put 0x13 2 (put 0x15 high (put 0x14 0 m))))
-          (put_page 6 0 (page_of 2 free publish next t0 t1 pages end second f0 f1) mem (omega arith) refl)
-          ∙ ap (λ m. put 0x10 7 (put 0x13 2 (put 0x15 high m)))
-          (put_page 4 0 (page_of 2 free publish next t0 t1 0 end second f0 f1) mem (omega arith) refl)
-          ∙ ap (λ m. put 0x10 7 (put 0x13 2 m))
-          (put_page 5 high (page_of 2 free publish next 0 t1 0 end second f0 f1) mem (omega arith) refl)
-          ∙ ap (put 0x10 7) (put_page 3 2 (page_of 2 free publish next 0 high 0 end second f0 f1) mem (omega arith) refl)
-          ∙ put_page 0 7 (page_of 2 free publish 2 0 high 0 end second f0 f1) mem (omega arith) refl
   open_takes false = comes 16 refl refl refl refl refl (λ tables is. refl) (opened 0xE0 0x40)
-    where
-      opened : (free high : ℕ) → put 0x10 7 (put 0x13 2 (put 0x15 high (put 0x14 0 (put 0x16 0
-          (laid (page_of 2 free publish next t0 t1 pages end second f0 f1) mem)))))
-          ≡ laid (page_of 7 free publish 2 0 high 0 end second f0 f1) mem
-      opened free high =
-          ap (λ m. put 0x10 7 (put 0x13 2 (put 0x15 high (put 0x14 0 m))))
-          (put_page 6 0 (page_of 2 free publish next t0 t1 pages end second f0 f1) mem (omega arith) refl)
-          ∙ ap (λ m. put 0x10 7 (put 0x13 2 (put 0x15 high m)))
-          (put_page 4 0 (page_of 2 free publish next t0 t1 0 end second f0 f1) mem (omega arith) refl)
-          ∙ ap (λ m. put 0x10 7 (put 0x13 2 m))
-          (put_page 5 high (page_of 2 free publish next 0 t1 0 end second f0 f1) mem (omega arith) refl)
-          ∙ ap (put 0x10 7) (put_page 3 2 (page_of 2 free publish next 0 high 0 end second f0 f1) mem (omega arith) refl)
-          ∙ put_page 0 7 (page_of 2 free publish 2 0 high 0 end second f0 f1) mem (omega arith) refl
 
 -- dvg_close: the HALT's two bytes
 module _ (q a x y s : ℕ) (n z c v d i : Bool) (free publish next t0 t1 pages end second f0 f1 : ℕ) (mem flags : ℕ

@@ -20,6 +20,7 @@ use Rattle.dvg_6502.specs.Calls.{Routine, Call, after, is_refused, is_leaving, I
 use Rattle.dvg_6502.proofs.Running.{at}
 use Rattle.dvg_6502.proofs.Memory.{AreSmall, both_true, put_small}
 use Rattle.dvg_6502.proofs.Interrupted.{still}
+pub use Rattle.std.proofs.lemmas.Bool.{not-true as not_true}
 
 -- a routine is entered over this memory, with this X and S; the flag gives this byte
 abbrev pub entered : (pc x s flag : ℕ) → (ℕ → ℕ) → Cpu
@@ -72,10 +73,6 @@ puts (w ∷ ws) mem = put w.0 w.1 (puts ws mem)
 abbrev pub fit : List (ℕ × ℕ) → Bool
 fit [] = true
 fit (w ∷ ws) = (not (is_code w.0) && nat_lt w.1 256) && fit ws
-
-pub not_true : (t : Bool) → not t ≡ true → t ≡ false
-not_true false e = refl
-not_true true e = absurd (cc)
 
 pub loaded_puts : (ws : List (ℕ × ℕ)) (mem : ℕ → ℕ) → fit ws ≡ true → IsLoaded mem → IsLoaded (puts ws mem)
 loaded_puts [] mem is load = load

@@ -2,7 +2,7 @@
 use Rattle.std.proofs.Common.{◌≡◌, ◌≢◌, ℕ, suc, ◌+◌, ◌-◌, ◌%◌, ◌<◌, ◌≤◌, Bool, true, false, List, [], ◌∷◌, refl, sym, ap, ◌∙◌}
 use Rattle.std.proofs.Common.{subst, arith, leb-true}
 use Rattle.std.specs.Prelude.{nat_eq, nat_le, nat_lt, ◌||◌, bit_and, bit_or, bit_xor}
-use Rattle.std.proofs.lemmas.Bool.{eqb-false}
+use Rattle.std.proofs.lemmas.Bool.{eqb-false, or_parts as neither}
 use Rattle.dvg_6502.specs.Processor.{Cpu, Access, Reads, Writes, put, run}
 use Rattle.dvg_6502.specs.Board.{IsLoaded, seen, is_own}
 use Rattle.dvg_6502.specs.Amid.{is_kept, are_steady}
@@ -12,13 +12,14 @@ use Rattle.dvg_6502.specs.Decided.{is_labs, LabsIsPair}
 use Rattle.dvg_6502.proofs.Alike.{alike_if}
 use Rattle.dvg_6502.proofs.AmidRun.{came_out}
 use Rattle.dvg_6502.proofs.Running.{Comes, by, at, returned, comes}
-use Rattle.dvg_6502.proofs.Memory.{laid, page_of, page_in, known, loaded, put_small, both_true, state_is}
+use Rattle.dvg_6502.proofs.Memory.{laid, page_of, page_in, known, loaded, put_small, both_true}
 use Rattle.dvg_6502.proofs.FedByte.{compared}
 use Rattle.dvg_6502.proofs.Masks.{opened, mixed}
 use Rattle.dvg_6502.proofs.Steady.{steady_all, code_kept}
 use Rattle.dvg_6502.proofs.TickCall.{past_low}
 use Rattle.dvg_6502.proofs.TicksRun.{page_small}
 use Rattle.dvg_6502.proofs.OfferRun.{offer_refuses, redraw_refuses}
+use Rattle.dvg_6502.proofs.Offering.{here, here_is}
 use Rattle.dvg_6502.proofs.BuildRun.{put_refuses, put_full}
 use Rattle.dvg_6502.proofs.PairRun.{labs_run}
 
@@ -44,10 +45,6 @@ refused_so cpu did =
       kept = λ b out. ap (λ (m : ℕ → ℕ). m b) comes.memory ∙ did.kept b out;
       alike = alike_if cpu comes.steps back (λ tables. comes.steady tables refl) comes.there;
     }
-
-neither : (t u : Bool) → (t || u) ≡ false → (t ≡ false) × (u ≡ false)
-neither true u is = absurd (cc)
-neither false u is = (refl, is)
 
 pub refused_steady : (tables : ℕ → Bool) (cpu : Cpu) (k : ℕ) → Refuses cpu → are_steady (is_kept tables) cpu.s k cpu ≡ true
 refused_steady tables cpu k did = steady_all (is_kept tables) cpu.s did.comes.steps k cpu (did.comes.steady tables refl)
@@ -109,22 +106,12 @@ pair_full q a x y s n z c v d i free publish next t0 t1 pages end second f0 f1 m
 
 -- at a routine's entry
 module _ (cpu : Cpu) (entry : ℕ) (enters : Enters cpu entry) where
-  abbrev page_here : List ℕ
-  page_here = page_in cpu.mem
-
-  abbrev here : Cpu
-  here = at entry cpu.a cpu.x cpu.y cpu.s cpu.n cpu.z cpu.c cpu.v cpu.d cpu.i (laid (page_in cpu.mem) cpu.mem) cpu.flags []
-
-  here_is : here ≡ cpu
-  here_is = ap (λ l. at entry cpu.a cpu.x cpu.y cpu.s cpu.n cpu.z cpu.c cpu.v cpu.d cpu.i (laid (page_in cpu.mem) cpu.mem) cpu.flags l)
-      (sym enters.log) ∙ state_is cpu entry cpu.s enters.entry refl enters.loaded
-
   -- a call that leaves all memory as it is
-  unchanged : Comes cpu.s here cpu.s true (laid (page_in cpu.mem) cpu.mem) [] [] → Refuses cpu
+  unchanged : Comes cpu.s (here cpu entry enters) cpu.s true (laid (page_in cpu.mem) cpu.mem) [] [] → Refuses cpu
   unchanged comes = record {
     memory = cpu.mem;
     comes = subst (λ (m : ℕ → ℕ). Comes cpu.s cpu cpu.s true m [] []) (sym (known cpu.mem enters.loaded))
-        (subst (λ (k : Cpu). Comes cpu.s k cpu.s true (laid (page_in cpu.mem) cpu.mem) [] []) here_is comes);
+        (subst (λ (k : Cpu). Comes cpu.s k cpu.s true (laid (page_in cpu.mem) cpu.mem) [] []) (here_is cpu entry enters) comes);
     loaded = enters.loaded;
     own = λ b is. refl;
     far = λ b is. refl;

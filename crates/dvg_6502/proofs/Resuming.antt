@@ -1,9 +1,9 @@
 -- The RTI of an NMI's routine.
-use Rattle.std.proofs.Common.{◌≡◌, ℕ, ◌+◌, ◌*◌, ◌/◌, ◌%◌, ◌<◌, Bool, true, false, refl, sym, ap, ◌∙◌, arith, eq-eqb}
+use Rattle.std.proofs.Common.{◌≡◌, ℕ, ◌+◌, ◌*◌, ◌/◌, ◌%◌, ◌<◌, Bool, true, false, refl, ap, ◌∙◌, arith, eq-eqb}
 use Rattle.std.proofs.lemmas.Bool.{ne_eqb}
 use Rattle.std.specs.Prelude.{nat_eq, if◌then◌else◌}
-use Rattle.dvg_6502.specs.Processor.{Cpu, bit_of, does, decoded, opcodes, flags_byte, interrupted, put, stack_place, has_bit, step}
-use Rattle.dvg_6502.specs.Interrupts.{IsOver, InterruptReturns}
+use Rattle.dvg_6502.specs.Processor.{Cpu, bit_of, does, decoded, opcodes, flags_byte, interrupted, put, stack_place, has_bit}
+use Rattle.dvg_6502.specs.Interrupts.{InterruptReturns}
 
 bit_small : (b : Bool) → bit_of b < 2
 bit_small true = omega arith

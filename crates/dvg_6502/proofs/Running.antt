@@ -4,6 +4,7 @@ use Rattle.std.specs.Prelude.{nat_eq, ◌&&◌}
 use Rattle.dvg_6502.specs.Processor.{Cpu, Access, run, turn, at_return}
 use Rattle.dvg_6502.specs.Board.{seen}
 use Rattle.dvg_6502.specs.Amid.{is_kept, is_code, is_steady, are_steady, all_in}
+pub use Rattle.std.proofs.lemmas.Bool.{and_from as and_true}
 
 -- the state of a processor
 abbrev pub at : ℕ → (a x y s : ℕ) → (n z c v d i : Bool) → (ℕ → ℕ) → (ℕ → ℕ) → List Access → Cpu
@@ -41,10 +42,6 @@ pub run_more : (s k n : ℕ) (cpu : Cpu) → run s (n + k) cpu ≡ run s n (run 
 run_more s k n cpu =
     run_times s (n + k) cpu ∙ times_more (turn s) k n cpu ∙ sym (run_times s n (times (turn s) k cpu))
     ∙ ap (run s n) (sym (run_times s k cpu))
-
-pub and_true : (t u : Bool) → t ≡ true → u ≡ true → (t && u) ≡ true
-and_true true u a b = b
-and_true false u a b = absurd (cc)
 
 -- both stretches take guarded bytes alone
 pub steady_more : (kept : ℕ → Bool) (s k n : ℕ) (cpu : Cpu) → are_steady kept s k cpu ≡ true

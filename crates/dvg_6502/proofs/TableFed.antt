@@ -1,8 +1,8 @@
 -- What a table gives the machine code of a frame.
-use Rattle.std.proofs.Common.{◌≡◌, ◌≢◌, ℕ, zero, suc, ◌+◌, ◌-◌, ◌*◌, ◌%◌, ◌/◌, ◌<◌, ◌≤◌, ℤ, pos, negsuc, Bool, true}
-use Rattle.std.proofs.Common.{false, not, List, [], ◌∷◌, ◌++◌, refl, sym, ap, ◌∙◌, subst, arith, eqb-true, eq-eqb}
-use Rattle.std.proofs.Common.{le-leb, leb-true}
-use Rattle.std.proofs.lemmas.Bool.{eqb-false}
+use Rattle.std.proofs.Common.{◌≡◌, ℕ, suc, ◌+◌, ◌-◌, ◌*◌, ◌%◌, ◌/◌, ◌<◌, ◌≤◌, ℤ, pos, negsuc, Bool, true}
+use Rattle.std.proofs.Common.{false, not, List, [], ◌∷◌, ◌++◌, refl, sym, ap, ◌∙◌, arith, eqb-true, eq-eqb}
+use Rattle.std.proofs.Common.{leb-true}
+use Rattle.std.proofs.lemmas.Bool.{agree_below_at, lt-leb as le_not, le-leb as le_true}
 use Rattle.std.proofs.lemmas.List.Concat.{flat_map-cons}
 use Rattle.std.specs.Prelude.{nat_eq, nat_le, nat_lt, ◌&&◌, ◌||◌, bit_and, bit_or, if◌then◌else◌, unsigned_abs}
 use Rattle.dvg_code.specs.declared.instr.Instr.TheVariants.{Vctr, Labs, Svec, Halt, Jsrl, Rtsl, Jmpl}
@@ -18,49 +18,19 @@ use Rattle.dvg_frame.specs.Layout.{op_code, at}
 use Rattle.dvg_frame.specs.Ops.{IsOp}
 use Rattle.dvg_6502.specs.Feed.{fed, moved_byte}
 use Rattle.dvg_6502.specs.Tables.{IsExpressible, AreExpressible, TableLaw}
+use Rattle.dvg_frame.proofs.Bytes.{bytes-append as bytes_append}
 
--- each byte passes a test, by trying
-abbrev all_below : (ℕ → Bool) → ℕ → Bool
-all_below test zero = true
-all_below test (suc n) = test n && all_below test n
-
-both_true : (t u : Bool) → (t && u) ≡ true → (t ≡ true) × (u ≡ true)
-both_true true true is = (refl, refl)
-both_true true false is = absurd (cc)
-both_true false u is = absurd (cc)
-
-below : (test : ℕ → Bool) (n : ℕ) → all_below test n ≡ true → (k : ℕ) → k < n → test k ≡ true
-below test zero is k h = absurd (omega arith)
-below test (suc n) is k h =
-    let both = both_true (test n) (all_below test n) is in
-    here (nat_eq k n) refl both.0 (λ less. below test n both.1 k less)
-  where
-    here : (t : Bool) → nat_eq k n ≡ t → test n ≡ true → (k < n → test k ≡ true) → test k ≡ true
-    here true same top rest = subst (λ j. test j ≡ true) (sym (eqb-true k n same)) top
-    here false differ top rest = let d : k ≢ n = eqb-false k n differ in rest (omega (arith, d))
-
-abbrev alike : Bool → Bool → Bool
-alike true b = b
-alike false b = not b
-
-alike_same : (a b : Bool) → alike a b ≡ true → a ≡ b
-alike_same true true is = refl
-alike_same false false is = refl
-alike_same true false is = absurd (cc)
-alike_same false true is = absurd (cc)
-
--- the high bytes of calls and jumps below 400
+-- the high bytes of calls and jumps below 400, by trying each byte
 abbrev ours : ℕ → Bool
 ours b = (nat_le 0xC0 b && nat_lt b 0xC4) || (nat_le 0xE0 b && nat_lt b 0xE4)
 
 masks : (b : ℕ) → b < 256 → nat_eq (bit_and b 0xDC) 0xC0 ≡ ours b
-masks b h = alike_same (nat_eq (bit_and b 0xDC) 0xC0) (ours b)
-    (below (λ k. alike (nat_eq (bit_and k 0xDC) 0xC0) (ours k)) 256 refl b h)
+masks b h = agree_below_at (λ k. nat_eq (bit_and k 0xDC) 0xC0) ours 256 b refl h
 
 ors : (b : ℕ) → b < 256 → nat_eq (b / 2 % 2) 0 ≡ true → bit_or 2 b ≡ b + 2
 ors b h low = eqb-true (bit_or 2 b) (b + 2)
     (by (nat_eq (b / 2 % 2) 0) (nat_eq (bit_or 2 b) (b + 2))
-    (below (λ k. not (nat_eq (k / 2 % 2) 0) || nat_eq (bit_or 2 k) (k + 2)) 256 refl b h) low)
+    (agree_below_at (λ k. not (nat_eq (k / 2 % 2) 0) || nat_eq (bit_or 2 k) (k + 2)) (λ k. true) 256 b refl h) low)
   where
     by : (t u : Bool) → (not t || u) ≡ true → t ≡ true → u ≡ true
     by true u is low = is
@@ -118,16 +88,6 @@ named half w also rest small great in_frame low top =
     ∙ ap (λ (t : Bool). w % 256 ∷ (if t then bit_or (bit_and (high half) 2) (w / 256) else w / 256)
     ∷ feed half (bytes rest)) (masks (w / 256) h ∙ in_frame)
     ∙ ap (λ b. w % 256 ∷ b ∷ feed half (bytes rest)) top ∙ ap (λ b. b ∷ also / 256 ∷ feed half (bytes rest)) low
-
-le_true : (k b : ℕ) → k ≤ b → nat_le k b ≡ true
-le_true k b h = le-leb k b h
-
-le_not : (k b : ℕ) → b < k → nat_le k b ≡ false
-le_not k b h = by (nat_le k b) refl
-  where
-    by : (t : Bool) → nat_le k b ≡ t → nat_le k b ≡ false
-    by false is = is
-    by true is = let most = leb-true k b is in absurd (omega arith)
 
 ours_C : (b : ℕ) → 0xC0 ≤ b → b < 0xC4 → ours b ≡ true
 ours_C b low high = let p = le_true 0xC0 b low in let q = le_true (suc b) 0xC4 high in rw (p, q) refl
@@ -208,10 +168,6 @@ op_fed H0 F (Jump j) rest op fit = jump_word H0 (at H0 F j) (at H0 F j) rest fit
 op_fed H1 F (Jump j) rest op fit = jump_word H1 (at H0 F j) (at H1 F j) rest fit (omega arith)
 op_fed half F Return rest op fit = alone half 0xD000 rest (omega arith) refl refl
 op_fed half F Stop rest op fit = alone half 0xB000 rest (omega arith) refl refl
-
-bytes_append : (a b : List ℕ) → bytes (a ++ b) ≡ bytes a ++ bytes b
-bytes_append [] b = refl
-bytes_append (w ∷ a) b = ap (λ l. w % 256 ∷ w / 256 ∷ l) (bytes_append a b)
 
 ops_fed : (half : Half) (F ops : List OpKind) → AreExpressible F ops
     → feed half (bytes (laid_ops H0 F ops)) ≡ bytes (laid_ops half F ops)

@@ -220,34 +220,17 @@ module _ (q a x y s : ℕ) (n z c v d i : Bool) (mem flags : ℕ → ℕ) (log :
             ∙ same_out here (page_in mem) mem b out ∙ sym (ap (λ (m : ℕ → ℕ). m b) (known mem load))
             ∙ reads (suc k) (omega (arith, h))
 
+    last_word : (list' : List (ℕ × ℕ)) (set' : Bool) → list' ≡ [] → set ≡ set'
+        → list' ++ word_zero (other half) (not set) ≡ word_zero (other half) (not set')
+    last_word list' set' none same =
+        ap (λ l. l ++ word_zero (other half) (not set)) none ∙ ap (λ t. word_zero (other half) (not t)) same
+
     ended : (set' : Bool) → set ≡ set' → mem 0x12 ≡ publish_byte set' → (list' : List (ℕ × ℕ)) → list' ≡ []
         → Holds (final (mem 0x12)) begin stop (stage_then list')
     ended true same is list' none =
-        record {
-          flipped = clear;
-          place = (
-            is_free,
-            inr
-                (inr (
-                  is,
-                  ap (λ l. l ++ word_zero (other half) (not set)) none
-                      ∙ ap (λ t. word_zero (other half) (not t)) same,
-                )),
-          );
-        }
+        record { flipped = clear; place = (is_free, inr (inr (is, last_word list' true none same))) }
     ended false same is list' none =
-        record {
-          flipped = clear;
-          place = (
-            is_free,
-            inr
-                (inl (
-                  is,
-                  ap (λ l. l ++ word_zero (other half) (not set)) none
-                      ∙ ap (λ t. word_zero (other half) (not t)) same,
-                )),
-          );
-        }
+        record { flipped = clear; place = (is_free, inr (inl (is, last_word list' false none same))) }
 
     holds : (m : List ℕ) → more ≡ m → Holds (final phase) begin stop (stage_then rest)
     holds [] is =

@@ -18,6 +18,7 @@ use Rattle.dvg_6502.proofs.Memory.{known, page_in, laid, page_of}
 use Rattle.dvg_6502.proofs.Acting as acting
 use Rattle.dvg_6502.proofs.Acting.{Acts}
 use Rattle.dvg_6502.proofs.TableTick.{tick}
+pub use Rattle.std.proofs.Common.{append-nil as append_none}
 
 module _ (q a x y s : ℕ) (n z c v d i : Bool) (mem flags : ℕ → ℕ) (log : List Access) (load : IsLoaded mem)
     (begin stop peeked : ℕ) (life : List Item) where
@@ -105,10 +106,6 @@ acts q cpu begin stop stage peeked life at_entry load holds stands =
     subst (λ (c : Cpu). Acts q c begin stop peeked life) is
     (core q cpu.a cpu.x cpu.y cpu.s cpu.n cpu.z cpu.c cpu.v cpu.d cpu.i cpu.mem cpu.flags cpu.log load begin stop peeked life
     stage.place stage.half stage.flipped holds.place holds.flipped stands)
-
-pub append_none : {A : Type 0} (l : List A) → l ++ [] ≡ l
-append_none [] = refl
-append_none (x ∷ l) = ap (λ r. x ∷ r) (append_none l)
 
 pub tick_refines : TickRefines
 tick_refines cpu begin stop stage peeked life enters holds stands =

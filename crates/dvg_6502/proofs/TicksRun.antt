@@ -77,6 +77,13 @@ abbrev pub Leaves : (q : ℕ) (now before : ℕ → ℕ) → Type 0
 Leaves q now before = (b : ℕ) → is_own b ≡ false → b ≢ 0x1F → is_hardware b ≡ false → b ≢ stack_place q
     → b ≢ stack_place (q + 255) → now b ≡ before b
 
+-- a count that isn't 1 goes down, and not to zero
+pub lower : (n m : ℕ) → m ≡ suc (suc n) % 256 → suc n ≤ 255 → (m + 255) % 256 ≡ suc n % 256
+lower n m count most = omega (arith, count, most)
+
+pub not_last : (n m : ℕ) → m ≡ suc (suc n) % 256 → suc n ≤ 255 → (m + 255) % 256 ≢ 0
+not_last n m count most none = absurd (omega (arith, count, most, none))
+
 -- the ticks that are left
 module _ (P : Claim) (begin stop : ℕ) (goes : GoesByTicks P begin stop) (q : ℕ) (q_small : q < 256) where
   -- what follows a tick: the count was the last one, or there are more
@@ -163,12 +170,13 @@ module _ (P : Claim) (begin stop : ℕ) (goes : GoesByTicks P begin stop) (q : �
       let mid = run q t.steps cpu in
       let is = ap (run q 2) (sym (state_is mid 0x6865 q t.pc t.stack (goes.loaded mid.mem (t.made.items ++ life) t.stood)))
       ∙ last q mid.a mid.x mid.y mid.n mid.z mid.c mid.v mid.d mid.i mid.mem mid.flags mid.log
-      (ap (λ m. nat_eq ((m + 255) % 256) 0) (t.kept ∙ count)) in (
+      (ap (λ m. nat_eq ((m + 255) % 256) 0) (t.kept ∙ count)) in
+      let on = run_more q t.steps 2 cpu ∙ is in (
         2 + t.steps,
-        ap (at_return q) (run_more q t.steps 2 cpu ∙ is)
+        ap (at_return q) on
             ∙ returned q (then_at q mid.a mid.x mid.y mid.n mid.z mid.c mid.v mid.d mid.i mid.mem mid.flags mid.log 0x6869 true) refl refl,
-        ap (λ (c : Cpu). c.mem 0x1F) (run_more q t.steps 2 cpu ∙ is) ∙ ap (λ m. (m + 255) % 256) (t.kept ∙ count),
-        (λ b own not out not0 not1. ap (λ (c : Cpu). c.mem b) (run_more q t.steps 2 cpu ∙ is)
+        ap (λ (c : Cpu). c.mem 0x1F) on ∙ ap (λ m. (m + 255) % 256) (t.kept ∙ count),
+        (λ b own not out not0 not1. ap (λ (c : Cpu). c.mem b) on
             ∙ counted mid ((mid.mem 0x1F + 255) % 256) (t.made.items ++ life) t.stood b not
             ∙ t.spared b own out not0 not1),
       )
@@ -178,69 +186,49 @@ module _ (P : Claim) (begin stop : ℕ) (goes : GoesByTicks P begin stop) (q : �
       let down : (mid.mem 0x1F + 255) % 256 ≡ suc n % 256 = lower n (mid.mem 0x1F) (t.kept ∙ count) most in
       let is = ap (run q 2) (sym (state_is mid 0x6865 q t.pc t.stack (goes.loaded mid.mem (t.made.items ++ life) t.stood)))
       ∙ again q mid.a mid.x mid.y mid.n mid.z mid.c mid.v mid.d mid.i mid.mem mid.flags mid.log
-      (ne_eqb ((mid.mem 0x1F + 255) % 256) 0 (some n (mid.mem 0x1F) (t.kept ∙ count) most)) in
+      (ne_eqb ((mid.mem 0x1F + 255) % 256) 0 (not_last n (mid.mem 0x1F) (t.kept ∙ count) most)) in
       let next = then_at q mid.a mid.x mid.y mid.n mid.z mid.c mid.v mid.d mid.i mid.mem mid.flags mid.log 0x6862 false in
       let rest = ticks_end n next (t.made.items ++ life) (omega (arith, most)) refl refl down
-      (count_stood P begin stop goes mid.mem ((mid.mem 0x1F + 255) % 256) (t.made.items ++ life) (omega arith) t.stood) in (
+      (count_stood P begin stop goes mid.mem ((mid.mem 0x1F + 255) % 256) (t.made.items ++ life) (omega arith) t.stood) in
+      let on = run_more q (2 + t.steps) rest.0 cpu ∙ ap (run q rest.0) (run_more q t.steps 2 cpu ∙ is) in (
         rest.0 + (2 + t.steps),
-        ap (at_return q) (run_more q (2 + t.steps) rest.0 cpu
-            ∙ ap (run q rest.0) (run_more q t.steps 2 cpu ∙ is)) ∙ rest.1,
-        ap (λ (c : Cpu). c.mem 0x1F) (run_more q (2 + t.steps) rest.0 cpu
-            ∙ ap (run q rest.0) (run_more q t.steps 2 cpu ∙ is)) ∙ rest.2,
-        (λ b own not out not0 not1. ap (λ (c : Cpu). c.mem b) (run_more q (2 + t.steps) rest.0 cpu
-            ∙ ap (run q rest.0) (run_more q t.steps 2 cpu ∙ is)) ∙ rest.3 b own not out not0 not1
+        ap (at_return q) on ∙ rest.1,
+        ap (λ (c : Cpu). c.mem 0x1F) on ∙ rest.2,
+        (λ b own not out not0 not1. ap (λ (c : Cpu). c.mem b) on ∙ rest.3 b own not out not0 not1
             ∙ counted mid ((mid.mem 0x1F + 255) % 256) (t.made.items ++ life) t.stood b not
             ∙ t.spared b own out not0 not1),
       )
-    where
-      lower : (n m : ℕ) → m ≡ suc (suc n) % 256 → suc n ≤ 255 → (m + 255) % 256 ≡ suc n % 256
-      lower n m count most = omega (arith, count, most)
 
-      some : (n m : ℕ) → m ≡ suc (suc n) % 256 → suc n ≤ 255 → (m + 255) % 256 ≢ 0
-      some n m count most none = absurd (omega (arith, count, most, none))
+-- a call of dvg_ticks: A is the count
+module _ (P : Claim) (cpu : Cpu) (begin stop : ℕ) (life : List Item) (goes : GoesByTicks P begin stop)
+    (at_pc : cpu.pc ≡ 0x6860) (a_small : cpu.a < 256) (s_small : cpu.s < 256) (stood : P cpu.mem life) where
+  abbrev first : Cpu
+  first = at 0x6860 cpu.a cpu.x cpu.y cpu.s cpu.n cpu.z cpu.c cpu.v cpu.d cpu.i (laid (page_in cpu.mem) cpu.mem) cpu.flags cpu.log
 
--- a call of dvg_ticks
-pub ticks_go : (P : Claim) (k : ℕ) (cpu : Cpu) (begin stop : ℕ) (life : List Item) → GoesByTicks P begin stop
-    → cpu.pc ≡ 0x6860 → cpu.a < 256 → cpu.s < 256 → P cpu.mem life → GoesTo P cpu.s k cpu begin stop life
-ticks_go P k cpu begin stop life goes at_pc a_small s_small stood =
-    subst (λ (c : Cpu). GoesTo P cpu.s k c begin stop life) is
-    (go_on P cpu.s k from begin stop life 1
-    (idle_stretch cpu.s from 1 begin stop life (goes.placed cpu.mem life stood) refl (λ tables. refl)) (omega arith) refl
-    (λ j less. ticks_left P begin stop goes cpu.s s_small ((cpu.a + 255) % 256) j (run cpu.s 1 from) life
-    (omega arith) refl refl (omega (arith, a_small)) counted))
-  where
-    from : Cpu
-    from = at 0x6860 cpu.a cpu.x cpu.y cpu.s cpu.n cpu.z cpu.c cpu.v cpu.d cpu.i (laid (page_in cpu.mem) cpu.mem) cpu.flags cpu.log
+  first_is : first ≡ cpu
+  first_is = state_is cpu 0x6860 cpu.s at_pc refl (goes.loaded cpu.mem life stood)
 
-    is : from ≡ cpu
-    is = state_is cpu 0x6860 cpu.s at_pc refl (goes.loaded cpu.mem life stood)
+  set : P (run cpu.s 1 first).mem life
+  set = subst (λ (m : ℕ → ℕ). P m life) (sym (put_out 0x1F cpu.a (page_in cpu.mem) cpu.mem refl refl))
+      (count_stood P begin stop goes cpu.mem cpu.a life a_small stood)
 
-    counted : P (run cpu.s 1 from).mem life
-    counted = subst (λ (m : ℕ → ℕ). P m life) (sym (put_out 0x1F cpu.a (page_in cpu.mem) cpu.mem refl refl))
-        (count_stood P begin stop goes cpu.mem cpu.a life a_small stood)
+  pub ticks_go : (k : ℕ) → GoesTo P cpu.s k cpu begin stop life
+  ticks_go k = subst (λ (c : Cpu). GoesTo P cpu.s k c begin stop life) first_is
+      (go_on P cpu.s k first begin stop life 1
+      (idle_stretch cpu.s first 1 begin stop life (goes.placed cpu.mem life stood) refl (λ tables. refl)) (omega arith) refl
+      (λ j less. ticks_left P begin stop goes cpu.s s_small ((cpu.a + 255) % 256) j (run cpu.s 1 first) life
+      (omega arith) refl refl (omega (arith, a_small)) set))
 
--- it returns
-pub ticks_return : (P : Claim) (cpu : Cpu) (begin stop : ℕ) (life : List Item) → GoesByTicks P begin stop
-    → cpu.pc ≡ 0x6860 → cpu.a < 256 → cpu.s < 256 → P cpu.mem life
-    → (k : ℕ) × (at_return cpu.s (run cpu.s k cpu) ≡ true) × ((run cpu.s k cpu).mem 0x1F ≡ 0)
-    × Leaves cpu.s (run cpu.s k cpu).mem cpu.mem
-ticks_return P cpu begin stop life goes at_pc a_small s_small stood =
-    let rest = ticks_end P begin stop goes cpu.s s_small ((cpu.a + 255) % 256) (run cpu.s 1 from) life
-    (omega arith) refl refl (omega (arith, a_small)) counted in
-    let on = ap (run cpu.s (rest.0 + 1)) (sym is) ∙ run_more cpu.s 1 rest.0 from in (
-      rest.0 + 1,
-      ap (at_return cpu.s) on ∙ rest.1,
-      ap (λ (c : Cpu). c.mem 0x1F) on ∙ rest.2,
-      (λ b own not out not0 not1. ap (λ (c : Cpu). c.mem b) on ∙ rest.3 b own not out not0 not1
-          ∙ ap (λ (t : Bool). if t then cpu.a else from.mem b) (ne_eqb b 0x1F not) ∙ ap (λ (c : Cpu). c.mem b) is),
-    )
-  where
-    from : Cpu
-    from = at 0x6860 cpu.a cpu.x cpu.y cpu.s cpu.n cpu.z cpu.c cpu.v cpu.d cpu.i (laid (page_in cpu.mem) cpu.mem) cpu.flags cpu.log
-
-    is : from ≡ cpu
-    is = state_is cpu 0x6860 cpu.s at_pc refl (goes.loaded cpu.mem life stood)
-
-    counted : P (run cpu.s 1 from).mem life
-    counted = subst (λ (m : ℕ → ℕ). P m life) (sym (put_out 0x1F cpu.a (page_in cpu.mem) cpu.mem refl refl))
-        (count_stood P begin stop goes cpu.mem cpu.a life a_small stood)
+  -- it returns
+  pub ticks_return : (k : ℕ) × (at_return cpu.s (run cpu.s k cpu) ≡ true) × ((run cpu.s k cpu).mem 0x1F ≡ 0)
+      × Leaves cpu.s (run cpu.s k cpu).mem cpu.mem
+  ticks_return =
+      let rest = ticks_end P begin stop goes cpu.s s_small ((cpu.a + 255) % 256) (run cpu.s 1 first) life
+      (omega arith) refl refl (omega (arith, a_small)) set in
+      let on = ap (run cpu.s (rest.0 + 1)) (sym first_is) ∙ run_more cpu.s 1 rest.0 first in (
+        rest.0 + 1,
+        ap (at_return cpu.s) on ∙ rest.1,
+        ap (λ (c : Cpu). c.mem 0x1F) on ∙ rest.2,
+        (λ b own not out not0 not1. ap (λ (c : Cpu). c.mem b) on ∙ rest.3 b own not out not0 not1
+            ∙ ap (λ (t : Bool). if t then cpu.a else first.mem b) (ne_eqb b 0x1F not) ∙ ap (λ (c : Cpu). c.mem b) first_is),
+      )

@@ -18,8 +18,8 @@ use Rattle.dvg_6502.proofs.TicksRun.{page_small}
 use Rattle.dvg_6502.proofs.BuildRun.{put_refuses, put_full}
 use Rattle.dvg_6502.proofs.Building as building
 use Rattle.dvg_6502.proofs.Building.{BuildsSo, builds_so}
-use Rattle.dvg_6502.proofs.Closing as closing
-use Rattle.dvg_6502.proofs.Closing.{entered, comes_back}
+use Rattle.dvg_6502.proofs.Pairing as pairing
+use Rattle.dvg_6502.proofs.Pairing.{entered, comes_back}
 use Rattle.dvg_6502.proofs.Refusing.{Refuses, refused_so, pair_refuses, pair_full}
 use Rattle.dvg_6502.proofs.VectorRun.{worked, Led}
 use Rattle.dvg_6502.proofs.VectorCall.{Comes as Coming, no_word, one_word, two_words, vector_comes}
@@ -187,7 +187,7 @@ module _ (cpu : Cpu) (enters : Enters cpu dvg_vector) where
         (Writes (suc (suc (suc g))) b3 ∷ Writes (suc (suc g)) b2 ∷ Writes (suc g) b1 ∷ Writes g b0 ∷ []) led
         (λ log quiet. after_quiet log
         (λ l. Writes (suc (suc (suc g))) b3 ∷ Writes (suc (suc g)) b2 ∷ Writes (suc g) b1 ∷ Writes g b0 ∷ l) quiet
-        (closing.comes a x cpu.y cpu.s n z c cpu.v cpu.d cpu.i m cpu.flags log load half flipped b0 b1 b2 b3 rest refl refl refl refl
+        (pairing.comes a x cpu.y cpu.s n z c cpu.v cpu.d cpu.i m cpu.flags log load half flipped b0 b1 b2 b3 rest refl refl refl refl
         building' more)) in
         builds_so (start 7) half flipped (b0 ∷ b1 ∷ b2 ∷ b3 ∷ []) rest
         (record {
@@ -196,21 +196,21 @@ module _ (cpu : Cpu) (enters : Enters cpu dvg_vector) where
           carry = did.carry;
           shows = did.accesses;
           alike = alike_if (start 7) did.steps (comes_back did) (λ tables. did.steady tables refl) did.there;
-          goes_on = ap goal_in did.memory ∙ closing.moved_on a x cpu.y cpu.s n z c cpu.v cpu.d cpu.i m cpu.flags [] load half flipped b0
+          goes_on = ap goal_in did.memory ∙ pairing.moved_on a x cpu.y cpu.s n z c cpu.v cpu.d cpu.i m cpu.flags [] load half flipped b0
               b1 b2 b3 rest refl refl refl refl building' more;
           building = subst (λ (m : ℕ → ℕ). IsBuilding m half flipped rest) (sym did.memory)
-              (closing.built a x cpu.y cpu.s n z c cpu.v cpu.d cpu.i m cpu.flags [] load half flipped b0 b1 b2 b3 rest refl refl refl refl
+              (pairing.built a x cpu.y cpu.s n z c cpu.v cpu.d cpu.i m cpu.flags [] load half flipped b0 b1 b2 b3 rest refl refl refl refl
               building' more);
           loaded = subst IsLoaded (sym did.memory)
-              (closing.new_loaded a x cpu.y cpu.s n z c cpu.v cpu.d cpu.i m cpu.flags [] load half flipped b0 b1 b2 b3 rest refl refl refl
+              (pairing.new_loaded a x cpu.y cpu.s n z c cpu.v cpu.d cpu.i m cpu.flags [] load half flipped b0 b1 b2 b3 rest refl refl refl
               refl building' more);
           kept = λ b own out ram. ap (λ (m : ℕ → ℕ). m b) did.memory
-              ∙ closing.kept a x cpu.y cpu.s n z c cpu.v cpu.d cpu.i m cpu.flags [] load half flipped b0 b1 b2 b3 rest refl refl refl refl
+              ∙ pairing.kept a x cpu.y cpu.s n z c cpu.v cpu.d cpu.i m cpu.flags [] load half flipped b0 b1 b2 b3 rest refl refl refl refl
               building' more b own ram ∙ worked_out work cpu.mem b out ∙ sym (start_kept b own out);
         })
         (record {
           byte1 = ap (λ (m : ℕ → ℕ). m 0x4001) did.memory
-              ∙ closing.byte1 a x cpu.y cpu.s n z c cpu.v cpu.d cpu.i m cpu.flags [] load half flipped b0 b1 b2 b3 rest refl refl refl refl
+              ∙ pairing.byte1 a x cpu.y cpu.s n z c cpu.v cpu.d cpu.i m cpu.flags [] load half flipped b0 b1 b2 b3 rest refl refl refl refl
               building' more;
           steady = λ tables. did.steady tables refl;
           there = did.there;

@@ -12,9 +12,9 @@ use Rattle.dvg_6502.specs.Tables.{table_of}
 use Rattle.dvg_6502.specs.Moves.{number, is_vector, is_short, in_256s, vector, vector_bytes}
 use Rattle.dvg_6502.proofs.Memory.{AreSmall, both_true, le_not}
 use Rattle.dvg_6502.proofs.Masks.{both_zero, topped, lowered, eighted, shortened}
-use Rattle.dvg_6502.proofs.VectorRun.{Led, more, magnitude, high_of, here, Beyond, ToPut, ToPair, both_in}
-use Rattle.dvg_6502.proofs.VectorRun.{first_out, second_out, scale_out, scale_in, long_some, long_small, long_large}
-use Rattle.dvg_6502.proofs.VectorRun.{short_fits, beyond_more, put_more, pair_more}
+use Rattle.dvg_6502.proofs.VectorRun.{Led, more, magnitude, high_of, here, Beyond, both_in}
+use Rattle.dvg_6502.proofs.VectorRun.{first_out, second_out, scale_out, scale_in, beyond_more}
+use Rattle.dvg_6502.proofs.WordsRun.{ToPut, ToPair, long_some, long_small, long_large, short_fits, put_more, pair_more}
 
 -- a number by its sign and its word
 abbrev pub signed_of : Bool → ℕ → ℤ

@@ -26,7 +26,8 @@ use Rattle.dvg_6502.proofs.Built.{building_on, goal_on}
 use Rattle.dvg_6502.proofs.BuildScript.{builds_script}
 use Rattle.dvg_6502.proofs.Building.{put_takes}
 use Rattle.dvg_6502.proofs.VectorBuilds.{vector_takes, vector_refuses, own_not_work}
-use Rattle.dvg_6502.proofs.Closing.{open_is_taken, pair_takes, labs_takes, close_takes}
+use Rattle.dvg_6502.proofs.Pairing.{pair_takes, labs_takes}
+use Rattle.dvg_6502.proofs.Closing.{open_is_taken, close_takes}
 
 written_append : (a : ℕ) (xs ys : List ℕ) → written a (xs ++ ys) ≡ written (a + length xs) ys ++ written a xs
 written_append a [] ys = let e : a ≡ a + 0 = omega arith in

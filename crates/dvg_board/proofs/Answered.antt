@@ -10,13 +10,10 @@ use Rattle.dvg_board.specs.Board.{Board, Bus, q, clock}
 use Rattle.dvg_board.specs.Clocks.{IsBus, after, reads}
 use Rattle.dvg_board.specs.Logs.{OfEachBoard}
 use Rattle.dvg_board.specs.Answers.{uses_ram, Answers, AnswersNext}
-use Rattle.dvg_board.proofs.System.{pin_is}
+use Rattle.dvg_board.proofs.System.{pin_is, never}
 use Rattle.dvg_board.proofs.Cores.{cores, core_is}
 use Rattle.dvg_board.proofs.Board.{holds}
 use Rattle.dvg_board.proofs.Wires.{on_of, writes_of, place_of, asks_of, not_one}
-
-never : {A : Type 0} → false ≡ true → A
-never e = cc
 
 never' : {A : Type 0} → true ≡ false → A
 never' e = cc
@@ -76,9 +73,6 @@ module _ (image : List ℕ) (board : Board) (log : Log) (bus : Bus) (is : IsBus 
 
   abbrev Q : (x y z n : Bool) → ℕ
   Q x y z n = mux (looks_of x y z) (joined 7 0 (none (halted board.core))) (mux (writes_of x y n) board.read (board.ram (place_of board bus (on_of x n))))
-
-  q_is : (next : Bus) → q (clock board bus) next ≡ Q unused reading (nat_eq bus.a 8194) (nat_eq (part 11 5 bus.a) 8)
-  q_is next = refl
 
   by_byte : (x y z n : Bool) → x ≡ false → y ≡ true → z ≡ false → n ≡ true → Q x y z n ≡ board.ram (part 0 11 bus.a)
   by_byte true y z n xe ye ze ne = never' xe

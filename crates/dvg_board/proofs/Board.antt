@@ -13,7 +13,7 @@ use Rattle.dvg_log.specs.declared.event.Event.TheVariants.{Offer, Redraw, Tick, 
 use Rattle.dvg_log.specs.Entries.{Shown}
 use Rattle.dvg_log.specs.declared.entry.Entry.TheVariants.{Offered, Refused, Busy, Asked, NothingPublished, Acted, Cleared}
 use Rattle.dvg_log.specs.Log.{◌⟼◌, Log, ram, strobed, low_byte, open_run}
-use Rattle.dvg_core.specs.Cells.{bit, both, either, eq, lt, mux, none, some, part}
+use Rattle.dvg_core.specs.Cells.{bit, both, either, eq, lt, mux, none, part}
 use Rattle.dvg_core.specs.Core.{Core, Pins, halted}
 use Rattle.dvg_core.specs.Refines.{ArePins, byte_of}
 use Rattle.dvg_core.specs.Refines as core
@@ -65,11 +65,6 @@ module _ (R image : List ℕ) (log : Log) (cs : List Pins) (k : Keeps R image lo
   changed_to true sends a byte fits = acted (Wrote a byte) fits tt
   changed_to false true a byte fits = acted Sent fits tt
   changed_to false false a byte fits = k
-
-on_ram_bit : (x y : Bool) → (if x then 0 else some (bit y)) < 2
-on_ram_bit true y = omega arith
-on_ram_bit false true = omega arith
-on_ram_bit false false = omega arith
 
 -- a run is open only where a strobe was sent
 unsent_shut : (R image : List ℕ) (log : Log) → IsLegal R image log → strobed log ≡ false → open_run log ≡ None
@@ -242,9 +237,6 @@ module _ (R image : List ℕ) (held : ℕ → ℕ) (log : Log) (older : List Bus
       by false false true = h.read
 
   -- a byte is read in a clock that changes neither the RAM nor where the core stands
-  abbrev Ready : Core → ℕ → (ℕ → ℕ) → Type 0
-  Ready c read held = c.at < 1024 → read ≡ held (2 * c.at + c.high)
-
   ready3 : (clock board bus).pending ≡ 1 → (clock board bus).core.at < 1024
       → (clock board bus).read ≡ (clock board bus).ram (2 * (clock board bus).core.at + (clock board bus).core.high)
   ready3 e = by (asks_needs (nat_eq (both (none (halted board.core)) (none bus.hold)) 0) (nat_eq bus.reset 0) (nat_eq board.starting 0) (nat_eq board.pending 0) (nat_eq bus.access 0) (nat_eq (part 11 5 bus.a) 8) e)

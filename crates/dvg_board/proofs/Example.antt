@@ -1,10 +1,9 @@
 -- The first picture on the board: the driver boots, writes a frame, publishes it, and sends a strobe; the core draws it.
-use Rattle.std.proofs.Common.{◌≡◌, ℕ, suc, ◌<◌, ◌≤◌, ◌++◌, pos, negsuc, Bool, true, false, not, List, [], ◌∷◌, Option, Some, None}
+use Rattle.std.proofs.Common.{◌≡◌, ℕ, suc, ◌<◌, ◌++◌, pos, negsuc, Bool, true, false, not, List, [], ◌∷◌, Option, Some, None}
 use Rattle.std.proofs.Common.{length, replicate, drop, refl, sym, ap, ◌∙◌, arith, eqb-true, leb-true}
 use Rattle.std.specs.Prelude.{slice_index, ◌==◌, ◌&&◌, nat_eq, nat_lt, if◌then◌else◌}
 use Rattle.std.proofs.lemmas.List.{length-replicate}
 use Rattle.dvg_code.specs.declared.instr.Instr.TheVariants.{Vctr, Labs}
-use Rattle.dvg_mem.specs.Memory.{first_word}
 use Rattle.dvg_frame.specs.declared.op.OpKind.{OpKind}
 use Rattle.dvg_frame.specs.declared.op.OpKind.TheVariants.{Draw, Halt}
 use Rattle.dvg_driver.specs.declared.action.Action.{Action}
@@ -20,6 +19,8 @@ use Rattle.dvg_board.specs.Clocks.{IsBus, after, IsServed, looks, changes}
 use Rattle.dvg_board.specs.Fetches.{entry}
 use Rattle.dvg_board.specs.Logs.{did, core_line, answered, FitsIf, IsBoard, powers, clocks, acts, FitsScript}
 use Rattle.dvg_board.specs.Example.{zeros, SomeBoard}
+use Rattle.std.proofs.lemmas.Bool.{and_parts as both_true}
+use Rattle.dvg_mem.proofs.Roms.{behind_ram as first_least}
 
 abbrev pub held : ℕ → ℕ
 held = slice_index zeros
@@ -47,23 +48,11 @@ is_writing a d small byte = record { reset = omega arith; a = small; d = byte; r
 small_rom : 0 ≡ bit (not (length zeros == 2048))
 small_rom = sym (ap (λ n. bit (not (n == 2048))) (length-replicate {A = ℕ} 2048 0))
 
-first_least : (R : List ℕ) → 0x400 ≤ first_word R
-first_least R = by (length R == 2048)
-  where
-    by : (b : Bool) → 0x400 ≤ (if b then 0x800 else 0x400)
-    by true = omega arith
-    by false = omega arith
-
 pub served : (board : Board) (bus : Bus) → bus.big ≡ 0 → board.core.at < 0x400 → IsServed zeros board bus
 served board bus big below = record {
   big = big ∙ small_rom;
   rom = λ e from to. let least = first_least zeros in absurd (omega arith);
 }
-
-both_true : (t u : Bool) → (t && u) ≡ true → (t ≡ true) × (u ≡ true)
-both_true true true is = (refl, refl)
-both_true true false is = absurd (cc)
-both_true false u is = absurd (cc)
 
 -- a clock with this bus, or a draft that is taken
 data Step : Type 0 where

@@ -8,7 +8,7 @@ use Rattle.dvg_gen.specs.declared.taken.GenFault.TheVariants.{StackOver, StackUn
 use Rattle.dvg_gen.specs.Bytes.{Met, Waits, Whole, met, word_of}
 use Rattle.dvg_gen.specs.Machine.{HasTaken}
 use Rattle.dvg_gen.specs.Run.{Visit, Adds, first, one, two, Fate, Goes, Finished, Breaks, fate, wanted, strokes}
-use Rattle.dvg_gen.specs.Told.{Told, Start, Reset, Fed, Newest, Leaves, takes, meets_hole, goes_on, Reply, More, Drew, Fails, reply, reply_by, wants}
+use Rattle.dvg_gen.specs.Told.{Told, Start, Reset, Fed, Newest, Leaves, takes, meets_hole, goes_on, Reply, More, Drew, Fails, reply, reply_by}
 use Rattle.dvg_gen.specs.Told as told
 use Rattle.dvg_gen.proofs.Standing.{stands_new, stands_reset, open_goes}
 use Rattle.dvg_gen.proofs.Same.{leaves_same}
@@ -41,10 +41,10 @@ pub record Keeps (R image : List ℕ) (log : Log) (clocks : List Pins) : Type 0 
   pub opened : is_none (open_run log) ≡ not stands.run.is_open
   pub legal : IsLegal R image log
 
-differ : {A : Type 0} {n : ℕ} → n ≡ 0 → n ≡ 1 → A
+pub differ : {A : Type 0} {n : ℕ} → n ≡ 0 → n ≡ 1 → A
 differ is_zero is_one = absurd (omega arith)
 
-never : {A : Type 0} → false ≡ true → A
+pub never : {A : Type 0} → false ≡ true → A
 never e = cc
 
 -- the answer to a word says whether the run goes on

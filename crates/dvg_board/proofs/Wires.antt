@@ -16,16 +16,14 @@ use Rattle.dvg_log.specs.Entries.{Shown}
 use Rattle.dvg_log.specs.declared.entry.Entry.TheVariants.{Started, Low, Still, Cleared}
 use Rattle.dvg_log.specs.Log.{◌⟼◌, Log, ram, strobed}
 use Rattle.dvg_core.specs.Cells.{bit, both, lt, mux, none, some, part, joined}
-use Rattle.dvg_core.specs.Core.{Core, Pins, halted}
+use Rattle.dvg_core.specs.Core.{Core, halted}
 use Rattle.dvg_core.specs.Core as cells
 use Rattle.dvg_board.specs.Memory.{memwr}
 use Rattle.dvg_board.specs.Board.{Board, Bus, clock}
 use Rattle.dvg_board.specs.Fetches.{entry_by, entry_of}
 use Rattle.dvg_board.specs.Clocks.{reads, writes, sends, looks, changes}
 use Rattle.dvg_board.specs.Logs.{did}
-
-pub differ : {A : Type 0} {n : ℕ} → n ≡ 0 → n ≡ 1 → A
-differ is_zero is_one = absurd (omega arith)
+pub use Rattle.dvg_board.proofs.System.{differ}
 
 pub zero_or_one : (n : ℕ) → n < 2 → (n ≡ 0) ⊎ (n ≡ 1)
 zero_or_one zero l = inl refl

@@ -1,6 +1,6 @@
 -- One clock: what each event does to the machine of the core.
-use Rattle.std.proofs.Common.{◌≡◌, ℕ, zero, suc, ◌+◌, ◌-◌, ◌*◌, ◌%◌, ◌<◌, ◌≤◌, false, List, [], ◌∷◌, ◌++◌, Option, Some, None, refl, sym, ap, ◌∙◌, subst, arith, append-nil}
-use Rattle.std.specs.Prelude.{nat_eq, if◌then◌else◌}
+use Rattle.std.proofs.Common.{◌≡◌, ℕ, zero, suc, ◌+◌, ◌-◌, ◌*◌, ◌%◌, ◌<◌, ◌≤◌, false, List, [], ◌∷◌, ◌++◌, Option, Some, None, refl, sym, ap, ◌∙◌, subst, arith, append-nil, true, inl, inr}
+use Rattle.std.specs.Prelude.{nat_eq, nat_lt, if◌then◌else◌, ◌⊎◌}
 use Rattle.dvg_code.specs.declared.instr.Instr.{Instr}
 use Rattle.dvg_code.specs.declared.instr.Instr.TheVariants.{Vctr, Labs, Halt, Jsrl, Rtsl, Jmpl, Svec}
 use Rattle.dvg_code.specs.Spelling.{Spells, halt, jsrl, rtsl, jmpl}
@@ -10,27 +10,35 @@ use Rattle.dvg_gen.specs.declared.taken.GenFault.{GenFault}
 use Rattle.dvg_gen.specs.declared.taken.GenFault.TheVariants.{StackOver, StackUnder, Hole}
 use Rattle.dvg_gen.specs.Bytes.{Waits, Whole}
 use Rattle.dvg_gen.specs.Machine.{Machine, HasTaken}
-use Rattle.dvg_gen.specs.Obeyed.{Obeyed, IsShut, gone}
-use Rattle.dvg_gen.specs.Told.{Told, Start, Reset}
+use Rattle.dvg_gen.specs.Obeyed.{Obeyed, gone}
 use Rattle.dvg_gen.proofs.Standing.{Claim, stands_start, stands_reset, claim_hole, claim_low, claim_first}
 use Rattle.dvg_core.specs.Cells.{part, joined, add, some}
 use Rattle.dvg_core.specs.Core.{Core, Pins, clock}
 use Rattle.dvg_core.specs.Shown.{line_of, ShowsReply}
-use Rattle.dvg_core.proofs.Machines.{machine_of}
-use Rattle.std.proofs.Common.{inl, inr}
-use Rattle.std.specs.Prelude.{◌⊎◌}
-use Rattle.std.proofs.lemmas.Bool.{cases_lt}
+use Rattle.std.proofs.lemmas.Bool.{cases_lt, lt-ltb, ne_eqb}
 use Rattle.dvg_gen.specs.Completing.{Completes}
-use Rattle.dvg_gen.specs.Told.{Fed, Reply, More, Drew, Fails, reply}
-use Rattle.dvg_core.proofs.Machines.{kept}
+use Rattle.dvg_gen.specs.Told.{Told, Start, Reset, Fed, Reply, More, Drew, Fails, reply}
+use Rattle.dvg_core.proofs.Machines.{kept, machine_of}
 use Rattle.dvg_core.specs.Refines
-use Rattle.dvg_core.specs.Refines.{Tells, fetches}
+use Rattle.dvg_core.specs.Refines.{fetches}
 use Rattle.dvg_core.proofs.Fitting.{Fits, Stepped, Halted, halted_at, obeys, reply_is, shift_in}
 use Rattle.dvg_core.proofs.Shifts.{shift, shift_is, hop_is, line_is}
 use Rattle.dvg_code.proofs.Reading.{vctr_read, labs_read, svec_read}
 use Rattle.dvg_code.specs.Fields.{signed}
 use Rattle.dvg_gen.specs.declared.beam.Beam.{Beam}
 use Rattle.dvg_gen.specs.Drawing.{unit, shifted, line}
+
+-- the tests of an opcode that begins an instruction of two words, or of one
+first_tests : (op : ℕ) → op < 11 → (nat_eq op 11 ≡ false) × (nat_eq op 12 ≡ false) × (nat_eq op 13 ≡ false) × (nat_eq op 14 ≡ false)
+    × (nat_eq op 15 ≡ false) × (nat_lt op 11 ≡ true)
+first_tests op less = (
+  ne_eqb op 11 (λ e. absurd (omega arith)),
+  ne_eqb op 12 (λ e. absurd (omega arith)),
+  ne_eqb op 13 (λ e. absurd (omega arith)),
+  ne_eqb op 14 (λ e. absurd (omega arith)),
+  ne_eqb op 15 (λ e. absurd (omega arith)),
+  lt-ltb op 11 less,
+)
 
 module _ (at done fault stroke x0 y0 x y z first low depth s0 s1 s2 s3 scale din : ℕ) (drew : List Stroke) where
   abbrev core : (is_open high second depth : ℕ) → Core
@@ -82,19 +90,6 @@ module _ (at done fault stroke x0 y0 x y z first low depth s0 s1 s2 s3 scale din
   starts is_open high second valid hole history waiting after =
       stands_start (machine_of (core is_open high second depth) drew) _ history waiting after refl refl refl refl refl refl refl
 
-  -- no event, or a byte while no run is open
-  pub waits : (is_open high second hole : ℕ) → is_open < 2
-      → machine_of (clock (core is_open high second depth) (record { reset = 0; start = 0; valid = 0; hole = hole; din = din })) drew
-      ≡ machine_of (core is_open high second depth) drew
-  waits zero high second hole small = refl
-  waits (suc zero) high second hole small = refl
-  waits (suc (suc n)) high second hole small = absurd (omega arith)
-
-  pub ignores : (high second valid hole : ℕ)
-      → machine_of (clock (core 0 high second depth) (record { reset = 0; start = 0; valid = valid; hole = hole; din = din })) drew
-      ≡ machine_of (core 0 high second depth) drew
-  ignores high second valid hole = refl
-
   pub low_byte : (second : ℕ) → Claim (Waits din) (old 0 second depth) (new 0 second depth) None
   low_byte second = claim_low din (old 0 second depth) (new 0 second depth) refl
       (ap (λ (l : List Stroke). record (old 0 second depth) { low = Some din; strokes = l }) (append-nil drew))
@@ -108,70 +103,32 @@ module _ (at done fault stroke x0 y0 x y z first low depth s0 s1 s2 s3 scale din
       (ap (λ (l : List Stroke). record (old high second depth) { low = None; is_open = false; strokes = l }) (append-nil drew))
 
   -- the high byte of a first word
-  first_new : (op : ℕ) → op < 11 → part 4 4 din ≡ op
+  first_new : part 4 4 din < 11
       → new 1 0 depth ≡ record (old 1 0 depth) { at = (at + 1) % 4096; held = Some word; low = None; strokes = drew ++ [] }
-  first_new zero less e = rw e
-  first_new (suc zero) less e = rw e
-  first_new (suc (suc zero)) less e = rw e
-  first_new (suc (suc (suc zero))) less e = rw e
-  first_new (suc (suc (suc (suc zero)))) less e = rw e
-  first_new (suc (suc (suc (suc (suc zero))))) less e = rw e
-  first_new (suc (suc (suc (suc (suc (suc zero)))))) less e = rw e
-  first_new (suc (suc (suc (suc (suc (suc (suc zero))))))) less e = rw e
-  first_new (suc (suc (suc (suc (suc (suc (suc (suc zero)))))))) less e = rw e
-  first_new (suc (suc (suc (suc (suc (suc (suc (suc (suc zero))))))))) less e = rw e
-  first_new (suc (suc (suc (suc (suc (suc (suc (suc (suc (suc zero)))))))))) less e = rw e
-  first_new (suc (suc (suc (suc (suc (suc (suc (suc (suc (suc (suc n))))))))))) less e = absurd (omega arith)
+  first_new less = let t = first_tests (part 4 4 din) less in rw (t.0, t.1, t.2, t.3, t.4, t.5)
 
   pub first_word : low < 256 → din < 176 → Claim (Whole (Some word)) (old 1 0 depth) (new 1 0 depth) (Some More)
   first_word low_small less =
       claim_first word ((at + 1) % 4096) (old 1 0 depth) (new 1 0 depth) refl refl (omega arith) refl
-      (first_new (part 4 4 din) (omega arith) refl
+      (first_new (omega arith)
       ∙ ap (λ (l : List Stroke). record (old 1 0 depth) { at = (at + 1) % 4096; held = Some word; low = None; strokes = l }) (append-nil drew))
 
   -- an instruction of one word
   abbrev target : ℕ
   target = joined 8 low (part 0 4 din)
 
-  jumps : part 4 4 din ≡ 14 → Obeyed (old 1 0 depth) (Jmpl target) (new 1 0 depth) Word
-  jumps e = (tt, rw e)
-
-  calls : (depth : ℕ) → depth < 4 → part 4 4 din ≡ 12 → Obeyed (old 1 0 depth) (Jsrl target) (new 1 0 depth) Word
-  calls zero less e = (omega arith, rw e)
-  calls (suc zero) less e = (omega arith, rw e)
-  calls (suc (suc zero)) less e = (omega arith, rw e)
-  calls (suc (suc (suc zero))) less e = (omega arith, rw e)
-  calls (suc (suc (suc (suc n)))) less e = absurd (omega arith)
-
   overflows : part 4 4 din ≡ 12 → Obeyed (old 1 0 4) (Jsrl target) (new 1 0 4) (Broke StackOver)
   overflows e = ((target, refl), refl, (rw e, refl, rw e), refl)
-
-  returns : (depth : ℕ) → 1 ≤ depth → depth ≤ 4 → part 4 4 din ≡ 13 → Obeyed (old 1 0 depth) Rtsl (new 1 0 depth) Word
-  returns zero some less e = absurd (omega arith)
-  returns (suc zero) some less e = (omega arith, rw e)
-  returns (suc (suc zero)) some less e = (omega arith, rw e)
-  returns (suc (suc (suc zero))) some less e = (omega arith, rw e)
-  returns (suc (suc (suc (suc zero)))) some less e = (omega arith, rw e)
-  returns (suc (suc (suc (suc (suc n))))) some less e = absurd (omega arith)
 
   underflows : part 4 4 din ≡ 13 → Obeyed (old 1 0 0) Rtsl (new 1 0 0) (Broke StackUnder)
   underflows e = (refl, refl, (rw e, refl, rw e), refl)
 
-  halts : part 4 4 din ≡ 11 → IsShut (old 1 0 depth) (new 1 0 depth)
-  halts e = (rw e, refl, rw e)
-
   -- the words that spell them
-  spells_jump : part 4 4 din ≡ 14 → low < 256 → din < 256 → Spells (Jmpl target) (word ∷ [])
-  spells_jump e small byte_small = jmpl {address = target} (omega arith) (omega arith)
-
   spells_call : part 4 4 din ≡ 12 → low < 256 → din < 256 → Spells (Jsrl target) (word ∷ [])
   spells_call e small byte_small = jsrl {address = target} (omega arith) (omega arith)
 
   spells_return : part 4 4 din ≡ 13 → low < 256 → din < 256 → Spells Rtsl (word ∷ [])
   spells_return e small byte_small = rtsl (omega arith) (omega arith)
-
-  spells_halt : part 4 4 din ≡ 11 → low < 256 → din < 256 → Spells Halt (word ∷ [])
-  spells_halt e small byte_small = halt (omega arith) (omega arith)
 
   -- a LABS
   abbrev landed : ℕ → ℕ → ℕ → Machine
@@ -190,8 +147,8 @@ module _ (at done fault stroke x0 y0 x y z first low depth s0 s1 s2 s3 scale din
   )
 
   -- a vector
-  abbrev slid_to : ℕ → ℕ → ℕ → List Stroke → Machine
-  slid_to depth to_x to_y drew = record (gone (old 1 1 depth) Halt) {
+  abbrev slid_to : (second depth to_x to_y : ℕ) → List Stroke → Machine
+  slid_to second depth to_x to_y drew = record (gone (old 1 second depth) Halt) {
     beam = record { x = to_x; y = to_y; scale = scale };
     at = (at + 1) % 4096;
     strokes = drew;
@@ -200,25 +157,23 @@ module _ (at done fault stroke x0 y0 x y z first low depth s0 s1 s2 s3 scale din
   abbrev seen : ℕ → ℕ → ℕ → List Stroke
   seen to_x to_y z = if nat_eq (some z) 0 then [] else record { x0 = x; y0 = y; x1 = to_x; y1 = to_y; z = z } ∷ []
 
+  -- where it goes, in two ways
+  slid_is : (second z to_x to_y x' y' : ℕ) → to_x ≡ x' → to_y ≡ y' → slid_to second depth to_x to_y (drew ++ seen to_x to_y z)
+      ≡ slid_to second depth x' y' (drew ++ line (record { x = x; y = y; scale = scale }) (record { x = x'; y = y'; scale = scale }) z)
+  slid_is second z to_x to_y x' y' x_is y_is =
+      let from : Beam = record { x = x; y = y; scale = scale } in
+      ap (λ drawn. slid_to second depth to_x to_y (drew ++ drawn)) (line_is from (record { x = to_x; y = to_y; scale = scale }) z)
+      ∙ ap (λ v. slid_to second depth v to_y (drew ++ line from (record { x = v; y = to_y; scale = scale }) z)) x_is
+      ∙ ap (λ v. slid_to second depth x' v (drew ++ line from (record { x = x'; y = v; scale = scale }) z)) y_is
+
   abbrev vctr_x : ℕ
   vctr_x = shift x (part 2 1 din) (joined 8 low (part 0 2 din)) (add 4 scale (part 12 4 first))
 
   abbrev vctr_y : ℕ
   vctr_y = shift y (part 10 1 first) (part 0 10 first) (add 4 scale (part 12 4 first))
 
-  slides : (op : ℕ) → op < 10 → part 12 4 first ≡ op
-      → new 1 1 depth ≡ slid_to depth vctr_x vctr_y (drew ++ seen vctr_x vctr_y (part 4 4 din))
-  slides zero less e = rw e
-  slides (suc zero) less e = rw e
-  slides (suc (suc zero)) less e = rw e
-  slides (suc (suc (suc zero))) less e = rw e
-  slides (suc (suc (suc (suc zero)))) less e = rw e
-  slides (suc (suc (suc (suc (suc zero))))) less e = rw e
-  slides (suc (suc (suc (suc (suc (suc zero)))))) less e = rw e
-  slides (suc (suc (suc (suc (suc (suc (suc zero))))))) less e = rw e
-  slides (suc (suc (suc (suc (suc (suc (suc (suc zero)))))))) less e = rw e
-  slides (suc (suc (suc (suc (suc (suc (suc (suc (suc zero))))))))) less e = rw e
-  slides (suc (suc (suc (suc (suc (suc (suc (suc (suc (suc n)))))))))) less e = absurd (omega arith)
+  slides : part 12 4 first < 10 → new 1 1 depth ≡ slid_to 1 depth vctr_x vctr_y (drew ++ seen vctr_x vctr_y (part 4 4 din))
+  slides less = let low = lt-ltb (part 12 4 first) 10 less in rw low
 
   abbrev svec_scale : ℕ
   svec_scale = add 4 (joined 1 (part 3 1 din) (part 3 1 low)) 2
@@ -229,36 +184,20 @@ module _ (at done fault stroke x0 y0 x y z first low depth s0 s1 s2 s3 scale din
   abbrev svec_y : ℕ
   svec_y = shift y (part 2 1 din) (joined 8 0 (part 0 2 din)) (add 4 scale svec_scale)
 
-  abbrev hops_to : ℕ → ℕ → ℕ → List Stroke → Machine
-  hops_to depth to_x to_y drew = record (gone (old 1 0 depth) Halt) {
-    beam = record { x = to_x; y = to_y; scale = scale };
-    at = (at + 1) % 4096;
-    strokes = drew;
-  }
-
-  hops : part 4 4 din ≡ 15 → new 1 0 depth ≡ hops_to depth svec_x svec_y (drew ++ seen svec_x svec_y (part 4 4 low))
+  hops : part 4 4 din ≡ 15 → new 1 0 depth ≡ slid_to 0 depth svec_x svec_y (drew ++ seen svec_x svec_y (part 4 4 low))
   hops e = rw e
 
   -- as the definition has them
   module _ (x_in : x < 2097152) (y_in : y < 2097152) (scale_in : scale < 16) (low_in : low < 256) (din_in : din < 256) where
-    vctr : (op : ℕ) → op < 10 → part 12 4 first ≡ op
+    vctr : part 12 4 first < 10
         → Obeyed (old 1 1 depth)
         (Vctr (part 12 4 first) (signed (part 2 1 din) (joined 8 low (part 0 2 din))) (signed (part 10 1 first) (part 0 10 first)) (part 4 4 din))
         (new 1 1 depth) Word
-    vctr op less e =
+    vctr less =
         let sum_in : add 4 scale (part 12 4 first) < 16 = omega arith in
         let to_x = shift_is x (part 2 1 din) (joined 8 low (part 0 2 din)) (add 4 scale (part 12 4 first)) x_in (omega arith) sum_in in
         let to_y = shift_is y (part 10 1 first) (part 0 10 first) (add 4 scale (part 12 4 first)) y_in (omega arith) sum_in in
-        let from : Beam = record { x = x; y = y; scale = scale } in
-        let to : Beam = record { x = vctr_x; y = vctr_y; scale = scale } in
-        let z = part 4 4 din in (
-          tt,
-          slides op less e
-              ∙ ap (λ drawn. slid_to depth vctr_x vctr_y (drew ++ drawn)) (line_is from to z)
-              ∙ ap (λ v. slid_to depth v vctr_y (drew ++ line from (record { x = v; y = vctr_y; scale = scale }) z)) to_x
-              ∙ ap (λ v. slid_to depth (shifted x (signed (part 2 1 din) (joined 8 low (part 0 2 din))) (unit (add 4 scale (part 12 4 first)))) v
-              (drew ++ line from (record { x = shifted x (signed (part 2 1 din) (joined 8 low (part 0 2 din))) (unit (add 4 scale (part 12 4 first))); y = v; scale = scale }) z)) to_y,
-        )
+        (tt, slides less ∙ slid_is 1 (part 4 4 din) vctr_x vctr_y _ _ to_x to_y)
 
     abbrev svec_by : ℕ
     svec_by = 2 + 2 * part 3 1 low + part 3 1 din
@@ -278,16 +217,7 @@ module _ (at done fault stroke x0 y0 x y z first low depth s0 s1 s2 s3 scale din
         shift_is y (part 2 1 din) (joined 8 0 (part 0 2 din)) (add 4 scale svec_scale) y_in (omega arith) sum_in
         ∙ hop_is y (part 2 1 din) (part 0 2 din) (unit (add 4 scale svec_scale)) (omega arith)
         ∙ ap (λ s. shifted y (signed (part 2 1 din) (part 0 2 din)) (256 * unit s)) same in
-        let from : Beam = record { x = x; y = y; scale = scale } in
-        let to : Beam = record { x = svec_x; y = svec_y; scale = scale } in
-        let z = part 4 4 low in (
-          tt,
-          hops e
-              ∙ ap (λ drawn. hops_to depth svec_x svec_y (drew ++ drawn)) (line_is from to z)
-              ∙ ap (λ v. hops_to depth v svec_y (drew ++ line from (record { x = v; y = svec_y; scale = scale }) z)) to_x
-              ∙ ap (λ v. hops_to depth (shifted x (signed (part 2 1 low) (part 0 2 low)) (256 * unit ((scale + svec_by) % 16))) v
-              (drew ++ line from (record { x = shifted x (signed (part 2 1 low) (part 0 2 low)) (256 * unit ((scale + svec_by) % 16)); y = v; scale = scale }) z)) to_y,
-        )
+        (tt, hops e ∙ slid_is 0 (part 4 4 low) svec_x svec_y _ _ to_x to_y)
 
     spells_vctr : (op : ℕ) → op < 10 → part 12 4 first ≡ op → first < 65536
         → Spells (Vctr (part 12 4 first) (signed (part 2 1 din) (joined 8 low (part 0 2 din))) (signed (part 10 1 first) (part 0 10 first)) (part 4 4 din))
@@ -346,94 +276,65 @@ module _ (at done fault stroke x0 y0 x y z first low depth s0 s1 s2 s3 scale din
         finish second depth history after answers.0 (subst (ShowsNow second depth) (reply_is _ _ answers.1) fails) fits
 
     -- a first word
-    more_first : (op : ℕ) → op < 11 → part 4 4 din ≡ op → ShowsNow 0 depth More
-    more_first zero less e = rw e (refl, refl)
-    more_first (suc zero) less e = rw e (refl, refl)
-    more_first (suc (suc zero)) less e = rw e (refl, refl)
-    more_first (suc (suc (suc zero))) less e = rw e (refl, refl)
-    more_first (suc (suc (suc (suc zero)))) less e = rw e (refl, refl)
-    more_first (suc (suc (suc (suc (suc zero))))) less e = rw e (refl, refl)
-    more_first (suc (suc (suc (suc (suc (suc zero)))))) less e = rw e (refl, refl)
-    more_first (suc (suc (suc (suc (suc (suc (suc zero))))))) less e = rw e (refl, refl)
-    more_first (suc (suc (suc (suc (suc (suc (suc (suc zero)))))))) less e = rw e (refl, refl)
-    more_first (suc (suc (suc (suc (suc (suc (suc (suc (suc zero))))))))) less e = rw e (refl, refl)
-    more_first (suc (suc (suc (suc (suc (suc (suc (suc (suc (suc zero)))))))))) less e = rw e (refl, refl)
-    more_first (suc (suc (suc (suc (suc (suc (suc (suc (suc (suc (suc n))))))))))) less e = absurd (omega arith)
-
-    fits_first : (op depth : ℕ) → depth ≤ 4 → op < 11 → part 4 4 din ≡ op → Fits (now 0 depth)
-    fits_first zero depth deep less e = rw e (record { opened = omega arith; high = omega arith; second = omega arith; low = low_in; first = λ is. omega arith; depth = deep; x = x_in; y = y_in; scale = scale_in })
-    fits_first (suc zero) depth deep less e = rw e (record { opened = omega arith; high = omega arith; second = omega arith; low = low_in; first = λ is. omega arith; depth = deep; x = x_in; y = y_in; scale = scale_in })
-    fits_first (suc (suc zero)) depth deep less e = rw e (record { opened = omega arith; high = omega arith; second = omega arith; low = low_in; first = λ is. omega arith; depth = deep; x = x_in; y = y_in; scale = scale_in })
-    fits_first (suc (suc (suc zero))) depth deep less e = rw e (record { opened = omega arith; high = omega arith; second = omega arith; low = low_in; first = λ is. omega arith; depth = deep; x = x_in; y = y_in; scale = scale_in })
-    fits_first (suc (suc (suc (suc zero)))) depth deep less e = rw e (record { opened = omega arith; high = omega arith; second = omega arith; low = low_in; first = λ is. omega arith; depth = deep; x = x_in; y = y_in; scale = scale_in })
-    fits_first (suc (suc (suc (suc (suc zero))))) depth deep less e = rw e (record { opened = omega arith; high = omega arith; second = omega arith; low = low_in; first = λ is. omega arith; depth = deep; x = x_in; y = y_in; scale = scale_in })
-    fits_first (suc (suc (suc (suc (suc (suc zero)))))) depth deep less e = rw e (record { opened = omega arith; high = omega arith; second = omega arith; low = low_in; first = λ is. omega arith; depth = deep; x = x_in; y = y_in; scale = scale_in })
-    fits_first (suc (suc (suc (suc (suc (suc (suc zero))))))) depth deep less e = rw e (record { opened = omega arith; high = omega arith; second = omega arith; low = low_in; first = λ is. omega arith; depth = deep; x = x_in; y = y_in; scale = scale_in })
-    fits_first (suc (suc (suc (suc (suc (suc (suc (suc zero)))))))) depth deep less e = rw e (record { opened = omega arith; high = omega arith; second = omega arith; low = low_in; first = λ is. omega arith; depth = deep; x = x_in; y = y_in; scale = scale_in })
-    fits_first (suc (suc (suc (suc (suc (suc (suc (suc (suc zero))))))))) depth deep less e = rw e (record { opened = omega arith; high = omega arith; second = omega arith; low = low_in; first = λ is. omega arith; depth = deep; x = x_in; y = y_in; scale = scale_in })
-    fits_first (suc (suc (suc (suc (suc (suc (suc (suc (suc (suc zero)))))))))) depth deep less e = rw e (record { opened = omega arith; high = omega arith; second = omega arith; low = low_in; first = λ is. omega arith; depth = deep; x = x_in; y = y_in; scale = scale_in })
-    fits_first (suc (suc (suc (suc (suc (suc (suc (suc (suc (suc (suc n))))))))))) depth deep less e = absurd (omega arith)
-
     step_first : depth ≤ 4 → (history : List Told) → Before 0 depth history → din < 176 → Next 0 depth history
     step_first deep history after less =
         let answers = first_word low_in less history (Some low) after in
-        finish 0 depth history after answers.0 (subst (ShowsNow 0 depth) (reply_is _ _ answers.1) (more_first (part 4 4 din) (omega arith) refl))
-        (fits_first (part 4 4 din) depth deep (omega arith) refl)
+        let t = first_tests (part 4 4 din) (omega arith) in
+        let more : ShowsNow 0 depth More = rw (t.0, t.1, t.2) (refl, refl) in
+        finish 0 depth history after answers.0 (subst (ShowsNow 0 depth) (reply_is _ _ answers.1) more)
+        (rw (t.0, t.1, t.2, t.3, t.4, t.5) (omega arith))
 
     -- a HALT
     step_halt : depth ≤ 4 → (history : List Told) → Before 0 depth history → part 4 4 din ≡ 11 → Next 0 depth history
     step_halt deep history after e =
         let ended : Halted (new 1 0 depth) history word drew =
-        halted_at history (Some low) (old 1 0 depth) (new 1 0 depth) word after refl refl (spells_halt e low_in din_in) (halts e) in
+        halted_at history (Some low) (old 1 0 depth) (new 1 0 depth) word after refl refl (halt (omega arith) (omega arith)) (rw e, refl, rw e) in
         let shows : ShowsNow 0 depth (Drew drew) = rw e (refl, refl, append-nil drew) in
         finish 0 depth history after ended.stands (subst (ShowsNow 0 depth) ended.replies shows)
-        (rw e (record { opened = omega arith; high = omega arith; second = omega arith; low = low_in; first = λ is. absurd (omega arith); depth = deep; x = x_in; y = y_in; scale = scale_in }))
+        (rw e (omega arith))
 
     -- a JSRL
-    more_call : (depth : ℕ) → depth < 4 → part 4 4 din ≡ 12 → ShowsNow 0 depth More × Fits (now 0 depth)
-    more_call zero less e = (rw e (refl, refl), rw e (record { opened = omega arith; high = omega arith; second = omega arith; low = low_in; first = λ is. absurd (omega arith); depth = omega arith; x = x_in; y = y_in; scale = scale_in }))
-    more_call (suc zero) less e = (rw e (refl, refl), rw e (record { opened = omega arith; high = omega arith; second = omega arith; low = low_in; first = λ is. absurd (omega arith); depth = omega arith; x = x_in; y = y_in; scale = scale_in }))
-    more_call (suc (suc zero)) less e = (rw e (refl, refl), rw e (record { opened = omega arith; high = omega arith; second = omega arith; low = low_in; first = λ is. absurd (omega arith); depth = omega arith; x = x_in; y = y_in; scale = scale_in }))
-    more_call (suc (suc (suc zero))) less e = (rw e (refl, refl), rw e (record { opened = omega arith; high = omega arith; second = omega arith; low = low_in; first = λ is. absurd (omega arith); depth = omega arith; x = x_in; y = y_in; scale = scale_in }))
-    more_call (suc (suc (suc (suc n)))) less e = absurd (omega arith)
+    calls : (depth : ℕ) → depth < 4 → part 4 4 din ≡ 12
+        → Obeyed (old 1 0 depth) (Jsrl target) (new 1 0 depth) Word × ShowsNow 0 depth More × Fits (now 0 depth)
+    calls zero less e = ((omega arith, rw e), rw e (refl, refl), rw e (omega arith))
+    calls (suc zero) less e = ((omega arith, rw e), rw e (refl, refl), rw e (omega arith))
+    calls (suc (suc zero)) less e = ((omega arith, rw e), rw e (refl, refl), rw e (omega arith))
+    calls (suc (suc (suc zero))) less e = ((omega arith, rw e), rw e (refl, refl), rw e (omega arith))
+    calls (suc (suc (suc (suc n)))) less e = absurd (omega arith)
 
     step_call : (depth : ℕ) → depth ≤ 4 → (history : List Told) → Before 0 depth history → part 4 4 din ≡ 12 → Next 0 depth history
     step_call depth deep history after e = by (cases_lt depth 4)
       where
-        full : (d : ℕ) → d ≡ 4 → Before 0 d history → Next 0 d history
-        full (suc (suc (suc (suc zero)))) is before =
-            breaks 0 4 history (Jsrl target) StackOver before (spells_call e low_in din_in) (overflows e) (rw e (refl, refl, refl)) (rw e (record { opened = omega arith; high = omega arith; second = omega arith; low = low_in; first = λ is. absurd (omega arith); depth = omega arith; x = x_in; y = y_in; scale = scale_in }))
-        full zero is before = absurd (omega arith)
-        full (suc zero) is before = absurd (omega arith)
-        full (suc (suc zero)) is before = absurd (omega arith)
-        full (suc (suc (suc zero))) is before = absurd (omega arith)
-        full (suc (suc (suc (suc (suc n))))) is before = absurd (omega arith)
+        full : Before 0 4 history → Next 0 4 history
+        full before =
+            breaks 0 4 history (Jsrl target) StackOver before (spells_call e low_in din_in) (overflows e) (rw e (refl, refl, refl)) (rw e (omega arith))
 
         by : (depth < 4) ⊎ (4 ≤ depth) → Next 0 depth history
-        by (inl less) = goes 0 depth history (Jsrl target) after (spells_call e low_in din_in) (calls depth less e)
-            (more_call depth less e).0 (more_call depth less e).1
-        by (inr more) = full depth (omega arith) after
+        by (inl less) = let call = calls depth less e in
+            goes 0 depth history (Jsrl target) after (spells_call e low_in din_in) call.0 call.1 call.2
+        by (inr more) = let is : 4 ≡ depth = omega arith in
+            subst (λ d. Before 0 d history → Next 0 d history) is full after
 
     -- an RTSL
-    more_return : (depth : ℕ) → 1 ≤ depth → depth ≤ 4 → part 4 4 din ≡ 13 → ShowsNow 0 depth More × Fits (now 0 depth)
-    more_return zero some less e = absurd (omega arith)
-    more_return (suc zero) some less e = (rw e (refl, refl), rw e (record { opened = omega arith; high = omega arith; second = omega arith; low = low_in; first = λ is. absurd (omega arith); depth = omega arith; x = x_in; y = y_in; scale = scale_in }))
-    more_return (suc (suc zero)) some less e = (rw e (refl, refl), rw e (record { opened = omega arith; high = omega arith; second = omega arith; low = low_in; first = λ is. absurd (omega arith); depth = omega arith; x = x_in; y = y_in; scale = scale_in }))
-    more_return (suc (suc (suc zero))) some less e = (rw e (refl, refl), rw e (record { opened = omega arith; high = omega arith; second = omega arith; low = low_in; first = λ is. absurd (omega arith); depth = omega arith; x = x_in; y = y_in; scale = scale_in }))
-    more_return (suc (suc (suc (suc zero)))) some less e = (rw e (refl, refl), rw e (record { opened = omega arith; high = omega arith; second = omega arith; low = low_in; first = λ is. absurd (omega arith); depth = omega arith; x = x_in; y = y_in; scale = scale_in }))
-    more_return (suc (suc (suc (suc (suc n))))) some less e = absurd (omega arith)
+    returns : (depth : ℕ) → 1 ≤ depth → depth ≤ 4 → part 4 4 din ≡ 13
+        → Obeyed (old 1 0 depth) Rtsl (new 1 0 depth) Word × ShowsNow 0 depth More × Fits (now 0 depth)
+    returns zero some less e = absurd (omega arith)
+    returns (suc zero) some less e = ((omega arith, rw e), rw e (refl, refl), rw e (omega arith))
+    returns (suc (suc zero)) some less e = ((omega arith, rw e), rw e (refl, refl), rw e (omega arith))
+    returns (suc (suc (suc zero))) some less e = ((omega arith, rw e), rw e (refl, refl), rw e (omega arith))
+    returns (suc (suc (suc (suc zero)))) some less e = ((omega arith, rw e), rw e (refl, refl), rw e (omega arith))
+    returns (suc (suc (suc (suc (suc n))))) some less e = absurd (omega arith)
 
     step_return : (depth : ℕ) → depth ≤ 4 → (history : List Told) → Before 0 depth history → part 4 4 din ≡ 13 → Next 0 depth history
     step_return zero deep history after e =
-        breaks 0 0 history Rtsl StackUnder after (spells_return e low_in din_in) (underflows e) (rw e (refl, refl, refl)) (rw e (record { opened = omega arith; high = omega arith; second = omega arith; low = low_in; first = λ is. absurd (omega arith); depth = omega arith; x = x_in; y = y_in; scale = scale_in }))
-    step_return (suc n) deep history after e =
-        goes 0 (suc n) history Rtsl after (spells_return e low_in din_in) (returns (suc n) (omega arith) deep e)
-        (more_return (suc n) (omega arith) deep e).0 (more_return (suc n) (omega arith) deep e).1
+        breaks 0 0 history Rtsl StackUnder after (spells_return e low_in din_in) (underflows e) (rw e (refl, refl, refl)) (rw e (omega arith))
+    step_return (suc n) deep history after e = let back = returns (suc n) (omega arith) deep e in
+        goes 0 (suc n) history Rtsl after (spells_return e low_in din_in) back.0 back.1 back.2
 
     -- a JMPL
     step_jump : depth ≤ 4 → (history : List Told) → Before 0 depth history → part 4 4 din ≡ 14 → Next 0 depth history
     step_jump deep history after e =
-        goes 0 depth history (Jmpl target) after (spells_jump e low_in din_in) (jumps e) (rw e (refl, refl)) (rw e (record { opened = omega arith; high = omega arith; second = omega arith; low = low_in; first = λ is. absurd (omega arith); depth = omega arith; x = x_in; y = y_in; scale = scale_in }))
+        goes 0 depth history (Jmpl target) after (jmpl {address = target} (omega arith) (omega arith)) (tt, rw e) (rw e (refl, refl)) (rw e (omega arith))
 
     -- an SVEC
     step_svec : depth ≤ 4 → (history : List Told) → Before 0 depth history → part 4 4 din ≡ 15 → Next 0 depth history
@@ -454,37 +355,26 @@ module _ (at done fault stroke x0 y0 x y z first low depth s0 s1 s2 s3 scale din
     -- a LABS
     step_labs : depth ≤ 4 → (history : List Told) → Before 1 depth history → first < 65536 → part 12 4 first ≡ 10 → Next 1 depth history
     step_labs deep history after first_in e =
-        goes 1 depth history _ after (spells_labs e first_in) (labs depth e) (refl, refl)
-        (rw e (record {
-          opened = omega arith;
-          high = omega arith;
-          second = omega arith;
-          low = low_in;
-          first = λ is. absurd (omega arith);
-          depth = deep;
-          x = omega arith;
-          y = omega arith;
-          scale = omega arith;
-        }))
+        goes 1 depth history _ after (spells_labs e first_in) (labs depth e) (refl, refl) (rw e (omega arith))
 
     -- a VCTR
-    fits_vctr : (op depth : ℕ) → depth ≤ 4 → op < 10 → part 12 4 first ≡ op → Fits (now 1 depth)
-    fits_vctr zero depth deep less e = rw e (record { opened = omega arith; high = omega arith; second = omega arith; low = low_in; first = λ is. absurd (omega arith); depth = deep; x = shift_in x (part 2 1 din) (joined 8 low (part 0 2 din)) (add 4 scale 0) (omega arith); y = shift_in y (part 10 1 first) (part 0 10 first) (add 4 scale 0) (omega arith); scale = scale_in })
-    fits_vctr (suc zero) depth deep less e = rw e (record { opened = omega arith; high = omega arith; second = omega arith; low = low_in; first = λ is. absurd (omega arith); depth = deep; x = shift_in x (part 2 1 din) (joined 8 low (part 0 2 din)) (add 4 scale 1) (omega arith); y = shift_in y (part 10 1 first) (part 0 10 first) (add 4 scale 1) (omega arith); scale = scale_in })
-    fits_vctr (suc (suc zero)) depth deep less e = rw e (record { opened = omega arith; high = omega arith; second = omega arith; low = low_in; first = λ is. absurd (omega arith); depth = deep; x = shift_in x (part 2 1 din) (joined 8 low (part 0 2 din)) (add 4 scale 2) (omega arith); y = shift_in y (part 10 1 first) (part 0 10 first) (add 4 scale 2) (omega arith); scale = scale_in })
-    fits_vctr (suc (suc (suc zero))) depth deep less e = rw e (record { opened = omega arith; high = omega arith; second = omega arith; low = low_in; first = λ is. absurd (omega arith); depth = deep; x = shift_in x (part 2 1 din) (joined 8 low (part 0 2 din)) (add 4 scale 3) (omega arith); y = shift_in y (part 10 1 first) (part 0 10 first) (add 4 scale 3) (omega arith); scale = scale_in })
-    fits_vctr (suc (suc (suc (suc zero)))) depth deep less e = rw e (record { opened = omega arith; high = omega arith; second = omega arith; low = low_in; first = λ is. absurd (omega arith); depth = deep; x = shift_in x (part 2 1 din) (joined 8 low (part 0 2 din)) (add 4 scale 4) (omega arith); y = shift_in y (part 10 1 first) (part 0 10 first) (add 4 scale 4) (omega arith); scale = scale_in })
-    fits_vctr (suc (suc (suc (suc (suc zero))))) depth deep less e = rw e (record { opened = omega arith; high = omega arith; second = omega arith; low = low_in; first = λ is. absurd (omega arith); depth = deep; x = shift_in x (part 2 1 din) (joined 8 low (part 0 2 din)) (add 4 scale 5) (omega arith); y = shift_in y (part 10 1 first) (part 0 10 first) (add 4 scale 5) (omega arith); scale = scale_in })
-    fits_vctr (suc (suc (suc (suc (suc (suc zero)))))) depth deep less e = rw e (record { opened = omega arith; high = omega arith; second = omega arith; low = low_in; first = λ is. absurd (omega arith); depth = deep; x = shift_in x (part 2 1 din) (joined 8 low (part 0 2 din)) (add 4 scale 6) (omega arith); y = shift_in y (part 10 1 first) (part 0 10 first) (add 4 scale 6) (omega arith); scale = scale_in })
-    fits_vctr (suc (suc (suc (suc (suc (suc (suc zero))))))) depth deep less e = rw e (record { opened = omega arith; high = omega arith; second = omega arith; low = low_in; first = λ is. absurd (omega arith); depth = deep; x = shift_in x (part 2 1 din) (joined 8 low (part 0 2 din)) (add 4 scale 7) (omega arith); y = shift_in y (part 10 1 first) (part 0 10 first) (add 4 scale 7) (omega arith); scale = scale_in })
-    fits_vctr (suc (suc (suc (suc (suc (suc (suc (suc zero)))))))) depth deep less e = rw e (record { opened = omega arith; high = omega arith; second = omega arith; low = low_in; first = λ is. absurd (omega arith); depth = deep; x = shift_in x (part 2 1 din) (joined 8 low (part 0 2 din)) (add 4 scale 8) (omega arith); y = shift_in y (part 10 1 first) (part 0 10 first) (add 4 scale 8) (omega arith); scale = scale_in })
-    fits_vctr (suc (suc (suc (suc (suc (suc (suc (suc (suc zero))))))))) depth deep less e = rw e (record { opened = omega arith; high = omega arith; second = omega arith; low = low_in; first = λ is. absurd (omega arith); depth = deep; x = shift_in x (part 2 1 din) (joined 8 low (part 0 2 din)) (add 4 scale 9) (omega arith); y = shift_in y (part 10 1 first) (part 0 10 first) (add 4 scale 9) (omega arith); scale = scale_in })
-    fits_vctr (suc (suc (suc (suc (suc (suc (suc (suc (suc (suc n)))))))))) depth deep less e = absurd (omega arith)
+    fits_vctr : depth ≤ 4 → part 12 4 first < 10 → Fits (now 1 depth)
+    fits_vctr deep less = let small = lt-ltb (part 12 4 first) 10 less in rw small (record {
+      opened = omega arith;
+      high = omega arith;
+      second = omega arith;
+      low = low_in;
+      first = λ is. absurd (omega arith);
+      depth = deep;
+      x = shift_in x (part 2 1 din) (joined 8 low (part 0 2 din)) (add 4 scale (part 12 4 first)) (omega arith);
+      y = shift_in y (part 10 1 first) (part 0 10 first) (add 4 scale (part 12 4 first)) (omega arith);
+      scale = scale_in;
+    })
 
     step_vctr : depth ≤ 4 → (history : List Told) → Before 1 depth history → first < 40960 → Next 1 depth history
     step_vctr deep history after less =
-        goes 1 depth history _ after (spells_vctr (part 12 4 first) (omega arith) refl (omega arith)) (vctr (part 12 4 first) (omega arith) refl) (refl, refl)
-        (fits_vctr (part 12 4 first) depth deep (omega arith) refl)
+        goes 1 depth history _ after (spells_vctr (part 12 4 first) (omega arith) refl (omega arith)) (vctr (omega arith)) (refl, refl)
+        (fits_vctr deep (omega arith))
 
     -- a whole word
     step_alone : (k : ℕ) → k < 5 → depth ≤ 4 → (history : List Told) → Before 0 depth history → part 4 4 din ≡ 11 + k → Next 0 depth history
@@ -520,73 +410,66 @@ module _ (at done fault stroke x0 y0 x y z first low depth s0 s1 s2 s3 scale din
           found = Some (Waits din);
           tells = fetches {run = after.run} refl refl refl after.leaves (sym after.stands.is_open);
           stands = answers.0;
-          fits = record { opened = omega arith; high = omega arith; second = bit; low = din_in; first = is_first; depth = deep; x = x_in; y = y_in; scale = scale_in };
+          fits = omega arith;
           said = (refl, refl, refl);
         }
 
     -- the other events
-    module _ (is_open high second : ℕ) (open_in : is_open < 2) (high_in : high < 2) (second_in : second < 2)
-        (is_first : second ≡ 1 → first < 45056) (deep : depth ≤ 4) (history : List Told) (low' : Option ℕ) where
+    module _ (second : ℕ) (second_in : second < 2) (is_first : second ≡ 1 → first < 45056) (deep : depth ≤ 4)
+        (history : List Told) (low' : Option ℕ) where
       abbrev Goes : Pins → ℕ → ℕ → Type 0
       Goes pins is_open high = HasTaken (machine_of (core is_open high second depth) drew) history low'
           → Stepped pins (core is_open high second depth) drew history low'
 
-      step_reset : (start valid hole : ℕ) → Goes (record { reset = 1; start = start; valid = valid; hole = hole; din = din }) is_open high
-      step_reset start valid hole after = record {
+      pub step : (is_open high reset start valid hole : ℕ)
+          → is_open < 2 → high < 2 → reset < 2 → start < 2 → valid < 2 → hole < 2
+          → Goes (record { reset = reset; start = start; valid = valid; hole = hole; din = din }) is_open high
+      step is_open high (suc zero) start valid hole o h r s v w after = record {
         history' = Reset ∷ history;
         low' = None;
         found = None;
         tells = Refines.resets refl;
         stands = resets is_open high second start valid hole history low' after;
-        fits = record { opened = omega arith; high = omega arith; second = second_in; low = low_in; first = is_first; depth = deep; x = x_in; y = y_in; scale = scale_in };
+        fits = omega arith;
         said = (refl, refl, refl);
       }
-
-      step_start : (valid hole : ℕ) → Goes (record { reset = 0; start = 1; valid = valid; hole = hole; din = din }) is_open high
-      step_start valid hole after = record {
+      step is_open high zero (suc zero) valid hole o h r s v w after = record {
         history' = Start ∷ history;
         low' = None;
         found = None;
         tells = Refines.starts refl refl;
         stands = starts is_open high second valid hole history low' after;
-        fits = record { opened = omega arith; high = omega arith; second = omega arith; low = low_in; first = λ is. absurd (omega arith); depth = omega arith; x = x_in; y = y_in; scale = scale_in };
+        fits = omega arith;
         said = (refl, refl, refl);
       }
-
-      step_idle : (o hole : ℕ) → o < 2 → Goes (record { reset = 0; start = 0; valid = 0; hole = hole; din = din }) o high
-      step_idle zero hole small after = record {
+      step zero high zero zero zero hole o h r s v w after = record {
         history' = history;
         low' = low';
         found = None;
         tells = Refines.idles refl refl refl;
         stands = subst (λ l. HasTaken (machine_of (core 0 high second depth) l) history low') (sym (append-nil drew)) after;
-        fits = record { opened = omega arith; high = high_in; second = second_in; low = low_in; first = is_first; depth = deep; x = x_in; y = y_in; scale = scale_in };
+        fits = omega arith;
         said = (refl, refl, refl);
       }
-      step_idle (suc zero) hole small after = record {
+      step (suc zero) high zero zero zero hole o h r s v w after = record {
         history' = history;
         low' = low';
         found = None;
         tells = Refines.idles refl refl refl;
         stands = subst (λ l. HasTaken (machine_of (core 1 high second depth) l) history low') (sym (append-nil drew)) after;
-        fits = record { opened = omega arith; high = high_in; second = second_in; low = low_in; first = is_first; depth = deep; x = x_in; y = y_in; scale = scale_in };
+        fits = omega arith;
         said = (refl, refl, refl);
       }
-      step_idle (suc (suc n)) hole small after = absurd (omega arith)
-
-      step_ignore : (hole : ℕ) → Goes (record { reset = 0; start = 0; valid = 1; hole = hole; din = din }) 0 high
-      step_ignore hole after = record {
+      step zero high zero zero (suc zero) hole o h r s v w after = record {
         history' = history;
         low' = low';
         found = None;
         tells = Refines.ignores {run = after.run} refl refl refl after.leaves (sym after.stands.is_open);
         stands = subst (λ l. HasTaken (machine_of (core 0 high second depth) l) history low') (sym (append-nil drew)) after;
-        fits = record { opened = omega arith; high = high_in; second = second_in; low = low_in; first = is_first; depth = deep; x = x_in; y = y_in; scale = scale_in };
+        fits = omega arith;
         said = (refl, refl, refl);
       }
-
-      step_hole : Goes gap 1 high
-      step_hole after =
+      step (suc zero) high zero zero (suc zero) (suc zero) o h r s v w after =
           let answers = holes high second history low' after in
           record {
             history' = Fed None ∷ history;
@@ -594,42 +477,19 @@ module _ (at done fault stroke x0 y0 x y z first low depth s0 s1 s2 s3 scale din
             found = Some (Whole None);
             tells = fetches {run = after.run} refl refl refl after.leaves (sym after.stands.is_open);
             stands = answers.0;
-            fits = record { opened = omega arith; high = omega arith; second = second_in; low = low_in; first = is_first; depth = deep; x = x_in; y = y_in; scale = scale_in };
+            fits = omega arith;
             said = (refl, refl, refl);
           }
-
-      step_byte : (h : ℕ) → h < 2 → Goes byte 1 h
-      step_byte zero small after =
+      step (suc zero) zero zero zero (suc zero) zero o h r s v w after =
           subst (λ w. Stepped byte (core 1 0 second depth) drew history w) after.low
           (step_low second second_in is_first deep history (subst (λ w. HasTaken (old 0 second depth) history w) (sym after.low) after))
-      step_byte (suc zero) small after =
+      step (suc zero) (suc zero) zero zero (suc zero) zero o h r s v w after =
           subst (λ w. Stepped byte (core 1 1 second depth) drew history w) after.low
           (step_word second second_in is_first deep history (subst (λ w. HasTaken (old 1 second depth) history w) (sym after.low) after))
-      step_byte (suc (suc n)) small after = absurd (omega arith)
-
-      by_hole : (hole : ℕ) → hole < 2 → Goes (record { reset = 0; start = 0; valid = 1; hole = hole; din = din }) 1 high
-      by_hole zero small after = step_byte high high_in after
-      by_hole (suc zero) small after = step_hole after
-      by_hole (suc (suc n)) small after = absurd (omega arith)
-
-      by_open : (o hole : ℕ) → o < 2 → hole < 2 → Goes (record { reset = 0; start = 0; valid = 1; hole = hole; din = din }) o high
-      by_open zero hole small hole_in after = step_ignore hole after
-      by_open (suc zero) hole small hole_in after = by_hole hole hole_in after
-      by_open (suc (suc n)) hole small hole_in after = absurd (omega arith)
-
-      by_valid : (valid hole : ℕ) → valid < 2 → hole < 2 → Goes (record { reset = 0; start = 0; valid = valid; hole = hole; din = din }) is_open high
-      by_valid zero hole small hole_in after = step_idle is_open hole open_in after
-      by_valid (suc zero) hole small hole_in after = by_open is_open hole open_in hole_in after
-      by_valid (suc (suc n)) hole small hole_in after = absurd (omega arith)
-
-      by_start : (start valid hole : ℕ) → start < 2 → valid < 2 → hole < 2
-          → Goes (record { reset = 0; start = start; valid = valid; hole = hole; din = din }) is_open high
-      by_start zero valid hole small valid_in hole_in after = by_valid valid hole valid_in hole_in after
-      by_start (suc zero) valid hole small valid_in hole_in after = step_start valid hole after
-      by_start (suc (suc n)) valid hole small valid_in hole_in after = absurd (omega arith)
-
-      pub step : (reset start valid hole : ℕ) → reset < 2 → start < 2 → valid < 2 → hole < 2
-          → Goes (record { reset = reset; start = start; valid = valid; hole = hole; din = din }) is_open high
-      step zero start valid hole small start_in valid_in hole_in after = by_start start valid hole start_in valid_in hole_in after
-      step (suc zero) start valid hole small start_in valid_in hole_in after = step_reset start valid hole after
-      step (suc (suc n)) start valid hole small start_in valid_in hole_in after = absurd (omega arith)
+      step is_open high (suc (suc n)) start valid hole o h r s v w after = absurd (omega arith)
+      step is_open high zero (suc (suc n)) valid hole o h r s v w after = absurd (omega arith)
+      step is_open high zero zero (suc (suc n)) hole o h r s v w after = absurd (omega arith)
+      step (suc (suc n)) high zero zero zero hole o h r s v w after = absurd (omega arith)
+      step (suc (suc n)) high zero zero (suc zero) hole o h r s v w after = absurd (omega arith)
+      step (suc zero) high zero zero (suc zero) (suc (suc n)) o h r s v w after = absurd (omega arith)
+      step (suc zero) (suc (suc n)) zero zero (suc zero) zero o h r s v w after = absurd (omega arith)

@@ -3,21 +3,17 @@ use Rattle.std.proofs.Common.{◌≡◌, ℕ, zero, suc, ◌<◌, ◌≤◌, tru
 use Rattle.std.specs.Prelude.{IsSome}
 use Rattle.dvg_code.specs.declared.instr.Instr.TheVariants.{Halt}
 use Rattle.dvg_code.specs.Spelling.{Spells}
-use Rattle.dvg_gen.specs.declared.taken.Step.{Step}
 use Rattle.dvg_gen.specs.declared.stroke.Stroke.{Stroke}
-use Rattle.dvg_gen.specs.Machine.{Machine, HasTaken, IsInRun, answer_by}
+use Rattle.dvg_gen.specs.Machine.{Machine, HasTaken, IsInRun}
 use Rattle.dvg_gen.specs.Obeyed.{IsShut}
 use Rattle.dvg_gen.specs.Run.{Visit, Adds, one, next, strokes}
 use Rattle.dvg_gen.specs.Told.{Told, Fed, takes, grown, Reply, Drew, reply}
-use Rattle.dvg_code.specs.declared.instr.Instr.{Instr}
-use Rattle.dvg_gen.specs.Bytes.{Met, Whole}
-use Rattle.dvg_gen.specs.Completing.{Completes}
-use Rattle.dvg_gen.specs.Obeyed.{Obeyed}
-use Rattle.dvg_gen.proofs.Standing.{Claim, at_obeyed}
+use Rattle.dvg_gen.specs.Bytes.{Met}
 use Rattle.dvg_core.specs.Core.{Core, Pins, clock}
 use Rattle.dvg_core.proofs.Machines.{machine_of}
 use Rattle.dvg_core.specs.Refines.{Tells, Said, drawn_by}
 use Rattle.dvg_core.proofs.Shifts.{shift}
+pub use Rattle.dvg_gen.proofs.Standing.{claim_obeyed as obeys}
 
 -- the registers that matter fit their widths, and a word that waits for its second one is a first word
 pub record Fits (core : Core) : Type 0 where
@@ -70,14 +66,6 @@ halted_at history low old machine word after opened none spells shut =
 -- the reply that is answered
 pub reply_is : (answer replied : Reply) → Some answer ≡ Some replied → answer ≡ replied
 reply_is answer replied e = cc
-
--- the claim of a word that completes an instruction
-pub obeys : (w : ℕ) (old machine : Machine) (code : Instr) (step : Step) → old.is_open ≡ true → Completes old.held w code
-    → Obeyed old code machine step → Claim (Whole (Some w)) old machine (answer_by step machine.picture)
-obeys w old machine code step opened completes obeyed history low after =
-    let held = (after.stands.running (sym after.stands.is_open ∙ opened)).held in
-    let completes_run : Completes after.run.held w code = subst (λ h. Completes h w code) held completes in
-    at_obeyed history low old after opened w code completes_run machine step obeyed
 
 -- what a clock does
 pub record Stepped (pins : Pins) (old : Core) (drew : List Stroke) (history : List Told) (low : Option ℕ) : Type 0 where

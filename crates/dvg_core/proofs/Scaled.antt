@@ -1,5 +1,5 @@
 -- A magnitude that counts 256 times as much moves counters as one that is 256 times as large.
-use Rattle.std.proofs.Common.{◌≡◌, ℕ, zero, suc, ◌*◌, ℤ, pos, negsuc, ◌*ℤ◌, neg_ℤ, refl, sym, ap, ◌∙◌, arith}
+use Rattle.std.proofs.Common.{◌≡◌, ℕ, zero, suc, ◌*◌, pos, ◌*ℤ◌, neg_ℤ, sym, ap, ◌∙◌, arith}
 use Rattle.dvg_code.specs.Fields.{signed}
 use Rattle.dvg_gen.specs.declared.counters.Counters.{Counters}
 use Rattle.dvg_gen.specs.Counting.{rounded, counted, stepped}

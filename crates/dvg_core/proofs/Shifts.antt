@@ -1,7 +1,7 @@
 -- Moves of the beam: the cells' sums are those of the definition.
-use Rattle.std.proofs.Common.{◌≡◌, ℕ, zero, suc, ◌+◌, ◌-◌, ◌*◌, ◌%◌, ◌<◌, ◌≤◌, false, [], ◌∷◌, refl, ap, ◌∙◌, arith}
-use Rattle.std.proofs.lemmas.Bool.{ne_eqb}
-use Rattle.std.specs.Prelude.{nat_eq, if◌then◌else◌}
+use Rattle.std.proofs.Common.{◌≡◌, ℕ, zero, suc, ◌+◌, ◌-◌, ◌*◌, ◌%◌, ◌<◌, ◌≤◌, false, [], ◌∷◌, inl, inr, refl, ap, ◌∙◌, arith}
+use Rattle.std.proofs.lemmas.Bool.{cases_lt, lt-ltb, le-ltb, le-leb, lt-leb, ne_eqb}
+use Rattle.std.specs.Prelude.{nat_eq, if◌then◌else◌, ◌⊎◌}
 use Rattle.dvg_code.specs.Fields.{signed}
 use Rattle.dvg_gen.specs.declared.beam.Beam.{Beam}
 use Rattle.dvg_gen.specs.Drawing.{unit, shifted, line}
@@ -15,24 +15,12 @@ abbrev pub shift : ℕ → ℕ → ℕ → ℕ → ℕ
 shift from sign size sum = mux sign (sub 21 from (way size sum)) (add 21 from (way size sum))
 
 -- it is the product, modulo 2,097,152
-way_is : (sum size : ℕ) → sum < 16 → way size sum ≡ size * unit sum % 2097152
-way_is zero size h = refl
-way_is (suc zero) size h = refl
-way_is (suc (suc zero)) size h = refl
-way_is (suc (suc (suc zero))) size h = refl
-way_is (suc (suc (suc (suc zero)))) size h = refl
-way_is (suc (suc (suc (suc (suc zero))))) size h = refl
-way_is (suc (suc (suc (suc (suc (suc zero)))))) size h = refl
-way_is (suc (suc (suc (suc (suc (suc (suc zero))))))) size h = refl
-way_is (suc (suc (suc (suc (suc (suc (suc (suc zero)))))))) size h = refl
-way_is (suc (suc (suc (suc (suc (suc (suc (suc (suc zero))))))))) size h = refl
-way_is (suc (suc (suc (suc (suc (suc (suc (suc (suc (suc zero)))))))))) size h = omega arith
-way_is (suc (suc (suc (suc (suc (suc (suc (suc (suc (suc (suc zero))))))))))) size h = omega arith
-way_is (suc (suc (suc (suc (suc (suc (suc (suc (suc (suc (suc (suc zero)))))))))))) size h = omega arith
-way_is (suc (suc (suc (suc (suc (suc (suc (suc (suc (suc (suc (suc (suc zero))))))))))))) size h = omega arith
-way_is (suc (suc (suc (suc (suc (suc (suc (suc (suc (suc (suc (suc (suc (suc zero)))))))))))))) size h = omega arith
-way_is (suc (suc (suc (suc (suc (suc (suc (suc (suc (suc (suc (suc (suc (suc (suc zero))))))))))))))) size h = omega arith
-way_is (suc (suc (suc (suc (suc (suc (suc (suc (suc (suc (suc (suc (suc (suc (suc (suc n)))))))))))))))) size h = absurd (omega arith)
+way_is : (sum size : ℕ) → way size sum ≡ size * unit sum % 2097152
+way_is sum size = by (cases_lt sum 10)
+  where
+    by : (sum < 10) ⊎ (10 ≤ sum) → way size sum ≡ size * unit sum % 2097152
+    by (inl less) = rw (lt-ltb sum 10 less, le-leb sum 9 (omega arith))
+    by (inr over) = rw (le-ltb sum 10 over, lt-leb sum 9 (omega arith)) (omega arith)
 
 moved_up : (from t : ℕ) → (from + t % 2097152) % 2097152 ≡ (from + t) % 2097152
 moved_up from t = omega arith
@@ -43,11 +31,11 @@ none_moved from u h = omega arith
 pub shift_is : (from sign size sum : ℕ) → from < 2097152 → sign < 2 → sum < 16
     → shift from sign size sum ≡ shifted from (signed sign size) (unit sum)
 shift_is from zero size sum inside bit small =
-    ap (λ w. (from + w) % 2097152) (way_is sum size small) ∙ moved_up from (size * unit sum)
+    ap (λ w. (from + w) % 2097152) (way_is sum size) ∙ moved_up from (size * unit sum)
 shift_is from (suc zero) zero sum inside bit small =
-    ap (λ w. (from + (2097152 - w)) % 2097152) (way_is sum 0 small) ∙ none_moved from (unit sum) inside
+    ap (λ w. (from + (2097152 - w)) % 2097152) (way_is sum 0) ∙ none_moved from (unit sum) inside
 shift_is from (suc zero) (suc size) sum inside bit small =
-    ap (λ w. (from + (2097152 - w)) % 2097152) (way_is sum (suc size) small)
+    ap (λ w. (from + (2097152 - w)) % 2097152) (way_is sum (suc size))
 shift_is from (suc (suc n)) size sum inside bit small = absurd (omega arith)
 
 -- the stroke that is shown is the one that is drawn

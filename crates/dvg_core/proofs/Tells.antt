@@ -1,8 +1,8 @@
 -- The pins of the core that a motion takes.
-use Rattle.std.proofs.Common.{◌≡◌, ℕ, zero, suc, ◌+◌, ◌-◌, ◌*◌, ◌/◌, ◌%◌, ◌^◌, ◌<◌, ◌≤◌, Bool, true, false, ℤ, pos, negsuc, ◌*ℤ◌}
-use Rattle.std.proofs.Common.{List, [], ◌∷◌, ◌++◌, Option, Some, None, refl, sym, ap, ◌∙◌, subst, arith, append-nil, ltb, leb, inl, inr}
-use Rattle.std.specs.Prelude.{nat_eq, nat_lt, if◌then◌else◌, All, not, ◌⊎◌}
-use Rattle.std.proofs.lemmas.Bool.{cases_lt, lt-ltb, le-ltb, ne_eqb, eq-eqb}
+use Rattle.std.proofs.Common.{◌≡◌, ℕ, zero, suc, ◌+◌, ◌-◌, ◌*◌, ◌/◌, ◌%◌, ◌<◌, ◌≤◌, Bool, true, false, pos, ◌*ℤ◌}
+use Rattle.std.proofs.Common.{List, [], ◌∷◌, ◌++◌, Option, Some, None, refl, sym, ap, ◌∙◌, subst, arith, append-nil, ltb, inl, inr}
+use Rattle.std.specs.Prelude.{nat_eq, nat_lt, not, ◌⊎◌}
+use Rattle.std.proofs.lemmas.Bool.{cases_lt, lt-ltb, ne_eqb}
 use Rattle.std.proofs.lemmas.List.Elements.{All-head, All-tail}
 use Rattle.dvg_code.specs.Fields.{signed}
 use Rattle.dvg_code.specs.declared.instr.Instr.{Instr}
@@ -14,24 +14,21 @@ use Rattle.dvg_gen.specs.declared.counters.Counters.{Counters}
 use Rattle.dvg_gen.specs.declared.moving.Move.{Move}
 use Rattle.dvg_gen.specs.declared.stroke.Stroke.{Stroke}
 use Rattle.dvg_gen.specs.Bytes.{Met, Waits, Whole, met}
-use Rattle.dvg_gen.specs.Completing.{Completes}
-use Rattle.dvg_gen.specs.Counting.{whole, stepped, followed, followed_all, clocked}
+use Rattle.dvg_gen.specs.Counting.{whole, stepped, followed}
 use Rattle.dvg_gen.specs.Drawing.{unit, moved}
-use Rattle.dvg_gen.specs.Machine.{Machine, HasTaken}
 use Rattle.dvg_gen.specs.Moving.{made, begins_at, going, AddsMoves}
 use Rattle.dvg_gen.specs.Position.{IsBeam}
-use Rattle.dvg_gen.specs.Told.{Told, Newest, Leaves, Fed}
+use Rattle.dvg_gen.specs.Told.{Told, Newest, Leaves}
 use Rattle.dvg_gen.proofs.Counted.{counted_step}
 use Rattle.dvg_gen.proofs.Inside.{spelled_range}
 use Rattle.dvg_gen.proofs.Moves.{FetchesMove, completes_move, first_move, adds_moves}
 use Rattle.dvg_gen.proofs.Same.{leaves_same}
-use Rattle.dvg_core.specs.Cells.{part, joined, add, mux, lt, eq, bit, some, none, both, either}
-use Rattle.dvg_core.specs.Core.{Core, Pins, clock, vec, labs}
+use Rattle.dvg_core.specs.Cells.{part, joined, add, lt, eq, bit, some, none, both}
+use Rattle.dvg_core.specs.Core.{Core, Pins, vec, labs}
 use Rattle.dvg_core.specs.Core as pin
 use Rattle.dvg_core.specs.Refines
-use Rattle.dvg_core.specs.Refines.{ArePins, after, drew, Tells, idles, ignores, fetches, byte_of, told_by, Agrees}
+use Rattle.dvg_core.specs.Refines.{ArePins, after, drew, Tells, idles, ignores, fetches, byte_of, told_by}
 use Rattle.dvg_core.proofs.Machines.{machine_of, kept}
-use Rattle.dvg_core.proofs.Fitting.{Fits}
 use Rattle.dvg_core.proofs.Whole.{Stands, stand, stand_next, agrees_of, one}
 use Rattle.dvg_core.specs.Tells.{moves_of, TellsMove, TellsMoves, TellsKind, PinsTell, PinsRest}
 use Rattle.dvg_core.proofs.Scaled.{stepped_to}

@@ -19,9 +19,9 @@ pub one : (core : Core) (pins : Pins) (drew : List Stroke) (history : List Told)
     → HasTaken (machine_of core drew) history low → Stepped pins core drew history low
 one core pins drew history low fits are after =
     step core.at core.done core.fault core.stroke core.x0 core.y0 core.x core.y core.z core.first core.low core.depth core.s0 core.s1
-    core.s2 core.s3 core.scale pins.din drew fits.x fits.y fits.scale fits.low are.din core.is_open core.high core.second
-    fits.opened fits.high fits.second fits.first fits.depth history low pins.reset pins.start pins.valid pins.hole are.reset are.start
-    are.valid are.hole after
+    core.s2 core.s3 core.scale pins.din drew fits.x fits.y fits.scale fits.low are.din core.second fits.second fits.first fits.depth
+    history low core.is_open core.high pins.reset pins.start pins.valid pins.hole fits.opened fits.high are.reset are.start are.valid
+    are.hole after
 
 pub record Stands (list : List Pins) : Type 0 where
   pub history : List Told
@@ -53,7 +53,7 @@ stand [] all = record {
   found = None;
   hears = powers;
   stands = stands_new (machine_of zeros []) refl refl refl;
-  fits = record { opened = omega arith; high = omega arith; second = omega arith; low = omega arith; first = λ is. absurd (omega arith); depth = omega arith; x = omega arith; y = omega arith; scale = omega arith };
+  fits = omega arith;
   said = (refl, refl, refl);
 }
 stand (pins ∷ list) all = stand_next pins list (All-head ArePins pins list all) (stand list (All-tail ArePins pins list all))

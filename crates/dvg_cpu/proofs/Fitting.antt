@@ -1,5 +1,5 @@
 -- The law of widths.
-use Rattle.std.proofs.Common.{lit<}
+use Rattle.std.proofs.Common.{arith, lit<}
 use Rattle.dvg_cpu.specs.Cpu.{Pins}
 use Rattle.dvg_cpu.specs.Widths.{CpuFits}
 use Rattle.dvg_cpu.proofs.Widths.{all_in}
@@ -9,26 +9,7 @@ some_pins = record { reset = 0; step = 0; nmi = 0; din = 0 }
 
 pub fits : CpuFits
 fits = (
-  record {
-    a = lit< tt;
-    x = lit< tt;
-    y = lit< tt;
-    s = lit< tt;
-    pc = lit< tt;
-    n = lit< tt;
-    v = lit< tt;
-    d = lit< tt;
-    i = lit< tt;
-    z = lit< tt;
-    c = lit< tt;
-    state = lit< tt;
-    ir = lit< tt;
-    low = lit< tt;
-    high = lit< tt;
-    back = lit< tt;
-    was = lit< tt;
-    due = lit< tt;
-  },
+  omega arith,
   λ cells pins is nmi din. (all_in cells pins is nmi din).0,
   λ cells is. let all = all_in cells some_pins is (lit< tt) (lit< tt) in (all.1, all.2, all.3),
 )

@@ -6,8 +6,8 @@ use Rattle.dvg_6502.specs.Processor.{Cpu, Instr, Register, A, X, Y, put, decoded
 use Rattle.dvg_6502.specs.Processor.{of_flag}
 use Rattle.dvg_game.specs.Kinds.{Sets, Nothing, Only, Place, ZeroPage, ZeroPageIndexed, Absolute, AbsoluteIndexed, size}
 use Rattle.dvg_game.specs.Kinds.{Kind, Quiet, Reads, Transfer, Stores, Jump, Call, Finish, Wild, kind, taking, storing}
-use Rattle.dvg_game.specs.Machine.{State, Choice, does, step, word_at, is_driver, interrupted, goes_home, resumed_at}
-use Rattle.dvg_game.specs.Machine.{returned, driven, called, of_register, nmi_vector}
+use Rattle.dvg_game.specs.Machine.{State, Choice, does, word_at, is_driver, goes_home, resumed_at}
+use Rattle.dvg_game.specs.Machine.{returned, driven, called, of_register}
 use Rattle.dvg_game.specs.Alike.{of_cpu, AreAlike, IsOwn, StepsAlike, InterruptsAlike}
 use Rattle.dvg_game.proofs.Local.{ticked}
 

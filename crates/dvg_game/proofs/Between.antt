@@ -10,8 +10,7 @@ use Rattle.dvg_game.specs.Machine.{address, word_at, resumed_at, goes_home, retu
 use Rattle.dvg_game.specs.Checker.{is_free, is_output}
 use Rattle.dvg_game.specs.Safe.{MayWrite, IsSafeBy}
 use Rattle.dvg_game.specs.Between.{is_drivers, LeavesAlone}
-use Rattle.dvg_game.proofs.Facts.{both_true}
-use Rattle.dvg_game.proofs.Memory.{output_place, other, either, between}
+use Rattle.dvg_game.proofs.Memory.{output_place, other, either, between, own_apart as own_low}
 use Rattle.dvg_game.proofs.Local.{ticked, free_not_own, operand_not_own}
 use Rattle.dvg_game.proofs.Whole.{checked_is_safe}
 
@@ -28,10 +27,6 @@ either_of b is = one (either (is_own b) _ is)
         → (is_own b ≡ true) ⊎ ((0x2000 ≤ b) × ((b < 0x3200) ⊎ (0x4000 ≤ b)))
     one (inl own) = inl own
     one (inr more) = two (either (nat_le 0x2000 b && nat_lt b 0x3200) _ more)
-
-own_low : (b : ℕ) → is_own b ≡ true → b < 0x100
-own_low b is = let page = (both_true (nat_le 0x10 b && nat_lt b 0x21) _ is).0 in
-    let high = (between 0x10 0x21 b page).1 in omega (arith, high)
 
 off_stack : (b s : ℕ) → is_drivers b ≡ true → b ≡ stack_place s → ⊥
 off_stack b s is same = one (either_of b is)

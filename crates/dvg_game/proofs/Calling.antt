@@ -13,6 +13,7 @@ use Rattle.dvg_game.proofs.Facts.{placed, both_true, not_true, same, leading}
 use Rattle.dvg_game.proofs.Standing.{Fresh, fresh_less, Stands, Below, Runs, Handles, low, keeps}
 use Rattle.dvg_game.proofs.Memory.{here, other, word_pushed, above_pushed, left_stack}
 use Rattle.dvg_game.proofs.Saved.{holds_less, saved_less}
+pub use Rattle.std.proofs.lemmas.Bool.{or_right}
 
 -- a level at which a call is open
 pub record Opened (notes : Notes) (w : Bool) (mem : ℕ → ℕ) (top : ℕ) (backs : List ℕ) : Type 0 where
@@ -170,13 +171,9 @@ calls notes st to runs two begins goes_on =
       blank = λ is. first.blank (runs.blank is);
     }
 
-or_more : (t u v : Bool) → (u ≡ true → v ≡ true) → (t || u) ≡ true → (t || v) ≡ true
+pub or_more : (t u v : Bool) → (u ≡ true → v ≡ true) → (t || u) ≡ true → (t || v) ≡ true
 or_more true u v up is = refl
 or_more false u v up is = up is
-
-pub or_right : (t u : Bool) → u ≡ true → (t || u) ≡ true
-or_right true u is = refl
-or_right false u is = is
 
 -- a call of the driver, before it returns
 unfoldable pub drives : (notes : Notes) (st : State) (to : ℕ) (choice : Choice) (stands : Stands notes st st.pc st.s)

@@ -2,22 +2,14 @@
 use Rattle.std.proofs.Common.{◌≡◌, ℕ, zero, suc, ◌<◌, ◌≤◌, ◌+◌, Bool, true, false, refl, sym, ap, subst, arith}
 use Rattle.std.proofs.Common.{eqb-true, leb-true}
 use Rattle.std.proofs.lemmas.Bool.{eqb-false}
-use Rattle.std.specs.Prelude.{if◌then◌else◌, nat_eq, nat_le, nat_lt, ◌&&◌, not, Option, None, Some}
+use Rattle.std.specs.Prelude.{if◌then◌else◌, nat_eq, nat_le, nat_lt, ◌&&◌, Option, None, Some}
 use Rattle.dvg_game.specs.Checker.{Level, Main, Sub, Nmi, Note, Notes, same_level, all_under, implies, suits, leads}
 use Rattle.dvg_game.specs.Checker.{noted, first, places, is_code, all_serve, serve}
-
-pub both_true : (t u : Bool) → (t && u) ≡ true → (t ≡ true) × (u ≡ true)
-both_true true true is = (refl, refl)
-both_true true false is = absurd (cc)
-both_true false u is = absurd (cc)
+pub use Rattle.std.proofs.lemmas.Bool.{and_parts as both_true, not-true as not_true}
 
 pub else_true : (t u v : Bool) → t ≡ false → (if t then u else v) ≡ true → v ≡ true
 else_true true u v is fine = absurd (cc)
 else_true false u v is fine = fine
-
-pub not_true : (t : Bool) → not t ≡ true → t ≡ false
-not_true true is = absurd (cc)
-not_true false is = refl
 
 pub implied : (t u : Bool) → implies t u ≡ true → t ≡ true → u ≡ true
 implied true true is h = refl

@@ -6,6 +6,8 @@ pub mod Memory
 pub mod Local
 pub mod Calling
 pub mod Stepping
+pub mod Handling
+pub mod Safety
 pub mod Whole
 pub mod Between
 pub mod Alike

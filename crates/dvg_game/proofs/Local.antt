@@ -6,7 +6,7 @@ use Rattle.std.specs.Prelude.{nat_le, nat_lt, ◌&&◌, ◌||◌, not, if◌then
 use Rattle.dvg_6502.specs.Processor.{A, Register, X, Y, put, stack_place, target}
 use Rattle.dvg_game.specs.Kinds.{Sets, Nothing, Only, Quiet, Reads, Transfer, Stores, Push, PushFlags, Pull}
 use Rattle.dvg_game.specs.Kinds.{PullFlags, Branch, Place, size}
-use Rattle.dvg_game.specs.Machine.{State, IsLoaded, Came, Choice, does, address, word_at, is_own, is_operand}
+use Rattle.dvg_game.specs.Machine.{setting, State, IsLoaded, Came, Choice, does, address, word_at, is_own, is_operand}
 use Rattle.dvg_game.specs.Checker.{Level, Main, Sub, Nmi, Note, Notes, Slot, Any, Held, set, holding, of_held, newest}
 use Rattle.dvg_game.specs.Checker.{pushing, pulling, fine_by, leads, may_write, of_reached, is_free, is_output}
 use Rattle.dvg_game.specs.Checker.{is_strobe}
@@ -16,6 +16,7 @@ use Rattle.dvg_game.proofs.Memory.{output_place, IsAside, aside, may_apart, othe
 use Rattle.dvg_game.proofs.Memory.{here}
 use Rattle.dvg_game.proofs.Saved.{Fits, Holds, Saved, saved_kept, set_holds, transfer_holds, pushed_saved}
 use Rattle.dvg_game.proofs.Saved.{pulled_saved, pulled_fits}
+use Rattle.std.proofs.lemmas.Bool.{and_from as both}
 
 -- an instruction was counted
 abbrev pub ticked : State → State
@@ -70,11 +71,6 @@ not_own Sub a out may = one (either (is_free a) _ may)
     one (inr operand) = operand_not_own a operand
 not_own Nmi a out may = free_not_own a may
 
-both : (t u : Bool) → t ≡ true → u ≡ true → (t && u) ≡ true
-both true true one two = refl
-both true false one two = absurd (cc)
-both false u one two = absurd (cc)
-
 module _ (notes : Notes) (rom : ℕ → ℕ) (choice : Choice) (st : State) (now : Note)
     (loaded : IsLoaded rom st.mem) (in_rom : IsInside st.pc)
     (top : st.s + now.depth ≤ 255) (room : now.room ≤ st.s) where
@@ -115,32 +111,25 @@ module _ (notes : Notes) (rom : ℕ → ℕ) (choice : Choice) (st : State) (now
     kept = λ k above high. ap (λ m. m (stack_place k)) mem;
   }
 
+  sets_moves : (sets : Sets) (to : ℕ) → leads notes to (record now { held = set sets now.held }) ≡ true
+      → Moves notes now st (record (setting sets choice (ticked st)) { pc = to })
+  sets_moves Nothing to fine = goes_with now.held _ (leading notes to now fine)
+      refl refl refl refl refl refl refl refl (λ came is. is)
+  sets_moves (Only A) to fine = goes_with (set (Only A) now.held) _ (leading notes to _ fine)
+      refl refl refl refl refl refl refl refl (λ came is. set_holds (Only A) now.held came choice st is)
+  sets_moves (Only X) to fine = goes_with (set (Only X) now.held) _ (leading notes to _ fine)
+      refl refl refl refl refl refl refl refl (λ came is. set_holds (Only X) now.held came choice st is)
+  sets_moves (Only Y) to fine = goes_with (set (Only Y) now.held) _ (leading notes to _ fine)
+      refl refl refl refl refl refl refl refl (λ came is. set_holds (Only Y) now.held came choice st is)
+
   pub quiet_moves : (sets : Sets) (bytes : ℕ) → fine_by (Quiet sets bytes) notes rom st.pc now ≡ true
       → Moves notes now st (does (Quiet sets bytes) choice (ticked st))
-  quiet_moves Nothing bytes fine = goes_with now.held _ (leading notes
-      (st.pc + bytes) now fine) refl refl refl refl refl refl refl refl
-      (λ came is. is)
-  quiet_moves (Only A) bytes fine = goes_with (set (Only A) now.held) _ (leading notes (st.pc + bytes) _ fine)
-      refl refl refl refl refl refl refl refl (λ came is. set_holds (Only A) now.held came choice st is)
-  quiet_moves (Only X) bytes fine = goes_with (set (Only X) now.held) _ (leading notes (st.pc + bytes) _ fine)
-      refl refl refl refl refl refl refl refl (λ came is. set_holds (Only X) now.held came choice st is)
-  quiet_moves (Only Y) bytes fine = goes_with (set (Only Y) now.held) _ (leading notes (st.pc + bytes) _ fine)
-      refl refl refl refl refl refl refl refl (λ came is. set_holds (Only Y) now.held came choice st is)
+  quiet_moves sets bytes fine = sets_moves sets (st.pc + bytes) fine
 
   pub reads_moves : (sets : Sets) (place : Place) → fine_by (Reads sets place) notes rom st.pc now ≡ true
       → Moves notes now st (does (Reads sets place) choice (ticked st))
-  reads_moves sets place fine = by sets (both_true (of_reached place rom st.pc (λ a. not (is_strobe a))) _ fine).1
-    where
-      by : (sets : Sets) → leads notes (st.pc + size place) (record now { held = set sets now.held }) ≡ true
-          → Moves notes now st (does (Reads sets place) choice (ticked st))
-      by Nothing fine = goes_with now.held _ (leading notes (st.pc + size place) now fine)
-          refl refl refl refl refl refl refl refl (λ came is. is)
-      by (Only A) fine = goes_with (set (Only A) now.held) _ (leading notes (st.pc + size place) _ fine)
-          refl refl refl refl refl refl refl refl (λ came is. set_holds (Only A) now.held came choice st is)
-      by (Only X) fine = goes_with (set (Only X) now.held) _ (leading notes (st.pc + size place) _ fine)
-          refl refl refl refl refl refl refl refl (λ came is. set_holds (Only X) now.held came choice st is)
-      by (Only Y) fine = goes_with (set (Only Y) now.held) _ (leading notes (st.pc + size place) _ fine)
-          refl refl refl refl refl refl refl refl (λ came is. set_holds (Only Y) now.held came choice st is)
+  reads_moves sets place fine = sets_moves sets (st.pc + size place)
+      (both_true (of_reached place rom st.pc (λ a. not (is_strobe a))) _ fine).1
 
   pub transfer_moves : (from to : Register) → fine_by (Transfer from to) notes rom st.pc now ≡ true
       → Moves notes now st (does (Transfer from to) choice (ticked st))

@@ -8,6 +8,7 @@ use Rattle.dvg_game.specs.Machine.{pushed, word_at, is_own, is_operand, left_by,
 use Rattle.dvg_game.specs.Kinds.{Place, ZeroPage, ZeroPageIndexed, Absolute, AbsoluteIndexed}
 use Rattle.dvg_game.specs.Checker.{Level, Main, Sub, Nmi, is_free, is_output, may_write, of_reached}
 use Rattle.dvg_game.proofs.Facts.{both_true, under}
+pub use Rattle.std.proofs.lemmas.Bool.{or_cases as either}
 
 pub other : (a byte : ℕ) (mem : ℕ → ℕ) (b : ℕ) → (b ≡ a → ⊥) → put a byte mem b ≡ mem b
 other a byte mem b apart = by (nat_eq b a) refl
@@ -32,10 +33,6 @@ pub aside : (a : ℕ) → IsApart a → IsAside a
 aside a (inl less) = record { stack = λ k small is. omega arith; rom = λ b high is. omega arith }
 aside a (inr two) = let low = two.0 in let high = two.1 in
     record { stack = λ k small is. omega arith; rom = λ b above is. omega arith }
-
-pub either : (t u : Bool) → (t || u) ≡ true → (t ≡ true) ⊎ (u ≡ true)
-either true u is = inl refl
-either false u is = inr is
 
 pub between : (low high a : ℕ) → (nat_le low a && nat_lt a high) ≡ true → (low ≤ a) × (a < high)
 between low high a is = let two = both_true (nat_le low a) (nat_lt a high) is in
@@ -98,7 +95,7 @@ free_apart a is = one (either (nat_lt a 0x10) _ is)
 operand_apart : (a : ℕ) → is_operand a ≡ true → a < 0x100
 operand_apart a is = let two = between 0x1B 0x1F a is in let high = two.1 in omega arith
 
-own_apart : (a : ℕ) → is_own a ≡ true → a < 0x100
+pub own_apart : (a : ℕ) → is_own a ≡ true → a < 0x100
 own_apart a is = let page = (both_true (nat_le 0x10 a && nat_lt a 0x21) _ is).0 in
     let high = (between 0x10 0x21 a page).1 in omega arith
 

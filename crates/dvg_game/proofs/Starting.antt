@@ -5,7 +5,7 @@ use Rattle.std.proofs.Common.{eqb-true}
 use Rattle.std.specs.Prelude.{if◌then◌else◌, nat_eq, ◌&&◌, ◌||◌, not}
 use Rattle.dvg_6502.specs.Code.{code}
 use Rattle.dvg_6502.specs.Processor
-use Rattle.dvg_6502.specs.Processor.{Cpu, A, X, Y, put, decoded, opcodes}
+use Rattle.dvg_6502.specs.Processor.{Cpu, A, X, Y, decoded, opcodes}
 use Rattle.dvg_game.specs.Kinds.{Sets, Nothing, Only, Place, ZeroPage, ZeroPageIndexed, Absolute, AbsoluteIndexed, size}
 use Rattle.dvg_game.specs.Kinds.{Kind, Quiet, Reads, Transfer, Stores, Push, PushFlags, Pull, PullFlags, Branch, Jump}
 use Rattle.dvg_game.specs.Kinds.{Call}

@@ -16,6 +16,7 @@ use Rattle.dvg_machine.specs.Machine.{Machine, drives_cpu}
 use Rattle.dvg_machine.specs.Cycles.{Drive, Two, resetting, first_bus, second_bus, cycle_of}
 use Rattle.dvg_machine.specs.Steps.{AreServed}
 use Rattle.dvg_machine.specs.Played.{AreGiven, IsGiven, at_rest, older_after, cells_after, reset_bus}
+use Rattle.dvg_cpu.proofs.Bounds.{mux_in}
 
 -- bytes and bits of the board
 pub record BoardFits (board : Board) : Type 0 where
@@ -26,9 +27,6 @@ pub record BoardFits (board : Board) : Type 0 where
 if_in : (t : Bool) (a b n : ℕ) → a < n → b < n → (if t then a else b) < n
 if_in true a b n p q = p
 if_in false a b n p q = q
-
-mux_in : (s a b n : ℕ) → a < n → b < n → mux s a b < n
-mux_in s a b n p q = if_in (nat_eq s 0) b a n q p
 
 none_in : (a : ℕ) → none a < 2
 none_in a = if_in (nat_eq a 0) 1 0 2 (omega arith) (omega arith)

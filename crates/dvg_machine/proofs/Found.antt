@@ -1,13 +1,11 @@
 -- A read of the board's RAM finds what the call's memory has.
 use Rattle.std.proofs.Common.{◌≡◌, ℕ, zero, suc, ◌+◌, ◌/◌, ◌<◌, Bool, true, false, not, List, [], ◌∷◌, refl, sym, ap, ◌∙◌, subst, arith}
-use Rattle.std.specs.Prelude.{nat_eq, nat_le, nat_lt, ◌&&◌, ◌||◌, if◌then◌else◌}
-use Rattle.std.proofs.lemmas.Bool.{ne_eqb, eqb-true, eq-eqb}
-use Rattle.std.proofs.Common.{le-leb}
+use Rattle.std.specs.Prelude.{nat_eq, ◌&&◌, ◌||◌, if◌then◌else◌}
+use Rattle.std.proofs.lemmas.Bool.{ne_eqb, eqb-true, eq-eqb, or_left as or_first, or_right as or_last}
 use Rattle.dvg_6502.specs.Processor.{Cpu, found, flag_place}
 use Rattle.dvg_6502.specs.Processor.{turn, stack_place}
 use Rattle.dvg_6502.specs.Amid.{amid, changed, AreHarmless, Guard, guards, is_kept, is_work, is_code}
 use Rattle.dvg_6502.specs.Board.{is_hardware, is_ram, is_own}
-use Rattle.dvg_6502.specs.Calls
 use Rattle.dvg_6502.specs.Calls.{Call, IsSession, is_table}
 use Rattle.dvg_core.specs.Cells.{bit, mux, none, part, joined, both, either, eq}
 use Rattle.dvg_board.specs.Board.{Board, Bus, q}
@@ -20,6 +18,7 @@ use Rattle.dvg_machine.specs.Cycles.{Two, first_bus, second_bus, cycle_of, cycle
 use Rattle.dvg_machine.specs.Steps.{now}
 use Rattle.dvg_machine.specs.Played.{AreGiven, AreFound, in_board, at_rest}
 use Rattle.dvg_machine.proofs.Fits.{AllFit, cycle_fits, first_is}
+use Rattle.dvg_system.proofs.Ram.{in_ram as ram_place}
 
 both_none : (x : ℕ) → both x 0 ≡ 0
 both_none x = by (nat_eq x 0)
@@ -107,19 +106,6 @@ harmless_at guard s (suc n) others from harmless b is =
     let e : suc n + 1 ≡ suc (n + 1) = omega arith in
     let rest : AreHarmless guard s others (suc (n + 1)) from = subst (λ k. AreHarmless guard s others k from) e harmless in
     harmless_at guard s n (λ k. others (suc k)) (turn s (changed (others 0) from)) rest.1 b is
-
-or_last : (x y : Bool) → y ≡ true → (x || y) ≡ true
-or_last true y e = refl
-or_last false y e = e
-
-or_first : (x y : Bool) → x ≡ true → (x || y) ≡ true
-or_first x y e = ap (λ t. t || y) e
-
-ram_place : (a : ℕ) → a < 2048 → is_ram (0x4000 + a) ≡ true
-ram_place a less =
-    let low : nat_le 0x4000 (0x4000 + a) ≡ true = le-leb 0x4000 (0x4000 + a) (omega arith) in
-    let high : nat_lt (0x4000 + a) 0x4800 ≡ true = le-leb (suc (0x4000 + a)) 0x4800 (omega arith) in
-    ap (λ t. t && nat_lt (0x4000 + a) 0x4800) low ∙ high
 
 -- the RAM of the board is what the call finds there
 pub now_has : (held : ℕ → ℕ) (call : Call) (calls : List Call) (older : List Bus) → HaveRam (call ∷ calls) (after held older)

@@ -1,7 +1,6 @@
 -- A cycle more, and an instruction more.
-use Rattle.std.proofs.Common.{◌≡◌, ℕ, zero, suc, ◌+◌, ◌-◌, ◌*◌, ◌<◌, Bool, true, false, not, List, [], ◌∷◌, length, refl, ap, arith}
+use Rattle.std.proofs.Common.{◌≡◌, ℕ, zero, suc, ◌-◌, ◌<◌, Bool, true, false, not, List, [], ◌∷◌, length, refl, ap}
 use Rattle.std.specs.Prelude.{nat_eq, ◌&&◌, ◌||◌, if◌then◌else◌, slice_index}
-use Rattle.std.specs.List.{AllByRecursion}
 use Rattle.std.proofs.lemmas.List.Elements.{recursion_from_All}
 use Rattle.dvg_mem.specs.Memory.{IsRom}
 use Rattle.dvg_6502.specs.Processor.{Cpu, found, flag_place}
@@ -14,9 +13,10 @@ use Rattle.dvg_cpu.specs.Refines.{Where, cycles}
 use Rattle.dvg_machine.specs.Machine.{Machine}
 use Rattle.dvg_machine.specs.Cycles.{Two, begins, between, next, cycle_of, second_bus}
 use Rattle.dvg_machine.specs.Steps.{now, instr_of}
-use Rattle.dvg_machine.specs.Played.{IsPlayed, IsPlaced, IsGiven, AreGiven, AreFound, at_rest, in_board, powers, alone, tests}
+use Rattle.dvg_machine.specs.Played.{IsPlayed, IsGiven, AreGiven, AreFound, at_rest, in_board, powers, alone, tests}
 use Rattle.dvg_machine.specs.Played.{resets, begins_call, inside}
 use Rattle.dvg_machine.specs.GoesOn.{cycle_for, cycles_for, answers_itself, BoardAnswers, CellsGoOn, CallGoesOn}
+use Rattle.dvg_system.proofs.Waiting.{below}
 
 rom_of : {R image : List ℕ} {held : ℕ → ℕ} {calls : List Call} {older : List Bus} {cells : Cells}
     → IsPlayed R image held calls older cells → IsRom R
@@ -26,11 +26,6 @@ rom_of (tests list on given quiet) = rom_of on
 rom_of (resets drive on nmi rom m served) = rom_of on
 rom_of (begins_call routine from others on rests session checked shares) = rom_of on
 rom_of (inside list on session does) = rom_of on
-
-below : (bytes : List ℕ) → AllByRecursion (λ byte. byte < 256) bytes → (i : ℕ) → slice_index bytes i < 256
-below [] s i = omega arith
-below (byte ∷ bytes) s zero = s.0
-below (byte ∷ bytes) s (suc i) = below bytes s.1 i
 
 module _ (R : List ℕ) (is_rom : IsRom R) (nmi hold : ℕ) (nmi_in : nmi < 2) where
   rom_byte : (i : ℕ) → slice_index R i < 256

@@ -1,9 +1,8 @@
 -- Accesses that the definition of the driver's calls doesn't see, and those that it sees.
-use Rattle.std.proofs.Common.{◌≡◌, ℕ, ◌<◌, ◌≤◌, Bool, true, false, List, [], ◌∷◌, ◌++◌, refl, ap, ◌∙◌, subst, arith, inl, inr}
+use Rattle.std.proofs.Common.{◌≡◌, ℕ, ◌<◌, ◌≤◌, Bool, true, false, List, [], ◌∷◌, refl, ap, ◌∙◌, arith, inl, inr}
 use Rattle.std.specs.Prelude.{◌⊎◌, nat_eq, nat_le, nat_lt, ◌&&◌, ◌||◌, if◌then◌else◌}
 use Rattle.std.proofs.Common.{le-leb}
-use Rattle.std.proofs.lemmas.Bool.{ne_eqb, or_parts, cases_lt, lt-leb}
-use Rattle.std.proofs.lemmas.Bool.Decides.{eqb_tells}
+use Rattle.std.proofs.lemmas.Bool.{ne_eqb, cases_lt, lt-leb}
 use Rattle.dvg_6502.specs.Processor.{Access, Reads, Writes, flag_place, Cpu, Mode, Immediate, ZeroPage, ZeroPageX, ZeroPageY}
 use Rattle.dvg_6502.specs.Processor.{Absolute, AbsoluteX, AbsoluteY, IndexedIndirect, IndirectIndexed, Instr, Load, Store}
 use Rattle.dvg_6502.specs.Processor.{Transfer, And, Or, Xor, Add, Subtract, Compare, TestBits, Change, Step, ShiftAt, ShiftA}
@@ -14,21 +13,7 @@ use Rattle.dvg_cpu.specs.Refines.{after_opcode, fetched, got, naming}
 use Rattle.dvg_machine.specs.Cycles.{WriteAt, AreQuiet}
 use Rattle.dvg_machine.proofs.Quiet.{write_append}
 use Rattle.dvg_machine.proofs.Few.{AreLow}
-
-pub seen_more : (l r : List Access) → seen (l ++ r) ≡ seen l ++ seen r
-seen_more [] r = refl
-seen_more (Reads a byte ∷ l) r = by (is_hardware a) (seen_more l r)
-  where
-    by : (b : Bool) → seen (l ++ r) ≡ seen l ++ seen r → (if b then Reads a byte ∷ seen (l ++ r) else seen (l ++ r))
-        ≡ (if b then Reads a byte ∷ seen l else seen l) ++ seen r
-    by true e = ap (λ k. Reads a byte ∷ k) e
-    by false e = e
-seen_more (Writes a byte ∷ l) r = by (nat_le 0x200 a) (seen_more l r)
-  where
-    by : (b : Bool) → seen (l ++ r) ≡ seen l ++ seen r → (if b then Writes a byte ∷ seen (l ++ r) else seen (l ++ r))
-        ≡ (if b then Writes a byte ∷ seen l else seen l) ++ seen r
-    by true e = ap (λ k. Writes a byte ∷ k) e
-    by false e = e
+pub use Rattle.dvg_6502.proofs.Growing.{seen_append as seen_more}
 
 abbrev IsUnseen : Access → Type 0
 IsUnseen (Reads a byte) = is_hardware a ≡ false

@@ -28,6 +28,7 @@ use Rattle.dvg_machine.proofs.Few.{AreFew, few}
 use Rattle.dvg_machine.proofs.Quiet.{Quietly, write_both, write_append, made_more, quietly, quiet_cycle}
 use Rattle.dvg_machine.proofs.Seen.{AreUnseen, IsSeen, either_way, fetched_quiet, low_unseen, seen_more, seen_one, unseen}
 use Rattle.dvg_machine.proofs.Seen.{unseen_quiet}
+use Rattle.std.proofs.lemmas.Bool.{or_right as or_more}
 
 -- a step more of a call
 amid_one : (n s : ℕ) (others : ℕ → ℕ → ℕ) (cpu : Cpu)
@@ -41,10 +42,6 @@ amid_one (suc n) s others cpu =
 and_no : (b : Bool) → (b && false) ≡ false
 and_no true = refl
 and_no false = refl
-
-or_more : (x y : Bool) → y ≡ true → (x || y) ≡ true
-or_more true y e = refl
-or_more false y e = e
 
 ram_bit : (a : ℕ) → a < 65536 → is_ram a ≡ true → nat_eq (part 11 5 a) 8 ≡ true
 ram_bit a less e = elim (leb_tells 0x4000 a) [

@@ -1,11 +1,11 @@
 -- The examples are computed.
-use Rattle.std.proofs.Common.{◌≡◌, ℕ, zero, suc, ◌<◌, Bool, true, false, List, [], ◌∷◌, refl, arith}
+use Rattle.std.proofs.Common.{ℕ, zero, suc, ◌<◌, Bool, true, false, List, [], ◌∷◌, refl, arith}
 use Rattle.std.specs.Prelude.{nat_eq, if◌then◌else◌, All}
 use Rattle.std.proofs.lemmas.List.Elements.{All-cons, All-nil}
 use Rattle.dvg_motion.specs.Machine.{IsBus, AreBytes}
 use Rattle.dvg_motion.specs.Times.{AtOnce}
 use Rattle.dvg_motion.specs.Vectors.{Bus}
-use Rattle.dvg_motion.specs.Example.{some_held, idle, strobe, and_ticks, some_clocks, SomeMotion, halt_held, started, SomePicture}
+use Rattle.dvg_motion.specs.Example.{some_held, idle, strobe, and_ticks, SomeMotion, halt_held, started, SomePicture}
 
 bytes : AreBytes some_held
 bytes a = by (nat_eq a 3)

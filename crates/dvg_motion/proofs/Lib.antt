@@ -5,6 +5,7 @@ pub mod Machine
 pub mod Timing
 pub mod Wiring
 pub mod Spends
+pub mod TickSums
 pub mod Pictures
 pub mod Halts
 pub mod Resets

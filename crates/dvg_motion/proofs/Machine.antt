@@ -1,22 +1,20 @@
 -- The whole machine, clock by clock.
-use Rattle.std.proofs.Common.{◌≡◌, ℕ, zero, suc, ◌+◌, ◌-◌, ◌*◌, ◌/◌, ◌%◌, ◌^◌, ◌<◌, ◌≤◌, Bool, true, false, ℤ, pos, negsuc, ◌*ℤ◌}
-use Rattle.std.proofs.Common.{List, [], ◌∷◌, ◌++◌, Option, Some, None, refl, sym, ap, ◌∙◌, subst, arith, append-nil, cond, ltb, inl, inr, eqb-true}
-use Rattle.std.specs.Prelude.{nat_eq, nat_lt, if◌then◌else◌, All, not, ◌⊎◌}
-use Rattle.std.proofs.lemmas.Bool.{cases_lt, ltb-true, ltb-false, lt-ltb, ne_eqb, eq-eqb}
-use Rattle.std.proofs.lemmas.List.Elements.{All-cons}
-use Rattle.dvg_code.specs.Fields.{signed}
+use Rattle.std.proofs.Common.{◌≡◌, ℕ, zero, suc, ◌+◌, ◌-◌, ◌*◌, ◌<◌, ◌≤◌, Bool, true, false}
+use Rattle.std.proofs.Common.{List, [], ◌∷◌, ◌++◌, Option, None, refl, sym, ap, ◌∙◌, subst, arith, ltb, inl, inr, eqb-true}
+use Rattle.std.specs.Prelude.{nat_eq, not, ◌⊎◌}
+use Rattle.std.proofs.lemmas.Bool.{cases_lt, lt-ltb, ne_eqb, eq-eqb}
 use Rattle.dvg_gen.specs.declared.counters.Counters.{Counters}
 use Rattle.dvg_gen.specs.declared.moving.Move.{Move}
 use Rattle.dvg_gen.specs.Counting
-use Rattle.dvg_gen.specs.Counting.{stepped, followed, followed_all}
+use Rattle.dvg_gen.specs.Counting.{followed, followed_all}
 use Rattle.dvg_gen.specs.Drawing.{unit}
 use Rattle.dvg_gen.specs.Told.{Told, Newest, Leaves, Start, Reset, starts, resets}
 use Rattle.dvg_gen.specs.Told as told
 use Rattle.dvg_gen.proofs.Same.{leaves_same}
-use Rattle.dvg_core.specs.Cells.{part, both, none, bit, mux, ne, eq, lt}
+use Rattle.dvg_core.specs.Cells.{part, both, none, bit, mux, eq, lt}
 use Rattle.dvg_core.specs.Core.{Core, labs, vec}
 use Rattle.dvg_core.specs.Core as core
-use Rattle.dvg_core.specs.Refines.{ArePins, Tells, idles, ignores, fetches, drew}
+use Rattle.dvg_core.specs.Refines.{Tells, idles, ignores, fetches, drew}
 use Rattle.dvg_gen.specs.Bytes.{Met}
 use Rattle.dvg_core.specs.Refines as refines
 use Rattle.dvg_core.proofs.Machines.{machine_of}
@@ -24,7 +22,7 @@ use Rattle.dvg_core.proofs.Whole.{Stands, stand_next, agrees_of, one}
 use Rattle.dvg_gen.proofs.Standing.{stands_new}
 use Rattle.dvg_motion.specs.Motion.{Motion, going}
 use Rattle.dvg_motion.specs.Motion as motion
-use Rattle.dvg_motion.specs.Pace.{Pace, hold, steps, places}
+use Rattle.dvg_motion.specs.Pace.{hold, places}
 use Rattle.dvg_motion.specs.Pace as pace
 use Rattle.dvg_motion.specs.Pulses
 use Rattle.dvg_motion.specs.Pulses.{led, pulses, counters_of, time, within}
@@ -83,6 +81,14 @@ settle core beside want fx fy last rx ry bx by z n placing ready is within small
 pub both_none : (a : ℕ) → both a 0 ≡ 0
 both_none zero = refl
 both_none (suc a) = rw (ne_eqb (suc a) 0 (λ e. absurd (omega arith))) refl
+
+pub both_one : (a : ℕ) → both a 1 ≡ 0 → a ≡ 0
+both_one zero is = refl
+both_one (suc a) is = let never : both (suc a) 1 ≡ 1 = rw (ne_eqb (suc a) 0 (λ e. absurd (omega arith))) refl in absurd (omega arith)
+
+pub zero_or : (a : ℕ) → (a ≡ 0) ⊎ (0 < a)
+zero_or zero = inl refl
+zero_or (suc a) = inr (omega arith)
 
 pub mux_same : (s a : ℕ) → mux s a a ≡ a
 mux_same zero a = refl

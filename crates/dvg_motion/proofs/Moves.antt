@@ -1,19 +1,18 @@
 -- A vector of the motion, clock by clock.
-use Rattle.std.proofs.Common.{◌≡◌, ℕ, zero, suc, ◌+◌, ◌-◌, ◌*◌, ◌/◌, ◌%◌, ◌^◌, ◌<◌, ◌≤◌, Bool, true, false, ℤ, pos, negsuc}
-use Rattle.std.proofs.Common.{◌*ℤ◌, neg_ℤ, List, [], ◌∷◌, refl, sym, ap, ◌∙◌, subst, arith, cond, ltb, leb}
-use Rattle.std.specs.Prelude.{nat_eq, nat_lt, if◌then◌else◌, All, not}
-use Rattle.std.proofs.lemmas.Bool.{ltb-true, ltb-false, leb-true, leb-false, eqb-true, eqb-false, ne_eqb, eq-eqb, lt-ltb, le-ltb, le-leb, lt-leb}
+use Rattle.std.proofs.Common.{◌≡◌, ℕ, zero, suc, ◌+◌, ◌-◌, ◌*◌, ◌%◌, ◌^◌, ◌<◌, ◌≤◌, Bool, true, false, pos}
+use Rattle.std.proofs.Common.{◌*ℤ◌, neg_ℤ, List, [], ◌∷◌, refl, sym, ap, ◌∙◌, arith, cond, ltb, leb}
+use Rattle.std.specs.Prelude.{nat_eq, nat_le, All, not}
+use Rattle.std.proofs.lemmas.Bool.{agree_below_at, ltb-true, ltb-false, leb-true, eqb-true, ne_eqb, eq-eqb, lt-ltb, le-ltb}
 use Rattle.std.proofs.lemmas.List.Elements.{All-head, All-tail}
 use Rattle.std.proofs.Math.Dec.{eqb}
 use Rattle.dvg_code.specs.Fields.{signed}
 use Rattle.dvg_gen.specs.declared.counters.Counters.{Counters}
-use Rattle.dvg_gen.specs.Counting.{whole, rounded, counted, stepped, followed_all}
+use Rattle.dvg_gen.specs.Counting.{whole, rounded, counted, stepped}
 use Rattle.dvg_gen.specs.Drawing.{unit}
 use Rattle.dvg_code.specs.declared.instr.Instr.TheVariants.{Vctr, Svec}
 use Rattle.dvg_gen.proofs.Counted.{counted_step}
-use Rattle.dvg_core.specs.Cells.{mux, part, bit, add, sub, shl, ne, both, some, none}
-use Rattle.dvg_motion.specs.Motion.{Motion, Pins, clock, going, dac_x, dac_y, lit, shown_z}
-use Rattle.dvg_motion.specs.Pulses
+use Rattle.dvg_core.specs.Cells.{mux, part, bit, add, sub, shl, both, some, none}
+use Rattle.dvg_motion.specs.Motion.{Motion, Pins, clock, going}
 use Rattle.dvg_motion.specs.Pulses.{pulse, pulses, led, IsQuiet, Tells, after, ticks, time, within, counters_of, Fits, moved}
 use Rattle.dvg_motion.specs.Pulses.{GoesByPulses, MovesRight, Shows, visible, FollowsVctr, FollowsSvec, Places}
 use Rattle.dvg_motion.proofs.Ticks.{pulses_are}
@@ -65,20 +64,6 @@ within_on n last less = by (ltb (suc n) last) refl
     by false e = let over = ltb-false (suc n) last e in omega arith
 
 module _ (from_x from_y last rate_x rate_y back_x back_y bright : ℕ) where
-  -- the motion at a count
-  abbrev pub state : ℕ → Motion
-  state n = record {
-    x = led from_x back_x (pulses rate_x n);
-    y = led from_y back_y (pulses rate_y n);
-    count = n;
-    last = last;
-    rate_x = rate_x;
-    rate_y = rate_y;
-    back_x = back_x;
-    back_y = back_y;
-    bright = bright;
-  }
-
   abbrev at_ : (x y count : ℕ) → Motion
   at_ x y count = record {
     x = x;
@@ -91,6 +76,10 @@ module _ (from_x from_y last rate_x rate_y back_x back_y bright : ℕ) where
     back_y = back_y;
     bright = bright;
   }
+
+  -- the motion at a count
+  abbrev pub state : ℕ → Motion
+  state n = at_ (led from_x back_x (pulses rate_x n)) (led from_y back_y (pulses rate_y n)) n
 
   alike : {x x' y y' c c' : ℕ} → x ≡ x' → y ≡ y' → c ≡ c' → at_ x y c ≡ at_ x' y' c'
   alike {x} {x'} {y} {y'} {c} {c'} p q r = ap (λ k. at_ k y c) p ∙ ap (λ k. at_ x' k c) q ∙ ap (λ k. at_ x' y' k) r
@@ -140,42 +129,10 @@ module _ (from_x from_y last rate_x rate_y back_x back_y bright : ℕ) where
       ∙ on_by (ltb (ticks clocks) last) (ticks clocks) pins (All-head IsQuiet pins clocks quiet) bx by small refl
 
 pub last_is : (sum : ℕ) → sum < 16 → shl 11 2 sum ≡ time sum
-last_is zero h = refl
-last_is (suc zero) h = refl
-last_is (suc (suc zero)) h = refl
-last_is (suc (suc (suc zero))) h = refl
-last_is (suc (suc (suc (suc zero)))) h = refl
-last_is (suc (suc (suc (suc (suc zero))))) h = refl
-last_is (suc (suc (suc (suc (suc (suc zero)))))) h = refl
-last_is (suc (suc (suc (suc (suc (suc (suc zero))))))) h = refl
-last_is (suc (suc (suc (suc (suc (suc (suc (suc zero)))))))) h = refl
-last_is (suc (suc (suc (suc (suc (suc (suc (suc (suc zero))))))))) h = refl
-last_is (suc (suc (suc (suc (suc (suc (suc (suc (suc (suc zero)))))))))) h = refl
-last_is (suc (suc (suc (suc (suc (suc (suc (suc (suc (suc (suc zero))))))))))) h = refl
-last_is (suc (suc (suc (suc (suc (suc (suc (suc (suc (suc (suc (suc zero)))))))))))) h = refl
-last_is (suc (suc (suc (suc (suc (suc (suc (suc (suc (suc (suc (suc (suc zero))))))))))))) h = refl
-last_is (suc (suc (suc (suc (suc (suc (suc (suc (suc (suc (suc (suc (suc (suc zero)))))))))))))) h = refl
-last_is (suc (suc (suc (suc (suc (suc (suc (suc (suc (suc (suc (suc (suc (suc (suc zero))))))))))))))) h = refl
-last_is (suc (suc (suc (suc (suc (suc (suc (suc (suc (suc (suc (suc (suc (suc (suc (suc n)))))))))))))))) h = absurd (omega arith)
+last_is sum h = eqb-true _ _ (agree_below_at (λ s. nat_eq (shl 11 2 s) (time s)) (λ s. true) 16 sum refl h)
 
 pub time_small : (sum : ℕ) → sum < 16 → time sum ≤ 1024
-time_small zero h = omega arith
-time_small (suc zero) h = omega arith
-time_small (suc (suc zero)) h = omega arith
-time_small (suc (suc (suc zero))) h = omega arith
-time_small (suc (suc (suc (suc zero)))) h = omega arith
-time_small (suc (suc (suc (suc (suc zero))))) h = omega arith
-time_small (suc (suc (suc (suc (suc (suc zero)))))) h = omega arith
-time_small (suc (suc (suc (suc (suc (suc (suc zero))))))) h = omega arith
-time_small (suc (suc (suc (suc (suc (suc (suc (suc zero)))))))) h = omega arith
-time_small (suc (suc (suc (suc (suc (suc (suc (suc (suc zero))))))))) h = omega arith
-time_small (suc (suc (suc (suc (suc (suc (suc (suc (suc (suc zero)))))))))) h = omega arith
-time_small (suc (suc (suc (suc (suc (suc (suc (suc (suc (suc (suc zero))))))))))) h = omega arith
-time_small (suc (suc (suc (suc (suc (suc (suc (suc (suc (suc (suc (suc zero)))))))))))) h = omega arith
-time_small (suc (suc (suc (suc (suc (suc (suc (suc (suc (suc (suc (suc (suc zero))))))))))))) h = omega arith
-time_small (suc (suc (suc (suc (suc (suc (suc (suc (suc (suc (suc (suc (suc (suc zero)))))))))))))) h = omega arith
-time_small (suc (suc (suc (suc (suc (suc (suc (suc (suc (suc (suc (suc (suc (suc (suc zero))))))))))))))) h = omega arith
-time_small (suc (suc (suc (suc (suc (suc (suc (suc (suc (suc (suc (suc (suc (suc (suc (suc n)))))))))))))))) h = absurd (omega arith)
+time_small sum h = leb-true _ _ (agree_below_at (λ s. nat_le (time s) 1024) (λ s. true) 16 sum refl h)
 
 started : (from sign : ℕ) → from < 4096 → from ≡ led from sign 0
 started from zero h = omega arith

@@ -1,6 +1,6 @@
 -- From a start to the next clock in which `halted` is high: each tick is one of the run's, or late.
 use Rattle.std.proofs.Common.{◌≡◌, ℕ, zero, suc, ◌+◌, ◌-◌, ◌<◌, ◌≤◌, Bool, true, false, List, [], ◌∷◌, ◌++◌, Option, Some, None, refl, sym, ap, ◌∙◌, subst, arith, inl, inr}
-use Rattle.std.specs.Prelude.{not, ◌⊎◌, IsSome}
+use Rattle.std.specs.Prelude.{◌⊎◌, IsSome}
 use Rattle.std.proofs.lemmas.Bool.{cases_lt, le-leb, ne_eqb}
 use Rattle.dvg_core.specs.Cells.{both, none, bit, mux, add, sub}
 use Rattle.dvg_core.specs.Core.{Core, vec, jsrl, ends}
@@ -14,7 +14,6 @@ use Rattle.dvg_gen.specs.Told.{Told, Newest, Leaves}
 use Rattle.dvg_gen.specs.Told as told
 use Rattle.dvg_motion.specs.Machine.{own_ticks, vector_ticks}
 use Rattle.dvg_motion.specs.Motion.{going}
-use Rattle.dvg_motion.specs.Motion as motion
 use Rattle.dvg_motion.specs.Pace.{hold}
 use Rattle.dvg_motion.specs.Pace as pace
 use Rattle.dvg_motion.specs.Times.{run_ticks}
@@ -22,6 +21,11 @@ use Rattle.dvg_motion.proofs.Machine.{unserved, in_start, both_none, mux_same, s
 use Rattle.dvg_motion.proofs.Spends.{given, cost, of_held, of_low, IsBroken, spends, unspent, finished_holds}
 use Rattle.dvg_motion.proofs.Tied.{Bus, Beside, driven, cores, core_after, after, AtRest, AreServed, ticks_of}
 use Rattle.dvg_motion.proofs.Timing.{Times, by_goes, gone_le, own_few, counted_on, down, none_more, ne_more, all_pins}
+use Rattle.dvg_motion.proofs.TickSums.{few_more, taken_sum, sum_on, owed_sum, still_sum, late_sum}
+use Rattle.dvg_motion.proofs.TickSums.{own_sum, go_sum, end_sum, begin_sum, finish_sum, add_one}
+use Rattle.dvg_motion.proofs.TickSums.{few_less, none_less, within, is_over, goes_less}
+pub use Rattle.dvg_motion.proofs.Machine.{both_one as both_is_zero}
+use Rattle.dvg_motion.proofs.Machine.{zero_or}
 
 -- the ticks until the next byte may be fetched
 abbrev owed : Beside → ℕ
@@ -52,72 +56,9 @@ ready_owes (suc r) rest e = rw (ne_eqb (suc r) 0 (λ e. absurd (omega arith))) r
 pub not_ready : (ready : ℕ) → none ready ≡ 0 → ready ≡ 0 → ⊥
 not_ready ready low off = let never : ◌≡◌ {A = ℕ} 1 0 = sym (ap none off) ∙ low in absurd (omega arith)
 
-zero_or : (n : ℕ) → (n ≡ 0) ⊎ (0 < n)
-zero_or zero = inl refl
-zero_or (suc n) = inr (omega arith)
-
 pub none_or : (n : ℕ) → (none n ≡ 0) ⊎ (n ≡ 0)
 none_or zero = inr refl
 none_or (suc n) = inl (none_more (suc n) (omega arith))
-
-pub both_is_zero : (a : ℕ) → both a 1 ≡ 0 → a ≡ 0
-both_is_zero zero is = refl
-both_is_zero (suc a) is = let never : both (suc a) 1 ≡ 1 = rw (ne_eqb (suc a) 0 (λ e. absurd (omega arith))) refl in absurd (omega arith)
-
--- sums of ticks
-few_more : (own : ℕ) → own ≤ 2 → own - 0 ≤ 2
-few_more own few = omega arith
-
-taken_sum : (t b o o' g g' l late own v : ℕ) → o ≡ 0 → late ≡ b → o' ≡ 1 + own + v → g' ≡ g + (1 + (own + v)) → t + o ≡ g + l → t + b + o' ≡ g' + (l + late)
-taken_sum t b o o' g g' l late own v none_owed is_late owes more before = omega arith
-
-sum_on : (t b o o' g g' l late : ℕ) → b + o' ≡ o + late → g' ≡ g → t + o ≡ g + l → t + b + o' ≡ g' + (l + late)
-sum_on t b o o' g g' l late change same before = omega arith
-
-owed_sum : (left last count own v base : ℕ) → left ≡ own - 0 → last ≡ base + v → count ≡ base → 1 + left + (last - count) ≡ 1 + own + v
-owed_sum left last count own v base left_is last_is count_is = omega arith
-
-still_sum : (b o o' late : ℕ) → b ≡ 0 → o' ≡ o → late ≡ 0 → b + o' ≡ o + late
-still_sum b o o' late none_now same none_late = omega arith
-
-late_sum : (b o late : ℕ) → o ≡ 0 → late ≡ b → b + 0 ≡ o + late
-late_sum b o late none_owed is_late = omega arith
-
-own_sum : (b o left left' last last' count count' late : ℕ) → b ≡ 1 → 0 < left → left' ≡ left - 1 → last' ≡ last → count' ≡ count → late ≡ 0
-    → o ≡ 1 + left + (last - count) → b + (1 + left' + (last' - count')) ≡ o + late
-own_sum b o left left' last last' count count' late one more less last_is count_is none_late owes = omega arith
-
-go_sum : (b o left left' last last' count count' late : ℕ) → b ≡ 1 → left ≡ 0 → left' ≡ left - 1 → last' ≡ last → count' ≡ count + 1 → count < last → late ≡ 0
-    → o ≡ 1 + left + (last - count) → b + (1 + left' + (last' - count')) ≡ o + late
-go_sum b o left left' last last' count count' late one none_left less last_is count_is more none_late owes = omega arith
-
-end_sum : (b o left last count late : ℕ) → b ≡ 1 → left ≡ 0 → count ≡ last → late ≡ 0 → o ≡ 1 + left + (last - count) → b + 0 ≡ o + late
-end_sum b o left last count late one none_left over none_late owes = omega arith
-
-begin_sum : (o left last count g : ℕ) → o ≡ 1 + left + (last - count) → left ≡ 1 → count ≡ last → g ≡ 2 → 0 + o ≡ g + 0
-begin_sum o left last count g owes left_is over gives = omega arith
-
-finish_sum : (n o left last count late r h w : ℕ) → o ≡ 1 + left + (last - count) → left ≡ 0 → count ≡ last → h ≡ 0 → w ≡ 0
-    → n + o ≡ 1 + r + h + w + late → n ≡ r + late
-finish_sum n o left last count late r h w owes none_left over no_word no_byte sum = omega arith
-
-add_one : (count last : ℕ) → count < last → last ≤ 1024 → add 11 count 1 ≡ count + 1
-add_one count last less small = omega arith
-
-few_less : (left left' : ℕ) → left ≤ 2 → left' ≡ left - 1 → left' ≤ 2
-few_less left left' few is = omega arith
-
-none_less : (left left' : ℕ) → left ≡ 0 → left' ≡ left - 1 → left' ≡ 0
-none_less left left' none_left is = omega arith
-
-within : (count count' last last' : ℕ) → count' ≡ count + 1 → last' ≡ last → count < last → count' ≤ last'
-within count count' last last' is last_is less = omega arith
-
-is_over : (count last base v : ℕ) → v ≡ 0 → last ≡ base + v → count ≡ base → count ≡ last
-is_over count last base v none_more last_is count_is = omega arith
-
-goes_less : (count last base v : ℕ) → 0 < v → last ≡ base + v → count ≡ base → count < last
-goes_less count last base v more last_is count_is = omega arith
 
 -- one clock more, without a reset and a start
 module _ (older : List Bus) (b : Bus) (are : AreServed (b ∷ older)) (reset : b.pins.reset ≡ 0) (start : b.pins.start ≡ 0) (t l : ℕ) (was : Progress older t l)
@@ -311,6 +252,12 @@ module _ (older : List Bus) (b : Bus) (are : AreServed (b ∷ older)) (reset : b
         few_next : next.pace.left ≤ 2
         few_next = few_less beside.pace.left next.pace.left was.few left_is
 
+        late_none : beside.pace.ready ≡ 0 → now_late ≡ 0
+        late_none off = ap (λ n. mux (none n) 0 b.tick) off
+
+        owed_before : beside.pace.ready ≡ 0 → owed beside ≡ 1 + beside.pace.left + (beside.motion.last - beside.motion.count)
+        owed_before off = ap (λ n. mux n 0 (1 + beside.pace.left + (beside.motion.last - beside.motion.count))) off
+
         -- nothing is left, and no vector goes: the next byte may be fetched
         rested : beside.pace.left ≡ 0 → beside.motion.count ≡ beside.motion.last → core.halted c ≡ 0
             → b.tick + 0 ≡ owed beside + now_late → Onward
@@ -348,11 +295,9 @@ module _ (older : List Bus) (b : Bus) (are : AreServed (b ∷ older)) (reset : b
             let same : next.motion.count ≡ beside.motion.count = count_is ∙ ap (λ n. mux (both (going beside.motion) (both 1 n)) (add 11 beside.motion.count 1) beside.motion.count) some_left
             ∙ ap (λ n. mux n (add 11 beside.motion.count 1) beside.motion.count) (both_none (going beside.motion)) in
             let off_next : next.pace.ready ≡ 0 = ready_is ∙ ap (λ n. both n (none (going beside.motion))) some_left in
-            let late_none : now_late ≡ 0 = ap (λ n. mux (none n) 0 b.tick) off in
-            let owed_before : owed beside ≡ 1 + beside.pace.left + (beside.motion.last - beside.motion.count) = ap (λ n. mux n 0 (1 + beside.pace.left + (beside.motion.last - beside.motion.count))) off in
             held_on off_next (moves_by same was.moves)
             (own_sum b.tick (owed beside) beside.pace.left next.pace.left beside.motion.last next.motion.last beside.motion.count next.motion.count now_late now_one more left_is
-            last_is same late_none owed_before)
+            last_is same (late_none off) (owed_before off))
           where
             moves_by : next.motion.count ≡ beside.motion.count → Moves beside → Moves next
             moves_by same (inl over) = inl (same ∙ over ∙ sym last_is)
@@ -367,10 +312,8 @@ module _ (older : List Bus) (b : Bus) (are : AreServed (b ∷ older)) (reset : b
         by_moves off none_left (inl over) =
             let opened : core.halted c ≡ 0 = both_is_zero (core.halted c) (both_is_zero (both (core.halted c) 1)
             (sym (ap (λ n. both (both (core.halted c) (none n)) (none (going beside.motion))) none_left ∙ ap (λ n. both (both (core.halted c) 1) (none n)) (going_of beside.motion over)) ∙ busy)) in
-            let late_none : now_late ≡ 0 = ap (λ n. mux (none n) 0 b.tick) off in
-            let owed_before : owed beside ≡ 1 + beside.pace.left + (beside.motion.last - beside.motion.count) = ap (λ n. mux n 0 (1 + beside.pace.left + (beside.motion.last - beside.motion.count))) off in
             rested none_left over opened
-            (end_sum b.tick (owed beside) beside.pace.left beside.motion.last beside.motion.count now_late now_one none_left over late_none owed_before)
+            (end_sum b.tick (owed beside) beside.pace.left beside.motion.last beside.motion.count now_late now_one none_left over (late_none off) (owed_before off))
         by_moves off none_left (inr goes) =
             let less = goes.0 in
             let small = goes.1 in
@@ -380,13 +323,11 @@ module _ (older : List Bus) (b : Bus) (are : AreServed (b ∷ older)) (reset : b
             ∙ ap (λ n. mux (both 1 (both 1 (none n))) (add 11 beside.motion.count 1) beside.motion.count) none_left
             ∙ add_one beside.motion.count beside.motion.last less small in
             let off_next : next.pace.ready ≡ 0 = ready_is ∙ ap (λ n. both (none beside.pace.left) (none n)) on ∙ both_none (none beside.pace.left) in
-            let late_none : now_late ≡ 0 = ap (λ n. mux (none n) 0 b.tick) off in
-            let owed_before : owed beside ≡ 1 + beside.pace.left + (beside.motion.last - beside.motion.count) = ap (λ n. mux n 0 (1 + beside.pace.left + (beside.motion.last - beside.motion.count))) off in
             held_on off_next
             (ended (cases_lt next.motion.count next.motion.last) (within beside.motion.count next.motion.count beside.motion.last next.motion.last steps last_is less)
             (subst (λ n. n ≤ 1024) (sym last_is) small))
             (go_sum b.tick (owed beside) beside.pace.left next.pace.left beside.motion.last next.motion.last beside.motion.count next.motion.count now_late now_one none_left left_is
-            last_is steps less late_none owed_before)
+            last_is steps less (late_none off) (owed_before off))
           where
             ended : (next.motion.count < next.motion.last) ⊎ (next.motion.last ≤ next.motion.count) → next.motion.count ≤ next.motion.last → next.motion.last ≤ 1024 → Moves next
             ended (inl more) within fits = inr (more, fits, placing_off)

@@ -19,6 +19,7 @@ use Rattle.dvg_motion.proofs.Tied as tied_clocks
 use Rattle.dvg_motion.proofs.Tied.{Beside, driven, core_after, IsIdle}
 use Rattle.dvg_motion.proofs.Timing.{Times, later_times, gone, gone_le, gone_ge, own_few, none_more, ne_more, ne_same, down, mux_more}
 use Rattle.dvg_motion.proofs.Wiring.{tied, tied_later, tied_both, beside_of, beside_is, wired, all_older, ticks_same, idle_all}
+use Rattle.dvg_board.proofs.Wires.{takes_none}
 
 -- a vector is over, or it goes, and no LABS waits
 abbrev Goes : Beside → Type 0
@@ -134,9 +135,6 @@ shown beside own t base k times = by (cases_lt k (own + t)) (cases_lt k own)
         let more : base + (k - own) < base + t = omega arith in
         shown_goes beside.pace.left beside.motion.count beside.motion.last
         (subst (λ n. n < beside.motion.last) (sym here) (subst (λ n. base + (k - own) < n) (sym times.last) more)) ∙ ap bit (sym (lt-leb (own + t) k less))
-
-takes_none : (pending reset starting : ℕ) → pending ≡ 0 → both (both pending (none reset)) (none starting) ≡ 0
-takes_none pending reset starting e = rw e refl
 
 asks_reset : (most reset starting pending on_ram : ℕ) → reset ≡ 1 → both (both most (none (either (either reset starting) pending))) on_ram ≡ 0
 asks_reset most reset starting pending on_ram e = rw e (rw (both_none most) refl)

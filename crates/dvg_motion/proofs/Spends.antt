@@ -9,8 +9,8 @@ use Rattle.dvg_code.proofs.Reading.{vctr_read, svec_read}
 use Rattle.dvg_code.proofs.Unique.{same_spelling, sign_is_bit}
 use Rattle.dvg_gen.specs.declared.beam.Beam.{Beam}
 use Rattle.dvg_gen.specs.Bytes.{Met, met}
-use Rattle.dvg_gen.specs.Run.{Visit, Fate, Goes, Finished, Breaks, Adds, first, one, two, fate, beam_after}
-use Rattle.dvg_gen.specs.Told.{Told, Newest, Leaves, new, starts, resets, meets_hole, takes, goes_on}
+use Rattle.dvg_gen.specs.Run.{Visit, Goes, Finished, Adds, first, one, two, fate, beam_after}
+use Rattle.dvg_gen.specs.Told.{Told, Newest, Leaves, new, starts, resets, meets_hole, takes}
 use Rattle.dvg_gen.proofs.Same.{leaves_same}
 use Rattle.dvg_core.specs.Cells.{part, joined, add, none}
 use Rattle.dvg_core.specs.Core.{Core, Pins}
@@ -22,6 +22,7 @@ use Rattle.dvg_core.proofs.Whole.{Stands}
 use Rattle.dvg_motion.specs.Machine.{own_ticks, vector_ticks}
 use Rattle.dvg_motion.specs.Pulses.{time}
 use Rattle.dvg_motion.specs.Times.{instr_ticks, run_ticks}
+pub use Rattle.dvg_gen.proofs.Standing.{open_goes as opened_goes}
 
 -- the bytes of an instruction that isn't whole
 abbrev pub of_held : Option ℕ → ℕ
@@ -43,19 +44,6 @@ cost c pins = own_ticks (pin.jsrl c pins) (pin.ends c pins) + vector_ticks (pin.
 -- a run that a hole broke
 abbrev pub IsBroken : Newest → Type 0
 IsBroken run = (run.is_open ≡ false) × (fate run.visits ≡ Goes)
-
-goes_true : (f : Fate) → goes_on f ≡ true → f ≡ Goes
-goes_true Goes e = refl
-goes_true Finished e = absurd (cc)
-goes_true (Breaks fault) e = absurd (cc)
-
--- an open run goes on
-pub opened_goes : {history : List Told} {run : Newest} → Leaves history run → run.is_open ≡ true → fate run.visits ≡ Goes
-opened_goes new e = absurd (cc)
-opened_goes (starts l) e = refl
-opened_goes (resets l) e = absurd (cc)
-opened_goes (meets_hole l o) e = absurd (cc)
-opened_goes (takes {visits = visits} l o adds) e = goes_true (fate visits) e
 
 -- a run that came to a HALT holds no word
 pub finished_holds : {history : List Told} {run : Newest} → Leaves history run → fate run.visits ≡ Finished → run.held ≡ None

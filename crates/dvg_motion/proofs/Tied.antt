@@ -1,9 +1,9 @@
 -- The core, its pace and the motion tied as dvg_vectors has them, without the board: each list of clocks since power-up.
-use Rattle.std.specs.Prelude.{ℕ, ◌+◌, ◌≡◌, ◌<◌, nat_eq, nat_le, if◌then◌else◌, All, List, [], ◌∷◌, ◌++◌}
-use Rattle.dvg_core.specs.Cells.{part, both, none, mux, bit}
+use Rattle.std.specs.Prelude.{ℕ, ◌+◌, ◌≡◌, ◌<◌, nat_le, All, List, [], ◌∷◌, ◌++◌}
+use Rattle.dvg_core.specs.Cells.{part, both, none, bit}
 use Rattle.dvg_core.specs.Core.{Core, ends, jsrl, labs, vec}
 use Rattle.dvg_core.specs.Core as core
-use Rattle.dvg_core.specs.Refines.{ArePins, Agrees}
+use Rattle.dvg_core.specs.Refines.{ArePins}
 use Rattle.dvg_core.specs.Refines as refines
 use Rattle.dvg_motion.specs.Motion.{Motion, going}
 use Rattle.dvg_motion.specs.Motion as motion

@@ -1,9 +1,9 @@
 -- How many ticks a byte takes.
-use Rattle.std.proofs.Common.{◌≡◌, ℕ, zero, suc, ◌+◌, ◌-◌, ◌*◌, ◌/◌, ◌%◌, ◌^◌, ◌<◌, ◌≤◌, Bool, true, false, List, [], ◌∷◌, ◌++◌, refl, sym, ap, ◌∙◌, subst, arith, cond, ltb, leb, inl, inr}
-use Rattle.std.specs.Prelude.{nat_eq, nat_lt, nat_le, if◌then◌else◌, All, not, ◌⊎◌}
+use Rattle.std.proofs.Common.{◌≡◌, ℕ, zero, suc, ◌+◌, ◌-◌, ◌<◌, ◌≤◌, Bool, true, false, List, [], ◌∷◌, ◌++◌, refl, sym, ap, ◌∙◌, subst, arith, leb, inl, inr}
+use Rattle.std.specs.Prelude.{nat_le, if◌then◌else◌, All, ◌⊎◌}
 use Rattle.std.proofs.lemmas.Bool.{cases_lt, le-leb, lt-leb, ne_eqb, eq-eqb}
 use Rattle.std.proofs.lemmas.List.Elements.{All-head, All-tail, All-cons}
-use Rattle.dvg_core.specs.Cells.{part, both, none, bit, mux, ne, add, sub, shl}
+use Rattle.dvg_core.specs.Cells.{both, none, bit, mux, ne, add, sub, shl}
 use Rattle.dvg_core.specs.Core.{Core, labs, vec, jsrl, ends}
 use Rattle.dvg_core.specs.Core as core
 use Rattle.dvg_gen.specs.declared.moving.Move.{Move}
@@ -12,10 +12,10 @@ use Rattle.dvg_core.specs.Tells.{TellsMove, TellsMoves}
 use Rattle.dvg_core.proofs.Tells.{pins_tell_law}
 use Rattle.dvg_motion.specs.Motion.{Motion, going}
 use Rattle.dvg_motion.specs.Motion as motion
-use Rattle.dvg_motion.specs.Pace.{Pace, hold, steps, places}
+use Rattle.dvg_motion.specs.Pace.{hold, places}
 use Rattle.dvg_motion.specs.Pace as pace
 use Rattle.dvg_motion.specs.Pulses.{time}
-use Rattle.dvg_motion.proofs.Tied.{Bus, Beside, paced, driven, cores, core_after, after, AtRest, IsServed, AreServed, IsIdle, ticks_of, TakesTime}
+use Rattle.dvg_motion.proofs.Tied.{Bus, Beside, paced, driven, cores, core_after, after, AtRest, AreServed, IsIdle, ticks_of, TakesTime}
 use Rattle.dvg_motion.specs.Machine.{own_ticks, vector_ticks}
 use Rattle.dvg_motion.proofs.Moves.{last_is, time_small}
 use Rattle.dvg_motion.proofs.Machine.{unserved, in_start, both_none, mux_same, stays, held_rests}

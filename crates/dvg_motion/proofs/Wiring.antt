@@ -17,20 +17,17 @@ use Rattle.dvg_motion.specs.Motion.{going}
 use Rattle.dvg_motion.specs.Motion as motion
 use Rattle.dvg_motion.specs.Pace.{hold}
 use Rattle.dvg_motion.specs.Pace as pace
-use Rattle.dvg_motion.specs.Vectors.{Vectors, Bus, halted, drives_board, drives_pace, drives_motion}
+use Rattle.dvg_motion.specs.Vectors.{Vectors, Bus, halted, drives_board}
 use Rattle.dvg_motion.specs.Pulses.{counters_of}
 use Rattle.dvg_motion.specs.Machine.{IsBus, AreBytes, AtRest, after, core_pins, cores, Follows, MachineFollows, HaltedTells, AreIdle, ticks, ticks_of_byte}
 use Rattle.dvg_motion.specs.Machine.{own_ticks, vector_ticks, TakesTime, StartTakes}
 use Rattle.dvg_motion.proofs.Tied.{Beside, paced, driven, core_after, AreServed, IsServed, IsIdle, ticks_of}
 use Rattle.dvg_motion.proofs.Tied as tied_clocks
-use Rattle.dvg_motion.proofs.Machine.{both_none, both_small, going_of, over_of, held_rests, follows_tied}
-use Rattle.dvg_motion.proofs.Timing.{mux_more, takes_time_tied, start_takes_tied}
+use Rattle.dvg_motion.proofs.Machine.{both_none, both_small, going_of, over_of, held_rests, follows_tied, both_one}
+use Rattle.dvg_motion.proofs.Timing.{mux_more, takes_time_tied, start_takes_tied, none_more as more_none}
+use Rattle.dvg_motion.proofs.Machine.{zero_or}
 
 -- numbers of one bit
-zero_or : (a : ℕ) → (a ≡ 0) ⊎ (0 < a)
-zero_or zero = inl refl
-zero_or (suc a) = inr (omega arith)
-
 pub none_zero : (a : ℕ) → 0 < none a → a ≡ 0
 none_zero zero h = refl
 none_zero (suc a) h = let never : none (suc a) ≡ 0 = rw (ne_eqb (suc a) 0 (λ e. absurd (omega arith))) refl in absurd (omega arith)
@@ -61,14 +58,6 @@ either_right (suc a) (suc b) is = let one = either_one (suc a) (suc b) (omega ar
 
 pub one_of : (a : ℕ) → 0 < none a → none a ≡ 1
 one_of a h = ap none (none_zero a h)
-
-more_none : (a : ℕ) → 0 < a → none a ≡ 0
-more_none zero h = absurd (omega arith)
-more_none (suc a) h = rw (ne_eqb (suc a) 0 (λ e. absurd (omega arith))) refl
-
-both_one : (a : ℕ) → both a 1 ≡ 0 → a ≡ 0
-both_one zero is = refl
-both_one (suc a) is = let never : both (suc a) 1 ≡ 1 = rw (ne_eqb (suc a) 0 (λ e. absurd (omega arith))) refl in absurd (omega arith)
 
 pub shut_of : (b : Bool) → bit (not b) ≡ 1 → b ≡ false
 shut_of true is = absurd (omega arith)

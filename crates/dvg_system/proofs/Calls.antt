@@ -10,7 +10,7 @@ use Rattle.dvg_mem.specs.Areas.{other, half_of_high}
 use Rattle.dvg_driver.specs.declared.action.Action.{Action}
 use Rattle.dvg_driver.specs.declared.action.Action.TheVariants.{Wrote}
 use Rattle.dvg_driver.specs.Script
-use Rattle.dvg_driver.specs.Script.{Item, Did, IsLife, has_flip}
+use Rattle.dvg_driver.specs.Script.{Item, Did, IsLife}
 use Rattle.dvg_driver.specs.Place.{Place, Writing, next_place}
 use Rattle.dvg_driver.proofs.Places.{life_place, place_before}
 use Rattle.dvg_log.specs.Log.{Log, ram, life, strobed, free_half}
@@ -25,7 +25,7 @@ use Rattle.dvg_6502.specs.Amid.{is_code}
 use Rattle.dvg_6502.specs.Board.{seen}
 use Rattle.dvg_6502.specs.Routines.{Enters, Shows}
 use Rattle.dvg_6502.specs.Calls as calls
-use Rattle.dvg_6502.specs.Calls.{Routine, Call, IsSession, IsSessionBy, Brings, IsLifeOf, IsAnswered, Follows, AreShown, Adds}
+use Rattle.dvg_6502.specs.Calls.{Routine, Call, IsSession, IsLifeOf, Follows, AreShown, Adds}
 use Rattle.dvg_board.specs.Board.{Bus}
 use Rattle.dvg_board.specs.Clocks.{IsBus, IsServed, after}
 use Rattle.dvg_board.specs.Logs.{did, answered, FitsIf, IsBoard, clocks, acts}
@@ -33,7 +33,7 @@ use Rattle.dvg_board.proofs.Lines.{answered_ram, answered_life, answered_sent}
 use Rattle.dvg_system.specs.Machine.{accesses_of, begun, IsIdle, IsChecked, SharesRam, calls_after, with_reset}
 use Rattle.dvg_system.proofs.Ram.{last_write, in_ram as ram_place, call_ram}
 use Rattle.dvg_system.proofs.System as system
-use Rattle.dvg_system.proofs.System.{FitsCode, ShowsIf, made_lives, shows_next}
+use Rattle.dvg_system.proofs.System.{FitsCode}
 
 -- what is known of the newest call
 pub record Newest (R image : List ℕ) (log : Log) (call : Call) (olds : List Call) : Type 0 where

@@ -20,7 +20,7 @@ use Rattle.dvg_6502.specs.Processor.{Cpu, Access, Reads, Writes, run, turn, at_r
 use Rattle.dvg_6502.specs.Amid.{guards, is_kept}
 use Rattle.dvg_6502.specs.Board.{IsLoaded, seen}
 use Rattle.dvg_6502.specs.Calls as calls
-use Rattle.dvg_6502.specs.Calls.{Routine, Call, IsSession, Follows, Brings, UnlessReset, is_table, is_over, is_refused, is_leaving}
+use Rattle.dvg_6502.specs.Calls.{Routine, Call, IsSession, Follows, Brings, UnlessReset, is_table, is_refused, is_leaving}
 use Rattle.dvg_6502.specs.Calls.{entry, frame_of}
 use Rattle.dvg_6502.specs.Build.{IsPut}
 use Rattle.dvg_6502.specs.Joined.{stroke}

@@ -13,12 +13,13 @@ use Rattle.dvg_6502.specs.Calls as calls
 use Rattle.dvg_6502.specs.Calls.{Routine, Call, IsSession, IsSessionBy, Brings, Follows, UnlessReset, is_taken, bounds, frame_of}
 use Rattle.dvg_6502.specs.Programs.{Tells, renamed, with_drafts, BuildsOnly, AreBuilt}
 use Rattle.dvg_6502.proofs.Sessions.{by_reset, unless_map}
-use Rattle.dvg_6502.proofs.Programs.{call_with, busy_renamed, over_renamed, hindsight}
+use Rattle.dvg_6502.proofs.Found.{call_with, busy_renamed, over_renamed}
+use Rattle.dvg_6502.proofs.Programs.{hindsight}
 use Rattle.dvg_board.specs.Board.{Board, Bus}
 use Rattle.dvg_board.specs.Clocks.{changes}
 use Rattle.dvg_board.specs.Logs.{did, answered}
 use Rattle.dvg_system.specs.Machine
-use Rattle.dvg_system.specs.Machine.{IsMachine, IsChecked, SharesRam, begun, later}
+use Rattle.dvg_system.specs.Machine.{IsMachine, IsChecked, SharesRam, later}
 use Rattle.dvg_system.specs.Hindsight.{IsCheckedTable, IsProgram, HindsightKeeps}
 use Rattle.dvg_system.proofs.Machine.{legal, headline}
 

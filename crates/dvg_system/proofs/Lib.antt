@@ -1,9 +1,9 @@
-mod Ram
+pub mod Ram
 mod Published
 pub mod System
 mod Calls
 mod Machine
 mod Hindsight
-mod Waiting
+pub mod Waiting
 mod Returns
 mod Example

@@ -8,7 +8,7 @@ use Rattle.dvg_frame.specs.Ops.{IsDraft}
 use Rattle.dvg_driver.specs.declared.action.Action.{Action}
 use Rattle.dvg_driver.specs.declared.action.Action.TheVariants.{Peek, Wrote, Read, Sent, Idle}
 use Rattle.dvg_driver.specs.Script
-use Rattle.dvg_driver.specs.Script.{Item, Did, IsLife, has_flip}
+use Rattle.dvg_driver.specs.Script.{Item, Did, has_flip}
 use Rattle.dvg_log.specs.declared.event.Event.TheVariants.{Offer, Redraw}
 use Rattle.dvg_log.specs.declared.entry.Entry.TheVariants.{Offered, Busy, Asked, NothingPublished}
 use Rattle.dvg_log.specs.Log.{◌⟼◌, Log, Throughout, ram, life, free_half}
@@ -21,7 +21,7 @@ use Rattle.dvg_6502.specs.Amid.{amid}
 use Rattle.dvg_6502.specs.Board.{seen}
 use Rattle.dvg_6502.specs.Routines.{Shows}
 use Rattle.dvg_6502.specs.Calls as calls
-use Rattle.dvg_6502.specs.Calls.{Routine, Call, IsSession, IsSessionBy, Brings, IsLifeOf, IsAnswered, Follows, AreShown, Adds}
+use Rattle.dvg_6502.specs.Calls.{Routine, Call, IsSession, IsLifeOf, IsAnswered, AreShown, Adds}
 use Rattle.dvg_6502.proofs.Sessions.{calls_live}
 use Rattle.dvg_core.specs.Core.{halted}
 use Rattle.dvg_board.specs.Board.{Board, Bus, q, clock}
@@ -31,7 +31,7 @@ use Rattle.dvg_board.specs.Logs.{did, answered, FitsIf, powers, clocks, tests, a
 use Rattle.dvg_board.proofs.Wires.{changes_ram}
 use Rattle.dvg_board.proofs.Lines.{answered_ram, answered_life}
 use Rattle.dvg_system.specs.Machine
-use Rattle.dvg_system.specs.Machine.{accesses_of, begun, later, Makes, IsIdle, IsChecked, SharesRam, calls_after, with_reset, with_answer, told}
+use Rattle.dvg_system.specs.Machine.{accesses_of, later, Makes, with_answer}
 use Rattle.dvg_system.specs.Machine.{IsMachine, OfEachMachine, AreDone, HaveRam, FindsRam, AcceptsPublished}
 use Rattle.dvg_system.proofs.Ram.{last_write, call_ram, call_finds}
 use Rattle.dvg_system.proofs.Published.{published_accepts}

@@ -1,22 +1,25 @@
 -- What a call's memory has in the vector RAM: what it wrote there last, and else what was there.
-use Rattle.std.proofs.Common.{◌≡◌, ℕ, zero, suc, ◌+◌, ◌*◌, ◌/◌, ◌%◌, ◌<◌, ◌≤◌, Bool, true, false, List, [], ◌∷◌, refl, sym, ap, ◌∙◌}
+use Rattle.std.proofs.Common.{◌≡◌, ℕ, zero, suc, ◌+◌, ◌/◌, ◌%◌, ◌<◌, ◌≤◌, Bool, true, false, List, [], ◌∷◌, refl, sym, ap, ◌∙◌}
 use Rattle.std.proofs.Common.{subst, arith, le-leb, inl, inr}
-use Rattle.std.specs.Prelude.{nat_eq, nat_le, nat_lt, ◌&&◌, ◌||◌, if◌then◌else◌}
+use Rattle.std.specs.Prelude.{nat_eq, nat_le, nat_lt, if◌then◌else◌}
 use Rattle.std.proofs.lemmas.Bool.Decides.{eqb_tells}
 use Rattle.dvg_6502.specs.Processor.{Cpu, Access, Reads, Writes, Instr, Mode, Register, Immediate, ZeroPage, ZeroPageX, Absolute, IndirectIndexed}
 use Rattle.dvg_6502.specs.Processor.{A, X, Y, Load, Store, Transfer, And, Or, Xor, Compare, TestBits, Change, Step}
 use Rattle.dvg_6502.specs.Processor.{Branch, Jump, Call, Return, Unknown}
-use Rattle.dvg_6502.specs.Processor.{flag_place, reads, reading, writing, setting, found, operand, address, of_register, next, bit_of, stack_place}
+use Rattle.dvg_6502.specs.Processor.{flag_place, reads, reading, writing, setting, found, operand, address, of_register, next, stack_place}
 use Rattle.dvg_6502.specs.Processor.{does, step, turn, at_return, decoded, opcodes}
 use Rattle.dvg_6502.specs.Processor.{ZeroPageY, AbsoluteX, AbsoluteY, IndexedIndirect, Add, Subtract, ShiftAt, ShiftA}
 use Rattle.dvg_6502.specs.Processor.{Set, JumpAt, PushA, PushFlags, PullA, PullFlags, FromStack, ToStack, Resume}
-use Rattle.dvg_6502.specs.Processor.{Pass, Shift, shifted, Flag, Negative, Zero, Carry, Overflow, Decimal, Interrupt}
+use Rattle.dvg_6502.specs.Processor.{Pass, shifted, Flag, Negative, Zero, Carry, Overflow, Decimal, Interrupt}
 use Rattle.dvg_6502.specs.Processor.{flagging, flags_byte, beside}
-use Rattle.dvg_6502.specs.Amid.{amid, changed, AreHarmless, Guard, guards, is_kept, is_code, is_work}
-use Rattle.dvg_6502.specs.Board.{seen, is_hardware, is_ram, is_own}
+use Rattle.dvg_6502.specs.Amid.{amid, changed, AreHarmless, Guard, guards, is_kept}
+use Rattle.dvg_6502.specs.Board.{seen, is_hardware, is_ram}
 use Rattle.dvg_6502.specs.Calls as calls
 use Rattle.dvg_6502.specs.Calls.{IsSession, is_table}
 use Rattle.dvg_system.specs.Machine.{accesses_of}
+pub use Rattle.std.proofs.lemmas.Bool.{or_left as left_true}
+use Rattle.std.proofs.lemmas.Bool.{and_from as both_true}
+use Rattle.dvg_6502.proofs.Sessions.{kept_ram}
 
 -- what was written last at b, and else what was there
 abbrev pub last_write : List Access → ℕ → ℕ → ℕ
@@ -148,26 +151,10 @@ module _ (b old : ℕ) (high : 0x200 ≤ b) (other : nat_eq b flag_place ≡ fal
       amid_keeps guard s n (λ k. others (suc k)) (turn s (changed (others 0) cpu)) is alone.1
       (turn_keeps s (changed (others 0) cpu) (alone.0 b (is cpu.s) ∙ h.0, h.1))
 
-pub left_true : (t u : Bool) → t ≡ true → (t || u) ≡ true
-left_true true u is = refl
-left_true false u is = absurd (cc)
-
-right_true : (t u : Bool) → u ≡ true → (t || u) ≡ true
-right_true true u is = refl
-right_true false u is = is
-
-both_true : (t u : Bool) → t ≡ true → u ≡ true → (t && u) ≡ true
-both_true true u a b = b
-both_true false u a b = absurd (cc)
-
 -- a byte of the vector RAM
 pub in_ram : (a : ℕ) → a < 2048 → is_ram (0x4000 + a) ≡ true
 in_ram a small = both_true (nat_le 0x4000 (0x4000 + a)) (nat_lt (0x4000 + a) 0x4800)
     (le-leb 0x4000 (0x4000 + a) (omega arith)) (le-leb (suc (0x4000 + a)) 0x4800 (omega arith))
-
-kept_ram : (tables : ℕ → Bool) (b : ℕ) → is_ram b ≡ true → is_kept tables b ≡ true
-kept_ram tables b is = right_true (is_own b) _ (right_true (is_work b) _ (right_true (is_code b) _
-    (left_true (is_hardware b) _ (left_true (is_ram b) _ is))))
 
 no_flag : (a : ℕ) → nat_eq (0x4000 + a) flag_place ≡ false
 no_flag a = elim (eqb_tells (0x4000 + a) flag_place) [ inl t ↦ absurd (omega (arith, t.1)) | inr t ↦ t.0 ]

@@ -1,11 +1,11 @@
 -- A board whose processor's accesses are those of the machine code: it keeps the script, so what is proved of boards
 -- holds of it.
-use Rattle.std.proofs.Common.{◌≡◌, ℕ, ◌+◌, ◌/◌, ◌%◌, Bool, true, false, not, List, [], ◌∷◌, Option, Some, None, refl, sym, ap, ◌∙◌, subst, arith}
+use Rattle.std.proofs.Common.{◌≡◌, ℕ, ◌+◌, ◌/◌, ◌%◌, Bool, true, false, not, List, [], ◌∷◌, Option, Some, None, refl, sym, ap, ◌∙◌, arith}
 use Rattle.std.specs.Prelude.{is_none, nat_eq, nat_le, if◌then◌else◌}
 use Rattle.std.proofs.lemmas.Bool.{eqb-true}
 use Rattle.dvg_driver.specs.declared.action.Action.{Action}
 use Rattle.dvg_driver.specs.declared.action.Action.TheVariants.{Peek, Wrote, Read, Sent, Idle}
-use Rattle.dvg_driver.specs.Script.{Item, Did, IsLife}
+use Rattle.dvg_driver.specs.Script.{Did}
 use Rattle.dvg_log.specs.Events.{Happening, IsEvent}
 use Rattle.dvg_log.specs.declared.event.Event.TheVariants.{Tick, Strobe, Fetch, ResetGen, ResetAll}
 use Rattle.dvg_log.specs.Entries.{Shown}
@@ -15,7 +15,6 @@ use Rattle.dvg_log.specs.Legal.{IsLegal, Fits}
 use Rattle.dvg_log.specs.Headline.{KeepsHeadline}
 use Rattle.dvg_6502.specs.Processor.{Reads, Writes}
 use Rattle.dvg_6502.specs.Joined.{IsMade, FitsBoard, IsBoards}
-use Rattle.dvg_6502.proofs.Sessions.{calls_live, one_life}
 use Rattle.dvg_6502.proofs.Joined.{board_keeps as code_keeps}
 use Rattle.dvg_core.specs.Core.{halted}
 use Rattle.dvg_6502.specs.Processor.{Access}
@@ -30,6 +29,7 @@ use Rattle.dvg_board.proofs.Board as board
 use Rattle.dvg_board.proofs.Cores.{cores, core_is}
 use Rattle.dvg_board.proofs.Board.{holds}
 use Rattle.dvg_board.proofs.Answered.{answers_next, third}
+pub use Rattle.dvg_6502.proofs.Joined.{made_lives}
 
 -- each line of the processor is an access, or an answer, of the machine code
 abbrev pub FitsCode : Driver
@@ -51,10 +51,6 @@ abbrev pub ShowsNext : (ℕ → ℕ) → Log → List Bus → Type 0
 ShowsNext held log older = (bus next : Bus) → IsBus bus
     → ShowsIf (looks (after held older) bus) (Reads bus.a (q (clock (after held older) bus) next))
     × ShowsIf (changes bus) (Writes bus.a bus.d)
-
-pub made_lives : (items : List Item) → IsMade items → IsLife items
-made_lives items made = let lives = calls_live made.0 made.1 in
-    subst IsLife (one_life made.0 lives.0 items lives.1 made.2) lives.2
 
 -- what a processor that runs the machine code did is the script's
 made_if : (R image : List ℕ) (log : Log) (done : Option Action) → FitsIf (FitsCode R image log) done

@@ -34,7 +34,7 @@ rom_of (Machine.begins routine from others on session checked shares) = rom_of o
 rom_of (Machine.steps n on unfinished session same) = rom_of on
 rom_of (Machine.accesses n access bus on session more is served made) = rom_of on
 
-below : (bytes : List ℕ) → AllByRecursion (λ byte. byte < 256) bytes → (i : ℕ) → slice_index bytes i < 256
+pub below : (bytes : List ℕ) → AllByRecursion (λ byte. byte < 256) bytes → (i : ℕ) → slice_index bytes i < 256
 below [] s i = omega arith
 below (byte ∷ bytes) s zero = s.0
 below (byte ∷ bytes) s (suc i) = below bytes s.1 i
