@@ -7,6 +7,8 @@
 
 ghost use Rattle.dvg_machine.specs.Example.{SomePlayed};
 ghost use Rattle.dvg_machine.specs.GoesOn.{CallGoesOn, CellsGoOn};
+ghost use Rattle.dvg_machine.specs.Needed.{AllIsDoes, NeedsAnswers, NeedsCount, NeedsNoStrobe};
+ghost use Rattle.dvg_machine.specs.Needed.{NeedsNoWrite, NeedsRests, PremisesFollow};
 ghost use Rattle.dvg_machine.specs.Own.{NmiIsQuiet, OwnIsQuiet};
 ghost use Rattle.dvg_machine.specs.Played.{CellsKeep, ResetWaits};
 ghost use Rattle.dvg_machine.specs.Shown.{ShowsParts};
@@ -26,6 +28,23 @@ pub fn cells_step()
 /// isn't in it, and before the first call it may write the RAM.
 pub fn cells_keep()
     ensures { CellsKeep }
+{
+    machine_keeps();
+}
+
+/// Premises of `cells_keep` are needed. Without one of these, which the last step of a run doesn't
+/// meet, there is no log as it says: the program sends no strobe, not even before its first call;
+/// after a call it writes no RAM; an instruction of a call begins where the cells rest with the
+/// call's registers, has as many cycles as it takes, and finds what the call has in memory.
+/// Of the others, ROM, images, calls, what is checked, jumper and bytes follow from such a log.
+pub fn premises_are_needed()
+    ensures strobe { NeedsNoStrobe }
+    ensures write { NeedsNoWrite }
+    ensures rests { NeedsRests }
+    ensures count { NeedsCount }
+    ensures answers { NeedsAnswers }
+    ensures others { AllIsDoes }
+    ensures follow { PremisesFollow }
 {
     machine_keeps();
 }
