@@ -1,37 +1,43 @@
 -- The first picture of the cells: the driver boots and takes a table, and dvg_run writes and publishes its frame and sends a
 -- strobe; the core draws it while the program idles. The prover runs the cells, cycle by cycle.
-use Rattle.std.proofs.Common.{◌≡◌, ℕ, ◌+◌, ◌<◌, Bool, true, false, List, [], ◌∷◌, ◌++◌, refl, sym, ap, arith, lit<}
-use Rattle.std.specs.Prelude.{nat_eq, nat_le, replicate}
+use Rattle.std.proofs.Common.{◌≡◌, ℕ, ◌+◌, ◌<◌, Bool, true, false, List, [], ◌∷◌, drop, refl, sym, ap, ◌∙◌, arith, lit<}
+use Rattle.std.specs.Prelude.{nat_eq, nat_le, if◌then◌else◌}
 use Rattle.std.proofs.lemmas.Bool.{ne_eqb}
 use Rattle.std.proofs.lemmas.List.{get_or-replicate}
 use Rattle.dvg_driver.specs.declared.action.Action.TheVariants.{Peek, Read}
 use Rattle.dvg_log.specs.declared.event.Event.TheVariants.{Offer, Tick}
 use Rattle.dvg_log.specs.declared.entry.Entry.TheVariants.{Offered, Acted}
-use Rattle.dvg_log.specs.Log.{◌⟼◌}
-use Rattle.dvg_6502.specs.Processor.{Cpu, run}
+use Rattle.dvg_log.specs.Log.{◌⟼◌, Log}
+use Rattle.dvg_6502.specs.Processor.{Cpu, Writes, run}
+use Rattle.dvg_6502.specs.Board.{seen}
 use Rattle.dvg_6502.specs.Amid.{guards, is_kept}
 use Rattle.dvg_6502.specs.Calls as calls
-use Rattle.dvg_6502.specs.Calls.{IsSession, is_table}
+use Rattle.dvg_6502.specs.Calls.{Call, IsSession, is_table, is_over}
 use Rattle.dvg_6502.specs.Joined.{stroke}
 use Rattle.dvg_6502.proofs.Memory.{in_page, le_not, out_of_page}
-use Rattle.dvg_6502.proofs.Interrupted.{still_harmless}
+use Rattle.dvg_6502.proofs.Interrupted.{still, still_harmless}
 use Rattle.dvg_6502.proofs.Quiet.{quiet}
 use Rattle.dvg_6502.proofs.ExampleWorld.{start, start_loaded}
 use Rattle.dvg_6502.proofs.Example.{some_logs, has_table}
 use Rattle.dvg_6502.proofs.Joined.{board_keeps as code_keeps}
-use Rattle.dvg_board.specs.Board.{powered}
-use Rattle.dvg_board.specs.Clocks.{after}
+use Rattle.dvg_board.specs.Board.{Bus, powered}
+use Rattle.dvg_board.specs.Clocks.{after, changes}
+use Rattle.dvg_board.specs.Fetches.{drew}
+use Rattle.dvg_board.specs.Logs.{did}
 use Rattle.dvg_board.specs.Example.{zeros}
 use Rattle.dvg_board.proofs.Example.{held}
-use Rattle.dvg_system.specs.Machine.{IsChecked}
+use Rattle.dvg_system.specs.Machine.{IsChecked, told}
 use Rattle.dvg_cpu.specs.Cpu.{Cpu as Cells}
 use Rattle.dvg_cpu.specs.Cpu as cpu
 use Rattle.dvg_machine.specs.Machine.{Machine}
-use Rattle.dvg_machine.specs.Cycles.{begins, ends, buses}
-use Rattle.dvg_machine.specs.Played.{powers, begins_call}
+use Rattle.dvg_machine.specs.Cycles.{Two, begins, between, ends, buses, first_bus, second_bus}
+use Rattle.dvg_machine.specs.Played.{CellsKeep, Keeps, powers, begins_call}
+use Rattle.dvg_machine.specs.Example.{SomeDrawn}
 use Rattle.dvg_machine.proofs.ExampleCalls.{is_rom, is_image, held_bytes}
 use Rattle.dvg_machine.proofs.Following.{Ready, Alone, enters_by, plays_alone, twos, lives, ready, goes_by, calls_so, rests_of}
-use Rattle.dvg_machine.proofs.Following.{Amid, from, session, up_to, on_by, ready_by}
+use Rattle.dvg_machine.proofs.Lines.{Line}
+use Rattle.dvg_machine.proofs.Telling.{Followed, written_line, told_write, tells}
+use Rattle.dvg_machine.proofs.Following.{two_of, Amid, from, session, up_to, further}
 
 -- the RAM is zeros, as the processor has it
 shares : (a : ℕ) → a < 2048 → start (0x4000 + a) ≡ held a
@@ -101,15 +107,58 @@ offers = 0x60 ∷ 0x02 ∷ 0x70 ∷ 0xA9 ∷ 0x00 ∷ 0xA2 ∷ 0x50 ∷ 0x20 ∷
 abbrev offered : Ready
 offered = calls_so (calls.Offer stroke) 0 (goes_by offers looked refl) refl has_table checked tt (λ P is. is) refl
 
--- dvg_run begins, and has come to its last instruction, STA 3000; and it has done that
+-- dvg_run begins; it has come to the strobe's instruction, STA 3000, whose cycles these are
 abbrev begun : Ready
 begun = goes_by (calls_next 0x09 0x68) offered refl
 
-abbrev nearly : Amid calls.Run (from calls.Run 0 begun) begun.list
-nearly = up_to calls.Run 0 begun refl tt tt tt (λ P is. is) 180
+abbrev run_from : Cpu
+run_from = from calls.Run 0 begun
 
-abbrev strobed : Amid calls.Run (from calls.Run 0 begun) begun.list
-strobed = on_by calls.Run 0 begun refl tt tt tt (λ P is. is) 1 nearly
+abbrev run_session : (n : ℕ) → IsSession (quiet calls.Run n run_from ∷ begun.list)
+run_session = session calls.Run 0 begun refl tt tt tt (λ P is. is)
 
-abbrev ran : Ready
-ran = ready_by calls.Run 0 begun refl tt tt tt (λ P is. is) strobed refl
+abbrev nearly : Amid calls.Run run_from begun.list
+nearly = up_to calls.Run 0 begun refl tt tt tt (λ P is. is) 174
+
+-- what a call of dvg_run comes to is in no log
+either_way : (t : Bool) (log : Log) → (if t then log else log) ≡ log
+either_way true log = refl
+either_way false log = refl
+
+abbrev no_answer : (n : ℕ) (log : Log) → told zeros (quiet calls.Run n run_from) log ≡ log
+no_answer n log = either_way (is_over (quiet calls.Run n run_from)) log
+
+module _ (keep : CellsKeep) where
+  kept : Keeps zeros zeros held (quiet calls.Run nearly.n run_from ∷ begun.list) nearly.older
+  kept = keep zeros zeros held (quiet calls.Run nearly.n run_from ∷ begun.list) nearly.older nearly.cells nearly.on
+
+  abbrev first_line : Line
+  first_line = record { drawn = drew held kept.shown; log = kept.log }
+
+  abbrev strobed : Followed calls.Run run_from begun.list run_session refl begun.loaded
+  strobed = record {
+    at = further calls.Run run_from begun.list run_session refl begun.loaded nearly refl refl refl;
+    line = written_line calls.Run run_from begun.list run_session refl begun.loaded nearly first_line
+        (record { shown = kept.shown; on = kept.machine; alike = kept.stand.alike; is_board = kept.stand.board ∙ nearly.is_board; drew_is = refl })
+        refl refl refl (two_of 0x8D) (two_of 0x00) (two_of 0x30) (two_of 0x00) 0x3000 2;
+    told = told_write calls.Run run_from begun.list run_session refl begun.loaded nearly first_line
+        (record { shown = kept.shown; on = kept.machine; alike = kept.stand.alike; is_board = kept.stand.board ∙ nearly.is_board; drew_is = refl })
+        refl refl refl (two_of 0x8D) (two_of 0x00) (two_of 0x30) (two_of 0x00) 0x3000 2 refl refl refl refl refl;
+  }
+
+  -- dvg_run comes to its end, and the core draws
+  abbrev ended : Followed calls.Run run_from begun.list run_session refl begun.loaded
+  ended = tells calls.Run run_from begun.list run_session refl begun.loaded no_answer 6 strobed
+
+  pub some_drawn : SomeDrawn
+  some_drawn = (
+    quiet calls.Run ended.at.n run_from ∷ begun.list,
+    ended.at.older,
+    ended.told.shown,
+    ended.at.cells,
+    drop 2 ended.line.log,
+    ended.at.on,
+    record { alike = ended.told.alike; board = ended.told.is_board ∙ sym ended.at.is_board },
+    ended.told.on,
+    refl,
+  )

@@ -14,4 +14,5 @@ pub mod NeededCalls
 pub mod NeededRuns
 pub mod Following
 pub mod Lines
+pub mod Telling
 pub mod Drawing

@@ -9,7 +9,7 @@ use Rattle.dvg_driver.specs.declared.action.Action.{Action}
 use Rattle.dvg_log.specs.Log.{Log, ram, low_byte}
 use Rattle.dvg_core.specs.Refines.{byte_of}
 use Rattle.dvg_6502.specs.Processor.{Access, Writes}
-use Rattle.dvg_6502.specs.Calls.{Call, IsSession}
+use Rattle.dvg_6502.specs.Calls.{Call, IsSession, is_over}
 use Rattle.dvg_6502.proofs.Memory.{both_true}
 use Rattle.dvg_board.specs.Board.{Board, Bus, pins, takes, halted, done, fault, clock}
 use Rattle.dvg_board.specs.Board as pin
@@ -98,6 +98,19 @@ told_writes call olds older board drawn log bus a byte told is_bus is_served res
   alike = same bus told.alike;
   is_board = ap (λ b. clock b bus) told.is_board;
   drew_is = drew_later told.shown board bus drawn log told.is_board told.drew_is reset;
+}
+
+-- a call takes steps without an access, and comes to no answer
+pub told_steps : (call : Call) (olds : List Call) (older : List Bus) (board : Board) (drawn : List Stroke) (log : Log) (n : ℕ)
+    → Told (call ∷ olds) older board drawn log → is_over call ≡ false → IsSession (later n call ∷ olds)
+    → accesses_of (later n call) ≡ accesses_of call → system.told zeros (later n call) log ≡ log
+    → Told (later n call ∷ olds) older board drawn log
+told_steps call olds older board drawn log n told more session seen same_log = record {
+  shown = told.shown;
+  on = subst (λ l. IsMachine zeros zeros held (later n call ∷ olds) l told.shown) same_log (system.steps n told.on more session seen);
+  alike = told.alike;
+  is_board = told.is_board;
+  drew_is = told.drew_is;
 }
 
 -- what a clock drives, and that the processor looks at nothing and changes nothing

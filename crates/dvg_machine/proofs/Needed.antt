@@ -93,9 +93,9 @@ stands (elsewhere {made = made} {shown = shown} one a reading alike) bus more is
       is = refl;
       alike = subst (λ l. AreAlike l shown) same_more alike;
       writes_so = λ writing. absurd (
-        let reads_so : nat_eq bus.write 0 ≡ true = ap (λ (b : Bus). nat_eq b.write 0) (sym same_bus) ∙ ap (λ w. nat_eq w 0) reading in
-        cc
-      );
+          let reads_so : nat_eq bus.write 0 ≡ true = ap (λ (b : Bus). nat_eq b.write 0) (sym same_bus) ∙ ap (λ w. nat_eq w 0) reading in
+          cc
+          );
       reset = ap (λ (b : Bus). b.reset) same_bus;
       big = ap (λ (b : Bus). b.big) same_bus;
       rom = ap (λ (b : Bus). b.rom) same_bus;

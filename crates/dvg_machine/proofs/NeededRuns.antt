@@ -107,8 +107,16 @@ module _ (shared : OfEachMachine (λ R image held list log clocks. HaveRam list 
       (cells_after held example.older3 example.cells3 strayed)
   strayed_on = alone strayed example.reset_on (
     given _ _ (lit< tt) (lit< tt) (lit< tt),
-    (given _ _ (lit< tt) (lit< tt) (lit< tt), (given _ _ (lit< tt) (lit< tt) (lit< tt), (given _ _ (lit< tt) (lit< tt) (lit< tt),
-    (given _ _ (lit< tt) (lit< tt) (lit< tt), (given _ _ (lit< tt) (lit< tt) (lit< tt), (given _ _ (lit< tt) (lit< tt) (lit< tt), tt)))))),
+    (
+      given _ _ (lit< tt) (lit< tt) (lit< tt),
+      (
+        given _ _ (lit< tt) (lit< tt) (lit< tt),
+        (
+          given _ _ (lit< tt) (lit< tt) (lit< tt),
+          (given _ _ (lit< tt) (lit< tt) (lit< tt), (given _ _ (lit< tt) (lit< tt) (lit< tt), (given _ _ (lit< tt) (lit< tt) (lit< tt), tt))),
+        ),
+      ),
+    ),
   ) tt
 
   pub needs_rests : NeedsRests
@@ -170,12 +178,52 @@ module _ (shared : OfEachMachine (λ R image held list log clocks. HaveRam list 
       answered = (refl, (refl, (refl, (refl, (tt, (refl, (refl, (refl, (refl, (tt, (refl, (refl, (refl, (refl, (refl, (refl, (tt, tt)))))))))))))))));
       given = (
         given _ _ (lit< tt) (lit< tt) (lit< tt),
-        (given _ _ (lit< tt) (lit< tt) (lit< tt), (given _ _ (lit< tt) (lit< tt) (lit< tt), (given _ _ (lit< tt) (lit< tt) (lit< tt),
-        (given _ _ (lit< tt) (lit< tt) (lit< tt), (given _ _ (lit< tt) (lit< tt) (lit< tt), (given _ _ (lit< tt) (lit< tt) (lit< tt),
-        (given _ _ (lit< tt) (lit< tt) (lit< tt), (given _ _ (lit< tt) (lit< tt) (lit< tt), (given _ _ (lit< tt) (lit< tt) (lit< tt),
-        (given _ _ (lit< tt) (lit< tt) (lit< tt), (given _ _ (lit< tt) (lit< tt) (lit< tt), (given _ _ (lit< tt) (lit< tt) (lit< tt),
-        (given _ _ (lit< tt) (lit< tt) (lit< tt), (given _ _ (lit< tt) (lit< tt) (lit< tt), (given _ _ (lit< tt) (lit< tt) (lit< tt),
-        (given _ _ (lit< tt) (lit< tt) (lit< tt), tt)))))))))))))))),
+        (
+          given _ _ (lit< tt) (lit< tt) (lit< tt),
+          (
+            given _ _ (lit< tt) (lit< tt) (lit< tt),
+            (
+              given _ _ (lit< tt) (lit< tt) (lit< tt),
+              (
+                given _ _ (lit< tt) (lit< tt) (lit< tt),
+                (
+                  given _ _ (lit< tt) (lit< tt) (lit< tt),
+                  (
+                    given _ _ (lit< tt) (lit< tt) (lit< tt),
+                    (
+                      given _ _ (lit< tt) (lit< tt) (lit< tt),
+                      (
+                        given _ _ (lit< tt) (lit< tt) (lit< tt),
+                        (
+                          given _ _ (lit< tt) (lit< tt) (lit< tt),
+                          (
+                            given _ _ (lit< tt) (lit< tt) (lit< tt),
+                            (
+                              given _ _ (lit< tt) (lit< tt) (lit< tt),
+                              (
+                                given _ _ (lit< tt) (lit< tt) (lit< tt),
+                                (
+                                  given _ _ (lit< tt) (lit< tt) (lit< tt),
+                                  (
+                                    given _ _ (lit< tt) (lit< tt) (lit< tt),
+                                    (
+                                      given _ _ (lit< tt) (lit< tt) (lit< tt),
+                                      (given _ _ (lit< tt) (lit< tt) (lit< tt), tt),
+                                    ),
+                                  ),
+                                ),
+                              ),
+                            ),
+                          ),
+                        ),
+                      ),
+                    ),
+                  ),
+                ),
+              ),
+            ),
+          ),
+        ),
       );
     },
     λ keeps.

@@ -5,7 +5,7 @@
 //! `specs/Machine.antt` is made by `core/cells`, and the cycles of the example by `tables`.
 #![tactic(auto)]
 
-ghost use Rattle.dvg_machine.specs.Example.{SomePlayed};
+ghost use Rattle.dvg_machine.specs.Example.{SomeDrawn, SomePlayed};
 ghost use Rattle.dvg_machine.specs.GoesOn.{CallGoesOn, CellsGoOn};
 ghost use Rattle.dvg_machine.specs.Needed.{AllIsDoes, NeedsAnswers, NeedsCount, NeedsNoStrobe};
 ghost use Rattle.dvg_machine.specs.Needed.{NeedsNoWrite, NeedsRests, PremisesFollow};
@@ -78,3 +78,11 @@ pub fn machine_shows()
 pub fn some_played()
     ensures { SomePlayed }
 {}
+
+/// And one that draws: the driver boots and takes a table, `dvg_run` writes and publishes its frame
+/// and sends a strobe, and while the program idles the core draws it, as its log says.
+pub fn some_drawn()
+    ensures { SomeDrawn }
+{
+    cells_keep();
+}
