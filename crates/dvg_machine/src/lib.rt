@@ -2,7 +2,7 @@
 //! (`core/dvg_board.v`) on one clock (`core/dvg_machine.v`). There is no code here. Each law is the
 //! contract of a function that does nothing.
 //!
-//! `specs/Machine.antt` is made by `core/cells`, and the cycles of the example by `tables`.
+//! `specs/Machine.antt` is made by `core/cells`, and the cycles of `some_played` by `tables`.
 #![tactic(auto)]
 
 ghost use Rattle.dvg_machine.specs.Example.{SomeDrawn, SomePlayed};
