@@ -31,7 +31,7 @@ world_small b = lit< tt
 abbrev state : (pc a s : ℕ) → List ℕ → Cpu
 state pc a s page = at pc a 0 0 s false false false false false true (laid page world) (λ n. 0) []
 
-abbrev reset_page : List ℕ
+abbrev pub reset_page : List ℕ
 reset_page = page_of 0 0 0 0 0 0 0 0 0 0 0
 
 abbrev tick_page : List ℕ
@@ -40,7 +40,7 @@ tick_page = page_of 0 0 3 0 0 0 0 0 0 0 0
 abbrev look_page : List ℕ
 look_page = page_of 1 0xE2 3 0 0 0 0 0 0 0 0
 
-small : (phase free publish : ℕ) → phase < 256 → free < 256 → publish < 256
+pub small : (phase free publish : ℕ) → phase < 256 → free < 256 → publish < 256
     → AreSmall (page_of phase free publish 0 0 0 0 0 0 0 0)
 small phase free publish a b less =
     (a, (b, (less, (lit< tt, (lit< tt, (lit< tt, (lit< tt, (lit< tt, (lit< tt, (lit< tt, (lit< tt, tt)))))))))))

@@ -9,3 +9,10 @@ pub mod Owning
 pub mod Going
 pub mod ExampleCalls
 pub mod Example
+pub mod Needed
+pub mod NeededCalls
+pub mod NeededRuns
+pub mod Following
+pub mod Lines
+pub mod Telling
+pub mod Drawing

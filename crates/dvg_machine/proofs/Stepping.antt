@@ -197,7 +197,7 @@ ends_are held (two ∷ later) older cells =
     let machine = begins cells (after held older) in
     ends_are held later (second_bus machine two ∷ first_bus machine two ∷ older) (clock cells (pins_of (cycle_of machine two)))
 
-ends_cells : (list : List Two) (board : Board) (cells : Cells)
+pub ends_cells : (list : List Two) (board : Board) (cells : Cells)
     → (ends (begins cells board) list).cpu ≡ refined.ends cells (cycles_of (begins cells board) list)
 ends_cells [] board cells = refl
 ends_cells (two ∷ later) board cells =

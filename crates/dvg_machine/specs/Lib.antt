@@ -6,3 +6,4 @@ pub mod Played
 pub mod Own
 pub mod GoesOn
 pub mod Example
+pub mod Needed

@@ -2,11 +2,13 @@
 //! (`core/dvg_board.v`) on one clock (`core/dvg_machine.v`). There is no code here. Each law is the
 //! contract of a function that does nothing.
 //!
-//! `specs/Machine.antt` is made by `core/cells`, and the cycles of the example by `tables`.
+//! `specs/Machine.antt` is made by `core/cells`, and the cycles of `some_played` by `tables`.
 #![tactic(auto)]
 
-ghost use Rattle.dvg_machine.specs.Example.{SomePlayed};
+ghost use Rattle.dvg_machine.specs.Example.{SomeDrawn, SomePlayed};
 ghost use Rattle.dvg_machine.specs.GoesOn.{CallGoesOn, CellsGoOn};
+ghost use Rattle.dvg_machine.specs.Needed.{AllIsDoes, NeedsAnswers, NeedsCount, NeedsNoStrobe};
+ghost use Rattle.dvg_machine.specs.Needed.{NeedsNoWrite, NeedsRests, PremisesFollow};
 ghost use Rattle.dvg_machine.specs.Own.{NmiIsQuiet, OwnIsQuiet};
 ghost use Rattle.dvg_machine.specs.Played.{CellsKeep, ResetWaits};
 ghost use Rattle.dvg_machine.specs.Shown.{ShowsParts};
@@ -26,6 +28,23 @@ pub fn cells_step()
 /// isn't in it, and before the first call it may write the RAM.
 pub fn cells_keep()
     ensures { CellsKeep }
+{
+    machine_keeps();
+}
+
+/// Premises of `cells_keep` are needed. Without one of these, which the last step of a run doesn't
+/// meet, there is no log as it says: the program sends no strobe, not even before its first call;
+/// after a call it writes no RAM; an instruction of a call begins where the cells rest with the
+/// call's registers, has as many cycles as it takes, and finds what the call has in memory.
+/// Of the others, ROM, images, calls, what is checked, jumper and bytes follow from such a log.
+pub fn premises_are_needed()
+    ensures strobe { NeedsNoStrobe }
+    ensures write { NeedsNoWrite }
+    ensures rests { NeedsRests }
+    ensures count { NeedsCount }
+    ensures answers { NeedsAnswers }
+    ensures others { AllIsDoes }
+    ensures follow { PremisesFollow }
 {
     machine_keeps();
 }
@@ -59,3 +78,11 @@ pub fn machine_shows()
 pub fn some_played()
     ensures { SomePlayed }
 {}
+
+/// And one that draws: the driver boots and takes a table, `dvg_run` writes and publishes its frame
+/// and sends a strobe, and while the program idles the core draws it, as its log says.
+pub fn some_drawn()
+    ensures { SomeDrawn }
+{
+    cells_keep();
+}
