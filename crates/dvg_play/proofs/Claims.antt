@@ -35,6 +35,11 @@ Holds Blank phase low high = (phase < 6) × (low ≡ 0)
 Holds Aims phase low high = Points 1 low high
 Holds Inside phase low high = Points 0 low high
 
+-- more than nothing is known
+abbrev pub is_known : Claim → Bool
+is_known Unknown = false
+is_known claim = true
+
 abbrev pub HoldsIn : Claim → (ℕ → ℕ) → Type 0
 HoldsIn claim mem = Holds claim (mem 0x10) (mem 0x14) (mem 0x15)
 

@@ -7,7 +7,7 @@ use Rattle.dvg_6502.specs.Processor.{Cpu, A, X, Y, Instr, Branch, Negative, Zero
 use Rattle.dvg_6502.specs.Processor.{target}
 use Rattle.dvg_play.proofs.Claims.{Claim, Unknown, Ready, Sized, Low, Blank, Aims, Inside, Points}
 use Rattle.dvg_play.proofs.Claims.{Also, Nothing, Is, Small, Even, Twice, Says, Under, Over, Found}
-use Rattle.dvg_play.proofs.Claims.{Holds, HoldsIn, Means, MeansIn}
+use Rattle.dvg_play.proofs.Claims.{Holds, HoldsIn, Means, MeansIn, is_known}
 
 abbrev pub is_branch : Instr → Bool
 is_branch (Branch flag when) = true
@@ -139,7 +139,6 @@ module _ (cpu : Cpu) where
 -- what is known still, if something is forgotten
 pub data Weaker : Claim → Claim → Type 0 where
   same : {c : Claim} → Weaker c c
-  unknown : {c : Claim} → Weaker c Unknown
   low_ready : Weaker Low Ready
   low_sized : Weaker Low Sized
   sized_ready : Weaker Sized Ready
@@ -154,7 +153,6 @@ pub data Drops : Also → Also → Type 0 where
 
 pub weakened : {c d : Claim} → Weaker c d → (mem : ℕ → ℕ) → HoldsIn c mem → HoldsIn d mem
 weakened same mem holds = holds
-weakened unknown mem holds = tt
 weakened low_ready mem holds = inl (let less : mem 0x10 < 6 = holds in omega arith)
 weakened low_sized mem holds = let less : mem 0x10 < 6 = holds in (omega arith, inl (omega arith))
 weakened sized_ready mem holds = holds.1
@@ -167,3 +165,23 @@ dropped as_is cpu means = means
 dropped nothing cpu means = tt
 dropped {e = Is Y k} (small few) cpu means =
     let less = leb-true (suc k) 256 few in subst (λ (j : ℕ). j < 256) (sym means) less
+
+-- where more than nothing is known, it is so on both ways, and where less is said
+pub fork_known : {op : ℕ} {c : Claim} {e : Also} {d : Claim} {f : Also} {g : Claim} {h : Also} → Fork op c e d f g h
+    → is_known c ≡ true → (is_known d ≡ true) × (is_known g ≡ true)
+fork_known (either a) is = (is, is)
+fork_known busy_a is = (refl, refl)
+fork_known busy_x is = (refl, refl)
+fork_known (none a) is = (refl, is)
+fork_known idle is = (refl, refl)
+fork_known building is = (refl, refl)
+fork_known plus is = (is, is)
+
+pub weaker_known : {c d : Claim} → Weaker c d → is_known c ≡ true → is_known d ≡ true
+weaker_known same is = is
+weaker_known low_ready is = refl
+weaker_known low_sized is = refl
+weaker_known sized_ready is = refl
+weaker_known aims_ready is = refl
+weaker_known inside_aims is = refl
+weaker_known inside_ready is = refl

@@ -21,7 +21,7 @@ use Rattle.dvg_6502.specs.Tables.{table_of}
 use Rattle.dvg_6502.specs.Routines.{Shows}
 use Rattle.dvg_6502.specs.Calls as c
 use Rattle.dvg_6502.specs.Calls.{Routine, Call, after, is_taken, Adds, AreShown, IsLifeOf, IsSession, IsSessionBy}
-use Rattle.dvg_6502.specs.Programs.{Tells, with_drafts}
+use Rattle.dvg_6502.specs.Programs.{Tells, renamed, with_drafts}
 use Rattle.dvg_6502.proofs.Programs.{hindsight}
 use Rattle.dvg_6502.proofs.Sessions.{calls_live}
 use Rattle.dvg_play.proofs.Claims.{AreHard}
@@ -76,7 +76,7 @@ near_frame half F first fits = near_both (addressed (2 * base half) (bytes (laid
     room H1 = let a = long H1 in let b = long H0 in omega (arith, a, b, fits)
 
     zero : (first : Bool) → AreNear (word_zero half first)
-    zero true = (omega arith, omega arith, tt)
+    zero true = (omega arith, (omega arith, tt))
     zero false = (omega arith, tt)
 
 near_left : (writes : List (ℕ × ℕ)) → AreNear writes → IsNear (with_left writes)
@@ -273,4 +273,4 @@ hard_session R call calls session = let named = hindsight R (call ∷ calls) ses
   where
     by : (drafts : List (List OpKind)) → IsSession (with_drafts (call ∷ calls) drafts) → AreHard (after call).log
     by [] session = hard_of call calls session
-    by (G ∷ drafts) session = hard_of (record call { routine = _ }) (with_drafts calls drafts) session
+    by (G ∷ drafts) session = hard_of (record call { routine = renamed call.routine G }) (with_drafts calls drafts) session

@@ -31,3 +31,4 @@ pub mod FrameRows
 pub mod Staying
 pub mod Turning
 pub mod HardLogs
+pub mod CallsStay

@@ -10,7 +10,8 @@ use Rattle.dvg_6502.specs.Board.{is_hardware, is_own}
 use Rattle.dvg_6502.specs.Amid.{is_work}
 use Rattle.dvg_play.proofs.Claims.{Claim, Unknown, Ready, Sized, Low, Blank, Aims, Inside, Points}
 use Rattle.dvg_play.proofs.Claims.{Also, Nothing, Is, UpTo, Small, Even, Page, Once, Twice, Says, Under, Over, Found}
-use Rattle.dvg_play.proofs.Claims.{AreHard, Did, Holds, HoldsIn, Means, MeansIn, is_quiet, is_storing, is_touched, leaves}
+use Rattle.dvg_play.proofs.Claims.{AreHard, Did, Holds, HoldsIn, Means, MeansIn, is_known, is_quiet}
+use Rattle.dvg_play.proofs.Claims.{is_storing, is_touched, leaves}
 use Rattle.dvg_play.proofs.Claims.{length_of, sets}
 use Rattle.dvg_play.proofs.Effects.{Goes, quiet, stored}
 
@@ -124,3 +125,37 @@ stores_aside instr c e cpu new z v place holds means goes leaves_it mem is = rec
 
     four : (not (nat_eq 0x14 z) ≡ true) × (not (nat_eq 0x15 z) ≡ true)
     four = both (not (nat_eq 0x14 z)) _ three.1
+
+-- where more than nothing is known, it is so after the instruction
+pub straight_known : {op low high : ℕ} {c : Claim} {e : Also} {d : Claim} {f : Also} → Straight op low high c e d f
+    → is_known c ≡ true → is_known d ≡ true
+straight_known (plain a b) is = is
+straight_known (beside a b d) is = is
+straight_known (far a b) is = is
+straight_known (axis a b) is = is
+straight_known (axis_down a b) is = is
+straight_known lda is = is
+straight_known ldx is = is
+straight_known ldy is = is
+straight_known lda_phase is = is
+straight_known ldx_phase is = is
+straight_known ldy_phase is = is
+straight_known ldy_at is = is
+straight_known iny is = is
+straight_known sty_at is = is
+straight_known dey is = is
+straight_known once is = is
+straight_known twice is = is
+straight_known count is = is
+straight_known mask is = is
+straight_known double is = is
+straight_known page is = is
+straight_known (lower a) is = refl
+straight_known (sta_phase a) is = refl
+straight_known stx_phase is = refl
+straight_known inc_phase is = refl
+straight_known clear is = refl
+straight_known aim is = refl
+straight_known (turn_page a) is = refl
+straight_known store is = refl
+straight_known (cpy a) is = is

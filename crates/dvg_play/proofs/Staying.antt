@@ -9,7 +9,7 @@ use Rattle.dvg_6502.specs.Amid.{changed, guards, is_code, is_kept, is_work}
 use Rattle.dvg_6502.specs.Board.{is_hardware, is_own, is_ram}
 use Rattle.dvg_play.specs.Stays.{Stays, is_written}
 use Rattle.dvg_play.proofs.Claims.{AreHard, Also, Claim, Did, Holds, HoldsIn, Means, MeansIn, Note, Nothing, Ready}
-use Rattle.dvg_play.proofs.Claims.{is_touched, length_of}
+use Rattle.dvg_play.proofs.Claims.{is_known, is_touched, length_of}
 use Rattle.dvg_play.proofs.Rules.{Straight, both, kept}
 use Rattle.dvg_play.proofs.Known.{known}
 use Rattle.dvg_play.proofs.Forks.{Fork, Forked, dropped, forked, weakened}
@@ -27,8 +27,8 @@ pub data Level (s : ℕ) (within : Bool) (cpu : Cpu) : Type 0 where
       → noted ((word_at cpu.mem (stack_place (cpu.s + 1)) (stack_place (cpu.s + 2)) + 1) % 65536)
       ≡ Some (outer Ready Nothing) → Level s within cpu
 
--- what is noted holds
-pub record Good (s : ℕ) (cpu : Cpu) : Type 0 where
+-- what is noted holds; and it isn't nothing, if that is asked
+pub record Good (awake : Bool) (s : ℕ) (cpu : Cpu) : Type 0 where
   pub coded : (b : ℕ) → is_code b ≡ true → cpu.mem b ≡ byte_at b
   pub place : cpu.mem 0x13 < 256
   pub note : Note
@@ -36,6 +36,7 @@ pub record Good (s : ℕ) (cpu : Cpu) : Type 0 where
   pub level : Level s note.inner cpu
   pub claim : HoldsIn note.claim cpu.mem
   pub also : MeansIn note.also cpu
+  pub aware : awake ≡ true → is_known note.claim ≡ true
 
 pub all_rows : Rows notes
 all_rows = rows_of_both reset_rows (rows_of_both run_rows (rows_of_both burst_rows (rows_of_both ticks_rows
