@@ -1,22 +1,21 @@
 -- Each step of each call of a session stays in the driver's code, and writes what it may.
-use Rattle.std.proofs.Common.{◌≡◌, ◌⊎◌, inl, inr, ℕ, zero, suc, ◌+◌, ◌-◌, ◌*◌, ◌%◌, ◌<◌, ◌≤◌, Bool, true, false, List, [], ◌∷◌}
-use Rattle.std.proofs.Common.{◌++◌, length, refl, sym, ap, ◌∙◌, subst, arith, eqb-true, eq-eqb, leb-true, le-leb, Some}
+use Rattle.std.proofs.Common.{◌≡◌, ◌⊎◌, inl, inr, ℕ, zero, suc, ◌+◌, ◌-◌, ◌*◌, ◌%◌, ◌<◌, Bool, true, false, List, [], ◌∷◌}
+use Rattle.std.proofs.Common.{◌++◌, refl, sym, ap, ◌∙◌, subst, arith, eqb-true, eq-eqb, leb-true, Some}
 use Rattle.std.proofs.lemmas.Bool.{ne_eqb}
-use Rattle.std.specs.Prelude.{nat_eq, nat_lt, nat_le, ◌&&◌, ◌||◌, not, if◌then◌else◌, slice_index}
-use Rattle.dvg_6502.specs.Processor.{Access, Reads, Writes, Cpu, at_return, stack_place, step, turn, word_at}
+use Rattle.std.specs.Prelude.{nat_eq, nat_lt, nat_le, ◌&&◌, ◌||◌, not, if◌then◌else◌}
+use Rattle.dvg_6502.specs.Processor.{Access, Reads, Writes, Cpu, at_return, stack_place, step, turn}
 use Rattle.dvg_6502.specs.Amid.{AreHarmless, amid, changed, guards, is_code, is_kept, is_work}
-use Rattle.dvg_6502.specs.Board.{IsLoaded, is_hardware, is_own}
-use Rattle.dvg_6502.specs.Code.{code}
-use Rattle.dvg_6502.specs.Routines.{Enters, Labs, Pair, Put, Vector, begins}
+use Rattle.dvg_6502.specs.Board.{is_hardware, is_own}
+use Rattle.dvg_6502.specs.Routines.{Enters, Labs, Pair, Put, Vector}
 use Rattle.dvg_6502.specs.Calls as c
 use Rattle.dvg_6502.specs.Calls.{Routine, Call, after, entry, is_decided, is_leaving, is_over, is_refused, is_table}
 use Rattle.dvg_6502.specs.Calls.{IsSessionBy, UnlessReset}
 use Rattle.dvg_6502.specs.Programs.{Tells}
-use Rattle.dvg_play.specs.Stays.{CallsStay, Stays, is_written}
-use Rattle.dvg_play.proofs.Claims.{AreHard, Also, Nothing, Claim, Unknown, Ready, Sized, Holds, HoldsIn, Means, MeansIn, Note, is_known}
-use Rattle.dvg_play.proofs.Claims.{Points, Low, Blank, Aims, Inside}
+use Rattle.dvg_play.specs.Stays.{CallsStay}
+use Rattle.dvg_play.proofs.Claims.{AreHard, Nothing, Claim, Unknown, Ready, Sized, Holds, HoldsIn, Means, Note, is_known}
+use Rattle.dvg_play.proofs.Claims.{Low, Blank, Aims, Inside}
 use Rattle.dvg_play.proofs.Rules.{both}
-use Rattle.dvg_play.proofs.Notes.{lookup, noted, notes, outer}
+use Rattle.dvg_play.proofs.Notes.{lookup, noted, notes}
 use Rattle.dvg_play.proofs.Rows.{byte_at}
 use Rattle.dvg_play.proofs.Staying.{Good, Level, below, home, noted_is_code}
 use Rattle.dvg_play.proofs.Turning.{Turned, turned}
@@ -312,7 +311,7 @@ calls_stay R call calls m session deep same = record {
     did = turned (is_awake call.routine) call.from.s session.0.s (changed m (after call))
         (good_changed (is_awake call.routine) (is_table call calls) call.from.s (after call) m same
         (good_call R call calls session))
-        (subst (λ (k : Cpu). AreHard k.log) on.after 
+        (subst (λ (k : Cpu). AreHard k.log) on.after
         (hard_session R (record call { steps = suc call.steps; others = on.later }) calls on.session))
 
     by : Level call.from.s did.good.note.inner (turn call.from.s (changed m (after call)))

@@ -1,9 +1,8 @@
 -- What is noted of the driver's code, address by address, so that its stores stay where they may.
-use Rattle.std.proofs.Common.{◌≡◌, ◌⊎◌, ℕ, ◌+◌, ◌-◌, ◌*◌, ◌%◌, ◌<◌, ◌≤◌, Bool, true, false, List, [], ◌∷◌}
-use Rattle.std.specs.Prelude.{nat_eq, nat_le, ◌&&◌, ◌||◌, not, slice_index, Option, None, Some, if◌then◌else◌}
-use Rattle.dvg_6502.specs.Processor.{Access, Reads, Writes, Cpu, Register, A, X, Y, Instr, Mode, Immediate, ZeroPage}
-use Rattle.dvg_6502.specs.Processor.{ZeroPageX, ZeroPageY, Absolute, AbsoluteX, AbsoluteY, IndexedIndirect}
-use Rattle.dvg_6502.specs.Processor.{IndirectIndexed, Load, Store, Transfer, And, Or, Xor, Compare, TestBits, Change}
+use Rattle.std.proofs.Common.{◌≡◌, ◌⊎◌, ℕ, ◌+◌, ◌%◌, ◌<◌, ◌≤◌, Bool, true, false, List, [], ◌∷◌}
+use Rattle.std.specs.Prelude.{nat_eq, nat_le, ◌||◌, not}
+use Rattle.dvg_6502.specs.Processor.{Access, Reads, Writes, Cpu, Register, A, X, Y, Instr, ZeroPage}
+use Rattle.dvg_6502.specs.Processor.{Load, Store, Transfer, And, Or, Xor, Compare, TestBits, Change}
 use Rattle.dvg_6502.specs.Processor.{Step, ShiftAt, ShiftA, Set, Branch, size}
 use Rattle.dvg_6502.specs.Amid.{is_work}
 use Rattle.dvg_6502.specs.Board.{is_hardware, is_own}

@@ -1,17 +1,13 @@
 -- What instructions leave that store nothing, or at an address of the zero page.
-use Rattle.std.proofs.Common.{◌≡◌, ◌⊎◌, inl, inr, ℕ, ◌+◌, ◌<◌, Bool, true, false, refl, sym, ap, ◌∙◌, subst, arith}
-use Rattle.std.proofs.Common.{eqb-true}
-use Rattle.std.proofs.lemmas.Bool.{eqb-false, ne_eqb}
-use Rattle.std.specs.Prelude.{nat_eq, ◌&&◌, not, if◌then◌else◌}
+use Rattle.std.proofs.Common.{◌≡◌, ℕ, ◌+◌, Bool, true, false, refl, sym, ap, ◌∙◌}
 use Rattle.dvg_6502.specs.Processor.{Cpu, Register, A, X, Y, Instr, Mode, Immediate, ZeroPage, put, does, reading, setting}
 use Rattle.dvg_6502.specs.Processor.{ZeroPageX, ZeroPageY, Absolute, AbsoluteX, AbsoluteY, IndexedIndirect, size}
 use Rattle.dvg_6502.specs.Processor.{IndirectIndexed, Load, Store, Transfer, And, Or, Xor, Compare, TestBits, Change}
-use Rattle.dvg_6502.specs.Processor.{Step, ShiftAt, ShiftA, Set, Branch, Flag, Negative, Zero, Carry, Overflow, Decimal}
-use Rattle.dvg_6502.specs.Processor.{Interrupt, flagging, Add, Subtract, Jump, JumpAt, Call, Return, PushA, PushFlags}
-use Rattle.dvg_6502.specs.Processor.{PullA, PullFlags, FromStack, ToStack, Resume, Pass, Unknown as NoInstr, operand, next}
-use Rattle.dvg_play.proofs.Claims.{Claim, Also, Nothing, Is, UpTo, Small, Even, Page, Once, Twice, Says, Under, Over, Found}
-use Rattle.dvg_play.proofs.Claims.{Did, Holds, HoldsIn, Means, MeansIn, is_quiet, is_storing, is_same, is_touched}
-use Rattle.dvg_play.proofs.Claims.{leaves, length_of, sets}
+use Rattle.dvg_6502.specs.Processor.{Step, ShiftAt, ShiftA, Set, Flag, Negative, Zero, Carry, Overflow, Decimal}
+use Rattle.dvg_6502.specs.Processor.{Interrupt, flagging}
+use Rattle.dvg_6502.specs.Processor.{operand, next}
+use Rattle.dvg_play.proofs.Claims.{is_quiet, is_storing}
+use Rattle.dvg_play.proofs.Claims.{length_of, sets}
 
 -- registers that aren't set, S, and the next address
 pub record Goes (instr : Instr) (cpu new : Cpu) : Type 0 where

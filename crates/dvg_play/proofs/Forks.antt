@@ -2,12 +2,12 @@
 use Rattle.std.proofs.Common.{◌≡◌, ◌⊎◌, inl, inr, ℕ, suc, ◌+◌, ◌%◌, ◌<◌, ◌≤◌, Bool, true, false, refl, sym, ap, ◌∙◌, subst, arith}
 use Rattle.std.proofs.Common.{eqb-true, leb-true}
 use Rattle.std.proofs.lemmas.Bool.{eqb-false, leb-false}
-use Rattle.std.specs.Prelude.{nat_eq, nat_lt, nat_le, ◌&&◌, not, if◌then◌else◌}
+use Rattle.std.specs.Prelude.{nat_eq, nat_lt, nat_le, not, if◌then◌else◌}
 use Rattle.dvg_6502.specs.Processor.{Cpu, A, X, Y, Instr, Branch, Negative, Zero, does, decoded, opcodes, is_so, of_flag}
 use Rattle.dvg_6502.specs.Processor.{target}
-use Rattle.dvg_play.proofs.Claims.{Claim, Unknown, Ready, Sized, Low, Blank, Aims, Inside, Points}
+use Rattle.dvg_play.proofs.Claims.{Claim, Ready, Sized, Low, Aims, Inside, Points}
 use Rattle.dvg_play.proofs.Claims.{Also, Nothing, Is, Small, Even, Twice, Says, Under, Over, Found}
-use Rattle.dvg_play.proofs.Claims.{Holds, HoldsIn, Means, MeansIn, is_known}
+use Rattle.dvg_play.proofs.Claims.{HoldsIn, MeansIn, is_known}
 
 abbrev pub is_branch : Instr → Bool
 is_branch (Branch flag when) = true
@@ -63,10 +63,16 @@ module _ (cpu : Cpu) where
       by : (t : Bool) → taken ≡ t
           → (((does instr cpu).pc ≡ target cpu.pc (cpu.mem (cpu.pc + 1))) × HoldsIn c cpu.mem × MeansIn e (does instr cpu))
           ⊎ (((does instr cpu).pc ≡ cpu.pc + 2) × HoldsIn d cpu.mem × MeansIn f (does instr cpu))
-      by true is = inl (pc ∙ ap (λ (t : Bool). if t then target cpu.pc (cpu.mem (cpu.pc + 1)) else cpu.pc + 2) is,
-        (there is).0, (there is).1)
-      by false is = inr (pc ∙ ap (λ (t : Bool). if t then target cpu.pc (cpu.mem (cpu.pc + 1)) else cpu.pc + 2) is,
-        (here is).0, (here is).1)
+      by true is = inl (
+        pc ∙ ap (λ (t : Bool). if t then target cpu.pc (cpu.mem (cpu.pc + 1)) else cpu.pc + 2) is,
+        (there is).0,
+        (there is).1,
+      )
+      by false is = inr (
+        pc ∙ ap (λ (t : Bool). if t then target cpu.pc (cpu.mem (cpu.pc + 1)) else cpu.pc + 2) is,
+        (here is).0,
+        (here is).1,
+      )
 
   -- where the phase is high, the pointer may be stored by
   high_aims : (phase low high : ℕ) → 7 ≤ phase → (phase < 7) ⊎ Points 1 low high → Points 1 low high
@@ -83,12 +89,18 @@ module _ (cpu : Cpu) where
       → HoldsIn c cpu.mem → MeansIn e cpu → Forked cpu (does (decoded opcodes op) cpu) d f g h
   forked {op = op} {c = c} {e = e} (either is) = λ holds means. branched op c e (decoded opcodes op) is holds means
   forked busy_a = λ holds means. by_flag (Branch Negative true) cpu.n Aims Nothing Ready Nothing refl refl refl
-      (λ is. (high_aims (cpu.mem 0x10) (cpu.mem 0x14) (cpu.mem 0x15)
-      (let high = set cpu.a 128 (sym means.2 ∙ is) in let e = means.0 in omega (arith, high, e)) holds, tt))
+      (λ is. (
+        high_aims (cpu.mem 0x10) (cpu.mem 0x14) (cpu.mem 0x15)
+            (let high = set cpu.a 128 (sym means.2 ∙ is) in let e = means.0 in omega (arith, high, e)) holds,
+        tt,
+      ))
       (λ is. (holds, tt))
   forked busy_x = λ holds means. by_flag (Branch Negative true) cpu.n Aims Nothing Ready (Under 0) refl refl refl
-      (λ is. (high_aims (cpu.mem 0x10) (cpu.mem 0x14) (cpu.mem 0x15)
-      (let high = set cpu.x 128 (sym means.2 ∙ is) in let e = means.0 in omega (arith, high, e)) holds, tt))
+      (λ is. (
+        high_aims (cpu.mem 0x10) (cpu.mem 0x14) (cpu.mem 0x15)
+            (let high = set cpu.x 128 (sym means.2 ∙ is) in let e = means.0 in omega (arith, high, e)) holds,
+        tt,
+      ))
       (λ is. (holds, ((let e = means.0 in omega (arith, e)), unset cpu.x (sym means.2 ∙ is), means.1)))
   forked {c = c} {e = Under k} (none less) = λ holds means. by_flag (Branch Zero true) cpu.z Low Nothing c (Over k)
       refl refl refl (λ is. (low k (leb-true (suc k) 6 less) means (sym means.2 ∙ is), tt))
@@ -112,8 +124,11 @@ module _ (cpu : Cpu) where
           turned false is = absurd (cc)
   forked building = λ holds means. by_flag (Branch Zero false) (not cpu.z) Ready Nothing Aims Nothing refl refl refl
       (λ is. (holds, tt))
-      (λ is. (high_aims (cpu.mem 0x10) (cpu.mem 0x14) (cpu.mem 0x15)
-      (let e = means (turned cpu.z is) in above (cpu.mem 0x10) e) holds, tt))
+      (λ is. (
+        high_aims (cpu.mem 0x10) (cpu.mem 0x14) (cpu.mem 0x15)
+            (let e = means (turned cpu.z is) in above (cpu.mem 0x10) e) holds,
+        tt,
+      ))
     where
       turned : (t : Bool) → not t ≡ false → t ≡ true
       turned true is = refl

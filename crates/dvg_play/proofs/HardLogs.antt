@@ -1,6 +1,6 @@
 -- What the calls of a session write outside the zero page and the stack is the hardware's: the script's writes.
-use Rattle.std.proofs.Common.{◌≡◌, ◌⊎◌, inl, inr, ℕ, suc, ◌+◌, ◌*◌, ◌<◌, ◌≤◌, Bool, true, false, List, [], ◌∷◌, ◌++◌}
-use Rattle.std.proofs.Common.{length, refl, sym, ap, ◌∙◌, subst, arith, eqb-true, leb-true, le-leb, Option, None, Some}
+use Rattle.std.proofs.Common.{◌≡◌, ℕ, suc, ◌+◌, ◌*◌, ◌<◌, ◌≤◌, Bool, true, false, List, [], ◌∷◌, ◌++◌}
+use Rattle.std.proofs.Common.{length, refl, sym, ap, ◌∙◌, subst, arith, eqb-true, le-leb, None, Some}
 use Rattle.std.specs.Prelude.{nat_eq, nat_lt, nat_le, ◌&&◌, ◌||◌, if◌then◌else◌}
 use Rattle.dvg_mem.specs.declared.half.Half.{Half}
 use Rattle.dvg_mem.specs.declared.half.Half.TheVariants.{H0, H1}
@@ -12,20 +12,18 @@ use Rattle.dvg_frame.proofs.Bytes.{addressed-length}
 use Rattle.dvg_frame.proofs.Cursors.{items_of_laid}
 use Rattle.dvg_driver.specs.declared.action.Action.TheVariants.{Peek, Wrote, Read, Sent, Idle}
 use Rattle.dvg_driver.specs.Script.{Item, Offered, Asked, Did, frame_writes, word_zero}
-use Rattle.dvg_driver.specs.Place.{Place, Start, Booting, Resting, Writing, Waiting, Sending, after_write, next_place}
+use Rattle.dvg_driver.specs.Place.{Place, Start, Booting, Resting, Writing, Waiting, Sending, next_place}
 use Rattle.dvg_driver.specs.Place.{place_of_life, with_left}
 use Rattle.dvg_driver.proofs.Places.{life_place, place_before, some_same}
 use Rattle.dvg_6502.specs.Processor.{Access, Reads, Writes}
-use Rattle.dvg_6502.specs.Board.{byte1_place, is_hardware, is_ram, seen}
+use Rattle.dvg_6502.specs.Board.{byte1_place, is_hardware, seen}
 use Rattle.dvg_6502.specs.Tables.{table_of}
-use Rattle.dvg_6502.specs.Routines.{Shows}
 use Rattle.dvg_6502.specs.Calls as c
 use Rattle.dvg_6502.specs.Calls.{Routine, Call, after, is_taken, Adds, AreShown, IsLifeOf, IsSession, IsSessionBy}
 use Rattle.dvg_6502.specs.Programs.{Tells, renamed, with_drafts}
 use Rattle.dvg_6502.proofs.Programs.{hindsight}
 use Rattle.dvg_6502.proofs.Sessions.{calls_live}
 use Rattle.dvg_play.proofs.Claims.{AreHard}
-use Rattle.dvg_play.proofs.Rules.{both}
 
 -- all these writes are in the vector RAM
 abbrev AreNear : List (ℕ × ℕ) → Type 0

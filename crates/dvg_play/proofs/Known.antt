@@ -3,21 +3,21 @@ use Rattle.std.proofs.Common.{◌≡◌, ◌⊎◌, inl, inr, ℕ, zero, suc, �
 use Rattle.std.proofs.Common.{◌∙◌, subst, arith, eqb-true, leb-true, le-leb}
 use Rattle.std.proofs.lemmas.Bool.{ne_eqb}
 use Rattle.std.proofs.lemmas.Nat.{and_le_r}
-use Rattle.std.specs.Prelude.{nat_eq, nat_lt, nat_le, ◌&&◌, ◌||◌, not, if◌then◌else◌, bit_and, bit_or}
-use Rattle.dvg_6502.specs.Processor.{Cpu, Register, A, X, Y, Instr, Store, Change, ZeroPage, ZeroPageX, Absolute, Step}
-use Rattle.dvg_6502.specs.Processor.{put, does, decoded, opcodes, found, word_at, Shift, Left, ShiftA, And, Or, Load}
+use Rattle.std.specs.Prelude.{nat_eq, nat_lt, nat_le, ◌||◌, bit_and, bit_or}
+use Rattle.dvg_6502.specs.Processor.{Cpu, A, X, Y, Instr, Store, Change, ZeroPage, ZeroPageX, Absolute, Step}
+use Rattle.dvg_6502.specs.Processor.{put, does, decoded, opcodes, found, Left, ShiftA, And, Or, Load}
 use Rattle.dvg_6502.specs.Processor.{Immediate, Compare, IndirectIndexed}
 use Rattle.dvg_6502.specs.Board.{is_hardware, is_own, is_ram}
 use Rattle.dvg_6502.specs.Amid.{is_work}
-use Rattle.dvg_play.proofs.Claims.{Claim, Unknown, Ready, Sized, Low, Blank, Aims, Inside, Points}
+use Rattle.dvg_play.proofs.Claims.{Claim, Ready, Low, Blank, Aims, Inside, Points}
 use Rattle.dvg_play.proofs.Claims.{Also, Nothing, Is, UpTo, Small, Even, Page, Once, Twice, Says, Under, Over, Found}
-use Rattle.dvg_play.proofs.Claims.{AreHard, Did, Holds, HoldsIn, Means, MeansIn, is_quiet, is_storing, is_touched, leaves}
-use Rattle.dvg_play.proofs.Claims.{length_of, sets}
+use Rattle.dvg_play.proofs.Claims.{AreHard, Did, HoldsIn, MeansIn, is_quiet, is_storing, is_touched, leaves}
+use Rattle.dvg_play.proofs.Claims.{length_of}
 use Rattle.dvg_play.proofs.Effects.{Goes, quiet, stored}
 use Rattle.dvg_play.proofs.Rules.{Straight, plain, beside, far, axis, axis_down, lda, ldx, ldy, lda_phase, ldx_phase}
 use Rattle.dvg_play.proofs.Rules.{ldy_phase, ldy_at, iny, sty_at, dey, once, twice, count, mask, double, page, lower}
 use Rattle.dvg_play.proofs.Rules.{sta_phase, stx_phase, inc_phase, clear, aim, turn_page, store, cpy}
-use Rattle.dvg_play.proofs.Rules.{aside, both, kept, left, not_true, spared, stores_aside}
+use Rattle.dvg_play.proofs.Rules.{aside, both, kept, left, spared, stores_aside}
 
 -- up to 4, with bit 6 set
 in_page : (a : ℕ) → a ≤ 4 → (0x40 ≤ bit_or a 0x40) × (bit_or a 0x40 < 0x48)
@@ -148,10 +148,11 @@ module _ (cpu : Cpu) (place : cpu.mem 0x13 < 256) where
       stores_own (Store A IndirectIndexed) Inside Small goal cpu.a
       (record { pc = refl; s = refl; a = λ none. refl; x = λ none. refl; y = λ none. refl })
       (ap (λ z. put (goal_by z) cpu.a cpu.mem) l) (touched (is_own goal) (is_work goal) (is_hardware goal) is_hard)
-      (subst (λ (j : ℕ). j < 256) (sym (unmoved 0x13 (omega arith) high)) place)
-      (unmoved 0x14 (omega arith) high ∙ holds.0,
-      subst (λ (j : ℕ). 0x40 ≤ j) (sym (unmoved 0x15 (omega arith) high)) holds.1,
-      subst (λ (j : ℕ). j < 0x48) (sym (unmoved 0x15 (omega arith) high)) (page_below two.0 below)) small
+      (subst (λ (j : ℕ). j < 256) (sym (unmoved 0x13 (omega arith) high)) place) (
+        unmoved 0x14 (omega arith) high ∙ holds.0,
+        subst (λ (j : ℕ). 0x40 ≤ j) (sym (unmoved 0x15 (omega arith) high)) holds.1,
+        subst (λ (j : ℕ). j < 0x48) (sym (unmoved 0x15 (omega arith) high)) (page_below two.0 below),
+      ) small
     where
       touched : (t u v : Bool) → v ≡ true → (t || (u || v)) ≡ true
       touched true u v is = refl
@@ -232,9 +233,11 @@ module _ (cpu : Cpu) (place : cpu.mem 0x13 < 256) where
   known {e = e} (turn_page leaves_it) = λ l h holds means hard. stores_own (Change ZeroPage 1) Aims e 0x15
       ((cpu.mem 0x15 + 1) % 256)
       (record { pc = refl; s = refl; a = λ none. refl; x = λ none. refl; y = λ none. refl })
-      (ap (λ z. put z ((found z cpu + 1) % 256) cpu.mem) l) refl place
-      (holds.0, (let a = holds.1 in let b = holds.2 in omega (arith, a, b)),
-      (let a = holds.1 in let b = holds.2 in omega (arith, a, b)))
+      (ap (λ z. put z ((found z cpu + 1) % 256) cpu.mem) l) refl place (
+        holds.0,
+        (let a = holds.1 in let b = holds.2 in omega (arith, a, b)),
+        (let a = holds.1 in let b = holds.2 in omega (arith, a, b)),
+      )
       (left (Change ZeroPage 1) e cpu (does (Change ZeroPage 1) cpu) leaves_it
       (record { pc = refl; s = refl; a = λ none. refl; x = λ none. refl; y = λ none. refl }) means)
   known {now = c} sty_at = λ l h holds means hard. stores_own (Store Y ZeroPage) c Small 0x13 cpu.y

@@ -1,7 +1,7 @@
 -- Each play stands somewhere; so its accesses are those of a session of calls.
 use Rattle.std.proofs.Common.{◌≡◌, ◌⊎◌, inl, inr, ℕ, suc, ◌+◌, ◌-◌, ◌*◌, ◌<◌, ◌≤◌, Bool, true, false, List}
 use Rattle.std.proofs.Common.{[], ◌∷◌, ◌++◌, refl, sym, ap, ◌∙◌, subst, arith, eq-eqb, leb-true}
-use Rattle.std.specs.Prelude.{◌&&◌, not, nat_eq, nat_le, nat_lt}
+use Rattle.std.specs.Prelude.{◌&&◌, not, nat_le, nat_lt}
 use Rattle.dvg_6502.specs.Processor.{Cpu, Access, at_return}
 use Rattle.dvg_6502.specs.Board.{seen}
 use Rattle.dvg_6502.specs.Calls.{IsSessionBy}

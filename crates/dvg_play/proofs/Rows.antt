@@ -1,7 +1,7 @@
 -- A row: what one instruction of the driver makes of its note serves the notes of where it leads.
-use Rattle.std.proofs.Common.{◌≡◌, ℕ, ◌+◌, ◌-◌, ◌*◌, ◌%◌, Bool, true, false, List, [], ◌∷◌, ◌++◌, refl, sym, ap, ◌∙◌}
+use Rattle.std.proofs.Common.{◌≡◌, ℕ, ◌+◌, ◌-◌, ◌*◌, Bool, true, false, List, [], ◌∷◌, ◌++◌, refl, sym, ap, ◌∙◌}
 use Rattle.std.proofs.Common.{subst, eqb-true, Some}
-use Rattle.std.specs.Prelude.{nat_eq, nat_lt, ◌||◌, not, slice_index, Option, None, if◌then◌else◌}
+use Rattle.std.specs.Prelude.{nat_eq, nat_lt, ◌||◌, not, slice_index, if◌then◌else◌}
 use Rattle.dvg_6502.specs.Processor.{decoded, opcodes, target}
 use Rattle.dvg_6502.specs.Code.{code}
 use Rattle.dvg_play.proofs.Claims.{Claim, Ready, Also, Nothing, Note, length_of}
@@ -42,7 +42,6 @@ pub data Rows : List (ℕ × Note) → Type 0 where
   ◌▸◌ : {row : ℕ × Note} {rows : List (ℕ × Note)} → Row row.0 row.1 → Rows rows → Rows (row ∷ rows)
 
 infixr 5 ◌▸◌
-
 pub rows_of_both : {one two : List (ℕ × Note)} → Rows one → Rows two → Rows (one ++ two)
 rows_of_both ends b = b
 rows_of_both (row ▸ rows) b = row ▸ rows_of_both rows b

@@ -1,19 +1,16 @@
 -- What one instruction of the driver makes of what is known.
-use Rattle.std.proofs.Common.{◌≡◌, ◌⊎◌, inl, inr, ℕ, suc, ◌+◌, ◌*◌, ◌%◌, ◌<◌, ◌≤◌, Bool, true, false, refl, sym, ap, ◌∙◌}
-use Rattle.std.proofs.Common.{subst, arith, eqb-true, leb-true}
+use Rattle.std.proofs.Common.{◌≡◌, ◌⊎◌, ℕ, suc, ◌+◌, ◌*◌, ◌%◌, ◌<◌, Bool, true, false, refl, sym, ap, ◌∙◌}
+use Rattle.std.proofs.Common.{subst}
 use Rattle.std.proofs.lemmas.Bool.{ne_eqb}
-use Rattle.std.proofs.lemmas.Nat.{and_le_r}
-use Rattle.std.specs.Prelude.{nat_eq, nat_lt, nat_le, ◌&&◌, ◌||◌, not, if◌then◌else◌, bit_or}
-use Rattle.dvg_6502.specs.Processor.{Cpu, Register, A, X, Y, Instr, Store, Change, ZeroPage, ZeroPageX, Absolute, Step}
-use Rattle.dvg_6502.specs.Processor.{put, does, decoded, opcodes, found, word_at}
-use Rattle.dvg_6502.specs.Board.{is_hardware, is_own}
-use Rattle.dvg_6502.specs.Amid.{is_work}
-use Rattle.dvg_play.proofs.Claims.{Claim, Unknown, Ready, Sized, Low, Blank, Aims, Inside, Points}
+use Rattle.std.specs.Prelude.{nat_eq, nat_lt, ◌&&◌, not, if◌then◌else◌}
+use Rattle.dvg_6502.specs.Processor.{Cpu, A, X, Y, Instr, Store, Change, ZeroPage, Absolute}
+use Rattle.dvg_6502.specs.Processor.{put, decoded, opcodes}
+use Rattle.dvg_play.proofs.Claims.{Claim, Ready, Low, Blank, Aims, Inside}
 use Rattle.dvg_play.proofs.Claims.{Also, Nothing, Is, UpTo, Small, Even, Page, Once, Twice, Says, Under, Over, Found}
-use Rattle.dvg_play.proofs.Claims.{AreHard, Did, Holds, HoldsIn, Means, MeansIn, is_known, is_quiet}
+use Rattle.dvg_play.proofs.Claims.{Did, Holds, HoldsIn, MeansIn, is_known, is_quiet}
 use Rattle.dvg_play.proofs.Claims.{is_storing, is_touched, leaves}
 use Rattle.dvg_play.proofs.Claims.{length_of, sets}
-use Rattle.dvg_play.proofs.Effects.{Goes, quiet, stored}
+use Rattle.dvg_play.proofs.Effects.{Goes}
 
 -- a store there leaves what is known, and is allowed
 abbrev pub aside : ℕ → Bool

@@ -1,22 +1,19 @@
 -- Where a call of the driver is, and what is known there: each step leads to such a place, and writes what it may.
-use Rattle.std.proofs.Common.{◌≡◌, ◌⊎◌, inl, inr, ℕ, suc, ◌+◌, ◌*◌, ◌/◌, ◌%◌, ◌<◌, ◌≤◌, Bool, true, false, List, [], ◌∷◌}
-use Rattle.std.proofs.Common.{◌++◌, refl, sym, ap, ◌∙◌, subst, arith, eqb-true, eq-eqb, leb-true, le-leb, Some}
+use Rattle.std.proofs.Common.{◌≡◌, ◌⊎◌, inl, inr, ℕ, suc, ◌+◌, ◌%◌, ◌<◌, ◌≤◌, Bool, true, false, List, [], ◌∷◌}
+use Rattle.std.proofs.Common.{refl, sym, ap, ◌∙◌, arith, eqb-true, leb-true, Some}
 use Rattle.std.proofs.lemmas.Bool.{ne_eqb}
-use Rattle.std.specs.Prelude.{nat_eq, nat_lt, nat_le, ◌&&◌, ◌||◌, not, if◌then◌else◌, Option, None}
-use Rattle.dvg_6502.specs.Processor.{Cpu, Jump, Call, Return, at_return, decoded, does, opcodes, put, stack_place, step}
-use Rattle.dvg_6502.specs.Processor.{target, turn, word_at}
-use Rattle.dvg_6502.specs.Amid.{changed, guards, is_code, is_kept, is_work}
+use Rattle.std.specs.Prelude.{nat_eq, nat_lt, nat_le, ◌&&◌, ◌||◌, if◌then◌else◌}
+use Rattle.dvg_6502.specs.Processor.{Cpu, stack_place}
+use Rattle.dvg_6502.specs.Processor.{word_at}
+use Rattle.dvg_6502.specs.Amid.{is_code, is_work}
 use Rattle.dvg_6502.specs.Board.{is_hardware, is_own, is_ram}
-use Rattle.dvg_play.specs.Stays.{Stays, is_written}
-use Rattle.dvg_play.proofs.Claims.{AreHard, Also, Claim, Did, Holds, HoldsIn, Means, MeansIn, Note, Nothing, Ready}
-use Rattle.dvg_play.proofs.Claims.{is_known, is_touched, length_of}
-use Rattle.dvg_play.proofs.Rules.{Straight, both, kept}
-use Rattle.dvg_play.proofs.Known.{known}
-use Rattle.dvg_play.proofs.Forks.{Fork, Forked, dropped, forked, weakened}
-use Rattle.dvg_play.proofs.Notes.{burst, close, inner, lookup, noted, notes, offer, outer, pair, put as put_notes, reset}
-use Rattle.dvg_play.proofs.Notes.{axes, run, tick, ticks, vector, write}
-use Rattle.dvg_play.proofs.Rows.{Row, Rows, Serves, alone, byte_at, calls, forks, goes_on, jumps, returns, row_of}
-use Rattle.dvg_play.proofs.Rows.{rows_of_both, to}
+use Rattle.dvg_play.specs.Stays.{is_written}
+use Rattle.dvg_play.proofs.Claims.{HoldsIn, MeansIn, Note, Nothing, Ready}
+use Rattle.dvg_play.proofs.Claims.{is_known, is_touched}
+use Rattle.dvg_play.proofs.Rules.{both}
+use Rattle.dvg_play.proofs.Notes.{lookup, noted, notes, outer}
+use Rattle.dvg_play.proofs.Rows.{Rows, byte_at}
+use Rattle.dvg_play.proofs.Rows.{rows_of_both}
 use Rattle.dvg_play.proofs.TickRows.{burst_rows, reset_rows, run_rows, tick_rows, ticks_rows, write_rows}
 use Rattle.dvg_play.proofs.FrameRows.{axes_rows, close_rows, offer_rows, pair_rows, put_rows, vector_rows}
 

@@ -1,17 +1,17 @@
 -- A step of a call of the driver: what was noted leads to what is noted, and only what may be written is.
 use Rattle.std.proofs.Common.{◌≡◌, ◌⊎◌, inl, inr, ℕ, suc, ◌+◌, ◌*◌, ◌/◌, ◌%◌, ◌<◌, ◌≤◌, Bool, true, false, refl, sym, ap}
-use Rattle.std.proofs.Common.{◌∙◌, subst, arith, eqb-true, eq-eqb, leb-true, le-leb, Some}
+use Rattle.std.proofs.Common.{◌∙◌, subst, arith, eq-eqb, leb-true, le-leb, Some}
 use Rattle.std.proofs.lemmas.Bool.{ne_eqb}
 use Rattle.std.specs.Prelude.{nat_eq, nat_lt, nat_le, ◌&&◌, ◌||◌, not, if◌then◌else◌}
-use Rattle.dvg_6502.specs.Processor.{Cpu, Jump, Call, Return, at_return, decoded, does, opcodes, put, stack_place, step}
+use Rattle.dvg_6502.specs.Processor.{Cpu, at_return, decoded, does, opcodes, put, stack_place, step}
 use Rattle.dvg_6502.specs.Processor.{target, turn, word_at}
 use Rattle.dvg_6502.specs.Amid.{is_code}
 use Rattle.dvg_play.specs.Stays.{is_written}
-use Rattle.dvg_play.proofs.Claims.{AreHard, Also, Claim, Did, Holds, HoldsIn, Means, MeansIn, Note, Nothing, Ready}
+use Rattle.dvg_play.proofs.Claims.{AreHard, Also, Claim, Did, Holds, HoldsIn, MeansIn, Nothing, Ready}
 use Rattle.dvg_play.proofs.Claims.{is_known, is_touched, length_of}
-use Rattle.dvg_play.proofs.Rules.{Straight, both, kept, straight_known}
+use Rattle.dvg_play.proofs.Rules.{both, kept, straight_known}
 use Rattle.dvg_play.proofs.Known.{known}
-use Rattle.dvg_play.proofs.Forks.{Fork, Forked, dropped, fork_known, forked, weakened, weaker_known}
+use Rattle.dvg_play.proofs.Forks.{Forked, dropped, fork_known, forked, weakened, weaker_known}
 use Rattle.dvg_play.proofs.Notes.{noted, outer}
 use Rattle.dvg_play.proofs.Rows.{Row, Serves, alone, byte_at, calls, forks, goes_on, jumps, returns, row_of, to}
 use Rattle.dvg_play.proofs.Staying.{Good, Level, all_rows, apart, below, code_untouched, home, noted_is_code}
