@@ -1,6 +1,8 @@
 -- Each step of each call of a session stays in the driver's code, and writes what it may.
-use Rattle.std.proofs.Common.{◌≡◌, ◌⊎◌, inl, inr, ℕ, zero, suc, ◌+◌, ◌-◌, ◌*◌, ◌%◌, ◌<◌, Bool, true, false, List, [], ◌∷◌}
-use Rattle.std.proofs.Common.{◌++◌, refl, sym, ap, ◌∙◌, subst, arith, eqb-true, eq-eqb, leb-true, Some}
+use Rattle.std.proofs.Common.{◌≡◌, ◌⊎◌, inl, inr, ℕ, zero, suc, ◌+◌, ◌-◌, ◌*◌, ◌%◌, ◌<◌, Bool, true}
+use Rattle.std.proofs.Common.{false, List, [], ◌∷◌}
+use Rattle.std.proofs.Common.{◌++◌, refl, sym, ap, ◌∙◌, subst, arith, eqb-true, eq-eqb, leb-true}
+use Rattle.std.proofs.Common.{Some}
 use Rattle.std.proofs.lemmas.Bool.{ne_eqb}
 use Rattle.std.specs.Prelude.{nat_eq, nat_lt, nat_le, ◌&&◌, ◌||◌, not, if◌then◌else◌}
 use Rattle.dvg_6502.specs.Processor.{Access, Reads, Writes, Cpu, at_return, stack_place, step, turn}
@@ -8,13 +10,15 @@ use Rattle.dvg_6502.specs.Amid.{AreHarmless, amid, changed, guards, is_code, is_
 use Rattle.dvg_6502.specs.Board.{is_hardware, is_own}
 use Rattle.dvg_6502.specs.Routines.{Enters, Labs, Pair, Put, Vector}
 use Rattle.dvg_6502.specs.Calls as c
-use Rattle.dvg_6502.specs.Calls.{Routine, Call, after, entry, is_decided, is_leaving, is_over, is_refused, is_table}
+use Rattle.dvg_6502.specs.Calls.{Routine, Call, after, entry, is_decided, is_leaving, is_over}
+use Rattle.dvg_6502.specs.Calls.{is_refused, is_table}
 use Rattle.dvg_6502.specs.Calls.{IsSessionBy, UnlessReset}
 use Rattle.dvg_6502.specs.Programs.{Tells}
+use Rattle.dvg_game.proofs.Facts.{both_true}
 use Rattle.dvg_play.specs.Stays.{CallsStay}
-use Rattle.dvg_play.proofs.Claims.{AreHard, Nothing, Claim, Unknown, Ready, Sized, Holds, HoldsIn, Means, Note, is_known}
+use Rattle.dvg_play.proofs.Claims.{AreHard, Nothing, Claim, Unknown, Ready, Sized, Holds, HoldsIn}
+use Rattle.dvg_play.proofs.Claims.{Means, Note, is_known}
 use Rattle.dvg_play.proofs.Claims.{Low, Blank, Aims, Inside}
-use Rattle.dvg_play.proofs.Rules.{both}
 use Rattle.dvg_play.proofs.Notes.{lookup, noted, notes}
 use Rattle.dvg_play.proofs.Rows.{byte_at}
 use Rattle.dvg_play.proofs.Staying.{Good, Level, below, home, noted_is_code}
@@ -28,10 +32,12 @@ left_true true u is = refl
 left_true false u is = absurd (cc)
 
 -- the driver's bytes, and its code, are guarded
-own_guarded : (tables : ℕ → Bool) (s now b : ℕ) → is_own b ≡ true → guards (is_kept tables) s now b ≡ true
+own_guarded : (tables : ℕ → Bool) (s now b : ℕ) → is_own b ≡ true
+    → guards (is_kept tables) s now b ≡ true
 own_guarded tables s now b is = left_true (is_kept tables b) _ (left_true (is_own b) _ is)
 
-code_guarded : (tables : ℕ → Bool) (s now b : ℕ) → is_code b ≡ true → guards (is_kept tables) s now b ≡ true
+code_guarded : (tables : ℕ → Bool) (s now b : ℕ) → is_code b ≡ true
+    → guards (is_kept tables) s now b ≡ true
 code_guarded tables s now b is = left_true (is_kept tables b) _
     (by (is_own b) (is_work b) (is_code b) (is_hardware b || tables b) is)
   where
@@ -44,7 +50,8 @@ code_guarded tables s now b is = left_true (is_kept tables b) _
 -- so are the two bytes above S where it's lower
 stack_guarded : (kept : ℕ → Bool) (s now b : ℕ) → nat_eq now s ≡ false
     → (b ≡ stack_place (now + 1)) ⊎ (b ≡ stack_place (now + 2)) → guards kept s now b ≡ true
-stack_guarded kept s now b apart which = by (kept b) (nat_eq now s) (nat_eq b (stack_place (now + 1)))
+stack_guarded kept s now b apart which =
+    by (kept b) (nat_eq now s) (nat_eq b (stack_place (now + 1)))
     (nat_eq b (stack_place (now + 2))) apart (here which)
   where
     here : (b ≡ stack_place (now + 1)) ⊎ (b ≡ stack_place (now + 2))
@@ -62,7 +69,8 @@ stack_guarded kept s now b apart which = by (kept b) (nat_eq now s) (nat_eq b (s
 
 -- others that leave what is guarded leave what is known
 good_changed : (awake : Bool) (tables : ℕ → Bool) (s : ℕ) (cpu : Cpu) (m : ℕ → ℕ)
-    → ((b : ℕ) → guards (is_kept tables) s cpu.s b ≡ true → m b ≡ cpu.mem b) → Good awake s cpu → Good awake s (changed m cpu)
+    → ((b : ℕ) → guards (is_kept tables) s cpu.s b ≡ true → m b ≡ cpu.mem b) → Good awake s cpu
+    → Good awake s (changed m cpu)
 good_changed awake tables s cpu m same good = record {
   coded = λ b is. same b (code_guarded tables s cpu.s b is) ∙ good.coded b is;
   place = subst (λ (j : ℕ). j < 256) (sym (own 0x13 refl)) good.place;
@@ -71,8 +79,10 @@ good_changed awake tables s cpu m same good = record {
   level = by good.level;
   claim = subst (λ j. Holds good.note.claim j (m 0x14) (m 0x15)) (sym (own 0x10 refl))
       (subst (λ j. Holds good.note.claim (cpu.mem 0x10) j (m 0x15)) (sym (own 0x14 refl))
-      (subst (λ j. Holds good.note.claim (cpu.mem 0x10) (cpu.mem 0x14) j) (sym (own 0x15 refl)) good.claim));
-  also = subst (λ j. Means good.note.also j cpu.a cpu.x cpu.y cpu.z cpu.n) (sym (own 0x10 refl)) good.also;
+      (subst (λ j. Holds good.note.claim (cpu.mem 0x10) (cpu.mem 0x14) j)
+      (sym (own 0x15 refl)) good.claim));
+  also = subst (λ j. Means good.note.also j cpu.a cpu.x cpu.y cpu.z cpu.n)
+      (sym (own 0x10 refl)) good.also;
   aware = good.aware;
 }
   where
@@ -83,9 +93,11 @@ good_changed awake tables s cpu m same good = record {
     by (home is) = home is
     by (below within small up back) = below within small up
         (ap (λ w. noted ((w + 256 * m (stack_place (cpu.s + 2)) + 1) % 65536))
-        (same (stack_place (cpu.s + 1)) (stack_guarded (is_kept tables) s cpu.s (stack_place (cpu.s + 1)) apart (inl refl)))
+        (same (stack_place (cpu.s + 1))
+        (stack_guarded (is_kept tables) s cpu.s (stack_place (cpu.s + 1)) apart (inl refl)))
         ∙ ap (λ w. noted ((cpu.mem (stack_place (cpu.s + 1)) + 256 * w + 1) % 65536))
-        (same (stack_place (cpu.s + 2)) (stack_guarded (is_kept tables) s cpu.s (stack_place (cpu.s + 2)) apart (inr refl)))
+        (same (stack_place (cpu.s + 2))
+        (stack_guarded (is_kept tables) s cpu.s (stack_place (cpu.s + 2)) apart (inr refl)))
         ∙ back)
       where
         apart : nat_eq cpu.s s ≡ false
@@ -105,28 +117,34 @@ hard_before s cpu hard = by (at_return s cpu) hard
     by false hard = hard_rest (step (record cpu { log = [] })).log cpu.log
         (subst (λ (k : Cpu). AreHard k.log) (log_is_passive cpu) hard)
 
-hard_at_first : (s : ℕ) (n : ℕ) (others : ℕ → ℕ → ℕ) (cpu : Cpu) → AreHard (amid s others n cpu).log → AreHard cpu.log
+hard_at_first : (s : ℕ) (n : ℕ) (others : ℕ → ℕ → ℕ) (cpu : Cpu) → AreHard (amid s others n cpu).log
+    → AreHard cpu.log
 hard_at_first s zero others cpu hard = hard
 hard_at_first s (suc n) others cpu hard = hard_before s (changed (others 0) cpu)
     (hard_at_first s n (λ k. others (suc k)) (turn s (changed (others 0) cpu)) hard)
 
 -- what is noted holds all along a call
-good_amid : (awake : Bool) (tables : ℕ → Bool) (s : ℕ) → s < 256 → (n : ℕ) (others : ℕ → ℕ → ℕ) (cpu : Cpu) → Good awake s cpu
+good_amid : (awake : Bool) (tables : ℕ → Bool) (s : ℕ) → s < 256
+    → (n : ℕ) (others : ℕ → ℕ → ℕ) (cpu : Cpu) → Good awake s cpu
     → AreHarmless (guards (is_kept tables) s) s others n cpu → AreHard (amid s others n cpu).log
     → Good awake s (amid s others n cpu)
 good_amid awake tables s few zero others cpu good harmless hard = good
 good_amid awake tables s few (suc n) others cpu good harmless hard =
     good_amid awake tables s few n (λ k. others (suc k)) (turn s (changed (others 0) cpu))
-    (turned awake s few (changed (others 0) cpu) (good_changed awake tables s cpu (others 0) harmless.0 good)
-    (hard_at_first s n (λ k. others (suc k)) (turn s (changed (others 0) cpu)) hard)).good harmless.1 hard
+    (turned awake s few (changed (others 0) cpu)
+    (good_changed awake tables s cpu (others 0) harmless.0 good)
+    (hard_at_first s n (λ k. others (suc k))
+    (turn s (changed (others 0) cpu)) hard)).good harmless.1 hard
 
 -- what holds of the driver's bytes between two calls
 abbrev IsReady : (ℕ → ℕ) → Type 0
 IsReady mem = HoldsIn Ready mem
 
 -- at a routine's entry
-entered : (awake : Bool) (s at : ℕ) (claim : Claim) (within : Bool) (cpu : Cpu) → cpu.s ≡ s → Enters cpu at
-    → noted at ≡ Some (record { inner = within; claim = claim; also = Nothing }) → HoldsIn claim cpu.mem
+entered : (awake : Bool) (s at : ℕ) (claim : Claim) (within : Bool) (cpu : Cpu) → cpu.s ≡ s
+    → Enters cpu at
+    → noted at ≡ Some (record { inner = within; claim = claim; also = Nothing })
+    → HoldsIn claim cpu.mem
     → (awake ≡ true → is_known claim ≡ true) → Good awake s cpu
 entered awake s at claim within cpu level enters there holds aware = record {
   coded = λ b is. code_at b is;
@@ -141,7 +159,7 @@ entered awake s at claim within cpu level enters there holds aware = record {
   where
     code_at : (b : ℕ) → is_code b ≡ true → cpu.mem b ≡ byte_at b
     code_at b is =
-        let two = both (nat_le 0x6800 b) (nat_lt b 0x6A87) is in
+        let two = both_true (nat_le 0x6800 b) (nat_lt b 0x6A87) is in
         let low = leb-true 0x6800 b two.0 in
         let high = leb-true (suc b) 0x6A87 two.1 in
         let same : b ≡ 0x6800 + (b - 0x6800) = omega arith in
@@ -152,9 +170,11 @@ abbrev is_awake : Routine → Bool
 is_awake c.Reset = false
 is_awake routine = true
 
-begun : (routine : Routine) (cpu : Cpu) → Enters cpu (entry routine) → (is_awake routine ≡ true → IsReady cpu.mem)
+begun : (routine : Routine) (cpu : Cpu) → Enters cpu (entry routine)
+    → (is_awake routine ≡ true → IsReady cpu.mem)
     → Good (is_awake routine) cpu.s cpu
-begun c.Reset cpu enters ready = entered false cpu.s 0x6800 Unknown false cpu refl enters refl tt (λ is. absurd (cc))
+begun c.Reset cpu enters ready =
+    entered false cpu.s 0x6800 Unknown false cpu refl enters refl tt (λ is. absurd (cc))
 begun c.Tick cpu enters ready =
     entered true cpu.s 0x686A Ready true cpu refl enters refl (ready refl) (λ is. refl)
 begun c.Ticks cpu enters ready =
@@ -196,13 +216,15 @@ abbrev end_known : List (ℕ × Note) → Bool
 end_known [] = true
 end_known (row ∷ rows) = (is_known row.1.claim || not (is_end (byte_at row.0))) && end_known rows
 
-known_of : (table : List (ℕ × Note)) (at : ℕ) (note : Note) → end_known table ≡ true → lookup table at ≡ Some note
+known_of : (table : List (ℕ × Note)) (at : ℕ) (note : Note) → end_known table ≡ true
+    → lookup table at ≡ Some note
     → is_end (byte_at at) ≡ true → is_known note.claim ≡ true
 known_of [] at note all is ends = absurd (cc)
-known_of (row ∷ rows) at note all is ends = by (nat_eq row.0 at) refl (λ found. known_of rows at note two.1 found ends)
+known_of (row ∷ rows) at note all is ends =
+    by (nat_eq row.0 at) refl (λ found. known_of rows at note two.1 found ends)
   where
     two : ((is_known row.1.claim || not (is_end (byte_at row.0))) ≡ true) × (end_known rows ≡ true)
-    two = both (is_known row.1.claim || not (is_end (byte_at row.0))) (end_known rows) all
+    two = both_true (is_known row.1.claim || not (is_end (byte_at row.0))) (end_known rows) all
 
     some_same : {x y : Note} → Some x ≡ Some y → x ≡ y
     some_same is = cc
@@ -212,29 +234,37 @@ known_of (row ∷ rows) at note all is ends = by (nat_eq row.0 at) refl (λ foun
     either false true a b = absurd (cc)
     either false false a b = absurd (cc)
 
-    by : (t : Bool) → nat_eq row.0 at ≡ t → (lookup rows at ≡ Some note → is_known note.claim ≡ true)
+    by : (t : Bool) → nat_eq row.0 at ≡ t
+        → (lookup rows at ≡ Some note → is_known note.claim ≡ true)
         → is_known note.claim ≡ true
     by true same rest =
-        let it : row.1 ≡ note = some_same (sym (ap (λ (t : Bool). if t then Some row.1 else lookup rows at) same) ∙ is) in
+        let it : row.1 ≡ note = some_same
+        (sym (ap (λ (t : Bool). if t then Some row.1 else lookup rows at) same) ∙ is) in
         ap (λ (k : Note). is_known k.claim) (sym it)
-        ∙ either (is_known row.1.claim) (is_end (byte_at row.0)) two.0 (ap (λ a. is_end (byte_at a)) (eqb-true row.0 at same) ∙ ends)
-    by false other rest = rest (sym (ap (λ (t : Bool). if t then Some row.1 else lookup rows at) other) ∙ is)
+        ∙ either (is_known row.1.claim) (is_end (byte_at row.0)) two.0
+        (ap (λ a. is_end (byte_at a)) (eqb-true row.0 at same) ∙ ends)
+    by false other rest = rest
+        (sym (ap (λ (t : Bool). if t then Some row.1 else lookup rows at) other) ∙ is)
 
 -- where a call ends the driver's bytes are ready
-ready_at_end : (awake : Bool) (s : ℕ) (cpu : Cpu) → Good awake s cpu → is_end (cpu.mem cpu.pc) ≡ true → IsReady cpu.mem
+ready_at_end : (awake : Bool) (s : ℕ) (cpu : Cpu) → Good awake s cpu
+    → is_end (cpu.mem cpu.pc) ≡ true → IsReady cpu.mem
 ready_at_end awake s cpu good ends = ready_by good.note.claim cpu.mem
-    (known_of notes cpu.pc good.note refl good.here (ap is_end (sym (good.coded cpu.pc (noted_is_code cpu.pc good.note good.here)))
+    (known_of notes cpu.pc good.note refl good.here
+    (ap is_end (sym (good.coded cpu.pc (noted_is_code cpu.pc good.note good.here)))
     ∙ ends)) good.claim
 
 ready_awake : (s : ℕ) (cpu : Cpu) → Good true s cpu → IsReady cpu.mem
 ready_awake s cpu good = ready_by good.note.claim cpu.mem (good.aware refl) good.claim
 
 returned_ends : (s : ℕ) (cpu : Cpu) → at_return s cpu ≡ true → is_end (cpu.mem cpu.pc) ≡ true
-returned_ends s cpu is = left_true (nat_eq (cpu.mem cpu.pc) 0x60) _ (both (nat_eq (cpu.mem cpu.pc) 0x60) _ is).0
+returned_ends s cpu is = left_true (nat_eq (cpu.mem cpu.pc) 0x60) _
+    (both_true (nat_eq (cpu.mem cpu.pc) 0x60) _ is).0
 
 leaving_ends : (s : ℕ) (cpu : Cpu) → is_leaving s cpu ≡ true → is_end (cpu.mem cpu.pc) ≡ true
 leaving_ends s cpu is = right (nat_eq (cpu.mem cpu.pc) 0x60) (nat_eq (cpu.mem cpu.pc) 0x18)
-    (both (nat_eq (cpu.mem cpu.pc) 0x18) _ (both (is_code (cpu.pc + 1)) _ (both (is_code cpu.pc) _ is).1).1).0
+    (both_true (nat_eq (cpu.mem cpu.pc) 0x18) _
+    (both_true (is_code (cpu.pc + 1)) _ (both_true (is_code cpu.pc) _ is).1).1).0
   where
     right : (t u : Bool) → u ≡ true → (t || u) ≡ true
     right true u is = refl
@@ -242,26 +272,32 @@ leaving_ends s cpu is = right (nat_eq (cpu.mem cpu.pc) 0x60) (nat_eq (cpu.mem cp
 
 -- where a call is over
 ready_over : (call : Call) (routine : Routine) → call.routine ≡ routine
-    → Good (is_awake routine) call.from.s (after call) → is_over call ≡ true → IsReady (after call).mem
+    → Good (is_awake routine) call.from.s (after call) → is_over call ≡ true
+    → IsReady (after call).mem
 ready_over call c.Reset same good over =
-    by (c.has_returned call) refl (is_refused call) refl (is_leaving call.from.s (after call)) refl over
+    by (c.has_returned call) refl (is_refused call) refl
+    (is_leaving call.from.s (after call)) refl over
   where
     never : is_refused call ≡ true → ⊥
-    never is = absurd (let e = (both (nat_eq call.steps 1) _ is).1 in
+    never is = absurd (let e = (both_true (nat_eq call.steps 1) _ is).1 in
         let f = sym (ap (λ r. c.finds_busy r call.from.mem) same) ∙ e in cc)
 
     by : (t : Bool) → c.has_returned call ≡ t → (u : Bool) → is_refused call ≡ u → (v : Bool)
-        → is_leaving call.from.s (after call) ≡ v → (t || (u || v)) ≡ true → IsReady (after call).mem
+        → is_leaving call.from.s (after call) ≡ v → (t || (u || v)) ≡ true
+        → IsReady (after call).mem
     by true returned u refused v leaving over =
-        ready_at_end false call.from.s (after call) good (returned_ends call.from.s (after call) returned)
+        ready_at_end false call.from.s (after call) good
+        (returned_ends call.from.s (after call) returned)
     by false returned true refused v leaving over = absurd (never refused)
     by false returned false refused true leaving over =
-        ready_at_end false call.from.s (after call) good (leaving_ends call.from.s (after call) leaving)
+        ready_at_end false call.from.s (after call) good
+        (leaving_ends call.from.s (after call) leaving)
     by false returned false refused false leaving over = absurd (cc)
 ready_over call routine same good over = ready_awake call.from.s (after call) good
 
 -- others leave the driver's bytes as they are between two calls
-ready_on : (mem now : ℕ → ℕ) → ((b : ℕ) → is_own b ≡ true → now b ≡ mem b) → IsReady mem → IsReady now
+ready_on : (mem now : ℕ → ℕ) → ((b : ℕ) → is_own b ≡ true → now b ≡ mem b) → IsReady mem
+    → IsReady now
 ready_on mem now own ready = subst (λ j. Holds Ready j (now 0x14) (now 0x15)) (sym (own 0x10 refl))
     (subst (λ j. Holds Ready (mem 0x10) j (now 0x15)) (sym (own 0x14 refl))
     (subst (λ j. Holds Ready (mem 0x10) (mem 0x14) j) (sym (own 0x15 refl)) ready))
@@ -270,11 +306,14 @@ ready_on mem now own ready = subst (λ j. Holds Ready j (now 0x14) (now 0x15)) (
 good_from : (R : List ℕ) (call : Call) (calls : List Call) → IsSessionBy (Tells R) (call ∷ calls)
     → (c.Follows call calls × IsSessionBy (Tells R) calls → IsReady call.from.mem)
     → Good (is_awake call.routine) call.from.s (after call)
-good_from R call calls session ready = good_amid (is_awake call.routine) (is_table call calls) call.from.s session.0.s
-    call.steps call.others call.from (begun call.routine call.from session.0 (unless call.routine session.3)) session.2
+good_from R call calls session ready =
+    good_amid (is_awake call.routine) (is_table call calls) call.from.s session.0.s
+    call.steps call.others call.from
+    (begun call.routine call.from session.0 (unless call.routine session.3)) session.2
     (hard_session R call calls session)
   where
-    unless : (routine : Routine) → UnlessReset routine (c.Follows call calls × IsSessionBy (Tells R) calls)
+    unless : (routine : Routine)
+        → UnlessReset routine (c.Follows call calls × IsSessionBy (Tells R) calls)
         → is_awake routine ≡ true → IsReady call.from.mem
     unless c.Reset is awake = absurd (cc)
     unless c.Tick is awake = ready is
@@ -307,18 +346,21 @@ calls_stay R call calls m session deep same = record {
     on : Grown R call calls m
     on = session_goes_on R call calls m session same
 
-    did : Turned (is_awake call.routine) call.from.s (changed m (after call)) (turn call.from.s (changed m (after call)))
+    did : Turned (is_awake call.routine) call.from.s (changed m (after call))
+        (turn call.from.s (changed m (after call)))
     did = turned (is_awake call.routine) call.from.s session.0.s (changed m (after call))
         (good_changed (is_awake call.routine) (is_table call calls) call.from.s (after call) m same
         (good_call R call calls session))
         (subst (λ (k : Cpu). AreHard k.log) on.after
-        (hard_session R (record call { steps = suc call.steps; others = on.later }) calls on.session))
+        (hard_session R (record call { steps = suc call.steps; others = on.later }) calls
+        on.session))
 
     by : Level call.from.s did.good.note.inner (turn call.from.s (changed m (after call)))
         → ((turn call.from.s (changed m (after call))).s ≡ call.from.s)
         ⊎ ((turn call.from.s (changed m (after call))).s + 2 ≡ call.from.s)
     by (home is) = inl is
-    by (below within small up back) = inr (low (turn call.from.s (changed m (after call))).s small up)
+    by (below within small up back) =
+        inr (low (turn call.from.s (changed m (after call))).s small up)
       where
         low : (now : ℕ) → now < 256 → (now + 2) % 256 ≡ call.from.s → now + 2 ≡ call.from.s
         low now small up = omega (arith, deep)

@@ -14,7 +14,8 @@ pub data Claim : Type 0 where
   Ready : Claim
   -- the same, and the phase is a byte
   Sized : Claim
-  -- no frame is being written or built: the phase is at most DVG_WAIT; and the pointer's low byte is 0
+  -- no frame is being written or built: the phase is at most DVG_WAIT; and the pointer's low byte
+  -- is 0
   Low : Claim
   Blank : Claim
   -- the pointer is in the vector RAM, or just behind it; it's in the vector RAM

@@ -1,9 +1,13 @@
 -- What instructions leave that store nothing, or at an address of the zero page.
 use Rattle.std.proofs.Common.{◌≡◌, ℕ, ◌+◌, Bool, true, false, refl, sym, ap, ◌∙◌}
-use Rattle.dvg_6502.specs.Processor.{Cpu, Register, A, X, Y, Instr, Mode, Immediate, ZeroPage, put, does, reading, setting}
-use Rattle.dvg_6502.specs.Processor.{ZeroPageX, ZeroPageY, Absolute, AbsoluteX, AbsoluteY, IndexedIndirect, size}
-use Rattle.dvg_6502.specs.Processor.{IndirectIndexed, Load, Store, Transfer, And, Or, Xor, Compare, TestBits, Change}
-use Rattle.dvg_6502.specs.Processor.{Step, ShiftAt, ShiftA, Set, Flag, Negative, Zero, Carry, Overflow, Decimal}
+use Rattle.dvg_6502.specs.Processor.{Cpu, Register, A, X, Y, Instr, Mode, Immediate, ZeroPage, put}
+use Rattle.dvg_6502.specs.Processor.{does, reading, setting}
+use Rattle.dvg_6502.specs.Processor.{ZeroPageX, ZeroPageY, Absolute, AbsoluteX, AbsoluteY}
+use Rattle.dvg_6502.specs.Processor.{IndexedIndirect, size}
+use Rattle.dvg_6502.specs.Processor.{IndirectIndexed, Load, Store, Transfer, And, Or, Xor, Compare}
+use Rattle.dvg_6502.specs.Processor.{TestBits, Change}
+use Rattle.dvg_6502.specs.Processor.{Step, ShiftAt, ShiftA, Set, Flag, Negative, Zero, Carry}
+use Rattle.dvg_6502.specs.Processor.{Overflow, Decimal}
 use Rattle.dvg_6502.specs.Processor.{Interrupt, flagging}
 use Rattle.dvg_6502.specs.Processor.{operand, next}
 use Rattle.dvg_play.proofs.Claims.{is_quiet, is_storing}
@@ -43,67 +47,72 @@ read IndexedIndirect cpu = record { pc = refl; s = refl; a = refl; x = refl; y =
 read IndirectIndexed cpu = record { pc = refl; s = refl; a = refl; x = refl; y = refl; mem = refl }
 
 -- A, X or Y is set after a byte was taken
-a_set : (instr : Instr) (mode : Mode) (cpu k : Cpu) (byte : ℕ) → Read mode cpu k → length_of instr ≡ size mode
+a_set : (instr : Instr) (mode : Mode) (cpu k : Cpu) (byte : ℕ) → Read mode cpu k
+    → length_of instr ≡ size mode
     → sets A instr ≡ true → Quiet instr cpu (setting A byte k)
 a_set instr mode cpu k byte r bytes set = record {
   goes = record {
     pc = r.pc ∙ ap (λ b. cpu.pc + b) (sym bytes);
     s = r.s;
-    a = λ none. absurd (let e = sym set ∙ none in cc);
-    x = λ none. r.x;
-    y = λ none. r.y;
+    a = λ off. absurd (let e = sym set ∙ off in cc);
+    x = λ off. r.x;
+    y = λ off. r.y;
   };
   mem = r.mem;
 }
 
 loads : (r : Register) (mode : Mode) (cpu : Cpu) → Quiet (Load r mode) cpu (does (Load r mode) cpu)
-loads A mode cpu = a_set (Load A mode) mode cpu (reading mode cpu) (operand mode cpu) (read mode cpu) refl refl
+loads A mode cpu = a_set (Load A mode) mode cpu (reading mode cpu) (operand mode cpu)
+    (read mode cpu) refl refl
 loads X mode cpu = let r = read mode cpu in record {
-  goes = record { pc = r.pc; s = r.s; a = λ none. r.a; x = λ none. absurd (cc); y = λ none. r.y };
+  goes = record { pc = r.pc; s = r.s; a = λ off. r.a; x = λ off. absurd (cc); y = λ off. r.y };
   mem = r.mem;
 }
 loads Y mode cpu = let r = read mode cpu in record {
-  goes = record { pc = r.pc; s = r.s; a = λ none. r.a; x = λ none. r.x; y = λ none. absurd (cc) };
+  goes = record { pc = r.pc; s = r.s; a = λ off. r.a; x = λ off. r.x; y = λ off. absurd (cc) };
   mem = r.mem;
 }
 
-moves : (from to : Register) (cpu : Cpu) → Quiet (Transfer from to) cpu (does (Transfer from to) cpu)
+moves : (from to : Register) (cpu : Cpu)
+    → Quiet (Transfer from to) cpu (does (Transfer from to) cpu)
 moves from A cpu = record {
-  goes = record { pc = refl; s = refl; a = λ none. absurd (cc); x = λ none. refl; y = λ none. refl };
+  goes = record { pc = refl; s = refl; a = λ off. absurd (cc); x = λ off. refl; y = λ off. refl };
   mem = refl;
 }
 moves from X cpu = record {
-  goes = record { pc = refl; s = refl; a = λ none. refl; x = λ none. absurd (cc); y = λ none. refl };
+  goes = record { pc = refl; s = refl; a = λ off. refl; x = λ off. absurd (cc); y = λ off. refl };
   mem = refl;
 }
 moves from Y cpu = record {
-  goes = record { pc = refl; s = refl; a = λ none. refl; x = λ none. refl; y = λ none. absurd (cc) };
+  goes = record { pc = refl; s = refl; a = λ off. refl; x = λ off. refl; y = λ off. absurd (cc) };
   mem = refl;
 }
 
 steps : (r : Register) (by : ℕ) (cpu : Cpu) → Quiet (Step r by) cpu (does (Step r by) cpu)
 steps A by cpu = record {
-  goes = record { pc = refl; s = refl; a = λ none. absurd (cc); x = λ none. refl; y = λ none. refl };
+  goes = record { pc = refl; s = refl; a = λ off. absurd (cc); x = λ off. refl; y = λ off. refl };
   mem = refl;
 }
 steps X by cpu = record {
-  goes = record { pc = refl; s = refl; a = λ none. refl; x = λ none. absurd (cc); y = λ none. refl };
+  goes = record { pc = refl; s = refl; a = λ off. refl; x = λ off. absurd (cc); y = λ off. refl };
   mem = refl;
 }
 steps Y by cpu = record {
-  goes = record { pc = refl; s = refl; a = λ none. refl; x = λ none. refl; y = λ none. absurd (cc) };
+  goes = record { pc = refl; s = refl; a = λ off. refl; x = λ off. refl; y = λ off. absurd (cc) };
   mem = refl;
 }
 
 -- only flags are set
-flags_set : (instr : Instr) (cpu new : Cpu) → new.pc ≡ cpu.pc + length_of instr → new.s ≡ cpu.s → new.a ≡ cpu.a
+flags_set : (instr : Instr) (cpu new : Cpu) → new.pc ≡ cpu.pc + length_of instr → new.s ≡ cpu.s
+    → new.a ≡ cpu.a
     → new.x ≡ cpu.x → new.y ≡ cpu.y → new.mem ≡ cpu.mem → Quiet instr cpu new
 flags_set instr cpu new pc s a x y mem = record {
-  goes = record { pc = pc; s = s; a = λ none. a; x = λ none. x; y = λ none. y };
+  goes = record { pc = pc; s = s; a = λ off. a; x = λ off. x; y = λ off. y };
   mem = mem;
 }
 
-sets_flag : (flag : Flag) (to : Bool) (cpu : Cpu) → Quiet (Set flag to) cpu (flagging flag to (next 1 cpu))
+sets_flag : (flag : Flag) (to : Bool) (cpu : Cpu)
+    → Quiet (Set flag to) cpu (flagging flag to (next 1 cpu))
 sets_flag Negative to cpu = flags_set (Set Negative to) cpu _ refl refl refl refl refl refl
 sets_flag Zero to cpu = flags_set (Set Zero to) cpu _ refl refl refl refl refl refl
 sets_flag Carry to cpu = flags_set (Set Carry to) cpu _ refl refl refl refl refl refl
@@ -123,7 +132,7 @@ quiet (TestBits mode) cpu is = let k = read mode cpu in
     flags_set (TestBits mode) cpu _ k.pc k.s k.a k.x k.y k.mem
 quiet (Step r by) cpu is = steps r by cpu
 quiet (ShiftA shift) cpu is = record {
-  goes = record { pc = refl; s = refl; a = λ none. absurd (cc); x = λ none. refl; y = λ none. refl };
+  goes = record { pc = refl; s = refl; a = λ off. absurd (cc); x = λ off. refl; y = λ off. refl };
   mem = refl;
 }
 quiet (Set flag to) cpu is = sets_flag flag to cpu
@@ -135,17 +144,23 @@ pub record Stored (instr : Instr) (cpu new : Cpu) : Type 0 where
   pub byte : ℕ
   pub mem : new.mem ≡ put (cpu.mem (cpu.pc + 1)) byte cpu.mem
 
-stores_it : (instr : Instr) (cpu new : Cpu) (byte : ℕ) → new.pc ≡ cpu.pc + length_of instr → new.s ≡ cpu.s
-    → new.a ≡ cpu.a → new.x ≡ cpu.x → new.y ≡ cpu.y → new.mem ≡ put (cpu.mem (cpu.pc + 1)) byte cpu.mem
+stores_it : (instr : Instr) (cpu new : Cpu) (byte : ℕ) → new.pc ≡ cpu.pc + length_of instr
+    → new.s ≡ cpu.s
+    → new.a ≡ cpu.a → new.x ≡ cpu.x → new.y ≡ cpu.y
+    → new.mem ≡ put (cpu.mem (cpu.pc + 1)) byte cpu.mem
     → Stored instr cpu new
 stores_it instr cpu new byte pc s a x y mem = record {
-  goes = record { pc = pc; s = s; a = λ none. a; x = λ none. x; y = λ none. y };
+  goes = record { pc = pc; s = s; a = λ off. a; x = λ off. x; y = λ off. y };
   byte = byte;
   mem = mem;
 }
 
-pub stored : (instr : Instr) (cpu : Cpu) → is_storing instr ≡ true → Stored instr cpu (does instr cpu)
-stored (Store r ZeroPage) cpu is = stores_it (Store r ZeroPage) cpu _ _ refl refl refl refl refl refl
-stored (Change ZeroPage by) cpu is = stores_it (Change ZeroPage by) cpu _ _ refl refl refl refl refl refl
-stored (ShiftAt shift ZeroPage) cpu is = stores_it (ShiftAt shift ZeroPage) cpu _ _ refl refl refl refl refl refl
+pub stored : (instr : Instr) (cpu : Cpu) → is_storing instr ≡ true
+    → Stored instr cpu (does instr cpu)
+stored (Store r ZeroPage) cpu is =
+    stores_it (Store r ZeroPage) cpu _ _ refl refl refl refl refl refl
+stored (Change ZeroPage by) cpu is =
+    stores_it (Change ZeroPage by) cpu _ _ refl refl refl refl refl refl
+stored (ShiftAt shift ZeroPage) cpu is =
+    stores_it (ShiftAt shift ZeroPage) cpu _ _ refl refl refl refl refl refl
 stored instr cpu is = absurd (cc)

@@ -1,8 +1,10 @@
--- What is noted at each address of the driver's code but dvg_copy's. Nobody has to trust it: each row is proved.
-use Rattle.std.specs.Prelude.{ℕ, true, false, List, [], ◌∷◌, ◌++◌, Option, None, Some, nat_eq, if◌then◌else◌}
+-- What is noted at each address of the driver's code but dvg_copy's: each row is proved.
+use Rattle.std.specs.Prelude.{ℕ, true, false, List, [], ◌∷◌, ◌++◌, Option, None, Some, nat_eq}
+use Rattle.std.specs.Prelude.{if◌then◌else◌}
 use Rattle.dvg_6502.specs.Processor.{A, X, Y}
 use Rattle.dvg_play.proofs.Claims.{Claim, Unknown, Ready, Sized, Low, Blank, Aims, Inside, Note}
-use Rattle.dvg_play.proofs.Claims.{Also, Nothing, Is, UpTo, Small, Even, Page, Once, Twice, Says, Under, Over, Found}
+use Rattle.dvg_play.proofs.Claims.{Also, Nothing, Is, UpTo, Small, Even, Page, Once, Twice, Says}
+use Rattle.dvg_play.proofs.Claims.{Under, Over, Found}
 
 -- S is as where the call began; it may be two lower
 abbrev pub outer : Claim → Also → Note
