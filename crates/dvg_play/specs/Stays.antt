@@ -7,7 +7,8 @@ use Rattle.dvg_6502.specs.Routines.{Labs}
 use Rattle.dvg_6502.specs.Calls.{Puts, Call, after, frame_of, has_returned, is_table, is_taken, IsSessionBy}
 use Rattle.dvg_6502.specs.Programs.{Tells}
 
--- what a step of a call that began with this S may write: the driver's bytes, the hardware, and two bytes of the stack
+-- what a step of a call that began with this S may write: the driver's bytes, what is set for a call and what it counts
+-- by, the hardware, and two bytes of the stack
 abbrev pub is_written : (s b : ℕ) → Bool
 is_written s b = is_own b
     || (is_work b || (is_hardware b || (nat_eq b (stack_place s) || nat_eq b (stack_place (s + 255)))))

@@ -25,8 +25,9 @@ pub fn driver_goes_on()
     ensures ends { DriverEnds }
 {}
 
-/// Each step of each call of a session stays in the driver's code, with S as where the call began
-/// or two lower, and writes the driver's bytes, the hardware and two bytes of the stack alone: on
+/// Each step of each call of a session that begins with S at 4 or more stays in the driver's code,
+/// with S as where the call began or two lower. It writes the driver's bytes, what is set for a
+/// call and what it counts by, the hardware, and two bytes of the stack alone. So it does on
 /// whatever memory harmless others leave.
 pub fn calls_stay()
     ensures { CallsStay }
