@@ -1,0 +1,17 @@
+pub mod Others
+pub mod First
+pub mod Quiet
+pub mod Standing
+pub mod Open
+pub mod Stages
+pub mod Idle
+pub mod GameSteps
+pub mod Unwritten
+pub mod DriverSteps
+pub mod NmiSteps
+pub mod Sharing
+pub mod Frames
+pub mod Returns
+pub mod Calling
+pub mod Bringing
+pub mod Runs
