@@ -21,7 +21,7 @@ use Rattle.dvg_play.specs.Play.{AreBytes, IsPlay, done, made}
 use Rattle.dvg_play.specs.Games.{Content, Enters, IsShape, IsTable, calls_at, may_call, never_calls}
 use Rattle.dvg_play.proofs.Along.{calls_as}
 use Rattle.dvg_play.proofs.Leaps.{calling_may}
-use Rattle.dvg_cabinet.specs.Cabinet.{IsCabinet, powers, waits, resets, tests, begins, does, accesses, nmi}
+use Rattle.dvg_cabinet.specs.Cabinet.{IsCabinet, powers, waits, reads, resets, tests, begins, does, accesses, nmi}
 use Rattle.dvg_cabinet.specs.Keeps.{AreChecked}
 use Rattle.dvg_cabinet.proofs.Calling.{goes_there}
 use Rattle.dvg_cabinet.proofs.GameSteps.{nowhere}
@@ -36,6 +36,7 @@ module _ (R image : List ℕ) (held rom : ℕ → ℕ) (start : ℕ) where
   pub plays : {at : Option (Cpu × ℕ)} {clocks : List Bus} → IsCabinet R image held rom start at clocks → Plays at
   plays (powers is_rom is_image same) = tt
   plays (waits bus on is served idle) = plays on
+  plays (reads bus on is served access write) = plays on
   plays (resets bus on is served idle reset) = tt
   plays (tests bus on is served quiet) = tt
   plays (begins cpu since on is shares) = ([], Play.begins cpu since is)
@@ -47,7 +48,7 @@ module _ (R image : List ℕ) (held rom : ℕ → ℕ) (start : ℕ) where
 
   -- what each call of the game brings
   abbrev pub Brought : Type 0
-  Brought = (cpu : Cpu) (since : ℕ) (clocks : List Bus) → IsCabinet R image held rom start (Some (cpu, since)) clocks
+  Brought = (cpu : Cpu) (since : ℕ) (clocks : List Bus) (log : List Access) → IsPlay rom start cpu since log
       → (g : InGame R image held rom start cpu since clocks) → Play.restarts cpu ≡ false
       → calling (kind_of (cpu.mem cpu.pc)) (of_cpu cpu g.st) ≡ true → (flags : ℕ → ℕ) → AreBytes (done flags cpu)
       → let to = word_at cpu.mem (cpu.pc + 1) in
@@ -69,7 +70,7 @@ module _ (R image : List ℕ) (held rom : ℕ → ℕ) (start : ℕ) (notes : No
     )
 
     pub by_content : Content R rom start → AreChecked R rom start → Brought R image held rom start
-    by_content content checked cpu since clocks on g go is flags bytes = let play = (plays R image held rom start on).1 in (
+    by_content content checked cpu since clocks log play g go is flags bytes = (
       (λ at. content.tables play (enters g go is dvg_offer at)),
       (λ at. content.shapes play (enters g go is dvg_put at)),
       (λ at. content.no_pair play (enters g go is dvg_pair at)),
@@ -123,7 +124,7 @@ module _ (R image : List ℕ) (held rom : ℕ → ℕ) (start : ℕ) (notes : No
 
     pub by_bytes : never_calls rom dvg_offer ≡ true → never_calls rom dvg_put ≡ true → never_calls rom dvg_pair ≡ true
         → Brought R image held rom start
-    by_bytes offers puts pairs cpu since clocks on g go is flags bytes = (
+    by_bytes offers puts pairs cpu since clocks log play g go is flags bytes = (
       (λ at. absurd (never dvg_offer offers g is at)),
       (λ at. absurd (never dvg_put puts g is at)),
       (λ at. never dvg_pair pairs g is at),

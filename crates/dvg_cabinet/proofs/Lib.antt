@@ -13,5 +13,6 @@ pub mod Sharing
 pub mod Frames
 pub mod Returns
 pub mod Calling
+pub mod Alike
 pub mod Bringing
 pub mod Runs

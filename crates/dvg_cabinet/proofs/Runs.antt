@@ -4,7 +4,7 @@ use Rattle.std.proofs.Common.{ap, ◌∙◌, subst, arith}
 use Rattle.std.specs.Prelude.{if◌then◌else◌, Option, Some, None}
 use Rattle.dvg_6502.specs.Processor.{Cpu, Access, at_return}
 use Rattle.dvg_6502.specs.Calls.{Call, bounds}
-use Rattle.dvg_board.specs.Board.{Bus}
+use Rattle.dvg_board.specs.Board.{Bus, clock}
 use Rattle.dvg_board.specs.Clocks as clocked
 use Rattle.dvg_board.specs.Clocks.{IsBus, IsServed, changes}
 use Rattle.dvg_board.specs.Logs.{answered}
@@ -20,9 +20,12 @@ use Rattle.dvg_play.specs.Play.{AreBytes, done, interrupted}
 use Rattle.dvg_play.specs.Open.{InRom, IsIn}
 use Rattle.dvg_play.specs.Stays.{CallsStay, LabsBegins}
 use Rattle.dvg_play.proofs.Along.{is_finish}
-use Rattle.dvg_cabinet.specs.Cabinet.{IsCabinet, powers, waits, resets, tests, begins, does, accesses, nmi, touched}
+use Rattle.dvg_cabinet.specs.Cabinet.{IsCabinet, powers, waits, reads, resets, tests, begins, does, accesses, nmi, touched}
+use Rattle.dvg_cabinet.specs.Cabinet as cabinet
+use Rattle.dvg_cabinet.specs.Cabinet.{AreAlike}
 use Rattle.dvg_cabinet.specs.Keeps.{GamesKeep, Keeps, VectorsKeep}
-use Rattle.dvg_cabinet.proofs.Bringing.{Brought, by_bytes, by_content}
+use Rattle.dvg_cabinet.proofs.Alike.{Same, itself, joins, read_elsewhere, same_clock, same_idle, same_makes, same_served}
+use Rattle.dvg_cabinet.proofs.Bringing.{Brought, Plays, by_bytes, by_content, plays}
 use Rattle.dvg_cabinet.proofs.Calling.{game_calls}
 use Rattle.dvg_cabinet.proofs.DriverSteps.{driver_accesses, driver_nmi, driver_step, driver_waits}
 use Rattle.dvg_cabinet.proofs.Frames.{covers}
@@ -72,7 +75,7 @@ module _ (laws : Laws) (stay : CallsStay) (labs : LabsBegins) (R image : List �
 
   -- an instruction that does nothing with the board
   stepped : {cpu : Cpu} {since : ℕ} {clocks : List Bus} (flags : ℕ → ℕ)
-      → IsCabinet R image held rom start (Some (cpu, since)) clocks → Play.restarts cpu ≡ false → AreBytes (done flags cpu)
+      → Plays R image held rom start (Some (cpu, since)) → Play.restarts cpu ≡ false → AreBytes (done flags cpu)
       → touched cpu (done flags cpu) ≡ [] → Stands (Some (cpu, since)) clocks
       → Stands (Some (done flags cpu, suc since)) clocks
   stepped {cpu} {since} {clocks} flags on go bytes none (inl g) =
@@ -81,7 +84,7 @@ module _ (laws : Laws) (stay : CallsStay) (labs : LabsBegins) (R image : List �
       by : (t : Bool) → calling (kind_of (cpu.mem cpu.pc)) (of_cpu cpu g.st) ≡ t
           → Stands (Some (done flags cpu, suc since)) clocks
       by false is = inl (game_steps R image held rom start notes accepted cpu since clocks g flags go is bytes)
-      by true is = let brings = brought cpu since clocks on g go is flags bytes in
+      by true is = let brings = brought cpu since clocks on.0 on.1 g go is flags bytes in
           inr (inl (game_calls R image held rom start notes accepted cpu since clocks g go is flags bytes
           brings.0 brings.1 brings.2 brings.3))
   stepped {cpu} {since} {clocks} flags on go bytes none (inr (inl d)) = by (at_return d.s cpu) refl
@@ -148,30 +151,96 @@ module _ (laws : Laws) (stay : CallsStay) (labs : LabsBegins) (R image : List �
   interrupts {cpu} {since} {clocks} late (inr (inr n)) =
       absurd (nmi_alone R image held rom start notes accepted cpu since clocks n late)
 
-  stage : {at : Option (Cpu × ℕ)} {clocks : List Bus} → IsCabinet R image held rom start at clocks → Stands at clocks
-  stage (powers is_rom is_image same) = ([], system.powers is_rom is_image same)
-  stage (waits {at} {older} bus on is served idle) = waited at older bus is served idle (stage on)
-  stage (resets {at} {older} bus on is served idle reset) =
-      let one = machine_of R image held rom start at (stage on) in (
-        answered image held older bus true one.log,
-        subst (λ list. IsProgram R image held list (answered image held older bus true one.log) (bus ∷ older))
-            (ap (λ (t : Bool). if t then one.calls else []) reset) (system.waits bus true one.on is served idle),
+  -- a run stands somewhere, with the clocks that its log is of
+  record Standing (at : Option (Cpu × ℕ)) (made : List Bus) : Type 0 where
+    shown : List Bus
+    alike : AreAlike made shown
+    same : Same (clocked.after held made) (clocked.after held shown)
+    stage : Stands at shown
+
+  -- another clock, in both
+  module _ {at : Option (Cpu × ℕ)} {older : List Bus} (on : Standing at older) (bus : Bus) where
+    also_served : IsServed R (clocked.after held older) bus → IsServed R (clocked.after held on.shown) bus
+    also_served served = same_served (clocked.after held older) (clocked.after held on.shown) on.same R bus served
+
+    with_clock : {next : Option (Cpu × ℕ)} → Stands next (bus ∷ on.shown) → Standing next (bus ∷ older)
+    with_clock stage = record {
+      shown = bus ∷ on.shown;
+      alike = cabinet.same bus on.alike;
+      same = same_clock (clocked.after held older) (clocked.after held on.shown) on.same bus;
+      stage = stage;
+    }
+
+  standing : {at : Option (Cpu × ℕ)} {clocks : List Bus} → IsCabinet R image held rom start at clocks → Standing at clocks
+  standing (powers is_rom is_image first) = record {
+    shown = [];
+    alike = cabinet.none;
+    same = itself (clocked.after held []);
+    stage = ([], system.powers is_rom is_image first);
+  }
+  standing (waits {at} {older} bus on is served idle) = let one = standing on in
+      with_clock one bus (waited at one.shown bus is (also_served one bus served)
+      (same_idle (clocked.after held older) (clocked.after held one.shown) one.same bus idle) one.stage)
+  standing (reads {at} {older} bus on is served access write) =
+      let one = standing on in
+      let board = clocked.after held one.shown in
+      let also = also_served one bus served in
+      let other = read_elsewhere R board bus access write in
+      let read : Bus = record bus { a = other.0 } in record {
+        shown = read ∷ one.shown;
+        alike = cabinet.elsewhere bus other.0 write one.alike;
+        same = joins (clock (clocked.after held older) bus) (clock board bus) (clock board read)
+            (same_clock (clocked.after held older) board one.same bus) other.3;
+        stage = waited at one.shown read (record { reset = is.reset; a = other.1 is.a; d = is.d; rom = is.rom })
+            (record { big = also.big; rom = also.rom }) other.2 one.stage;
+      }
+  standing (resets {at} {older} bus on is served idle reset) =
+      let one = standing on in
+      let before = machine_of R image held rom start at one.stage in
+      with_clock one bus (
+        answered image held one.shown bus true before.log,
+        subst (λ list. IsProgram R image held list (answered image held one.shown bus true before.log) (bus ∷ one.shown))
+            (ap (λ (t : Bool). if t then before.calls else []) reset)
+            (system.waits bus true before.on is (also_served one bus served)
+            (same_idle (clocked.after held older) (clocked.after held one.shown) one.same bus idle)),
       )
-  stage (tests bus on is served quiet) = let one = stage on in (_, system.tests bus one.1 is served quiet)
-  stage (begins {at} {older} cpu since on is shares) =
-      inl (game_begins R image held rom start cpu since older (machine_of R image held rom start at (stage on)) is shares)
-  stage (does flags on go bytes none) = stepped flags on go bytes none (stage on)
-  stage (accesses flags access bus on go bytes some is served made) =
-      accessed flags access bus bytes some is served made (stage on)
-  stage (nmi on late) = interrupts late (stage on)
+  standing (tests {older} bus on is served quiet) = let one = standing on in
+      with_clock one bus (_, system.tests bus one.stage.1 is (also_served one bus served) quiet)
+  standing (begins {at} {older} cpu since on is shares) = let one = standing on in record {
+    shown = one.shown;
+    alike = one.alike;
+    same = one.same;
+    stage = inl (game_begins R image held rom start cpu since one.shown (machine_of R image held rom start at one.stage) is
+        (λ a few. shares a few ∙ ap (λ (m : ℕ → ℕ). m a) one.same.ram));
+  }
+  standing (does flags on go bytes untouched) = let one = standing on in record {
+    shown = one.shown;
+    alike = one.alike;
+    same = one.same;
+    stage = stepped flags (plays R image held rom start on) go bytes untouched one.stage;
+  }
+  standing (accesses {cpu} {since} {older} flags access bus on go bytes some is served made) = let one = standing on in
+      with_clock one bus (accessed flags access bus bytes some is (also_served one bus served)
+      (same_makes (clocked.after held older) (clocked.after held one.shown) one.same bus access made) one.stage)
+  standing (nmi on late) = let one = standing on in record {
+    shown = one.shown;
+    alike = one.alike;
+    same = one.same;
+    stage = interrupts late one.stage;
+  }
 
   keeps : (at : Option (Cpu × ℕ)) (clocks : List Bus) → IsCabinet R image held rom start at clocks
       → Keeps R image held clocks
   keeps at clocks on =
-      let one = machine_of R image held rom start at (stage on) in
-      let all = laws.hindsight R image held one.calls one.log clocks one.on in record {
+      let one = standing on in
+      let before = machine_of R image held rom start at one.stage in
+      let all = laws.hindsight R image held before.calls before.log one.shown before.on in record {
         calls = _;
         log = all.1;
+        shown = one.shown;
+        alike = one.alike;
+        core = sym one.same.core;
+        ram = sym one.same.ram;
         machine = all.2;
         legal = all.3;
         headline = all.4;

@@ -35,6 +35,10 @@ pub data IsCabinet (R image : List ℕ) (held : ℕ → ℕ) (rom : ℕ → ℕ)
     waits : {at : Option (Cpu × ℕ)} {older : List Bus} (bus : Bus) → IsCabinet R image held rom start at older → IsBus bus
         → IsServed R (after held older) bus → IsIdle (after held older) bus
         → IsCabinet R image held rom start at (bus ∷ older)
+    -- a clock in which it reads the board, as a game may by itself: what it finds there is left open
+    reads : {at : Option (Cpu × ℕ)} {older : List Bus} (bus : Bus) → IsCabinet R image held rom start at older → IsBus bus
+        → IsServed R (after held older) bus → bus.access ≡ 1 → bus.write ≡ 0
+        → IsCabinet R image held rom start at (bus ∷ older)
     -- a clock in which the whole system is reset
     resets : {at : Option (Cpu × ℕ)} {older : List Bus} (bus : Bus) → IsCabinet R image held rom start at older
         → IsBus bus → IsServed R (after held older) bus → IsIdle (after held older) bus → nat_eq bus.reset 0 ≡ false
@@ -62,3 +66,10 @@ pub data IsCabinet (R image : List ℕ) (held : ℕ → ℕ) (rom : ℕ → ℕ)
     -- an NMI, between any two instructions, 860 after the last one
     nmi : {cpu : Cpu} {since : ℕ} {older : List Bus} → IsCabinet R image held rom start (Some (cpu, since)) older
         → 860 ≤ since → IsCabinet R image held rom start (Some (interrupted cpu, 0)) older
+
+-- clocks of a cabinet, and those that a log is of: the same, but that a read by the game itself may be of another place
+pub data AreAlike : List Bus → List Bus → Type 0 where
+  none : AreAlike [] []
+  same : {made shown : List Bus} (bus : Bus) → AreAlike made shown → AreAlike (bus ∷ made) (bus ∷ shown)
+  elsewhere : {made shown : List Bus} (bus : Bus) (a : ℕ) → bus.write ≡ 0 → AreAlike made shown
+      → AreAlike (bus ∷ made) (record bus { a = a } ∷ shown)
