@@ -16,3 +16,4 @@ pub mod Calling
 pub mod Alike
 pub mod Bringing
 pub mod Runs
+pub mod SomeCabinet

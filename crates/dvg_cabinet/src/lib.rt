@@ -2,6 +2,7 @@
 //! here: each law is the contract of a function that does nothing.
 #![tactic(auto)]
 
+ghost use Rattle.dvg_cabinet.specs.Example.{SomeCabinet};
 ghost use Rattle.dvg_cabinet.specs.Keeps.{GamesKeep, VectorsKeep};
 
 use dvg_system::{hindsight_keeps, machine_keeps};
@@ -24,3 +25,9 @@ pub fn vectors_keep()
     hindsight_keeps();
     machine_keeps();
 }
+
+/// The laws aren't empty: a run of a game that the checker accepts, up to where the driver has
+/// booted and reads byte 001.
+pub fn some_cabinet()
+    ensures { SomeCabinet }
+{}
