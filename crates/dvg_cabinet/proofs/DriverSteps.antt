@@ -17,7 +17,7 @@ use Rattle.dvg_game.proofs.Facts.{both_true}
 use Rattle.dvg_game.proofs.Memory.{between}
 use Rattle.dvg_game.proofs.Whole.{checked_is_safe}
 use Rattle.dvg_play.specs.Play.{AreBytes, done, interrupted}
-use Rattle.dvg_play.specs.Stays.{CallsStay, Stays}
+use Rattle.dvg_play.specs.Stays.{Stays}
 use Rattle.dvg_play.proofs.DriverSteps.{stays, two_levels}
 use Rattle.dvg_play.proofs.GameSteps.{bytes_pushed, pushed_below}
 use Rattle.dvg_play.proofs.Stages.{Back, jmp, jsr}
@@ -71,7 +71,7 @@ module _ (R image : List ℕ) (held rom : ℕ → ℕ) (start : ℕ) (notes : No
   small : d.s ≤ 255
   small = let top = d.top in let most = d.most in omega (arith, top, most)
 
-  module _ (stay : CallsStay) (flags : ℕ → ℕ) (not_there : at_return d.s cpu ≡ false) (bytes : AreBytes (done flags cpu))
+  module _ (flags : ℕ → ℕ) (not_there : at_return d.s cpu ≡ false) (bytes : AreBytes (done flags cpu))
     where
       -- after an instruction, with the clocks that it took
       stepped : (newer : List Bus)
@@ -109,7 +109,7 @@ module _ (R image : List ℕ) (held rom : ℕ → ℕ) (start : ℕ) (notes : No
           above b low = let top = d.top in omega (arith, low, top)
 
           did : Stays d.s cpu (done flags cpu)
-          did = stays stay R d.routine d.s d.calls cpu d.mine flags
+          did = stays R d.routine d.s d.calls cpu d.mine flags
               (is_open R image held d.routine d.s d.calls cpu d.mine clocks d.doing) not_there
               (let one = deep.0 in let two = deep.1 in omega (arith, one, two))
 

@@ -18,7 +18,7 @@ use Rattle.dvg_game.specs.Alike.{of_cpu}
 use Rattle.dvg_play.specs.Play
 use Rattle.dvg_play.specs.Play.{AreBytes, done, interrupted}
 use Rattle.dvg_play.specs.Open.{InRom, IsIn}
-use Rattle.dvg_play.specs.Stays.{CallsStay, LabsBegins}
+use Rattle.dvg_play.specs.Stays.{LabsBegins}
 use Rattle.dvg_play.proofs.Along.{is_finish}
 use Rattle.dvg_cabinet.specs.Cabinet.{IsCabinet, powers, waits, reads, resets, tests, begins, does, accesses, nmi, touched}
 use Rattle.dvg_cabinet.specs.Cabinet as cabinet
@@ -68,7 +68,7 @@ module _ (R image : List ℕ) (held rom : ℕ → ℕ) (start : ℕ) where
   machine_of (Some at) (inr (inl d)) = of_driver d
   machine_of (Some at) (inr (inr n)) = of_driver n.driver
 
-module _ (laws : Laws) (stay : CallsStay) (labs : LabsBegins) (R image : List ℕ) (held rom : ℕ → ℕ) (start : ℕ) (notes : Notes)
+module _ (laws : Laws) (labs : LabsBegins) (R image : List ℕ) (held rom : ℕ → ℕ) (start : ℕ) (notes : Notes)
     (accepted : accepts rom start notes ≡ true) (brought : Brought R image held rom start) where
   abbrev Stands : Option (Cpu × ℕ) → List Bus → Type 0
   Stands at clocks = Stage R image held rom start at clocks
@@ -90,7 +90,7 @@ module _ (laws : Laws) (stay : CallsStay) (labs : LabsBegins) (R image : List �
   stepped {cpu} {since} {clocks} flags on go bytes none (inr (inl d)) = by (at_return d.s cpu) refl
     where
       by : (t : Bool) → at_return d.s cpu ≡ t → Stands (Some (done flags cpu, suc since)) clocks
-      by false is = inr (inl (driver_step R image held rom start notes accepted cpu clocks d stay flags is bytes none))
+      by false is = inr (inl (driver_step R image held rom start notes accepted cpu clocks d flags is bytes none))
       by true is =
           let same = ret_is R image held rom start notes accepted laws labs cpu clocks d is since flags in
           inl (subst (λ k. InGame R image held rom start k (suc since) clocks) (sym same)
@@ -116,7 +116,7 @@ module _ (laws : Laws) (stay : CallsStay) (labs : LabsBegins) (R image : List �
   accessed {cpu} {since} {clocks} flags access bus bytes some is served made (inr (inl d)) = by (at_return d.s cpu) refl
     where
       by : (t : Bool) → at_return d.s cpu ≡ t → Stands (Some (done flags cpu, suc since)) (bus ∷ clocks)
-      by false there = inr (inl (driver_accesses R image held rom start notes accepted cpu clocks d stay flags there bytes
+      by false there = inr (inl (driver_accesses R image held rom start notes accepted cpu clocks d flags there bytes
           access bus some is served made))
       by true there =
           let same = ret_is R image held rom start notes accepted laws labs cpu clocks d there since flags in
@@ -246,12 +246,12 @@ module _ (laws : Laws) (stay : CallsStay) (labs : LabsBegins) (R image : List �
         headline = all.4;
       }
 
-pub games_keep : Laws → LabsBegins → CallsStay → GamesKeep
-games_keep laws labs stay R image held rom start notes accepted content checked at clocks on =
-    keeps laws stay labs R image held rom start notes accepted
+pub games_keep : Laws → LabsBegins → GamesKeep
+games_keep laws labs R image held rom start notes accepted content checked at clocks on =
+    keeps laws labs R image held rom start notes accepted
     (by_content R image held rom start notes accepted content checked) at clocks on
 
-pub vectors_keep : Laws → LabsBegins → CallsStay → VectorsKeep
-vectors_keep laws labs stay R image held rom start notes accepted offers puts pairs at clocks on =
-    keeps laws stay labs R image held rom start notes accepted
+pub vectors_keep : Laws → LabsBegins → VectorsKeep
+vectors_keep laws labs R image held rom start notes accepted offers puts pairs at clocks on =
+    keeps laws labs R image held rom start notes accepted
     (by_bytes R image held rom start notes accepted offers puts pairs) at clocks on
