@@ -22,6 +22,7 @@ use Rattle.dvg_play.specs.Games.{Content, Enters, IsShape, IsTable, calls_at, ma
 use Rattle.dvg_play.proofs.Along.{calls_as}
 use Rattle.dvg_play.proofs.Leaps.{calling_may}
 use Rattle.dvg_cabinet.specs.Cabinet.{IsCabinet, powers, waits, reads, resets, tests, begins, does, accesses, nmi}
+use Rattle.dvg_cabinet.specs.Cabinet.{turns}
 use Rattle.dvg_cabinet.specs.Keeps.{AreChecked}
 use Rattle.dvg_cabinet.proofs.Calling.{goes_there}
 use Rattle.dvg_cabinet.proofs.GameSteps.{nowhere}
@@ -45,6 +46,7 @@ module _ (R image : List ℕ) (held rom : ℕ → ℕ) (start : ℕ) where
   plays (accesses {cpu} flags access bus on go bytes some is served made_it) = let one = plays on in
       (made cpu (done flags cpu) ++ one.0, Play.does flags one.1 go bytes)
   plays (nmi on late) = let one = plays on in (one.0, Play.nmi one.1 late)
+  plays (turns mem on small same) = let one = plays on in (one.0, Play.turns mem one.1 small same)
 
   -- what each call of the game brings
   abbrev pub Brought : Type 0

@@ -34,13 +34,18 @@ use Rattle.dvg_cabinet.proofs.Quiet.{IsQuiet, quiet}
 use Rattle.dvg_cabinet.proofs.Stages.{InGame, Machine}
 use Rattle.dvg_cabinet.proofs.Standing.{program_waits}
 
-right_true : (t u : Bool) → u ≡ true → (t || u) ≡ true
+pub right_true : (t u : Bool) → u ≡ true → (t || u) ≡ true
 right_true true u is = refl
 right_true false u is = is
 
 left_true : (t u : Bool) → t ≡ true → (t || u) ≡ true
 left_true true u is = refl
 left_true false u is = absurd (cc)
+
+-- a place of the vector RAM
+pub in_ram : (a : ℕ) → a < 2048 → is_ram (0x4000 + a) ≡ true
+in_ram a few = ap (λ t. t && nat_lt (0x4000 + a) 0x4800) (le-leb 0x4000 (0x4000 + a) (omega arith))
+    ∙ le-leb (suc (0x4000 + a)) 0x4800 (omega (arith, few))
 
 -- what the driver keeps from call to call is among what a game leaves alone
 own_too : (b : ℕ) → is_own b ≡ true → is_drivers b ≡ true
@@ -113,10 +118,6 @@ module _ (R image : List ℕ) (held rom : ℕ → ℕ) (start : ℕ) (notes : No
     shares = λ a few. g.shares a few ∙ sym (ram_stays (clocked.after held clocks) bus a is none.1);
     rests = g.rests;
   }
-
-  in_ram : (a : ℕ) → a < 2048 → is_ram (0x4000 + a) ≡ true
-  in_ram a few = ap (λ t. t && nat_lt (0x4000 + a) 0x4800) (le-leb 0x4000 (0x4000 + a) (omega arith))
-      ∙ le-leb (suc (0x4000 + a)) 0x4800 (omega (arith, few))
 
   leaves : (flags : ℕ → ℕ) → IsQuiet cpu (done flags cpu)
   leaves flags = quiet cpu g.st flags g.bytes.x g.bytes.y safe.next

@@ -9,6 +9,7 @@ pub mod GameSteps
 pub mod Unwritten
 pub mod DriverSteps
 pub mod NmiSteps
+pub mod Outside
 pub mod Sharing
 pub mod Frames
 pub mod Returns

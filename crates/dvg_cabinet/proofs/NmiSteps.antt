@@ -27,6 +27,7 @@ use Rattle.dvg_play.proofs.Along.{Followed, along, amid_stays, follow, is_finish
 use Rattle.dvg_play.proofs.DriverSteps.{two_levels}
 use Rattle.dvg_play.proofs.GameSteps.{outside_code, pushing}
 use Rattle.dvg_play.proofs.Guarded.{guard_is_spared, stack_spared}
+use Rattle.dvg_play.proofs.Outside.{guard_is_inside, stack_inside}
 use Rattle.dvg_play.proofs.Leaps.{calling_same, finishing, is_called, restarting_same}
 use Rattle.dvg_play.proofs.NmiSteps as play
 use Rattle.dvg_play.proofs.Sessions.{unless_map}
@@ -35,7 +36,7 @@ use Rattle.dvg_play.proofs.Stages as stages
 use Rattle.dvg_play.proofs.Stages.{Back, jmp, jsr, NotBlank}
 use Rattle.dvg_cabinet.specs.Cabinet.{touched, written}
 use Rattle.dvg_cabinet.proofs.DriverSteps.{driver_waits}
-use Rattle.dvg_cabinet.proofs.Open.{board_passes, is_open}
+use Rattle.dvg_cabinet.proofs.Open.{board_passes, board_refreshed, is_open}
 use Rattle.dvg_cabinet.proofs.Quiet.{quiet}
 use Rattle.dvg_cabinet.proofs.Stages.{InDriver, InNmi}
 
@@ -133,8 +134,8 @@ module _ (R image : List ℕ) (held rom : ℕ → ℕ) (start : ℕ) (notes : No
     home = (amid_stays (kind_of (cpu.mem cpu.pc)) did.choice here calls more).home ∙ n.home;
     blank = (along (kind_of (cpu.mem cpu.pc)) did.choice here calls).blank ∙ n.blank;
     bytes = bytes;
-    kept = λ b spared. sym (did.alike.mem b)
-        ∙ spares rom start notes accepted here _ n.run n.amid did.choice goes b spared ∙ n.kept b spared;
+    kept = λ b spared inside. sym (did.alike.mem b)
+        ∙ spares rom start notes accepted here _ n.run n.amid did.choice goes b spared ∙ n.kept b spared inside;
   }
     where
       goes : restarts here ≡ false
@@ -202,9 +203,9 @@ module _ (R image : List ℕ) (held rom : ℕ → ℕ) (start : ℕ) (notes : No
     kept_back (jsr is level one two) = let low = (two_levels n.outer.s d.s d.level).0 in let most = d.most in
         jsr (ap kind_of opcode ∙ is) level
         (n.kept (0x100 + (d.s + 1)) (stack_spared n.outer.s (0x100 + (d.s + 1)) (d.s + 1) (omega (arith, low))
-        (omega (arith, level, most)) refl) ∙ one)
+        (omega (arith, level, most)) refl) (stack_inside (d.s + 1) (omega (arith, level, most))) ∙ one)
         (n.kept (0x100 + (d.s + 2)) (stack_spared n.outer.s (0x100 + (d.s + 2)) (d.s + 2) (omega (arith, low))
-        (omega (arith, level, most)) refl) ∙ two)
+        (omega (arith, level, most)) refl) (stack_inside (d.s + 2) (omega (arith, level, most))) ∙ two)
     kept_back (jmp is level) = jmp (ap kind_of opcode ∙ is) level
 
     pub nmi_ends : (flags : ℕ → ℕ) → AreBytes (resumed flags) → InDriver R image held rom start (resumed flags) clocks
@@ -224,8 +225,11 @@ module _ (R image : List ℕ) (held rom : ℕ → ℕ) (start : ℕ) (notes : No
       back = kept_back d.back;
       calls = d.calls;
       mine = d.mine;
-      doing = board_passes R image held d.routine d.s d.calls n.outer d.mine clocks d.doing cpu.mem
-          (λ tables in_rom b guarded. n.kept b (guard_is_spared tables in_rom d.s n.outer.s small d.level b guarded)) flags;
+      doing = board_refreshed R image held d.routine d.s d.calls (changed cpu.mem n.outer) d.mine clocks flags
+          (board_passes R image held d.routine d.s d.calls n.outer d.mine clocks d.doing cpu.mem
+          (λ tables in_rom b guarded.
+          n.kept b (guard_is_spared tables (λ b table. (in_rom b table).0) d.s n.outer.s small d.level b guarded)
+          (guard_is_inside tables in_rom d.s n.outer.s b guarded)));
       most = d.most;
       top = d.top;
       level = d.level;

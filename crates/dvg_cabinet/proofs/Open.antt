@@ -147,11 +147,11 @@ module _ (R image : List ℕ) (held : ℕ → ℕ) (routine : Routine) (s : ℕ)
           access bus (news future on (access ∷ []) one) is served made on.stand),
     )
 
-  -- an NMI that leaves what is guarded, of any tables in the ROM, and comes back
-  pub board_passes : (m : ℕ → ℕ) → ((tables : ℕ → Bool) → ((b : ℕ) → tables b ≡ true → 0x4800 ≤ b)
+  -- others that leave what is guarded, of any tables in the ROM, and give back the processor
+  pub board_passes : (m : ℕ → ℕ) → ((tables : ℕ → Bool) → ((b : ℕ) → tables b ≡ true → InRom b)
       → (b : ℕ) → guards (is_kept tables) s cpu.s b ≡ true → m b ≡ cpu.mem b)
-      → (flags : ℕ → ℕ) → OnBoard R image held routine s calls (fresh flags (changed m cpu)) log clocks
-  board_passes m spares flags future = let one = inside future in let is = one.0 in (
+      → OnBoard R image held routine s calls (changed m cpu) log clocks
+  board_passes m spares future = let one = inside future in let is = one.0 in (
     record {
       call = is.call;
       session = is.session;
@@ -160,10 +160,29 @@ module _ (R image : List ℕ) (held : ℕ → ℕ) (routine : Routine) (s : ℕ)
       in_rom = is.in_rom;
       left = is.left;
       after = is.after;
-      same = λ b guarded. spares (is_table is.call calls) (λ b table. (is.in_rom b table).0) b guarded ∙ is.same b guarded;
+      same = λ b guarded. spares (is_table is.call calls) is.in_rom b guarded ∙ is.same b guarded;
     },
     one.1,
   )
+
+-- its flag and its log are none of the call
+pub board_refreshed : (R image : List ℕ) (held : ℕ → ℕ) (routine : Routine) (s : ℕ) (calls : List Call) (cpu : Cpu)
+    (log : List Access) (clocks : List Bus) (flags : ℕ → ℕ) → OnBoard R image held routine s calls cpu log clocks
+    → OnBoard R image held routine s calls (fresh flags cpu) log clocks
+board_refreshed R image held routine s calls cpu log clocks flags inside future =
+    let one = inside future in let is = one.0 in (
+      record {
+        call = is.call;
+        session = is.session;
+        routine_is = is.routine_is;
+        level = is.level;
+        in_rom = is.in_rom;
+        left = is.left;
+        after = is.after;
+        same = is.same;
+      },
+      one.1,
+    )
 
 -- what is offered is the same, whatever the flag says
 offered_same : (r : Routine) (cpu : Cpu) (flags : ℕ → ℕ) (t : Bool) (b : ℕ)

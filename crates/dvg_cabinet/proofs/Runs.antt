@@ -21,6 +21,7 @@ use Rattle.dvg_play.specs.Open.{InRom, IsIn}
 use Rattle.dvg_play.specs.Stays.{LabsBegins}
 use Rattle.dvg_play.proofs.Along.{is_finish}
 use Rattle.dvg_cabinet.specs.Cabinet.{IsCabinet, powers, waits, reads, resets, tests, begins, does, accesses, nmi, touched}
+use Rattle.dvg_cabinet.specs.Cabinet.{turns}
 use Rattle.dvg_cabinet.specs.Cabinet as cabinet
 use Rattle.dvg_cabinet.specs.Cabinet.{AreAlike}
 use Rattle.dvg_cabinet.specs.Keeps.{GamesKeep, Keeps, VectorsKeep}
@@ -33,6 +34,7 @@ use Rattle.dvg_cabinet.proofs.GameSteps as game
 use Rattle.dvg_cabinet.proofs.GameSteps.{game_begins, game_nmi, game_steps, game_waits}
 use Rattle.dvg_cabinet.proofs.NmiSteps as nmis
 use Rattle.dvg_cabinet.proofs.NmiSteps.{comes_back, nmi_alone, nmi_ends, nmi_steps, nmi_waits}
+use Rattle.dvg_cabinet.proofs.Outside.{stage_turns}
 use Rattle.dvg_cabinet.proofs.Returns as returning
 use Rattle.dvg_cabinet.proofs.Returns.{driver_returns, ret_is}
 use Rattle.dvg_cabinet.proofs.Sharing.{Laws}
@@ -227,6 +229,12 @@ module _ (laws : Laws) (labs : LabsBegins) (R image : List ℕ) (held rom : ℕ 
     alike = one.alike;
     same = one.same;
     stage = interrupts late one.stage;
+  }
+  standing (turns {cpu} {since} {older} mem on small same) = let one = standing on in record {
+    shown = one.shown;
+    alike = one.alike;
+    same = one.same;
+    stage = stage_turns R image held rom start cpu since one.shown mem small same one.stage;
   }
 
   keeps : (at : Option (Cpu × ℕ)) (clocks : List Bus) → IsCabinet R image held rom start at clocks

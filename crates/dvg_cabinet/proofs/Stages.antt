@@ -10,7 +10,7 @@ use Rattle.dvg_board.specs.Clocks as clocked
 use Rattle.dvg_system.specs.Hindsight.{IsProgram}
 use Rattle.dvg_system.specs.Machine.{SharesRam}
 use Rattle.dvg_game.specs.Kinds.{kind_of}
-use Rattle.dvg_game.specs.Machine.{State, IsRun, calling, restarts, word_at}
+use Rattle.dvg_game.specs.Machine.{State, IsRun, calling, is_outside, restarts, word_at}
 use Rattle.dvg_game.specs.Alike.{of_cpu}
 use Rattle.dvg_play.specs.Play.{AreBytes}
 use Rattle.dvg_play.specs.Open.{InRom}
@@ -80,7 +80,7 @@ pub record InNmi (R image : List ℕ) (held rom : ℕ → ℕ) (start : ℕ) (cp
     pub home : st.home ≡ Some (driver.st.pc, driver.st.s)
     pub blank : st.blank ≡ driver.st.blank
     pub bytes : AreBytes cpu
-    pub kept : (b : ℕ) → IsSpared outer.s b → cpu.mem b ≡ outer.mem b
+    pub kept : (b : ℕ) → IsSpared outer.s b → is_outside b ≡ false → cpu.mem b ≡ outer.mem b
 
 abbrev pub Stage : (R image : List ℕ) (held rom : ℕ → ℕ) (start : ℕ) → Option (Cpu × ℕ) → List Bus → Type 0
 Stage R image held rom start None clocks = (log : Log) × IsProgram R image held [] log clocks

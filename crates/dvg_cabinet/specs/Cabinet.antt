@@ -3,12 +3,13 @@ use Rattle.std.specs.Prelude.{◌≡◌, ℕ, suc, ◌<◌, ◌≤◌, ◌||◌,
 use Rattle.std.specs.Prelude.{slice_index, Option, Some, None}
 use Rattle.dvg_mem.specs.Memory.{IsImage, IsRom}
 use Rattle.dvg_6502.specs.Processor.{Cpu, Access, Reads, Writes}
-use Rattle.dvg_6502.specs.Amid.{is_code}
+use Rattle.dvg_6502.specs.Amid.{changed, is_code}
 use Rattle.dvg_6502.specs.Board.{is_ram, seen, strobe_place}
 use Rattle.dvg_6502.specs.Calls.{Reset}
 use Rattle.dvg_board.specs.Board.{Bus}
 use Rattle.dvg_board.specs.Clocks.{IsBus, IsServed, after, sends}
 use Rattle.dvg_system.specs.Machine.{IsIdle, Makes, SharesRam}
+use Rattle.dvg_game.specs.Machine.{IsTurned}
 use Rattle.dvg_play.specs.Play.{AreBytes, Begins, done, interrupted, restarts}
 
 -- the writes of the vector RAM and of the strobe
@@ -66,6 +67,10 @@ pub data IsCabinet (R image : List ℕ) (held : ℕ → ℕ) (rom : ℕ → ℕ)
     -- an NMI, between any two instructions, 860 after the last one
     nmi : {cpu : Cpu} {since : ℕ} {older : List Bus} → IsCabinet R image held rom start (Some (cpu, since)) older
         → 860 ≤ since → IsCabinet R image held rom start (Some (interrupted cpu, 0)) older
+    -- switches, coins and all else outside turn to any bytes, between any two instructions
+    turns : {cpu : Cpu} {since : ℕ} {older : List Bus} (mem : ℕ → ℕ)
+        → IsCabinet R image held rom start (Some (cpu, since)) older → ((b : ℕ) → mem b < 256) → IsTurned cpu.mem mem
+        → IsCabinet R image held rom start (Some (changed mem cpu, since)) older
 
 -- clocks of a cabinet, and those that a log is of: the same, but that a read by the game itself may be of another place
 pub data AreAlike : List Bus → List Bus → Type 0 where

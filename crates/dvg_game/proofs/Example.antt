@@ -1,8 +1,8 @@
 -- A run of examples/first.
-use Rattle.std.proofs.Common.{ℕ, refl, Bool, true, false, arith, leb-true, []}
+use Rattle.std.proofs.Common.{ℕ, refl, false, arith, leb-true, []}
 use Rattle.std.specs.Prelude.{None}
-use Rattle.dvg_game.specs.Written.{of_list, rom_of, found, notes_of, note, nmi_note}
-use Rattle.dvg_game.specs.Machine.{State, Choice, IsRun, begins, steps, nmi, nmi_within}
+use Rattle.dvg_game.specs.Written.{of_list, rom_of}
+use Rattle.dvg_game.specs.Machine.{State, Choice, begins, steps, nmi, nmi_within}
 use Rattle.dvg_game.specs.First.{bytes, vectors, rom, start}
 use Rattle.dvg_game.specs.SomeRun.{SomeRun, nmis, calls_of}
 

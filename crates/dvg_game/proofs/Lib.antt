@@ -6,6 +6,7 @@ pub mod Memory
 pub mod Local
 pub mod Calling
 pub mod Stepping
+pub mod Turning
 pub mod Whole
 pub mod Between
 pub mod Alike

@@ -11,7 +11,7 @@ use Rattle.dvg_game.specs.Machine.{IsLoaded, nmi_vector, reset_vector, within, g
 use Rattle.dvg_game.specs.Machine.{nmi_within, blank_after, restarting, restarts, anew, Came, State, Choice, does}
 use Rattle.dvg_game.specs.Machine.{step, word_at, is_driver, is_reset, is_own, is_operand}
 use Rattle.dvg_game.specs.Machine.{driven, returned, pushed, resumed_at, interrupted, Begins, IsRun, begins, steps}
-use Rattle.dvg_game.specs.Machine.{nmi, address}
+use Rattle.dvg_game.specs.Machine.{nmi, turns, address}
 use Rattle.dvg_game.specs.Checker.{boots, boot_most, stand_at, implies, ends_of, goes_on, unchanged, Level, Main, Sub}
 use Rattle.dvg_game.specs.Checker.{Nmi, Note, Notes, noted, leads, begun, spare, interrupts, starts, same_level}
 use Rattle.dvg_game.specs.Checker.{fine_by, accepts_game, enters, is_entry, is_free, is_strobe, may_write, of_reached}
@@ -26,6 +26,7 @@ use Rattle.dvg_game.proofs.Local.{same_word}
 use Rattle.dvg_game.proofs.Calling.{leads_back, comes_within, open_call, finishes, Enters, entering, comes}
 use Rattle.dvg_game.proofs.Saved.{holds_less}
 use Rattle.dvg_game.proofs.Stepping.{vector, checked, run_step}
+use Rattle.dvg_game.proofs.Turning.{good_turns}
 
 -- what an NMI came upon, part by part
 abbrev upon : (pc s p a x y : ℕ) → Came
@@ -406,6 +407,8 @@ good_run rom start notes accepted (nmi {st} choice run late) =
     good_nmi rom start notes st choice accepted (good_run rom start notes accepted run) late
 good_run rom start notes accepted (nmi_within {st} choice run outside is few) =
     good_within rom start notes st choice accepted (good_run rom start notes accepted run) outside is few
+good_run rom start notes accepted (turns {st} mem run same) =
+    good_turns rom notes st mem same (good_run rom start notes accepted run)
 
 -- where no subroutine is open, no call is
 alone : (notes : Notes) (w : Bool) (mem : ℕ → ℕ) (level : Level) (place : ℕ) (backs : List ℕ) → level ≡ Main

@@ -259,7 +259,7 @@ module _ (R : List ℕ) (rom : ℕ → ℕ) (start : ℕ) (notes : Notes) (accep
     home = refl;
     blank = refl;
     bytes = bytes_pushed cpu d.bytes (let high = (between 0x6800 0x6A87 cpu.pc d.place).1 in omega (arith, high));
-    kept = λ b spared. pushed_below cpu b (let some = near.2 in omega (arith, some)) small spared.above;
+    kept = λ b spared inside. pushed_below cpu b (let some = near.2 in omega (arith, some)) small spared.above;
   }
     where
       small : cpu.s ≤ 255

@@ -11,6 +11,7 @@ pub mod Stages
 pub mod GameSteps
 pub mod Growing
 pub mod DriverSteps
+pub mod Outside
 pub mod NmiSteps
 pub mod Returns
 pub mod Entering

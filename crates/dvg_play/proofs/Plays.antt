@@ -15,7 +15,7 @@ use Rattle.dvg_game.specs.Alike.{idle, of_cpu}
 use Rattle.dvg_game.proofs.Facts.{both_true, under}
 use Rattle.dvg_game.proofs.Whole.{checked_is_safe}
 use Rattle.dvg_play.specs.Play
-use Rattle.dvg_play.specs.Play.{AreBytes, IsPlay, begins, does, nmi, done, interrupted, made}
+use Rattle.dvg_play.specs.Play.{AreBytes, IsPlay, begins, does, nmi, turns, done, interrupted, made}
 use Rattle.dvg_play.specs.Stays.{LabsBegins}
 use Rattle.dvg_play.specs.Games.{AreOfCalls, Content, Enters, GamesCall, IsShape, IsTable, VectorsCall, accesses_of}
 use Rattle.dvg_play.specs.Games.{calls_at, may_call, never_calls}
@@ -25,6 +25,7 @@ use Rattle.dvg_play.proofs.DriverSteps.{driver_nmi, driver_step}
 use Rattle.dvg_play.proofs.GameSteps.{game_begins, game_nmi, game_steps, nowhere}
 use Rattle.dvg_play.proofs.Leaps.{calling_may}
 use Rattle.dvg_play.proofs.NmiSteps.{comes_back, nmi_alone, nmi_ends, nmi_steps, nothing_made}
+use Rattle.dvg_play.proofs.Outside.{stage_turns}
 use Rattle.dvg_play.proofs.Returns.{driver_returns, ret_is}
 use Rattle.dvg_play.proofs.Stages.{InDriver, InGame, InNmi, Stage}
 
@@ -153,6 +154,7 @@ module _ (labs : LabsBegins) (R : List ℕ) (rom : ℕ → ℕ) (start : ℕ) (n
       by (inl g) = inl (game_nmi R rom start notes accepted cpu since log g late)
       by (inr (inl d)) = inr (inr (driver_nmi R rom start notes accepted cpu log d))
       by (inr (inr n)) = absurd (nmi_alone R rom start notes accepted cpu since log n late)
+  stage (turns {cpu} {since} {log} mem play small same) = stage_turns R rom start cpu since log mem small same (stage play)
 
   of_driver : {cpu : Cpu} {log : List Access} → InDriver R rom start cpu log → AreOfCalls R log
   of_driver d = let is = d.doing (λ n. 0) in
