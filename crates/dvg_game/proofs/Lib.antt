@@ -8,6 +8,7 @@ pub mod Calling
 pub mod Stepping
 pub mod Handling
 pub mod Safety
+pub mod Turning
 pub mod Whole
 pub mod Between
 pub mod Alike

@@ -11,7 +11,7 @@ use Rattle.dvg_game.specs.Machine.{IsLoaded, nmi_vector, reset_vector, within, c
 use Rattle.dvg_game.specs.Machine.{nmi_within, blank_after, restarting, restarts, anew, State, Choice}
 use Rattle.dvg_game.specs.Machine.{step, word_at, is_driver, is_reset}
 use Rattle.dvg_game.specs.Machine.{pushed, interrupted, Begins, IsRun, begins, steps}
-use Rattle.dvg_game.specs.Machine.{nmi}
+use Rattle.dvg_game.specs.Machine.{nmi, turns}
 use Rattle.dvg_game.specs.Checker.{boots, boot_most, stand_at, implies, ends_of, Main, Sub}
 use Rattle.dvg_game.specs.Checker.{Nmi, Note, Notes, noted, leads, begun, spare, interrupts, starts, same_level}
 use Rattle.dvg_game.specs.Checker.{fine_by, accepts_game, enters, is_entry}
@@ -24,6 +24,7 @@ use Rattle.dvg_game.proofs.Stepping.{vector, checked, run_step}
 use Rattle.dvg_game.proofs.Handling.{opcode_there, first_there}
 use Rattle.dvg_game.proofs.Handling.{second_there, nmi_step}
 use Rattle.dvg_game.proofs.Safety.{run_safe, nmi_safe}
+use Rattle.dvg_game.proofs.Turning.{good_turns}
 
 -- a step
 good_step : (rom : ℕ → ℕ) (start : ℕ) (notes : Notes) (st : State) (choice : Choice)
@@ -217,6 +218,8 @@ good_run rom start notes accepted (nmi {st} choice run late) =
     good_nmi rom start notes st choice accepted (good_run rom start notes accepted run) late
 good_run rom start notes accepted (nmi_within {st} choice run outside is few) =
     good_within rom start notes st choice accepted (good_run rom start notes accepted run) outside is few
+good_run rom start notes accepted (turns {st} mem run same) =
+    good_turns rom notes st mem same (good_run rom start notes accepted run)
 
 -- the driver's bytes
 bytes_there : (bytes : List ℕ) (rom mem : ℕ → ℕ) (at : ℕ) → 0x4800 ≤ at → at + length bytes ≤ 0x8000 → IsLoaded rom mem

@@ -8,6 +8,7 @@ use Rattle.std.specs.Prelude.{nat_eq}
 use Rattle.std.specs.Prelude.{nat_le}
 use Rattle.std.specs.Prelude.{nat_lt, if◌then◌else◌, Option, None, Some, List, [], ◌∷◌}
 use Rattle.dvg_6502.specs.Code.{dvg_reset, dvg_open, dvg_labs}
+use Rattle.dvg_6502.specs.Board.{is_hardware}
 use Rattle.dvg_6502.specs.Processor.{Register, A, X, Y, put, stack_place, target}
 use Rattle.dvg_game.specs.Kinds.{Sets, Nothing, Only, Kind, Quiet, Reads, Transfer, Stores, Push}
 use Rattle.dvg_game.specs.Kinds.{PushFlags, Pull, PullFlags, Branch, Jump, Call, Return, Finish, Wild, kind_of}
@@ -237,6 +238,15 @@ within choice st = record st {
   home = Some (st.pc, st.s);
 }
 
+-- switches, coins, sounds, RAM that is exchanged: what a pin answers, and nothing keeps. It is all but the zero page, the
+-- stack, the driver's hardware and the ROM
+abbrev pub is_outside : ℕ → Bool
+is_outside b = nat_le 0x200 b && not (is_hardware b || (nat_le 0x4800 b && nat_lt b 0x8000))
+
+-- between two memories that alone may have changed
+abbrev pub IsTurned : (old new : ℕ → ℕ) → Type 0
+IsTurned old new = (b : ℕ) → is_outside b ≡ false → new b ≡ old b
+
 -- after a reset's LDX #$FF and TXS, of which the next instruction stands here; memory may hold anything but in the ROM
 pub record Begins (rom : ℕ → ℕ) (start : ℕ) (st : State) : Type 0 where
   pub loaded : IsLoaded rom st.mem
@@ -247,7 +257,7 @@ pub record Begins (rom : ℕ → ℕ) (start : ℕ) (st : State) : Type 0 where
   pub home : st.home ≡ None
   pub blank : st.blank ≡ false
 
--- the runs of a ROM since a reset: any choices, and an NMI wherever at least 860 instructions came since the last
+-- the runs of a ROM since a reset: any choices, any answers from outside, and an NMI wherever at least 860 instructions came since the last
 -- one. An
 -- NMI comes each 6,144 cycles, and no instruction has more than 7.
 pub data IsRun (rom : ℕ → ℕ) (start : ℕ) : State → Type 0 where
@@ -261,3 +271,6 @@ pub data IsRun (rom : ℕ → ℕ) (start : ℕ) : State → Type 0 where
   nmi_within : {st : State} (choice : Choice) → IsRun rom start st → st.amid ≡ None → calls_driver st ≡ true
       → choice.deep ≤ 4
       → IsRun rom start (interrupted choice (within choice st))
+  -- at any time all that is outside turns to anything
+  turns : {st : State} (mem : ℕ → ℕ) → IsRun rom start st → IsTurned st.mem mem
+      → IsRun rom start (record st { mem = mem })

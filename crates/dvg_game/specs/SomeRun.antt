@@ -1,7 +1,8 @@
 -- The laws aren't empty: a run of a program that draws, and takes NMIs.
 use Rattle.std.specs.Prelude.{◌≡◌, ℕ, suc, ◌+◌, ◌&&◌, nat_eq, if◌then◌else◌}
 use Rattle.dvg_6502.specs.Code.{dvg_run, dvg_offer}
-use Rattle.dvg_game.specs.Machine.{State, IsRun, begins, steps, anew, nmi, nmi_within, calls_driver, word_at}
+use Rattle.dvg_game.specs.Machine.{State, IsRun, begins, steps, anew, nmi, nmi_within, turns, calls_driver}
+use Rattle.dvg_game.specs.Machine.{word_at}
 use Rattle.dvg_game.specs.First.{rom, start}
 
 -- how many NMIs came in a run
@@ -11,6 +12,7 @@ nmis (steps choice run go) = nmis run
 nmis (anew new run again first) = nmis run
 nmis (nmi choice run late) = suc (nmis run)
 nmis (nmi_within choice run outside is few) = suc (nmis run)
+nmis (turns mem run same) = nmis run
 
 -- how often a routine of the driver was called, and returned
 unfoldable pub calls_of : {rom : ℕ → ℕ} {start : ℕ} {st : State} → ℕ → IsRun rom start st → ℕ
@@ -20,6 +22,7 @@ calls_of entry (steps {st} choice run go) =
 calls_of entry (anew new run again first) = calls_of entry run
 calls_of entry (nmi choice run late) = calls_of entry run
 calls_of entry (nmi_within choice run outside is few) = calls_of entry run
+calls_of entry (turns mem run same) = calls_of entry run
 
 -- examples/first boots the driver, offers it the table of a frame, and shows that: one NMI comes amid the driver, and one
 -- right after it

@@ -17,8 +17,9 @@ use Rattle.dvg_game.proofs.Memory.{between, either}
 use Rattle.dvg_game.proofs.Whole.{checked_is_safe}
 use Rattle.dvg_play.specs.Play.{AreBytes, done, interrupted, made}
 use Rattle.dvg_play.specs.Open.{IsIn, IsOpen}
-use Rattle.dvg_play.specs.Stays.{CallsStay, Stays, is_written}
+use Rattle.dvg_play.specs.Stays.{Stays, is_written}
 use Rattle.dvg_play.specs.Games.{accesses_of}
+use Rattle.dvg_play.proofs.CallsStay.{calls_stay}
 use Rattle.dvg_play.proofs.GameSteps.{bytes_pushed, pushed_below}
 use Rattle.dvg_play.proofs.Growing.{seen_both}
 use Rattle.dvg_play.proofs.Logs.{log_is_passive, upon}
@@ -34,9 +35,9 @@ two_levels now s (inl same) = (omega (arith, same), omega (arith, same))
 two_levels now s (inr less) = (omega (arith, less), omega (arith, less))
 
 -- what a step of a call leaves, as the play does it
-pub stays : CallsStay → (R : List ℕ) (routine : Routine) (s : ℕ) (calls : List Call) (cpu : Cpu) (log : List Access)
+pub stays : (R : List ℕ) (routine : Routine) (s : ℕ) (calls : List Call) (cpu : Cpu) (log : List Access)
     (flags : ℕ → ℕ) → IsOpen R routine s calls cpu log → at_return s cpu ≡ false → 4 ≤ s → Stays s cpu (done flags cpu)
-stays stay R routine s calls cpu log flags call not_there deep = record {
+stays R routine s calls cpu log flags call not_there deep = record {
   place = ap (λ (k : Cpu). driver.is_code k.pc) (sym same) ∙ did.place;
   level = subst (λ (q : ℕ). ((done flags cpu).s ≡ q) ⊎ ((done flags cpu).s + 2 ≡ q)) level
       (subst (λ (k : Cpu). (k.s ≡ is.call.from.s) ⊎ (k.s + 2 ≡ is.call.from.s)) same did.level);
@@ -51,7 +52,7 @@ stays stay R routine s calls cpu log flags call not_there deep = record {
     level = is.level
 
     did : Stays is.call.from.s (changed cpu.mem (after is.call)) (turn is.call.from.s (changed cpu.mem (after is.call)))
-    did = stay R is.call calls cpu.mem is.session (subst (λ q. 4 ≤ q) (sym level) deep) (λ b guarded.
+    did = calls_stay R is.call calls cpu.mem is.session (subst (λ q. 4 ≤ q) (sym level) deep) (λ b guarded.
         is.same b (subst (λ q. guards (is_kept (is_table is.call calls)) q cpu.s b ≡ true) level
         (subst (λ (k : Cpu). guards (is_kept (is_table is.call calls)) is.call.from.s k.s b ≡ true) is.after guarded))
         ∙ sym (ap (λ (k : Cpu). k.mem b) is.after))
@@ -122,7 +123,7 @@ unwritten s b some most far = by (is_written s b) refl
     by false is = refl
 
 module _ (R : List ℕ) (rom : ℕ → ℕ) (start : ℕ) (notes : Notes) (accepted : accepts rom start notes ≡ true)
-    (stay : CallsStay) (cpu : Cpu) (log : List Access) (d : InDriver R rom start cpu log) where
+    (cpu : Cpu) (log : List Access) (d : InDriver R rom start cpu log) where
   pub safe : IsSafe rom d.st
   safe = checked_is_safe rom start notes accepted d.st d.run
 
@@ -177,7 +178,7 @@ module _ (R : List ℕ) (rom : ℕ → ℕ) (start : ℕ) (notes : Notes) (accep
       above b low = let top = d.top in omega (arith, low, top)
 
       did : Stays d.s cpu (done flags cpu)
-      did = stays stay R d.routine d.s d.calls cpu d.mine flags d.doing not_there
+      did = stays R d.routine d.s d.calls cpu d.mine flags d.doing not_there
           (let one = deep.0 in let two = deep.1 in omega (arith, one, two))
 
       on : Back d.st cpu.mem d.s → Back d.st (done flags cpu).mem d.s
@@ -258,7 +259,7 @@ module _ (R : List ℕ) (rom : ℕ → ℕ) (start : ℕ) (notes : Notes) (accep
     home = refl;
     blank = refl;
     bytes = bytes_pushed cpu d.bytes (let high = (between 0x6800 0x6A87 cpu.pc d.place).1 in omega (arith, high));
-    kept = λ b spared. pushed_below cpu b (let some = near.2 in omega (arith, some)) small spared.above;
+    kept = λ b spared inside. pushed_below cpu b (let some = near.2 in omega (arith, some)) small spared.above;
   }
     where
       small : cpu.s ≤ 255

@@ -11,6 +11,7 @@ pub mod Stages
 pub mod GameSteps
 pub mod Growing
 pub mod DriverSteps
+pub mod Outside
 pub mod NmiSteps
 pub mod Returns
 pub mod Entering
@@ -19,3 +20,16 @@ pub mod Plays
 pub mod BegunFrames
 pub mod Lives
 pub mod SomeGame
+pub mod Claims
+pub mod Effects
+pub mod Rules
+pub mod Known
+pub mod Forks
+pub mod Notes
+pub mod Rows
+pub mod TickRows
+pub mod FrameRows
+pub mod Staying
+pub mod Turning
+pub mod HardLogs
+pub mod CallsStay

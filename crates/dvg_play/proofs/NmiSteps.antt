@@ -24,6 +24,7 @@ use Rattle.dvg_play.proofs.Along.{Followed, along, amid_stays, follow, is_finish
 use Rattle.dvg_play.proofs.DriverSteps.{two_levels}
 use Rattle.dvg_play.proofs.GameSteps.{made_none, outside_code, pushing}
 use Rattle.dvg_play.proofs.Guarded.{guard_is_spared, stack_spared}
+use Rattle.dvg_play.proofs.Outside.{guard_is_inside, stack_inside}
 use Rattle.dvg_play.proofs.Leaps.{calling_same, finishing, is_called, restarting_same, resume_is}
 use Rattle.dvg_play.proofs.Opened.{nmi_passes}
 use Rattle.dvg_play.proofs.Sessions.{unless_map}
@@ -133,8 +134,8 @@ module _ (R : List ℕ) (rom : ℕ → ℕ) (start : ℕ) (notes : Notes) (accep
         home = (amid_stays (kind_of (cpu.mem cpu.pc)) did.choice here calls more).home ∙ n.home;
         blank = (along (kind_of (cpu.mem cpu.pc)) did.choice here calls).blank ∙ n.blank;
         bytes = bytes;
-        kept = λ b spared. sym (did.alike.mem b)
-            ∙ spares rom start notes accepted here came n.run n.amid did.choice goes b spared ∙ n.kept b spared;
+        kept = λ b spared inside. sym (did.alike.mem b)
+            ∙ spares rom start notes accepted here came n.run n.amid did.choice goes b spared ∙ n.kept b spared inside;
       })
     where
       goes : restarts here ≡ false
@@ -230,9 +231,9 @@ module _ (R : List ℕ) (rom : ℕ → ℕ) (start : ℕ) (notes : Notes) (accep
     kept_back (jsr is level one two) = let low = (two_levels n.outer.s d.s d.level).0 in let most = d.most in
         jsr (ap kind_of opcode ∙ is) level
         (n.kept (0x100 + (d.s + 1)) (stack_spared n.outer.s (0x100 + (d.s + 1)) (d.s + 1) (omega (arith, low))
-        (omega (arith, level, most)) refl) ∙ one)
+        (omega (arith, level, most)) refl) (stack_inside (d.s + 1) (omega (arith, level, most))) ∙ one)
         (n.kept (0x100 + (d.s + 2)) (stack_spared n.outer.s (0x100 + (d.s + 2)) (d.s + 2) (omega (arith, low))
-        (omega (arith, level, most)) refl) ∙ two)
+        (omega (arith, level, most)) refl) (stack_inside (d.s + 2) (omega (arith, level, most))) ∙ two)
     kept_back (jmp is level) = jmp (ap kind_of opcode ∙ is) level
 
     pub nmi_ends : (flags : ℕ → ℕ) → AreBytes (resumed flags) → InDriver R rom start (resumed flags) log
@@ -254,7 +255,8 @@ module _ (R : List ℕ) (rom : ℕ → ℕ) (start : ℕ) (notes : Notes) (accep
       mine = d.mine;
       doing = refreshed R d.routine d.s d.calls (changed cpu.mem n.outer) d.mine flags
           (nmi_passes R d.routine d.s d.calls n.outer d.mine cpu.mem d.doing (λ tables in_rom b guarded.
-          n.kept b (guard_is_spared tables in_rom d.s n.outer.s small d.level b guarded)));
+          n.kept b (guard_is_spared tables (λ b table. (in_rom b table).0) d.s n.outer.s small d.level b guarded)
+          (guard_is_inside tables in_rom d.s n.outer.s b guarded)));
       accesses = d.accesses;
       most = d.most;
       top = d.top;

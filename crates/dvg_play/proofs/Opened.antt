@@ -58,7 +58,7 @@ nmi_passes R routine s calls cpu log m inside spares future =
       in_rom = is.in_rom;
       left = is.left;
       after = is.after;
-      same = λ b guarded. spares (is_table is.call calls) (λ b table. (is.in_rom b table).0) b guarded
+      same = λ b guarded. spares (is_table is.call calls) is.in_rom b guarded
           ∙ is.same b guarded;
     }
 

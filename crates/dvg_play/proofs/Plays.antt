@@ -1,7 +1,7 @@
 -- Each play stands somewhere; so its accesses are those of a session of calls.
 use Rattle.std.proofs.Common.{◌≡◌, ◌⊎◌, inl, inr, ℕ, suc, ◌+◌, ◌-◌, ◌*◌, ◌<◌, ◌≤◌, Bool, true, false, List}
 use Rattle.std.proofs.Common.{[], ◌∷◌, ◌++◌, refl, sym, ap, ◌∙◌, subst, arith, eq-eqb, leb-true}
-use Rattle.std.specs.Prelude.{◌&&◌, not, nat_eq, nat_le, nat_lt}
+use Rattle.std.specs.Prelude.{◌&&◌, not, nat_le, nat_lt}
 use Rattle.dvg_6502.specs.Processor.{Cpu, Access, at_return}
 use Rattle.dvg_6502.specs.Board.{seen}
 use Rattle.dvg_6502.specs.Calls.{IsSessionBy}
@@ -15,8 +15,8 @@ use Rattle.dvg_game.specs.Alike.{idle, of_cpu}
 use Rattle.dvg_game.proofs.Facts.{both_true, under}
 use Rattle.dvg_game.proofs.Whole.{checked_is_safe}
 use Rattle.dvg_play.specs.Play
-use Rattle.dvg_play.specs.Play.{AreBytes, IsPlay, begins, does, nmi, done, interrupted, made}
-use Rattle.dvg_play.specs.Stays.{CallsStay, LabsBegins}
+use Rattle.dvg_play.specs.Play.{AreBytes, IsPlay, begins, does, nmi, turns, done, interrupted, made}
+use Rattle.dvg_play.specs.Stays.{LabsBegins}
 use Rattle.dvg_play.specs.Games.{AreOfCalls, Content, Enters, GamesCall, IsShape, IsTable, VectorsCall, accesses_of}
 use Rattle.dvg_play.specs.Games.{calls_at, may_call, never_calls}
 use Rattle.dvg_play.proofs.Along.{calls_as, is_finish}
@@ -25,6 +25,7 @@ use Rattle.dvg_play.proofs.DriverSteps.{driver_nmi, driver_step}
 use Rattle.dvg_play.proofs.GameSteps.{game_begins, game_nmi, game_steps, nowhere}
 use Rattle.dvg_play.proofs.Leaps.{calling_may}
 use Rattle.dvg_play.proofs.NmiSteps.{comes_back, nmi_alone, nmi_ends, nmi_steps, nothing_made}
+use Rattle.dvg_play.proofs.Outside.{stage_turns}
 use Rattle.dvg_play.proofs.Returns.{driver_returns, ret_is}
 use Rattle.dvg_play.proofs.Stages.{InDriver, InGame, InNmi, Stage}
 
@@ -106,7 +107,7 @@ module _ (R : List ℕ) (rom : ℕ → ℕ) (start : ℕ) (notes : Notes) (accep
     (λ at. never dvg_pair pairs g is at),
   )
 
-module _ (stay : CallsStay) (labs : LabsBegins) (R : List ℕ) (rom : ℕ → ℕ) (start : ℕ) (notes : Notes)
+module _ (labs : LabsBegins) (R : List ℕ) (rom : ℕ → ℕ) (start : ℕ) (notes : Notes)
     (accepted : accepts rom start notes ≡ true) (brought : Brought R rom start) where
   stage : {cpu : Cpu} {since : ℕ} {log : List Access} → IsPlay rom start cpu since log → Stage R rom start cpu since log
   stage (begins cpu since is) = inl (game_begins R rom start notes accepted cpu since is)
@@ -126,11 +127,11 @@ module _ (stay : CallsStay) (labs : LabsBegins) (R : List ℕ) (rom : ℕ → �
 
       in_driver : (d : InDriver R rom start cpu log) (t : Bool) → at_return d.s cpu ≡ t
           → Stage R rom start (done flags cpu) (suc since) (made cpu (done flags cpu) ++ log)
-      in_driver d false is = inr (inl (driver_step R rom start notes accepted stay cpu log d flags is bytes))
+      in_driver d false is = inr (inl (driver_step R rom start notes accepted cpu log d flags is bytes))
       in_driver d true is =
-          let same = ret_is R rom start notes accepted stay labs cpu log d is since flags in
+          let same = ret_is R rom start notes accepted labs cpu log d is since flags in
           inl (subst (λ k. InGame R rom start k (suc since) (made cpu k ++ log)) (sym same)
-          (driver_returns R rom start notes accepted stay labs cpu log d is since flags (subst AreBytes same bytes)))
+          (driver_returns R rom start notes accepted labs cpu log d is since flags (subst AreBytes same bytes)))
 
       in_nmi : (n : InNmi R rom start cpu since log) (t : Bool) → is_finish (kind_of (cpu.mem cpu.pc)) ≡ t
           → Stage R rom start (done flags cpu) (suc since) (made cpu (done flags cpu) ++ log)
@@ -151,8 +152,9 @@ module _ (stay : CallsStay) (labs : LabsBegins) (R : List ℕ) (rom : ℕ → �
     where
       by : Stage R rom start cpu since log → Stage R rom start (interrupted cpu) 0 log
       by (inl g) = inl (game_nmi R rom start notes accepted cpu since log g late)
-      by (inr (inl d)) = inr (inr (driver_nmi R rom start notes accepted stay cpu log d))
+      by (inr (inl d)) = inr (inr (driver_nmi R rom start notes accepted cpu log d))
       by (inr (inr n)) = absurd (nmi_alone R rom start notes accepted cpu since log n late)
+  stage (turns {cpu} {since} {log} mem play small same) = stage_turns R rom start cpu since log mem small same (stage play)
 
   of_driver : {cpu : Cpu} {log : List Access} → InDriver R rom start cpu log → AreOfCalls R log
   of_driver d = let is = d.doing (λ n. 0) in
@@ -171,11 +173,11 @@ module _ (stay : CallsStay) (labs : LabsBegins) (R : List ℕ) (rom : ℕ → �
   of_stage (inr (inr n)) = of_driver n.driver
 
 pub games_call : LabsBegins → GamesCall
-games_call labs stay R rom start notes accepted content cpu since log play =
+games_call labs R rom start notes accepted content cpu since log play =
     let brought = by_content R rom start notes accepted content in
-    of_stage stay labs R rom start notes accepted brought (stage stay labs R rom start notes accepted brought play)
+    of_stage labs R rom start notes accepted brought (stage labs R rom start notes accepted brought play)
 
 pub vectors_call : LabsBegins → VectorsCall
-vectors_call labs stay R rom start notes accepted offers puts pairs cpu since log play =
+vectors_call labs R rom start notes accepted offers puts pairs cpu since log play =
     let brought = by_bytes R rom start notes accepted offers puts pairs in
-    of_stage stay labs R rom start notes accepted brought (stage stay labs R rom start notes accepted brought play)
+    of_stage labs R rom start notes accepted brought (stage labs R rom start notes accepted brought play)

@@ -25,7 +25,7 @@ use Rattle.dvg_game.proofs.Local.{ticked}
 use Rattle.dvg_game.proofs.Memory.{either}
 use Rattle.dvg_play.specs.Play.{AreBytes, done, fresh, made}
 use Rattle.dvg_play.specs.Open.{IsIn}
-use Rattle.dvg_play.specs.Stays.{CallsStay, LabsBegins}
+use Rattle.dvg_play.specs.Stays.{LabsBegins}
 use Rattle.dvg_play.specs.Games.{accesses_of}
 use Rattle.dvg_play.proofs.Along.{as_cpu}
 use Rattle.dvg_play.proofs.DriverSteps.{choice, left_as, safe}
@@ -133,7 +133,7 @@ pub record Came (rom : ℕ → ℕ) (start : ℕ) (ret : Cpu) (since : ℕ) (to 
   pub blank_is : st.blank ≡ blank_after to blank
 
 module _ (R : List ℕ) (rom : ℕ → ℕ) (start : ℕ) (notes : Notes) (accepted : accepts rom start notes ≡ true)
-    (stay : CallsStay) (labs : LabsBegins) (cpu : Cpu) (log : List Access) (d : InDriver R rom start cpu log)
+    (labs : LabsBegins) (cpu : Cpu) (log : List Access) (d : InDriver R rom start cpu log)
     (there : at_return d.s cpu ≡ true) (since : ℕ) (flags : ℕ → ℕ) where
   opcode : cpu.mem cpu.pc ≡ 0x60
   opcode = eqb-true (cpu.mem cpu.pc) 0x60 (Rattle.dvg_game.proofs.Facts.both_true (nat_eq (cpu.mem cpu.pc) 0x60)
@@ -151,19 +151,19 @@ module _ (R : List ℕ) (rom : ℕ → ℕ) (start : ℕ) (notes : Notes) (accep
   ret_is = ap (λ b. does (decoded opcodes b) (fresh flags cpu)) opcode
 
   abbrev chosen : Choice
-  chosen = record (choice R rom start notes accepted stay cpu log d) { since = suc since }
+  chosen = record (choice R rom start notes accepted cpu log d) { since = suc since }
 
   abbrev to : ℕ
   to = word_at d.st.mem (d.st.pc + 1)
 
   left : (b : ℕ) → left_by d.st.s cpu.mem d.st.mem b ≡ cpu.mem b
-  left b = left_as R rom start notes accepted stay cpu log d b
+  left b = left_as R rom start notes accepted cpu log d b
 
   at_stack : (k : ℕ) → k ≤ 255 → stack_place k ≡ 0x100 + k
   at_stack k small = omega (arith, small)
 
   place : d.st.pc + 3 < 65536
-  place = let high = (inside d.st.pc (safe R rom start notes accepted stay cpu log d).inside).1 in omega (arith, high)
+  place = let high = (inside d.st.pc (safe R rom start notes accepted cpu log d).inside).1 in omega (arith, high)
 
   by_jsr : kind_of (d.st.mem d.st.pc) ≡ kinds.Call → d.s + 2 ≡ d.st.s
       → cpu.mem (0x100 + (d.s + 1)) ≡ (d.st.pc + 2) % 256 → cpu.mem (0x100 + (d.s + 2)) ≡ (d.st.pc + 2) / 256

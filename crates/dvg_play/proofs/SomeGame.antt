@@ -1,13 +1,13 @@
 -- A program whose bytes meet the premises of the laws, and a play of it.
 use Rattle.std.proofs.Common.{◌≡◌, ℕ, zero, suc, ◌-◌, ◌/◌, ◌%◌, ◌<◌, Bool, true, false, List, [], ◌∷◌, refl, arith}
 use Rattle.std.proofs.Common.{leb-true}
-use Rattle.std.specs.Prelude.{◌&&◌, nat_eq, nat_lt, if◌then◌else◌}
+use Rattle.std.specs.Prelude.{◌&&◌, nat_lt, if◌then◌else◌}
 use Rattle.dvg_6502.specs.Code.{code}
 use Rattle.dvg_6502.specs.Processor.{Cpu, put}
 use Rattle.dvg_game.specs.Checker.{first, places}
 use Rattle.dvg_game.specs.Written.{of_list, rom_of, found, notes_of, note, nmi_note}
 use Rattle.dvg_game.proofs.Facts.{both_true}
-use Rattle.dvg_play.specs.Play.{AreBytes, begins, does, done}
+use Rattle.dvg_play.specs.Play.{begins, does}
 use Rattle.dvg_play.specs.SomeGame.{bytes, vectors, rows, rom, notes, start, IsFine, Plays}
 use Rattle.dvg_play.proofs.GameSteps.{put_small}
 

@@ -8,7 +8,7 @@ use Rattle.dvg_6502.specs.Calls.{Routine, Call, bounds, entry, frame_of, IsSessi
 use Rattle.dvg_6502.specs.Programs.{Tells}
 use Rattle.dvg_game.specs.Kinds.{kind_of}
 use Rattle.dvg_game.specs.Kinds as kinds
-use Rattle.dvg_game.specs.Machine.{State, IsRun, calling, restarts, word_at}
+use Rattle.dvg_game.specs.Machine.{State, IsRun, calling, is_outside, restarts, word_at}
 use Rattle.dvg_game.specs.Alike.{of_cpu}
 use Rattle.dvg_play.specs.Play.{AreBytes}
 use Rattle.dvg_play.specs.Open.{InRom, IsOpen, Rested}
@@ -91,7 +91,7 @@ pub record InNmi (R : List ℕ) (rom : ℕ → ℕ) (start : ℕ) (cpu : Cpu) (s
   pub home : st.home ≡ Some (driver.st.pc, driver.st.s)
   pub blank : st.blank ≡ driver.st.blank
   pub bytes : AreBytes cpu
-  pub kept : (b : ℕ) → IsSpared outer.s b → cpu.mem b ≡ outer.mem b
+  pub kept : (b : ℕ) → IsSpared outer.s b → is_outside b ≡ false → cpu.mem b ≡ outer.mem b
 
 abbrev pub Stage : List ℕ → (ℕ → ℕ) → ℕ → Cpu → ℕ → List Access → Type 0
 Stage R rom start cpu since log =

@@ -19,7 +19,6 @@ use Rattle.dvg_game.specs.Kinds.{Kind, Jump, Call as CallKind, kind_of}
 use Rattle.dvg_game.specs.Machine
 use Rattle.dvg_game.specs.Machine.{calls_driver}
 use Rattle.dvg_play.specs.Play.{IsPlay}
-use Rattle.dvg_play.specs.Stays.{CallsStay}
 
 -- the next instruction of the game calls this routine of the driver
 abbrev pub Enters : ℕ → Cpu → Type 0
@@ -89,14 +88,14 @@ CallsLiveOn = (R : List ℕ) (log : List Access) → AreOfCalls R log → (log �
 -- where the checker accepts a game, and what it offers and puts is so, the driver's accesses are those of a session,
 -- whatever it plays
 abbrev pub GamesCall : Type 0
-GamesCall = CallsStay → (R : List ℕ) (rom : ℕ → ℕ) (start : ℕ) (notes : Notes)
+GamesCall = (R : List ℕ) (rom : ℕ → ℕ) (start : ℕ) (notes : Notes)
     → accepts rom start notes ≡ true → Content R rom start → (cpu : Cpu) (since : ℕ) (log : List Access)
     → IsPlay rom start cpu since log → AreOfCalls R log
 
 -- a game that builds its frames by dvg_open, dvg_labs, dvg_vector and dvg_close alone: its bytes say so, and of what it
 -- draws there is no premise
 abbrev pub VectorsCall : Type 0
-VectorsCall = CallsStay → (R : List ℕ) (rom : ℕ → ℕ) (start : ℕ) (notes : Notes)
+VectorsCall = (R : List ℕ) (rom : ℕ → ℕ) (start : ℕ) (notes : Notes)
     → accepts rom start notes ≡ true → never_calls rom dvg_offer ≡ true → never_calls rom dvg_put ≡ true
     → never_calls rom dvg_pair ≡ true → (cpu : Cpu) (since : ℕ) (log : List Access)
     → IsPlay rom start cpu since log → AreOfCalls R log

@@ -54,11 +54,11 @@ DriverSteps = (R : List ℕ) (routine : Routine) (s : ℕ) (calls : List Call) (
     (flags : ℕ → ℕ) → IsOpen R routine s calls cpu log → at_return s cpu ≡ false
     → IsOpen R routine s calls (done flags cpu) ((done flags cpu).log ++ log)
 
--- an NMI that leaves what is guarded, of any tables in the ROM, is none
+-- others that leave what is guarded, of any tables in the ROM, are none: an NMI, or what is outside
 abbrev pub NmiPasses : Type 0
 NmiPasses = (R : List ℕ) (routine : Routine) (s : ℕ) (calls : List Call) (cpu : Cpu) (log : List Access) (m : ℕ → ℕ)
     → IsOpen R routine s calls cpu log
-    → ((tables : ℕ → Bool) → ((b : ℕ) → tables b ≡ true → 0x4800 ≤ b)
+    → ((tables : ℕ → Bool) → ((b : ℕ) → tables b ≡ true → InRom b)
     → (b : ℕ) → guards (is_kept tables) s cpu.s b ≡ true → m b ≡ cpu.mem b)
     → IsOpen R routine s calls (changed m cpu) log
 

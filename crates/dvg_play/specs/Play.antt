@@ -2,10 +2,10 @@
 use Rattle.std.specs.Prelude.{◌≡◌, ℕ, suc, ◌<◌, ◌≤◌, Bool, false, List, [], ◌++◌, if◌then◌else◌}
 use Rattle.dvg_6502.specs.Processor
 use Rattle.dvg_6502.specs.Processor.{Cpu, Access, word_at}
-use Rattle.dvg_6502.specs.Amid.{is_code}
+use Rattle.dvg_6502.specs.Amid.{changed, is_code}
 use Rattle.dvg_6502.specs.Board.{seen}
 use Rattle.dvg_game.specs.Machine
-use Rattle.dvg_game.specs.Machine.{IsLoaded}
+use Rattle.dvg_game.specs.Machine.{IsLoaded, IsTurned}
 use Rattle.dvg_game.specs.Alike.{idle}
 
 -- registers and memory are bytes
@@ -45,7 +45,7 @@ pub record Begins (rom : ℕ → ℕ) (start : ℕ) (cpu : Cpu) : Type 0 where
 
 -- all that it may do up to the next reset, or a JMP there: with how many instructions came since the last NMI, and the
 -- driver's accesses, the newest first. An NMI may come between any two instructions, 860 after the last one; the first
--- one comes at any time
+-- one comes at any time. And at any time switches, coins and all else outside turn to any bytes
 pub data IsPlay (rom : ℕ → ℕ) (start : ℕ) : Cpu → ℕ → List Access → Type 0 where
   begins : (cpu : Cpu) (since : ℕ) → Begins rom start cpu → IsPlay rom start cpu since []
   does : {cpu : Cpu} {since : ℕ} {log : List Access} (flags : ℕ → ℕ) → IsPlay rom start cpu since log
@@ -53,3 +53,5 @@ pub data IsPlay (rom : ℕ → ℕ) (start : ℕ) : Cpu → ℕ → List Access 
       → IsPlay rom start (done flags cpu) (suc since) (made cpu (done flags cpu) ++ log)
   nmi : {cpu : Cpu} {since : ℕ} {log : List Access} → IsPlay rom start cpu since log → 860 ≤ since
       → IsPlay rom start (interrupted cpu) 0 log
+  turns : {cpu : Cpu} {since : ℕ} {log : List Access} (mem : ℕ → ℕ) → IsPlay rom start cpu since log
+      → ((b : ℕ) → mem b < 256) → IsTurned cpu.mem mem → IsPlay rom start (changed mem cpu) since log

@@ -1,4 +1,4 @@
--- What is wanted of the driver's code so that a play is its calls.
+-- What a play takes of the driver's code, so that it is calls of the driver.
 use Rattle.std.specs.Prelude.{◌≡◌, ◌⊎◌, ℕ, ◌+◌, ◌≤◌, ◌||◌, Bool, true, false, nat_eq, List, ◌∷◌, Some}
 use Rattle.dvg_6502.specs.Processor.{Cpu, stack_place, turn}
 use Rattle.dvg_6502.specs.Amid.{changed, guards, is_code, is_kept, is_work}
@@ -7,7 +7,8 @@ use Rattle.dvg_6502.specs.Routines.{Labs}
 use Rattle.dvg_6502.specs.Calls.{Puts, Call, after, frame_of, has_returned, is_table, is_taken, IsSessionBy}
 use Rattle.dvg_6502.specs.Programs.{Tells}
 
--- what a step of a call that began with this S may write: the driver's bytes, the hardware, and two bytes of the stack
+-- what a step of a call that began with this S may write: the driver's bytes, what is set for a call and what it counts
+-- by, the hardware, and two bytes of the stack
 abbrev pub is_written : (s b : ℕ) → Bool
 is_written s b = is_own b
     || (is_work b || (is_hardware b || (nat_eq b (stack_place s) || nat_eq b (stack_place (s + 255)))))
@@ -18,8 +19,7 @@ pub record Stays (s : ℕ) (now new : Cpu) : Type 0 where
   pub level : (new.s ≡ s) ⊎ (new.s + 2 ≡ s)
   pub kept : (b : ℕ) → is_written s b ≡ false → new.mem b ≡ now.mem b
 
--- OPEN: so does each step of each call of a session, on whatever memory harmless others leave. No law here proves it:
--- it is a premise of the law of games
+-- so does each step of each call of a session, on whatever memory harmless others leave
 abbrev pub CallsStay : Type 0
 CallsStay = (R : List ℕ) (call : Call) (calls : List Call) (m : ℕ → ℕ) → IsSessionBy (Tells R) (call ∷ calls)
     → 4 ≤ call.from.s

@@ -6,7 +6,7 @@ ghost use Rattle.dvg_play.specs.Games.{CallsLiveOn, GamesCall, VectorsCall};
 ghost use Rattle.dvg_play.specs.Interrupt.{GuardIsSpared, NmiSpares};
 ghost use Rattle.dvg_play.specs.Open.{DriverBegins, DriverEnds, DriverSteps, NmiPasses};
 ghost use Rattle.dvg_play.specs.SomeGame.{IsFine, Plays};
-ghost use Rattle.dvg_play.specs.Stays.{LabsBegins};
+ghost use Rattle.dvg_play.specs.Stays.{CallsStay, LabsBegins};
 
 /// Where the checker accepts a game, its NMI's routine leaves all that is guarded amid a call of
 /// the driver.
@@ -25,21 +25,27 @@ pub fn driver_goes_on()
     ensures ends { DriverEnds }
 {}
 
+/// Each step of each call of a session that begins with S at 4 or more stays in the driver's code,
+/// with S as where the call began or two lower. It writes the driver's bytes, what is set for a
+/// call and what it counts by, the hardware, and two bytes of the stack alone. So it does on
+/// whatever memory harmless others leave.
+pub fn calls_stay()
+    ensures { CallsStay }
+{}
+
 /// Where a frame is begun, with nothing in it, `dvg_labs` puts its LABS.
 pub fn labs_begins()
     ensures { LabsBegins }
 {}
 
 /// Where the checker accepts a game, and what it offers and puts is as `Content` says, its accesses
-/// of the hardware in the driver are those of a session of calls, wherever its NMIs come. One fact
-/// of the driver's code is a premise, and open: `CallsStay`, that each step of a call stays in the
-/// driver's code and writes its own bytes, the hardware and two bytes of the stack alone.
+/// of the hardware in the driver are those of a session of calls, wherever its NMIs come.
 pub fn games_call()
     ensures { GamesCall }
 {}
 
 /// A game that builds its frames by `dvg_open`, `dvg_labs`, `dvg_vector` and `dvg_close` alone has
-/// no premise on its content: its bytes say that it calls nothing else. Over the same open fact.
+/// no premise on its content: its bytes say that it calls nothing else.
 pub fn vectors_call()
     ensures { VectorsCall }
 {}

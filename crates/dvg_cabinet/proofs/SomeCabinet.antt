@@ -1,0 +1,155 @@
+-- A run of a game on its board: the driver boots, and reads byte 001 in a clock.
+use Rattle.std.proofs.Common.{◌≡◌, ℕ, zero, suc, ◌+◌, ◌-◌, ◌/◌, ◌%◌, ◌<◌, ◌==◌, Bool, true, false, not, List, [], ◌∷◌, refl}
+use Rattle.std.proofs.Common.{sym, ap, arith, inl, leb-true, le-leb, lit<}
+use Rattle.std.specs.Prelude.{◌&&◌, nat_eq, nat_lt, if◌then◌else◌, replicate, slice_index}
+use Rattle.std.proofs.lemmas.List.{length-replicate}
+use Rattle.std.proofs.lemmas.List.Elements.{All-replicate}
+use Rattle.dvg_mem.specs.Memory.{IsImage, IsRom}
+use Rattle.dvg_6502.specs.Calls.{Reset}
+use Rattle.dvg_6502.specs.Code.{code}
+use Rattle.dvg_6502.specs.Processor.{Cpu, Reads, put}
+use Rattle.dvg_core.specs.Cells.{bit}
+use Rattle.dvg_board.specs.Board.{Bus}
+use Rattle.dvg_board.specs.Clocks.{IsBus, IsServed, after}
+use Rattle.dvg_board.specs.Example.{zeros}
+use Rattle.dvg_system.specs.Machine.{SharesRam}
+use Rattle.dvg_game.specs.Checker.{first}
+use Rattle.dvg_game.specs.Written.{of_list, rom_of}
+use Rattle.dvg_game.proofs.Facts.{both_true}
+use Rattle.dvg_play.specs.SomeGame.{bytes, vectors, rom, start}
+use Rattle.dvg_play.proofs.GameSteps.{put_small}
+use Rattle.dvg_cabinet.specs.Cabinet.{IsCabinet, powers, begins, does, accesses}
+use Rattle.dvg_cabinet.specs.Example.{SomeCabinet, nothing}
+
+is_rom : IsRom zeros
+is_rom = record { count = inl (length-replicate {A = ℕ} 2048 0); bytes = All-replicate (λ b. b < 256) 2048 0 (lit< tt) }
+
+is_image : IsImage zeros
+is_image = record { count = length-replicate {A = ℕ} 2048 0; bytes = All-replicate (λ b. b < 256) 2048 0 (lit< tt) }
+
+zero_at : (n a : ℕ) → 0 ≡ slice_index (replicate n 0) a
+zero_at zero a = refl
+zero_at (suc n) zero = refl
+zero_at (suc n) (suc a) = zero_at n a
+
+-- each byte of the ROM is one
+abbrev all_small : List ℕ → Bool
+all_small [] = true
+all_small (x ∷ xs) = nat_lt x 256 && all_small xs
+
+item_small : (other : ℕ) (xs : List ℕ) (n : ℕ) → other < 256 → all_small xs ≡ true → of_list other xs n < 256
+unfolding of_list
+item_small other [] n small all = small
+item_small other (x ∷ xs) zero small all = leb-true (suc x) 256 (both_true (nat_lt x 256) (all_small xs) all).0
+item_small other (x ∷ xs) (suc n) small all =
+    item_small other xs n small (both_true (nat_lt x 256) (all_small xs) all).1
+
+row_small : (n : ℕ) → all_small (of_list [] bytes n) ≡ true
+unfolding of_list bytes
+row_small zero = refl
+row_small (suc n) = refl
+
+rom_small : (b : ℕ) → rom nothing b < 256
+unfolding rom rom_of vectors
+rom_small b = by (nat_lt b 0x6800) (nat_lt b first) (nat_lt b 0x7FFA) (nat_lt b 0x8000)
+  where
+    by : (t u v w : Bool) → (if t then 0 else if u then of_list 0 code (b - 0x6800)
+        else if v then of_list 0xFF (of_list [] bytes ((b - first) / 64)) ((b - first) % 64)
+        else if w then of_list 0 vectors (b - 0x7FFA) else 0) < 256
+    by true u v w = omega arith
+    by false true v w = item_small 0 code (b - 0x6800) (omega arith) refl
+    by false false true w = item_small 0xFF (of_list [] bytes ((b - first) / 64)) ((b - first) % 64) (omega arith)
+        (row_small ((b - first) / 64))
+    by false false false true = item_small 0 vectors (b - 0x7FFA) (omega arith) refl
+    by false false false false = omega arith
+
+-- the RAM is zeros, as the processor has it
+shares : SharesRam Reset (rom nothing) (after nothing [])
+unfolding rom rom_of
+shares a few = ap (λ (t : Bool). if t then 0 else if nat_lt (0x4000 + a) first then of_list 0 code (0x4000 + a - 0x6800)
+    else if nat_lt (0x4000 + a) 0x7FFA then of_list 0xFF (of_list [] bytes ((0x4000 + a - first) / 64)) ((0x4000 + a - first) % 64)
+    else if nat_lt (0x4000 + a) 0x8000 then of_list 0 vectors (0x4000 + a - 0x7FFA) else 0)
+    (le-leb (suc (0x4000 + a)) 0x6800 (omega (arith, few)))
+
+-- after its TXS
+begun : Cpu
+begun = record {
+  a = 0;
+  x = 0;
+  y = 0;
+  s = 255;
+  pc = start;
+  n = false;
+  z = false;
+  c = false;
+  v = false;
+  d = false;
+  i = false;
+  mem = rom nothing;
+  flags = λ n. 0;
+  log = [];
+}
+
+-- the clock that reads byte 001
+abbrev clock : Bus
+clock = record { reset = 0; hold = 0; access = 1; write = 0; a = 0x4001; d = 0; big = 0; rom = 0; undefined = 0 }
+
+is_clock : IsBus clock
+is_clock = record { reset = omega arith; a = omega arith; d = omega arith; rom = omega arith }
+
+served : IsServed zeros (after nothing []) clock
+served = record {
+  big = sym (ap (λ n. bit (not (n == 2048))) (length-replicate {A = ℕ} 2048 0));
+  rom = λ takes from to. absurd (cc);
+}
+
+pub some_cabinet : SomeCabinet
+unfolding of_list rom_of bytes vectors rom begun
+some_cabinet =
+    let m1 = put_small 0x1FE 0x8C (put 0x1FF 0x6A (rom nothing)) (omega arith)
+    (put_small 0x1FF 0x6A (rom nothing) (omega arith) rom_small) in
+    let m2 = put_small 0x10 0 (put 0x1FE 0x8C (put 0x1FF 0x6A (rom nothing))) (omega arith) m1 in
+    let m3 = put_small 0x12 3 (put 0x10 0 (put 0x1FE 0x8C (put 0x1FF 0x6A (rom nothing)))) (omega arith) m2 in
+    let m4 = put_small 0x1FE 0x8F (put 0x1FF 0x6A (put 0x12 3 (put 0x10 0 (put 0x1FE 0x8C (put 0x1FF 0x6A (rom nothing))))))
+    (omega arith) (put_small 0x1FF 0x6A (put 0x12 3 (put 0x10 0 (put 0x1FE 0x8C (put 0x1FF 0x6A (rom nothing)))))
+    (omega arith) m3) in
+    let m5 = put_small 0x1FC 0x17 (put 0x1FD 0x68 (put 0x1FE 0x8F (put 0x1FF 0x6A (put 0x12 3 (put 0x10 0
+    (put 0x1FE 0x8C (put 0x1FF 0x6A (rom nothing)))))))) (omega arith)
+    (put_small 0x1FD 0x68 (put 0x1FE 0x8F (put 0x1FF 0x6A (put 0x12 3 (put 0x10 0
+    (put 0x1FE 0x8C (put 0x1FF 0x6A (rom nothing))))))) (omega arith) m4) in
+    let on0 : IsCabinet zeros zeros nothing (rom nothing) start (Rattle.std.specs.Prelude.Some (begun, 0)) [] =
+    begins begun 0 (powers is_rom is_image (λ a few. zero_at 2048 a)) (record {
+      loaded = λ b low high. refl;
+      entry = refl;
+      stack = refl;
+      bytes = record {
+        a = omega arith;
+        x = omega arith;
+        y = omega arith;
+        s = omega arith;
+        mem = rom_small;
+      };
+    }) shares in
+    let on1 = does (λ n. 0) on0 refl (record { a = omega arith; x = omega arith; y = omega arith; s = omega arith; mem = m1 }) refl in
+    let on2 = does (λ n. 0) on1 refl (record { a = omega arith; x = omega arith; y = omega arith; s = omega arith; mem = m1 }) refl in
+    let on3 = does (λ n. 0) on2 refl (record { a = omega arith; x = omega arith; y = omega arith; s = omega arith; mem = m2 }) refl in
+    let on4 = does (λ n. 0) on3 refl (record { a = omega arith; x = omega arith; y = omega arith; s = omega arith; mem = m2 }) refl in
+    let on5 = does (λ n. 0) on4 refl (record { a = omega arith; x = omega arith; y = omega arith; s = omega arith; mem = m3 }) refl in
+    let on6 = does (λ n. 0) on5 refl (record { a = omega arith; x = omega arith; y = omega arith; s = omega arith; mem = m3 }) refl in
+    let on7 = does (λ n. 0) on6 refl (record { a = omega arith; x = omega arith; y = omega arith; s = omega arith; mem = m4 }) refl in
+    let on8 = does (λ n. 0) on7 refl (record { a = omega arith; x = omega arith; y = omega arith; s = omega arith; mem = m4 }) refl in
+    let on9 = does (λ n. 0) on8 refl (record { a = omega arith; x = omega arith; y = omega arith; s = omega arith; mem = m4 }) refl in
+    let on10 = does (λ n. 0) on9 refl (record { a = omega arith; x = omega arith; y = omega arith; s = omega arith; mem = m4 }) refl in
+    let on11 = does (λ n. 0) on10 refl (record { a = omega arith; x = omega arith; y = omega arith; s = omega arith; mem = m4 }) refl in
+    let on12 = does (λ n. 0) on11 refl (record { a = omega arith; x = omega arith; y = omega arith; s = omega arith; mem = m4 }) refl in
+    let on13 = does (λ n. 0) on12 refl (record { a = omega arith; x = omega arith; y = omega arith; s = omega arith; mem = m4 }) refl in
+    let on14 = does (λ n. 0) on13 refl (record { a = omega arith; x = omega arith; y = omega arith; s = omega arith; mem = m5 }) refl in
+    let on15 = does (λ n. 0) on14 refl (record { a = omega arith; x = omega arith; y = omega arith; s = omega arith; mem = m5 }) refl in
+    let on16 = does (λ n. 0) on15 refl (record { a = omega arith; x = omega arith; y = omega arith; s = omega arith; mem = m5 }) refl in
+    let on17 = does (λ n. 0) on16 refl (record { a = omega arith; x = omega arith; y = omega arith; s = omega arith; mem = m5 }) refl in (
+      _,
+      clock,
+      accesses (λ n. 0) (Reads 0x4001 0) clock on17 refl
+          (record { a = omega arith; x = omega arith; y = omega arith; s = omega arith; mem = m5 }) refl is_clock served (refl, refl, refl, λ next. refl),
+      refl,
+    )

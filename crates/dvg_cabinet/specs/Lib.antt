@@ -1,0 +1,3 @@
+pub mod Cabinet
+pub mod Keeps
+pub mod Example
