@@ -86,9 +86,9 @@ module _ (laws : Laws) (labs : LabsBegins) (R image : List ℕ) (held rom : ℕ 
       by : (t : Bool) → calling (kind_of (cpu.mem cpu.pc)) (of_cpu cpu g.st) ≡ t
           → Stands (Some (done flags cpu, suc since)) clocks
       by false is = inl (game_steps R image held rom start notes accepted cpu since clocks g flags go is bytes)
-      by true is = let brings = brought cpu since clocks on.0 on.1 g go is flags bytes in
+      by true is = let brings = brought cpu since clocks on.0 on.1 g go is in
           inr (inl (game_calls R image held rom start notes accepted cpu since clocks g go is flags bytes
-          brings.0 brings.1 brings.2 brings.3))
+          brings.0 brings.1 brings.2))
   stepped {cpu} {since} {clocks} flags on go bytes none (inr (inl d)) = by (at_return d.s cpu) refl
     where
       by : (t : Bool) → at_return d.s cpu ≡ t → Stands (Some (done flags cpu, suc since)) clocks
@@ -255,9 +255,9 @@ module _ (laws : Laws) (labs : LabsBegins) (R image : List ℕ) (held rom : ℕ 
       }
 
 pub games_keep : Laws → LabsBegins → GamesKeep
-games_keep laws labs R image held rom start notes accepted content checked at clocks on =
+games_keep laws labs R image held rom start notes accepted content at clocks on =
     keeps laws labs R image held rom start notes accepted
-    (by_content R image held rom start notes accepted content checked) at clocks on
+    (by_content R image held rom start notes accepted content) at clocks on
 
 pub vectors_keep : Laws → LabsBegins → VectorsKeep
 vectors_keep laws labs R image held rom start notes accepted offers puts pairs at clocks on =
