@@ -7,21 +7,18 @@ use Rattle.dvg_6502.specs.Processor.{Cpu}
 use Rattle.dvg_6502.specs.Calls.{Call}
 use Rattle.dvg_6502.specs.Code.{dvg_offer, dvg_pair, dvg_put}
 use Rattle.dvg_board.specs.Board.{Bus}
-use Rattle.dvg_board.specs.Clocks.{after}
 use Rattle.dvg_system.specs.Machine.{IsMachine}
 use Rattle.dvg_game.specs.Checker.{Notes, accepts}
 use Rattle.dvg_play.specs.Games.{Content, never_calls}
 use Rattle.dvg_cabinet.specs.Cabinet.{AreAlike, IsCabinet}
 
 -- there is a log that these clocks make, with calls of the driver: it is legal, and each line keeps the headline. It is
--- of the same clocks, but that what the game reads by itself isn't in it; generator and RAM are the same
+-- of the same clocks, but that what the game reads by itself isn't in it; at each clock the two boards draw the same
 pub record Keeps (R image : List ℕ) (held : ℕ → ℕ) (clocks : List Bus) : Type 0 where
   pub calls : List Call
   pub log : Log
   pub shown : List Bus
-  pub alike : AreAlike clocks shown
-  pub core : (after held shown).core ≡ (after held clocks).core
-  pub ram : (after held shown).ram ≡ (after held clocks).ram
+  pub alike : AreAlike held clocks shown
   pub machine : IsMachine R image held calls log shown
   pub legal : IsLegal R image log
   pub headline : Throughout (KeepsHeadline R image) log
