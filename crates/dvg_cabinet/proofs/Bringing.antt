@@ -2,12 +2,8 @@
 use Rattle.std.proofs.Common.{◌≡◌, ℕ, suc, ◌+◌, ◌-◌, ◌*◌, ◌<◌, ◌≤◌, Bool, true, false, List}
 use Rattle.std.proofs.Common.{[], ◌++◌, refl, sym, ap, ◌∙◌, subst, arith, eq-eqb, leb-true}
 use Rattle.std.specs.Prelude.{◌&&◌, not, nat_le, nat_lt, Option, Some, None}
-use Rattle.dvg_frame.specs.declared.op.OpKind.{OpKind}
-use Rattle.dvg_frame.specs.Ops.{IsDraft}
-use Rattle.dvg_frame.specs.Faults.{Accepts}
 use Rattle.dvg_6502.specs.Processor.{Cpu, Access}
 use Rattle.dvg_6502.specs.Code.{dvg_offer, dvg_pair, dvg_put}
-use Rattle.dvg_6502.specs.Tables.{HasTable}
 use Rattle.dvg_board.specs.Board.{Bus}
 use Rattle.dvg_game.specs.Kinds.{kind_of}
 use Rattle.dvg_game.specs.Machine.{calling, restarts, word_at}
@@ -17,14 +13,12 @@ use Rattle.dvg_game.specs.Alike.{idle, of_cpu}
 use Rattle.dvg_game.proofs.Facts.{both_true, under}
 use Rattle.dvg_game.proofs.Whole.{checked_is_safe}
 use Rattle.dvg_play.specs.Play
-use Rattle.dvg_play.specs.Play.{AreBytes, IsPlay, done, made}
-use Rattle.dvg_play.specs.Games.{Content, Enters, IsShape, IsTable, calls_at, may_call, never_calls}
+use Rattle.dvg_play.specs.Play.{IsPlay, done, made}
+use Rattle.dvg_play.specs.Games.{Content, Enters, IsTable, IsWord, calls_at, may_call, never_calls}
 use Rattle.dvg_play.proofs.Along.{calls_as}
 use Rattle.dvg_play.proofs.Leaps.{calling_may}
 use Rattle.dvg_cabinet.specs.Cabinet.{IsCabinet, powers, waits, reads, resets, tests, begins, does, accesses, nmi}
 use Rattle.dvg_cabinet.specs.Cabinet.{turns}
-use Rattle.dvg_cabinet.specs.Keeps.{AreChecked}
-use Rattle.dvg_cabinet.proofs.Calling.{goes_there}
 use Rattle.dvg_cabinet.proofs.GameSteps.{nowhere}
 use Rattle.dvg_cabinet.proofs.Stages.{InGame}
 
@@ -52,11 +46,9 @@ module _ (R image : List ℕ) (held rom : ℕ → ℕ) (start : ℕ) where
   abbrev pub Brought : Type 0
   Brought = (cpu : Cpu) (since : ℕ) (clocks : List Bus) (log : List Access) → IsPlay rom start cpu since log
       → (g : InGame R image held rom start cpu since clocks) → Play.restarts cpu ≡ false
-      → calling (kind_of (cpu.mem cpu.pc)) (of_cpu cpu g.st) ≡ true → (flags : ℕ → ℕ) → AreBytes (done flags cpu)
+      → calling (kind_of (cpu.mem cpu.pc)) (of_cpu cpu g.st) ≡ true
       → let to = word_at cpu.mem (cpu.pc + 1) in
-      (to ≡ dvg_offer → IsTable rom cpu) × (to ≡ dvg_put → IsShape R cpu) × (to ≡ dvg_pair → ⊥)
-      × (to ≡ dvg_offer → (F : List OpKind)
-      → HasTable (done flags cpu).mem ((done flags cpu).a + 256 * (done flags cpu).x) F → IsDraft F × Accepts F R)
+      (to ≡ dvg_offer → IsTable R rom cpu) × (to ≡ dvg_put → IsWord R cpu) × (to ≡ dvg_pair → ⊥)
 
 module _ (R image : List ℕ) (held rom : ℕ → ℕ) (start : ℕ) (notes : Notes) (accepted : accepts rom start notes ≡ true)
   where
@@ -71,13 +63,11 @@ module _ (R image : List ℕ) (held rom : ℕ → ℕ) (start : ℕ) (notes : No
       ap (λ q. cpu.mem (cpu.pc + 1) + 256 * cpu.mem q) (let e : cpu.pc + 2 ≡ cpu.pc + 1 + 1 = omega arith in e) ∙ at,
     )
 
-    pub by_content : Content R rom start → AreChecked R rom start → Brought R image held rom start
-    by_content content checked cpu since clocks log play g go is flags bytes = (
+    pub by_content : Content R rom start → Brought R image held rom start
+    by_content content cpu since clocks log play g go is = (
       (λ at. content.tables play (enters g go is dvg_offer at)),
-      (λ at. content.shapes play (enters g go is dvg_put at)),
+      (λ at. content.words play (enters g go is dvg_put at)),
       (λ at. content.no_pair play (enters g go is dvg_pair at)),
-      (λ at F has. checked _ _ _ (Play.does flags play go bytes)
-          (goes_there R image held rom start notes accepted cpu since clocks g go is flags ∙ at) F has),
     )
 
     -- where no place of the ROM calls a routine, no play does
@@ -126,9 +116,8 @@ module _ (R image : List ℕ) (held rom : ℕ → ℕ) (start : ℕ) (notes : No
 
     pub by_bytes : never_calls rom dvg_offer ≡ true → never_calls rom dvg_put ≡ true → never_calls rom dvg_pair ≡ true
         → Brought R image held rom start
-    by_bytes offers puts pairs cpu since clocks log play g go is flags bytes = (
+    by_bytes offers puts pairs cpu since clocks log play g go is = (
       (λ at. absurd (never dvg_offer offers g is at)),
       (λ at. absurd (never dvg_put puts g is at)),
       (λ at. never dvg_pair pairs g is at),
-      (λ at F has. absurd (never dvg_offer offers g is at)),
     )

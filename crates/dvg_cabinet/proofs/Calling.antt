@@ -2,18 +2,13 @@
 use Rattle.std.proofs.Common.{◌≡◌, ◌⊎◌, inl, inr, ℕ, zero, suc, ◌+◌, ◌*◌, ◌/◌, ◌%◌, ◌<◌, ◌≤◌, true, false, List, []}
 use Rattle.std.proofs.Common.{◌∷◌, refl, sym, ap, ◌∙◌, subst, arith, leb-true}
 use Rattle.std.specs.Prelude.{length, slice_index}
-use Rattle.dvg_frame.specs.declared.op.OpKind.{OpKind}
-use Rattle.dvg_frame.specs.Ops.{IsDraft}
-use Rattle.dvg_frame.specs.Faults.{Accepts}
 use Rattle.dvg_6502.specs.Processor.{Cpu, decoded, does, opcodes, put, stack_place}
 use Rattle.dvg_6502.specs.Processor as processor
 use Rattle.dvg_6502.specs.Amid as driver
 use Rattle.dvg_6502.specs.Calls as calls_of
-use Rattle.dvg_6502.specs.Calls.{Routine, entry, frame_of}
+use Rattle.dvg_6502.specs.Calls.{Routine, entry}
 use Rattle.dvg_6502.specs.Code.{code, dvg_offer, dvg_pair, dvg_put}
-use Rattle.dvg_6502.specs.Programs.{Tells}
 use Rattle.dvg_6502.specs.Routines.{Enters, Put, Pair, Labs, Vector}
-use Rattle.dvg_6502.specs.Tables.{HasTable}
 use Rattle.dvg_board.specs.Board.{Bus}
 use Rattle.dvg_board.specs.Clocks as clocked
 use Rattle.dvg_system.specs.Hindsight.{IsCheckedTable}
@@ -29,9 +24,9 @@ use Rattle.dvg_game.proofs.Memory.{here as put_here, other}
 use Rattle.dvg_game.proofs.Whole.{checked_is_safe}
 use Rattle.dvg_play.specs.Play
 use Rattle.dvg_play.specs.Play.{AreBytes, done, fresh}
-use Rattle.dvg_play.specs.Games.{IsShape, IsTable}
+use Rattle.dvg_play.specs.Games.{IsTable, IsWord}
 use Rattle.dvg_play.proofs.Along.{restarts_same}
-use Rattle.dvg_play.proofs.Entering.{Picked, picked}
+use Rattle.dvg_play.proofs.Entering.{IsChecked, Picked, picked}
 use Rattle.dvg_play.proofs.GameSteps.{needed_off, rested_on}
 use Rattle.dvg_play.proofs.Leaps.{by_leap, call_is, is_called, jump_is}
 use Rattle.dvg_play.proofs.Stages.{Back, jmp, jsr, Rests}
@@ -89,9 +84,8 @@ module _ (R image : List ℕ) (held rom : ℕ → ℕ) (start : ℕ) (notes : No
     off : (b : ℕ) → (b < 0x100) ⊎ (0x100 + cpu.s < b) → new.mem b ≡ cpu.mem b
     back : Back here new.mem new.s
     top : new.s ≤ cpu.s
-    tables : to ≡ dvg_offer → IsTable rom new
-    shapes : to ≡ dvg_put → IsShape R new
-    checked : to ≡ dvg_offer → (F : List OpKind) → HasTable new.mem (new.a + 256 * new.x) F → IsDraft F × Accepts F R
+    tables : to ≡ dvg_offer → IsTable R rom new
+    words : to ≡ dvg_put → IsWord R new
 
   enter : (new : Cpu) → Entered new → (to ≡ dvg_pair → ⊥) → InDriver R image held rom start new clocks
   enter new at no_pair = record {
@@ -108,7 +102,7 @@ module _ (R image : List ℕ) (held rom : ℕ → ℕ) (start : ℕ) (notes : No
     calls = g.machine.calls;
     mine = [];
     doing = board_begins R image held pick.routine new g.machine.calls g.machine.log clocks g.machine.on pick.rested enters
-        pick.tells (by_check pick.routine pick.at (pick.tells (λ n. 0))) shares g.machine.tables pick.offered;
+        pick.tells (by_check pick.routine pick.checked) shares g.machine.tables pick.offered;
     most = most;
     top = at.top;
     level = inl refl;
@@ -140,22 +134,22 @@ module _ (R image : List ℕ) (held rom : ℕ → ℕ) (start : ℕ) (notes : No
           }
 
       pick : Picked R rom new g.machine.calls to here.blank
-      pick = picked R rom new at.bytes g.machine.calls here to called rests in_rom at.tables at.shapes no_pair
+      pick = picked R rom new at.bytes g.machine.calls here to called rests in_rom at.tables at.words no_pair
 
       shares : SharesRam calls_of.Reset new.mem (clocked.after held clocks)
       shares a few = at.off (0x4000 + a) (let small = most in inr (omega (arith, small))) ∙ g.shares a few
 
       -- what is offered is checked
-      by_check : (r : Routine) → to ≡ entry r → Tells R r (fresh (λ n. 0) new) (frame_of g.machine.calls) → IsCheckedTable R r
-      by_check calls_of.Reset e tells = tt
-      by_check calls_of.Tick e tells = tt
-      by_check calls_of.Ticks e tells = tt
-      by_check calls_of.Run e tells = tt
-      by_check (calls_of.Offer F) e tells = at.checked e F tells
-      by_check calls_of.Redraw e tells = tt
-      by_check (calls_of.Open F) e tells = tt
-      by_check (calls_of.Puts part) e tells = tt
-      by_check calls_of.Close e tells = tt
+      by_check : (r : Routine) → IsChecked R r → IsCheckedTable R r
+      by_check calls_of.Reset is = tt
+      by_check calls_of.Tick is = tt
+      by_check calls_of.Ticks is = tt
+      by_check calls_of.Run is = tt
+      by_check (calls_of.Offer F) is = is
+      by_check calls_of.Redraw is = tt
+      by_check (calls_of.Open F) is = tt
+      by_check (calls_of.Puts part) is = tt
+      by_check calls_of.Close is = tt
 
       enters : (flags : ℕ → ℕ) → Enters (fresh flags new) (entry pick.routine)
       enters flags = record {
@@ -175,18 +169,8 @@ module _ (R image : List ℕ) (held rom : ℕ → ℕ) (start : ℕ) (notes : No
   word_is : processor.word_at cpu.mem (cpu.pc + 1) (cpu.pc + 2) ≡ to
   word_is = ap (λ q. cpu.mem (cpu.pc + 1) + 256 * cpu.mem q) (let e : cpu.pc + 2 ≡ cpu.pc + 1 + 1 = omega arith in e)
 
-  -- it goes there
-  pub goes_there : (flags : ℕ → ℕ) → (done flags cpu).pc ≡ to
-  goes_there flags = by (by_leap (kind_of (cpu.mem cpu.pc)) here is)
-    where
-      by : (kind_of (cpu.mem cpu.pc) ≡ kinds.Call) ⊎ (kind_of (cpu.mem cpu.pc) ≡ kinds.Jump) → (done flags cpu).pc ≡ to
-      by (inl kind) = ap (λ i. (does i (fresh flags cpu)).pc) (call_is (decoded opcodes (cpu.mem cpu.pc)) kind) ∙ word_is
-      by (inr kind) = ap (λ i. (does i (fresh flags cpu)).pc) (jump_is (decoded opcodes (cpu.mem cpu.pc)) kind) ∙ word_is
-
-  module _ (flags : ℕ → ℕ) (bytes : AreBytes (done flags cpu)) (tables : to ≡ dvg_offer → IsTable rom cpu)
-      (shapes : to ≡ dvg_put → IsShape R cpu) (no_pair : to ≡ dvg_pair → ⊥)
-      (checked : to ≡ dvg_offer → (F : List OpKind)
-      → HasTable (done flags cpu).mem ((done flags cpu).a + 256 * (done flags cpu).x) F → IsDraft F × Accepts F R) where
+  module _ (flags : ℕ → ℕ) (bytes : AreBytes (done flags cpu)) (tables : to ≡ dvg_offer → IsTable R rom cpu)
+      (words : to ≡ dvg_put → IsWord R cpu) (no_pair : to ≡ dvg_pair → ⊥) where
     abbrev jsr_done : Cpu
     jsr_done = does processor.Call (fresh flags cpu)
 
@@ -211,9 +195,8 @@ module _ (R image : List ℕ) (held rom : ℕ → ℕ) (start : ℕ) (notes : No
           ∙ put_here (stack_place cpu.s) ((cpu.pc + 2) / 256) cpu.mem);
       top = omega (arith, few, small);
       tables = λ at. let t = tables at in
-          record { draft = t.draft; table = t.table; low = t.low; ends = t.ends };
-      shapes = λ at. let s = shapes at in record { at = s.at; word = s.word; put = s.put; op = s.op };
-      checked = λ at F has. checked at F (subst (λ (k : Cpu). HasTable k.mem (k.a + 256 * k.x) F) (sym same) has);
+          record { draft = t.draft; table = t.table; low = t.low; ends = t.ends; checked = t.checked };
+      words = λ at. let w = words at in record { op = w.op; word = w.word; put = w.put; is_op = w.is_op };
     }) no_pair)
       where
         same : done flags cpu ≡ jsr_done
@@ -240,9 +223,8 @@ module _ (R image : List ℕ) (held rom : ℕ → ℕ) (start : ℕ) (notes : No
       back = jmp kind refl;
       top = omega arith;
       tables = λ at. let t = tables at in
-          record { draft = t.draft; table = t.table; low = t.low; ends = t.ends };
-      shapes = λ at. let s = shapes at in record { at = s.at; word = s.word; put = s.put; op = s.op };
-      checked = λ at F has. checked at F (subst (λ (k : Cpu). HasTable k.mem (k.a + 256 * k.x) F) (sym same) has);
+          record { draft = t.draft; table = t.table; low = t.low; ends = t.ends; checked = t.checked };
+      words = λ at. let w = words at in record { op = w.op; word = w.word; put = w.put; is_op = w.is_op };
     }) no_pair)
       where
         same : done flags cpu ≡ jmp_done

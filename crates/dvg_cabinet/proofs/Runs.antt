@@ -86,9 +86,9 @@ module _ (laws : Laws) (labs : LabsBegins) (R image : List ℕ) (held rom : ℕ 
       by : (t : Bool) → calling (kind_of (cpu.mem cpu.pc)) (of_cpu cpu g.st) ≡ t
           → Stands (Some (done flags cpu, suc since)) clocks
       by false is = inl (game_steps R image held rom start notes accepted cpu since clocks g flags go is bytes)
-      by true is = let brings = brought cpu since clocks on.0 on.1 g go is flags bytes in
+      by true is = let brings = brought cpu since clocks on.0 on.1 g go is in
           inr (inl (game_calls R image held rom start notes accepted cpu since clocks g go is flags bytes
-          brings.0 brings.1 brings.2 brings.3))
+          brings.0 brings.1 brings.2))
   stepped {cpu} {since} {clocks} flags on go bytes none (inr (inl d)) = by (at_return d.s cpu) refl
     where
       by : (t : Bool) → at_return d.s cpu ≡ t → Stands (Some (done flags cpu, suc since)) clocks
@@ -156,7 +156,7 @@ module _ (laws : Laws) (labs : LabsBegins) (R image : List ℕ) (held rom : ℕ 
   -- a run stands somewhere, with the clocks that its log is of
   record Standing (at : Option (Cpu × ℕ)) (made : List Bus) : Type 0 where
     shown : List Bus
-    alike : AreAlike made shown
+    alike : AreAlike held made shown
     same : Same (clocked.after held made) (clocked.after held shown)
     stage : Stands at shown
 
@@ -165,11 +165,14 @@ module _ (laws : Laws) (labs : LabsBegins) (R image : List ℕ) (held rom : ℕ 
     also_served : IsServed R (clocked.after held older) bus → IsServed R (clocked.after held on.shown) bus
     also_served served = same_served (clocked.after held older) (clocked.after held on.shown) on.same R bus served
 
+    also_same : Same (clock (clocked.after held older) bus) (clock (clocked.after held on.shown) bus)
+    also_same = same_clock (clocked.after held older) (clocked.after held on.shown) on.same bus
+
     with_clock : {next : Option (Cpu × ℕ)} → Stands next (bus ∷ on.shown) → Standing next (bus ∷ older)
     with_clock stage = record {
       shown = bus ∷ on.shown;
-      alike = cabinet.same bus on.alike;
-      same = same_clock (clocked.after held older) (clocked.after held on.shown) on.same bus;
+      alike = cabinet.same bus on.alike (also_same.core, also_same.ram);
+      same = also_same;
       stage = stage;
     }
 
@@ -188,11 +191,12 @@ module _ (laws : Laws) (labs : LabsBegins) (R image : List ℕ) (held rom : ℕ 
       let board = clocked.after held one.shown in
       let also = also_served one bus served in
       let other = read_elsewhere R board bus access write in
-      let read : Bus = record bus { a = other.0 } in record {
+      let read : Bus = record bus { a = other.0 } in
+      let after_it = joins (clock (clocked.after held older) bus) (clock board bus) (clock board read)
+      (same_clock (clocked.after held older) board one.same bus) other.3 in record {
         shown = read ∷ one.shown;
-        alike = cabinet.elsewhere bus other.0 write one.alike;
-        same = joins (clock (clocked.after held older) bus) (clock board bus) (clock board read)
-            (same_clock (clocked.after held older) board one.same bus) other.3;
+        alike = cabinet.elsewhere bus other.0 write one.alike (after_it.core, after_it.ram);
+        same = after_it;
         stage = waited at one.shown read (record { reset = is.reset; a = other.1 is.a; d = is.d; rom = is.rom })
             (record { big = also.big; rom = also.rom }) other.2 one.stage;
       }
@@ -247,17 +251,15 @@ module _ (laws : Laws) (labs : LabsBegins) (R image : List ℕ) (held rom : ℕ 
         log = all.1;
         shown = one.shown;
         alike = one.alike;
-        core = sym one.same.core;
-        ram = sym one.same.ram;
         machine = all.2;
         legal = all.3;
         headline = all.4;
       }
 
 pub games_keep : Laws → LabsBegins → GamesKeep
-games_keep laws labs R image held rom start notes accepted content checked at clocks on =
+games_keep laws labs R image held rom start notes accepted content at clocks on =
     keeps laws labs R image held rom start notes accepted
-    (by_content R image held rom start notes accepted content checked) at clocks on
+    (by_content R image held rom start notes accepted content) at clocks on
 
 pub vectors_keep : Laws → LabsBegins → VectorsKeep
 vectors_keep laws labs R image held rom start notes accepted offers puts pairs at clocks on =

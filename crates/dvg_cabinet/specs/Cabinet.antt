@@ -6,7 +6,7 @@ use Rattle.dvg_6502.specs.Processor.{Cpu, Access, Reads, Writes}
 use Rattle.dvg_6502.specs.Amid.{changed, is_code}
 use Rattle.dvg_6502.specs.Board.{is_ram, seen, strobe_place}
 use Rattle.dvg_6502.specs.Calls.{Reset}
-use Rattle.dvg_board.specs.Board.{Bus}
+use Rattle.dvg_board.specs.Board.{Board, Bus}
 use Rattle.dvg_board.specs.Clocks.{IsBus, IsServed, after, sends}
 use Rattle.dvg_system.specs.Machine.{IsIdle, Makes, SharesRam}
 use Rattle.dvg_game.specs.Machine.{IsTurned}
@@ -72,9 +72,16 @@ pub data IsCabinet (R image : List ℕ) (held : ℕ → ℕ) (rom : ℕ → ℕ)
         → IsCabinet R image held rom start (Some (cpu, since)) older → ((b : ℕ) → mem b < 256) → IsTurned cpu.mem mem
         → IsCabinet R image held rom start (Some (changed mem cpu, since)) older
 
--- clocks of a cabinet, and those that a log is of: the same, but that a read by the game itself may be of another place
-pub data AreAlike : List Bus → List Bus → Type 0 where
-  none : AreAlike [] []
-  same : {made shown : List Bus} (bus : Bus) → AreAlike made shown → AreAlike (bus ∷ made) (bus ∷ shown)
-  elsewhere : {made shown : List Bus} (bus : Bus) (a : ℕ) → bus.write ≡ 0 → AreAlike made shown
-      → AreAlike (bus ∷ made) (record bus { a = a } ∷ shown)
+-- two boards that draw the same: their cores are the same, and their RAM is
+abbrev pub DrawAlike : Board → Board → Type 0
+DrawAlike one two = (one.core ≡ two.core) × (one.ram ≡ two.ram)
+
+-- clocks of a cabinet, and those that a log is of: the same, but that a read by the game itself may be of another place.
+-- After each clock the two boards draw the same
+pub data AreAlike (held : ℕ → ℕ) : List Bus → List Bus → Type 0 where
+  none : AreAlike held [] []
+  same : {made shown : List Bus} (bus : Bus) → AreAlike held made shown
+      → DrawAlike (after held (bus ∷ made)) (after held (bus ∷ shown)) → AreAlike held (bus ∷ made) (bus ∷ shown)
+  elsewhere : {made shown : List Bus} (bus : Bus) (a : ℕ) → bus.write ≡ 0 → AreAlike held made shown
+      → DrawAlike (after held (bus ∷ made)) (after held (record bus { a = a } ∷ shown))
+      → AreAlike held (bus ∷ made) (record bus { a = a } ∷ shown)

@@ -1,37 +1,24 @@
 -- The joined law: what the checker's yes to a ROM says of each run of the game on its board.
-use Rattle.std.specs.Prelude.{◌≡◌, ℕ, ◌+◌, ◌*◌, true, List, Option}
-use Rattle.dvg_frame.specs.declared.op.OpKind.{OpKind}
-use Rattle.dvg_frame.specs.Ops.{IsDraft}
-use Rattle.dvg_frame.specs.Faults.{Accepts}
+use Rattle.std.specs.Prelude.{◌≡◌, ℕ, true, List, Option}
 use Rattle.dvg_log.specs.Log.{Log, Throughout}
 use Rattle.dvg_log.specs.Legal.{IsLegal}
 use Rattle.dvg_log.specs.Headline.{KeepsHeadline}
-use Rattle.dvg_6502.specs.Processor.{Cpu, Access}
+use Rattle.dvg_6502.specs.Processor.{Cpu}
 use Rattle.dvg_6502.specs.Calls.{Call}
 use Rattle.dvg_6502.specs.Code.{dvg_offer, dvg_pair, dvg_put}
-use Rattle.dvg_6502.specs.Tables.{HasTable}
 use Rattle.dvg_board.specs.Board.{Bus}
-use Rattle.dvg_board.specs.Clocks.{after}
 use Rattle.dvg_system.specs.Machine.{IsMachine}
 use Rattle.dvg_game.specs.Checker.{Notes, accepts}
 use Rattle.dvg_play.specs.Games.{Content, never_calls}
-use Rattle.dvg_play.specs.Play.{IsPlay}
 use Rattle.dvg_cabinet.specs.Cabinet.{AreAlike, IsCabinet}
 
--- the check accepts each table that dvg_offer is called with
-abbrev pub AreChecked : List ℕ → (ℕ → ℕ) → ℕ → Type 0
-AreChecked R rom start = (cpu : Cpu) (since : ℕ) (log : List Access) → IsPlay rom start cpu since log
-    → cpu.pc ≡ dvg_offer → (F : List OpKind) → HasTable cpu.mem (cpu.a + 256 * cpu.x) F → IsDraft F × Accepts F R
-
 -- there is a log that these clocks make, with calls of the driver: it is legal, and each line keeps the headline. It is
--- of the same clocks, but that what the game reads by itself isn't in it; generator and RAM are the same
+-- of the same clocks, but that what the game reads by itself isn't in it; at each clock the two boards draw the same
 pub record Keeps (R image : List ℕ) (held : ℕ → ℕ) (clocks : List Bus) : Type 0 where
   pub calls : List Call
   pub log : Log
   pub shown : List Bus
-  pub alike : AreAlike clocks shown
-  pub core : (after held shown).core ≡ (after held clocks).core
-  pub ram : (after held shown).ram ≡ (after held clocks).ram
+  pub alike : AreAlike held clocks shown
   pub machine : IsMachine R image held calls log shown
   pub legal : IsLegal R image log
   pub headline : Throughout (KeepsHeadline R image) log
@@ -39,7 +26,7 @@ pub record Keeps (R image : List ℕ) (held : ℕ → ℕ) (clocks : List Bus) :
 -- where the checker accepts a game, and what it offers and puts is so, each run of it on its board keeps this
 abbrev pub GamesKeep : Type 0
 GamesKeep = (R image : List ℕ) (held rom : ℕ → ℕ) (start : ℕ) (notes : Notes)
-    → accepts rom start notes ≡ true → Content R rom start → AreChecked R rom start
+    → accepts rom start notes ≡ true → Content R rom start
     → (at : Option (Cpu × ℕ)) (clocks : List Bus) → IsCabinet R image held rom start at clocks
     → Keeps R image held clocks
 

@@ -7,9 +7,9 @@ ghost use Rattle.dvg_cabinet.specs.Keeps.{GamesKeep, VectorsKeep};
 
 use dvg_system::{hindsight_keeps, machine_keeps};
 
-/// Where the checker accepts a game, and what it offers and puts is as `Content` says, and the
-/// check accepts what it offers: each run of it on its board has a log that the board's clocks
-/// make, which is legal, and each line keeps the headline.
+/// Where the checker accepts a game, and what it offers and puts is as `Content` says: each run of
+/// it on its board has a log that the board's clocks make, which is legal, and each line keeps the
+/// headline.
 pub fn games_keep()
     ensures { GamesKeep }
 {

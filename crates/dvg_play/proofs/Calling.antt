@@ -20,7 +20,7 @@ use Rattle.dvg_game.proofs.Memory.{here as put_here, other}
 use Rattle.dvg_game.proofs.Whole.{checked_is_safe}
 use Rattle.dvg_play.specs.Play
 use Rattle.dvg_play.specs.Play.{AreBytes, done, fresh, made}
-use Rattle.dvg_play.specs.Games.{IsShape, IsTable}
+use Rattle.dvg_play.specs.Games.{IsTable, IsWord}
 use Rattle.dvg_play.proofs.Along.{restarts_same}
 use Rattle.dvg_play.proofs.Entering.{Picked, picked}
 use Rattle.dvg_play.proofs.GameSteps.{made_none, needed_off, nowhere, rested_on}
@@ -79,8 +79,8 @@ module _ (R : List ℕ) (rom : ℕ → ℕ) (start : ℕ) (notes : Notes) (accep
     off : (b : ℕ) → (b < 0x100) ⊎ (0x100 + cpu.s < b) → new.mem b ≡ cpu.mem b
     back : Back here new.mem new.s
     top : new.s ≤ cpu.s
-    tables : to ≡ dvg_offer → IsTable rom new
-    shapes : to ≡ dvg_put → IsShape R new
+    tables : to ≡ dvg_offer → IsTable R rom new
+    words : to ≡ dvg_put → IsWord R new
 
   enter : (new : Cpu) → Entered new → (to ≡ dvg_pair → ⊥) → InDriver R rom start new (made cpu new ++ log)
   enter new at no_pair = record {
@@ -130,7 +130,7 @@ module _ (R : List ℕ) (rom : ℕ → ℕ) (start : ℕ) (notes : Notes) (accep
           }
 
       pick : Picked R rom new g.calls to here.blank
-      pick = picked R rom new at.bytes g.calls here to called rests in_rom at.tables at.shapes no_pair
+      pick = picked R rom new at.bytes g.calls here to called rests in_rom at.tables at.words no_pair
 
       enters : (flags : ℕ → ℕ) → Enters (fresh flags new) (entry pick.routine)
       enters flags = record {
@@ -150,8 +150,8 @@ module _ (R : List ℕ) (rom : ℕ → ℕ) (start : ℕ) (notes : Notes) (accep
   word_is : processor.word_at cpu.mem (cpu.pc + 1) (cpu.pc + 2) ≡ to
   word_is = ap (λ q. cpu.mem (cpu.pc + 1) + 256 * cpu.mem q) (let e : cpu.pc + 2 ≡ cpu.pc + 1 + 1 = omega arith in e)
 
-  module _ (flags : ℕ → ℕ) (bytes : AreBytes (done flags cpu)) (tables : to ≡ dvg_offer → IsTable rom cpu)
-      (shapes : to ≡ dvg_put → IsShape R cpu) (no_pair : to ≡ dvg_pair → ⊥) where
+  module _ (flags : ℕ → ℕ) (bytes : AreBytes (done flags cpu)) (tables : to ≡ dvg_offer → IsTable R rom cpu)
+      (words : to ≡ dvg_put → IsWord R cpu) (no_pair : to ≡ dvg_pair → ⊥) where
     abbrev jsr_done : Cpu
     jsr_done = does processor.Call (fresh flags cpu)
 
@@ -177,8 +177,8 @@ module _ (R : List ℕ) (rom : ℕ → ℕ) (start : ℕ) (notes : Notes) (accep
           ∙ put_here (stack_place cpu.s) ((cpu.pc + 2) / 256) cpu.mem);
       top = omega (arith, few, small);
       tables = λ at. let t = tables at in
-          record { draft = t.draft; table = t.table; low = t.low; ends = t.ends };
-      shapes = λ at. let s = shapes at in record { at = s.at; word = s.word; put = s.put; op = s.op };
+          record { draft = t.draft; table = t.table; low = t.low; ends = t.ends; checked = t.checked };
+      words = λ at. let w = words at in record { op = w.op; word = w.word; put = w.put; is_op = w.is_op };
     }) no_pair)
       where
         same : done flags cpu ≡ jsr_done
@@ -206,8 +206,8 @@ module _ (R : List ℕ) (rom : ℕ → ℕ) (start : ℕ) (notes : Notes) (accep
       back = jmp kind refl;
       top = omega arith;
       tables = λ at. let t = tables at in
-          record { draft = t.draft; table = t.table; low = t.low; ends = t.ends };
-      shapes = λ at. let s = shapes at in record { at = s.at; word = s.word; put = s.put; op = s.op };
+          record { draft = t.draft; table = t.table; low = t.low; ends = t.ends; checked = t.checked };
+      words = λ at. let w = words at in record { op = w.op; word = w.word; put = w.put; is_op = w.is_op };
     }) no_pair)
       where
         same : done flags cpu ≡ jmp_done

@@ -4,7 +4,9 @@ use Rattle.std.proofs.Common.{[], ◌∷◌, refl, sym, ap, ◌∙◌, arith, le
 use Rattle.std.specs.Prelude.{◌||◌, nat_eq, nat_le, None, Some, Option, length}
 use Rattle.dvg_code.specs.declared.instr.Instr.TheVariants.{Labs as LabsOf}
 use Rattle.dvg_frame.specs.declared.op.OpKind.{OpKind}
-use Rattle.dvg_frame.specs.declared.op.OpKind.TheVariants.{CallRom, Draw}
+use Rattle.dvg_frame.specs.declared.op.OpKind.TheVariants.{Draw}
+use Rattle.dvg_frame.specs.Ops.{IsDraft}
+use Rattle.dvg_frame.specs.Faults.{Accepts}
 use Rattle.dvg_6502.specs.Processor.{Cpu}
 use Rattle.dvg_6502.specs.Calls as calls_of
 use Rattle.dvg_6502.specs.Calls.{Call, Routine, entry, frame_of, is_offered, UnlessReset}
@@ -19,7 +21,7 @@ use Rattle.dvg_game.proofs.Facts.{both_true}
 use Rattle.dvg_game.proofs.Memory.{either}
 use Rattle.dvg_play.specs.Play.{AreBytes, fresh}
 use Rattle.dvg_play.specs.Open.{InRom, Rested}
-use Rattle.dvg_play.specs.Games.{IsShape, IsTable}
+use Rattle.dvg_play.specs.Games.{IsTable, IsWord}
 use Rattle.dvg_play.proofs.Stages.{NotBlank, Rests}
 
 -- what dvg_labs puts is a LABS
@@ -38,13 +40,13 @@ labs_words low high x_low x_high a one two three =
 
 -- what each routine is told, by the frame that is being built
 module _ (R : List ℕ) (cpu : Cpu) (bytes : AreBytes cpu) where
-  puts_shape : IsShape R cpu → (frame : Option (ℕ × List ℕ)) → NotBlank frame → Tells R (calls_of.Puts Put) cpu frame
-  puts_shape shape None some = tt
-  puts_shape shape (Some frame) some = λ room. (
-    CallRom shape.at,
-    shape.word,
-    shape.put,
-    shape.op,
+  puts_word : IsWord R cpu → (frame : Option (ℕ × List ℕ)) → NotBlank frame → Tells R (calls_of.Puts Put) cpu frame
+  puts_word word None some = tt
+  puts_word word (Some frame) some = λ room. (
+    word.op,
+    word.word,
+    word.put,
+    word.is_op,
     (λ none. absurd (omega (arith, some, none))),
   )
 
@@ -85,11 +87,17 @@ table_on rom mem t F low ends same has = record {
   ends = has.ends;
 }
 
+-- what is offered is checked
+abbrev pub IsChecked : List ℕ → Routine → Type 0
+IsChecked R (calls_of.Offer F) = IsDraft F × Accepts F R
+IsChecked R routine = Unit {0}
+
 -- the routine that is called, and all that its call wants
 pub record Picked (R : List ℕ) (rom : ℕ → ℕ) (new : Cpu) (calls : List Call) (to : ℕ) (blank : Bool) : Type 0 where
   pub routine : Routine
   pub at : to ≡ entry routine
   pub tells : (flags : ℕ → ℕ) → Tells R routine (fresh flags new) (frame_of calls)
+  pub checked : IsChecked R routine
   pub offered : (b : ℕ) → is_offered routine new b ≡ true → InRom b
   pub rested : UnlessReset routine (Rested R calls new.mem)
   pub frame : UnlessReset routine (blank ≡ false → NotBlank (frame_of calls))
@@ -100,7 +108,7 @@ same_bytes flags cpu bytes = record { a = bytes.a; x = bytes.x; y = bytes.y; s =
 module _ (R : List ℕ) (rom : ℕ → ℕ) (new : Cpu) (bytes : AreBytes new) (calls : List Call) (st : State) (to : ℕ)
     (called : IsCalled st to) (rests : st.awake ≡ true → Rests R calls new.mem st.blank)
     (in_rom : (b : ℕ) → 0x4800 ≤ b → b < 0x8000 → new.mem b ≡ rom b)
-    (tables : to ≡ dvg_offer → IsTable rom new) (shapes : to ≡ dvg_put → IsShape R new) (no_pair : to ≡ dvg_pair
+    (tables : to ≡ dvg_offer → IsTable R rom new) (words : to ≡ dvg_put → IsWord R new) (no_pair : to ≡ dvg_pair
     → ⊥) where
   -- at a routine that isn't dvg_reset
   awake : (e : ℕ) → is_reset e ≡ false → to ≡ e → Rests R calls new.mem st.blank
@@ -111,14 +119,15 @@ module _ (R : List ℕ) (rom : ℕ → ℕ) (new : Cpu) (bytes : AreBytes new) (
   begun : (e : ℕ) → goes_on e ≡ true → is_reset e ≡ false → to ≡ e → NotBlank (frame_of calls)
   begun e goes other at = (awake e other at).frame (called.labs (ap goes_on at ∙ goes))
 
-  abbrev shaped : IsShape R new → (flags : ℕ → ℕ) → IsShape R (fresh flags new)
-  shaped shape flags = record { at = shape.at; word = shape.word; put = shape.put; op = shape.op }
+  abbrev worded : IsWord R new → (flags : ℕ → ℕ) → IsWord R (fresh flags new)
+  worded word flags = record { op = word.op; word = word.word; put = word.put; is_op = word.is_op }
 
   reset : to ≡ 0x6800 → Picked R rom new calls to st.blank
   reset at = record {
     routine = calls_of.Reset;
     at = at;
     tells = λ flags. tt;
+    checked = tt;
     offered = λ b is. absurd (cc);
     rested = tt;
     frame = tt;
@@ -129,6 +138,7 @@ module _ (R : List ℕ) (rom : ℕ → ℕ) (new : Cpu) (bytes : AreBytes new) (
     routine = calls_of.Run;
     at = at;
     tells = λ flags. tt;
+    checked = tt;
     offered = λ b is. absurd (cc);
     rested = (awake 0x6809 refl at).rested;
     frame = (awake 0x6809 refl at).frame;
@@ -139,6 +149,7 @@ module _ (R : List ℕ) (rom : ℕ → ℕ) (new : Cpu) (bytes : AreBytes new) (
     routine = calls_of.Ticks;
     at = at;
     tells = λ flags. tt;
+    checked = tt;
     offered = λ b is. absurd (cc);
     rested = (awake 0x6860 refl at).rested;
     frame = (awake 0x6860 refl at).frame;
@@ -149,6 +160,7 @@ module _ (R : List ℕ) (rom : ℕ → ℕ) (new : Cpu) (bytes : AreBytes new) (
     routine = calls_of.Tick;
     at = at;
     tells = λ flags. tt;
+    checked = tt;
     offered = λ b is. absurd (cc);
     rested = (awake 0x686A refl at).rested;
     frame = (awake 0x686A refl at).frame;
@@ -159,6 +171,7 @@ module _ (R : List ℕ) (rom : ℕ → ℕ) (new : Cpu) (bytes : AreBytes new) (
     routine = calls_of.Offer table.draft;
     at = at;
     tells = λ flags. table_on rom new.mem (new.a + 256 * new.x) table.draft table.low table.ends in_rom table.table;
+    checked = table.checked;
     offered = λ b is.
         let two = both_true (nat_le (new.a + 256 * new.x) b) _ is in
         let above = leb-true (new.a + 256 * new.x) b two.0 in
@@ -169,7 +182,7 @@ module _ (R : List ℕ) (rom : ℕ → ℕ) (new : Cpu) (bytes : AreBytes new) (
     frame = (awake 0x68FE refl at).frame;
   }
     where
-      table : IsTable rom new
+      table : IsTable R rom new
       table = tables at
 
   opens : to ≡ 0x6924 → Picked R rom new calls to st.blank
@@ -177,6 +190,7 @@ module _ (R : List ℕ) (rom : ℕ → ℕ) (new : Cpu) (bytes : AreBytes new) (
     routine = calls_of.Open [];
     at = at;
     tells = λ flags. tt;
+    checked = tt;
     offered = λ b is. absurd (cc);
     rested = (awake 0x6924 refl at).rested;
     frame = (awake 0x6924 refl at).frame;
@@ -187,6 +201,7 @@ module _ (R : List ℕ) (rom : ℕ → ℕ) (new : Cpu) (bytes : AreBytes new) (
     routine = calls_of.Redraw;
     at = at;
     tells = λ flags. tt;
+    checked = tt;
     offered = λ b is. absurd (cc);
     rested = (awake 0x6943 refl at).rested;
     frame = (awake 0x6943 refl at).frame;
@@ -196,9 +211,10 @@ module _ (R : List ℕ) (rom : ℕ → ℕ) (new : Cpu) (bytes : AreBytes new) (
   puts at = record {
     routine = calls_of.Puts Put;
     at = at;
-    tells = λ flags. puts_shape R (fresh flags new) (same_bytes flags new bytes) (shaped (shapes at) flags)
+    tells = λ flags. puts_word R (fresh flags new) (same_bytes flags new bytes) (worded (words at) flags)
         (frame_of calls)
         (begun 0x6957 refl refl at);
+    checked = tt;
     offered = λ b is. absurd (cc);
     rested = (awake 0x6957 refl at).rested;
     frame = (awake 0x6957 refl at).frame;
@@ -209,6 +225,7 @@ module _ (R : List ℕ) (rom : ℕ → ℕ) (new : Cpu) (bytes : AreBytes new) (
     routine = calls_of.Puts Labs;
     at = at;
     tells = λ flags. puts_labs R (fresh flags new) (same_bytes flags new bytes) (frame_of calls);
+    checked = tt;
     offered = λ b is. absurd (cc);
     rested = (awake 0x6979 refl at).rested;
     frame = (awake 0x6979 refl at).frame;
@@ -220,6 +237,7 @@ module _ (R : List ℕ) (rom : ℕ → ℕ) (new : Cpu) (bytes : AreBytes new) (
     at = at;
     tells = λ flags. closes R (fresh flags new) (same_bytes flags new bytes) (frame_of calls)
         (begun 0x6A00 refl refl at);
+    checked = tt;
     offered = λ b is. absurd (cc);
     rested = (awake 0x6A00 refl at).rested;
     frame = (awake 0x6A00 refl at).frame;
@@ -231,6 +249,7 @@ module _ (R : List ℕ) (rom : ℕ → ℕ) (new : Cpu) (bytes : AreBytes new) (
     at = at;
     tells = λ flags. puts_vector R (fresh flags new) (same_bytes flags new bytes) (frame_of calls)
         (begun 0x6A17 refl refl at);
+    checked = tt;
     offered = λ b is. absurd (cc);
     rested = (awake 0x6A17 refl at).rested;
     frame = (awake 0x6A17 refl at).frame;

@@ -17,7 +17,7 @@ use Rattle.dvg_game.proofs.Whole.{checked_is_safe}
 use Rattle.dvg_play.specs.Play
 use Rattle.dvg_play.specs.Play.{AreBytes, IsPlay, begins, does, nmi, turns, done, interrupted, made}
 use Rattle.dvg_play.specs.Stays.{LabsBegins}
-use Rattle.dvg_play.specs.Games.{AreOfCalls, Content, Enters, GamesCall, IsShape, IsTable, VectorsCall, accesses_of}
+use Rattle.dvg_play.specs.Games.{AreOfCalls, Content, Enters, GamesCall, IsTable, IsWord, VectorsCall, accesses_of}
 use Rattle.dvg_play.specs.Games.{calls_at, may_call, never_calls}
 use Rattle.dvg_play.proofs.Along.{calls_as, is_finish}
 use Rattle.dvg_play.proofs.Calling.{game_calls}
@@ -35,7 +35,7 @@ Brought R rom start = (cpu : Cpu) (since : ℕ) (log : List Access) → IsPlay r
     → (g : InGame R rom start cpu since log) → Play.restarts cpu ≡ false
     → calling (kind_of (cpu.mem cpu.pc)) (of_cpu cpu g.st) ≡ true
     → let to = word_at cpu.mem (cpu.pc + 1) in
-    (to ≡ dvg_offer → IsTable rom cpu) × (to ≡ dvg_put → IsShape R cpu) × (to ≡ dvg_pair → ⊥)
+    (to ≡ dvg_offer → IsTable R rom cpu) × (to ≡ dvg_put → IsWord R cpu) × (to ≡ dvg_pair → ⊥)
 
 module _ (R : List ℕ) (rom : ℕ → ℕ) (start : ℕ) (notes : Notes) (accepted : accepts rom start notes ≡ true) where
   -- as the content of a game speaks of it
@@ -51,7 +51,7 @@ module _ (R : List ℕ) (rom : ℕ → ℕ) (start : ℕ) (notes : Notes) (accep
   by_content : Content R rom start → Brought R rom start
   by_content content cpu since log play g go is = (
     (λ at. content.tables play (enters g go is dvg_offer at)),
-    (λ at. content.shapes play (enters g go is dvg_put at)),
+    (λ at. content.words play (enters g go is dvg_put at)),
     (λ at. content.no_pair play (enters g go is dvg_pair at)),
   )
 
@@ -120,8 +120,8 @@ module _ (labs : LabsBegins) (R : List ℕ) (rom : ℕ → ℕ) (start : ℕ) (n
       in_game g true is = inr (inl (game_calls R rom start notes accepted cpu since log g go is flags bytes
           brings.0 brings.1 brings.2))
         where
-          brings : (word_at cpu.mem (cpu.pc + 1) ≡ dvg_offer → IsTable rom cpu)
-              × (word_at cpu.mem (cpu.pc + 1) ≡ dvg_put → IsShape R cpu)
+          brings : (word_at cpu.mem (cpu.pc + 1) ≡ dvg_offer → IsTable R rom cpu)
+              × (word_at cpu.mem (cpu.pc + 1) ≡ dvg_put → IsWord R cpu)
               × (word_at cpu.mem (cpu.pc + 1) ≡ dvg_pair → ⊥)
           brings = brought cpu since log play g go is
 

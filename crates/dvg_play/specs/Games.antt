@@ -2,8 +2,8 @@
 use Rattle.std.specs.Prelude.{◌≡◌, ◌⊎◌, ◌&&◌, ℕ, ◌+◌, ◌*◌, ◌≤◌, Bool, true, false, not, nat_eq, List}
 use Rattle.std.specs.Prelude.{[], ◌∷◌, ◌++◌, length}
 use Rattle.dvg_frame.specs.declared.op.OpKind.{OpKind}
-use Rattle.dvg_frame.specs.declared.op.OpKind.TheVariants.{CallRom}
-use Rattle.dvg_frame.specs.Ops.{IsOp}
+use Rattle.dvg_frame.specs.Ops.{IsDraft, IsOp}
+use Rattle.dvg_frame.specs.Faults.{Accepts}
 use Rattle.dvg_6502.specs.Processor.{Cpu, Access, word_at}
 use Rattle.dvg_6502.specs.Amid.{is_code}
 use Rattle.dvg_6502.specs.Board.{seen}
@@ -25,27 +25,28 @@ abbrev pub Enters : ℕ → Cpu → Type 0
 Enters entry cpu = (is_code cpu.pc ≡ false) × (calls_driver (idle cpu) ≡ true)
     × (word_at cpu.mem (cpu.pc + 1) (cpu.pc + 2) ≡ entry)
 
--- the word in A and X is that of a call of a shape, which the program may put
-pub record IsShape (R : List ℕ) (cpu : Cpu) : Type 0 where
-  pub at : ℕ
-  pub word : cpu.a ∷ cpu.x ∷ [] ≡ table_of (CallRom at ∷ [])
-  pub put : IsPut R (CallRom at)
-  pub op : IsOp (CallRom at)
+-- the word in A and X is that of an operation which the program may put, as a call of a shape
+pub record IsWord (R : List ℕ) (cpu : Cpu) : Type 0 where
+  pub op : OpKind
+  pub word : cpu.a ∷ cpu.x ∷ [] ≡ table_of (op ∷ [])
+  pub put : IsPut R op
+  pub is_op : IsOp op
 
--- at A and X stands a draft's table, in the ROM
-pub record IsTable (rom : ℕ → ℕ) (cpu : Cpu) : Type 0 where
+-- at A and X stands a draft's table, in the ROM, and the check accepts the draft
+pub record IsTable (R : List ℕ) (rom : ℕ → ℕ) (cpu : Cpu) : Type 0 where
   pub draft : List OpKind
   pub table : HasTable rom (cpu.a + 256 * cpu.x) draft
   pub low : 0x4800 ≤ cpu.a + 256 * cpu.x
   pub ends : cpu.a + 256 * cpu.x + 2 + length (table_of draft) ≤ 0x8000
+  pub checked : IsDraft draft × Accepts draft R
 
--- what the checker doesn't look at: what is offered is a table in the ROM, what is put is a call of a shape, and
--- nothing is put by dvg_pair
+-- on each run, each time: what is offered is the table of a draft that the check accepts, in the ROM; what is put is the
+-- word of an operation; and nothing is put by dvg_pair. That is what the checker doesn't look at
 pub record Content (R : List ℕ) (rom : ℕ → ℕ) (start : ℕ) : Type 0 where
   pub tables : {cpu : Cpu} {since : ℕ} {log : List Access} → IsPlay rom start cpu since log → Enters dvg_offer cpu
-      → IsTable rom cpu
-  pub shapes : {cpu : Cpu} {since : ℕ} {log : List Access} → IsPlay rom start cpu since log → Enters dvg_put cpu
-      → IsShape R cpu
+      → IsTable R rom cpu
+  pub words : {cpu : Cpu} {since : ℕ} {log : List Access} → IsPlay rom start cpu since log → Enters dvg_put cpu
+      → IsWord R cpu
   pub no_pair : {cpu : Cpu} {since : ℕ} {log : List Access} → IsPlay rom start cpu since log → Enters dvg_pair cpu → ⊥
 
 -- a kind of instruction that may call the driver
