@@ -1,5 +1,5 @@
 -- The joined law: what the checker's yes to a ROM says of each run of the game on its board.
-use Rattle.std.specs.Prelude.{◌≡◌, ℕ, ◌+◌, ◌*◌, true, List, Option}
+use Rattle.std.specs.Prelude.{◌≡◌, ℕ, ◌+◌, ◌*◌, true, false, List, [], Option, Some}
 use Rattle.dvg_frame.specs.declared.op.OpKind.{OpKind}
 use Rattle.dvg_frame.specs.Ops.{IsDraft}
 use Rattle.dvg_frame.specs.Faults.{Accepts}
@@ -7,6 +7,7 @@ use Rattle.dvg_log.specs.Log.{Log, Throughout}
 use Rattle.dvg_log.specs.Legal.{IsLegal}
 use Rattle.dvg_log.specs.Headline.{KeepsHeadline}
 use Rattle.dvg_6502.specs.Processor.{Cpu, Access}
+use Rattle.dvg_6502.specs.Amid.{is_code}
 use Rattle.dvg_6502.specs.Calls.{Call}
 use Rattle.dvg_6502.specs.Code.{dvg_offer, dvg_pair, dvg_put}
 use Rattle.dvg_6502.specs.Tables.{HasTable}
@@ -15,9 +16,9 @@ use Rattle.dvg_board.specs.Clocks.{after}
 use Rattle.dvg_system.specs.Machine.{IsMachine}
 use Rattle.dvg_game.specs.Checker.{Notes, accepts}
 use Rattle.dvg_play.specs.Games.{Content, never_calls}
-use Rattle.dvg_play.specs.Play.{IsPlay}
+use Rattle.dvg_play.specs.Play.{IsPlay, done}
 use Rattle.dvg_play.specs.Stays.{CallsStay}
-use Rattle.dvg_cabinet.specs.Cabinet.{AreAlike, IsCabinet}
+use Rattle.dvg_cabinet.specs.Cabinet.{AreAlike, IsCabinet, written}
 
 -- the check accepts each table that dvg_offer is called with
 abbrev pub AreChecked : List ℕ → (ℕ → ℕ) → ℕ → Type 0
@@ -43,6 +44,13 @@ GamesKeep = CallsStay → (R image : List ℕ) (held rom : ℕ → ℕ) (start :
     → accepts rom start notes ≡ true → Content R rom start → AreChecked R rom start
     → (at : Option (Cpu × ℕ)) (clocks : List Bus) → IsCabinet R image held rom start at clocks
     → Keeps R image held clocks
+
+-- then no instruction outside of the driver's code writes the vector RAM or the strobe
+abbrev pub GamesLeaveBoard : Type 0
+GamesLeaveBoard = CallsStay → (R image : List ℕ) (held rom : ℕ → ℕ) (start : ℕ) (notes : Notes)
+    → accepts rom start notes ≡ true → Content R rom start → AreChecked R rom start
+    → (cpu : Cpu) (since : ℕ) (clocks : List Bus) → IsCabinet R image held rom start (Some (cpu, since)) clocks
+    → is_code cpu.pc ≡ false → (flags : ℕ → ℕ) → written (done flags cpu).log ≡ []
 
 -- a game that builds its frames by dvg_open, dvg_labs, dvg_vector and dvg_close alone: its bytes say so, and of what it
 -- draws there is no premise
