@@ -3,6 +3,8 @@ use Rattle.std.proofs.Common.{◌≡◌, inl, inr, ℕ, suc, ◌≤◌, Bool, tr
 use Rattle.std.proofs.Common.{ap, ◌∙◌, subst, arith}
 use Rattle.std.specs.Prelude.{if◌then◌else◌, Option, Some, None}
 use Rattle.dvg_6502.specs.Processor.{Cpu, Access, at_return}
+use Rattle.dvg_6502.specs.Amid.{is_code}
+use Rattle.dvg_6502.specs.Board.{seen}
 use Rattle.dvg_6502.specs.Calls.{Call, bounds}
 use Rattle.dvg_board.specs.Board.{Bus, clock}
 use Rattle.dvg_board.specs.Clocks as clocked
@@ -21,10 +23,10 @@ use Rattle.dvg_play.specs.Open.{InRom, IsIn}
 use Rattle.dvg_play.specs.Stays.{LabsBegins}
 use Rattle.dvg_play.proofs.Along.{is_finish}
 use Rattle.dvg_cabinet.specs.Cabinet.{IsCabinet, powers, waits, reads, resets, tests, begins, does, accesses, nmi, touched}
-use Rattle.dvg_cabinet.specs.Cabinet.{turns}
+use Rattle.dvg_cabinet.specs.Cabinet.{turns, written}
 use Rattle.dvg_cabinet.specs.Cabinet as cabinet
 use Rattle.dvg_cabinet.specs.Cabinet.{AreAlike}
-use Rattle.dvg_cabinet.specs.Keeps.{GamesKeep, Keeps, VectorsKeep}
+use Rattle.dvg_cabinet.specs.Keeps.{GamesKeep, GamesLeaveBoard, Keeps, VectorsKeep}
 use Rattle.dvg_cabinet.proofs.Alike.{Same, itself, joins, read_elsewhere, same_clock, same_idle, same_makes, same_served}
 use Rattle.dvg_cabinet.proofs.Bringing.{Brought, Plays, by_bytes, by_content, plays}
 use Rattle.dvg_cabinet.proofs.Calling.{game_calls}
@@ -255,6 +257,27 @@ module _ (laws : Laws) (labs : LabsBegins) (R image : List ℕ) (held rom : ℕ 
         legal = all.3;
         headline = all.4;
       }
+
+  leaves_board : (cpu : Cpu) (since : ℕ) (clocks : List Bus)
+      → IsCabinet R image held rom start (Some (cpu, since)) clocks → is_code cpu.pc ≡ false → (flags : ℕ → ℕ)
+      → written (done flags cpu).log ≡ []
+  leaves_board cpu since clocks on out flags = by one.stage
+    where
+      one : Standing (Some (cpu, since)) clocks
+      one = standing on
+
+      told : touched cpu (done flags cpu) ≡ written (done flags cpu).log
+      told = ap (λ (t : Bool). if t then seen (done flags cpu).log else written (done flags cpu).log) out
+
+      by : Stands (Some (cpu, since)) one.shown → written (done flags cpu).log ≡ []
+      by (inl g) = sym told ∙ game.untouched R image held rom start notes accepted cpu since one.shown g flags
+      by (inr (inl d)) = absurd (let e = sym out ∙ d.place in cc)
+      by (inr (inr n)) = sym told ∙ nmis.untouched R image held rom start notes accepted cpu since one.shown n flags
+
+pub games_leave_board : Laws → LabsBegins → GamesLeaveBoard
+games_leave_board laws labs R image held rom start notes content accepted cpu since clocks on =
+    leaves_board laws labs R image held rom start notes accepted
+    (by_content R image held rom start notes accepted content) cpu since clocks on
 
 pub games_keep : Laws → LabsBegins → GamesKeep
 games_keep laws labs R image held rom start notes accepted content at clocks on =

@@ -1,16 +1,18 @@
 -- The joined law: what the checker's yes to a ROM says of each run of the game on its board.
-use Rattle.std.specs.Prelude.{◌≡◌, ℕ, true, List, Option}
+use Rattle.std.specs.Prelude.{◌≡◌, ℕ, true, false, List, [], Option, Some}
 use Rattle.dvg_log.specs.Log.{Log, Throughout}
 use Rattle.dvg_log.specs.Legal.{IsLegal}
 use Rattle.dvg_log.specs.Headline.{KeepsHeadline}
 use Rattle.dvg_6502.specs.Processor.{Cpu}
+use Rattle.dvg_6502.specs.Amid.{is_code}
 use Rattle.dvg_6502.specs.Calls.{Call}
 use Rattle.dvg_6502.specs.Code.{dvg_offer, dvg_pair, dvg_put}
 use Rattle.dvg_board.specs.Board.{Bus}
 use Rattle.dvg_system.specs.Machine.{IsMachine}
 use Rattle.dvg_game.specs.Checker.{Notes, accepts}
 use Rattle.dvg_play.specs.Games.{Content, never_calls}
-use Rattle.dvg_cabinet.specs.Cabinet.{AreAlike, IsCabinet}
+use Rattle.dvg_play.specs.Play.{done}
+use Rattle.dvg_cabinet.specs.Cabinet.{AreAlike, IsCabinet, written}
 
 -- there is a log that these clocks make, with calls of the driver: it is legal, and each line keeps the headline. It is
 -- of the same clocks, but that what the game reads by itself isn't in it; at each clock the two boards draw the same
@@ -29,6 +31,13 @@ GamesKeep = (R image : List ℕ) (held rom : ℕ → ℕ) (start : ℕ) (notes :
     → accepts rom start notes ≡ true → Content R rom start
     → (at : Option (Cpu × ℕ)) (clocks : List Bus) → IsCabinet R image held rom start at clocks
     → Keeps R image held clocks
+
+-- then no instruction outside of the driver's code writes the vector RAM or the strobe
+abbrev pub GamesLeaveBoard : Type 0
+GamesLeaveBoard = (R image : List ℕ) (held rom : ℕ → ℕ) (start : ℕ) (notes : Notes)
+    → Content R rom start → accepts rom start notes ≡ true
+    → (cpu : Cpu) (since : ℕ) (clocks : List Bus) → IsCabinet R image held rom start (Some (cpu, since)) clocks
+    → is_code cpu.pc ≡ false → (flags : ℕ → ℕ) → written (done flags cpu).log ≡ []
 
 -- a game that builds its frames by dvg_open, dvg_labs, dvg_vector and dvg_close alone: its bytes say so, and of what it
 -- draws there is no premise

@@ -3,15 +3,16 @@
 #![tactic(auto)]
 
 ghost use Rattle.dvg_cabinet.specs.Example.{SomeCabinet};
-ghost use Rattle.dvg_cabinet.specs.Keeps.{GamesKeep, VectorsKeep};
+ghost use Rattle.dvg_cabinet.specs.Keeps.{GamesKeep, GamesLeaveBoard, VectorsKeep};
 
 use dvg_system::{hindsight_keeps, machine_keeps};
 
 /// Where the checker accepts a game, and what it offers and puts is as `Content` says: each run of
 /// it on its board has a log that the board's clocks make, which is legal, and each line keeps the
-/// headline.
+/// headline. What the game writes leaves the board alone.
 pub fn games_keep()
-    ensures { GamesKeep }
+    ensures keeps { GamesKeep }
+    ensures leaves { GamesLeaveBoard }
 {
     hindsight_keeps();
     machine_keeps();
