@@ -76,6 +76,15 @@ def make_room(room, crate):
     os.makedirs(f"{room}/out/incremental", exist_ok=True)
 
 
+def make_tables(room, crate, planted):
+    """Makes the proofs that are tables anew. Those that are here stay where that can't be done, as
+    of a kind of cell that they have no line for."""
+    made = subprocess.run([f"{texts.TOP}/crates/{crate}/tables", f"{room}/proofs", planted],
+                          capture_output=True)
+    if made.returncode:
+        shutil.copytree(f"{texts.TOP}/crates/{crate}/proofs", f"{room}/proofs", dirs_exist_ok=True)
+
+
 def check(room, crate):
     """What a check of the laws of a crate writes, within half an hour."""
     words = words_for(crate) + [word for law in LAWS[crate] for word in ("--only", law)]
@@ -97,8 +106,7 @@ def refusal(room, crate, planted):
         with open(f"{room}/specs/{module.capitalize()}.antt", "w", encoding="utf-8") as file:
             file.write(made.stdout)
     if crate == "dvg_cpu":
-        subprocess.run([f"{texts.TOP}/crates/{crate}/tables", f"{room}/proofs", planted],
-                       check=True)
+        make_tables(room, crate, planted)
     said = check(room, crate)
     if len(re.findall(r"(?m)^fn \w+::\w+: proved", said)) == len(LAWS[crate]):
         return None
