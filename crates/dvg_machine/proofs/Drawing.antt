@@ -1,6 +1,6 @@
 -- The first picture of the cells: the driver boots and takes a table, and dvg_run writes and publishes its frame and sends a
 -- strobe; the core draws it while the program idles. The prover runs the cells, cycle by cycle.
-use Rattle.std.proofs.Common.{◌≡◌, ℕ, ◌+◌, ◌<◌, Bool, true, false, List, [], ◌∷◌, drop, refl, sym, ap, ◌∙◌, arith, lit<}
+use Rattle.std.proofs.Common.{◌≡◌, ℕ, ◌+◌, ◌<◌, Bool, true, false, List, [], ◌∷◌, drop, refl, sym, ◌∙◌, arith, lit<}
 use Rattle.std.specs.Prelude.{nat_eq, nat_le, if◌then◌else◌}
 use Rattle.std.proofs.lemmas.Bool.{ne_eqb}
 use Rattle.std.proofs.lemmas.List.{get_or-replicate}
@@ -8,29 +8,26 @@ use Rattle.dvg_driver.specs.declared.action.Action.TheVariants.{Peek, Read}
 use Rattle.dvg_log.specs.declared.event.Event.TheVariants.{Offer, Tick}
 use Rattle.dvg_log.specs.declared.entry.Entry.TheVariants.{Offered, Acted}
 use Rattle.dvg_log.specs.Log.{◌⟼◌, Log}
-use Rattle.dvg_6502.specs.Processor.{Cpu, Writes, run}
-use Rattle.dvg_6502.specs.Board.{seen}
+use Rattle.dvg_6502.specs.Processor.{Cpu, run}
 use Rattle.dvg_6502.specs.Amid.{guards, is_kept}
 use Rattle.dvg_6502.specs.Calls as calls
 use Rattle.dvg_6502.specs.Calls.{Call, IsSession, is_table, is_over}
 use Rattle.dvg_6502.specs.Joined.{stroke}
 use Rattle.dvg_6502.proofs.Memory.{in_page, le_not, out_of_page}
-use Rattle.dvg_6502.proofs.Interrupted.{still, still_harmless}
+use Rattle.dvg_6502.proofs.Interrupted.{still_harmless}
 use Rattle.dvg_6502.proofs.Quiet.{quiet}
 use Rattle.dvg_6502.proofs.ExampleWorld.{start, start_loaded}
 use Rattle.dvg_6502.proofs.Example.{some_logs, has_table}
 use Rattle.dvg_6502.proofs.Joined.{board_keeps as code_keeps}
-use Rattle.dvg_board.specs.Board.{Bus, powered}
-use Rattle.dvg_board.specs.Clocks.{after, changes}
+use Rattle.dvg_board.specs.Board.{powered}
 use Rattle.dvg_board.specs.Fetches.{drew}
-use Rattle.dvg_board.specs.Logs.{did}
 use Rattle.dvg_board.specs.Example.{zeros}
 use Rattle.dvg_board.proofs.Example.{held}
 use Rattle.dvg_system.specs.Machine.{IsChecked, told}
 use Rattle.dvg_cpu.specs.Cpu.{Cpu as Cells}
 use Rattle.dvg_cpu.specs.Cpu as cpu
 use Rattle.dvg_machine.specs.Machine.{Machine}
-use Rattle.dvg_machine.specs.Cycles.{Two, begins, between, ends, buses, first_bus, second_bus}
+use Rattle.dvg_machine.specs.Cycles.{begins, ends, buses}
 use Rattle.dvg_machine.specs.Played.{CellsKeep, Keeps, powers, begins_call}
 use Rattle.dvg_machine.specs.Example.{SomeDrawn}
 use Rattle.dvg_machine.proofs.ExampleCalls.{is_rom, is_image, held_bytes}

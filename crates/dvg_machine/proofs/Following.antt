@@ -5,7 +5,6 @@ use Rattle.std.specs.Prelude.{nat_eq, nat_lt, ◌&&◌, ◌||◌, if◌then◌el
 use Rattle.dvg_6502.specs.Processor.{Cpu, Reads, Writes, found, turn, run, at_return}
 use Rattle.dvg_6502.specs.Amid.{guards, is_kept, changed}
 use Rattle.dvg_6502.specs.Board.{IsLoaded, is_ram, strobe_place}
-use Rattle.dvg_6502.specs.Calls as calls
 use Rattle.dvg_6502.specs.Calls.{Routine, Call, IsSession, Follows, Brings, UnlessReset, is_table, is_over, is_refused, is_leaving}
 use Rattle.dvg_6502.specs.Calls.{entry, frame_of}
 use Rattle.dvg_6502.proofs.Running.{run_more}

@@ -1,7 +1,6 @@
 -- An NMI is due where an instruction of dvg_run begins: the call stores a byte of the frame, and the board doesn't.
 use Rattle.std.proofs.Common.{◌≡◌, ℕ, ◌+◌, ◌<◌, Bool, true, false, not, List, [], ◌∷◌, length, refl, sym, ap, ◌∙◌, subst, arith, lit<}
-use Rattle.std.proofs.Common.{eqb-true}
-use Rattle.std.specs.Prelude.{nat_eq, ◌&&◌}
+use Rattle.std.specs.Prelude.{◌&&◌}
 use Rattle.dvg_6502.specs.Processor.{Cpu, turn, at_return}
 use Rattle.dvg_6502.specs.Board.{IsLoaded}
 use Rattle.dvg_6502.specs.Calls as calls
@@ -9,7 +8,7 @@ use Rattle.dvg_6502.specs.Calls.{Routine, Call, IsSession, is_over}
 use Rattle.dvg_6502.proofs.Memory.{both_true}
 use Rattle.dvg_6502.proofs.Interrupted.{still}
 use Rattle.dvg_6502.proofs.Quiet.{quiet, written, fit, not_true, loaded_after}
-use Rattle.dvg_board.specs.Board.{Board, Bus}
+use Rattle.dvg_board.specs.Board.{Board}
 use Rattle.dvg_board.specs.Clocks.{after}
 use Rattle.dvg_board.specs.Example.{zeros}
 use Rattle.dvg_board.proofs.Example.{held, served}
@@ -18,12 +17,12 @@ use Rattle.dvg_cpu.specs.Cpu.{Cpu as Cells}
 use Rattle.dvg_cpu.specs.Refines.{Rests, cycles}
 use Rattle.dvg_machine.specs.Machine.{Machine}
 use Rattle.dvg_machine.specs.Cycles.{Two, begins, between, ends, buses}
-use Rattle.dvg_machine.specs.Steps.{now, instr_of, is_single}
+use Rattle.dvg_machine.specs.Steps.{instr_of, is_single}
 use Rattle.dvg_machine.specs.Played.{IsPlayed, IsGiven, AreGiven, AreFound, IsPlaced, Does, Keeps, inside, older_after}
 use Rattle.dvg_machine.specs.Needed.{DoesBy, all, NeedsFree}
 use Rattle.dvg_machine.proofs.Stepping.{ends_are, ends_cells}
 use Rattle.dvg_machine.proofs.Needed.{has_ram}
-use Rattle.dvg_machine.proofs.Following.{drive, two_of, twos_for, fits_for, all_given, all_found, count_of, rests_by, rests_of, placed_by}
+use Rattle.dvg_machine.proofs.Following.{drive, two_of, twos_for, fits_for, all_given, all_found, rests_by, rests_of, placed_by}
 use Rattle.dvg_machine.proofs.Following.{placed_of, Amid, Went, over, now_is, is_new, up_to}
 use Rattle.dvg_machine.proofs.Drawing.{begun, run_from, run_session}
 

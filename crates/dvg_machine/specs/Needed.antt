@@ -1,6 +1,6 @@
 -- What `cells_keep` asks is needed. A premise is left out in the last step of a run of which all else holds, and there is no log as
 -- it says; or else it follows from what it says.
-use Rattle.std.specs.Prelude.{◌≡◌, ℕ, ◌+◌, ◌<◌, ◌==◌, Bool, true, false, not, List, [], ◌∷◌, length, slice_index}
+use Rattle.std.specs.Prelude.{◌≡◌, ℕ, ◌<◌, ◌==◌, Bool, true, false, not, List, [], ◌∷◌, length, slice_index}
 use Rattle.dvg_mem.specs.Memory.{IsImage, IsRom}
 use Rattle.dvg_6502.specs.Processor.{at_return}
 use Rattle.dvg_6502.specs.Board.{is_ram}
@@ -14,7 +14,7 @@ use Rattle.dvg_cpu.specs.Cpu.{Cpu as Cells}
 use Rattle.dvg_cpu.specs.Refines.{Where, Rests, cycles, made}
 use Rattle.dvg_machine.specs.Cycles.{Two, cycles_of, WriteAt, IsSilent}
 use Rattle.dvg_machine.specs.Steps.{now, instr_of, is_single}
-use Rattle.dvg_machine.specs.Played.{IsPlayed, IsPlaced, AreGiven, AreFound, Does, Keeps, at_rest, older_after, cells_after}
+use Rattle.dvg_machine.specs.Played.{IsPlayed, IsPlaced, AreGiven, AreFound, Does, Keeps, at_rest, older_after}
 
 -- over a ROM of zeros, and a RAM of zeros at first
 abbrev pub held : ℕ → ℕ
