@@ -1,6 +1,6 @@
 -- The first picture of the cells: the driver boots and takes a table, and dvg_run writes and publishes its frame and sends a
 -- strobe; the core draws it while the program idles. The prover runs the cells, cycle by cycle.
-use Rattle.std.proofs.Common.{◌≡◌, ℕ, ◌+◌, ◌<◌, Bool, true, false, List, [], ◌∷◌, drop, refl, sym, ap, ◌∙◌, arith, lit<}
+use Rattle.std.proofs.Common.{◌≡◌, ℕ, ◌+◌, ◌<◌, Bool, true, false, List, [], ◌∷◌, drop, refl, sym, ◌∙◌, arith, lit<}
 use Rattle.std.specs.Prelude.{nat_eq, nat_le, if◌then◌else◌}
 use Rattle.std.proofs.lemmas.Bool.{ne_eqb}
 use Rattle.std.proofs.lemmas.List.{get_or-replicate}
@@ -8,29 +8,26 @@ use Rattle.dvg_driver.specs.declared.action.Action.TheVariants.{Peek, Read}
 use Rattle.dvg_log.specs.declared.event.Event.TheVariants.{Offer, Tick}
 use Rattle.dvg_log.specs.declared.entry.Entry.TheVariants.{Offered, Acted}
 use Rattle.dvg_log.specs.Log.{◌⟼◌, Log}
-use Rattle.dvg_6502.specs.Processor.{Cpu, Writes, run}
-use Rattle.dvg_6502.specs.Board.{seen}
+use Rattle.dvg_6502.specs.Processor.{Cpu, run}
 use Rattle.dvg_6502.specs.Amid.{guards, is_kept}
 use Rattle.dvg_6502.specs.Calls as calls
 use Rattle.dvg_6502.specs.Calls.{Call, IsSession, is_table, is_over}
 use Rattle.dvg_6502.specs.Joined.{stroke}
 use Rattle.dvg_6502.proofs.Memory.{in_page, le_not, out_of_page}
-use Rattle.dvg_6502.proofs.Interrupted.{still, still_harmless}
+use Rattle.dvg_6502.proofs.Interrupted.{still_harmless}
 use Rattle.dvg_6502.proofs.Quiet.{quiet}
 use Rattle.dvg_6502.proofs.ExampleWorld.{start, start_loaded}
 use Rattle.dvg_6502.proofs.Example.{some_logs, has_table}
 use Rattle.dvg_6502.proofs.Joined.{board_keeps as code_keeps}
-use Rattle.dvg_board.specs.Board.{Bus, powered}
-use Rattle.dvg_board.specs.Clocks.{after, changes}
+use Rattle.dvg_board.specs.Board.{powered}
 use Rattle.dvg_board.specs.Fetches.{drew}
-use Rattle.dvg_board.specs.Logs.{did}
 use Rattle.dvg_board.specs.Example.{zeros}
 use Rattle.dvg_board.proofs.Example.{held}
 use Rattle.dvg_system.specs.Machine.{IsChecked, told}
 use Rattle.dvg_cpu.specs.Cpu.{Cpu as Cells}
 use Rattle.dvg_cpu.specs.Cpu as cpu
 use Rattle.dvg_machine.specs.Machine.{Machine}
-use Rattle.dvg_machine.specs.Cycles.{Two, begins, between, ends, buses, first_bus, second_bus}
+use Rattle.dvg_machine.specs.Cycles.{begins, ends, buses}
 use Rattle.dvg_machine.specs.Played.{CellsKeep, Keeps, powers, begins_call}
 use Rattle.dvg_machine.specs.Example.{SomeDrawn}
 use Rattle.dvg_machine.proofs.ExampleCalls.{is_rom, is_image, held_bytes}
@@ -40,7 +37,7 @@ use Rattle.dvg_machine.proofs.Telling.{Followed, written_line, told_write, tells
 use Rattle.dvg_machine.proofs.Following.{two_of, Amid, from, session, up_to, further}
 
 -- the RAM is zeros, as the processor has it
-shares : (a : ℕ) → a < 2048 → start (0x4000 + a) ≡ held a
+pub shares : (a : ℕ) → a < 2048 → start (0x4000 + a) ≡ held a
 shares a small =
     let page : in_page (0x4000 + a) ≡ false = out_of_page (0x4000 + a) (omega arith) in
     let code : nat_le 0x6800 (0x4000 + a) ≡ false = le_not 0x6800 (0x4000 + a) (omega arith) in
@@ -50,20 +47,20 @@ shares a small =
     rw (page, code, x, y, table) (sym (get_or-replicate 2048 a 0 0 small))
 
 -- the reset's vector, and JSR 6800
-abbrev boots : List ℕ
+abbrev pub boots : List ℕ
 boots = 0x00 ∷ 0x70 ∷ 0x20 ∷ 0x00 ∷ 0x68 ∷ 0x00 ∷ 0x00 ∷ []
 
-abbrev booted_by : Machine
+abbrev pub booted_by : Machine
 booted_by = ends (begins cpu.zeros (powered held)) (twos boots)
 
-booted : Alone [] (buses (begins cpu.zeros (powered held)) (twos boots) []) booted_by.cpu booted_by.board
+pub booted : Alone [] (buses (begins cpu.zeros (powered held)) (twos boots) []) booted_by.cpu booted_by.board
 booted = plays_alone boots [] [] cpu.zeros (powered held)
     (record { on = powers is_rom is_image (λ a few. refl) held_bytes; is_board = refl }) refl
 
-abbrev reset_from : Cpu
+abbrev pub reset_from : Cpu
 reset_from = enters_by calls.Reset 0 start booted_by.cpu
 
-reset_session : (n : ℕ) → IsSession (quiet calls.Reset n reset_from ∷ [])
+pub reset_session : (n : ℕ) → IsSession (quiet calls.Reset n reset_from ∷ [])
 reset_session n = (
   record { entry = refl; log = refl; loaded = start_loaded; a = lit< tt; x = lit< tt; s = lit< tt },
   tt,
@@ -71,7 +68,7 @@ reset_session n = (
   tt,
 )
 
-abbrev reset : Ready
+abbrev pub reset : Ready
 reset = ready calls.Reset reset_from [] reset_session refl start_loaded (lives calls.Reset reset_from [] reset_session refl start_loaded 200 (record {
   n = 0;
   cpu = reset_from;
@@ -85,36 +82,36 @@ reset = ready calls.Reset reset_from [] reset_session refl start_loaded (lives c
 })) refl
 
 -- RTS, and JSR to a routine
-abbrev calls_next : (low high : ℕ) → List ℕ
+abbrev pub calls_next : (low high : ℕ) → List ℕ
 calls_next low high = 0x60 ∷ 0x02 ∷ 0x70 ∷ 0x20 ∷ low ∷ high ∷ 0x00 ∷ 0x00 ∷ []
 
 -- a tick that peeks at byte 001, and one that reads the flag
-abbrev peeked : Ready
+abbrev pub peeked : Ready
 peeked = calls_so calls.Tick 0 (goes_by (calls_next 0x6A 0x68) reset refl) refl tt tt tt (λ P is. is) refl
 
-abbrev looked : Ready
+abbrev pub looked : Ready
 looked = calls_so calls.Tick 0 (goes_by (calls_next 0x6A 0x68) peeked refl) refl tt tt tt (λ P is. is) refl
 
 -- an offer of the table at 5000, whose frame the check accepts
-checked : IsChecked zeros (calls.Offer stroke)
+pub checked : IsChecked zeros (calls.Offer stroke)
 checked = let lines = some_logs zeros zeros is_rom is_image in
     (lines.1, (code_keeps zeros zeros ((Offer stroke ⟼ Offered) ∷ (Tick ⟼ Acted (Read true)) ∷ (Tick ⟼ Acted Peek) ∷ []) lines).0.0.0)
 
 -- RTS, LDA #0, LDX #50, and JSR 68FE
-abbrev offers : List ℕ
+abbrev pub offers : List ℕ
 offers = 0x60 ∷ 0x02 ∷ 0x70 ∷ 0xA9 ∷ 0x00 ∷ 0xA2 ∷ 0x50 ∷ 0x20 ∷ 0xFE ∷ 0x68 ∷ 0x00 ∷ 0x00 ∷ []
 
-abbrev offered : Ready
+abbrev pub offered : Ready
 offered = calls_so (calls.Offer stroke) 0 (goes_by offers looked refl) refl has_table checked tt (λ P is. is) refl
 
 -- dvg_run begins; it has come to the strobe's instruction, STA 3000, whose cycles these are
-abbrev begun : Ready
+abbrev pub begun : Ready
 begun = goes_by (calls_next 0x09 0x68) offered refl
 
-abbrev run_from : Cpu
+abbrev pub run_from : Cpu
 run_from = from calls.Run 0 begun
 
-abbrev run_session : (n : ℕ) → IsSession (quiet calls.Run n run_from ∷ begun.list)
+abbrev pub run_session : (n : ℕ) → IsSession (quiet calls.Run n run_from ∷ begun.list)
 run_session = session calls.Run 0 begun refl tt tt tt (λ P is. is)
 
 abbrev nearly : Amid calls.Run run_from begun.list

@@ -5,7 +5,6 @@ use Rattle.std.specs.Prelude.{nat_eq, nat_lt, ◌&&◌, ◌||◌, if◌then◌el
 use Rattle.dvg_6502.specs.Processor.{Cpu, Reads, Writes, found, turn, run, at_return}
 use Rattle.dvg_6502.specs.Amid.{guards, is_kept, changed}
 use Rattle.dvg_6502.specs.Board.{IsLoaded, is_ram, strobe_place}
-use Rattle.dvg_6502.specs.Calls as calls
 use Rattle.dvg_6502.specs.Calls.{Routine, Call, IsSession, Follows, Brings, UnlessReset, is_table, is_over, is_refused, is_leaving}
 use Rattle.dvg_6502.specs.Calls.{entry, frame_of}
 use Rattle.dvg_6502.proofs.Running.{run_more}
@@ -69,7 +68,7 @@ fits_for (suc k) machine cpu fresh =
     (is_given machine byte && finds machine cpu fresh byte)
     && fits_for k (next machine (two_of byte)) cpu (fresh && nat_eq (write machine.cpu) 0)
 
-all_given : (k : ℕ) (machine : Machine) (cpu : Cpu) (fresh : Bool) → fits_for k machine cpu fresh ≡ true
+pub all_given : (k : ℕ) (machine : Machine) (cpu : Cpu) (fresh : Bool) → fits_for k machine cpu fresh ≡ true
     → AreGiven zeros machine (twos_for k machine cpu)
 all_given zero machine cpu fresh is = tt
 all_given (suc k) machine cpu fresh is =
@@ -85,7 +84,7 @@ where_of true true t P e p = tt
 where_of true false true P e p = p refl
 where_of true false false P e p = absurd (cc)
 
-all_found : (k : ℕ) (machine : Machine) (cpu : Cpu) (fresh : Bool) → fits_for k machine cpu fresh ≡ true
+pub all_found : (k : ℕ) (machine : Machine) (cpu : Cpu) (fresh : Bool) → fits_for k machine cpu fresh ≡ true
     → AreFound cpu fresh machine (twos_for k machine cpu)
 all_found zero machine cpu fresh is = tt
 all_found (suc k) machine cpu fresh is =
@@ -97,7 +96,7 @@ all_found (suc k) machine cpu fresh is =
       all_found k (next machine (two_of byte)) cpu (fresh && nat_eq (write machine.cpu) 0) one.1,
     )
 
-count_of : (k : ℕ) (machine : Machine) (cpu : Cpu) → length (twos_for k machine cpu) ≡ k
+pub count_of : (k : ℕ) (machine : Machine) (cpu : Cpu) → length (twos_for k machine cpu) ≡ k
 count_of zero machine cpu = refl
 count_of (suc k) machine cpu = ap suc (count_of k (next machine (two_of (found (at machine.cpu) cpu))) cpu)
 
@@ -138,11 +137,11 @@ rests_of cells cpu is =
     }
 
 -- its own bytes are none of the flag
-abbrev placed_by : Cpu → Bool
+abbrev pub placed_by : Cpu → Bool
 placed_by cpu = nat_lt cpu.pc 65533 && (nat_lt (cpu.flags 0) 256 && (nat_eq (found cpu.pc cpu) (cpu.mem cpu.pc)
     && (nat_eq (found (cpu.pc + 1) cpu) (cpu.mem (cpu.pc + 1)) && nat_eq (found (cpu.pc + 2) cpu) (cpu.mem (cpu.pc + 2)))))
 
-placed_of : (cpu : Cpu) → placed_by cpu ≡ true → ((b : ℕ) → cpu.mem b < 256) → IsPlaced cpu
+pub placed_of : (cpu : Cpu) → placed_by cpu ≡ true → ((b : ℕ) → cpu.mem b < 256) → IsPlaced cpu
 placed_of cpu is bytes =
     let pc = both_true (nat_lt cpu.pc 65533) _ is in
     let flag = both_true (nat_lt (cpu.flags 0) 256) _ pc.1 in
@@ -219,7 +218,7 @@ pub record Amid (r : Routine) (from : Cpu) (olds : List Call) : Type 0 where
 abbrev pub over : Routine → Cpu → ℕ → Cpu → Bool
 over r from n cpu = at_return from.s cpu || (is_refused (quiet r n from) || is_leaving from.s cpu)
 
-now_is : (r : Routine) (from : Cpu) (n : ℕ) (cpu : Cpu) → run from.s n from ≡ cpu → now (quiet r n from) ≡ cpu
+pub now_is : (r : Routine) (from : Cpu) (n : ℕ) (cpu : Cpu) → run from.s n from ≡ cpu → now (quiet r n from) ≡ cpu
 now_is r from n cpu is = ap (λ c. changed (run from.s n from).mem c) (still from.s n from) ∙ is
 
 module _ (r : Routine) (from : Cpu) (olds : List Call) (session : (n : ℕ) → IsSession (quiet r n from ∷ olds)) (none : from.log ≡ [])

@@ -16,3 +16,4 @@ pub mod Following
 pub mod Lines
 pub mod Telling
 pub mod Drawing
+pub mod NeededFree

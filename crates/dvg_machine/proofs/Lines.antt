@@ -8,7 +8,7 @@ use Rattle.dvg_gen.specs.Bytes.{met}
 use Rattle.dvg_driver.specs.declared.action.Action.{Action}
 use Rattle.dvg_log.specs.Log.{Log, ram, low_byte}
 use Rattle.dvg_core.specs.Refines.{byte_of}
-use Rattle.dvg_6502.specs.Processor.{Access, Writes}
+use Rattle.dvg_6502.specs.Processor.{Writes}
 use Rattle.dvg_6502.specs.Calls.{Call, IsSession, is_over}
 use Rattle.dvg_6502.proofs.Memory.{both_true}
 use Rattle.dvg_board.specs.Board.{Board, Bus, pins, takes, halted, done, fault, clock}

@@ -1,20 +1,17 @@
 -- What no log can have, and what each log as `cells_keep` says it has.
-use Rattle.std.proofs.Common.{◌≡◌, ℕ, ◌+◌, ◌/◌, ◌<◌, Bool, true, false, not, List, [], ◌∷◌, Option, Some, None, refl, sym, ap, ◌∙◌, subst}
-use Rattle.std.specs.Prelude.{nat_eq, ◌%◌, ◌&&◌, ◌==◌, if◌then◌else◌, length, slice_index}
+use Rattle.std.proofs.Common.{◌≡◌, ℕ, ◌<◌, Bool, true, false, List, [], ◌∷◌, Some, None, refl, sym, ap, ◌∙◌, subst}
+use Rattle.std.specs.Prelude.{nat_eq, ◌%◌, if◌then◌else◌, slice_index}
 use Rattle.dvg_mem.specs.Memory.{IsImage, IsRom}
-use Rattle.dvg_driver.specs.declared.action.Action.{Action}
 use Rattle.dvg_driver.specs.declared.action.Action.TheVariants.{Wrote, Sent}
-use Rattle.dvg_6502.specs.Calls as calls
-use Rattle.dvg_6502.specs.Calls.{Call, IsSession}
-use Rattle.dvg_core.specs.Cells.{bit}
-use Rattle.dvg_board.specs.Board.{Board, Bus}
-use Rattle.dvg_board.specs.Clocks.{IsBus, IsServed, after, writes, sends, changes}
+use Rattle.dvg_6502.specs.Calls.{Call}
+use Rattle.dvg_board.specs.Board.{Bus}
+use Rattle.dvg_board.specs.Clocks.{after, writes, sends, changes}
 use Rattle.dvg_log.specs.Log.{Log}
 use Rattle.dvg_system.specs.Machine as system
 use Rattle.dvg_system.specs.Machine.{IsMachine, IsChecked, OfEachMachine, HaveRam, calls_after}
 use Rattle.dvg_machine.specs.Cycles.{AreAlike, none, same, elsewhere}
 use Rattle.dvg_machine.specs.Played.{Keeps}
-use Rattle.dvg_machine.specs.Needed.{AreCalls, AreChecked, AreWired, Premises, PremisesFollow, AllIsDoes}
+use Rattle.dvg_machine.specs.Needed.{AreCalls, AreChecked, AreWired, PremisesFollow, AllIsDoes}
 
 -- a clock that changes nothing sends no strobe
 sends_none : (bus : Bus) → changes bus ≡ None → sends bus ≡ false

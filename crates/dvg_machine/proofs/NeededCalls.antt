@@ -1,6 +1,6 @@
 -- A call of dvg_reset, over a memory that has an instruction where a return leads: STA 4000, at 0001.
-use Rattle.std.proofs.Common.{◌≡◌, ℕ, ◌+◌, ◌<◌, Bool, true, false, List, [], ◌∷◌, refl, sym, arith, lit<}
-use Rattle.std.specs.Prelude.{nat_eq, nat_le, slice_index}
+use Rattle.std.proofs.Common.{◌≡◌, ℕ, ◌+◌, ◌<◌, true, false, [], ◌∷◌, refl, sym, arith, lit<}
+use Rattle.std.specs.Prelude.{nat_eq, nat_le}
 use Rattle.std.proofs.lemmas.Bool.{ne_eqb}
 use Rattle.std.proofs.lemmas.List.{get_or-replicate}
 use Rattle.dvg_6502.specs.Processor.{Cpu, put}

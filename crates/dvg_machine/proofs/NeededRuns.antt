@@ -1,14 +1,11 @@
 -- Runs of which one premise doesn't hold, and which have no log. The prover computes each cycle from the cells.
-use Rattle.std.proofs.Common.{◌≡◌, ℕ, ◌<◌, Bool, true, false, List, [], ◌∷◌, refl, lit<, arith}
+use Rattle.std.proofs.Common.{◌≡◌, ℕ, ◌<◌, List, [], ◌∷◌, refl, lit<, arith}
 use Rattle.dvg_6502.specs.Calls as calls
 use Rattle.dvg_6502.specs.Calls.{Call}
-use Rattle.dvg_6502.proofs.Memory.{put_small}
-use Rattle.dvg_board.specs.Board.{Bus}
 use Rattle.dvg_board.specs.Clocks.{after}
 use Rattle.dvg_board.specs.Example.{zeros}
 use Rattle.dvg_board.proofs.Example.{served}
 use Rattle.dvg_system.specs.Machine.{OfEachMachine, HaveRam}
-use Rattle.dvg_cpu.specs.Cpu.{Cpu as Cells}
 use Rattle.dvg_machine.specs.Machine.{Machine}
 use Rattle.dvg_machine.specs.Cycles.{Two, between}
 use Rattle.dvg_machine.specs.Played.{IsPlayed, IsGiven, alone, begins_call, older_after, cells_after}

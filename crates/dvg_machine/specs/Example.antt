@@ -1,5 +1,5 @@
 -- Examples: the driver boots on the cells, and they draw a frame.
-use Rattle.std.specs.Prelude.{◌≡◌, List, [], ◌∷◌, ◌++◌, map, slice_index}
+use Rattle.std.specs.Prelude.{◌≡◌, List, [], ◌∷◌, map, slice_index}
 use Rattle.dvg_6502.specs.Processor.{Reads}
 use Rattle.dvg_6502.specs.Calls.{Call, Reset, Tick, Offer, Run}
 use Rattle.dvg_6502.specs.Joined.{stroke as frame}

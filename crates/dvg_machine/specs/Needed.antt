@@ -1,6 +1,6 @@
 -- What `cells_keep` asks is needed. A premise is left out in the last step of a run of which all else holds, and there is no log as
 -- it says; or else it follows from what it says.
-use Rattle.std.specs.Prelude.{◌≡◌, ℕ, ◌+◌, ◌<◌, ◌==◌, Bool, true, false, not, List, [], ◌∷◌, length, slice_index}
+use Rattle.std.specs.Prelude.{◌≡◌, ℕ, ◌<◌, ◌==◌, Bool, true, false, not, List, [], ◌∷◌, length, slice_index}
 use Rattle.dvg_mem.specs.Memory.{IsImage, IsRom}
 use Rattle.dvg_6502.specs.Processor.{at_return}
 use Rattle.dvg_6502.specs.Board.{is_ram}
@@ -14,7 +14,7 @@ use Rattle.dvg_cpu.specs.Cpu.{Cpu as Cells}
 use Rattle.dvg_cpu.specs.Refines.{Where, Rests, cycles, made}
 use Rattle.dvg_machine.specs.Cycles.{Two, cycles_of, WriteAt, IsSilent}
 use Rattle.dvg_machine.specs.Steps.{now, instr_of, is_single}
-use Rattle.dvg_machine.specs.Played.{IsPlayed, IsPlaced, AreGiven, AreFound, Does, Keeps, at_rest, older_after, cells_after}
+use Rattle.dvg_machine.specs.Played.{IsPlayed, IsPlaced, AreGiven, AreFound, Does, Keeps, at_rest, older_after}
 
 -- over a ROM of zeros, and a RAM of zeros at first
 abbrev pub held : ℕ → ℕ
@@ -42,6 +42,7 @@ NeedsNoWrite = (call : Call) × (calls : List Call) × (is_over call ≡ true) �
 -- which of these premises of an instruction of a call are asked
 pub record Asked : Type 0 where
   pub rests : Bool
+  pub free : Bool
   pub count : Bool
   pub answered : Bool
 
@@ -51,7 +52,7 @@ pub record DoesBy (asked : Asked) (R : List ℕ) (held : ℕ → ℕ) (call : Ca
   pub unfinished : is_over call ≡ false
   pub goes : at_return call.from.s (now call) ≡ false
   pub rests : Where asked.rests (Rests cells (now call))
-  pub free : cells.due ≡ 0
+  pub free : Where asked.free (cells.due ≡ 0)
   pub placed : IsPlaced (now call)
   pub single : is_single (instr_of (now call)) ≡ true
   pub count : Where asked.count (length list ≡ cycles (instr_of (now call)))
@@ -60,7 +61,7 @@ pub record DoesBy (asked : Asked) (R : List ℕ) (held : ℕ → ℕ) (call : Ca
 
 -- all of them
 abbrev pub all : Asked
-all = record { rests = true; count = true; answered = true }
+all = record { rests = true; free = true; count = true; answered = true }
 
 abbrev pub AllIsDoes : Type 0
 AllIsDoes = (R : List ℕ) (held : ℕ → ℕ) (call : Call) (older : List Bus) (cells : Cells) (list : List Two)
@@ -73,10 +74,13 @@ Misleads asked = (call : Call) × (calls : List Call) × (older : List Bus) × (
     × DoesBy asked zeros held call older cells list
     × NoLog (later 1 call ∷ calls) (older_after held older cells list)
 
--- the cells have to rest with the call's registers; they have to have as many cycles as the instruction takes; and memory
--- has to answer as the call has it
+-- the cells have to rest with the call's registers; no NMI may be due; they have to have as many cycles as the instruction
+-- takes; and memory has to answer as the call has it
 abbrev pub NeedsRests : Type 0
 NeedsRests = Misleads (record all { rests = false })
+
+abbrev pub NeedsFree : Type 0
+NeedsFree = Misleads (record all { free = false })
 
 abbrev pub NeedsCount : Type 0
 NeedsCount = Misleads (record all { count = false })

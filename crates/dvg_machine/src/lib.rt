@@ -7,8 +7,8 @@
 
 ghost use Rattle.dvg_machine.specs.Example.{SomeDrawn, SomePlayed};
 ghost use Rattle.dvg_machine.specs.GoesOn.{CallGoesOn, CellsGoOn};
-ghost use Rattle.dvg_machine.specs.Needed.{AllIsDoes, NeedsAnswers, NeedsCount, NeedsNoStrobe};
-ghost use Rattle.dvg_machine.specs.Needed.{NeedsNoWrite, NeedsRests, PremisesFollow};
+ghost use Rattle.dvg_machine.specs.Needed.{AllIsDoes, NeedsAnswers, NeedsCount, NeedsFree};
+ghost use Rattle.dvg_machine.specs.Needed.{NeedsNoStrobe, NeedsNoWrite, NeedsRests, PremisesFollow};
 ghost use Rattle.dvg_machine.specs.Own.{NmiIsQuiet, OwnIsQuiet};
 ghost use Rattle.dvg_machine.specs.Played.{CellsKeep, ResetWaits};
 ghost use Rattle.dvg_machine.specs.Shown.{ShowsParts};
@@ -35,12 +35,14 @@ pub fn cells_keep()
 /// Premises of `cells_keep` are needed. Without one of these, which the last step of a run doesn't
 /// meet, there is no log as it says: the program sends no strobe, not even before its first call;
 /// after a call it writes no RAM; an instruction of a call begins where the cells rest with the
-/// call's registers, has as many cycles as it takes, and finds what the call has in memory.
+/// call's registers and no NMI is due, has as many cycles as it takes, and finds what the call has
+/// in memory.
 /// Of the others, ROM, images, calls, what is checked, jumper and bytes follow from such a log.
 pub fn premises_are_needed()
     ensures strobe { NeedsNoStrobe }
     ensures write { NeedsNoWrite }
     ensures rests { NeedsRests }
+    ensures free { NeedsFree }
     ensures count { NeedsCount }
     ensures answers { NeedsAnswers }
     ensures others { AllIsDoes }

@@ -1,5 +1,6 @@
 use Rattle.dvg_machine.proofs.Needed.{premises_follow, all_is_does}
 use Rattle.dvg_machine.proofs.NeededRuns.{needs_no_strobe, needs_no_write, needs_rests, needs_count, needs_answers}
+use Rattle.dvg_machine.proofs.NeededFree.{needs_free}
 use Rattle.dvg_machine.proofs.premises_are_needed.Goals as goal
 
 pub returns : goal.returns
@@ -8,6 +9,7 @@ returns c = let shared = c.machine_keeps.ensures.shared in
       strobe = needs_no_strobe;
       write = needs_no_write shared;
       rests = needs_rests shared;
+      free = needs_free shared;
       count = needs_count shared;
       answers = needs_answers shared;
       others = all_is_does;
