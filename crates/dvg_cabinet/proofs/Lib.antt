@@ -15,6 +15,7 @@ pub mod Frames
 pub mod Returns
 pub mod Calling
 pub mod Alike
+pub mod Single
 pub mod Bringing
 pub mod Runs
 pub mod SomeCabinet

@@ -326,7 +326,7 @@ good_from R call calls session ready =
     unless c.Close is awake = ready is
 
 -- and so after each call of a session
-good_call : (R : List ℕ) (call : Call) (calls : List Call) → IsSessionBy (Tells R) (call ∷ calls)
+pub good_call : (R : List ℕ) (call : Call) (calls : List Call) → IsSessionBy (Tells R) (call ∷ calls)
     → Good (is_awake call.routine) call.from.s (after call)
 good_call R call [] session = good_from R call [] session (λ two. absurd two.0)
 good_call R call (older ∷ calls) session = good_from R call (older ∷ calls) session (λ two.
