@@ -17,7 +17,7 @@ use Rattle.dvg_play.specs.Play.{IsPlay, done, made}
 use Rattle.dvg_play.specs.Games.{Content, Enters, IsTable, IsWord, calls_at, may_call, never_calls}
 use Rattle.dvg_play.proofs.Along.{calls_as}
 use Rattle.dvg_play.proofs.Leaps.{calling_may}
-use Rattle.dvg_cabinet.specs.Cabinet.{IsCabinet, powers, waits, reads, resets, tests, begins, does, accesses, nmi}
+use Rattle.dvg_cabinet.specs.Cabinet.{IsCabinet, powers, waits, reads, resets, tests, begins, does, nmi}
 use Rattle.dvg_cabinet.specs.Cabinet.{turns}
 use Rattle.dvg_cabinet.proofs.GameSteps.{nowhere}
 use Rattle.dvg_cabinet.proofs.Stages.{InGame}
@@ -35,9 +35,7 @@ module _ (R image : List ℕ) (held rom : ℕ → ℕ) (start : ℕ) where
   plays (resets bus on is served idle reset) = tt
   plays (tests bus on is served quiet) = tt
   plays (begins cpu since on is shares) = ([], Play.begins cpu since is)
-  plays (does {cpu} flags on go bytes none) = let one = plays on in
-      (made cpu (done flags cpu) ++ one.0, Play.does flags one.1 go bytes)
-  plays (accesses {cpu} flags access bus on go bytes some is served made_it) = let one = plays on in
+  plays (does {cpu} flags on go bytes taken) = let one = plays on in
       (made cpu (done flags cpu) ++ one.0, Play.does flags one.1 go bytes)
   plays (nmi on late) = let one = plays on in (one.0, Play.nmi one.1 late)
   plays (turns mem on small same) = let one = plays on in (one.0, Play.turns mem one.1 small same)

@@ -22,10 +22,10 @@ use Rattle.dvg_play.specs.Play.{AreBytes, done, interrupted}
 use Rattle.dvg_play.specs.Open.{InRom, IsIn}
 use Rattle.dvg_play.specs.Stays.{LabsBegins}
 use Rattle.dvg_play.proofs.Along.{is_finish}
-use Rattle.dvg_cabinet.specs.Cabinet.{IsCabinet, powers, waits, reads, resets, tests, begins, does, accesses, nmi, touched}
+use Rattle.dvg_cabinet.specs.Cabinet.{IsCabinet, powers, waits, reads, resets, tests, begins, does, nmi, touched}
 use Rattle.dvg_cabinet.specs.Cabinet.{turns, written}
 use Rattle.dvg_cabinet.specs.Cabinet as cabinet
-use Rattle.dvg_cabinet.specs.Cabinet.{AreAlike}
+use Rattle.dvg_cabinet.specs.Cabinet.{AreAlike, AreMade, no_more, one_more}
 use Rattle.dvg_cabinet.specs.Keeps.{GamesKeep, GamesLeaveBoard, Keeps, VectorsKeep}
 use Rattle.dvg_cabinet.proofs.Alike.{Same, itself, joins, read_elsewhere, same_clock, same_idle, same_makes, same_served}
 use Rattle.dvg_cabinet.proofs.Bringing.{Brought, Plays, by_bytes, by_content, plays}
@@ -40,6 +40,7 @@ use Rattle.dvg_cabinet.proofs.Outside.{stage_turns}
 use Rattle.dvg_cabinet.proofs.Returns as returning
 use Rattle.dvg_cabinet.proofs.Returns.{driver_returns, ret_is}
 use Rattle.dvg_cabinet.proofs.Sharing.{Laws}
+use Rattle.dvg_cabinet.proofs.Single.{AreFew, few}
 use Rattle.dvg_cabinet.proofs.Stages.{InDriver, InGame, Machine, Stage}
 use Rattle.dvg_cabinet.proofs.Standing.{Comes, Stand, level, behind, leaves, program_waits, so_far}
 
@@ -178,6 +179,37 @@ module _ (laws : Laws) (labs : LabsBegins) (R image : List ℕ) (held rom : ℕ 
       stage = stage;
     }
 
+  -- an instruction makes one access at most
+  few_touched : {cpu : Cpu} {since : ℕ} {clocks : List Bus} (flags : ℕ → ℕ) → Stands (Some (cpu, since)) clocks
+      → AreFew (touched cpu (done flags cpu))
+  few_touched {cpu} {since} {clocks} flags (inl g) =
+      inl (game.untouched R image held rom start notes accepted cpu since clocks g flags)
+  few_touched {cpu} {since} {clocks} flags (inr (inl d)) = subst AreFew
+      (sym (ap (λ (t : Bool). if t then seen (done flags cpu).log else written (done flags cpu).log) d.place))
+      (few cpu flags d.bytes R d.routine d.s d.calls d.mine (λ n. 0) (d.doing (λ n. 0)).0 d.place)
+  few_touched {cpu} {since} {clocks} flags (inr (inr n)) =
+      inl (nmis.untouched R image held rom start notes accepted cpu since clocks n flags)
+
+  -- and these are its clocks
+  instructed : {cpu : Cpu} {since : ℕ} {older newer : List Bus} (flags : ℕ → ℕ)
+      → Plays R image held rom start (Some (cpu, since)) → Play.restarts cpu ≡ false → AreBytes (done flags cpu)
+      → Standing (Some (cpu, since)) older → (log : List Access) → touched cpu (done flags cpu) ≡ log
+      → AreMade R held log older newer → Standing (Some (done flags cpu, suc since)) newer
+  instructed flags play go bytes one [] none no_more = record {
+    shown = one.shown;
+    alike = one.alike;
+    same = one.same;
+    stage = stepped flags play go bytes none one.stage;
+  }
+  instructed {cpu} {since} {older} flags play go bytes one (it ∷ []) some (one_more access bus no_more is served made) =
+      with_clock one bus (accessed flags access bus bytes some is (also_served one bus served)
+      (same_makes (clocked.after held older) (clocked.after held one.shown) one.same bus access made) one.stage)
+  instructed {cpu} flags play go bytes one (it ∷ next ∷ more) some taken = absurd (no (few_touched flags one.stage))
+    where
+      no : AreFew (touched cpu (done flags cpu)) → ⊥
+      no (inl none) = let e = sym none ∙ some in cc
+      no (inr single) = let e = sym single.1 ∙ some in cc
+
   standing : {at : Option (Cpu × ℕ)} {clocks : List Bus} → IsCabinet R image held rom start at clocks → Standing at clocks
   standing (powers is_rom is_image first) = record {
     shown = [];
@@ -221,15 +253,7 @@ module _ (laws : Laws) (labs : LabsBegins) (R image : List ℕ) (held rom : ℕ 
     stage = inl (game_begins R image held rom start cpu since one.shown (machine_of R image held rom start at one.stage) is
         (λ a few. shares a few ∙ ap (λ (m : ℕ → ℕ). m a) one.same.ram));
   }
-  standing (does flags on go bytes untouched) = let one = standing on in record {
-    shown = one.shown;
-    alike = one.alike;
-    same = one.same;
-    stage = stepped flags (plays R image held rom start on) go bytes untouched one.stage;
-  }
-  standing (accesses {cpu} {since} {older} flags access bus on go bytes some is served made) = let one = standing on in
-      with_clock one bus (accessed flags access bus bytes some is (also_served one bus served)
-      (same_makes (clocked.after held older) (clocked.after held one.shown) one.same bus access made) one.stage)
+  standing (does flags on go bytes taken) = instructed flags (plays R image held rom start on) go bytes (standing on) _ refl taken
   standing (nmi on late) = let one = standing on in record {
     shown = one.shown;
     alike = one.alike;

@@ -1,12 +1,12 @@
 -- An instruction of a call of the driver makes one access of the hardware at most.
-use Rattle.std.proofs.Common.{◌≡◌, ◌⊎◌, inl, inr, ℕ, ◌+◌, ◌%◌, ◌<◌, ◌≤◌, Bool, true, false, List, [], ◌∷◌, refl, sym}
+use Rattle.std.proofs.Common.{◌≡◌, ◌⊎◌, inl, inr, ℕ, ◌+◌, ◌%◌, ◌<◌, Bool, true, false, List, [], ◌∷◌, refl, sym}
 use Rattle.std.proofs.Common.{ap, ◌∙◌, subst, arith, eqb-true, leb-true, Some}
-use Rattle.std.specs.Prelude.{◌&&◌, ◌||◌, nat_eq, nat_le, nat_lt, if◌then◌else◌, Option}
+use Rattle.std.specs.Prelude.{◌&&◌, ◌||◌, nat_eq, nat_le, if◌then◌else◌}
 use Rattle.dvg_6502.specs.Processor
 use Rattle.dvg_6502.specs.Processor.{Cpu, Access, Reads, Writes, Instr, Mode, decoded, opcodes, stack_place, step}
 use Rattle.dvg_6502.specs.Amid.{guards, is_code, is_kept, is_work}
 use Rattle.dvg_6502.specs.Board.{is_hardware, is_own, is_ram, seen}
-use Rattle.dvg_6502.specs.Calls.{Call, Routine, after, is_table}
+use Rattle.dvg_6502.specs.Calls.{Call, Routine, is_table}
 use Rattle.dvg_game.proofs.Facts.{both_true}
 use Rattle.dvg_game.proofs.Memory.{between, either}
 use Rattle.dvg_play.specs.Play.{AreBytes, done, fresh}
@@ -15,7 +15,6 @@ use Rattle.dvg_play.proofs.CallsStay.{good_call}
 use Rattle.dvg_play.proofs.Claims.{Note}
 use Rattle.dvg_play.proofs.Notes.{lookup, noted, notes}
 use Rattle.dvg_play.proofs.Rows.{byte_at}
-use Rattle.dvg_play.proofs.Staying.{Good}
 
 abbrev is_low : Mode → Bool
 is_low Processor.ZeroPage = true

@@ -18,7 +18,7 @@ use Rattle.dvg_game.specs.Written.{of_list, rom_of}
 use Rattle.dvg_game.proofs.Facts.{both_true}
 use Rattle.dvg_play.specs.SomeGame.{bytes, vectors, rom, start}
 use Rattle.dvg_play.proofs.GameSteps.{put_small}
-use Rattle.dvg_cabinet.specs.Cabinet.{IsCabinet, powers, begins, does, accesses}
+use Rattle.dvg_cabinet.specs.Cabinet.{IsCabinet, powers, begins, does, no_more, one_more}
 use Rattle.dvg_cabinet.specs.Example.{SomeCabinet, nothing}
 
 is_rom : IsRom zeros
@@ -130,26 +130,26 @@ some_cabinet =
         mem = rom_small;
       };
     }) shares in
-    let on1 = does (λ n. 0) on0 refl (record { a = omega arith; x = omega arith; y = omega arith; s = omega arith; mem = m1 }) refl in
-    let on2 = does (λ n. 0) on1 refl (record { a = omega arith; x = omega arith; y = omega arith; s = omega arith; mem = m1 }) refl in
-    let on3 = does (λ n. 0) on2 refl (record { a = omega arith; x = omega arith; y = omega arith; s = omega arith; mem = m2 }) refl in
-    let on4 = does (λ n. 0) on3 refl (record { a = omega arith; x = omega arith; y = omega arith; s = omega arith; mem = m2 }) refl in
-    let on5 = does (λ n. 0) on4 refl (record { a = omega arith; x = omega arith; y = omega arith; s = omega arith; mem = m3 }) refl in
-    let on6 = does (λ n. 0) on5 refl (record { a = omega arith; x = omega arith; y = omega arith; s = omega arith; mem = m3 }) refl in
-    let on7 = does (λ n. 0) on6 refl (record { a = omega arith; x = omega arith; y = omega arith; s = omega arith; mem = m4 }) refl in
-    let on8 = does (λ n. 0) on7 refl (record { a = omega arith; x = omega arith; y = omega arith; s = omega arith; mem = m4 }) refl in
-    let on9 = does (λ n. 0) on8 refl (record { a = omega arith; x = omega arith; y = omega arith; s = omega arith; mem = m4 }) refl in
-    let on10 = does (λ n. 0) on9 refl (record { a = omega arith; x = omega arith; y = omega arith; s = omega arith; mem = m4 }) refl in
-    let on11 = does (λ n. 0) on10 refl (record { a = omega arith; x = omega arith; y = omega arith; s = omega arith; mem = m4 }) refl in
-    let on12 = does (λ n. 0) on11 refl (record { a = omega arith; x = omega arith; y = omega arith; s = omega arith; mem = m4 }) refl in
-    let on13 = does (λ n. 0) on12 refl (record { a = omega arith; x = omega arith; y = omega arith; s = omega arith; mem = m4 }) refl in
-    let on14 = does (λ n. 0) on13 refl (record { a = omega arith; x = omega arith; y = omega arith; s = omega arith; mem = m5 }) refl in
-    let on15 = does (λ n. 0) on14 refl (record { a = omega arith; x = omega arith; y = omega arith; s = omega arith; mem = m5 }) refl in
-    let on16 = does (λ n. 0) on15 refl (record { a = omega arith; x = omega arith; y = omega arith; s = omega arith; mem = m5 }) refl in
-    let on17 = does (λ n. 0) on16 refl (record { a = omega arith; x = omega arith; y = omega arith; s = omega arith; mem = m5 }) refl in (
+    let on1 = does (λ n. 0) on0 refl (record { a = omega arith; x = omega arith; y = omega arith; s = omega arith; mem = m1 }) no_more in
+    let on2 = does (λ n. 0) on1 refl (record { a = omega arith; x = omega arith; y = omega arith; s = omega arith; mem = m1 }) no_more in
+    let on3 = does (λ n. 0) on2 refl (record { a = omega arith; x = omega arith; y = omega arith; s = omega arith; mem = m2 }) no_more in
+    let on4 = does (λ n. 0) on3 refl (record { a = omega arith; x = omega arith; y = omega arith; s = omega arith; mem = m2 }) no_more in
+    let on5 = does (λ n. 0) on4 refl (record { a = omega arith; x = omega arith; y = omega arith; s = omega arith; mem = m3 }) no_more in
+    let on6 = does (λ n. 0) on5 refl (record { a = omega arith; x = omega arith; y = omega arith; s = omega arith; mem = m3 }) no_more in
+    let on7 = does (λ n. 0) on6 refl (record { a = omega arith; x = omega arith; y = omega arith; s = omega arith; mem = m4 }) no_more in
+    let on8 = does (λ n. 0) on7 refl (record { a = omega arith; x = omega arith; y = omega arith; s = omega arith; mem = m4 }) no_more in
+    let on9 = does (λ n. 0) on8 refl (record { a = omega arith; x = omega arith; y = omega arith; s = omega arith; mem = m4 }) no_more in
+    let on10 = does (λ n. 0) on9 refl (record { a = omega arith; x = omega arith; y = omega arith; s = omega arith; mem = m4 }) no_more in
+    let on11 = does (λ n. 0) on10 refl (record { a = omega arith; x = omega arith; y = omega arith; s = omega arith; mem = m4 }) no_more in
+    let on12 = does (λ n. 0) on11 refl (record { a = omega arith; x = omega arith; y = omega arith; s = omega arith; mem = m4 }) no_more in
+    let on13 = does (λ n. 0) on12 refl (record { a = omega arith; x = omega arith; y = omega arith; s = omega arith; mem = m4 }) no_more in
+    let on14 = does (λ n. 0) on13 refl (record { a = omega arith; x = omega arith; y = omega arith; s = omega arith; mem = m5 }) no_more in
+    let on15 = does (λ n. 0) on14 refl (record { a = omega arith; x = omega arith; y = omega arith; s = omega arith; mem = m5 }) no_more in
+    let on16 = does (λ n. 0) on15 refl (record { a = omega arith; x = omega arith; y = omega arith; s = omega arith; mem = m5 }) no_more in
+    let on17 = does (λ n. 0) on16 refl (record { a = omega arith; x = omega arith; y = omega arith; s = omega arith; mem = m5 }) no_more in (
       _,
       clock,
-      accesses (λ n. 0) (Reads 0x4001 0) clock on17 refl
-          (record { a = omega arith; x = omega arith; y = omega arith; s = omega arith; mem = m5 }) refl is_clock served (refl, refl, refl, λ next. refl),
+      does (λ n. 0) on17 refl (record { a = omega arith; x = omega arith; y = omega arith; s = omega arith; mem = m5 })
+          (one_more (Reads 0x4001 0) clock no_more is_clock served (refl, refl, refl, λ next. refl)),
       refl,
     )

@@ -24,9 +24,15 @@ written (Writes a byte ∷ log) =
 abbrev pub touched : Cpu → Cpu → List Access
 touched cpu new = if is_code cpu.pc then seen new.log else written new.log
 
+-- clocks that make these accesses on the bus, one after the other: a read finds what the board answers
+pub data AreMade (R : List ℕ) (held : ℕ → ℕ) : List Access → List Bus → List Bus → Type 0 where
+  no_more : {older : List Bus} → AreMade R held [] older older
+  one_more : {log : List Access} {older newer : List Bus} (access : Access) (bus : Bus) → AreMade R held log older newer
+      → IsBus bus → IsServed R (after held newer) bus → Makes (after held newer) bus access
+      → AreMade R held (access ∷ log) older (bus ∷ newer)
+
 -- all that may come since power-up: where the processor stands, with how many instructions came since the last NMI, or
--- in a reset of the whole system; and the board's clocks, the newest first. An instruction of the driver makes one
--- access at most
+-- in a reset of the whole system; and the board's clocks, the newest first
 pub data IsCabinet (R image : List ℕ) (held : ℕ → ℕ) (rom : ℕ → ℕ) (start : ℕ) : Option (Cpu × ℕ) → List Bus → Type 0
   where
     -- power-up, with any RAM
@@ -53,17 +59,11 @@ pub data IsCabinet (R image : List ℕ) (held : ℕ → ℕ) (rom : ℕ → ℕ)
     begins : {at : Option (Cpu × ℕ)} {older : List Bus} (cpu : Cpu) (since : ℕ)
         → IsCabinet R image held rom start at older → Begins rom start cpu → SharesRam Reset cpu.mem (after held older)
         → IsCabinet R image held rom start (Some (cpu, since)) older
-    -- an instruction that does nothing with the board
-    does : {cpu : Cpu} {since : ℕ} {older : List Bus} (flags : ℕ → ℕ)
+    -- an instruction, with the clocks that its accesses of the board take
+    does : {cpu : Cpu} {since : ℕ} {older newer : List Bus} (flags : ℕ → ℕ)
         → IsCabinet R image held rom start (Some (cpu, since)) older → restarts cpu ≡ false → AreBytes (done flags cpu)
-        → touched cpu (done flags cpu) ≡ []
-        → IsCabinet R image held rom start (Some (done flags cpu, suc since)) older
-    -- one with an access, which is made on the bus in a clock: a read finds what the board answers
-    accesses : {cpu : Cpu} {since : ℕ} {older : List Bus} (flags : ℕ → ℕ) (access : Access) (bus : Bus)
-        → IsCabinet R image held rom start (Some (cpu, since)) older → restarts cpu ≡ false → AreBytes (done flags cpu)
-        → touched cpu (done flags cpu) ≡ access ∷ [] → IsBus bus → IsServed R (after held older) bus
-        → Makes (after held older) bus access
-        → IsCabinet R image held rom start (Some (done flags cpu, suc since)) (bus ∷ older)
+        → AreMade R held (touched cpu (done flags cpu)) older newer
+        → IsCabinet R image held rom start (Some (done flags cpu, suc since)) newer
     -- an NMI, between any two instructions, 860 after the last one
     nmi : {cpu : Cpu} {since : ℕ} {older : List Bus} → IsCabinet R image held rom start (Some (cpu, since)) older
         → 860 ≤ since → IsCabinet R image held rom start (Some (interrupted cpu, 0)) older
