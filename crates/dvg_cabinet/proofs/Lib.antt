@@ -16,5 +16,6 @@ pub mod Returns
 pub mod Calling
 pub mod Alike
 pub mod Bringing
+pub mod Bytes
 pub mod Runs
 pub mod SomeCabinet

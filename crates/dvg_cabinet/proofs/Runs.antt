@@ -27,6 +27,7 @@ use Rattle.dvg_cabinet.specs.Cabinet.{AreAlike}
 use Rattle.dvg_cabinet.specs.Keeps.{GamesKeep, Keeps, VectorsKeep}
 use Rattle.dvg_cabinet.proofs.Alike.{Same, itself, joins, read_elsewhere, same_clock, same_idle, same_makes, same_served}
 use Rattle.dvg_cabinet.proofs.Bringing.{Brought, Plays, by_bytes, by_content, plays}
+use Rattle.dvg_cabinet.proofs.Bytes.{stage_bytes}
 use Rattle.dvg_cabinet.proofs.Calling.{game_calls}
 use Rattle.dvg_cabinet.proofs.DriverSteps.{driver_accesses, driver_nmi, driver_step, driver_waits}
 use Rattle.dvg_cabinet.proofs.Frames.{covers}
@@ -219,14 +220,17 @@ module _ (laws : Laws) (labs : LabsBegins) (R image : List ℕ) (held rom : ℕ 
     stage = inl (game_begins R image held rom start cpu since one.shown (machine_of R image held rom start at one.stage) is
         (λ a few. shares a few ∙ ap (λ (m : ℕ → ℕ). m a) one.same.ram));
   }
-  standing (does flags on go bytes untouched) = let one = standing on in record {
+  standing (does {cpu} {since} flags on go small untouched) = let one = standing on in record {
     shown = one.shown;
     alike = one.alike;
     same = one.same;
-    stage = stepped flags (plays R image held rom start on) go bytes untouched one.stage;
+    stage = stepped flags (plays R image held rom start on) go
+        (stage_bytes R image held rom start notes accepted cpu since one.shown flags small one.stage) untouched one.stage;
   }
-  standing (accesses {cpu} {since} {older} flags access bus on go bytes some is served made) = let one = standing on in
-      with_clock one bus (accessed flags access bus bytes some is (also_served one bus served)
+  standing (accesses {cpu} {since} {older} flags access bus on go small some is served made) = let one = standing on in
+      with_clock one bus (accessed flags access bus
+      (stage_bytes R image held rom start notes accepted cpu since one.shown flags small one.stage) some is
+      (also_served one bus served)
       (same_makes (clocked.after held older) (clocked.after held one.shown) one.same bus access made) one.stage)
   standing (nmi on late) = let one = standing on in record {
     shown = one.shown;

@@ -10,7 +10,7 @@ use Rattle.dvg_board.specs.Board.{Board, Bus}
 use Rattle.dvg_board.specs.Clocks.{IsBus, IsServed, after, sends}
 use Rattle.dvg_system.specs.Machine.{IsIdle, Makes, SharesRam}
 use Rattle.dvg_game.specs.Machine.{IsTurned}
-use Rattle.dvg_play.specs.Play.{AreBytes, Begins, done, interrupted, restarts}
+use Rattle.dvg_play.specs.Play.{Begins, done, interrupted, restarts}
 
 -- the writes of the vector RAM and of the strobe
 abbrev pub written : List Access → List Access
@@ -53,14 +53,14 @@ pub data IsCabinet (R image : List ℕ) (held : ℕ → ℕ) (rom : ℕ → ℕ)
     begins : {at : Option (Cpu × ℕ)} {older : List Bus} (cpu : Cpu) (since : ℕ)
         → IsCabinet R image held rom start at older → Begins rom start cpu → SharesRam Reset cpu.mem (after held older)
         → IsCabinet R image held rom start (Some (cpu, since)) older
-    -- an instruction that does nothing with the board
+    -- an instruction that does nothing with the board; the flag, where a game reads it by itself, answers with any byte
     does : {cpu : Cpu} {since : ℕ} {older : List Bus} (flags : ℕ → ℕ)
-        → IsCabinet R image held rom start (Some (cpu, since)) older → restarts cpu ≡ false → AreBytes (done flags cpu)
+        → IsCabinet R image held rom start (Some (cpu, since)) older → restarts cpu ≡ false → flags 0 < 256
         → touched cpu (done flags cpu) ≡ []
         → IsCabinet R image held rom start (Some (done flags cpu, suc since)) older
     -- one with an access, which is made on the bus in a clock: a read finds what the board answers
     accesses : {cpu : Cpu} {since : ℕ} {older : List Bus} (flags : ℕ → ℕ) (access : Access) (bus : Bus)
-        → IsCabinet R image held rom start (Some (cpu, since)) older → restarts cpu ≡ false → AreBytes (done flags cpu)
+        → IsCabinet R image held rom start (Some (cpu, since)) older → restarts cpu ≡ false → flags 0 < 256
         → touched cpu (done flags cpu) ≡ access ∷ [] → IsBus bus → IsServed R (after held older) bus
         → Makes (after held older) bus access
         → IsCabinet R image held rom start (Some (done flags cpu, suc since)) (bus ∷ older)
