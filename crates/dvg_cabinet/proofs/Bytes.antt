@@ -1,5 +1,5 @@
 -- Wherever a game on its board stands, its 6502 stays one of bytes.
-use Rattle.std.proofs.Common.{◌≡◌, ◌⊎◌, inl, inr, ℕ, ◌+◌, ◌<◌, ◌≤◌, true, List, arith}
+use Rattle.std.proofs.Common.{◌≡◌, inl, inr, ℕ, ◌<◌, true, List, arith}
 use Rattle.std.specs.Prelude.{Some}
 use Rattle.dvg_6502.specs.Processor.{Cpu}
 use Rattle.dvg_board.specs.Board.{Bus}
