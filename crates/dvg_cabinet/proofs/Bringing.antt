@@ -35,8 +35,8 @@ module _ (R image : List ℕ) (held rom : ℕ → ℕ) (start : ℕ) where
   plays (resets bus on is served idle reset) = tt
   plays (tests bus on is served quiet) = tt
   plays (begins cpu since on is shares) = ([], Play.begins cpu since is)
-  plays (does {cpu} flags on go bytes taken) = let one = plays on in
-      (made cpu (done flags cpu) ++ one.0, Play.does flags one.1 go bytes)
+  plays (does {cpu} flags on go small taken) = let one = plays on in
+      (made cpu (done flags cpu) ++ one.0, Play.does flags one.1 go small)
   plays (nmi on late) = let one = plays on in (one.0, Play.nmi one.1 late)
   plays (turns mem on small same) = let one = plays on in (one.0, Play.turns mem one.1 small same)
 

@@ -17,5 +17,6 @@ pub mod Calling
 pub mod Alike
 pub mod Single
 pub mod Bringing
+pub mod Bytes
 pub mod Runs
 pub mod SomeCabinet

@@ -29,6 +29,7 @@ use Rattle.dvg_cabinet.specs.Cabinet.{AreAlike, AreMade, no_more, one_more}
 use Rattle.dvg_cabinet.specs.Keeps.{GamesKeep, GamesLeaveBoard, Keeps, VectorsKeep}
 use Rattle.dvg_cabinet.proofs.Alike.{Same, itself, joins, read_elsewhere, same_clock, same_idle, same_makes, same_served}
 use Rattle.dvg_cabinet.proofs.Bringing.{Brought, Plays, by_bytes, by_content, plays}
+use Rattle.dvg_cabinet.proofs.Bytes.{stage_bytes}
 use Rattle.dvg_cabinet.proofs.Calling.{game_calls}
 use Rattle.dvg_cabinet.proofs.DriverSteps.{driver_accesses, driver_nmi, driver_step, driver_waits}
 use Rattle.dvg_cabinet.proofs.Frames.{covers}
@@ -253,7 +254,9 @@ module _ (laws : Laws) (labs : LabsBegins) (R image : List ℕ) (held rom : ℕ 
     stage = inl (game_begins R image held rom start cpu since one.shown (machine_of R image held rom start at one.stage) is
         (λ a few. shares a few ∙ ap (λ (m : ℕ → ℕ). m a) one.same.ram));
   }
-  standing (does flags on go bytes taken) = instructed flags (plays R image held rom start on) go bytes (standing on) _ refl taken
+  standing (does {cpu} {since} flags on go small taken) = let one = standing on in
+      instructed flags (plays R image held rom start on) go
+      (stage_bytes R image held rom start notes accepted cpu since one.shown flags small one.stage) one _ refl taken
   standing (nmi on late) = let one = standing on in record {
     shown = one.shown;
     alike = one.alike;

@@ -7,7 +7,7 @@ use Rattle.std.proofs.lemmas.List.Elements.{All-replicate}
 use Rattle.dvg_mem.specs.Memory.{IsImage, IsRom}
 use Rattle.dvg_6502.specs.Calls.{Reset}
 use Rattle.dvg_6502.specs.Code.{code}
-use Rattle.dvg_6502.specs.Processor.{Cpu, Reads, put}
+use Rattle.dvg_6502.specs.Processor.{Cpu, Reads}
 use Rattle.dvg_core.specs.Cells.{bit}
 use Rattle.dvg_board.specs.Board.{Bus}
 use Rattle.dvg_board.specs.Clocks.{IsBus, IsServed, after}
@@ -17,7 +17,6 @@ use Rattle.dvg_game.specs.Checker.{first}
 use Rattle.dvg_game.specs.Written.{of_list, rom_of}
 use Rattle.dvg_game.proofs.Facts.{both_true}
 use Rattle.dvg_play.specs.SomeGame.{bytes, vectors, rom, start}
-use Rattle.dvg_play.proofs.GameSteps.{put_small}
 use Rattle.dvg_cabinet.specs.Cabinet.{IsCabinet, powers, begins, does, no_more, one_more}
 use Rattle.dvg_cabinet.specs.Example.{SomeCabinet, nothing}
 
@@ -106,17 +105,6 @@ served = record {
 pub some_cabinet : SomeCabinet
 unfolding of_list rom_of bytes vectors rom begun
 some_cabinet =
-    let m1 = put_small 0x1FE 0x8C (put 0x1FF 0x6A (rom nothing)) (omega arith)
-    (put_small 0x1FF 0x6A (rom nothing) (omega arith) rom_small) in
-    let m2 = put_small 0x10 0 (put 0x1FE 0x8C (put 0x1FF 0x6A (rom nothing))) (omega arith) m1 in
-    let m3 = put_small 0x12 3 (put 0x10 0 (put 0x1FE 0x8C (put 0x1FF 0x6A (rom nothing)))) (omega arith) m2 in
-    let m4 = put_small 0x1FE 0x8F (put 0x1FF 0x6A (put 0x12 3 (put 0x10 0 (put 0x1FE 0x8C (put 0x1FF 0x6A (rom nothing))))))
-    (omega arith) (put_small 0x1FF 0x6A (put 0x12 3 (put 0x10 0 (put 0x1FE 0x8C (put 0x1FF 0x6A (rom nothing)))))
-    (omega arith) m3) in
-    let m5 = put_small 0x1FC 0x17 (put 0x1FD 0x68 (put 0x1FE 0x8F (put 0x1FF 0x6A (put 0x12 3 (put 0x10 0
-    (put 0x1FE 0x8C (put 0x1FF 0x6A (rom nothing)))))))) (omega arith)
-    (put_small 0x1FD 0x68 (put 0x1FE 0x8F (put 0x1FF 0x6A (put 0x12 3 (put 0x10 0
-    (put 0x1FE 0x8C (put 0x1FF 0x6A (rom nothing))))))) (omega arith) m4) in
     let on0 : IsCabinet zeros zeros nothing (rom nothing) start (Rattle.std.specs.Prelude.Some (begun, 0)) [] =
     begins begun 0 (powers is_rom is_image (λ a few. zero_at 2048 a)) (record {
       loaded = λ b low high. refl;
@@ -130,26 +118,26 @@ some_cabinet =
         mem = rom_small;
       };
     }) shares in
-    let on1 = does (λ n. 0) on0 refl (record { a = omega arith; x = omega arith; y = omega arith; s = omega arith; mem = m1 }) no_more in
-    let on2 = does (λ n. 0) on1 refl (record { a = omega arith; x = omega arith; y = omega arith; s = omega arith; mem = m1 }) no_more in
-    let on3 = does (λ n. 0) on2 refl (record { a = omega arith; x = omega arith; y = omega arith; s = omega arith; mem = m2 }) no_more in
-    let on4 = does (λ n. 0) on3 refl (record { a = omega arith; x = omega arith; y = omega arith; s = omega arith; mem = m2 }) no_more in
-    let on5 = does (λ n. 0) on4 refl (record { a = omega arith; x = omega arith; y = omega arith; s = omega arith; mem = m3 }) no_more in
-    let on6 = does (λ n. 0) on5 refl (record { a = omega arith; x = omega arith; y = omega arith; s = omega arith; mem = m3 }) no_more in
-    let on7 = does (λ n. 0) on6 refl (record { a = omega arith; x = omega arith; y = omega arith; s = omega arith; mem = m4 }) no_more in
-    let on8 = does (λ n. 0) on7 refl (record { a = omega arith; x = omega arith; y = omega arith; s = omega arith; mem = m4 }) no_more in
-    let on9 = does (λ n. 0) on8 refl (record { a = omega arith; x = omega arith; y = omega arith; s = omega arith; mem = m4 }) no_more in
-    let on10 = does (λ n. 0) on9 refl (record { a = omega arith; x = omega arith; y = omega arith; s = omega arith; mem = m4 }) no_more in
-    let on11 = does (λ n. 0) on10 refl (record { a = omega arith; x = omega arith; y = omega arith; s = omega arith; mem = m4 }) no_more in
-    let on12 = does (λ n. 0) on11 refl (record { a = omega arith; x = omega arith; y = omega arith; s = omega arith; mem = m4 }) no_more in
-    let on13 = does (λ n. 0) on12 refl (record { a = omega arith; x = omega arith; y = omega arith; s = omega arith; mem = m4 }) no_more in
-    let on14 = does (λ n. 0) on13 refl (record { a = omega arith; x = omega arith; y = omega arith; s = omega arith; mem = m5 }) no_more in
-    let on15 = does (λ n. 0) on14 refl (record { a = omega arith; x = omega arith; y = omega arith; s = omega arith; mem = m5 }) no_more in
-    let on16 = does (λ n. 0) on15 refl (record { a = omega arith; x = omega arith; y = omega arith; s = omega arith; mem = m5 }) no_more in
-    let on17 = does (λ n. 0) on16 refl (record { a = omega arith; x = omega arith; y = omega arith; s = omega arith; mem = m5 }) no_more in (
+    let on1 = does (λ n. 0) on0 refl (omega arith) no_more in
+    let on2 = does (λ n. 0) on1 refl (omega arith) no_more in
+    let on3 = does (λ n. 0) on2 refl (omega arith) no_more in
+    let on4 = does (λ n. 0) on3 refl (omega arith) no_more in
+    let on5 = does (λ n. 0) on4 refl (omega arith) no_more in
+    let on6 = does (λ n. 0) on5 refl (omega arith) no_more in
+    let on7 = does (λ n. 0) on6 refl (omega arith) no_more in
+    let on8 = does (λ n. 0) on7 refl (omega arith) no_more in
+    let on9 = does (λ n. 0) on8 refl (omega arith) no_more in
+    let on10 = does (λ n. 0) on9 refl (omega arith) no_more in
+    let on11 = does (λ n. 0) on10 refl (omega arith) no_more in
+    let on12 = does (λ n. 0) on11 refl (omega arith) no_more in
+    let on13 = does (λ n. 0) on12 refl (omega arith) no_more in
+    let on14 = does (λ n. 0) on13 refl (omega arith) no_more in
+    let on15 = does (λ n. 0) on14 refl (omega arith) no_more in
+    let on16 = does (λ n. 0) on15 refl (omega arith) no_more in
+    let on17 = does (λ n. 0) on16 refl (omega arith) no_more in (
       _,
       clock,
-      does (λ n. 0) on17 refl (record { a = omega arith; x = omega arith; y = omega arith; s = omega arith; mem = m5 })
+      does (λ n. 0) on17 refl (omega arith)
           (one_more (Reads 0x4001 0) clock no_more is_clock served (refl, refl, refl, λ next. refl)),
       refl,
     )

@@ -10,7 +10,7 @@ use Rattle.dvg_board.specs.Board.{Board, Bus}
 use Rattle.dvg_board.specs.Clocks.{IsBus, IsServed, after, sends}
 use Rattle.dvg_system.specs.Machine.{IsIdle, Makes, SharesRam}
 use Rattle.dvg_game.specs.Machine.{IsTurned}
-use Rattle.dvg_play.specs.Play.{AreBytes, Begins, done, interrupted, restarts}
+use Rattle.dvg_play.specs.Play.{Begins, done, interrupted, restarts}
 
 -- the writes of the vector RAM and of the strobe
 abbrev pub written : List Access → List Access
@@ -59,9 +59,10 @@ pub data IsCabinet (R image : List ℕ) (held : ℕ → ℕ) (rom : ℕ → ℕ)
     begins : {at : Option (Cpu × ℕ)} {older : List Bus} (cpu : Cpu) (since : ℕ)
         → IsCabinet R image held rom start at older → Begins rom start cpu → SharesRam Reset cpu.mem (after held older)
         → IsCabinet R image held rom start (Some (cpu, since)) older
-    -- an instruction, with the clocks that its accesses of the board take
+    -- an instruction, with the clocks that its accesses of the board take; the flag, where a game reads it by itself,
+    -- answers with any byte
     does : {cpu : Cpu} {since : ℕ} {older newer : List Bus} (flags : ℕ → ℕ)
-        → IsCabinet R image held rom start (Some (cpu, since)) older → restarts cpu ≡ false → AreBytes (done flags cpu)
+        → IsCabinet R image held rom start (Some (cpu, since)) older → restarts cpu ≡ false → flags 0 < 256
         → AreMade R held (touched cpu (done flags cpu)) older newer
         → IsCabinet R image held rom start (Some (done flags cpu, suc since)) newer
     -- an NMI, between any two instructions, 860 after the last one

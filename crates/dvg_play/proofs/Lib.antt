@@ -16,6 +16,7 @@ pub mod NmiSteps
 pub mod Returns
 pub mod Entering
 pub mod Calling
+pub mod Bytes
 pub mod Plays
 pub mod BegunFrames
 pub mod Lives

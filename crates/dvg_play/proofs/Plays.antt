@@ -20,6 +20,7 @@ use Rattle.dvg_play.specs.Stays.{LabsBegins}
 use Rattle.dvg_play.specs.Games.{AreOfCalls, Content, Enters, GamesCall, IsTable, IsWord, VectorsCall, accesses_of}
 use Rattle.dvg_play.specs.Games.{calls_at, may_call, never_calls}
 use Rattle.dvg_play.proofs.Along.{calls_as, is_finish}
+use Rattle.dvg_play.proofs.Bytes.{stage_bytes}
 use Rattle.dvg_play.proofs.Calling.{game_calls}
 use Rattle.dvg_play.proofs.DriverSteps.{driver_nmi, driver_step}
 use Rattle.dvg_play.proofs.GameSteps.{game_begins, game_nmi, game_steps, nowhere}
@@ -111,13 +112,14 @@ module _ (labs : LabsBegins) (R : List ℕ) (rom : ℕ → ℕ) (start : ℕ) (n
     (accepted : accepts rom start notes ≡ true) (brought : Brought R rom start) where
   stage : {cpu : Cpu} {since : ℕ} {log : List Access} → IsPlay rom start cpu since log → Stage R rom start cpu since log
   stage (begins cpu since is) = inl (game_begins R rom start notes accepted cpu since is)
-  stage (does {cpu} {since} {log} flags play go bytes) = by (stage play)
+  stage (does {cpu} {since} {log} flags play go small) = let before = stage play in
+      by before (stage_bytes R rom start notes accepted cpu since log flags small before)
     where
-      in_game : (g : InGame R rom start cpu since log) (t : Bool)
+      in_game : (g : InGame R rom start cpu since log) → AreBytes (done flags cpu) → (t : Bool)
           → calling (kind_of (cpu.mem cpu.pc)) (of_cpu cpu g.st) ≡ t
           → Stage R rom start (done flags cpu) (suc since) (made cpu (done flags cpu) ++ log)
-      in_game g false is = inl (game_steps R rom start notes accepted cpu since log g flags go is bytes)
-      in_game g true is = inr (inl (game_calls R rom start notes accepted cpu since log g go is flags bytes
+      in_game g bytes false is = inl (game_steps R rom start notes accepted cpu since log g flags go is bytes)
+      in_game g bytes true is = inr (inl (game_calls R rom start notes accepted cpu since log g go is flags bytes
           brings.0 brings.1 brings.2))
         where
           brings : (word_at cpu.mem (cpu.pc + 1) ≡ dvg_offer → IsTable R rom cpu)
@@ -125,29 +127,29 @@ module _ (labs : LabsBegins) (R : List ℕ) (rom : ℕ → ℕ) (start : ℕ) (n
               × (word_at cpu.mem (cpu.pc + 1) ≡ dvg_pair → ⊥)
           brings = brought cpu since log play g go is
 
-      in_driver : (d : InDriver R rom start cpu log) (t : Bool) → at_return d.s cpu ≡ t
+      in_driver : (d : InDriver R rom start cpu log) → AreBytes (done flags cpu) → (t : Bool) → at_return d.s cpu ≡ t
           → Stage R rom start (done flags cpu) (suc since) (made cpu (done flags cpu) ++ log)
-      in_driver d false is = inr (inl (driver_step R rom start notes accepted cpu log d flags is bytes))
-      in_driver d true is =
+      in_driver d bytes false is = inr (inl (driver_step R rom start notes accepted cpu log d flags is bytes))
+      in_driver d bytes true is =
           let same = ret_is R rom start notes accepted labs cpu log d is since flags in
           inl (subst (λ k. InGame R rom start k (suc since) (made cpu k ++ log)) (sym same)
           (driver_returns R rom start notes accepted labs cpu log d is since flags (subst AreBytes same bytes)))
 
-      in_nmi : (n : InNmi R rom start cpu since log) (t : Bool) → is_finish (kind_of (cpu.mem cpu.pc)) ≡ t
+      in_nmi : (n : InNmi R rom start cpu since log) → AreBytes (done flags cpu) → (t : Bool) → is_finish (kind_of (cpu.mem cpu.pc)) ≡ t
           → Stage R rom start (done flags cpu) (suc since) (made cpu (done flags cpu) ++ log)
-      in_nmi n false is = inr (inr (nmi_steps R rom start notes accepted cpu since log n flags go is bytes))
-      in_nmi n true is =
+      in_nmi n bytes false is = inr (inr (nmi_steps R rom start notes accepted cpu since log n flags go is bytes))
+      in_nmi n bytes true is =
           let same = comes_back R rom start notes accepted cpu since log n go is flags in
           inr (inl (subst (λ l. InDriver R rom start (done flags cpu) (l ++ log))
           (sym (nothing_made R rom start notes accepted cpu since log n (done flags cpu)))
           (subst (λ k. InDriver R rom start k log) (sym same)
           (nmi_ends R rom start notes accepted cpu since log n go is flags (subst AreBytes same bytes)))))
 
-      by : Stage R rom start cpu since log
+      by : Stage R rom start cpu since log → AreBytes (done flags cpu)
           → Stage R rom start (done flags cpu) (suc since) (made cpu (done flags cpu) ++ log)
-      by (inl g) = in_game g (calling (kind_of (cpu.mem cpu.pc)) (of_cpu cpu g.st)) refl
-      by (inr (inl d)) = in_driver d (at_return d.s cpu) refl
-      by (inr (inr n)) = in_nmi n (is_finish (kind_of (cpu.mem cpu.pc))) refl
+      by (inl g) bytes = in_game g bytes (calling (kind_of (cpu.mem cpu.pc)) (of_cpu cpu g.st)) refl
+      by (inr (inl d)) bytes = in_driver d bytes (at_return d.s cpu) refl
+      by (inr (inr n)) bytes = in_nmi n bytes (is_finish (kind_of (cpu.mem cpu.pc))) refl
   stage (nmi {cpu} {since} {log} play late) = by (stage play)
     where
       by : Stage R rom start cpu since log → Stage R rom start (interrupted cpu) 0 log

@@ -3,13 +3,12 @@ use Rattle.std.proofs.Common.{◌≡◌, ℕ, zero, suc, ◌-◌, ◌/◌, ◌%�
 use Rattle.std.proofs.Common.{leb-true}
 use Rattle.std.specs.Prelude.{◌&&◌, nat_lt, if◌then◌else◌}
 use Rattle.dvg_6502.specs.Code.{code}
-use Rattle.dvg_6502.specs.Processor.{Cpu, put}
+use Rattle.dvg_6502.specs.Processor.{Cpu}
 use Rattle.dvg_game.specs.Checker.{first, places}
 use Rattle.dvg_game.specs.Written.{of_list, rom_of, found, notes_of, note, nmi_note}
 use Rattle.dvg_game.proofs.Facts.{both_true}
 use Rattle.dvg_play.specs.Play.{begins, does}
 use Rattle.dvg_play.specs.SomeGame.{bytes, vectors, rows, rom, notes, start, IsFine, Plays}
-use Rattle.dvg_play.proofs.GameSteps.{put_small}
 
 pub is_fine : IsFine
 unfolding places of_list rom_of found notes_of note nmi_note bytes vectors rows rom notes
@@ -80,10 +79,6 @@ plays other small =
         mem = rom_small other small;
       };
     }) in
-    let pushed = put_small 0x1FE 0x8C (put 0x1FF 0x6A (rom other)) (omega arith)
-    (put_small 0x1FF 0x6A (rom other) (omega arith) (rom_small other small)) in
-    let two = does (λ n. 0) one refl
-    (record { a = omega arith; x = omega arith; y = omega arith; s = omega arith; mem = pushed }) in
-    let three = does (λ n. 0) two refl
-    (record { a = omega arith; x = omega arith; y = omega arith; s = omega arith; mem = pushed }) in
+    let two = does (λ n. 0) one refl (omega arith) in
+    let three = does (λ n. 0) two refl (omega arith) in
     (_, three, refl)

@@ -44,12 +44,13 @@ pub record Begins (rom : ℕ → ℕ) (start : ℕ) (cpu : Cpu) : Type 0 where
   pub bytes : AreBytes cpu
 
 -- all that it may do up to the next reset, or a JMP there: with how many instructions came since the last NMI, and the
--- driver's accesses, the newest first. An NMI may come between any two instructions, 860 after the last one; the first
--- one comes at any time. And at any time switches, coins and all else outside turn to any bytes
+-- driver's accesses, the newest first. The flag answers with any byte. An NMI may come between any two instructions, 860
+-- after the last one; the first one comes at any time. And at any time switches, coins and all else outside turn to any
+-- bytes
 pub data IsPlay (rom : ℕ → ℕ) (start : ℕ) : Cpu → ℕ → List Access → Type 0 where
   begins : (cpu : Cpu) (since : ℕ) → Begins rom start cpu → IsPlay rom start cpu since []
   does : {cpu : Cpu} {since : ℕ} {log : List Access} (flags : ℕ → ℕ) → IsPlay rom start cpu since log
-      → restarts cpu ≡ false → AreBytes (done flags cpu)
+      → restarts cpu ≡ false → flags 0 < 256
       → IsPlay rom start (done flags cpu) (suc since) (made cpu (done flags cpu) ++ log)
   nmi : {cpu : Cpu} {since : ℕ} {log : List Access} → IsPlay rom start cpu since log → 860 ≤ since
       → IsPlay rom start (interrupted cpu) 0 log
