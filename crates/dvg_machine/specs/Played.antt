@@ -11,10 +11,10 @@ use Rattle.dvg_board.specs.Board.{Board, Bus}
 use Rattle.dvg_board.specs.Clocks.{IsServed, after}
 use Rattle.dvg_board.specs.Logs.{HoldsRam}
 use Rattle.dvg_system.specs.Machine.{IsMachine, IsChecked, SharesRam, begun, later}
-use Rattle.dvg_cpu.specs.Cpu.{Cpu as Cells, zeros, at, write}
+use Rattle.dvg_cpu.specs.Cpu.{Cpu as Cells, zeros, at, write, clock as cpu_clock}
 use Rattle.dvg_cpu.specs.Refines as refined
 use Rattle.dvg_cpu.specs.Refines.{Where, Rests, cycles, made}
-use Rattle.dvg_machine.specs.Machine.{Machine, drives_board, clock}
+use Rattle.dvg_machine.specs.Machine.{Machine, drives_board, drives_cpu, clock}
 use Rattle.dvg_machine.specs.Cycles.{Drive, driven, resetting, Two, begins, between, next, first_bus, second_bus}
 use Rattle.dvg_machine.specs.Cycles.{buses, cycle_of}
 use Rattle.dvg_machine.specs.Cycles.{cycles_of, AreQuiet, SendNothing, StandFor}
@@ -145,3 +145,10 @@ ResetWaits = (cells : Cells) (board : Board) (drive : Drive)
     → let machine : Machine = record { answers = 1; cpu = cells; board = board } in
     (clock machine (resetting drive) ≡ clock machine (driven drive))
     × (drives_board machine (resetting drive) ≡ drives_board machine (driven drive))
+
+-- in the first clock it resets both: so the processor's cells are as `cpu_resets` says
+abbrev pub ResetTakes : Type 0
+ResetTakes = (cells : Cells) (board : Board) (drive : Drive)
+    → let machine : Machine = begins cells board in let pins = drives_cpu machine (resetting drive) in
+    (pins.reset ≡ 1) × ((clock machine (resetting drive)).cpu ≡ cpu_clock cells pins)
+    × ((drives_board machine (resetting drive)).reset ≡ 1)

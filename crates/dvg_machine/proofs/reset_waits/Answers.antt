@@ -1,5 +1,8 @@
-use Rattle.dvg_machine.proofs.Playing.{reset_waits}
+use Rattle.dvg_machine.proofs.Playing.{reset_takes, reset_waits}
 use Rattle.dvg_machine.proofs.reset_waits.Goals as goal
 
-pub returns : goal.returns
-returns c = reset_waits
+pub returns-clause-takes : goal.returns-clause-takes
+returns-clause-takes c = reset_takes
+
+pub returns-clause-waits : goal.returns-clause-waits
+returns-clause-waits c = reset_waits
