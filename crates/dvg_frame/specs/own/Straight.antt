@@ -1,12 +1,15 @@
--- Operations that run straight to a HALT.
-use Rattle.std.specs.Prelude.{ℕ, ◌+◌, List, ◌∷◌}
+-- Operations that run straight to their end.
+use Rattle.std.specs.Prelude.{List, [], ◌∷◌}
 use Rattle.dvg_code.specs.declared.instr.Instr.{Instr}
-use Rattle.dvg_code.specs.Spelling.{word_count}
 use Rattle.dvg_frame.specs.declared.op.OpKind.{OpKind}
 use Rattle.dvg_frame.specs.declared.op.OpKind.TheVariants.{Draw, Halt}
+use Rattle.dvg_frame.specs.own.Frames.{IsFrame}
 
--- only vectors and LABS stand before the first HALT, and they have this many words with it
-pub data RunsStraight : List OpKind → ℕ → Type 0 where
-  halts : {ops : List OpKind} → RunsStraight (Halt ∷ ops) 1
-  draws : {instr : Instr} {ops : List OpKind} {n : ℕ} → RunsStraight ops n
-      → RunsStraight (Draw instr ∷ ops) (word_count instr + n)
+-- vectors and LABS, and then the only HALT
+pub data RunsStraight : List OpKind → Type 0 where
+  halts : RunsStraight (Halt ∷ [])
+  draws : {instr : Instr} {ops : List OpKind} → RunsStraight ops → RunsStraight (Draw instr ∷ ops)
+
+-- a draft without the faults 1 to 4 that runs straight
+abbrev pub IsStraight : List OpKind → Type 0
+IsStraight F = IsFrame F × RunsStraight F

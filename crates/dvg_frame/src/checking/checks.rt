@@ -4,7 +4,7 @@ ghost use Rattle.std.specs.Prelude.{MatchResult, length};
 ghost use Rattle.dvg_mem.specs.Memory.{IsRom};
 ghost use Rattle.dvg_frame.specs.Steps.{Begins, Misses};
 ghost use Rattle.dvg_frame.specs.Faults.{IsChecked, Refuses};
-ghost use Rattle.dvg_frame.specs.own.Firsts.{DrawsLabs, NamesNone};
+ghost use Rattle.dvg_frame.specs.own.Firsts.{NamesNone};
 ghost use Rattle.dvg_frame.specs.own.Frames.{IsFrame};
 ghost use Rattle.dvg_frame.specs.Layout.{size};
 ghost use Rattle.dvg_frame.specs.own.Tables.{BoundOrFault, HasNone, IsRefused};
@@ -12,7 +12,7 @@ ghost use Rattle.dvg_frame.specs.own.Tables.{BoundOrFault, HasNone, IsRefused};
 use crate::checked::Checked;
 use crate::checking::bounds::bound_of;
 use crate::checking::chain::Chain;
-use crate::checking::straight::straight_words;
+use crate::checking::straight::{is_labs, straight_words};
 use crate::checking::sweep::sweep;
 use crate::checking::table::Table;
 use crate::checking::worklist::Worklist;
@@ -20,20 +20,9 @@ use crate::draft::{Draft, MAX_OPS, are_ops, words_of};
 use crate::fault::FrameFault;
 use crate::frame::{Frame, MAX_WORDS};
 use crate::op::{Op, OpKind};
-use dvg_code::Instr;
 use dvg_mem::Rom;
 use std::alloc::Allocator;
 use std::marker::Model;
-
-// Returns whether `kind` draws a LABS.
-fn is_labs(kind: OpKind) -> bool
-    ensures { IsTrue result ↔ DrawsLabs kind }
-{
-    match kind {
-        OpKind::Draw(code) => matches!(code.instr(), Instr::Labs { .. }),
-        _ => false,
-    }
-}
 
 // Returns whether `kind` names an operation whose number isn't below `count`.
 fn names_none(count: usize, kind: OpKind) -> bool
@@ -151,6 +140,10 @@ impl Checker {
     ) -> Result<Checked<'a>, FrameFault>
         ensures { IsChecked ops.now rom.now result }
     {
+        // Such a draft has no fault. Its run fetches word zero, too.
+        if let Some(words) = straight_words(ops) {
+            return Ok(Checked::of(ops, words, u64::from(words) + 1));
+        }
         let words = match words_or_fault(ops) {
             Ok(words) => words,
             Err(fault) => return Err(fault),
@@ -174,10 +167,6 @@ impl Checker {
         requires begins { Begins draft.now }
         ensures { BoundOrFault draft.now rom.now result }
     {
-        // Such a draft has no fault. Its run fetches word zero, too.
-        if let Some(words) = straight_words(draft) {
-            return Ok(words + 1);
-        }
         let bound = bound_of(draft, rom, &mut self.table, &mut self.chain);
         self.table.clear();
         match bound {

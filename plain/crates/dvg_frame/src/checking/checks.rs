@@ -2,7 +2,7 @@
 use crate::checked::Checked;
 use crate::checking::bounds::bound_of;
 use crate::checking::chain::Chain;
-use crate::checking::straight::straight_words;
+use crate::checking::straight::{is_labs, straight_words};
 use crate::checking::sweep::sweep;
 use crate::checking::table::Table;
 use crate::checking::worklist::Worklist;
@@ -10,17 +10,8 @@ use crate::draft::{Draft, MAX_OPS, are_ops, words_of};
 use crate::fault::FrameFault;
 use crate::frame::{Frame, MAX_WORDS};
 use crate::op::{Op, OpKind};
-use dvg_code::Instr;
 use dvg_mem::Rom;
 use std::alloc::Allocator;
-
-// Returns whether `kind` draws a LABS.
-fn is_labs(kind: OpKind) -> bool {
-    match kind {
-        OpKind::Draw(code) => matches!(code.instr(), Instr::Labs { .. }),
-        _ => false,
-    }
-}
 
 // Returns whether `kind` names an operation whose number isn't below `count`.
 fn names_none(count: usize, kind: OpKind) -> bool {
@@ -114,6 +105,10 @@ impl Checker {
         ops: &'a [Op],
         rom: &Rom<A>,
     ) -> Result<Checked<'a>, FrameFault> {
+        // Such a draft has no fault. Its run fetches word zero, too.
+        if let Some(words) = straight_words(ops) {
+            return Ok(Checked::of(ops, words, u64::from(words) + 1));
+        }
         let words = match words_or_fault(ops) {
             Ok(words) => words,
             Err(fault) => return Err(fault),
@@ -133,10 +128,6 @@ impl Checker {
         draft: &[Op],
         rom: &Rom<A>,
     ) -> Result<u64, FrameFault> {
-        // Such a draft has no fault. Its run fetches word zero, too.
-        if let Some(words) = straight_words(draft) {
-            return Ok(words + 1);
-        }
         let bound = bound_of(draft, rom, &mut self.table, &mut self.chain);
         self.table.clear();
         match bound {
