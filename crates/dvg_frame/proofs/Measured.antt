@@ -1,71 +1,88 @@
--- What a loop over the operations of a straight draft has found.
-use Rattle.std.proofs.Common.{◌≡◌, ℕ, zero, suc, ◌+◌, ◌-◌, ◌<◌, List, [], ◌∷◌, take, drop, length, length-drop, Some, refl, sym, ap, ◌∙◌, subst, arith}
+-- What a draft measures.
+use Rattle.std.proofs.Common.{◌≡◌, ℕ, zero, suc, ◌+◌, ◌<◌, ◌≤◌, List, [], ◌∷◌, length, get_or, take, Some, refl, sym, ap, ◌∙◌, subst, arith}
 use Rattle.std.specs.Prelude.{slice_get}
-use Rattle.dvg_code.specs.declared.instr.Instr.{Instr}
+use Rattle.std.proofs.lemmas.Option.{slice_get_within}
+use Rattle.std.proofs.Math.Seq.{take-length}
 use Rattle.dvg_frame.specs.declared.op.OpKind.{OpKind}
 use Rattle.dvg_frame.specs.declared.op.OpKind.TheVariants.{Draw, Halt as Stop}
 use Rattle.dvg_frame.specs.declared.place.Place.TheVariants.{InFrame}
-use Rattle.dvg_frame.specs.Layout.{op_words, size}
 use Rattle.dvg_frame.specs.Steps.{op_act, Names, Misses, misses}
-use Rattle.dvg_frame.specs.own.Straight.{RunsStraight, halts, draws}
-use Rattle.dvg_frame.proofs.Cursors.{drop_one_at}
-use Rattle.dvg_frame.proofs.Sizes.{size-take_more, size-take_all}
-use Rattle.dvg_frame.proofs.Straight.{some_op}
+use Rattle.dvg_frame.specs.own.Straight.{RunsStraight, halts, draws, draw_of, draw_count}
+use Rattle.dvg_frame.proofs.Sizes.{read_op}
 
--- what is found as far as a loop has come: the operations run straight exactly where those from the next one on do
-pub draws_on : (F : List OpKind) (i : ℕ) (op : OpKind) (instr : Instr) → slice_get F i ≡ Some op → op ≡ Draw instr → (RunsStraight (drop i F) → RunsStraight F)
-    → RunsStraight (drop (i + 1) F) → RunsStraight F
-draws_on F i op instr is op_is so_far rest =
-    let first : drop i F ≡ Draw instr ∷ drop (i + 1) F = drop_one_at F i (Draw instr) (is ∙ ap Some op_is) in
-    so_far (subst RunsStraight (sym first) (draws rest))
+-- the step of a loop over the first k of the operations
+draws_more : (F : List OpKind) (k : ℕ) (op : OpKind) → slice_get F k ≡ Some op → draw_count (take k F) + draw_of op ≡ draw_count (take (suc k) F)
+draws_more [] k op is = let within = slice_get_within [] k op is in absurd (omega arith)
+draws_more (x ∷ xs) zero op is =
+    let same : x ≡ op = cc in
+    let one : draw_of x ≡ draw_of op = ap draw_of same in
+    omega arith
+draws_more (x ∷ xs) (suc k) op is = let rest = draws_more xs k op is in omega arith
 
-after_draw : (ops : List OpKind) (instr : Instr) (rest : List OpKind) → ops ≡ Draw instr ∷ rest → RunsStraight ops → RunsStraight rest
-after_draw _ instr rest is halts = absurd (cc)
-after_draw _ instr rest is (draws {ops = ops} runs) = let same : ops ≡ rest = cc in subst RunsStraight same runs
+pub draws_item : (F : List OpKind) (k : ℕ) (item kind : OpKind) (count more : ℕ) → count ≡ draw_count (take k F) → k < length F → item ≡ get_or F k item → kind ≡ item → more ≡ draw_of kind
+    → count + more ≡ draw_count (take (k + 1) F)
+draws_item F k item kind count more so_far within is kind_is more_is =
+    let step = draws_more F k item (read_op F k item within is) in
+    let one : more ≡ draw_of item = more_is ∙ ap draw_of kind_is in
+    let next : draw_count (take (k + 1) F) ≡ draw_count (take (suc k) F) = let same : k + 1 ≡ suc k = omega arith in ap (λ n. draw_count (take n F)) same in
+    omega arith
 
-pub draws_back : (F : List OpKind) (i : ℕ) (op : OpKind) (instr : Instr) → slice_get F i ≡ Some op → op ≡ Draw instr → (RunsStraight F → RunsStraight (drop i F))
-    → RunsStraight F → RunsStraight (drop (i + 1) F)
-draws_back F i op instr is op_is back runs = after_draw (drop i F) instr (drop (i + 1) F) (drop_one_at F i (Draw instr) (is ∙ ap Some op_is)) (back runs)
+pub draws_all : (F : List OpKind) (n : ℕ) → n ≡ length F → draw_count (take n F) ≡ draw_count F
+draws_all F n all = ap (λ m. draw_count (take m F)) all ∙ ap draw_count (take-length F)
 
--- what stands before others is a draw
-draws_first : (ops : List OpKind) (op : OpKind) (rest : List OpKind) → ops ≡ op ∷ rest → 0 < length rest → RunsStraight ops → ((instr : Instr) → op ≡ Draw instr → ⊥) → ⊥
-draws_first _ op rest is more halts no_draw = let none : [] ≡ rest = cc in let left : length rest ≡ 0 = ap length (sym none) in absurd (omega arith)
-draws_first _ op rest is more (draws {instr = instr} runs) no_draw = let same : op ≡ Draw instr = cc in no_draw instr same
+-- at most all of them draw
+draw_le : (op : OpKind) → draw_of op ≤ 1
+draw_le (Draw instr) = omega arith
+draw_le _ = omega arith
 
-pub stops_there : (F : List OpKind) (i : ℕ) (op : OpKind) → slice_get F i ≡ Some op → i + 1 < length F → ((instr : Instr) → op ≡ Draw instr → ⊥)
-    → (RunsStraight F → RunsStraight (drop i F)) → ¬ RunsStraight F
-stops_there F i op is more no_draw back runs =
-    let count = length-drop (i + 1) F in
-    draws_first (drop i F) op (drop (i + 1) F) (drop_one_at F i op is) (omega arith) (back runs) no_draw
+pub draws_le : (F : List OpKind) → draw_count F ≤ length F
+draws_le [] = omega arith
+draws_le (op ∷ ops) = let rest = draws_le ops in let one = draw_le op in omega arith
 
--- the last operation is a HALT
+pub draws-take_le : (F : List OpKind) (n : ℕ) → draw_count (take n F) ≤ draw_count F
+draws-take_le [] zero = omega arith
+draws-take_le [] (suc n) = omega arith
+draws-take_le (op ∷ ops) zero = omega arith
+draws-take_le (op ∷ ops) (suc n) = let rest = draws-take_le ops n in omega arith
+
+-- a HALT doesn't
+fewer : (F : List OpKind) (i : ℕ) → slice_get F i ≡ Some Stop → draw_count F < length F
+fewer [] i is = let within = slice_get_within [] i Stop is in absurd (omega arith)
+fewer (x ∷ xs) zero is =
+    let same : x ≡ Stop = cc in
+    let zero_is : draw_of x ≡ 0 = ap draw_of same in
+    let rest = draws_le xs in
+    omega arith
+fewer (x ∷ xs) (suc i) is = let rest = fewer xs i is in let one = draw_le x in omega arith
+
+-- all but a last HALT draw exactly where the operations run straight
+straight_from : (op : OpKind) (ops : List OpKind) (i : ℕ) → slice_get ops i ≡ Some Stop → draw_count (op ∷ ops) + 1 ≡ length (op ∷ ops) → RunsStraight ops → RunsStraight (op ∷ ops)
+straight_from (Draw instr) ops i is count rest = draws rest
+straight_from _ ops i is count rest = let less = fewer ops i is in absurd (omega arith)
+
+rest_count : (op : OpKind) (ops : List OpKind) (i : ℕ) → slice_get ops i ≡ Some Stop → draw_count (op ∷ ops) + 1 ≡ length (op ∷ ops) → draw_count ops + 1 ≡ length ops
+rest_count op ops i is count = let less = fewer ops i is in let one = draw_le op in omega arith
+
+only_halt : (op : OpKind) (ops : List OpKind) → op ≡ Stop → length ops ≡ 0 → RunsStraight (op ∷ ops)
+only_halt op [] is count = subst (λ x. RunsStraight (x ∷ [])) (sym is) halts
+only_halt op (x ∷ xs) is count = absurd (omega arith)
+
+pub straight_by : (F : List OpKind) (i : ℕ) → slice_get F i ≡ Some Stop → length F ≡ i + 1 → draw_count F + 1 ≡ length F → RunsStraight F
+straight_by [] i is all count = absurd (omega arith)
+straight_by (x ∷ xs) zero is all count = only_halt x xs (let same : x ≡ Stop = cc in same) (omega arith)
+straight_by (x ∷ xs) (suc i) is all count = straight_from x xs i is count (straight_by xs i is (omega arith) (rest_count x xs i is count))
+
+pub count_straight : (F : List OpKind) → RunsStraight F → draw_count F + 1 ≡ length F
+count_straight _ halts = refl
+count_straight _ (draws {ops = ops} rest) = let all = count_straight ops rest in omega arith
+
 pub last_halts : (F : List OpKind) (i : ℕ) (op : OpKind) → slice_get F i ≡ Some op → length F ≡ i + 1 → RunsStraight F → op ≡ Stop
-last_halts _ zero op is count halts = let same : Some Stop ≡ Some op = is in cc
-last_halts _ (suc i) op is count halts = absurd (omega arith)
-last_halts _ zero op is count (draws {ops = ops} rest) = let some = some_op ops rest in absurd (omega arith)
-last_halts _ (suc i) op is count (draws {ops = ops} rest) = last_halts ops i op is (omega arith) rest
+last_halts _ zero op is all halts = let same : Some Stop ≡ Some op = is in cc
+last_halts _ (suc i) op is all halts = absurd (omega arith)
+last_halts _ zero op is all (draws {ops = ops} rest) = let some = count_straight ops rest in absurd (omega arith)
+last_halts _ (suc i) op is all (draws {ops = ops} rest) = last_halts ops i op is (omega arith) rest
 
-no_items : (xs : List OpKind) → length xs ≡ 0 → xs ≡ []
-no_items [] none = refl
-no_items (x ∷ xs) none = absurd (omega arith)
-
-halts_there : (F : List OpKind) (i : ℕ) (op : OpKind) → slice_get F i ≡ Some op → op ≡ Stop → length F ≡ i + 1 → (RunsStraight (drop i F) → RunsStraight F) → RunsStraight F
-halts_there F i op is op_is count so_far =
-    let left = length-drop (i + 1) F in
-    let none : drop (i + 1) F ≡ [] = no_items (drop (i + 1) F) (omega arith) in
-    let only : drop i F ≡ Stop ∷ [] = drop_one_at F i Stop (is ∙ ap Some op_is) ∙ ap (λ l. Stop ∷ l) none in
-    so_far (subst RunsStraight (sym only) halts)
-
--- what a loop over all but the last has found, where that is a HALT
-pub whole : (F : List OpKind) (i words : ℕ) (op : OpKind) → slice_get F (length F - 1) ≡ Some op → op ≡ Stop → 0 < length F → i ≡ length F - 1
-    → words ≡ size (take i F) + 1 → (RunsStraight (drop i F) → RunsStraight F) → RunsStraight F × (words ≡ size F)
-whole F i words op last op_is some is words_is so_far =
-    let there : slice_get F i ≡ Some op = ap (slice_get F) is ∙ last in
-    let count : length F ≡ i + 1 = omega arith in
-    let all = size-take_more F i op op (size (take i F)) 1 refl there refl (sym (ap op_words op_is)) ∙ size-take_all F (i + 1) (sym count) in
-    (halts_there F i op there op_is count so_far, words_is ∙ all)
-
--- no operation names another one
+-- such operations name none
 names_none : (F : List OpKind) (i j : ℕ) (op : OpKind) → RunsStraight F → slice_get F i ≡ Some op → ¬ Names (op_act op) (InFrame j)
 names_none _ zero j op halts is named = let same : Stop ≡ op = let two : Some Stop ≡ Some op = is in cc in subst (λ x. Names (op_act x) (InFrame j)) (sym same) named
 names_none _ (suc i) j op halts is named = absurd (cc)

@@ -13,7 +13,8 @@ use Rattle.dvg_frame.specs.Loops.{Walks, none, more, HasLoop}
 use Rattle.dvg_frame.specs.Picture.{AtHalt, IsBound}
 use Rattle.dvg_frame.specs.Steps.{op_act, Stands, in_frame, GoesPast, Names, Bad, last, target, second, past, deep, bare, Leads, on, jump, call, back, Reached, begin, step, Closed, Begins}
 use Rattle.dvg_frame.specs.Layout.{size}
-use Rattle.dvg_frame.specs.own.Straight.{RunsStraight, halts, draws, IsStraight}
+use Rattle.dvg_frame.specs.own.Straight.{RunsStraight, halts, draws}
+use Rattle.dvg_frame.specs.own.Frames.{IsFrame}
 use Rattle.dvg_frame.proofs.Bounded.{Drawn, drawn_moves, drawn_halts}
 use Rattle.dvg_frame.proofs.Firsts.{closed_by}
 use Rattle.dvg_frame.proofs.Judged.{same_standing}
@@ -36,7 +37,7 @@ rest_at : {A : Type 0} (xs : List A) (i : ℕ) (x : A) (rest : List A) → drop 
 rest_at xs i x rest is = rw add-one (rest_after xs i x rest is)
 
 -- some operation is there
-pub some_op : (ops : List OpKind) → RunsStraight ops → 0 < length ops
+some_op : (ops : List OpKind) → RunsStraight ops → 0 < length ops
 some_op _ halts = omega arith
 some_op _ (draws rest) = omega arith
 
@@ -130,6 +131,6 @@ module _ (F : List OpKind) (R : List ℕ) where
     straight : Accepts F R × IsBound F R (size F + 1)
     straight = (record { closed = closed; ends = no_loop }, bound)
 
--- a straight frame is accepted, and its run fetches its words and word zero
-pub accepted : (F : List OpKind) (R : List ℕ) (words : ℕ) → IsStraight F → words ≡ size F → Accepts F R × IsBound F R (words + 1)
-accepted F R words is words_is = subst (λ n. Accepts F R × IsBound F R (n + 1)) (sym words_is) (straight F R is.0.begins is.1)
+-- a frame that runs straight is accepted, and its run fetches its words and word zero
+pub accepted : (F : List OpKind) (R : List ℕ) (words : ℕ) → IsFrame F → RunsStraight F → words ≡ size F → Accepts F R × IsBound F R (words + 1)
+accepted F R words frame runs is = subst (λ n. Accepts F R × IsBound F R (n + 1)) (sym is) (straight F R frame.begins runs)

@@ -1,41 +1,42 @@
-//! Drafts that run straight to their end.
-use crate::draft::{MAX_OPS, are_ops};
-use crate::frame::MAX_WORDS;
+//! How many words a draft has, and whether it runs straight to its end.
+use crate::draft::words_of;
 use crate::op::{Op, OpKind};
-use dvg_code::Instr;
 
-/// Returns whether `kind` draws a LABS.
-pub(crate) fn is_labs(kind: OpKind) -> bool {
+/// What one pass over a draft tells: how many words it has, and whether it has vectors and LABS
+/// alone before its only HALT. Nothing need be noted of the places of such a draft: each is
+/// reached once, at depth 0.
+#[derive(Clone, Copy)]
+pub(crate) struct Measure {
+    pub words: u16,
+    pub is_straight: bool,
+}
+
+// Returns 1 where `kind` is a vector or a LABS, otherwise 0.
+fn draws_of(kind: OpKind) -> u16 {
     match kind {
-        OpKind::Draw(code) => matches!(code.instr(), Instr::Labs { .. }),
-        _ => false,
+        OpKind::Draw(_) => 1,
+        _ => 0,
     }
 }
 
-/// Returns how many words `draft` has, where it is a LABS, then vectors and LABS alone, then one
-/// HALT, in 511 words at most: it has no fault then. Otherwise returns `None`, which says nothing
-/// of faults.
-///
-/// Nothing is noted of the places of such a draft: each is reached once, at depth 0.
-pub(crate) fn straight_words(draft: &[Op]) -> Option<u16> {
-    let count = draft.len();
-    if count == 0 || count > MAX_OPS || !is_labs(draft[0].kind()) {
-        return None;
+// Returns whether `kind` is a HALT.
+fn is_halt(kind: OpKind) -> bool {
+    matches!(kind, OpKind::Halt)
+}
+
+/// Returns what `draft` measures, which must have 1 to 511 operations. All are looked at, and none
+/// is told apart from others by a branch: so a processor takes several at once.
+pub(crate) fn measured(draft: &[Op]) -> Measure {
+    let mut words = 0;
+    let mut draws = 0;
+    for op in draft {
+        let kind = op.kind();
+        words += words_of(kind);
+        draws += draws_of(kind);
     }
-    if !matches!(draft[count - 1].kind(), OpKind::Halt) {
-        return None;
-    }
-    are_ops(draft);
-    let mut words = 1;
-    for i in 0..count - 1 {
-        match draft[i].kind() {
-            OpKind::Draw(code) => words += code.word_count(),
-            _ => return None,
-        }
-    }
-    if words <= MAX_WORDS {
-        Some(words)
-    } else {
-        None
+    let before = draft.len() - 1;
+    Measure {
+        words,
+        is_straight: usize::from(draws) == before && is_halt(draft[before].kind()),
     }
 }
