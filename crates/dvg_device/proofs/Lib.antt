@@ -1,6 +1,7 @@
 pub mod Found
 pub mod Judged
 pub mod Told
+pub mod Staged
 pub mod Wanted
 pub mod Parted
 pub mod Worded

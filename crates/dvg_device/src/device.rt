@@ -1,13 +1,17 @@
 //! The device.
-ghost use Rattle.std.specs.Prelude.{◌≡◌, ◌↔◌, [], length, drop, take, slice_get, IfSome, IsTrue};
+ghost use Rattle.std.specs.Prelude.{◌≡◌, ◌↔◌, ◌<◌, ◌+◌, ◌++◌, [], ◌∷◌, length, drop, take};
+ghost use Rattle.std.specs.Prelude.{slice_get, vec_capacity, IfSome, IsSome, IsTrue, MatchOption};
 ghost use Rattle.dvg_gen.specs.Saved.{machine_of};
 ghost use Rattle.dvg_mem.specs.declared.TheConstants.{MEMORY_BYTES};
 ghost use Rattle.dvg_device.specs.Devices.{Answered, Driver, IsNewDriver, IsOneOf, Numbered};
 ghost use Rattle.dvg_device.specs.Devices.{PartAnswers, PushAnswers, StageAnswers, ToldBy, Turned};
 ghost use Rattle.dvg_device.specs.Devices.{closed, picture_in, unopened};
+ghost use Rattle.dvg_device.specs.Operations.{Names};
 ghost use Rattle.dvg_device.specs.Parts.{open_of};
 ghost use Rattle.dvg_device.specs.Replies.{begins, ends, shines};
 ghost use Rattle.dvg_device.specs.Worlds.{IsBegun, Resumes};
+ghost use Rattle.dvg_device.specs.declared.device.TheConstants.{MOST_STAGED};
+ghost use Rattle.dvg_device.specs.declared.operation.Operation.{Operation};
 
 use crate::cabinet::Cabinet;
 use crate::desk::{ask_driver, tick_driver};
@@ -20,7 +24,7 @@ use crate::reply::Reply;
 use crate::request::{Question, Request};
 use crate::waiting::Waiting;
 use crate::wrapping::{ask_wrapping, fetch_wrapping, tell_wrapping, wanted_wrapping};
-use dvg_frame::Draft;
+use dvg_frame::{Draft, Op};
 use dvg_gen::{Generator, GeneratorState, Stroke, WrappingGenerator};
 use dvg_log::Entry;
 use dvg_mem::{Flat, Image, LARGE_ROM_BYTES, MEMORY_BYTES, Rom};
@@ -98,6 +102,7 @@ impl Device {
     {
         // The most frequent requests have branches of their own. Each of these functions takes the
         // number, and reads there what the request brings. So nothing passes through memory here.
+        // What is inlined calls nothing but at its end: so no register is saved here.
         match Request::of(request) {
             Request::Tick { .. } => self.turn_tick(request),
             Request::Fetch(_) => self.turn_fetch(request),
@@ -142,10 +147,22 @@ impl Device {
         self.fetch(byte)
     }
 
+    // Does `request` as `turn` does. It is made for vectors that are pushed: others go to
+    // `turn_push_any`.
+    #[inline(never)]
+    fn turn_push(&mut self, request: u64) -> u64
+        ensures { Turned self.old request self.new result }
+    {
+        match Request::of(request) {
+            Request::Push(operation) if operation.kind == 0 => self.push_vctr(operation).number(),
+            _ => self.turn_push_any(request),
+        }
+    }
+
     // Does `request` as `turn` does. It is made for operations that are pushed: others go to
     // `turn_seldom`.
     #[inline(never)]
-    fn turn_push(&mut self, request: u64) -> u64
+    fn turn_push_any(&mut self, request: u64) -> u64
         ensures { Turned self.old request self.new result }
     {
         let Request::Push(operation) = Request::of(request) else {
@@ -154,10 +171,25 @@ impl Device {
         self.push(operation).number()
     }
 
+    // Does `request` as `turn` does. It is made for a byte that is staged once, where there is room
+    // for it: others go to `turn_stage_any`.
+    #[inline(always)]
+    fn turn_stage(&mut self, request: u64) -> u64
+        ensures { Turned self.old request self.new result }
+    {
+        let Request::Stage { byte, count: 1 } = Request::of(request) else {
+            return self.turn_stage_any(request);
+        };
+        match stage_one(&mut self.staged, byte) {
+            Some(length) => Reply::Staged(length).number(),
+            None => self.turn_stage_any(request),
+        }
+    }
+
     // Does `request` as `turn` does. It is made for bytes that are staged: others go to
     // `turn_seldom`.
     #[inline(never)]
-    fn turn_stage(&mut self, request: u64) -> u64
+    fn turn_stage_any(&mut self, request: u64) -> u64
         ensures { Turned self.old request self.new result }
     {
         let Request::Stage { byte, count } = Request::of(request) else {
@@ -166,40 +198,59 @@ impl Device {
         self.stage(byte, count).number()
     }
 
-    // Does `request` as `turn` does. It is made for the beginnings of strokes: others go to
-    // `turn_seldom`.
-    #[inline(never)]
+    // Does `request` as `turn` does. It is made for the beginnings of a world's strokes: others go
+    // to `turn_stroke`.
+    #[inline(always)]
     fn turn_stroke_from(&mut self, request: u64) -> u64
         ensures { Turned self.old request self.new result }
     {
-        let Request::StrokeFrom(i) = Request::of(request) else {
-            return self.turn_seldom(request);
-        };
-        self.stroke_from(i).number()
+        match (Request::of(request), &self.part) {
+            (Request::StrokeFrom(i), Part::World(cabinet)) => {
+                stroke_from(cabinet.world.picture(), i).number()
+            }
+            _ => self.turn_stroke(request),
+        }
     }
 
-    // Does `request` as `turn` does. It is made for the ends of strokes: others go to
-    // `turn_seldom`.
-    #[inline(never)]
+    // Does `request` as `turn` does. It is made for the ends of a world's strokes: others go to
+    // `turn_stroke`.
+    #[inline(always)]
     fn turn_stroke_to(&mut self, request: u64) -> u64
         ensures { Turned self.old request self.new result }
     {
-        let Request::StrokeTo(i) = Request::of(request) else {
-            return self.turn_seldom(request);
-        };
-        self.stroke_to(i).number()
+        match (Request::of(request), &self.part) {
+            (Request::StrokeTo(i), Part::World(cabinet)) => {
+                stroke_to(cabinet.world.picture(), i).number()
+            }
+            _ => self.turn_stroke(request),
+        }
     }
 
-    // Does `request` as `turn` does. It is made for the intensities of strokes: others go to
-    // `turn_seldom`.
-    #[inline(never)]
+    // Does `request` as `turn` does. It is made for the intensities of a world's strokes: others go
+    // to `turn_stroke`.
+    #[inline(always)]
     fn turn_stroke_intensity(&mut self, request: u64) -> u64
         ensures { Turned self.old request self.new result }
     {
-        let Request::StrokeIntensity(i) = Request::of(request) else {
-            return self.turn_seldom(request);
-        };
-        self.stroke_intensity(i).number()
+        match (Request::of(request), &self.part) {
+            (Request::StrokeIntensity(i), Part::World(cabinet)) => {
+                stroke_intensity(cabinet.world.picture(), i).number()
+            }
+            _ => self.turn_stroke(request),
+        }
+    }
+
+    // Does `request` as `turn` does. It is made for strokes: others go to `turn_seldom`.
+    #[inline(never)]
+    fn turn_stroke(&mut self, request: u64) -> u64
+        ensures { Turned self.old request self.new result }
+    {
+        match Request::of(request) {
+            Request::StrokeFrom(i) => stroke_from(self.picture(), i).number(),
+            Request::StrokeTo(i) => stroke_to(self.picture(), i).number(),
+            Request::StrokeIntensity(i) => stroke_intensity(self.picture(), i).number(),
+            _ => self.turn_seldom(request),
+        }
     }
 
     // Does `request` as `turn` does. It is made for questions: others go to `turn_seldom`.
@@ -248,9 +299,9 @@ impl Device {
             Request::ResumeWorld(fields) => self.resume_world(fields),
             Request::Close => self.close(),
             Request::CountStrokes => Reply::Count(self.picture().len() as u64),
-            Request::StrokeFrom(i) => self.stroke_from(i),
-            Request::StrokeTo(i) => self.stroke_to(i),
-            Request::StrokeIntensity(i) => self.stroke_intensity(i),
+            Request::StrokeFrom(i) => stroke_from(self.picture(), i),
+            Request::StrokeTo(i) => stroke_to(self.picture(), i),
+            Request::StrokeIntensity(i) => stroke_intensity(self.picture(), i),
             _ => self.ask(request),
         }
     }
@@ -262,6 +313,27 @@ impl Device {
         let Some(op) = operation.op() else {
             return Reply::NoOperation;
         };
+        self.push_op(op)
+    }
+
+    // Adds `operation` to the draft, as `push` does.
+    #[inline(always)]
+    fn push_vctr(&mut self, operation: Operation) -> Reply
+        requires { operation.kind ≡ 0 }
+        ensures { PushAnswers operation self.old self.new result }
+    {
+        let Some(op) = operation.vctr_op() else {
+            return Reply::NoOperation;
+        };
+        self.push_op(op)
+    }
+
+    // Adds `op` to the draft. Returns the reply to each operation that names it.
+    #[inline(always)]
+    fn push_op(&mut self, op: Op) -> Reply
+        ensures { (operation : Operation) → Names operation op
+            → PushAnswers operation self.old self.new result }
+    {
         match self.draft.push(op) {
             Ok(i) => Reply::Pushed(i),
             Err(_) => Reply::Full,
@@ -448,70 +520,16 @@ impl Device {
         Reply::Closed
     }
 
-    // Returns the strokes of the newest run of what is open that came to a HALT. It is made for
-    // worlds: others go to `picture_of_any`.
-    #[inline(always)]
+    // Returns the strokes of the newest run of what is open that came to a HALT.
+    #[inline(never)]
     fn picture(&self) -> &[Stroke]
         ensures { result.now ≡ picture_in self.now.open_part }
     {
         match &self.part {
             Part::World(cabinet) => cabinet.world.picture(),
-            _ => self.picture_of_any(),
-        }
-    }
-
-    // Returns what `picture` does.
-    #[inline(never)]
-    fn picture_of_any(&self) -> &[Stroke]
-        ensures { result.now ≡ picture_in self.now.open_part }
-    {
-        match &self.part {
-            Part::World(open) => open.world.picture(),
             Part::Generator(generator) => generator.picture(),
             Part::Wrapping(generator) => generator.generator().picture(),
             Part::Nothing | Part::Driver(_) | Part::Judge(_) => &[],
-        }
-    }
-
-    // Returns stroke `i` of the newest run that came to a HALT, if there is one.
-    fn stroke(&self, i: u64) -> Option<Stroke>
-        ensures { result ≡ slice_get (picture_in self.now.open_part) i }
-    {
-        let picture = self.picture();
-        if i < picture.len() as u64 {
-            Some(picture[i as usize])
-        } else {
-            None
-        }
-    }
-
-    // Returns where stroke `i` begins, or 0, 0 where there is none.
-    fn stroke_from(&self, i: u64) -> Reply
-        ensures { result ≡ begins (slice_get (picture_in self.now.open_part) i) }
-    {
-        match self.stroke(i) {
-            Some(stroke) => Reply::Point(stroke.x0, stroke.y0),
-            None => Reply::Point(0, 0),
-        }
-    }
-
-    // Returns where stroke `i` ends, or 0, 0 where there is none.
-    fn stroke_to(&self, i: u64) -> Reply
-        ensures { result ≡ ends (slice_get (picture_in self.now.open_part) i) }
-    {
-        match self.stroke(i) {
-            Some(stroke) => Reply::Point(stroke.x1, stroke.y1),
-            None => Reply::Point(0, 0),
-        }
-    }
-
-    // Returns the intensity of stroke `i`, or 0 where there is none.
-    fn stroke_intensity(&self, i: u64) -> Reply
-        ensures { result ≡ shines (slice_get (picture_in self.now.open_part) i) }
-    {
-        match self.stroke(i) {
-            Some(stroke) => Reply::Intensity(stroke.z),
-            None => Reply::Intensity(0),
         }
     }
 
@@ -606,6 +624,69 @@ impl Device {
             Part::Wrapping(generator) => ask_wrapping(generator, request),
             Part::Judge(judge) => ask_judge(judge, request),
         }
+    }
+}
+
+// Adds `byte` to `staged`, where these are fewer than may be staged and there is room for one more.
+// Returns how many they are then. Else returns `None`, and nothing has changed.
+#[inline(always)]
+fn stage_one(staged: &mut Vec<u8>, byte: u8) -> Option<u16>
+    ensures room { IsSome result ↔ (length staged.old.items < MOST_STAGED)
+        × (length staged.old.items < vec_capacity staged.old) }
+    ensures staged { MatchOption result (staged.new ≡ staged.old)
+        (λ n. (n ≡ length staged.old.items + 1)
+        × (staged.new.items ≡ staged.old.items ++ byte ∷ [])) }
+{
+    let length = staged.len();
+    if MOST_STAGED <= length || staged.capacity() <= length {
+        return None;
+    }
+    staged.push_reserved(byte);
+    Some(length as u16 + 1)
+}
+
+// Returns stroke `i` of `picture`, if there is one.
+#[inline(always)]
+fn stroke(picture: &[Stroke], i: u64) -> Option<Stroke>
+    ensures { result ≡ slice_get picture.now i }
+{
+    if i < picture.len() as u64 {
+        Some(picture[i as usize])
+    } else {
+        None
+    }
+}
+
+// Returns where stroke `i` of `picture` begins, or 0, 0 where there is none.
+#[inline(always)]
+fn stroke_from(picture: &[Stroke], i: u64) -> Reply
+    ensures { result ≡ begins (slice_get picture.now i) }
+{
+    match stroke(picture, i) {
+        Some(stroke) => Reply::Point(stroke.x0, stroke.y0),
+        None => Reply::Point(0, 0),
+    }
+}
+
+// Returns where stroke `i` of `picture` ends, or 0, 0 where there is none.
+#[inline(always)]
+fn stroke_to(picture: &[Stroke], i: u64) -> Reply
+    ensures { result ≡ ends (slice_get picture.now i) }
+{
+    match stroke(picture, i) {
+        Some(stroke) => Reply::Point(stroke.x1, stroke.y1),
+        None => Reply::Point(0, 0),
+    }
+}
+
+// Returns the intensity of stroke `i` of `picture`, or 0 where there is none.
+#[inline(always)]
+fn stroke_intensity(picture: &[Stroke], i: u64) -> Reply
+    ensures { result ≡ shines (slice_get picture.now i) }
+{
+    match stroke(picture, i) {
+        Some(stroke) => Reply::Intensity(stroke.z),
+        None => Reply::Intensity(0),
     }
 }
 

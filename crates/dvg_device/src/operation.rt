@@ -39,7 +39,7 @@ impl Operation {
         ensures { MatchOption result ((op : OpKind) → ¬ Names self op) (Names self) }
     {
         match self.kind {
-            0 => drawing(self.vctr()),
+            0 => self.vctr_op(),
             1 => self.svec(),
             2 => drawing(self.labs()),
             3 => Op::new(OpKind::Call(self.x)),
@@ -109,6 +109,15 @@ impl Operation {
             },
             _ => Operation::numbered(9, 0),
         }
+    }
+
+    // Returns a VCTR of the fields, where they are in range.
+    #[inline(always)]
+    pub(crate) fn vctr_op(self) -> Option<Op>
+        ensures { MatchOption result (¬ IsOp (Draw (vctr_of self)))
+            (λ op. (op ≡ Draw (vctr_of self)) × IsOp op) }
+    {
+        drawing(self.vctr())
     }
 
     // Returns the fields as those of a VCTR.

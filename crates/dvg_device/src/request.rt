@@ -1,8 +1,8 @@
 //! What a device is asked for. Questions are apart, as they made ticks slower. A move is told by
 //! three answers, so that nothing is kept from one to the next.
 ghost use Rattle.std.specs.Prelude.{◌≡◌};
-ghost use Rattle.dvg_device.specs.Requests.{handed, line_in, operation_of, request_of, resuming};
-ghost use Rattle.dvg_device.specs.Requests.{telling};
+ghost use Rattle.dvg_device.specs.Requests.{byte_of, flag_of, handed, line_in, operation_of};
+ghost use Rattle.dvg_device.specs.Requests.{request_of, resuming, telling};
 
 use crate::driver::DriverFields;
 use crate::judging::JudgeLine;
@@ -158,24 +158,22 @@ impl Request {
     pub fn of(number: u64) -> Request
         ensures { result ≡ request_of number }
     {
-        let flag = number / 0x100 % 2 == 1;
-        let byte = (number / 0x1_0000 % 0x100) as u8;
         match number % 0x100 {
             0 => Request::Offer,
             1 => Request::Redraw,
             2 => Request::Tick {
-                halted: flag,
-                byte1: byte,
+                halted: flag_in(number),
+                byte1: byte_in(number),
             },
             3 => Request::Strobe,
-            4 => Request::Fetch(handed(flag, byte)),
+            4 => Request::Fetch(handed(flag_in(number), byte_in(number))),
             5 => Request::ResetGenerator,
             6 => Request::ResetProcessor,
             7 => Request::ResetAll,
             8 => Request::Push(operation(number)),
             9 => Request::ClearDraft,
             10 => Request::Stage {
-                byte,
+                byte: byte_in(number),
                 count: (number / 0x100_0000 % 0x1_0000) as u16,
             },
             11 => Request::Unstage,
@@ -190,8 +188,8 @@ impl Request {
             20 => Request::StrokeIntensity(number / 0x100),
             21 => Request::OpenJudge,
             22 => Request::telling(line_in(number)),
-            23 => Request::Ask(Question::Move(handed(flag, byte))),
-            24 => Request::Ask(Question::MoveTo(handed(flag, byte))),
+            23 => Request::Ask(Question::Move(handed(flag_in(number), byte_in(number)))),
+            24 => Request::Ask(Question::MoveTo(handed(flag_in(number), byte_in(number)))),
             25 => Request::Ask(Question::Beam),
             26 => Request::Ask(Question::Holds),
             27 => Request::Ask(Question::ReturnTo(number / 0x100)),
@@ -207,6 +205,22 @@ impl Request {
             _ => Request::Unknown,
         }
     }
+}
+
+// Returns the flag in `number`.
+#[inline(always)]
+fn flag_in(number: u64) -> bool
+    ensures { result ≡ flag_of number }
+{
+    number / 0x100 % 2 == 1
+}
+
+// Returns the byte in `number`, above a flag.
+#[inline(always)]
+fn byte_in(number: u64) -> u8
+    ensures { result ≡ byte_of number }
+{
+    (number / 0x1_0000 % 0x100) as u8
 }
 
 // Returns `byte`, or `None` where `flag` says that no memory answers.

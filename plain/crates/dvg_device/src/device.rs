@@ -12,7 +12,7 @@ use crate::reply::Reply;
 use crate::request::{Question, Request};
 use crate::waiting::Waiting;
 use crate::wrapping::{ask_wrapping, fetch_wrapping, tell_wrapping, wanted_wrapping};
-use dvg_frame::Draft;
+use dvg_frame::{Draft, Op};
 use dvg_gen::{Generator, GeneratorState, Stroke, WrappingGenerator};
 use dvg_log::Entry;
 use dvg_mem::{Flat, Image, LARGE_ROM_BYTES, MEMORY_BYTES, Rom};
@@ -68,6 +68,7 @@ impl Device {
     pub fn turn(&mut self, request: u64) -> u64 {
         // The most frequent requests have branches of their own. Each of these functions takes the
         // number, and reads there what the request brings. So nothing passes through memory here.
+        // What is inlined calls nothing but at its end: so no register is saved here.
         match Request::of(request) {
             Request::Tick { .. } => self.turn_tick(request),
             Request::Fetch(_) => self.turn_fetch(request),
@@ -106,54 +107,94 @@ impl Device {
         self.fetch(byte)
     }
 
+    // Does `request` as `turn` does. It is made for vectors that are pushed: others go to
+    // `turn_push_any`.
+    #[inline(never)]
+    fn turn_push(&mut self, request: u64) -> u64 {
+        match Request::of(request) {
+            Request::Push(operation) if operation.kind == 0 => self.push_vctr(operation).number(),
+            _ => self.turn_push_any(request),
+        }
+    }
+
     // Does `request` as `turn` does. It is made for operations that are pushed: others go to
     // `turn_seldom`.
     #[inline(never)]
-    fn turn_push(&mut self, request: u64) -> u64 {
+    fn turn_push_any(&mut self, request: u64) -> u64 {
         let Request::Push(operation) = Request::of(request) else {
             return self.turn_seldom(request);
         };
         self.push(operation).number()
     }
 
+    // Does `request` as `turn` does. It is made for a byte that is staged once, where there is room
+    // for it: others go to `turn_stage_any`.
+    #[inline(always)]
+    fn turn_stage(&mut self, request: u64) -> u64 {
+        let Request::Stage { byte, count: 1 } = Request::of(request) else {
+            return self.turn_stage_any(request);
+        };
+        match stage_one(&mut self.staged, byte) {
+            Some(length) => Reply::Staged(length).number(),
+            None => self.turn_stage_any(request),
+        }
+    }
+
     // Does `request` as `turn` does. It is made for bytes that are staged: others go to
     // `turn_seldom`.
     #[inline(never)]
-    fn turn_stage(&mut self, request: u64) -> u64 {
+    fn turn_stage_any(&mut self, request: u64) -> u64 {
         let Request::Stage { byte, count } = Request::of(request) else {
             return self.turn_seldom(request);
         };
         self.stage(byte, count).number()
     }
 
-    // Does `request` as `turn` does. It is made for the beginnings of strokes: others go to
-    // `turn_seldom`.
-    #[inline(never)]
+    // Does `request` as `turn` does. It is made for the beginnings of a world's strokes: others go
+    // to `turn_stroke`.
+    #[inline(always)]
     fn turn_stroke_from(&mut self, request: u64) -> u64 {
-        let Request::StrokeFrom(i) = Request::of(request) else {
-            return self.turn_seldom(request);
-        };
-        self.stroke_from(i).number()
+        match (Request::of(request), &self.part) {
+            (Request::StrokeFrom(i), Part::World(cabinet)) => {
+                stroke_from(cabinet.world.picture(), i).number()
+            }
+            _ => self.turn_stroke(request),
+        }
     }
 
-    // Does `request` as `turn` does. It is made for the ends of strokes: others go to
-    // `turn_seldom`.
-    #[inline(never)]
+    // Does `request` as `turn` does. It is made for the ends of a world's strokes: others go to
+    // `turn_stroke`.
+    #[inline(always)]
     fn turn_stroke_to(&mut self, request: u64) -> u64 {
-        let Request::StrokeTo(i) = Request::of(request) else {
-            return self.turn_seldom(request);
-        };
-        self.stroke_to(i).number()
+        match (Request::of(request), &self.part) {
+            (Request::StrokeTo(i), Part::World(cabinet)) => {
+                stroke_to(cabinet.world.picture(), i).number()
+            }
+            _ => self.turn_stroke(request),
+        }
     }
 
-    // Does `request` as `turn` does. It is made for the intensities of strokes: others go to
-    // `turn_seldom`.
-    #[inline(never)]
+    // Does `request` as `turn` does. It is made for the intensities of a world's strokes: others go
+    // to `turn_stroke`.
+    #[inline(always)]
     fn turn_stroke_intensity(&mut self, request: u64) -> u64 {
-        let Request::StrokeIntensity(i) = Request::of(request) else {
-            return self.turn_seldom(request);
-        };
-        self.stroke_intensity(i).number()
+        match (Request::of(request), &self.part) {
+            (Request::StrokeIntensity(i), Part::World(cabinet)) => {
+                stroke_intensity(cabinet.world.picture(), i).number()
+            }
+            _ => self.turn_stroke(request),
+        }
+    }
+
+    // Does `request` as `turn` does. It is made for strokes: others go to `turn_seldom`.
+    #[inline(never)]
+    fn turn_stroke(&mut self, request: u64) -> u64 {
+        match Request::of(request) {
+            Request::StrokeFrom(i) => stroke_from(self.picture(), i).number(),
+            Request::StrokeTo(i) => stroke_to(self.picture(), i).number(),
+            Request::StrokeIntensity(i) => stroke_intensity(self.picture(), i).number(),
+            _ => self.turn_seldom(request),
+        }
     }
 
     // Does `request` as `turn` does. It is made for questions: others go to `turn_seldom`.
@@ -195,9 +236,9 @@ impl Device {
             Request::ResumeWorld(fields) => self.resume_world(fields),
             Request::Close => self.close(),
             Request::CountStrokes => Reply::Count(self.picture().len() as u64),
-            Request::StrokeFrom(i) => self.stroke_from(i),
-            Request::StrokeTo(i) => self.stroke_to(i),
-            Request::StrokeIntensity(i) => self.stroke_intensity(i),
+            Request::StrokeFrom(i) => stroke_from(self.picture(), i),
+            Request::StrokeTo(i) => stroke_to(self.picture(), i),
+            Request::StrokeIntensity(i) => stroke_intensity(self.picture(), i),
             _ => self.ask(request),
         }
     }
@@ -207,6 +248,21 @@ impl Device {
         let Some(op) = operation.op() else {
             return Reply::NoOperation;
         };
+        self.push_op(op)
+    }
+
+    // Adds `operation` to the draft, as `push` does.
+    #[inline(always)]
+    fn push_vctr(&mut self, operation: Operation) -> Reply {
+        let Some(op) = operation.vctr_op() else {
+            return Reply::NoOperation;
+        };
+        self.push_op(op)
+    }
+
+    // Adds `op` to the draft. Returns the reply to each operation that names it.
+    #[inline(always)]
+    fn push_op(&mut self, op: Op) -> Reply {
         match self.draft.push(op) {
             Ok(i) => Reply::Pushed(i),
             Err(_) => Reply::Full,
@@ -358,58 +414,14 @@ impl Device {
         Reply::Closed
     }
 
-    // Returns the strokes of the newest run of what is open that came to a HALT. It is made for
-    // worlds: others go to `picture_of_any`.
-    #[inline(always)]
+    // Returns the strokes of the newest run of what is open that came to a HALT.
+    #[inline(never)]
     fn picture(&self) -> &[Stroke] {
         match &self.part {
             Part::World(cabinet) => cabinet.world.picture(),
-            _ => self.picture_of_any(),
-        }
-    }
-
-    // Returns what `picture` does.
-    #[inline(never)]
-    fn picture_of_any(&self) -> &[Stroke] {
-        match &self.part {
-            Part::World(open) => open.world.picture(),
             Part::Generator(generator) => generator.picture(),
             Part::Wrapping(generator) => generator.generator().picture(),
             Part::Nothing | Part::Driver(_) | Part::Judge(_) => &[],
-        }
-    }
-
-    // Returns stroke `i` of the newest run that came to a HALT, if there is one.
-    fn stroke(&self, i: u64) -> Option<Stroke> {
-        let picture = self.picture();
-        if i < picture.len() as u64 {
-            Some(picture[i as usize])
-        } else {
-            None
-        }
-    }
-
-    // Returns where stroke `i` begins, or 0, 0 where there is none.
-    fn stroke_from(&self, i: u64) -> Reply {
-        match self.stroke(i) {
-            Some(stroke) => Reply::Point(stroke.x0, stroke.y0),
-            None => Reply::Point(0, 0),
-        }
-    }
-
-    // Returns where stroke `i` ends, or 0, 0 where there is none.
-    fn stroke_to(&self, i: u64) -> Reply {
-        match self.stroke(i) {
-            Some(stroke) => Reply::Point(stroke.x1, stroke.y1),
-            None => Reply::Point(0, 0),
-        }
-    }
-
-    // Returns the intensity of stroke `i`, or 0 where there is none.
-    fn stroke_intensity(&self, i: u64) -> Reply {
-        match self.stroke(i) {
-            Some(stroke) => Reply::Intensity(stroke.z),
-            None => Reply::Intensity(0),
         }
     }
 
@@ -488,6 +500,55 @@ impl Device {
             Part::Wrapping(generator) => ask_wrapping(generator, request),
             Part::Judge(judge) => ask_judge(judge, request),
         }
+    }
+}
+
+// Adds `byte` to `staged`, where these are fewer than may be staged and there is room for one more.
+// Returns how many they are then. Else returns `None`, and nothing has changed.
+#[inline(always)]
+fn stage_one(staged: &mut Vec<u8>, byte: u8) -> Option<u16> {
+    let length = staged.len();
+    if MOST_STAGED <= length || staged.capacity() <= length {
+        return None;
+    }
+    staged.push_reserved(byte);
+    Some(length as u16 + 1)
+}
+
+// Returns stroke `i` of `picture`, if there is one.
+#[inline(always)]
+fn stroke(picture: &[Stroke], i: u64) -> Option<Stroke> {
+    if i < picture.len() as u64 {
+        Some(picture[i as usize])
+    } else {
+        None
+    }
+}
+
+// Returns where stroke `i` of `picture` begins, or 0, 0 where there is none.
+#[inline(always)]
+fn stroke_from(picture: &[Stroke], i: u64) -> Reply {
+    match stroke(picture, i) {
+        Some(stroke) => Reply::Point(stroke.x0, stroke.y0),
+        None => Reply::Point(0, 0),
+    }
+}
+
+// Returns where stroke `i` of `picture` ends, or 0, 0 where there is none.
+#[inline(always)]
+fn stroke_to(picture: &[Stroke], i: u64) -> Reply {
+    match stroke(picture, i) {
+        Some(stroke) => Reply::Point(stroke.x1, stroke.y1),
+        None => Reply::Point(0, 0),
+    }
+}
+
+// Returns the intensity of stroke `i` of `picture`, or 0 where there is none.
+#[inline(always)]
+fn stroke_intensity(picture: &[Stroke], i: u64) -> Reply {
+    match stroke(picture, i) {
+        Some(stroke) => Reply::Intensity(stroke.z),
+        None => Reply::Intensity(0),
     }
 }
 

@@ -31,7 +31,7 @@ impl Operation {
     /// out of its range.
     pub fn op(self) -> Option<Op> {
         match self.kind {
-            0 => drawing(self.vctr()),
+            0 => self.vctr_op(),
             1 => self.svec(),
             2 => drawing(self.labs()),
             3 => Op::new(OpKind::Call(self.x)),
@@ -95,6 +95,12 @@ impl Operation {
             },
             _ => Operation::numbered(9, 0),
         }
+    }
+
+    // Returns a VCTR of the fields, where they are in range.
+    #[inline(always)]
+    pub(crate) fn vctr_op(self) -> Option<Op> {
+        drawing(self.vctr())
     }
 
     // Returns the fields as those of a VCTR.

@@ -148,24 +148,22 @@ impl Request {
     /// Returns the request that `number` is.
     #[inline(always)]
     pub fn of(number: u64) -> Request {
-        let flag = number / 0x100 % 2 == 1;
-        let byte = (number / 0x1_0000 % 0x100) as u8;
         match number % 0x100 {
             0 => Request::Offer,
             1 => Request::Redraw,
             2 => Request::Tick {
-                halted: flag,
-                byte1: byte,
+                halted: flag_in(number),
+                byte1: byte_in(number),
             },
             3 => Request::Strobe,
-            4 => Request::Fetch(handed(flag, byte)),
+            4 => Request::Fetch(handed(flag_in(number), byte_in(number))),
             5 => Request::ResetGenerator,
             6 => Request::ResetProcessor,
             7 => Request::ResetAll,
             8 => Request::Push(operation(number)),
             9 => Request::ClearDraft,
             10 => Request::Stage {
-                byte,
+                byte: byte_in(number),
                 count: (number / 0x100_0000 % 0x1_0000) as u16,
             },
             11 => Request::Unstage,
@@ -180,8 +178,8 @@ impl Request {
             20 => Request::StrokeIntensity(number / 0x100),
             21 => Request::OpenJudge,
             22 => Request::telling(line_in(number)),
-            23 => Request::Ask(Question::Move(handed(flag, byte))),
-            24 => Request::Ask(Question::MoveTo(handed(flag, byte))),
+            23 => Request::Ask(Question::Move(handed(flag_in(number), byte_in(number)))),
+            24 => Request::Ask(Question::MoveTo(handed(flag_in(number), byte_in(number)))),
             25 => Request::Ask(Question::Beam),
             26 => Request::Ask(Question::Holds),
             27 => Request::Ask(Question::ReturnTo(number / 0x100)),
@@ -197,6 +195,18 @@ impl Request {
             _ => Request::Unknown,
         }
     }
+}
+
+// Returns the flag in `number`.
+#[inline(always)]
+fn flag_in(number: u64) -> bool {
+    number / 0x100 % 2 == 1
+}
+
+// Returns the byte in `number`, above a flag.
+#[inline(always)]
+fn byte_in(number: u64) -> u8 {
+    (number / 0x1_0000 % 0x100) as u8
 }
 
 // Returns `byte`, or `None` where `flag` says that no memory answers.

@@ -173,6 +173,11 @@ impl<T, A: Allocator> Vec<T, A> {
         &mut self.items
     }
 
+    /// How many elements there is room for.
+    pub fn capacity(&self) -> usize {
+        self.items.capacity()
+    }
+
     /// Room for more elements.
     pub fn reserve(&mut self, room: usize) -> Result<(), AllocError> {
         self.items.try_reserve(room).map_err(|_| AllocError)
