@@ -122,6 +122,10 @@ pub least_some : (P : ℕ → Type 0) (found : Option ℕ) → IsLeastFound P fo
 least_some P None h = tt
 least_some P (Some number) h = h
 
+pub found_some : (P : ℕ → Type 0) (found : Option ℕ) → IsFound P found → IfSome found P
+found_some P None h = tt
+found_some P (Some number) h = h
+
 pub found_none : (P : ℕ → Type 0) (found : Option ℕ) → IsFound P found → IfNone found ((number : ℕ) → ¬ P number)
 found_none P None h = h
 found_none P (Some number) h = tt

@@ -1,5 +1,5 @@
 -- Names with numbers, which are looked up.
-use Rattle.std.specs.Prelude.{ℕ, List, Bool, ◌≤◌, Option, None, Some, cond, nat_eq, unwrap_or}
+use Rattle.std.specs.Prelude.{ℕ, List, Bool, ◌≤◌, Option, None, Some, cond, nat_eq, position, unwrap_or}
 use Rattle.std.specs.Borrow.{Bor}
 use Rattle.std.specs.Cmp.Lexicographic.{pointwise}
 use Rattle.indexmap.specs.IndexMap.{get}
@@ -8,6 +8,10 @@ use Rattle.dvg_rows.specs.declared.name_table.NameTable.{NameTable}
 -- the two names are the same
 abbrev pub is_same : Bor (List ℕ) → Bor (List ℕ) → Bool
 is_same name other = pointwise nat_eq name.now other.now
+
+-- how many of these names stand before the first that is the same as this one, if there is one
+abbrev pub place_in : List (Bor (List ℕ)) → Bor (List ℕ) → Option ℕ
+place_in names name = position (is_same name) names
 
 -- the number of a name, if it has one
 abbrev pub number_in : {A : Type 0} → NameTable A → Bor (List ℕ) → Option ℕ
