@@ -1,9 +1,21 @@
 use Rattle.std.proofs.Common.{◌∙◌, All, ap, subst, sym}
+use Rattle.dvg_read.specs.LineParts.{bytes_of}
 use Rattle.dvg_rows.specs.RowPlaces.{names_of}
+use Rattle.dvg_rows.specs.declared.given_names.GivenNames.{GivenNames}
 use Rattle.dvg_named.specs.LaidValues.{laid_sections, rows_laid}
-use Rattle.dvg_named.specs.RomNames.{IsNamedIn}
+use Rattle.dvg_named.specs.RomNames.{IsNamedIn, names_listed}
+use Rattle.dvg_named.proofs.GivenListed.{given_listed}
 use Rattle.dvg_named.proofs.SketchWhole.{is_read}
 use Rattle.dvg_named.proofs.sketch.sketch_of.Goals as goal
+
+pub new-laid-requires-clause-given : goal.new-laid-requires-clause-given
+new-laid-requires-clause-given g c =
+    ap (λ (names : GivenNames _). bytes_of names.given.keys) c.given_in_rom.ensures
+    ∙ given_listed c.requires.0 c.args.reading.now c.requires.1 c.as_slice-sections.result.now
+    c.in-Ok-rom_names.names.items
+    (ap laid_sections c.as_slice-sections.ensures.value ∙ c.in-Ok.ensures c.requires.1.rom c.requires.1.reads)
+    c.in-Ok-rom_names.ensures.names
+    ∙ ap names_listed (sym c.as_slice.ensures.value)
 
 pub rom-requires : goal.rom-requires
 rom-requires g c = record {
