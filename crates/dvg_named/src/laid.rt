@@ -162,7 +162,8 @@ pub(crate) fn address_of<A: Allocator + Copy>(
     listed_address(sections.given, sections.names, name)
 }
 
-// Returns the address of `name`, if it is one of `given`. `names` are the same with their addresses.
+// Returns the address of `name`, if it is one of `given`. `names` are the same with their
+// addresses.
 fn listed_address<A: Allocator + Copy>(
     given: &GivenNames<'_, A>,
     names: &[RomName],

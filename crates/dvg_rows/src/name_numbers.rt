@@ -65,7 +65,8 @@ fn place_after<A: Allocator + Copy>(
     name: Option<&[u8]>,
 ) -> Option<usize>
     requires { place < 2 ^ 63 }
-    ensures after { IfSome result (GoesOn (bytes_of given.now.given.keys) place (name_of name.entry)) }
+    ensures after { IfSome result
+        (GoesOn (bytes_of given.now.given.keys) place (name_of name.entry)) }
     ensures other { IfNone result
         (IsOther (bytes_of given.now.given.keys) place (name_of name.entry)) }
 {
