@@ -18,6 +18,7 @@ pub mod Tabled
 pub mod Notes
 pub mod Settled
 pub mod Straight
+pub mod Measured
 pub mod Numbered
 pub mod Looked
 pub mod Reaching

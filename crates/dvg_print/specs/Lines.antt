@@ -1,13 +1,10 @@
 -- The lines that the engines write.
 use Rattle.std.specs.Prelude.{ℕ, ℤ, ◌+◌, ◌/◌, ◌%◌, Bool, true, cond, if◌then◌else◌, ◌==◌, length, List, [], ◌∷◌, ◌++◌}
-use Rattle.std.specs.Prelude.{flat_map, map, nat_eq, codes}
+use Rattle.std.specs.Prelude.{flat_map, map, codes}
 use Rattle.std.specs.Fmt.{decimal, signed_decimal, digit_glyph}
-use lib.Pointwise.{pointwise}
 use Rattle.dvg_code.specs.declared.instr.Instr.{Instr}
 use Rattle.dvg_code.specs.declared.instr.Instr.TheVariants.{Vctr, Labs, Halt, Jsrl, Rtsl, Jmpl, Svec}
 use Rattle.dvg_code.specs.Words.{words_of}
-use Rattle.dvg_code.specs.Spelling.{canon}
-use Rattle.dvg_code.specs.Cutting.{Placed}
 use Rattle.dvg_mem.specs.Memory.{first_word}
 
 -- a number of 8 bits as two hexadecimal digits in upper case
@@ -47,14 +44,6 @@ listed_parts instr canonical = instr_parts instr ++ cond canonical [] (codes "*"
 -- the line of an instruction at a place, whose words are canonical, or else marked by a star; 10 is LF
 abbrev pub line_text : ℕ → Instr → Bool → List ℕ
 line_text place instr canonical = hex_3 place ++ spaced (listed_parts instr canonical) ++ 10 ∷ []
-
--- the line of an instruction at its place, with the words that spell it
-abbrev pub line_of : Placed → List ℕ
-line_of item = line_text item.place item.instr (pointwise nat_eq (canon item.instr) item.words)
-
--- the text of a listing
-abbrev pub list_text : List Placed → List ℕ
-list_text = flat_map line_of
 
 -- the ROM line of the words from an address on
 abbrev pub rom_line : ℕ → List ℕ → List ℕ

@@ -6,17 +6,17 @@ ghost use Rattle.dvg_frame.specs.Steps.{Begins, Misses};
 ghost use Rattle.dvg_frame.specs.Faults.{IsChecked, Refuses};
 ghost use Rattle.dvg_frame.specs.own.Firsts.{DrawsLabs, NamesNone};
 ghost use Rattle.dvg_frame.specs.own.Frames.{IsFrame};
-ghost use Rattle.dvg_frame.specs.Layout.{size};
+ghost use Rattle.dvg_frame.specs.own.Straight.{IsMeasure};
 ghost use Rattle.dvg_frame.specs.own.Tables.{BoundOrFault, HasNone, IsRefused};
 
 use crate::checked::Checked;
 use crate::checking::bounds::bound_of;
 use crate::checking::chain::Chain;
-use crate::checking::straight::straight_words;
+use crate::checking::straight::{Measure, measured};
 use crate::checking::sweep::sweep;
 use crate::checking::table::Table;
 use crate::checking::worklist::Worklist;
-use crate::draft::{Draft, MAX_OPS, are_ops, words_of};
+use crate::draft::{Draft, MAX_OPS, are_ops};
 use crate::fault::FrameFault;
 use crate::frame::{Frame, MAX_WORDS};
 use crate::op::{Op, OpKind};
@@ -62,21 +62,9 @@ fn first_miss(draft: &[Op]) -> Option<u16>
     None
 }
 
-// Returns the number of words that the operations of `draft` have, which are at most 511.
-fn words_of_all(draft: &[Op]) -> u16
-    requires { length draft.now ≤ MAX_OPS }
-    ensures { result ≡ size draft.now }
-{
-    let mut words = 0;
-    for op in draft {
-        words += words_of(op.kind());
-    }
-    words
-}
-
-// Returns the number of words of `draft`, or the first of the faults 1 to 4 that it has.
-fn words_or_fault(draft: &[Op]) -> Result<u16, FrameFault>
-    ensures { MatchResult result (λ words. IsFrame draft.now × (words ≡ size draft.now))
+// Returns what `draft` measures, or the first of the faults 1 to 4 that it has.
+fn measure_or_fault(draft: &[Op]) -> Result<Measure, FrameFault>
+    ensures { MatchResult result (λ measure. IsFrame draft.now × IsMeasure draft.now measure)
         (λ fault. (R : List ℕ) → Refuses draft.now R fault) }
 {
     let count = draft.len();
@@ -91,13 +79,17 @@ fn words_or_fault(draft: &[Op]) -> Result<u16, FrameFault>
         return Err(FrameFault::TooLong);
     }
     are_ops(draft);
-    let words = words_of_all(draft);
-    if words > MAX_WORDS {
+    let measure = measured(draft);
+    if measure.words > MAX_WORDS {
         return Err(FrameFault::TooLong);
+    }
+    // Vectors, LABS and HALT name no operation.
+    if measure.is_straight {
+        return Ok(measure);
     }
     match first_miss(draft) {
         Some(i) => Err(FrameFault::Target(i)),
-        None => Ok(words),
+        None => Ok(measure),
     }
 }
 
@@ -151,10 +143,15 @@ impl Checker {
     ) -> Result<Checked<'a>, FrameFault>
         ensures { IsChecked ops.now rom.now result }
     {
-        let words = match words_or_fault(ops) {
-            Ok(words) => words,
+        let measure = match measure_or_fault(ops) {
+            Ok(measure) => measure,
             Err(fault) => return Err(fault),
         };
+        let words = measure.words;
+        // Such a draft has no fault. Its run fetches word zero, too.
+        if measure.is_straight {
+            return Ok(Checked::of(ops, words, u64::from(words) + 1));
+        }
         // A ROM has 2,048 or 4,096 bytes, as its type says.
         let _ = rom.len_words();
         match self.bound_or_fault(ops, rom) {
@@ -174,10 +171,6 @@ impl Checker {
         requires begins { Begins draft.now }
         ensures { BoundOrFault draft.now rom.now result }
     {
-        // Such a draft has no fault. Its run fetches word zero, too.
-        if let Some(words) = straight_words(draft) {
-            return Ok(words + 1);
-        }
         let bound = bound_of(draft, rom, &mut self.table, &mut self.chain);
         self.table.clear();
         match bound {
