@@ -1,5 +1,5 @@
 -- The address of each name that is listed.
-use Rattle.std.proofs.Common.{◌≡◌, ◌<◌, ◌≤◌, ℕ, zero, suc, List, All, length, get_or, slice_get, Option, Some, None, refl, sym, ap, subst, ◌∙◌, arith, option_and_then, option_map}
+use Rattle.std.proofs.Common.{◌≡◌, ◌<◌, ℕ, zero, suc, List, [], ◌∷◌, All, length, get_or, slice_get, Option, Some, None, refl, sym, ap, subst, ◌∙◌, arith, option_and_then, option_map}
 use Rattle.std.proofs.lemmas.List.{get_or-map, length-map}
 use Rattle.std.proofs.lemmas.Option.{get_or_from_slice_get}
 use Rattle.std.specs.Borrow.{Bor}
