@@ -1,5 +1,5 @@
 -- The places of names among those that were given.
-use Rattle.std.proofs.Common.{◌≡◌, ◌≢◌, ◌<◌, ◌≤◌, ℕ, zero, suc, List, [], ◌∷◌, Bool, true, false, Option, Some, None, ap, arith, get_or, length, refl, sym, subst, ◌∙◌, nat_eq, position, slice_get, option_and_then, option_map, IsTrue}
+use Rattle.std.proofs.Common.{◌≡◌, ◌≢◌, ◌<◌, ◌≤◌, ℕ, zero, suc, List, [], ◌∷◌, Bool, false, Option, Some, None, ap, arith, get_or, length, refl, sym, subst, ◌∙◌, nat_eq, slice_get, option_and_then, option_map, IsTrue}
 use Rattle.std.proofs.lemmas.Bool.{false≢true}
 use Rattle.std.proofs.lemmas.Bool.Decides.{Decides-eqb}
 use Rattle.std.proofs.lemmas.List.{get_or-map, length-map}

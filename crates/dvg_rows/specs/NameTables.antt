@@ -28,10 +28,6 @@ abbrev pub IsFound : (ℕ → Type 0) → Option ℕ → Type 0
 IsFound P None = (number : ℕ) → ¬ P number
 IsFound P (Some number) = P number
 
--- a name has one of the numbers of which it is so; none, where it is so of none
-abbrev pub Tells : {A : Type 0} → (List ℕ → ℕ → Type 0) → NameTable A → Type 0
-Tells P table = (name : Bor (List ℕ)) → IsFound (P name.now) (number_in table name)
-
 -- it is so of this number, and of no smaller one
 abbrev pub IsLeast : (ℕ → Type 0) → ℕ → Type 0
 IsLeast P number = P number × ((other : ℕ) → P other → number ≤ other)
