@@ -44,5 +44,6 @@ mod SmallTokens
 mod TidyLines
 mod PlainDrafts
 mod RowsCome
+mod GivenListed
 mod GivenMeaning
 mod MeaningOrFault

@@ -1,6 +1,6 @@
 -- Which sections of the ROM give a name, and where.
 use Rattle.std.proofs.Common.{◌≡◌, ◌<◌, ◌≤◌, ◌+◌, ℕ, List, [], ◌∷◌, ◌++◌, length, get_or, take, drop, map}
-use Rattle.std.proofs.Common.{refl, sym, ap, subst, ◌∙◌, arith, suc, Option, Some, None}
+use Rattle.std.proofs.Common.{refl, sym, ap, subst, ◌∙◌, arith, suc, IfSome, Option, Some, None}
 use Rattle.std.proofs.lemmas.List.{append_assoc, drop_more, get_or_append_left, get_or-map, length-append, map-append}
 use Rattle.std.proofs.lemmas.List.{length-map, take-append-drop}
 use Rattle.std.proofs.lemmas.List.Elements.{filter_map-append}
@@ -176,20 +176,8 @@ low_address sections name address low h =
     let place = h.place in
     omega (arith, end, rows, place)
 
--- ---- what a table of addresses tells
-
--- a name that is found has this address
-pub address_is : (sections others : List held.LaidRows) (name : List ℕ) (found result : Option ℕ) (address : ℕ) → sections ≡ others
-    → result ≡ found → result ≡ Some address → IsFound (IsAddress (laid_sections sections) name) found
-    → IsAddress (laid_sections others) name address
-address_is sections others name found result address same is some h =
-    subst (λ ls. IsAddress (laid_sections ls) name address) same
-    (subst (IsFound (IsAddress (laid_sections sections) name)) (sym is ∙ some) h)
-
--- one that isn't found has none
-pub no_address : (sections others : List held.LaidRows) (name : List ℕ) (found result : Option ℕ) → sections ≡ others
-    → result ≡ found → result ≡ None → IsFound (IsAddress (laid_sections sections) name) found → (address : ℕ)
-    → ¬ IsAddress (laid_sections others) name address
-no_address sections others name found result same is none h address given =
-    subst (IsFound (IsAddress (laid_sections sections) name)) (sym is ∙ none) h address
-    (subst (λ ls. IsAddress (laid_sections ls) name address) (sym same) given)
+-- so is an address that is found
+pub low_found : (sections : List Laid) (name : List ℕ) (found : Option ℕ) → AreLow sections
+    → IsFound (IsAddress sections name) found → IfSome found (λ address. address ≤ 0xC00)
+low_found sections name None low h = tt
+low_found sections name (Some address) low h = low_address sections name address low h

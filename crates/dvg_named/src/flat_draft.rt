@@ -9,7 +9,7 @@ ghost use Rattle.dvg_frame.specs.declared.draft.TheConstants.{MAX_OPS};
 use crate::drafting::draft_of;
 use crate::laid::LaidNames;
 use dvg_frame::Op;
-use dvg_rows::{NamedRows, Row};
+use dvg_rows::{GivenNames, NamedRows, Row};
 use std::alloc::Allocator;
 
 /// Why the operations of a frame aren't added.
@@ -22,12 +22,14 @@ pub(crate) enum DraftFault {
 }
 
 /// Adds the operations of the frame of `rows` to `ops`, in order. The names of the ROM are those of
-/// `rom`. At an error `ops` stays as it was.
-pub(crate) fn push_draft<A: Allocator + Copy>(
+/// `rom`. Where those of the frame are `given`, in order, no table is made of them. At an error
+/// `ops` stays as it was.
+pub(crate) fn push_draft<'a, A: Allocator + Copy>(
     alloc: A,
     ops: &mut Vec<Op, A>,
-    rows: &[Row],
+    rows: &[Row<'a>],
     rom: &LaidNames<'_, '_, '_, A>,
+    given: &GivenNames<'a, A>,
 ) -> Result<(), DraftFault>
     requires few { length (doings (rows_of rows.now)) ≤ MAX_OPS }
     requires low { AreLow (laid_sections rom.now) }
@@ -35,7 +37,7 @@ pub(crate) fn push_draft<A: Allocator + Copy>(
     ensures kept { OnErr result (ops.new.items ≡ ops.old.items) }
     ensures fault { IfErr result (StopsDraft (laid_sections rom.now) rows.now) }
 {
-    let Ok(named) = NamedRows::new(alloc, rows) else {
+    let Ok(named) = NamedRows::new(alloc, rows, given) else {
         return Err(DraftFault::Memory);
     };
     let Some(draft) = draft_of(&named, rom) else {

@@ -14,7 +14,7 @@ use crate::frame_rows::FrameRows;
 use crate::laid::LaidNames;
 use dvg_code::OutOfMemory;
 use dvg_frame::Op;
-use dvg_rows::{Row, Source};
+use dvg_rows::{GivenNames, Row, Source};
 use std::alloc::Allocator;
 
 /// Where the operations of a frame stand in the list of those of all frames.
@@ -41,12 +41,14 @@ pub struct JoinedFrames<'a, A: Allocator> {
     pub spans: Vec<FrameSpan<'a>, A>,
 }
 
-/// Returns the drafts of `frames`, with the names of the ROM from `rom`. Returns `UnknownName`
-/// where one needs a name that isn't given, and `Memory` where an allocation fails.
+/// Returns the drafts of `frames`, with the names of the ROM from `rom`. Of a frame whose names are
+/// `given`, in order, no table is made. Returns `UnknownName` where one needs a name that isn't
+/// given, and `Memory` where an allocation fails.
 pub(crate) fn join_frames<'a, A: Allocator + Copy>(
     alloc: A,
     frames: &[FrameRows<'_, 'a>],
     rom: &LaidNames<'_, '_, '_, A>,
+    given: &GivenNames<'a, A>,
 ) -> Result<JoinedFrames<'a, A>, DraftFault>
     requires few { All HasFewOps frames.now }
     requires lines { All HasRowLines frames.now }
@@ -69,7 +71,7 @@ pub(crate) fn join_frames<'a, A: Allocator + Copy>(
         if push_sources(&mut sources, frame).is_err() {
             return Err(DraftFault::Memory);
         }
-        let span = match push_frame(alloc, &mut ops, frame, rom) {
+        let span = match push_frame(alloc, &mut ops, frame, rom, given) {
             Ok(span) => span,
             Err(fault) => return Err(fault),
         };
@@ -126,12 +128,13 @@ fn push_line<'a, A: Allocator + Copy>(
 }
 
 // Adds the operations of `frame` to `ops`, with the names of the ROM from `rom`. Returns where they
-// stand.
+// stand. Where its names are `given`, in order, no table is made of them.
 fn push_frame<'a, A: Allocator + Copy>(
     alloc: A,
     ops: &mut Vec<Op, A>,
     frame: &FrameRows<'_, 'a>,
     rom: &LaidNames<'_, '_, '_, A>,
+    given: &GivenNames<'a, A>,
 ) -> Result<FrameSpan<'a>, DraftFault>
     requires few { HasFewOps frame.now }
     requires low { AreLow (laid_sections rom.now) }
@@ -142,7 +145,7 @@ fn push_frame<'a, A: Allocator + Copy>(
     ensures fault { IfErr result (StopsDraft (laid_sections rom.now) frame.now.rows.now) }
 {
     let start = ops.len();
-    match push_draft(alloc, ops, frame.rows, rom) {
+    match push_draft(alloc, ops, frame.rows, rom, given) {
         Ok(()) => Ok(FrameSpan {
             name: frame.name,
             begin: frame.begin,

@@ -5,8 +5,7 @@ ghost use Rattle.std.specs.Prelude.{◌≡◌, ◌≤◌, ◌<◌, ◌+◌, ◌^
 ghost use Rattle.std.specs.Prelude.{unwrap_or, IfNone, IfOk, IfSome, Some};
 ghost use Rattle.dvg_mem.specs.declared.TheConstants.{ROM_END};
 ghost use Rattle.dvg_read.specs.RomTexts.{RomLine};
-ghost use Rattle.dvg_rows.specs.NameTables.{Tells};
-ghost use Rattle.dvg_named.specs.RomNames.{IsListed};
+ghost use Rattle.dvg_named.specs.RomNames.{address_listed};
 ghost use Rattle.dvg_named.specs.LaidValues.{AreLaid, AreLow, NoneNames, laid_sections, rows_in};
 ghost use Rattle.dvg_named.specs.LaidValues.{rows_laid, sections_of};
 ghost use Rattle.dvg_rows.specs.RowPlaces.{AreDistinct, names_of};
@@ -15,7 +14,7 @@ ghost use Rattle.dvg_rows.specs.RowPlaces.{size as words_of_rows};
 
 use crate::meaning::RomName;
 use dvg_code::OutOfMemory;
-use dvg_rows::{NameTable, Row, size};
+use dvg_rows::{GivenNames, Row, size};
 use std::alloc::Allocator;
 use std::marker::Model;
 
@@ -38,51 +37,55 @@ pub(crate) struct LaidRows<'r, 'a> {
     pub rows: &'r [Row<'a>],
 }
 
-/// Laid sections, and a table of all names that they give.
+/// Laid sections, and all names that they give.
 #[derive(Drop)]
 pub(crate) struct LaidNames<'s, 'r, 'a, A: Allocator + Copy> {
     sections: &'s [LaidRows<'r, 'a>],
-    addresses: NameTable<'a, A>,
+    // The names, in order, by which one is found; and the same with their addresses.
+    given: &'s GivenNames<'a, A>,
+    names: &'s [RomName<'a>],
 }
 
 impl<'s, 'r, 'a, A: Allocator + Copy> Model for LaidNames<'s, 'r, 'a, A> {
     ghost use Rattle.std.specs.Prelude.{List};
-    ghost use Rattle.dvg_rows.specs.NameTables.{Tells};
     ghost use Rattle.dvg_named.specs.declared.laid.LaidRows.{LaidRows as HeldLaid};
     ghost use Rattle.dvg_named.specs.LaidValues.{laid_sections};
     ghost use Rattle.dvg_named.specs.Places.{IsAddress};
+    ghost use Rattle.dvg_named.specs.RomNames.{TellsListed};
 
     ghost Value = { List HeldLaid };
 
     ghost view = { λ named. named.sections.now };
 
-    ghost invariant = { λ named.
-        Tells (IsAddress (laid_sections named.sections.now)) named.addresses };
+    ghost invariant = { λ named. TellsListed (IsAddress (laid_sections named.sections.now))
+        named.given.now.given.keys named.names.now };
 }
 
 impl<'s, 'r, 'a, A: Allocator + Copy> LaidNames<'s, 'r, 'a, A> {
-    ghost use Rattle.std.specs.Prelude.{◌≡◌, All, IfOk};
+    ghost use Rattle.std.specs.Prelude.{◌≡◌, All};
+    ghost use Rattle.dvg_read.specs.LineParts.{bytes_of};
     ghost use Rattle.dvg_named.specs.LaidValues.{laid_sections, rows_laid};
     ghost use Rattle.dvg_named.specs.RomNames.{IsNamedIn, names_listed};
     ghost use Rattle.dvg_rows.specs.RowPlaces.{names_of};
 
-    /// Collects the names that `sections` give, which are `names`. Returns `OutOfMemory` where an
-    /// allocation fails. The time grows with the number of names.
+    /// Returns `sections` with the names that they give, which are `names`. These are `given`, in
+    /// order. No memory is taken.
     pub fn new(
-        alloc: A,
         sections: &'s [LaidRows<'r, 'a>],
-        names: &[RomName<'a>],
-    ) -> Result<LaidNames<'s, 'r, 'a, A>, OutOfMemory>
+        given: &'s GivenNames<'a, A>,
+        names: &'s [RomName<'a>],
+    ) -> LaidNames<'s, 'r, 'a, A>
         requires listed { names_listed names.now
             ≡ names_of (rows_laid (laid_sections sections.now)) }
         requires addresses { All (IsNamedIn (laid_sections sections.now)) names.now }
-        ensures { IfOk result (λ named. named ≡ sections.now) }
+        requires given { bytes_of given.now.given.keys ≡ names_listed names.now }
+        ensures { result ≡ sections.now }
     {
-        let addresses = table_of(alloc, names)?;
-        Ok(LaidNames {
+        LaidNames {
             sections,
-            addresses,
-        })
+            given,
+            names,
+        }
     }
 
     /// Returns the sections, in order.
@@ -91,21 +94,6 @@ impl<'s, 'r, 'a, A: Allocator + Copy> LaidNames<'s, 'r, 'a, A> {
     {
         self.sections
     }
-}
-
-// Returns a table with the address of each of `names`. Returns `OutOfMemory` where an allocation
-// fails.
-fn table_of<'a, A: Allocator + Copy>(
-    alloc: A,
-    names: &[RomName<'a>],
-) -> Result<NameTable<'a, A>, OutOfMemory>
-    ensures { IfOk result (Tells (IsListed names.now)) }
-{
-    let mut addresses = NameTable::new(alloc);
-    for named in names {
-        addresses.put(Some(named.name), usize::from(named.address))?;
-    }
-    Ok(addresses)
 }
 
 /// Returns `sections` as they are laid, in order. Each is laid from its address on, or else from
@@ -171,8 +159,19 @@ pub(crate) fn address_of<A: Allocator + Copy>(
     ensures only { AreDistinct (names_of (rows_laid (laid_sections sections.now))) → (address : ℕ)
         → IsAddress (laid_sections sections.now) name.now address → result ≡ Some address }
 {
-    match sections.addresses.get(name) {
-        Some(address) => Some(address as u16),
-        None => None,
-    }
+    listed_address(sections.given, sections.names, name)
+}
+
+// Returns the address of `name`, if it is one of `given`. `names` are the same with their
+// addresses.
+fn listed_address<A: Allocator + Copy>(
+    given: &GivenNames<'_, A>,
+    names: &[RomName],
+    name: &[u8],
+) -> Option<u16>
+    ensures { result ≡ address_listed given.now.given.keys names.now name.entry }
+{
+    let place = given.place_of(name)?;
+    let named = names.get(place)?;
+    Some(named.address)
 }

@@ -300,6 +300,13 @@ impl<'a, A: Allocator + Copy> Reading<'a, A> {
         )
     }
 
+    /// Returns the names that the sections of the ROM gave, in order.
+    pub fn given_in_rom(&self) -> &GivenNames<'a, A>
+        ensures { result.now ≡ self.now.rom_names }
+    {
+        &self.rom_names
+    }
+
     /// Returns the bytes of the ROM, with the words of its sections as they are `laid`, after all
     /// lines of a text. Returns `None` where a row of the ROM needs a name that isn't given. No
     /// memory is taken.
@@ -333,7 +340,13 @@ impl<'a, A: Allocator + Copy> Reading<'a, A> {
         ensures known { IfOk result (λ found. IfNone found
             (All (WantsNone (laid_sections laid.now)) (sections_in self.now))) }
     {
-        first_unknown(self.alloc, self.closed.as_slice(), &self.last, laid)
+        first_unknown(
+            self.alloc,
+            self.closed.as_slice(),
+            &self.last,
+            laid,
+            &self.names,
+        )
     }
 
     /// Returns the frames, in order, after the lines that were read. Returns `OutOfMemory` where an
@@ -379,7 +392,7 @@ impl<'a, A: Allocator + Copy> Reading<'a, A> {
         let Ok(found) = self.frames() else {
             return Err(DraftFault::Memory);
         };
-        join_frames(self.alloc, found.as_slice(), laid)
+        join_frames(self.alloc, found.as_slice(), laid, &self.names)
     }
 }
 

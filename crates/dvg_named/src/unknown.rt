@@ -13,18 +13,19 @@ ghost use Rattle.dvg_named.specs.Ungiven.{IsFirstUngiven, WantsAt};
 
 use crate::laid::{LaidNames, address_of};
 use dvg_code::OutOfMemory;
-use dvg_rows::{Doing, Head, NamedRows, Part, Row, number_of};
+use dvg_rows::{Doing, GivenNames, Head, NamedRows, Part, Row, number_of};
 use std::alloc::Allocator;
 
 /// Returns the number of the line of the first row that needs a name which isn't given, in the
 /// order of the text: of the sections `closed`, and of the section `last` after them. `laid` has
-/// the names of the ROM. Returns `OutOfMemory` where an allocation fails. The time grows with the
-/// number of rows.
-pub(crate) fn first_unknown<A: Allocator + Copy>(
+/// the names of the ROM. Of a section whose names are `given`, in order, no table is made. Returns
+/// `OutOfMemory` where an allocation fails. The time grows with the number of rows.
+pub(crate) fn first_unknown<'a, A: Allocator + Copy>(
     alloc: A,
-    closed: &[Part<'_, A>],
-    last: &Part<'_, A>,
+    closed: &[Part<'a, A>],
+    last: &Part<'a, A>,
     laid: &LaidNames<'_, '_, '_, A>,
+    given: &GivenNames<'a, A>,
 ) -> Result<Option<usize>, OutOfMemory>
     requires low { AreLow (laid_sections laid.now) }
     requires closed { All HasLines closed.now }
@@ -36,19 +37,21 @@ pub(crate) fn first_unknown<A: Allocator + Copy>(
         (All (WantsNone (laid_sections laid.now)) (all_sections closed.now last.now))) }
 {
     for part in closed {
-        let found = unknown_in(alloc, part, laid)?;
+        let found = unknown_in(alloc, part, laid, given)?;
         if found.is_some() {
             return Ok(found);
         }
     }
-    unknown_in(alloc, last, laid)
+    unknown_in(alloc, last, laid, given)
 }
 
-// Returns the line number of the first row of `part` that needs a name which nothing gives.
-fn unknown_in<A: Allocator + Copy>(
+// Returns the line number of the first row of `part` that needs a name which nothing gives. Where
+// its names are `given`, in order, no table is made of them.
+fn unknown_in<'a, A: Allocator + Copy>(
     alloc: A,
-    part: &Part<'_, A>,
+    part: &Part<'a, A>,
     laid: &LaidNames<'_, '_, '_, A>,
+    given: &GivenNames<'a, A>,
 ) -> Result<Option<usize>, OutOfMemory>
     requires low { AreLow (laid_sections laid.now) }
     requires lines { HasLines part.now }
@@ -56,7 +59,7 @@ fn unknown_in<A: Allocator + Copy>(
     ensures known { IfOk result (λ found.
         IfNone found (WantsNone (laid_sections laid.now) (section_in part.now))) }
 {
-    let rows = NamedRows::new(alloc, part.rows.as_slice())?;
+    let rows = NamedRows::new(alloc, part.rows.as_slice(), given)?;
     Ok(line_of_unknown(part, &rows, laid))
 }
 

@@ -1,4 +1,6 @@
 pub mod LineCuts
+pub mod ListedNumbers
+pub mod NamePlaces
 pub mod NameSets
 pub mod NameTables
 pub mod NumberedRows

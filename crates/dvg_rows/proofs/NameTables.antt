@@ -6,26 +6,14 @@ use Rattle.std.specs.Prelude.{IfNone, IfSome, unwrap_or}
 use Rattle.std.specs.Borrow.{Bor}
 use Rattle.std.specs.Cmp.Lexicographic.{pointwise_decides}
 use Rattle.dvg_rows.specs.declared.name_table.NameTable.{NameTable}
-use Rattle.dvg_rows.specs.NameTables.{IsFound, IsLeast, IsLeastFound, Tells, TellsLeast, is_same, number_in, number_with}
+use Rattle.dvg_rows.specs.NameTables.{IsFound, IsLeast, IsLeastFound, TellsLeast, is_same, number_in, number_with}
 use Rattle.dvg_rows.specs.RowValues.{name_of}
-
--- a table without names tells of what is so of no name
-pub tells_none : {A : Type 0} (P : List ℕ → ℕ → Type 0) (table : NameTable A)
-    → ((name : Bor (List ℕ)) → number_in table name ≡ None) → ((name : List ℕ) (number : ℕ) → ¬ P name number)
-    → Tells P table
-tells_none P table empty none name = subst (IsFound (P name.now)) (sym (empty name)) (none name.now)
 
 -- a table without names tells of the least of what is so of no name
 pub least_none : {A : Type 0} (P : List ℕ → ℕ → Type 0) (table : NameTable A)
     → ((name : Bor (List ℕ)) → number_in table name ≡ None) → ((name : List ℕ) (number : ℕ) → ¬ P name number)
     → TellsLeast P table
 least_none P table empty none name = subst (IsLeastFound (P name.now)) (sym (empty name)) (none name.now)
-
--- what is so of the same numbers is found in the same way
-pub found_as : (P Q : ℕ → Type 0) (found : Option ℕ) → ((number : ℕ) → P number → Q number)
-    → ((number : ℕ) → Q number → P number) → IsFound P found → IsFound Q found
-found_as P Q None wider narrower h = λ number is. h number (narrower number is)
-found_as P Q (Some number) wider narrower h = wider number h
 
 -- what a table tells of a name more, which has this number where it had none
 module _ {A : Type 0} (given : Option (Bor (List ℕ))) (number : ℕ) (old new : NameTable A)
@@ -59,22 +47,6 @@ module _ {A : Type 0} (given : Option (Bor (List ℕ))) (number : ℕ) (old new 
           let this : name_of given ≡ Some name.now = ap name_of e in
           let bytes : name.now ≡ other.now = cc in
           false≢true (sym same ∙ (pointwise_decides Decides-eqb name.now other.now).1 bytes)) (tells other))
-
--- with a name more a table tells of more
-pub tells_more : {A : Type 0} (P Q : List ℕ → ℕ → Type 0) (given : Option (Bor (List ℕ))) (number : ℕ)
-    (old new : NameTable A) → ((other : Bor (List ℕ)) → number_in new other ≡ number_with old given number other)
-    → ((name : List ℕ) (n : ℕ) → P name n → Q name n)
-    → ((name : List ℕ) (n : ℕ) → ¬ (name_of given ≡ Some name) → Q name n → P name n)
-    → ((name : List ℕ) → name_of given ≡ Some name → Q name number) → Tells P old → Tells Q new
-tells_more P Q given number old new is wider narrower here tells =
-    found_more given number old new is (λ name. IsFound (P name)) (λ name. IsFound (Q name))
-    (λ name found other h. found_as (P name) (Q name) found (wider name) (λ n. narrower name n other) h)
-    first tells given refl
-  where
-    first : (name : List ℕ) (found : Option ℕ) → name_of given ≡ Some name → IsFound (P name) found
-        → IsFound (Q name) (Some (unwrap_or found number))
-    first name None gives h = here name gives
-    first name (Some n) gives h = wider name n h
 
 -- with a name more, whose number is none below those before, a table tells of the least of more
 pub least_more : {A : Type 0} (P Q : List ℕ → ℕ → Type 0) (given : Option (Bor (List ℕ))) (number : ℕ)
@@ -121,6 +93,10 @@ found_least P (Some number) h = h.0
 pub least_some : (P : ℕ → Type 0) (found : Option ℕ) → IsLeastFound P found → IfSome found (IsLeast P)
 least_some P None h = tt
 least_some P (Some number) h = h
+
+pub found_some : (P : ℕ → Type 0) (found : Option ℕ) → IsFound P found → IfSome found P
+found_some P None h = tt
+found_some P (Some number) h = h
 
 pub found_none : (P : ℕ → Type 0) (found : Option ℕ) → IsFound P found → IfNone found ((number : ℕ) → ¬ P number)
 found_none P None h = h

@@ -1,5 +1,6 @@
 pub mod FreshNames
 pub mod HeldRows
+pub mod NameNumbers
 pub mod NameTables
 pub mod PlainLines
 pub mod RomAreas

@@ -1,5 +1,5 @@
 -- Names with numbers, which are looked up.
-use Rattle.std.specs.Prelude.{ℕ, List, Bool, ◌≤◌, Option, None, Some, cond, nat_eq, unwrap_or}
+use Rattle.std.specs.Prelude.{ℕ, List, Bool, ◌≤◌, Option, None, Some, cond, nat_eq, position, unwrap_or}
 use Rattle.std.specs.Borrow.{Bor}
 use Rattle.std.specs.Cmp.Lexicographic.{pointwise}
 use Rattle.indexmap.specs.IndexMap.{get}
@@ -8,6 +8,10 @@ use Rattle.dvg_rows.specs.declared.name_table.NameTable.{NameTable}
 -- the two names are the same
 abbrev pub is_same : Bor (List ℕ) → Bor (List ℕ) → Bool
 is_same name other = pointwise nat_eq name.now other.now
+
+-- how many of these names stand before the first that is the same as this one, if there is one
+abbrev pub place_in : List (Bor (List ℕ)) → Bor (List ℕ) → Option ℕ
+place_in names name = position (is_same name) names
 
 -- the number of a name, if it has one
 abbrev pub number_in : {A : Type 0} → NameTable A → Bor (List ℕ) → Option ℕ
@@ -23,10 +27,6 @@ number_with table (Some name) number other =
 abbrev pub IsFound : (ℕ → Type 0) → Option ℕ → Type 0
 IsFound P None = (number : ℕ) → ¬ P number
 IsFound P (Some number) = P number
-
--- a name has one of the numbers of which it is so; none, where it is so of none
-abbrev pub Tells : {A : Type 0} → (List ℕ → ℕ → Type 0) → NameTable A → Type 0
-Tells P table = (name : Bor (List ℕ)) → IsFound (P name.now) (number_in table name)
 
 -- it is so of this number, and of no smaller one
 abbrev pub IsLeast : (ℕ → Type 0) → ℕ → Type 0

@@ -13,11 +13,14 @@ pub struct GivenNames<'a, A: Allocator + Copy> {
 }
 
 impl<'a, A: Allocator + Copy> GivenNames<'a, A> {
-    ghost use Rattle.std.specs.Prelude.{◌≡◌, ◌++◌, [], IfErr, OnOk};
+    ghost use Rattle.std.specs.Prelude.{◌≡◌, ◌↔◌, ◌++◌, [], IfErr, IsTrue, OnOk, Some, length};
+    ghost use Rattle.std.specs.Prelude.{slice_get};
     ghost use Rattle.std.specs.Option.{option_to_list};
     ghost use Rattle.dvg_read.specs.LineParts.{bytes_of};
     ghost use Rattle.dvg_rows.specs.RowValues.{name_of};
     ghost use Rattle.dvg_rows.specs.FreshNames.{IsFresh, StopsNames};
+    ghost use Rattle.dvg_rows.specs.NameTables.{place_in};
+    ghost use Rattle.dvg_rows.specs.RowPlaces.{AreDistinct};
 
     /// Returns a list of no names, with its memory from `alloc`.
     pub fn new(alloc: A) -> GivenNames<'a, A>
@@ -52,5 +55,32 @@ impl<'a, A: Allocator + Copy> GivenNames<'a, A> {
             Ok(false) => Err(LineFault::NameGivenAgain),
             Err(_) => Err(LineFault::Memory),
         }
+    }
+
+    /// Returns how many names were given.
+    pub fn len(&self) -> usize
+        ensures count { result ≡ length self.now.given.keys }
+        ensures once { AreDistinct (bytes_of self.now.given.keys) }
+    {
+        self.given.len()
+    }
+
+    /// Whether `name` was given, after so many others as `place` says.
+    pub fn has_at(&self, place: usize, name: &[u8]) -> bool
+        ensures { IsTrue result
+            ↔ (slice_get (bytes_of self.now.given.keys) place ≡ Some name.now) }
+    {
+        match self.given.get_index(place) {
+            Some(given) => *given == name,
+            None => false,
+        }
+    }
+
+    /// Returns how many names were given before `name`, if it was given. The time doesn't grow with
+    /// how many there are.
+    pub fn place_of(&self, name: &[u8]) -> Option<usize>
+        ensures { result ≡ place_in self.now.given.keys name.entry }
+    {
+        self.given.get_index_of(name)
     }
 }

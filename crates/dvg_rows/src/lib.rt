@@ -6,6 +6,7 @@
 
 mod given_names;
 mod line_tokens;
+mod name_numbers;
 mod name_table;
 mod number;
 mod part;
@@ -16,7 +17,6 @@ mod source;
 
 pub use given_names::GivenNames;
 pub use line_tokens::{MAX_TOKENS, find_tokens, tokens_of};
-pub use name_table::NameTable;
 pub use number::{NamedRows, number_of};
 pub use part::Part;
 pub use rom_area::RomArea;

@@ -5,42 +5,52 @@ ghost use Rattle.dvg_rows.specs.NameTables.{IsLeast, TellsLeast};
 ghost use Rattle.dvg_rows.specs.RowPlaces.{AreDistinct, IsNumber, doings, names_of};
 ghost use Rattle.dvg_rows.specs.RowValues.{row_of};
 
+use crate::given_names::GivenNames;
+use crate::name_numbers::{NameNumbers, are_given, list_numbers};
 use crate::name_table::NameTable;
 use crate::row::Row;
 use dvg_code::OutOfMemory;
 use std::alloc::Allocator;
 use std::marker::Model;
 
-/// The rows of a section, and a table of all names that they give.
+/// The rows of a section, and the numbers of all names that they give.
 #[derive(Drop)]
 pub struct NamedRows<'r, 'a, A: Allocator + Copy> {
     rows: &'r [Row<'a>],
-    numbers: NameTable<'a, A>,
+    numbers: NameNumbers<'r, 'a, A>,
 }
 
 impl<'r, 'a, A: Allocator + Copy> Model for NamedRows<'r, 'a, A> {
     ghost use Rattle.std.specs.Prelude.{List};
     ghost use Rattle.dvg_rows.specs.declared.row.Row.{Row as HeldRow};
     ghost use Rattle.dvg_rows.specs.HeldRows.{rows_of};
-    ghost use Rattle.dvg_rows.specs.NameTables.{TellsLeast};
+    ghost use Rattle.dvg_rows.specs.NameNumbers.{CountsLeast};
     ghost use Rattle.dvg_rows.specs.RowPlaces.{IsNumber};
 
     ghost Value = { List HeldRow };
 
     ghost view = { λ named. named.rows.now };
 
-    ghost invariant = { λ named. TellsLeast (IsNumber (rows_of named.rows.now)) named.numbers };
+    ghost invariant = { λ named. CountsLeast (IsNumber (rows_of named.rows.now)) named.numbers };
 }
 
 impl<'r, 'a, A: Allocator + Copy> NamedRows<'r, 'a, A> {
     ghost use Rattle.std.specs.Prelude.{◌≡◌, IfOk};
 
-    /// Collects the names that `rows` give. Returns `OutOfMemory` where an allocation fails. The
-    /// time grows with the number of rows.
-    pub fn new(alloc: A, rows: &'r [Row<'a>]) -> Result<NamedRows<'r, 'a, A>, OutOfMemory>
+    /// Collects the names that `rows` give. Where those are `given`, in order, no table is made.
+    /// Returns `OutOfMemory` where an allocation fails. The time grows with the number of rows.
+    pub fn new(
+        alloc: A,
+        rows: &'r [Row<'a>],
+        given: &'r GivenNames<'a, A>,
+    ) -> Result<NamedRows<'r, 'a, A>, OutOfMemory>
         ensures { IfOk result (λ named. named ≡ rows.now) }
     {
-        let numbers = numbers_of(alloc, rows)?;
+        if are_given(rows, given) {
+            let numbers = NameNumbers::Listed(given, list_numbers(alloc, rows)?);
+            return Ok(NamedRows { rows, numbers });
+        }
+        let numbers = NameNumbers::Told(numbers_of(alloc, rows)?);
         Ok(NamedRows { rows, numbers })
     }
 
@@ -84,8 +94,8 @@ fn numbers_of<'a, A: Allocator + Copy>(
     Ok(numbers)
 }
 
-// Returns how many operations `row` has: 0 or 1.
-fn op_count(row: &Row) -> usize
+/// Returns how many operations `row` has: 0 or 1.
+pub(crate) fn op_count(row: &Row) -> usize
     ensures value { result ≡ length (doings (row_of row.now ∷ [])) }
     ensures most { result ≤ 1 }
 {

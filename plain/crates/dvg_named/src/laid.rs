@@ -5,7 +5,7 @@ use std::prelude::*;
 
 use crate::meaning::RomName;
 use dvg_code::OutOfMemory;
-use dvg_rows::{NameTable, Row, size};
+use dvg_rows::{GivenNames, Row, size};
 use std::alloc::Allocator;
 
 /// The rows of a section of the ROM, and the word address that its line `.rom` gives, if it gives
@@ -27,44 +27,33 @@ pub(crate) struct LaidRows<'r, 'a> {
     pub rows: &'r [Row<'a>],
 }
 
-/// Laid sections, and a table of all names that they give.
+/// Laid sections, and all names that they give.
 pub(crate) struct LaidNames<'s, 'r, 'a, A: Allocator + Copy> {
     sections: &'s [LaidRows<'r, 'a>],
-    addresses: NameTable<'a, A>,
+    // The names, in order, by which one is found; and the same with their addresses.
+    given: &'s GivenNames<'a, A>,
+    names: &'s [RomName<'a>],
 }
 
 impl<'s, 'r, 'a, A: Allocator + Copy> LaidNames<'s, 'r, 'a, A> {
-    /// Collects the names that `sections` give, which are `names`. Returns `OutOfMemory` where an
-    /// allocation fails. The time grows with the number of names.
+    /// Returns `sections` with the names that they give, which are `names`. These are `given`, in
+    /// order. No memory is taken.
     pub fn new(
-        alloc: A,
         sections: &'s [LaidRows<'r, 'a>],
-        names: &[RomName<'a>],
-    ) -> Result<LaidNames<'s, 'r, 'a, A>, OutOfMemory> {
-        let addresses = table_of(alloc, names)?;
-        Ok(LaidNames {
+        given: &'s GivenNames<'a, A>,
+        names: &'s [RomName<'a>],
+    ) -> LaidNames<'s, 'r, 'a, A> {
+        LaidNames {
             sections,
-            addresses,
-        })
+            given,
+            names,
+        }
     }
 
     /// Returns the sections, in order.
     pub fn sections(&self) -> &'s [LaidRows<'r, 'a>] {
         self.sections
     }
-}
-
-// Returns a table with the address of each of `names`. Returns `OutOfMemory` where an allocation
-// fails.
-fn table_of<'a, A: Allocator + Copy>(
-    alloc: A,
-    names: &[RomName<'a>],
-) -> Result<NameTable<'a, A>, OutOfMemory> {
-    let mut addresses = NameTable::new(alloc);
-    for named in names {
-        addresses.put(Some(named.name), usize::from(named.address))?;
-    }
-    Ok(addresses)
 }
 
 /// Returns `sections` as they are laid, in order. Each is laid from its address on, or else from
@@ -113,8 +102,17 @@ pub(crate) fn address_of<A: Allocator + Copy>(
     sections: &LaidNames<'_, '_, '_, A>,
     name: &[u8],
 ) -> Option<u16> {
-    match sections.addresses.get(name) {
-        Some(address) => Some(address as u16),
-        None => None,
-    }
+    listed_address(sections.given, sections.names, name)
+}
+
+// Returns the address of `name`, if it is one of `given`. `names` are the same with their
+// addresses.
+fn listed_address<A: Allocator + Copy>(
+    given: &GivenNames<'_, A>,
+    names: &[RomName],
+    name: &[u8],
+) -> Option<u16> {
+    let place = given.place_of(name)?;
+    let named = names.get(place)?;
+    Some(named.address)
 }

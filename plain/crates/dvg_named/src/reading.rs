@@ -167,6 +167,11 @@ impl<'a, A: Allocator + Copy> Reading<'a, A> {
         )
     }
 
+    /// Returns the names that the sections of the ROM gave, in order.
+    pub fn given_in_rom(&self) -> &GivenNames<'a, A> {
+        &self.rom_names
+    }
+
     /// Returns the bytes of the ROM, with the words of its sections as they are `laid`, after all
     /// lines of a text. Returns `None` where a row of the ROM needs a name that isn't given. No
     /// memory is taken.
@@ -185,7 +190,13 @@ impl<'a, A: Allocator + Copy> Reading<'a, A> {
         &self,
         laid: &LaidNames<'_, '_, '_, A>,
     ) -> Result<Option<usize>, OutOfMemory> {
-        first_unknown(self.alloc, self.closed.as_slice(), &self.last, laid)
+        first_unknown(
+            self.alloc,
+            self.closed.as_slice(),
+            &self.last,
+            laid,
+            &self.names,
+        )
     }
 
     /// Returns the frames, in order, after the lines that were read. Returns `OutOfMemory` where an
@@ -201,7 +212,7 @@ impl<'a, A: Allocator + Copy> Reading<'a, A> {
         let Ok(found) = self.frames() else {
             return Err(DraftFault::Memory);
         };
-        join_frames(self.alloc, found.as_slice(), laid)
+        join_frames(self.alloc, found.as_slice(), laid, &self.names)
     }
 }
 

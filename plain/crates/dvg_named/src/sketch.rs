@@ -77,9 +77,7 @@ fn sketch_of<'a, A: Allocator + Copy>(
     let Ok(names) = rom_names(alloc, sections) else {
         return Err(Unread::Memory);
     };
-    let Ok(laid) = LaidNames::new(alloc, sections, names.as_slice()) else {
-        return Err(Unread::Memory);
-    };
+    let laid = LaidNames::new(sections, reading.given_in_rom(), names.as_slice());
     let Some(rom) = reading.rom(&laid) else {
         return Err(unknown(reading, &laid));
     };

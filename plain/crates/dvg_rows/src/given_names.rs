@@ -35,4 +35,23 @@ impl<'a, A: Allocator + Copy> GivenNames<'a, A> {
             Err(_) => Err(LineFault::Memory),
         }
     }
+
+    /// Returns how many names were given.
+    pub fn len(&self) -> usize {
+        self.given.len()
+    }
+
+    /// Whether `name` was given, after so many others as `place` says.
+    pub fn has_at(&self, place: usize, name: &[u8]) -> bool {
+        match self.given.get_index(place) {
+            Some(given) => *given == name,
+            None => false,
+        }
+    }
+
+    /// Returns how many names were given before `name`, if it was given. The time doesn't grow with
+    /// how many there are.
+    pub fn place_of(&self, name: &[u8]) -> Option<usize> {
+        self.given.get_index_of(name)
+    }
 }

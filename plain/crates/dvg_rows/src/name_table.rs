@@ -5,7 +5,7 @@ use std::alloc::Allocator;
 use std::hash::{BuildHasherDefault, FoldHasher};
 
 /// Names, each with a number. The time to find one doesn't grow with how many there are.
-pub struct NameTable<'a, A: Allocator + Copy> {
+pub(crate) struct NameTable<'a, A: Allocator + Copy> {
     numbers: IndexMap<&'a [u8], usize, BuildHasherDefault<FoldHasher>, A>,
 }
 

@@ -1,20 +1,30 @@
 //! Which operation of a frame a name names.
+use crate::given_names::GivenNames;
+use crate::name_numbers::{NameNumbers, are_given, list_numbers};
 use crate::name_table::NameTable;
 use crate::row::Row;
 use dvg_code::OutOfMemory;
 use std::alloc::Allocator;
 
-/// The rows of a section, and a table of all names that they give.
+/// The rows of a section, and the numbers of all names that they give.
 pub struct NamedRows<'r, 'a, A: Allocator + Copy> {
     rows: &'r [Row<'a>],
-    numbers: NameTable<'a, A>,
+    numbers: NameNumbers<'r, 'a, A>,
 }
 
 impl<'r, 'a, A: Allocator + Copy> NamedRows<'r, 'a, A> {
-    /// Collects the names that `rows` give. Returns `OutOfMemory` where an allocation fails. The
-    /// time grows with the number of rows.
-    pub fn new(alloc: A, rows: &'r [Row<'a>]) -> Result<NamedRows<'r, 'a, A>, OutOfMemory> {
-        let numbers = numbers_of(alloc, rows)?;
+    /// Collects the names that `rows` give. Where those are `given`, in order, no table is made.
+    /// Returns `OutOfMemory` where an allocation fails. The time grows with the number of rows.
+    pub fn new(
+        alloc: A,
+        rows: &'r [Row<'a>],
+        given: &'r GivenNames<'a, A>,
+    ) -> Result<NamedRows<'r, 'a, A>, OutOfMemory> {
+        if are_given(rows, given) {
+            let numbers = NameNumbers::Listed(given, list_numbers(alloc, rows)?);
+            return Ok(NamedRows { rows, numbers });
+        }
+        let numbers = NameNumbers::Told(numbers_of(alloc, rows)?);
         Ok(NamedRows { rows, numbers })
     }
 
@@ -49,8 +59,8 @@ fn numbers_of<'a, A: Allocator + Copy>(
     Ok(numbers)
 }
 
-// Returns how many operations `row` has: 0 or 1.
-fn op_count(row: &Row) -> usize {
+/// Returns how many operations `row` has: 0 or 1.
+pub(crate) fn op_count(row: &Row) -> usize {
     match row.doing {
         Some(_) => 1,
         None => 0,

@@ -40,12 +40,16 @@ impl<K, V, S: Default, A: Allocator + Copy> IndexMap<K, V, S, A> {
 impl<K: Copy + Eq + Hash, V, S: BuildHasher, A: Allocator> IndexMap<K, V, S, A> {
     /// The value of a key.
     pub fn get<Q: Equivalent<K>>(&self, key: Q) -> Option<&V> {
+        Some(&self.entries[self.get_index_of(key)?].1)
+    }
+
+    /// How many keys came before this one.
+    pub fn get_index_of<Q: Equivalent<K>>(&self, key: Q) -> Option<usize> {
         if self.entries.is_empty() {
             return None;
         }
         let place = self.place_of(self.hash_builder.hash_one(key), |kept| key.equivalent(kept));
-        let number = (self.places[place] as usize).checked_sub(1)?;
-        Some(&self.entries[number].1)
+        (self.places[place] as usize).checked_sub(1)
     }
 
     /// Gives a key this value, in place of the one that it had, which comes back. A new key goes
@@ -130,5 +134,20 @@ impl<T: Copy + Eq + Hash, S: BuildHasher, A: Allocator> IndexSet<T, S, A> {
             Ok(old) => Ok(old.is_none()),
             Err(AllocFailed((value, ()))) => Err(AllocFailed(value)),
         }
+    }
+
+    /// How many values there are.
+    pub fn len(&self) -> usize {
+        self.map.entries.len()
+    }
+
+    /// The value after so many others.
+    pub fn get_index(&self, index: usize) -> Option<&T> {
+        Some(&self.map.entries.get(index)?.0)
+    }
+
+    /// How many values came before this one.
+    pub fn get_index_of<Q: Equivalent<T>>(&self, value: Q) -> Option<usize> {
+        self.map.get_index_of(value)
     }
 }

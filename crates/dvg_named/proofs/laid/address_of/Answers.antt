@@ -1,33 +1,37 @@
-use Rattle.std.proofs.Common.{Some, ap, arith}
+use Rattle.std.proofs.Common.{List, subst, sym}
+use Rattle.dvg_rows.specs.NameTables.{IsFound}
+use Rattle.dvg_rows.proofs.NameTables.{found_none, found_only, found_some}
+use Rattle.dvg_named.specs.declared.laid.LaidRows as held
 use Rattle.dvg_named.specs.LaidValues.{laid_sections}
-use Rattle.dvg_named.proofs.NamedSections.{address_is, low_address, no_address, one_address}
+use Rattle.dvg_named.specs.Places.{IsAddress}
+use Rattle.dvg_named.proofs.NamedSections.{low_found, one_address}
 use Rattle.dvg_named.proofs.laid.address_of.Goals as goal
 
-pub overflow_cast-result : goal.overflow_cast-result
-overflow_cast-result g c =
-    let is = address_is c.sections.inside.sections.now c.args.sections.now c.args.name.now _ c.get.result c.in-Some.address
-    c.sections.view_is c.get.ensures c.in-Some.is (c.sections.invariant c.args.name) in
-    let low = low_address (laid_sections c.args.sections.now) c.args.name.now c.in-Some.address c.requires is in
-    omega (arith, low)
+pub returns-clause-found : goal.returns-clause-found
+returns-clause-found g c =
+    found_some (IsAddress (laid_sections c.args.sections.now) c.args.name.now) c.listed_address.result
+    (subst (λ (sections : List held.LaidRows). IsFound (IsAddress (laid_sections sections) c.args.name.now) c.listed_address.result) c.sections.view_is
+    (subst (IsFound (IsAddress (laid_sections c.sections.inside.sections.now) c.args.name.now)) (sym c.listed_address.ensures)
+    (c.sections.invariant c.args.name)))
 
-pub returns-in-Some-clause-low : goal.returns-in-Some-clause-low
-returns-in-Some-clause-low g c =
-    low_address (laid_sections c.args.sections.now) c.args.name.now c.in-Some.address c.requires
-    (address_is c.sections.inside.sections.now c.args.sections.now c.args.name.now _ c.get.result c.in-Some.address
-    c.sections.view_is c.get.ensures c.in-Some.is (c.sections.invariant c.args.name))
+pub returns-clause-low : goal.returns-clause-low
+returns-clause-low g c =
+    low_found (laid_sections c.args.sections.now) c.args.name.now c.listed_address.result c.requires
+    (subst (λ (sections : List held.LaidRows). IsFound (IsAddress (laid_sections sections) c.args.name.now) c.listed_address.result) c.sections.view_is
+    (subst (IsFound (IsAddress (laid_sections c.sections.inside.sections.now) c.args.name.now)) (sym c.listed_address.ensures)
+    (c.sections.invariant c.args.name)))
 
-pub returns-in-Some-clause-only : goal.returns-in-Some-clause-only
-returns-in-Some-clause-only g c once address h =
-    ap Some (one_address (laid_sections c.args.sections.now) c.args.name.now c.in-Some.address address once
-    (address_is c.sections.inside.sections.now c.args.sections.now c.args.name.now _ c.get.result c.in-Some.address
-    c.sections.view_is c.get.ensures c.in-Some.is (c.sections.invariant c.args.name)) h)
+pub returns-clause-none : goal.returns-clause-none
+returns-clause-none g c =
+    found_none (IsAddress (laid_sections c.args.sections.now) c.args.name.now) c.listed_address.result
+    (subst (λ (sections : List held.LaidRows). IsFound (IsAddress (laid_sections sections) c.args.name.now) c.listed_address.result) c.sections.view_is
+    (subst (IsFound (IsAddress (laid_sections c.sections.inside.sections.now) c.args.name.now)) (sym c.listed_address.ensures)
+    (c.sections.invariant c.args.name)))
 
-pub returns-in-None-clause-none : goal.returns-in-None-clause-none
-returns-in-None-clause-none g c =
-    no_address c.sections.inside.sections.now c.args.sections.now c.args.name.now _ c.get.result
-    c.sections.view_is c.get.ensures c.in-None.is (c.sections.invariant c.args.name)
-
-pub returns-in-None-clause-only : goal.returns-in-None-clause-only
-returns-in-None-clause-only g c once address h =
-    absurd (no_address c.sections.inside.sections.now c.args.sections.now c.args.name.now _ c.get.result
-    c.sections.view_is c.get.ensures c.in-None.is (c.sections.invariant c.args.name) address h)
+pub returns-clause-only : goal.returns-clause-only
+returns-clause-only g c once address h =
+    found_only (IsAddress (laid_sections c.args.sections.now) c.args.name.now) c.listed_address.result
+    (subst (λ (sections : List held.LaidRows). IsFound (IsAddress (laid_sections sections) c.args.name.now) c.listed_address.result) c.sections.view_is
+    (subst (IsFound (IsAddress (laid_sections c.sections.inside.sections.now) c.args.name.now)) (sym c.listed_address.ensures)
+    (c.sections.invariant c.args.name)))
+    address h (λ also is. one_address (laid_sections c.args.sections.now) c.args.name.now also address once is h)
