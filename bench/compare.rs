@@ -5,8 +5,6 @@
 //! the same and end with the row's status each time, and prints a table. ROWS is `dvg`, `play`,
 //! `picture`, `sketch` or `parts`. It makes the inputs itself and keeps its files in FOLDER.
 //!
-//! `compare names PROVED PLAIN FOLDER` runs them once on each sketch that is slow to read.
-//!
 //! `compare ROWS PROVED PLAIN FOLDER --instructions` counts instructions and page faults instead;
 //! `--functions` also names those of the proved program that take most.
 
@@ -17,7 +15,7 @@ mod rows;
 mod runs;
 
 use rows::Row;
-use rows::{DVG_ROWS, NAME_ROWS, PART_ROWS, PICTURE_ROWS, PLAY_ROWS, SKETCH_ROWS};
+use rows::{DVG_ROWS, PART_ROWS, PICTURE_ROWS, PLAY_ROWS, SKETCH_ROWS};
 use runs::{Answer, Contender, Cost};
 use std::io;
 use std::path::Path;
@@ -170,28 +168,9 @@ fn compare(rows: &[Row], programs: &Programs) -> io::Result<()> {
     Ok(())
 }
 
-/// Runs each program once on each row, and prints how many seconds of processor time that took.
-fn compare_once(rows: &[Row], programs: &Programs) -> io::Result<()> {
-    println!("Seconds of processor time, of one run each.\n");
-    println!("{:<48} {:>9} {:>9}", "row", "proved", "plain");
-    for row in rows {
-        let contenders = programs.contenders(row);
-        let mut costs = vec![Vec::new(); contenders.len()];
-        contenders[0].write_input(&(row.input)())?;
-        run_each(row, Contender::timed_run, &contenders, 0, &mut costs)?;
-        print!("{:<48}", row.name);
-        for cost in &costs {
-            print!(" {:>9.3}", cost[0].processor_ms / 1000.0);
-        }
-        println!();
-    }
-    Ok(())
-}
-
 /// Says how the program is called.
 fn misuse() -> ExitCode {
     eprintln!("usage: compare ROWS PROVED PLAIN FOLDER [--instructions | --functions]");
-    eprintln!("       compare names PROVED PLAIN FOLDER");
     eprintln!("ROWS is dvg, play, picture, sketch or parts");
     ExitCode::from(64)
 }
@@ -208,7 +187,6 @@ fn main() -> ExitCode {
         "picture" => PICTURE_ROWS,
         "sketch" => SKETCH_ROWS,
         "parts" => PART_ROWS,
-        "names" => NAME_ROWS,
         _ => return misuse(),
     };
     let (proved, plain, folder) = (Path::new(proved), Path::new(plain), Path::new(folder));
@@ -219,7 +197,6 @@ fn main() -> ExitCode {
         folder,
     };
     let done = match others {
-        [] if *name == "names" => compare_once(rows, &programs),
         [] => compare(rows, &programs),
         [what @ ("--instructions" | "--functions")] => {
             let programs = [proved, plain];

@@ -178,15 +178,11 @@ pub const SKETCH_ROWS: &[Row] = &[
         sketch_of_frames,
     )
     .each("operation", FRAMES * FRAME_OPERATIONS),
-];
-
-/// Sketches of 1 MiB that were slow to read, while names were looked for one after the other. Each
-/// is read once.
-pub const NAME_ROWS: &[Row] = &[
-    row("lay, 174,760 names in a frame", &["lay"], names_alone),
+    row("lay, 174,760 names in a frame", &["lay"], names_alone).each("name", 174_760),
     row("lay, 105,000 names in the ROM, and calls", &["lay"], || {
         names_called(105_000)
-    }),
+    })
+    .each("name", 105_000),
 ];
 
 /// What is compared of the command `play`.
