@@ -141,6 +141,11 @@ impl<T: Copy + Eq + Hash, S: BuildHasher, A: Allocator> IndexSet<T, S, A> {
         self.map.entries.len()
     }
 
+    /// Returns whether there is no item.
+    pub fn is_empty(&self) -> bool {
+        self.len() == 0
+    }
+
     /// The value after so many others.
     pub fn get_index(&self, index: usize) -> Option<&T> {
         Some(&self.map.entries.get(index)?.0)
