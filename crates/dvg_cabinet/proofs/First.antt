@@ -1,7 +1,8 @@
 -- A call that is refused at its first look has made no access of the hardware.
 use Rattle.std.proofs.Common.{◌≡◌, ℕ, suc, ◌+◌, ◌<◌, ◌≤◌, Bool, true, false, List, [], ◌∷◌, refl, ap, ◌∙◌, subst, arith}
 use Rattle.std.proofs.Common.{eqb-true, le-leb, leb-true}
-use Rattle.std.specs.Prelude.{◌&&◌, ◌||◌, nat_eq, nat_lt, if◌then◌else◌, length, slice_index}
+use Rattle.std.specs.Prelude.{◌&&◌, nat_eq, nat_lt, if◌then◌else◌, length, slice_index}
+use Rattle.std.proofs.lemmas.Bool.{or_left, or_right}
 use Rattle.dvg_6502.specs.Processor.{Cpu, Access, Reads, Register, A, X, Y, Load, ZeroPage, at_return, decoded, does}
 use Rattle.dvg_6502.specs.Processor.{opcodes, operand, step, turn}
 use Rattle.dvg_6502.specs.Amid.{AreHarmless, amid, changed, guards, is_code, is_kept, is_work}
@@ -12,14 +13,6 @@ use Rattle.dvg_6502.specs.Code.{code}
 use Rattle.dvg_6502.specs.Programs.{Tells}
 use Rattle.dvg_6502.specs.Routines.{Put, Pair, Labs, Vector}
 use Rattle.dvg_game.proofs.Facts.{both_true}
-
-right_true : (t u : Bool) → u ≡ true → (t || u) ≡ true
-right_true true u is = refl
-right_true false u is = is
-
-left_true : (t u : Bool) → t ≡ true → (t || u) ≡ true
-left_true true u is = refl
-left_true false u is = absurd (cc)
 
 -- the phase is none of the hardware
 pass : (a byte : ℕ) (log : List Access) → a ≡ 0x10 → log ≡ [] → seen (Reads a byte ∷ log) ≡ []
@@ -126,8 +119,8 @@ refused_quiet R call calls session is =
     harmless = subst (λ n. AreHarmless (guards (is_kept (is_table call calls)) call.from.s) call.from.s call.others n call.from) once session.2
 
     same : (i : ℕ) → i < length code → call.others 0 (0x6800 + i) ≡ slice_index code i
-    same i less = harmless.0 (0x6800 + i) (left_true (is_kept (is_table call calls) (0x6800 + i)) _
-        (right_true (is_own (0x6800 + i)) _ (right_true (is_work (0x6800 + i)) _ (left_true (is_code (0x6800 + i)) _
+    same i less = harmless.0 (0x6800 + i) (or_left (is_kept (is_table call calls) (0x6800 + i)) _
+        (or_right (is_own (0x6800 + i)) _ (or_right (is_work (0x6800 + i)) _ (or_left (is_code (0x6800 + i)) _
         (let ends = code_ends in ap (λ t. t && nat_lt (0x6800 + i) 0x6A87) (le-leb 0x6800 (0x6800 + i) (omega arith))
         ∙ le-leb (suc (0x6800 + i)) 0x6A87 (omega (arith, less, ends)))))))
         ∙ session.0.loaded.code i less

@@ -1,7 +1,8 @@
 -- A call goes on, whatever others do after it: its first steps rest on what they did before them.
-use Rattle.std.proofs.Common.{◌≡◌, ℕ, zero, suc, ◌+◌, ◌<◌, true, refl, sym, ap, ◌∙◌, subst, arith}
+use Rattle.std.proofs.Common.{◌≡◌, ℕ, zero, suc, ◌+◌, ◌<◌, refl, sym, ap, ◌∙◌, subst, arith}
 use Rattle.dvg_6502.specs.Processor.{Cpu, turn}
 use Rattle.dvg_6502.specs.Amid.{Guard, AreHarmless, amid, changed}
+use Rattle.dvg_play.proofs.Going.{and_then}
 
 -- others that do the same before the first steps
 abbrev pub Alike : ℕ → (ℕ → ℕ → ℕ) → (ℕ → ℕ → ℕ) → Type 0
@@ -33,26 +34,7 @@ harmless_first guard s (suc n) rest others cpu harmless =
     subst (λ k. AreHarmless guard s others k cpu) (let e : rest + suc n ≡ suc (rest + n) = omega arith in e) harmless in
     (more.0, harmless_first guard s n rest (λ k. others (suc k)) (turn s (changed (others 0) cpu)) more.1)
 
--- others as before for this many steps, and then this memory
-abbrev pub and_then : ℕ → (ℕ → ℕ → ℕ) → (ℕ → ℕ) → ℕ → ℕ → ℕ
-and_then zero others m k = m
-and_then (suc n) others m zero = others zero
-and_then (suc n) others m (suc k) = and_then n (λ j. others (suc j)) m k
-
 pub then_alike : (n : ℕ) (others : ℕ → ℕ → ℕ) (m : ℕ → ℕ) → Alike n others (and_then n others m)
 then_alike zero others m k less = absurd (omega (arith, less))
 then_alike (suc n) others m zero less = refl
 then_alike (suc n) others m (suc k) less = then_alike n (λ j. others (suc j)) m k (omega (arith, less))
-
-pub then_turns : (s n : ℕ) (others : ℕ → ℕ → ℕ) (m : ℕ → ℕ) (cpu : Cpu)
-    → amid s (and_then n others m) (suc n) cpu ≡ turn s (changed m (amid s others n cpu))
-then_turns s zero others m cpu = refl
-then_turns s (suc n) others m cpu = then_turns s n (λ j. others (suc j)) m (turn s (changed (others 0) cpu))
-
-pub then_harmless : (guard : Guard) (s n : ℕ) (others : ℕ → ℕ → ℕ) (m : ℕ → ℕ) (cpu : Cpu)
-    → AreHarmless guard s others n cpu
-    → ((b : ℕ) → guard (amid s others n cpu).s b ≡ true → m b ≡ (amid s others n cpu).mem b)
-    → AreHarmless guard s (and_then n others m) (suc n) cpu
-then_harmless guard s zero others m cpu harmless same = (same, tt)
-then_harmless guard s (suc n) others m cpu harmless same =
-    (harmless.0, then_harmless guard s n (λ j. others (suc j)) m (turn s (changed (others 0) cpu)) harmless.1 same)

@@ -4,8 +4,8 @@ use Rattle.std.proofs.Common.{ap, ◌∙◌, subst, arith, eqb-true, leb-true, S
 use Rattle.std.specs.Prelude.{◌&&◌, ◌||◌, nat_eq, nat_le, if◌then◌else◌}
 use Rattle.dvg_6502.specs.Processor
 use Rattle.dvg_6502.specs.Processor.{Cpu, Access, Reads, Writes, Instr, Mode, decoded, opcodes, stack_place, step}
-use Rattle.dvg_6502.specs.Amid.{guards, is_code, is_kept, is_work}
-use Rattle.dvg_6502.specs.Board.{is_hardware, is_own, is_ram, seen}
+use Rattle.dvg_6502.specs.Amid.{is_code}
+use Rattle.dvg_6502.specs.Board.{is_hardware, is_ram, seen}
 use Rattle.dvg_6502.specs.Calls.{Call, Routine, is_table}
 use Rattle.dvg_game.proofs.Facts.{both_true}
 use Rattle.dvg_game.proofs.Memory.{between, either}
@@ -14,6 +14,7 @@ use Rattle.dvg_play.specs.Open.{IsIn}
 use Rattle.dvg_play.proofs.CallsStay.{good_call}
 use Rattle.dvg_play.proofs.Claims.{Note}
 use Rattle.dvg_play.proofs.Notes.{lookup, noted, notes}
+use Rattle.dvg_play.proofs.Opened.{code_guarded}
 use Rattle.dvg_play.proofs.Rows.{byte_at}
 
 abbrev is_low : Mode → Bool
@@ -180,22 +181,9 @@ module _ (cpu : Cpu) (flags : ℕ → ℕ) (bytes : AreBytes cpu) where
       → IsIn R routine s calls cpu log future → is_code cpu.pc ≡ true → AreFew (seen (done flags cpu).log)
   few R routine s calls log future is code =
       let good = good_call R is.call calls is.session in
-      let here : cpu.mem cpu.pc ≡ byte_at cpu.pc = is.same cpu.pc guarded
+      let here : cpu.mem cpu.pc ≡ byte_at cpu.pc =
+      is.same cpu.pc (code_guarded (is_table is.call calls) s cpu.s cpu.pc code)
       ∙ ap (λ (k : Cpu). k.mem cpu.pc) (sym is.after) ∙ good.coded cpu.pc code in
       few_by (decoded opcodes (cpu.mem cpu.pc))
       (ap (λ b. is_single (decoded opcodes b)) here ∙ single_at notes they_are cpu.pc good.note
       (ap (λ (k : Cpu). noted k.pc) (sym is.after) ∙ good.here))
-    where
-      in_code : (o w c t : Bool) → c ≡ true → (o || (w || (c || t))) ≡ true
-      in_code true w c t is = refl
-      in_code false true c t is = refl
-      in_code false false true t is = refl
-      in_code false false false t is = absurd (cc)
-
-      left_true : (t u : Bool) → t ≡ true → (t || u) ≡ true
-      left_true true u is = refl
-      left_true false u is = absurd (cc)
-
-      guarded : guards (is_kept (is_table is.call calls)) s cpu.s cpu.pc ≡ true
-      guarded = left_true (is_kept (is_table is.call calls) cpu.pc) _
-          (in_code (is_own cpu.pc) (is_work cpu.pc) (is_code cpu.pc) _ code)

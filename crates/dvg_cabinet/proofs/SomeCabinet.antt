@@ -1,13 +1,13 @@
 -- A run of a game on its board: the driver boots, and reads byte 001 in a clock.
-use Rattle.std.proofs.Common.{◌≡◌, ℕ, zero, suc, ◌+◌, ◌-◌, ◌/◌, ◌%◌, ◌<◌, ◌==◌, Bool, true, false, not, List, [], ◌∷◌, refl}
-use Rattle.std.proofs.Common.{sym, ap, arith, inl, leb-true, le-leb, lit<}
+use Rattle.std.proofs.Common.{◌≡◌, ℕ, zero, suc, ◌+◌, ◌-◌, ◌/◌, ◌%◌, ◌<◌, ◌==◌, Bool, not, [], refl}
+use Rattle.std.proofs.Common.{sym, ap, arith, inl, le-leb, lit<}
 use Rattle.std.specs.Prelude.{◌&&◌, nat_eq, nat_lt, if◌then◌else◌, replicate, slice_index}
 use Rattle.std.proofs.lemmas.List.{length-replicate}
 use Rattle.std.proofs.lemmas.List.Elements.{All-replicate}
 use Rattle.dvg_mem.specs.Memory.{IsImage, IsRom}
 use Rattle.dvg_6502.specs.Calls.{Reset}
 use Rattle.dvg_6502.specs.Code.{code}
-use Rattle.dvg_6502.specs.Processor.{Cpu, Reads}
+use Rattle.dvg_6502.specs.Processor.{Reads}
 use Rattle.dvg_core.specs.Cells.{bit}
 use Rattle.dvg_board.specs.Board.{Bus}
 use Rattle.dvg_board.specs.Clocks.{IsBus, IsServed, after}
@@ -15,8 +15,8 @@ use Rattle.dvg_board.specs.Example.{zeros}
 use Rattle.dvg_system.specs.Machine.{SharesRam}
 use Rattle.dvg_game.specs.Checker.{first}
 use Rattle.dvg_game.specs.Written.{of_list, rom_of}
-use Rattle.dvg_game.proofs.Facts.{both_true}
 use Rattle.dvg_play.specs.SomeGame.{bytes, vectors, rom, start}
+use Rattle.dvg_play.proofs.SomeGame.{begun, it_begins}
 use Rattle.dvg_cabinet.specs.Cabinet.{IsCabinet, powers, begins, does, no_more, one_more}
 use Rattle.dvg_cabinet.specs.Example.{SomeCabinet, nothing}
 
@@ -31,37 +31,6 @@ zero_at zero a = refl
 zero_at (suc n) zero = refl
 zero_at (suc n) (suc a) = zero_at n a
 
--- each byte of the ROM is one
-abbrev all_small : List ℕ → Bool
-all_small [] = true
-all_small (x ∷ xs) = nat_lt x 256 && all_small xs
-
-item_small : (other : ℕ) (xs : List ℕ) (n : ℕ) → other < 256 → all_small xs ≡ true → of_list other xs n < 256
-unfolding of_list
-item_small other [] n small all = small
-item_small other (x ∷ xs) zero small all = leb-true (suc x) 256 (both_true (nat_lt x 256) (all_small xs) all).0
-item_small other (x ∷ xs) (suc n) small all =
-    item_small other xs n small (both_true (nat_lt x 256) (all_small xs) all).1
-
-row_small : (n : ℕ) → all_small (of_list [] bytes n) ≡ true
-unfolding of_list bytes
-row_small zero = refl
-row_small (suc n) = refl
-
-rom_small : (b : ℕ) → rom nothing b < 256
-unfolding rom rom_of vectors
-rom_small b = by (nat_lt b 0x6800) (nat_lt b first) (nat_lt b 0x7FFA) (nat_lt b 0x8000)
-  where
-    by : (t u v w : Bool) → (if t then 0 else if u then of_list 0 code (b - 0x6800)
-        else if v then of_list 0xFF (of_list [] bytes ((b - first) / 64)) ((b - first) % 64)
-        else if w then of_list 0 vectors (b - 0x7FFA) else 0) < 256
-    by true u v w = omega arith
-    by false true v w = item_small 0 code (b - 0x6800) (omega arith) refl
-    by false false true w = item_small 0xFF (of_list [] bytes ((b - first) / 64)) ((b - first) % 64) (omega arith)
-        (row_small ((b - first) / 64))
-    by false false false true = item_small 0 vectors (b - 0x7FFA) (omega arith) refl
-    by false false false false = omega arith
-
 -- the RAM is zeros, as the processor has it
 shares : SharesRam Reset (rom nothing) (after nothing [])
 unfolding rom rom_of
@@ -69,25 +38,6 @@ shares a few = ap (λ (t : Bool). if t then 0 else if nat_lt (0x4000 + a) first 
     else if nat_lt (0x4000 + a) 0x7FFA then of_list 0xFF (of_list [] bytes ((0x4000 + a - first) / 64)) ((0x4000 + a - first) % 64)
     else if nat_lt (0x4000 + a) 0x8000 then of_list 0 vectors (0x4000 + a - 0x7FFA) else 0)
     (le-leb (suc (0x4000 + a)) 0x6800 (omega (arith, few)))
-
--- after its TXS
-begun : Cpu
-begun = record {
-  a = 0;
-  x = 0;
-  y = 0;
-  s = 255;
-  pc = start;
-  n = false;
-  z = false;
-  c = false;
-  v = false;
-  d = false;
-  i = false;
-  mem = rom nothing;
-  flags = λ n. 0;
-  log = [];
-}
 
 -- the clock that reads byte 001
 abbrev clock : Bus
@@ -105,19 +55,9 @@ served = record {
 pub some_cabinet : SomeCabinet
 unfolding of_list rom_of bytes vectors rom begun
 some_cabinet =
-    let on0 : IsCabinet zeros zeros nothing (rom nothing) start (Rattle.std.specs.Prelude.Some (begun, 0)) [] =
-    begins begun 0 (powers is_rom is_image (λ a few. zero_at 2048 a)) (record {
-      loaded = λ b low high. refl;
-      entry = refl;
-      stack = refl;
-      bytes = record {
-        a = omega arith;
-        x = omega arith;
-        y = omega arith;
-        s = omega arith;
-        mem = rom_small;
-      };
-    }) shares in
+    let on0 : IsCabinet zeros zeros nothing (rom nothing) start (Rattle.std.specs.Prelude.Some (begun nothing, 0)) [] =
+    begins (begun nothing) 0 (powers is_rom is_image (λ a few. zero_at 2048 a))
+    (it_begins nothing (λ b. omega arith)) shares in
     let on1 = does (λ n. 0) on0 refl (omega arith) no_more in
     let on2 = does (λ n. 0) on1 refl (omega arith) no_more in
     let on3 = does (λ n. 0) on2 refl (omega arith) no_more in

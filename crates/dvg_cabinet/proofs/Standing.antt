@@ -1,7 +1,8 @@
 -- How far the machine has come with a call of the driver: up to its newest access, and to its end where it returns.
 use Rattle.std.proofs.Common.{◌≡◌, ◌⊎◌, inl, inr, ℕ, suc, ◌+◌, Bool, true, false, List, [], ◌∷◌, refl}
 use Rattle.std.proofs.Common.{sym, ap, ◌∙◌, subst, arith, eqb-true}
-use Rattle.std.specs.Prelude.{◌&&◌, ◌||◌, not, nat_eq, if◌then◌else◌, Some}
+use Rattle.std.specs.Prelude.{◌&&◌, ◌||◌, not, nat_eq, if◌then◌else◌}
+use Rattle.std.proofs.lemmas.Bool.{or_left, or_right}
 use Rattle.dvg_log.specs.Log.{Log}
 use Rattle.dvg_6502.specs.Processor.{Cpu, Access, at_return, decoded, does, opcodes, turn}
 use Rattle.dvg_6502.specs.Amid.{AreHarmless, changed, guards, is_code, is_kept, is_work}
@@ -21,17 +22,16 @@ use Rattle.dvg_system.specs.Machine as machine
 use Rattle.dvg_system.specs.Machine.{IsIdle, Makes, SharesRam, accesses_of, begun, calls_after, told, with_reset}
 use Rattle.dvg_game.proofs.Facts.{both_true}
 use Rattle.dvg_game.proofs.Memory.{either}
-use Rattle.dvg_play.specs.Stays.{LabsBegins}
+use Rattle.dvg_play.proofs.Bearers.{Ended}
+use Rattle.dvg_play.proofs.BegunFrames.{labs_begins}
+use Rattle.dvg_play.proofs.Going.{grows}
+use Rattle.dvg_play.proofs.Sessions.{further}
 use Rattle.dvg_cabinet.proofs.First.{refused_quiet}
-use Rattle.dvg_cabinet.proofs.Others.{Alike, amid_alike, and_then, harmless_alike, harmless_first, then_alike, then_turns}
+use Rattle.dvg_cabinet.proofs.Others.{Alike, amid_alike, harmless_alike, harmless_first, then_alike}
 
 -- a call as it was after so many steps, with other others
 abbrev pub so_far : Call → ℕ → (ℕ → ℕ → ℕ) → Call
 so_far call n others = record call { steps = n; others = others }
-
--- and one step later, which finds this memory
-abbrev pub further : Call → (ℕ → ℕ) → Call
-further call m = record call { steps = suc call.steps; others = and_then call.steps call.others m }
 
 -- the machine has done so many steps of the call, whatever others do from there on
 abbrev pub Comes : (R image : List ℕ) (held : ℕ → ℕ) → Call → List Call → ℕ → List Bus → Type 0
@@ -55,24 +55,9 @@ pub data Stand (R image : List ℕ) (held : ℕ → ℕ) (call : Call) (calls : 
 
 -- the call where it has returned, or was decided
 pub record Last (R image : List ℕ) (held : ℕ → ℕ) (call : Call) (calls : List Call) (clocks : List Bus) : Type 0 where
-  pub last : Call
-  pub routine_is : last.routine ≡ call.routine
-  pub from_is : last.from ≡ call.from
+  pub end : Ended R calls call
   pub log : Log
-  pub on : IsProgram R image held (last ∷ calls) log clocks
-  pub session : IsSessionBy (Tells R) (last ∷ calls)
-  pub over : is_over last ≡ true
-  pub kept : (b : ℕ) → is_kept (is_table call calls) b ≡ true → (after call).mem b ≡ (after last).mem b
-  pub taken : call.routine ≡ Calls.Puts Labs → (rest : List ℕ) → frame_of calls ≡ Some (0, rest)
-      → is_taken last ≡ true
-
-left_true : (t u : Bool) → t ≡ true → (t || u) ≡ true
-left_true true u is = refl
-left_true false u is = absurd (cc)
-
-right_true : (t u : Bool) → u ≡ true → (t || u) ≡ true
-right_true true u is = refl
-right_true false u is = is
+  pub on : IsProgram R image held (end.last ∷ calls) log clocks
 
 -- a memory that has the code's bytes still has the CLC and the RTS
 leaving_too : (s : ℕ) (cpu : Cpu) (m : ℕ → ℕ) → ((b : ℕ) → is_code b ≡ true → m b ≡ cpu.mem b)
@@ -183,10 +168,10 @@ module _ (R image : List ℕ) (held : ℕ → ℕ) where
       stand_steps same none (level comes fresh) = by (is_over call) refl
         where
           kept_same : (b : ℕ) → is_kept (is_table call calls) b ≡ true → m b ≡ (after call).mem b
-          kept_same b is = same b (left_true (is_kept (is_table call calls) b) _ is)
+          kept_same b is = same b (or_left (is_kept (is_table call calls) b) _ is)
 
           code_same : (b : ℕ) → is_code b ≡ true → m b ≡ (after call).mem b
-          code_same b is = kept_same b (right_true (is_own b) _ (right_true (is_work b) _ (left_true (is_code b) _ is)))
+          code_same b is = kept_same b (or_right (is_own b) _ (or_right (is_work b) _ (or_left (is_code b) _ is)))
 
           refused : is_refused call ≡ true → ⊥
           refused is = no fresh
@@ -209,7 +194,7 @@ module _ (R image : List ℕ) (held : ℕ → ℕ) where
               first = amid_alike call.from.s call.steps call.others new.others call.from (same_first call.steps 0 (whole call.steps))
 
               turned : after new ≡ turn call.from.s (changed m (after call))
-              turned = then_turns call.from.s call.steps call.others m call.from
+              turned = grows call.from.s call.steps call.others m call.from
 
           by : (t : Bool) → is_over call ≡ t → Stand R image held new calls clocks
           by false over = stays_behind call.steps 0 (whole call.steps) comes over none
@@ -272,18 +257,20 @@ module _ (R image : List ℕ) (held : ℕ → ℕ) where
         stand_accesses (leaves n comes count leaving returned kept) = absurd (let e = sym goes ∙ returned in cc)
 
     -- at its RTS
-    module _ (labs : LabsBegins) (session : IsSessionBy (Tells R) (call ∷ calls)) (returned : has_returned call ≡ true) where
+    module _ (session : IsSessionBy (Tells R) (call ∷ calls)) (returned : has_returned call ≡ true) where
       by_itself : (log : Log) → IsProgram R image held (call ∷ calls) log clocks → Last R image held call calls clocks
       by_itself log on = record {
-        last = call;
-        routine_is = refl;
-        from_is = refl;
+        end = record {
+          last = call;
+          routine_is = refl;
+          from_is = refl;
+          session = session;
+          over = or_left (has_returned call) _ returned;
+          kept = λ b is. refl;
+          taken = λ is rest none. labs_begins R call calls rest session is none returned;
+        };
         log = log;
         on = on;
-        session = session;
-        over = left_true (has_returned call) _ returned;
-        kept = λ b is. refl;
-        taken = λ is rest none. labs R call calls rest session is none returned;
       }
 
       pub stand_ends : Stand R image held call calls clocks → Last R image held call calls clocks
@@ -299,30 +286,35 @@ module _ (R image : List ℕ) (held : ℕ → ℕ) where
       stand_ends (leaves n comes count leaving home kept) =
           let one = comes call.others (λ k less. refl) in
           let last : Call = so_far call n call.others in record {
-            last = last;
-            routine_is = refl;
-            from_is = refl;
+            end = record {
+              last = last;
+              routine_is = refl;
+              from_is = refl;
+              session = (
+                session.0,
+                session.1,
+                harmless_first (guards (is_kept (is_table call calls)) call.from.s) call.from.s n 1 call.others
+                    call.from
+                    (subst (λ k. AreHarmless (guards (is_kept
+                    (is_table call calls)) call.from.s) call.from.s call.others k call.from)
+                    (let e : call.steps ≡ 1 + n = omega (arith, count) in e) session.2),
+                session.3,
+              );
+              over = over;
+              kept = kept;
+              taken = λ is rest none. ap (λ t. t && not (answer last)) over
+                  ∙ ap not (ap (λ (t : Bool). if t then true else
+                  (if is_leaving call.from.s (after last) then false else (after last).c))
+                  (unrefused is)
+                  ∙ ap (λ (t : Bool). if t then false else (after last).c) leaving);
+            };
             log = one.0;
             on = one.1;
-            session = (
-              session.0,
-              session.1,
-              harmless_first (guards (is_kept (is_table call calls)) call.from.s) call.from.s n 1 call.others call.from
-                  (subst (λ k. AreHarmless (guards (is_kept (is_table call calls)) call.from.s) call.from.s call.others k call.from)
-                  (let e : call.steps ≡ 1 + n = omega (arith, count) in e) session.2),
-              session.3,
-            );
-            over = over;
-            kept = kept;
-            taken = λ is rest none. ap (λ t. t && not (answer last)) over
-                ∙ ap not (ap (λ (t : Bool). if t then true else (if is_leaving call.from.s (after last) then false else (after last).c))
-                (unrefused is)
-                ∙ ap (λ (t : Bool). if t then false else (after last).c) leaving);
           }
         where
           over : is_over (so_far call n call.others) ≡ true
-          over = right_true (has_returned (so_far call n call.others)) _
-              (right_true (is_refused (so_far call n call.others)) _ leaving)
+          over = or_right (has_returned (so_far call n call.others)) _
+              (or_right (is_refused (so_far call n call.others)) _ leaving)
 
           never : (t : Bool) → (t && false) ≡ false
           never true = refl

@@ -1,7 +1,8 @@
 -- A frame that is begun, with nothing in it, takes its LABS.
 use Rattle.std.proofs.Common.{◌≡◌, ℕ, ◌+◌, ◌≤◌, Bool, true, false, List, [], ◌∷◌, ◌++◌, refl, sym}
 use Rattle.std.proofs.Common.{ap, ◌∙◌, subst, arith}
-use Rattle.std.specs.Prelude.{◌&&◌, ◌||◌, not, if◌then◌else◌, Option, None, Some, length}
+use Rattle.std.specs.Prelude.{◌&&◌, not, if◌then◌else◌, Option, None, Some, length}
+use Rattle.std.proofs.lemmas.Bool.{or_left}
 use Rattle.dvg_frame.specs.declared.op.OpKind.{OpKind}
 use Rattle.dvg_6502.specs.Processor.{Cpu}
 use Rattle.dvg_6502.specs.Calls.{Routine, Reset, Tick, Ticks, Run, Offer, Redraw, Open, Puts, Close, Call, Brings}
@@ -66,10 +67,6 @@ frames_same [] drafts = refl
 frames_same (call ∷ calls) [] = refl
 frames_same (call ∷ calls) (G ∷ drafts) = frame_same call.routine G call.from call.steps call.others
     (frame_of (with_drafts calls drafts)) (frame_of calls) (frames_same calls drafts)
-
-or_left : (t u : Bool) → t ≡ true → (t || u) ≡ true
-or_left true u is = refl
-or_left false u is = absurd (cc)
 
 same_count : (n m : ℕ) → ◌≡◌ {A = Option ℕ} (Some n) (Some m) → n ≡ m
 same_count n m is = cc

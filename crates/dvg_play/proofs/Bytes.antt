@@ -1,5 +1,5 @@
 -- A 6502 of bytes stays one of bytes.
-use Rattle.std.proofs.Common.{◌≡◌, inl, inr, ℕ, ◌+◌, ◌-◌, ◌/◌, ◌%◌, ◌<◌, Bool, true, false, List, arith}
+use Rattle.std.proofs.Common.{inl, inr, ℕ, ◌+◌, ◌-◌, ◌/◌, ◌%◌, ◌<◌, Bool, true, false, List, arith}
 use Rattle.std.specs.Prelude.{nat_eq, if◌then◌else◌, bit_and, bit_or, bit_xor}
 use Rattle.std.proofs.lemmas.Nat.{and_le_l, or_lt, xor_lt}
 use Rattle.dvg_6502.specs.Processor.{Mode, Immediate, ZeroPage, ZeroPageX, ZeroPageY, Absolute, AbsoluteX, AbsoluteY}
@@ -7,21 +7,16 @@ use Rattle.dvg_6502.specs.Processor.{IndexedIndirect, IndirectIndexed, Flag, Neg
 use Rattle.dvg_6502.specs.Processor.{Interrupt, Register, A, X, Y, Shift, Left, Right, RotateLeft, RotateRight, Instr}
 use Rattle.dvg_6502.specs.Processor.{Load, Store, Transfer, And, Or, Xor, Add, Subtract, Compare, TestBits, Change, Step}
 use Rattle.dvg_6502.specs.Processor.{ShiftAt, ShiftA, Set, Branch, Jump, JumpAt, Call, Return, PushA, PushFlags, PullA}
-use Rattle.dvg_6502.specs.Processor.{PullFlags, FromStack, ToStack, Resume, Pass, Unknown, opcodes, decoded, Cpu, Access}
+use Rattle.dvg_6502.specs.Processor.{PullFlags, FromStack, ToStack, Resume, Pass, Unknown, opcodes, decoded, Cpu}
 use Rattle.dvg_6502.specs.Processor.{put, address, found, flag_place, operand, reading, next, setting, adding}
-use Rattle.dvg_6502.specs.Processor.{of_register, flagging, bit_of, shifted, changing, flags_byte, stack_place, does}
-use Rattle.dvg_game.specs.Checker.{Notes, accepts}
+use Rattle.dvg_6502.specs.Processor.{of_register, flagging, shifted, changing, flags_byte, stack_place, does}
 use Rattle.dvg_game.specs.Alike.{of_cpu}
 use Rattle.dvg_game.proofs.Facts.{inside}
 use Rattle.dvg_game.proofs.Memory.{between}
-use Rattle.dvg_game.proofs.Whole.{checked_is_safe}
 use Rattle.dvg_play.specs.Play.{AreBytes, done, fresh}
-use Rattle.dvg_play.proofs.GameSteps.{put_small}
-use Rattle.dvg_play.proofs.Stages.{Stage}
-
-bit_small : (b : Bool) → bit_of b < 2
-bit_small true = omega arith
-bit_small false = omega arith
+use Rattle.dvg_play.proofs.Bearers.{Bearer}
+use Rattle.dvg_play.proofs.GameSteps.{bit_small, put_small}
+use Rattle.dvg_play.proofs.Stages.{IsAccepted, Stage, safe_at}
 
 shifted_small : (shift : Shift) (carry : Bool) (old : ℕ) → old < 256 → shifted shift carry old < 256
 shifted_small Left carry old small = omega arith
@@ -184,14 +179,14 @@ done_bytes flags cpu bytes small low = does_bytes (fresh flags cpu) record { a =
     (decoded opcodes (cpu.mem cpu.pc)) low
 
 -- so wherever a play stands
-pub stage_bytes : (R : List ℕ) (rom : ℕ → ℕ) (start : ℕ) (notes : Notes) → accepts rom start notes ≡ true → (cpu : Cpu)
-    (since : ℕ) (log : List Access) (flags : ℕ → ℕ) → flags 0 < 256 → Stage R rom start cpu since log
+pub stage_bytes : {R : List ℕ} {B : Bearer R} {rom : ℕ → ℕ} {start : ℕ} → IsAccepted rom start
+    → {cpu : Cpu} {since : ℕ} {w : B.World} (flags : ℕ → ℕ) → flags 0 < 256 → Stage R B rom start cpu since w
     → AreBytes (done flags cpu)
-stage_bytes R rom start notes accepted cpu since log flags small (inl g) =
-    let high = (inside cpu.pc (checked_is_safe rom start notes accepted (of_cpu cpu g.st) g.run).inside).1 in
+stage_bytes game {cpu} flags small (inl g) =
+    let high = (inside cpu.pc (safe_at game (of_cpu cpu g.st) g.run).inside).1 in
     done_bytes flags cpu g.bytes small (omega (arith, high))
-stage_bytes R rom start notes accepted cpu since log flags small (inr (inl d)) =
+stage_bytes game {cpu} flags small (inr (inl d)) =
     let high = (between 0x6800 0x6A87 cpu.pc d.place).1 in done_bytes flags cpu d.bytes small (omega (arith, high))
-stage_bytes R rom start notes accepted cpu since log flags small (inr (inr n)) =
-    let high = (inside cpu.pc (checked_is_safe rom start notes accepted (of_cpu cpu n.st) n.run).inside).1 in
+stage_bytes game {cpu} flags small (inr (inr n)) =
+    let high = (inside cpu.pc (safe_at game (of_cpu cpu n.st) n.run).inside).1 in
     done_bytes flags cpu n.bytes small (omega (arith, high))

@@ -1,10 +1,12 @@
 -- The game's JSR or JMP leads into the driver.
 use Rattle.std.proofs.Common.{◌≡◌, ◌⊎◌, inl, inr, ℕ, zero, suc, ◌+◌, ◌*◌, ◌/◌, ◌%◌, ◌<◌, ◌≤◌, true, false, List, []}
-use Rattle.std.proofs.Common.{◌∷◌, ◌++◌, refl, sym, ap, ◌∙◌, subst, arith, leb-true}
+use Rattle.std.proofs.Common.{◌∷◌, refl, sym, ap, ◌∙◌, subst, arith, leb-true}
 use Rattle.std.specs.Prelude.{length, slice_index}
-use Rattle.dvg_6502.specs.Processor.{Cpu, Access, decoded, does, opcodes, put, stack_place}
+use Rattle.std.proofs.lemmas.Bool.{or_right}
+use Rattle.dvg_6502.specs.Processor.{Cpu, decoded, does, opcodes, put, stack_place}
 use Rattle.dvg_6502.specs.Processor as processor
 use Rattle.dvg_6502.specs.Amid as driver
+use Rattle.dvg_6502.specs.Board.{is_own}
 use Rattle.dvg_6502.specs.Calls as calls_of
 use Rattle.dvg_6502.specs.Calls.{Routine, entry}
 use Rattle.dvg_6502.specs.Code.{code, dvg_offer, dvg_pair, dvg_put}
@@ -12,21 +14,19 @@ use Rattle.dvg_6502.specs.Routines.{Enters, Put, Pair, Labs, Vector}
 use Rattle.dvg_game.specs.Kinds.{kind_of}
 use Rattle.dvg_game.specs.Kinds as kinds
 use Rattle.dvg_game.specs.Machine.{State, calling, word_at}
-use Rattle.dvg_game.specs.Checker.{Notes, accepts}
 use Rattle.dvg_game.specs.Safe.{IsCalled, IsSafe}
 use Rattle.dvg_game.specs.Safe as safes
 use Rattle.dvg_game.specs.Alike.{of_cpu}
 use Rattle.dvg_game.proofs.Memory.{here as put_here, other}
-use Rattle.dvg_game.proofs.Whole.{checked_is_safe}
 use Rattle.dvg_play.specs.Play
-use Rattle.dvg_play.specs.Play.{AreBytes, done, fresh, made}
+use Rattle.dvg_play.specs.Play.{AreBytes, done, fresh}
 use Rattle.dvg_play.specs.Games.{IsTable, IsWord}
 use Rattle.dvg_play.proofs.Along.{restarts_same}
+use Rattle.dvg_play.proofs.Bearers.{Bearer}
 use Rattle.dvg_play.proofs.Entering.{Picked, picked}
-use Rattle.dvg_play.proofs.GameSteps.{made_none, needed_off, nowhere, rested_on}
+use Rattle.dvg_play.proofs.GameSteps.{needed_off, rested_on}
 use Rattle.dvg_play.proofs.Leaps.{by_leap, call_is, is_called, jump_is}
-use Rattle.dvg_play.proofs.Opened.{driver_begins}
-use Rattle.dvg_play.proofs.Stages.{Back, jmp, jsr, InDriver, InGame, Rests}
+use Rattle.dvg_play.proofs.Stages.{Back, jmp, jsr, InDriver, InGame, Rests, IsAccepted, safe_at}
 
 -- each entry is in the driver's code
 entry_there : (routine : Routine) → driver.is_code (entry routine) ≡ true
@@ -54,8 +54,8 @@ byte_at (byte ∷ bytes) mem at are (suc i) less = ap mem (let e : at + suc i �
 code_ends : 0x6800 + length code ≤ 0x8000
 code_ends = leb-true (0x6800 + length code) 0x8000 refl
 
-module _ (R : List ℕ) (rom : ℕ → ℕ) (start : ℕ) (notes : Notes) (accepted : accepts rom start notes ≡ true) (cpu : Cpu)
-    (since : ℕ) (log : List Access) (g : InGame R rom start cpu since log) (go : Play.restarts cpu ≡ false)
+module _ {R : List ℕ} {B : Bearer R} {rom : ℕ → ℕ} {start : ℕ} (game : IsAccepted rom start)
+    {cpu : Cpu} {since : ℕ} {w : B.World} (g : InGame R B rom start cpu since w) (go : Play.restarts cpu ≡ false)
     (is : calling (kind_of (cpu.mem cpu.pc)) (of_cpu cpu g.st) ≡ true) where
   abbrev here : State
   here = of_cpu cpu g.st
@@ -64,7 +64,7 @@ module _ (R : List ℕ) (rom : ℕ → ℕ) (start : ℕ) (notes : Notes) (accep
   to = word_at cpu.mem (cpu.pc + 1)
 
   safe : IsSafe rom here
-  safe = checked_is_safe rom start notes accepted here g.run
+  safe = safe_at game here g.run
 
   called : IsCalled here to
   called = is_called (kind_of (cpu.mem cpu.pc)) here safe.next (sym (restarts_same cpu g.st) ∙ go) is
@@ -82,7 +82,7 @@ module _ (R : List ℕ) (rom : ℕ → ℕ) (start : ℕ) (notes : Notes) (accep
     tables : to ≡ dvg_offer → IsTable R rom new
     words : to ≡ dvg_put → IsWord R new
 
-  enter : (new : Cpu) → Entered new → (to ≡ dvg_pair → ⊥) → InDriver R rom start new (made cpu new ++ log)
+  enter : (new : Cpu) → Entered new → (to ≡ dvg_pair → ⊥) → InDriver R B rom start new w
   enter new at no_pair = record {
     st = here;
     run = g.run;
@@ -96,9 +96,9 @@ module _ (R : List ℕ) (rom : ℕ → ℕ) (start : ℕ) (notes : Notes) (accep
     back = at.back;
     calls = g.calls;
     mine = [];
-    doing = driver_begins R pick.routine new g.calls pick.rested enters pick.tells g.logged.tables pick.offered;
-    accesses = g.logged.accesses
-        ∙ sym (ap (λ l. l ++ log) (made_none cpu new (nowhere R rom start notes accepted cpu since log g)));
+    doing = B.begins pick.routine new g.calls w pick.rested enters pick.tells pick.checked g.tables pick.offered
+        (B.keeps g.calls cpu.mem new.mem w (λ b ram. at.off b (off_stack b (needed_off b (or_right (is_own b) _ ram))))
+        g.between);
     most = most;
     top = at.top;
     level = inl refl;
@@ -125,7 +125,7 @@ module _ (R : List ℕ) (rom : ℕ → ℕ) (start : ℕ) (notes : Notes) (accep
           on : Rests R g.calls cpu.mem g.st.blank → Rests R g.calls new.mem g.st.blank
           on r = record {
             rested = rested_on R g.calls cpu.mem new.mem (λ b needed. at.off b (off_stack b (needed_off b needed)))
-                (λ b low high. at.off b (far b (g.logged.tables b low high).0)) r.rested;
+                (λ b low high. at.off b (far b (g.tables b low high).0)) r.rested;
             frame = r.frame;
           }
 
@@ -158,9 +158,8 @@ module _ (R : List ℕ) (rom : ℕ → ℕ) (start : ℕ) (notes : Notes) (accep
     abbrev jmp_done : Cpu
     jmp_done = does processor.Jump (fresh flags cpu)
 
-    by_jsr : kind_of (cpu.mem cpu.pc) ≡ kinds.Call → InDriver R rom start (done flags cpu) (made cpu
-        (done flags cpu) ++ log)
-    by_jsr kind = subst (λ k. InDriver R rom start k (made cpu k ++ log)) (sym same) (enter jsr_done (record {
+    by_jsr : kind_of (cpu.mem cpu.pc) ≡ kinds.Call → InDriver R B rom start (done flags cpu) w
+    by_jsr kind = subst (λ k. InDriver R B rom start k w) (sym same) (enter jsr_done (record {
       bytes = subst AreBytes same bytes;
       pc = word_is;
       off = λ b off. other (stack_place (cpu.s + 255)) ((cpu.pc + 2) % 256) one b (apart (cpu.s + 255) (omega
@@ -197,9 +196,8 @@ module _ (R : List ℕ) (rom : ℕ → ℕ) (start : ℕ) (notes : Notes) (accep
         apart k less b (inl low) at = omega (arith, low, at)
         apart k less b (inr high) at = omega (arith, high, at, less)
 
-    by_jmp : kind_of (cpu.mem cpu.pc) ≡ kinds.Jump → InDriver R rom start (done flags cpu) (made cpu
-        (done flags cpu) ++ log)
-    by_jmp kind = subst (λ k. InDriver R rom start k (made cpu k ++ log)) (sym same) (enter jmp_done (record {
+    by_jmp : kind_of (cpu.mem cpu.pc) ≡ kinds.Jump → InDriver R B rom start (done flags cpu) w
+    by_jmp kind = subst (λ k. InDriver R B rom start k w) (sym same) (enter jmp_done (record {
       bytes = subst AreBytes same bytes;
       pc = word_is;
       off = λ b off. refl;
@@ -213,10 +211,10 @@ module _ (R : List ℕ) (rom : ℕ → ℕ) (start : ℕ) (notes : Notes) (accep
         same : done flags cpu ≡ jmp_done
         same = ap (λ i. does i (fresh flags cpu)) (jump_is (decoded opcodes (cpu.mem cpu.pc)) kind)
 
-    pub game_calls : InDriver R rom start (done flags cpu) (made cpu (done flags cpu) ++ log)
+    pub game_calls : InDriver R B rom start (done flags cpu) w
     game_calls = by (by_leap (kind_of (cpu.mem cpu.pc)) here is)
       where
         by : (kind_of (cpu.mem cpu.pc) ≡ kinds.Call) ⊎ (kind_of (cpu.mem cpu.pc) ≡ kinds.Jump)
-            → InDriver R rom start (done flags cpu) (made cpu (done flags cpu) ++ log)
+            → InDriver R B rom start (done flags cpu) w
         by (inl kind) = by_jsr kind
         by (inr kind) = by_jmp kind

@@ -5,9 +5,10 @@ use Rattle.std.proofs.Common.{◌++◌, refl, sym, ap, ◌∙◌, subst, arith, 
 use Rattle.std.proofs.Common.{Some}
 use Rattle.std.proofs.lemmas.Bool.{ne_eqb}
 use Rattle.std.specs.Prelude.{nat_eq, nat_lt, nat_le, ◌&&◌, ◌||◌, not, if◌then◌else◌}
+use Rattle.std.proofs.lemmas.Bool.{or_left}
 use Rattle.dvg_6502.specs.Processor.{Access, Reads, Writes, Cpu, at_return, stack_place, step, turn}
-use Rattle.dvg_6502.specs.Amid.{AreHarmless, amid, changed, guards, is_code, is_kept, is_work}
-use Rattle.dvg_6502.specs.Board.{is_hardware, is_own}
+use Rattle.dvg_6502.specs.Amid.{AreHarmless, amid, changed, guards, is_code, is_kept}
+use Rattle.dvg_6502.specs.Board.{is_own}
 use Rattle.dvg_6502.specs.Routines.{Enters, Labs, Pair, Put, Vector}
 use Rattle.dvg_6502.specs.Calls as c
 use Rattle.dvg_6502.specs.Calls.{Routine, Call, after, entry, is_decided, is_leaving, is_over}
@@ -25,27 +26,13 @@ use Rattle.dvg_play.proofs.Staying.{Good, Level, below, home, noted_is_code}
 use Rattle.dvg_play.proofs.Turning.{Turned, turned}
 use Rattle.dvg_play.proofs.HardLogs.{hard_session}
 use Rattle.dvg_play.proofs.Logs.{log_is_passive}
-use Rattle.dvg_play.proofs.Sessions.{Grown, session_goes_on}
+use Rattle.dvg_play.proofs.Opened.{code_guarded}
+use Rattle.dvg_play.proofs.Sessions.{further, further_turns, session_goes_on}
 
-left_true : (t u : Bool) → t ≡ true → (t || u) ≡ true
-left_true true u is = refl
-left_true false u is = absurd (cc)
-
--- the driver's bytes, and its code, are guarded
+-- the driver's bytes are guarded
 own_guarded : (tables : ℕ → Bool) (s now b : ℕ) → is_own b ≡ true
     → guards (is_kept tables) s now b ≡ true
-own_guarded tables s now b is = left_true (is_kept tables b) _ (left_true (is_own b) _ is)
-
-code_guarded : (tables : ℕ → Bool) (s now b : ℕ) → is_code b ≡ true
-    → guards (is_kept tables) s now b ≡ true
-code_guarded tables s now b is = left_true (is_kept tables b) _
-    (by (is_own b) (is_work b) (is_code b) (is_hardware b || tables b) is)
-  where
-    by : (t u v w : Bool) → v ≡ true → (t || (u || (v || w))) ≡ true
-    by true u v w is = refl
-    by false true v w is = refl
-    by false false true w is = refl
-    by false false false w is = absurd (cc)
+own_guarded tables s now b is = or_left (is_kept tables b) _ (or_left (is_own b) _ is)
 
 -- so are the two bytes above S where it's lower
 stack_guarded : (kept : ℕ → Bool) (s now b : ℕ) → nat_eq now s ≡ false
@@ -258,7 +245,7 @@ ready_awake : (s : ℕ) (cpu : Cpu) → Good true s cpu → IsReady cpu.mem
 ready_awake s cpu good = ready_by good.note.claim cpu.mem (good.aware refl) good.claim
 
 returned_ends : (s : ℕ) (cpu : Cpu) → at_return s cpu ≡ true → is_end (cpu.mem cpu.pc) ≡ true
-returned_ends s cpu is = left_true (nat_eq (cpu.mem cpu.pc) 0x60) _
+returned_ends s cpu is = or_left (nat_eq (cpu.mem cpu.pc) 0x60) _
     (both_true (nat_eq (cpu.mem cpu.pc) 0x60) _ is).0
 
 leaving_ends : (s : ℕ) (cpu : Cpu) → is_leaving s cpu ≡ true → is_end (cpu.mem cpu.pc) ≡ true
@@ -343,17 +330,13 @@ calls_stay R call calls m session deep same = record {
     new : Cpu
     new = turn call.from.s (changed m (after call))
 
-    on : Grown R call calls m
-    on = session_goes_on R call calls m session same
-
     did : Turned (is_awake call.routine) call.from.s (changed m (after call))
         (turn call.from.s (changed m (after call)))
     did = turned (is_awake call.routine) call.from.s session.0.s (changed m (after call))
         (good_changed (is_awake call.routine) (is_table call calls) call.from.s (after call) m same
         (good_call R call calls session))
-        (subst (λ (k : Cpu). AreHard k.log) on.after
-        (hard_session R (record call { steps = suc call.steps; others = on.later }) calls
-        on.session))
+        (subst (λ (k : Cpu). AreHard k.log) (further_turns call m)
+        (hard_session R (further call m) calls (session_goes_on R call calls m session same)))
 
     by : Level call.from.s did.good.note.inner (turn call.from.s (changed m (after call)))
         → ((turn call.from.s (changed m (after call))).s ≡ call.from.s)

@@ -1,6 +1,6 @@
 -- A play in a call of the driver: its steps, an NMI, and its return.
 use Rattle.std.proofs.Common.{◌≡◌, ◌⊎◌, inl, inr, ℕ, suc, ◌+◌, ◌-◌, ◌%◌, ◌<◌, ◌≤◌, Bool, true, false, List}
-use Rattle.std.proofs.Common.{[], ◌++◌, refl, sym, ap, ◌∙◌, subst, arith, leb-true, eqb-true}
+use Rattle.std.proofs.Common.{◌++◌, refl, sym, ap, ◌∙◌, subst, arith, leb-true, eqb-true}
 use Rattle.std.specs.Prelude.{◌&&◌, ◌||◌, not, nat_eq, nat_le, nat_lt, if◌then◌else◌, Some}
 use Rattle.dvg_6502.specs.Processor.{Cpu, Access, at_return, flags_byte, stack_place, step, turn}
 use Rattle.dvg_6502.specs.Amid as driver
@@ -9,22 +9,18 @@ use Rattle.dvg_6502.specs.Board.{is_hardware, is_own, is_ram, seen}
 use Rattle.dvg_6502.specs.Calls.{Call, Routine, after, is_table}
 use Rattle.dvg_game.specs.Machine.{Choice, State, IsRun, calls_driver, left_by, nmi_within, restarts, within}
 use Rattle.dvg_game.specs.Machine as machine
-use Rattle.dvg_game.specs.Checker.{Notes, accepts}
 use Rattle.dvg_game.specs.Safe.{IsSafe}
 use Rattle.dvg_game.specs.Alike.{of_cpu}
 use Rattle.dvg_game.proofs.Facts.{both_true}
 use Rattle.dvg_game.proofs.Memory.{between, either}
-use Rattle.dvg_game.proofs.Whole.{checked_is_safe}
-use Rattle.dvg_play.specs.Play.{AreBytes, done, interrupted, made}
+use Rattle.dvg_play.specs.Play.{AreBytes, done, interrupted}
 use Rattle.dvg_play.specs.Open.{IsIn, IsOpen}
 use Rattle.dvg_play.specs.Stays.{Stays, is_written}
-use Rattle.dvg_play.specs.Games.{accesses_of}
+use Rattle.dvg_play.proofs.Bearers.{Bearer}
 use Rattle.dvg_play.proofs.CallsStay.{calls_stay}
 use Rattle.dvg_play.proofs.GameSteps.{bytes_pushed, pushed_below}
-use Rattle.dvg_play.proofs.Growing.{seen_both}
 use Rattle.dvg_play.proofs.Logs.{log_is_passive, upon}
-use Rattle.dvg_play.proofs.Opened.{driver_steps}
-use Rattle.dvg_play.proofs.Stages.{Back, jmp, jsr, InDriver, InNmi}
+use Rattle.dvg_play.proofs.Stages.{Back, jmp, jsr, InDriver, InNmi, IsAccepted, safe_at}
 
 turned : (s : ℕ) (cpu : Cpu) → at_return s cpu ≡ false → turn s cpu ≡ step cpu
 turned s cpu not_there = ap (λ (t : Bool). if t then cpu else step cpu) not_there
@@ -65,7 +61,7 @@ stays R routine s calls cpu log flags call not_there deep = record {
         ∙ log_is_passive (record cpu { flags = flags; log = log })
 
 -- the ROM and the stack above are none that a call writes
-unwritten : (s b : ℕ) → 2 ≤ s → s ≤ 255 → ((0x100 + s < b) × (b < 0x200)) ⊎ (0x4800 ≤ b) → is_written s b ≡ false
+pub unwritten : (s b : ℕ) → 2 ≤ s → s ≤ 255 → ((0x100 + s < b) × (b < 0x200)) ⊎ (0x4800 ≤ b) → is_written s b ≡ false
 unwritten s b some most far = by (is_written s b) refl
   where
     no_own : (0x10 ≤ b) × (b < 0x21) → ⊥
@@ -122,10 +118,10 @@ unwritten s b some most far = by (is_written s b) refl
     by true is = absurd (one (either (is_own b) _ is))
     by false is = refl
 
-module _ (R : List ℕ) (rom : ℕ → ℕ) (start : ℕ) (notes : Notes) (accepted : accepts rom start notes ≡ true)
-    (cpu : Cpu) (log : List Access) (d : InDriver R rom start cpu log) where
+module _ {R : List ℕ} {B : Bearer R} {rom : ℕ → ℕ} {start : ℕ} (game : IsAccepted rom start)
+    {cpu : Cpu} {w : B.World} (d : InDriver R B rom start cpu w) where
   pub safe : IsSafe rom d.st
-  safe = checked_is_safe rom start notes accepted d.st d.run
+  safe = safe_at game d.st d.run
 
   -- S where the driver was called
   pub deep : (32 ≤ d.st.s) × (d.st.s ≤ d.s + 2)
@@ -135,9 +131,9 @@ module _ (R : List ℕ) (rom : ℕ → ℕ) (start : ℕ) (notes : Notes) (accep
       by (jsr is level one two) = omega (arith, level)
       by (jmp is level) = omega (arith, level)
 
-  pub driver_step : (flags : ℕ → ℕ) → at_return d.s cpu ≡ false → AreBytes (done flags cpu)
-      → InDriver R rom start (done flags cpu) (made cpu (done flags cpu) ++ log)
-  driver_step flags not_there bytes = record {
+  pub driver_step : (flags : ℕ → ℕ) (v : B.World) → at_return d.s cpu ≡ false → AreBytes (done flags cpu)
+      → B.Makes (seen (done flags cpu).log) w v → InDriver R B rom start (done flags cpu) v
+  driver_step flags v not_there bytes makes = record {
     st = d.st;
     run = d.run;
     outside = d.outside;
@@ -150,10 +146,7 @@ module _ (R : List ℕ) (rom : ℕ → ℕ) (start : ℕ) (notes : Notes) (accep
     back = on d.back;
     calls = d.calls;
     mine = (done flags cpu).log ++ d.mine;
-    doing = driver_steps R d.routine d.s d.calls cpu d.mine flags d.doing not_there;
-    accesses = seen_both (done flags cpu).log d.mine (accesses_of d.calls) ∙ ap (λ l. seen
-        (done flags cpu).log ++ l) d.accesses
-        ∙ sym (ap (λ (t : Bool). (if t then seen (done flags cpu).log else []) ++ log) d.place);
+    doing = B.steps d.routine d.s d.calls cpu d.mine w v flags d.bytes d.place not_there makes d.doing;
     most = d.most;
     top = d.top;
     level = did.level;
@@ -178,7 +171,8 @@ module _ (R : List ℕ) (rom : ℕ → ℕ) (start : ℕ) (notes : Notes) (accep
       above b low = let top = d.top in omega (arith, low, top)
 
       did : Stays d.s cpu (done flags cpu)
-      did = stays R d.routine d.s d.calls cpu d.mine flags d.doing not_there
+      did = stays R d.routine d.s d.calls cpu d.mine flags (B.is_open d.routine d.s d.calls cpu d.mine w
+          d.doing) not_there
           (let one = deep.0 in let two = deep.1 in omega (arith, one, two))
 
       on : Back d.st cpu.mem d.s → Back d.st (done flags cpu).mem d.s
@@ -247,7 +241,7 @@ module _ (R : List ℕ) (rom : ℕ → ℕ) (start : ℕ) (notes : Notes) (accep
   called : calls_driver d.st ≡ true
   called = ap (λ t. t && not (restarts d.st)) d.calls_it ∙ ap not d.goes
 
-  pub driver_nmi : InNmi R rom start (interrupted cpu) 0 log
+  pub driver_nmi : InNmi R B rom start (interrupted cpu) 0 w
   driver_nmi = record {
     outer = cpu;
     driver = d;

@@ -5,8 +5,6 @@ use Rattle.std.specs.Prelude.{◌||◌, nat_eq, nat_le, None, Some, Option, leng
 use Rattle.dvg_code.specs.declared.instr.Instr.TheVariants.{Labs as LabsOf}
 use Rattle.dvg_frame.specs.declared.op.OpKind.{OpKind}
 use Rattle.dvg_frame.specs.declared.op.OpKind.TheVariants.{Draw}
-use Rattle.dvg_frame.specs.Ops.{IsDraft}
-use Rattle.dvg_frame.specs.Faults.{Accepts}
 use Rattle.dvg_6502.specs.Processor.{Cpu}
 use Rattle.dvg_6502.specs.Calls as calls_of
 use Rattle.dvg_6502.specs.Calls.{Call, Routine, entry, frame_of, is_offered, UnlessReset}
@@ -22,6 +20,7 @@ use Rattle.dvg_game.proofs.Memory.{either}
 use Rattle.dvg_play.specs.Play.{AreBytes, fresh}
 use Rattle.dvg_play.specs.Open.{InRom, Rested}
 use Rattle.dvg_play.specs.Games.{IsTable, IsWord}
+use Rattle.dvg_play.proofs.Bearers.{IsChecked}
 use Rattle.dvg_play.proofs.Stages.{NotBlank, Rests}
 
 -- what dvg_labs puts is a LABS
@@ -86,11 +85,6 @@ table_on rom mem t F low ends same has = record {
   low = has.low;
   ends = has.ends;
 }
-
--- what is offered is checked
-abbrev pub IsChecked : List ℕ → Routine → Type 0
-IsChecked R (calls_of.Offer F) = IsDraft F × Accepts F R
-IsChecked R routine = Unit {0}
 
 -- the routine that is called, and all that its call wants
 pub record Picked (R : List ℕ) (rom : ℕ → ℕ) (new : Cpu) (calls : List Call) (to : ℕ) (blank : Bool) : Type 0 where

@@ -1,26 +1,27 @@
 -- A play between calls of the driver: the game's instructions, and its NMI's.
 use Rattle.std.proofs.Common.{◌≡◌, ◌⊎◌, inl, inr, ℕ, suc, ◌+◌, ◌/◌, ◌%◌, ◌<◌, ◌≤◌, Bool, true, false, List, []}
-use Rattle.std.proofs.Common.{◌∷◌, ◌++◌, refl, sym, ap, ◌∙◌, subst, arith, le-leb, leb-true}
+use Rattle.std.proofs.Common.{◌∷◌, refl, sym, ap, ◌∙◌, subst, arith, le-leb, leb-true}
 use Rattle.std.specs.Prelude.{◌&&◌, ◌||◌, not, nat_eq, nat_le, nat_lt, if◌then◌else◌}
-use Rattle.dvg_6502.specs.Processor.{Cpu, Access, bit_of, flags_byte, put, stack_place}
+use Rattle.std.proofs.lemmas.Bool.{or_right}
+use Rattle.dvg_6502.specs.Processor.{Cpu, bit_of, flags_byte, put, stack_place}
 use Rattle.dvg_6502.specs.Amid as driver
 use Rattle.dvg_6502.specs.Board.{is_own, is_ram, seen}
 use Rattle.dvg_6502.specs.Calls.{Call, bounds}
 use Rattle.dvg_game.specs.Kinds.{kind_of}
-use Rattle.dvg_game.specs.Machine.{Choice, State, IsRun, begins, calling, nmi, restarts, step}
+use Rattle.dvg_game.specs.Machine.{Choice, State, begins, calling, nmi, restarts, step}
 use Rattle.dvg_game.specs.Between.{is_drivers}
-use Rattle.dvg_game.specs.Checker.{Notes, accepts, first, is_code, places}
+use Rattle.dvg_game.specs.Checker.{first, is_code, places}
 use Rattle.dvg_game.specs.Safe.{IsSafe}
 use Rattle.dvg_game.specs.Alike.{idle, of_cpu}
 use Rattle.dvg_game.proofs.Between.{leaves_alone}
 use Rattle.dvg_game.proofs.Facts.{both_true, inside}
 use Rattle.dvg_game.proofs.Memory.{between, either, other}
-use Rattle.dvg_game.proofs.Whole.{checked_is_safe}
 use Rattle.dvg_play.specs.Play
 use Rattle.dvg_play.specs.Play.{AreBytes, Begins, done, interrupted, made}
 use Rattle.dvg_play.specs.Open.{InRom, Rested}
 use Rattle.dvg_play.proofs.Along.{along, Followed, follow, homeless, restarts_same}
-use Rattle.dvg_play.proofs.Stages.{InGame, Logged, Rests}
+use Rattle.dvg_play.proofs.Bearers.{Bearer}
+use Rattle.dvg_play.proofs.Stages.{InGame, Rests, IsAccepted, safe_at}
 
 -- the game's code isn't the driver's
 pub outside_code : (pc : ℕ) → is_code pc ≡ true → driver.is_code pc ≡ false
@@ -37,7 +38,7 @@ outside_code pc is = by (nat_lt pc 0x6A87) refl (nat_le 0x6800 pc)
 pub made_none : (cpu new : Cpu) → driver.is_code cpu.pc ≡ false → made cpu new ≡ []
 made_none cpu new out = ap (λ (t : Bool). if t then seen new.log else []) out
 
-own_too : (b : ℕ) → is_own b ≡ true → is_drivers b ≡ true
+pub own_too : (b : ℕ) → is_own b ≡ true → is_drivers b ≡ true
 own_too b is = by (between 0x10 0x1B b is)
   where
     by : (0x10 ≤ b) × (b < 0x1B) → is_drivers b ≡ true
@@ -84,7 +85,7 @@ rested_on R (older ∷ calls) mem now own table rested = (
 )
 
 -- an NMI leaves bytes
-bit_small : (b : Bool) → bit_of b < 2
+pub bit_small : (b : Bool) → bit_of b < 2
 bit_small true = omega arith
 bit_small false = omega arith
 
@@ -170,96 +171,105 @@ pushing byte = record {
   deep = 0;
 }
 
-module _ (R : List ℕ) (rom : ℕ → ℕ) (start : ℕ) (notes : Notes) (accepted : accepts rom start notes ≡ true) where
-  safe : (st : State) → IsRun rom start st → IsSafe rom st
-  safe st run = checked_is_safe rom start notes accepted st run
+-- a place of the vector RAM isn't on the stack
+ram_off : (b : ℕ) → is_ram b ≡ true → (b < 0x100) ⊎ (0x200 ≤ b)
+ram_off b is = needed_off b (or_right (is_own b) (is_ram b) is)
 
-  pub game_begins : (cpu : Cpu) (since : ℕ) → Begins rom start cpu → InGame R rom start cpu since []
-  game_begins cpu since is = record {
-    st = record (idle cpu) { since = since };
-    run = begins (record (idle cpu) { since = since }) (record {
-      loaded = is.loaded;
-      entry = is.entry;
-      stack = is.stack;
-      calls = refl;
-      amid = refl;
-      home = refl;
-      blank = refl;
-    });
-    homeless = refl;
-    time = refl;
-    bytes = is.bytes;
-    calls = [];
-    logged = record { accesses = refl; tables = λ b low high. absurd (omega (arith, high)); session = inl refl };
-    rests = λ awake. absurd (cc);
+pub game_begins : (R : List ℕ) (B : Bearer R) (rom : ℕ → ℕ) (start : ℕ) (cpu : Cpu) (since : ℕ) (w : B.World)
+    (calls : List Call) → B.Between calls cpu.mem w
+    → ((b : ℕ) → (bounds calls).0 ≤ b → b < (bounds calls).1 → InRom b) → Begins rom start cpu
+    → InGame R B rom start cpu since w
+game_begins R B rom start cpu since w calls between tables is = record {
+  st = record (idle cpu) { since = since };
+  run = begins (record (idle cpu) { since = since }) (record {
+    loaded = is.loaded;
+    entry = is.entry;
+    stack = is.stack;
+    calls = refl;
+    amid = refl;
+    home = refl;
+    blank = refl;
+  });
+  homeless = refl;
+  time = refl;
+  bytes = is.bytes;
+  calls = calls;
+  between = between;
+  tables = tables;
+  rests = λ awake. absurd (cc);
+}
+
+module _ {R : List ℕ} {B : Bearer R} {rom : ℕ → ℕ} {start : ℕ} (game : IsAccepted rom start)
+    {cpu : Cpu} {since : ℕ} {w : B.World} (g : InGame R B rom start cpu since w) where
+  abbrev here : State
+  here = of_cpu cpu g.st
+
+  pub safe : IsSafe rom here
+  safe = safe_at game here g.run
+
+  pub nowhere : driver.is_code cpu.pc ≡ false
+  nowhere = outside_code cpu.pc safe.inside
+
+  pub game_steps : (flags : ℕ → ℕ) → Play.restarts cpu ≡ false → calling (kind_of (cpu.mem cpu.pc)) here ≡ false
+      → AreBytes (done flags cpu) → InGame R B rom start (done flags cpu) (suc since) w
+  game_steps flags go calls bytes = record {
+    st = new;
+    run = did.run;
+    homeless = homeless (kind_of (cpu.mem cpu.pc)) did.choice here g.homeless calls;
+    time = (along (kind_of (cpu.mem cpu.pc)) did.choice here calls).since ∙ ap suc g.time;
+    bytes = bytes;
+    calls = g.calls;
+    between = B.aside g.calls cpu g.st flags w g.bytes safe.next g.between;
+    tables = g.tables;
+    rests = λ awake. on awake (g.rests ((along (kind_of (cpu.mem cpu.pc)) did.choice here calls).awake awake));
   }
+    where
+      did : Followed rom start cpu (done flags cpu) g.st
+      did = follow rom start cpu g.st flags g.run go calls (λ is. g.homeless) g.bytes.x g.bytes.y
 
-  module _ (cpu : Cpu) (since : ℕ) (log : List Access) (g : InGame R rom start cpu since log) where
-    abbrev here : State
-    here = of_cpu cpu g.st
+      new : State
+      new = step did.choice here
 
-    pub nowhere : driver.is_code cpu.pc ≡ false
-    nowhere = outside_code cpu.pc (safe here g.run).inside
+      in_rom : (b : ℕ) → InRom b → (done flags cpu).mem b ≡ cpu.mem b
+      in_rom b two = (safe_at game (of_cpu (done flags cpu) new) did.run).rom_kept b two.0 two.1
+          ∙ sym (safe.rom_kept b two.0 two.1)
 
-    pub game_steps : (flags : ℕ → ℕ) → Play.restarts cpu ≡ false → calling (kind_of (cpu.mem cpu.pc)) here ≡ false
-        → AreBytes (done flags cpu) → InGame R rom start (done flags cpu) (suc since) (made cpu (done flags cpu) ++ log)
-    game_steps flags go calls bytes = record {
-      st = new;
-      run = did.run;
-      homeless = homeless (kind_of (cpu.mem cpu.pc)) did.choice here g.homeless calls;
-      time = (along (kind_of (cpu.mem cpu.pc)) did.choice here calls).since ∙ ap suc g.time;
-      bytes = bytes;
-      calls = g.calls;
-      logged = subst (λ l. Logged R g.calls (l ++ log)) (sym (made_none cpu (done flags cpu) nowhere)) g.logged;
-      rests = λ awake. on awake (g.rests ((along (kind_of (cpu.mem cpu.pc)) did.choice here calls).awake awake));
-    }
-      where
-        did : Followed rom start cpu (done flags cpu) g.st
-        did = follow rom start cpu g.st flags g.run go calls (λ is. g.homeless) g.bytes.x g.bytes.y
+      needed : new.awake ≡ true → (b : ℕ) → (is_own b || is_ram b) ≡ true → (done flags cpu).mem b ≡ cpu.mem b
+      needed awake b is = by (leaves_alone rom start game.notes game.yes here g.run did.choice (sym
+          (restarts_same cpu g.st) ∙ go)
+          (ap (λ t. t && not (restarts here)) calls))
+        where
+          by : (new.awake ≡ false) ⊎ ((b : ℕ) → is_drivers b ≡ true → new.mem b ≡ here.mem b)
+              → (done flags cpu).mem b ≡ cpu.mem b
+          by (inl asleep) = absurd (let e = sym asleep ∙ awake in cc)
+          by (inr same) = sym (did.alike.mem b) ∙ same b (needed_too b is)
 
-        new : State
-        new = step did.choice here
+      on : new.awake ≡ true → Rests R g.calls cpu.mem g.st.blank → Rests R g.calls (done flags cpu).mem new.blank
+      on awake r = record {
+        rested = rested_on R g.calls cpu.mem (done flags cpu).mem (needed awake)
+            (λ b low high. in_rom b (g.tables b low high)) r.rested;
+        frame = λ blank. r.frame (sym (along (kind_of (cpu.mem cpu.pc)) did.choice here calls).blank ∙ blank);
+      }
 
-        in_rom : (b : ℕ) → InRom b → (done flags cpu).mem b ≡ cpu.mem b
-        in_rom b two = (safe (of_cpu (done flags cpu) new) did.run).rom_kept b two.0 two.1
-            ∙ sym ((safe here g.run).rom_kept b two.0 two.1)
+  pub game_nmi : 860 ≤ since → InGame R B rom start (interrupted cpu) 0 w
+  game_nmi late = record {
+    st = Rattle.dvg_game.specs.Machine.interrupted (pushing (flags_byte false cpu)) here;
+    run = nmi (pushing (flags_byte false cpu)) g.run (subst (λ n. 860 ≤ n) (sym g.time) late);
+    homeless = g.homeless;
+    time = refl;
+    bytes = bytes_pushed cpu g.bytes low;
+    calls = g.calls;
+    between = B.keeps g.calls cpu.mem (interrupted cpu).mem w (λ b is. pushed_off cpu b (ram_off b is)) g.between;
+    tables = g.tables;
+    rests = λ awake. on (g.rests awake);
+  }
+    where
+      low : cpu.pc < 65536
+      low = let high = (inside cpu.pc safe.inside).1 in omega (arith, high)
 
-        needed : new.awake ≡ true → (b : ℕ) → (is_own b || is_ram b) ≡ true → (done flags cpu).mem b ≡ cpu.mem b
-        needed awake b is = by (leaves_alone rom start notes accepted here g.run did.choice (sym
-            (restarts_same cpu g.st) ∙ go)
-            (ap (λ t. t && not (restarts here)) calls))
-          where
-            by : (new.awake ≡ false) ⊎ ((b : ℕ) → is_drivers b ≡ true → new.mem b ≡ here.mem b)
-                → (done flags cpu).mem b ≡ cpu.mem b
-            by (inl asleep) = absurd (let e = sym asleep ∙ awake in cc)
-            by (inr same) = sym (did.alike.mem b) ∙ same b (needed_too b is)
-
-        on : new.awake ≡ true → Rests R g.calls cpu.mem g.st.blank → Rests R g.calls (done flags cpu).mem new.blank
-        on awake r = record {
-          rested = rested_on R g.calls cpu.mem (done flags cpu).mem (needed awake)
-              (λ b low high. in_rom b (g.logged.tables b low high)) r.rested;
-          frame = λ blank. r.frame (sym (along (kind_of (cpu.mem cpu.pc)) did.choice here calls).blank ∙ blank);
-        }
-
-    pub game_nmi : 860 ≤ since → InGame R rom start (interrupted cpu) 0 log
-    game_nmi late = record {
-      st = Rattle.dvg_game.specs.Machine.interrupted (pushing (flags_byte false cpu)) here;
-      run = nmi (pushing (flags_byte false cpu)) g.run (subst (λ n. 860 ≤ n) (sym g.time) late);
-      homeless = g.homeless;
-      time = refl;
-      bytes = bytes_pushed cpu g.bytes low;
-      calls = g.calls;
-      logged = g.logged;
-      rests = λ awake. on (g.rests awake);
-    }
-      where
-        low : cpu.pc < 65536
-        low = let high = (inside cpu.pc (safe here g.run).inside).1 in omega (arith, high)
-
-        on : Rests R g.calls cpu.mem g.st.blank → Rests R g.calls (interrupted cpu).mem g.st.blank
-        on r = record {
-          rested = rested_on R g.calls cpu.mem (interrupted cpu).mem (λ b is. pushed_off cpu b (needed_off b is))
-              (λ b low high. let far = (g.logged.tables b low high).0 in pushed_off cpu b (inr (omega
-              (arith, far)))) r.rested;
-          frame = r.frame;
-        }
+      on : Rests R g.calls cpu.mem g.st.blank → Rests R g.calls (interrupted cpu).mem g.st.blank
+      on r = record {
+        rested = rested_on R g.calls cpu.mem (interrupted cpu).mem (λ b is. pushed_off cpu b (needed_off b is))
+            (λ b low high. let far = (g.tables b low high).0 in pushed_off cpu b (inr (omega (arith, far)))) r.rested;
+        frame = r.frame;
+      }

@@ -4,37 +4,20 @@ use Rattle.dvg_6502.specs.Processor.{Cpu, turn}
 use Rattle.dvg_6502.specs.Amid.{Guard, AreHarmless, amid, changed}
 
 -- others as before for this many steps, and then this memory
-abbrev and_then : ℕ → (ℕ → ℕ → ℕ) → (ℕ → ℕ) → ℕ → ℕ → ℕ
+abbrev pub and_then : ℕ → (ℕ → ℕ → ℕ) → (ℕ → ℕ) → ℕ → ℕ → ℕ
 and_then zero others m k = m
 and_then (suc n) others m zero = others zero
 and_then (suc n) others m (suc k) = and_then n (λ j. others (suc j)) m k
 
-grows : (s : ℕ) (n : ℕ) (others : ℕ → ℕ → ℕ) (m : ℕ → ℕ) (cpu : Cpu)
+pub grows : (s : ℕ) (n : ℕ) (others : ℕ → ℕ → ℕ) (m : ℕ → ℕ) (cpu : Cpu)
     → amid s (and_then n others m) (suc n) cpu ≡ turn s (changed m (amid s others n cpu))
 grows s zero others m cpu = refl
 grows s (suc n) others m cpu = grows s n (λ j. others (suc j)) m (turn s (changed (others 0) cpu))
 
-spared : (guard : Guard) (s : ℕ) (n : ℕ) (others : ℕ → ℕ → ℕ) (m : ℕ → ℕ) (cpu : Cpu)
+pub spared : (guard : Guard) (s : ℕ) (n : ℕ) (others : ℕ → ℕ → ℕ) (m : ℕ → ℕ) (cpu : Cpu)
     → AreHarmless guard s others n cpu
     → ((b : ℕ) → guard (amid s others n cpu).s b ≡ true → m b ≡ (amid s others n cpu).mem b)
     → AreHarmless guard s (and_then n others m) (suc n) cpu
 spared guard s zero others m cpu harmless same = (same, tt)
 spared guard s (suc n) others m cpu harmless same =
     (harmless.0, spared guard s n (λ j. others (suc j)) m (turn s (changed (others 0) cpu)) harmless.1 same)
-
--- before its next step memory is replaced by this one, which has each guarded byte as it was; so there are others that
--- are harmless, and the call after that step
-pub record GoesOn (guard : Guard) (s : ℕ) (others : ℕ → ℕ → ℕ) (n : ℕ) (from : Cpu) (m : ℕ → ℕ) : Type 0 where
-  pub later : ℕ → ℕ → ℕ
-  pub harmless : AreHarmless guard s later (suc n) from
-  pub after : amid s later (suc n) from ≡ turn s (changed m (amid s others n from))
-
-pub goes_on : (guard : Guard) (s : ℕ) (others : ℕ → ℕ → ℕ) (n : ℕ) (from : Cpu) (m : ℕ → ℕ)
-    → AreHarmless guard s others n from
-    → ((b : ℕ) → guard (amid s others n from).s b ≡ true → m b ≡ (amid s others n from).mem b)
-    → GoesOn guard s others n from m
-goes_on guard s others n from m harmless same = record {
-  later = and_then n others m;
-  harmless = spared guard s n others m from harmless same;
-  after = grows s n others m from;
-}

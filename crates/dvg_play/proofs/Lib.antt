@@ -7,6 +7,7 @@ pub mod Spares
 pub mod Guarded
 pub mod Along
 pub mod Leaps
+pub mod Bearers
 pub mod Stages
 pub mod GameSteps
 pub mod Growing
@@ -19,6 +20,7 @@ pub mod Calling
 pub mod Bytes
 pub mod Plays
 pub mod BegunFrames
+pub mod OnLog
 pub mod Lives
 pub mod SomeGame
 pub mod Claims

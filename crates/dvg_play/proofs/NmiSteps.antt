@@ -1,44 +1,37 @@
 -- A play in an NMI that came amid a call of the driver: its steps, and its RTI.
-use Rattle.std.proofs.Common.{◌≡◌, ℕ, suc, ◌+◌, ◌*◌, ◌/◌, ◌%◌, ◌<◌, ◌≤◌, Bool, true, false, List, [], ◌++◌}
+use Rattle.std.proofs.Common.{◌≡◌, ℕ, suc, ◌+◌, ◌*◌, ◌/◌, ◌%◌, ◌<◌, ◌≤◌, Bool, true, false, List}
 use Rattle.std.proofs.Common.{refl, sym, ap, ◌∙◌, subst, arith}
 use Rattle.std.specs.Prelude.{nat_eq, None, Some}
-use Rattle.dvg_6502.specs.Processor.{Cpu, Access, bit_of, decoded, does, flags_byte, has_bit, opcodes, pulled}
+use Rattle.dvg_6502.specs.Processor.{Cpu, bit_of, decoded, does, flags_byte, has_bit, opcodes, pulled}
 use Rattle.dvg_6502.specs.Processor.{stack_place}
-use Rattle.dvg_6502.specs.Amid.{changed}
-use Rattle.dvg_6502.specs.Calls.{Routine, Call, frame_of}
+use Rattle.dvg_6502.specs.Amid.{changed, is_code}
+use Rattle.dvg_6502.specs.Calls.{frame_of}
 use Rattle.dvg_game.specs.Kinds.{Finish, kind_of}
 use Rattle.dvg_game.specs.Machine.{Came, State, IsRun, calling, goes_home, reset_vector, restarting, restarts}
 use Rattle.dvg_game.specs.Machine.{resumed_at}
 use Rattle.dvg_game.specs.Machine.{step, steps, word_at}
 use Rattle.dvg_game.specs.Machine as machine
-use Rattle.dvg_game.specs.Checker.{Notes, accepts}
 use Rattle.dvg_game.specs.Safe.{IsSafe, IsSafeBy}
 use Rattle.dvg_game.specs.Alike.{of_cpu}
 use Rattle.dvg_game.proofs.Facts.{inside}
 use Rattle.dvg_game.proofs.Local.{ticked}
-use Rattle.dvg_game.proofs.Whole.{checked_is_safe}
 use Rattle.dvg_play.specs.Play
-use Rattle.dvg_play.specs.Play.{AreBytes, done, fresh, made}
-use Rattle.dvg_play.specs.Open.{IsOpen}
+use Rattle.dvg_play.specs.Play.{AreBytes, done, fresh}
 use Rattle.dvg_play.proofs.Along.{Followed, along, amid_stays, follow, is_finish, restarts_same}
+use Rattle.dvg_play.proofs.Bearers.{Bearer}
 use Rattle.dvg_play.proofs.DriverSteps.{two_levels}
-use Rattle.dvg_play.proofs.GameSteps.{made_none, outside_code, pushing}
+use Rattle.dvg_play.proofs.GameSteps.{bit_small, outside_code, pushing}
 use Rattle.dvg_play.proofs.Guarded.{guard_is_spared, stack_spared}
 use Rattle.dvg_play.proofs.Outside.{guard_is_inside, stack_inside}
 use Rattle.dvg_play.proofs.Leaps.{calling_same, finishing, is_called, restarting_same, resume_is}
-use Rattle.dvg_play.proofs.Opened.{nmi_passes}
 use Rattle.dvg_play.proofs.Sessions.{unless_map}
 use Rattle.dvg_play.proofs.Spares.{spares}
-use Rattle.dvg_play.proofs.Stages.{Back, jmp, jsr, InDriver, InNmi, NotBlank}
+use Rattle.dvg_play.proofs.Stages.{Back, jmp, jsr, InDriver, InNmi, NotBlank, IsAccepted, safe_at}
 
 same_came : (one two : Came) → Some one ≡ Some two → one ≡ two
 same_came one two is = cc
 
 -- the flags that an NMI pushed
-bit_small : (b : Bool) → bit_of b < 2
-bit_small true = omega arith
-bit_small false = omega arith
-
 is_bit : (b : Bool) → nat_eq (bit_of b) 1 ≡ b
 is_bit true = refl
 is_bit false = refl
@@ -71,26 +64,12 @@ flags_back cpu =
       c = flag_back (flags_byte false cpu) 1 cpu.c (omega (arith, n, v, d, i, z, c));
     }
 
--- a call that a processor is in, whatever its flag and log
-refreshed : (R : List ℕ) (routine : Routine) (s : ℕ) (calls : List Call) (cpu : Cpu) (log : List Access) (flags : ℕ → ℕ)
-    → IsOpen R routine s calls cpu log → IsOpen R routine s calls (fresh flags cpu) log
-refreshed R routine s calls cpu log flags call future = let is = call future in record {
-  call = is.call;
-  session = is.session;
-  routine_is = is.routine_is;
-  level = is.level;
-  in_rom = is.in_rom;
-  left = is.left;
-  after = is.after;
-  same = is.same;
-}
-
-module _ (R : List ℕ) (rom : ℕ → ℕ) (start : ℕ) (notes : Notes) (accepted : accepts rom start notes ≡ true) (cpu : Cpu)
-    (since : ℕ) (log : List Access) (n : InNmi R rom start cpu since log) where
+module _ {R : List ℕ} {B : Bearer R} {rom : ℕ → ℕ} {start : ℕ} (game : IsAccepted rom start)
+    {cpu : Cpu} {since : ℕ} {w : B.World} (n : InNmi R B rom start cpu since w) where
   abbrev here : State
   here = of_cpu cpu n.st
 
-  abbrev d : InDriver R rom start n.outer log
+  abbrev d : InDriver R B rom start n.outer w
   d = n.driver
 
   abbrev came : Came
@@ -103,14 +82,14 @@ module _ (R : List ℕ) (rom : ℕ → ℕ) (start : ℕ) (notes : Notes) (accep
     y = n.outer.y;
   }
 
-  safe : IsSafe rom here
-  safe = checked_is_safe rom start notes accepted here n.run
+  pub safe : IsSafe rom here
+  safe = safe_at game here n.run
 
   at_call : IsSafe rom d.st
-  at_call = checked_is_safe rom start notes accepted d.st d.run
+  at_call = safe_at game d.st d.run
 
-  pub nothing_made : (new : Cpu) → made cpu new ≡ []
-  nothing_made new = made_none cpu new (outside_code cpu.pc safe.inside)
+  pub outside : is_code cpu.pc ≡ false
+  outside = outside_code cpu.pc safe.inside
 
   -- an NMI calls no driver
   no_call : restarts here ≡ false → calling (kind_of (cpu.mem cpu.pc)) here ≡ false
@@ -122,21 +101,20 @@ module _ (R : List ℕ) (rom : ℕ → ℕ) (start : ℕ) (notes : Notes) (accep
           absurd (let e = sym n.amid ∙ out in cc)
 
   pub nmi_steps : (flags : ℕ → ℕ) → Play.restarts cpu ≡ false → is_finish (kind_of (cpu.mem cpu.pc)) ≡ false
-      → AreBytes (done flags cpu) → InNmi R rom start (done flags cpu) (suc since) (made cpu (done flags cpu) ++ log)
-  nmi_steps flags go more bytes = subst (λ l. InNmi R rom start (done flags cpu) (suc since) (l ++ log))
-      (sym (nothing_made (done flags cpu))) (record {
-        outer = n.outer;
-        driver = d;
-        st = step did.choice here;
-        run = did.run;
-        time = (along (kind_of (cpu.mem cpu.pc)) did.choice here calls).since ∙ ap suc n.time;
-        amid = (amid_stays (kind_of (cpu.mem cpu.pc)) did.choice here calls more).amid ∙ n.amid;
-        home = (amid_stays (kind_of (cpu.mem cpu.pc)) did.choice here calls more).home ∙ n.home;
-        blank = (along (kind_of (cpu.mem cpu.pc)) did.choice here calls).blank ∙ n.blank;
-        bytes = bytes;
-        kept = λ b spared inside. sym (did.alike.mem b)
-            ∙ spares rom start notes accepted here came n.run n.amid did.choice goes b spared ∙ n.kept b spared inside;
-      })
+      → AreBytes (done flags cpu) → InNmi R B rom start (done flags cpu) (suc since) w
+  nmi_steps flags go more bytes = record {
+    outer = n.outer;
+    driver = d;
+    st = step did.choice here;
+    run = did.run;
+    time = (along (kind_of (cpu.mem cpu.pc)) did.choice here calls).since ∙ ap suc n.time;
+    amid = (amid_stays (kind_of (cpu.mem cpu.pc)) did.choice here calls more).amid ∙ n.amid;
+    home = (amid_stays (kind_of (cpu.mem cpu.pc)) did.choice here calls more).home ∙ n.home;
+    blank = (along (kind_of (cpu.mem cpu.pc)) did.choice here calls).blank ∙ n.blank;
+    bytes = bytes;
+    kept = λ b spared inside. sym (did.alike.mem b)
+        ∙ spares rom start game.notes game.yes here came n.run n.amid did.choice goes b spared ∙ n.kept b spared inside;
+  }
     where
       goes : restarts here ≡ false
       goes = sym (restarts_same cpu n.st) ∙ go
@@ -236,7 +214,7 @@ module _ (R : List ℕ) (rom : ℕ → ℕ) (start : ℕ) (notes : Notes) (accep
         (omega (arith, level, most)) refl) (stack_inside (d.s + 2) (omega (arith, level, most))) ∙ two)
     kept_back (jmp is level) = jmp (ap kind_of opcode ∙ is) level
 
-    pub nmi_ends : (flags : ℕ → ℕ) → AreBytes (resumed flags) → InDriver R rom start (resumed flags) log
+    pub nmi_ends : (flags : ℕ → ℕ) → AreBytes (resumed flags) → InDriver R B rom start (resumed flags) w
     nmi_ends flags bytes = record {
       st = again;
       run = again_run;
@@ -253,11 +231,10 @@ module _ (R : List ℕ) (rom : ℕ → ℕ) (start : ℕ) (notes : Notes) (accep
       back = kept_back d.back;
       calls = d.calls;
       mine = d.mine;
-      doing = refreshed R d.routine d.s d.calls (changed cpu.mem n.outer) d.mine flags
-          (nmi_passes R d.routine d.s d.calls n.outer d.mine cpu.mem d.doing (λ tables in_rom b guarded.
+      doing = B.refreshes d.routine d.s d.calls (changed cpu.mem n.outer) d.mine w flags
+          (B.passes d.routine d.s d.calls n.outer d.mine w cpu.mem (λ tables in_rom b guarded.
           n.kept b (guard_is_spared tables (λ b table. (in_rom b table).0) d.s n.outer.s small d.level b guarded)
-          (guard_is_inside tables in_rom d.s n.outer.s b guarded)));
-      accesses = d.accesses;
+          (guard_is_inside tables in_rom d.s n.outer.s b guarded)) d.doing);
       most = d.most;
       top = d.top;
       level = d.level;

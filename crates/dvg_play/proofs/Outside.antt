@@ -2,19 +2,21 @@
 use Rattle.std.proofs.Common.{◌≡◌, ◌⊎◌, inl, inr, ℕ, ◌+◌, ◌<◌, ◌≤◌, Bool, true, false, List, refl, ◌∙◌}
 use Rattle.std.proofs.Common.{arith, eqb-true}
 use Rattle.std.specs.Prelude.{◌&&◌, ◌||◌, not, nat_eq}
+use Rattle.std.proofs.lemmas.Bool.{or_left, or_right}
 use Rattle.dvg_6502.specs.Processor.{Cpu, Access, stack_place}
 use Rattle.dvg_6502.specs.Amid as driver
 use Rattle.dvg_6502.specs.Amid.{changed, guards, is_kept, is_work}
 use Rattle.dvg_6502.specs.Board.{is_hardware, is_own, is_ram}
+use Rattle.dvg_6502.specs.Calls.{Call, Routine}
 use Rattle.dvg_game.specs.Machine.{State, IsTurned, is_outside, turns}
 use Rattle.dvg_game.proofs.Facts.{both_true}
 use Rattle.dvg_game.proofs.Memory.{between, either}
 use Rattle.dvg_game.proofs.Turning.{hardware_inside, low_inside, rom_inside}
 use Rattle.dvg_play.specs.Play.{AreBytes}
 use Rattle.dvg_play.specs.Open.{InRom}
+use Rattle.dvg_play.proofs.Bearers.{Bearer}
 use Rattle.dvg_play.proofs.GameSteps.{rested_on}
-use Rattle.dvg_play.proofs.Opened.{nmi_passes}
-use Rattle.dvg_play.proofs.Stages.{Back, jmp, jsr, InDriver, InGame, InNmi, Rests, Stage}
+use Rattle.dvg_play.proofs.Stages.{Back, jmp, jsr, InDriver, Rests, Stage}
 
 pub stack_inside : (k : ℕ) → k ≤ 255 → is_outside (0x100 + k) ≡ false
 stack_inside k few = low_inside (0x100 + k) (omega (arith, few))
@@ -26,13 +28,9 @@ own_inside b is = let high = (between 0x10 0x1B b is).1 in low_inside b (omega (
 pub needed_inside : (b : ℕ) → (is_own b || is_ram b) ≡ true → is_outside b ≡ false
 needed_inside b is = by (either (is_own b) (is_ram b) is)
   where
-    hard : (t u : Bool) → t ≡ true → (t || u) ≡ true
-    hard true u is = refl
-    hard false u is = absurd (cc)
-
     by : (is_own b ≡ true) ⊎ (is_ram b ≡ true) → is_outside b ≡ false
     by (inl own) = own_inside b own
-    by (inr ram) = hardware_inside b (hard (is_ram b) _ ram)
+    by (inr ram) = hardware_inside b (or_left (is_ram b) _ ram)
 
 -- and so is what is guarded amid a call
 pub guard_is_inside : (tables : ℕ → Bool) → ((b : ℕ) → tables b ≡ true → InRom b) → (s now b : ℕ)
@@ -77,31 +75,22 @@ back_turns st old mem same s most (jsr is level one two) = jsr is level
     (same (0x100 + (s + 2)) (stack_inside (s + 2) (omega (arith, level, most))) ∙ two)
 back_turns st old mem same s most (jmp is level) = jmp is level
 
-module _ (R : List ℕ) (rom : ℕ → ℕ) (start : ℕ) (cpu : Cpu) (since : ℕ) (log : List Access) (mem : ℕ → ℕ)
-    (small : (b : ℕ) → mem b < 256) (same : IsTurned cpu.mem mem) where
-  -- in the game
-  game_turns : InGame R rom start cpu since log → InGame R rom start (changed mem cpu) since log
-  game_turns g = record {
-    st = g.st;
-    run = turns mem g.run same;
-    homeless = g.homeless;
-    time = g.time;
-    bytes = other_bytes cpu mem g.bytes small;
-    calls = g.calls;
-    logged = g.logged;
-    rests = λ awake. on (g.rests awake);
-  }
-    where
-      on : Rests R g.calls cpu.mem g.st.blank → Rests R g.calls mem g.st.blank
-      on r = record {
-        rested = rested_on R g.calls cpu.mem mem (λ b is. same b (needed_inside b is))
-            (λ b low high. let two = g.logged.tables b low high in same b (rom_inside b two.0 two.1)) r.rested;
-        frame = r.frame;
-      }
+small_at : {R : List ℕ} {B : Bearer R} {rom : ℕ → ℕ} {start : ℕ} {cpu : Cpu} {since : ℕ} {w : B.World}
+    → Stage R B rom start cpu since w → (b : ℕ) → cpu.mem b < 256
+small_at (inl g) = g.bytes.mem
+small_at (inr (inl d)) = d.bytes.mem
+small_at (inr (inr n)) = n.bytes.mem
 
+-- a call is borne along where its processor's memory turns to this
+abbrev Carries : {R : List ℕ} (B : Bearer R) → Cpu → (ℕ → ℕ) → B.World → B.World → Type 0
+Carries B cpu mem w v = (routine : Routine) (s : ℕ) (calls : List Call) (mine : List Access)
+    → B.Amid routine s calls cpu mine w → B.Amid routine s calls (changed mem cpu) mine v
+
+module _ {R : List ℕ} {B : Bearer R} {rom : ℕ → ℕ} {start : ℕ} {w v : B.World} where
   -- in a call of the driver
-  driver_turns : InDriver R rom start cpu log → InDriver R rom start (changed mem cpu) log
-  driver_turns d = record {
+  driver_moves : {cpu : Cpu} (mem : ℕ → ℕ) → ((b : ℕ) → mem b < 256) → IsTurned cpu.mem mem → Carries B cpu mem w v
+      → InDriver R B rom start cpu w → InDriver R B rom start (changed mem cpu) v
+  driver_moves {cpu} mem small same carries d = record {
     st = d.st;
     run = d.run;
     outside = d.outside;
@@ -114,9 +103,7 @@ module _ (R : List ℕ) (rom : ℕ → ℕ) (start : ℕ) (cpu : Cpu) (since : �
     back = back_turns d.st cpu.mem mem same d.s d.most d.back;
     calls = d.calls;
     mine = d.mine;
-    doing = nmi_passes R d.routine d.s d.calls cpu d.mine mem d.doing (λ tables in_rom b guarded.
-        same b (guard_is_inside tables in_rom d.s cpu.s b guarded));
-    accesses = d.accesses;
+    doing = carries d.routine d.s d.calls d.mine d.doing;
     most = d.most;
     top = d.top;
     level = d.level;
@@ -127,11 +114,34 @@ module _ (R : List ℕ) (rom : ℕ → ℕ) (start : ℕ) (cpu : Cpu) (since : �
     frame = d.frame;
   }
 
-  -- in an NMI that came amid one
-  nmi_turns : InNmi R rom start cpu since log → InNmi R rom start (changed mem cpu) since log
-  nmi_turns n = record {
+  -- in the game, in a call, or in an NMI that came amid one
+  stage_moves : {cpu : Cpu} {since : ℕ} (mem : ℕ → ℕ) → ((b : ℕ) → mem b < 256) → IsTurned cpu.mem mem
+      → ((calls : List Call) → B.Between calls cpu.mem w → B.Between calls mem v) → Carries B cpu mem w v
+      → ((outer : Cpu) → Carries B outer outer.mem w v)
+      → Stage R B rom start cpu since w → Stage R B rom start (changed mem cpu) since v
+  unfolding driver_moves
+  stage_moves {cpu} mem small same keeping carries amid (inl g) = inl (record {
+    st = g.st;
+    run = turns mem g.run same;
+    homeless = g.homeless;
+    time = g.time;
+    bytes = other_bytes cpu mem g.bytes small;
+    calls = g.calls;
+    between = keeping g.calls g.between;
+    tables = g.tables;
+    rests = λ awake. on (g.rests awake);
+  })
+    where
+      on : Rests R g.calls cpu.mem g.st.blank → Rests R g.calls mem g.st.blank
+      on r = record {
+        rested = rested_on R g.calls cpu.mem mem (λ b is. same b (needed_inside b is))
+            (λ b low high. let two = g.tables b low high in same b (rom_inside b two.0 two.1)) r.rested;
+        frame = r.frame;
+      }
+  stage_moves mem small same keeping carries amid (inr (inl d)) = inr (inl (driver_moves mem small same carries d))
+  stage_moves {cpu} mem small same keeping carries amid (inr (inr n)) = inr (inr (record {
     outer = n.outer;
-    driver = n.driver;
+    driver = driver_moves n.outer.mem n.driver.bytes.mem (λ b inside. refl) (amid n.outer) n.driver;
     st = n.st;
     run = turns mem n.run same;
     time = n.time;
@@ -140,9 +150,22 @@ module _ (R : List ℕ) (rom : ℕ → ℕ) (start : ℕ) (cpu : Cpu) (since : �
     blank = n.blank;
     bytes = other_bytes cpu mem n.bytes small;
     kept = λ b spared inside. same b inside ∙ n.kept b spared inside;
-  }
+  }))
 
-  pub stage_turns : Stage R rom start cpu since log → Stage R rom start (changed mem cpu) since log
-  stage_turns (inl g) = inl (game_turns g)
-  stage_turns (inr (inl d)) = inr (inl (driver_turns d))
-  stage_turns (inr (inr n)) = inr (inr (nmi_turns n))
+  -- where what bears the calls goes on by itself
+  pub stage_waits : {cpu : Cpu} {since : ℕ}
+      → ((calls : List Call) (mem : ℕ → ℕ) → B.Between calls mem w → B.Between calls mem v)
+      → ((outer : Cpu) → Carries B outer outer.mem w v)
+      → Stage R B rom start cpu since w → Stage R B rom start cpu since v
+  stage_waits {cpu} keeping carries one = stage_moves cpu.mem (small_at one) (λ b inside. refl)
+      (λ calls. keeping calls cpu.mem) (carries cpu) carries one
+
+-- where what is outside turns
+pub stage_turns : (R : List ℕ) (B : Bearer R) (rom : ℕ → ℕ) (start : ℕ) (cpu : Cpu) (since : ℕ) (w : B.World)
+    (mem : ℕ → ℕ) → ((b : ℕ) → mem b < 256) → IsTurned cpu.mem mem → Stage R B rom start cpu since w
+    → Stage R B rom start (changed mem cpu) since w
+stage_turns R B rom start cpu since w mem small same one = stage_moves mem small same
+    (λ calls before. B.keeps calls cpu.mem mem w (λ b is. same b (needed_inside b (or_right (is_own b) _ is))) before)
+    (λ routine s calls mine doing. B.passes routine s calls cpu mine w mem
+    (λ tables in_rom b guarded. same b (guard_is_inside tables in_rom s cpu.s b guarded)) doing)
+    (λ outer routine s calls mine doing. doing) one

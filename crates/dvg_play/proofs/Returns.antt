@@ -1,12 +1,13 @@
 -- A call of the driver comes to its RTS, and the play is in the game again.
 use Rattle.std.proofs.Common.{◌≡◌, ◌⊎◌, inl, inr, ℕ, zero, suc, ◌+◌, ◌*◌, ◌/◌, ◌%◌, ◌<◌, ◌≤◌, Bool, true, false, List}
-use Rattle.std.proofs.Common.{[], ◌∷◌, ◌++◌, refl, sym, ap, ◌∙◌, subst, arith, le-leb, eqb-true}
+use Rattle.std.proofs.Common.{◌∷◌, refl, sym, ap, ◌∙◌, subst, arith, le-leb, eqb-true}
 use Rattle.std.specs.Prelude.{◌&&◌, ◌||◌, nat_eq, nat_le, nat_lt, if◌then◌else◌, None, Some, Option, drop, length}
+use Rattle.std.proofs.lemmas.Bool.{or_left, or_right}
 use Rattle.dvg_6502.specs.Processor.{Cpu, Access, at_return, decoded, does, opcodes, stack_place}
 use Rattle.dvg_6502.specs.Processor as processor
 use Rattle.dvg_6502.specs.Amid as driver
 use Rattle.dvg_6502.specs.Amid.{is_kept, is_work}
-use Rattle.dvg_6502.specs.Board.{is_hardware, is_own, is_ram, seen}
+use Rattle.dvg_6502.specs.Board.{is_hardware, is_own, is_ram}
 use Rattle.dvg_6502.specs.Calls.{Routine, Call, after, bounds, entry, frame_after, frame_of, is_offered}
 use Rattle.dvg_6502.specs.Calls.{is_table, is_taken, put_on, taken_bounds, UnlessReset}
 use Rattle.dvg_6502.specs.Calls as calls_of
@@ -18,56 +19,45 @@ use Rattle.dvg_game.specs.Machine.{Choice, State, IsRun, blank_after, calling, d
 use Rattle.dvg_game.specs.Machine.{step, steps}
 use Rattle.dvg_game.specs.Machine.{called, word_at}
 use Rattle.dvg_game.specs.Machine as machine
-use Rattle.dvg_game.specs.Checker.{Notes, accepts}
 use Rattle.dvg_game.specs.Alike.{AreAlike, of_cpu}
-use Rattle.dvg_game.proofs.Facts.{inside}
+use Rattle.dvg_game.proofs.Facts.{both_true, inside}
 use Rattle.dvg_game.proofs.Local.{ticked}
 use Rattle.dvg_game.proofs.Memory.{either}
-use Rattle.dvg_play.specs.Play.{AreBytes, done, fresh, made}
+use Rattle.dvg_play.specs.Play.{AreBytes, done, fresh}
 use Rattle.dvg_play.specs.Open.{IsIn}
-use Rattle.dvg_play.specs.Stays.{LabsBegins}
-use Rattle.dvg_play.specs.Games.{accesses_of}
 use Rattle.dvg_play.proofs.Along.{as_cpu}
+use Rattle.dvg_play.proofs.Bearers.{Bearer, Ended}
 use Rattle.dvg_play.proofs.DriverSteps.{choice, left_as, safe}
-use Rattle.dvg_play.proofs.Opened.{driver_ends, has_come}
-use Rattle.dvg_play.proofs.Stages.{Back, jmp, jsr, InDriver, InGame, NotBlank}
-
-left_true : (t u : Bool) → t ≡ true → (t || u) ≡ true
-left_true true u is = refl
-left_true false u is = absurd (cc)
-
-right_true : (t u : Bool) → u ≡ true → (t || u) ≡ true
-right_true true u is = refl
-right_true false u is = is
+use Rattle.dvg_play.proofs.Stages.{Back, jmp, jsr, InDriver, InGame, NotBlank, IsAccepted}
 
 in_bounds : (low high b : ℕ) → low ≤ b → b < high → (nat_le low b && nat_lt b high) ≡ true
 in_bounds low high b one two = ap (λ t. t && nat_lt b high) (le-leb low b one) ∙ le-leb (suc b) high two
 
 -- what is needed between calls is kept amid them
-needed_kept : (tables : ℕ → Bool) (b : ℕ) → (is_own b || is_ram b) ≡ true → is_kept tables b ≡ true
+pub needed_kept : (tables : ℕ → Bool) (b : ℕ) → (is_own b || is_ram b) ≡ true → is_kept tables b ≡ true
 needed_kept tables b is = by (either (is_own b) (is_ram b) is)
   where
     by : (is_own b ≡ true) ⊎ (is_ram b ≡ true) → is_kept tables b ≡ true
-    by (inl own) = left_true (is_own b) _ own
-    by (inr ram) = right_true (is_own b) _ (right_true (is_work b) _ (right_true (driver.is_code b) _
-        (left_true (is_hardware b) (tables b) (left_true (is_ram b) _ ram))))
+    by (inl own) = or_left (is_own b) _ own
+    by (inr ram) = or_right (is_own b) _ (or_right (is_work b) _ (or_right (driver.is_code b) _
+        (or_left (is_hardware b) (tables b) (or_left (is_ram b) _ ram))))
 
-table_kept : (tables : ℕ → Bool) (b : ℕ) → tables b ≡ true → is_kept tables b ≡ true
-table_kept tables b is = right_true (is_own b) _ (right_true (is_work b) _ (right_true (driver.is_code b) _
-    (right_true (is_hardware b) (tables b) is)))
+pub table_kept : (tables : ℕ → Bool) (b : ℕ) → tables b ≡ true → is_kept tables b ≡ true
+table_kept tables b is = or_right (is_own b) _ (or_right (is_work b) _ (or_right (driver.is_code b) _
+    (or_right (is_hardware b) (tables b) is)))
 
 -- a table that stands after a call was one of its own
-covers : (routine : Routine) (call : Call) (old : ℕ × ℕ) (b : ℕ) → (taken_bounds routine call old).0 ≤ b
+pub covers : (routine : Routine) (call : Call) (old : ℕ × ℕ) (b : ℕ) → (taken_bounds routine call old).0 ≤ b
     → b < (taken_bounds routine call old).1
     → ((nat_le old.0 b && nat_lt b old.1) || is_offered routine call.from b) ≡ true
 covers calls_of.Reset call old b low high = absurd (omega (arith, high))
-covers calls_of.Tick call old b low high = left_true _ false (in_bounds old.0 old.1 b low high)
-covers calls_of.Ticks call old b low high = left_true _ false (in_bounds old.0 old.1 b low high)
-covers calls_of.Run call old b low high = left_true _ false (in_bounds old.0 old.1 b low high)
-covers calls_of.Redraw call old b low high = left_true _ false (in_bounds old.0 old.1 b low high)
-covers (calls_of.Open F) call old b low high = left_true _ false (in_bounds old.0 old.1 b low high)
-covers (calls_of.Puts part) call old b low high = left_true _ false (in_bounds old.0 old.1 b low high)
-covers calls_of.Close call old b low high = left_true _ false (in_bounds old.0 old.1 b low high)
+covers calls_of.Tick call old b low high = or_left _ false (in_bounds old.0 old.1 b low high)
+covers calls_of.Ticks call old b low high = or_left _ false (in_bounds old.0 old.1 b low high)
+covers calls_of.Run call old b low high = or_left _ false (in_bounds old.0 old.1 b low high)
+covers calls_of.Redraw call old b low high = or_left _ false (in_bounds old.0 old.1 b low high)
+covers (calls_of.Open F) call old b low high = or_left _ false (in_bounds old.0 old.1 b low high)
+covers (calls_of.Puts part) call old b low high = or_left _ false (in_bounds old.0 old.1 b low high)
+covers calls_of.Close call old b low high = or_left _ false (in_bounds old.0 old.1 b low high)
 covers (calls_of.Offer F) call old b low high = by (is_taken call) low high
   where
     t : ℕ
@@ -76,9 +66,9 @@ covers (calls_of.Offer F) call old b low high = by (is_taken call) low high
     by : (u : Bool) → (if u then (t + 2, t + 2 + length (table_of F)) else old).0 ≤ b
         → b < (if u then (t + 2, t + 2 + length (table_of F)) else old).1
         → ((nat_le old.0 b && nat_lt b old.1) || is_offered (calls_of.Offer F) call.from b) ≡ true
-    by true low high = right_true (nat_le old.0 b && nat_lt b old.1) _
+    by true low high = or_right (nat_le old.0 b && nat_lt b old.1) _
         (in_bounds t (t + 2 + length (table_of F)) b (omega (arith, low)) high)
-    by false low high = left_true _ (is_offered (calls_of.Offer F) call.from b) (in_bounds old.0 old.1 b low high)
+    by false low high = or_left _ (is_offered (calls_of.Offer F) call.from b) (in_bounds old.0 old.1 b low high)
 
 -- a frame isn't blank where the checker says so
 puts_more : (now : List ℕ) (frame : Option (ℕ × List ℕ)) → NotBlank frame → NotBlank (put_on now frame)
@@ -104,7 +94,7 @@ labs_put call (Some frame) taken = by frame.0 refl
     by (suc n) some = either_frame (is_taken call) (Some (frame.0 + 4, drop 4 frame.1)) (Some frame) (omega arith)
         (omega (arith, some))
 
-frame_on : (r : Routine) (call : Call) (frame : Option (ℕ × List ℕ)) (blank : Bool)
+pub frame_on : (r : Routine) (call : Call) (frame : Option (ℕ × List ℕ)) (blank : Bool)
     → blank_after (entry r) blank ≡ false → UnlessReset r (blank ≡ false → NotBlank frame)
     → (r ≡ calls_of.Puts Labs → (rest : List ℕ) → frame ≡ Some (0, rest) → is_taken call ≡ true)
     → NotBlank (frame_after r call frame)
@@ -124,6 +114,14 @@ frame_on (calls_of.Puts Vector) call frame blank is old labs = either_frame (is_
     (put_on (put_by Vector call.from) frame) frame (puts_more (put_by Vector call.from) frame (old is)) (old is)
 frame_on calls_of.Close call frame blank is old labs = either_frame (is_taken call) None frame tt (old is)
 
+-- what the call leaves that is guarded is where its bearer has it end, too
+pub ended_kept : (R : List ℕ) (routine : Routine) (s : ℕ) (calls : List Call) (cpu : Cpu) (mine : List Access)
+    (is : IsIn R routine s calls cpu mine (λ n. 0)) (end : Ended R calls is.call) (b : ℕ)
+    → is_kept (is_table is.call calls) b ≡ true → cpu.mem b ≡ (after end.last).mem b
+ended_kept R routine s calls cpu mine is end b guarded =
+    is.same b (or_left (is_kept (is_table is.call calls) b) _ guarded)
+    ∙ sym (ap (λ (k : Cpu). k.mem b) is.after) ∙ end.kept b guarded
+
 -- the machine's state at the return
 pub record Came (rom : ℕ → ℕ) (start : ℕ) (ret : Cpu) (since : ℕ) (to : ℕ) (blank : Bool) : Type 0 where
   pub st : State
@@ -132,15 +130,15 @@ pub record Came (rom : ℕ → ℕ) (start : ℕ) (ret : Cpu) (since : ℕ) (to 
   pub time : st.since ≡ since
   pub blank_is : st.blank ≡ blank_after to blank
 
-module _ (R : List ℕ) (rom : ℕ → ℕ) (start : ℕ) (notes : Notes) (accepted : accepts rom start notes ≡ true)
-    (labs : LabsBegins) (cpu : Cpu) (log : List Access) (d : InDriver R rom start cpu log)
+module _ {R : List ℕ} {B : Bearer R} {rom : ℕ → ℕ} {start : ℕ} (game : IsAccepted rom start)
+    {cpu : Cpu} {w : B.World} (d : InDriver R B rom start cpu w)
     (there : at_return d.s cpu ≡ true) (since : ℕ) (flags : ℕ → ℕ) where
   opcode : cpu.mem cpu.pc ≡ 0x60
-  opcode = eqb-true (cpu.mem cpu.pc) 0x60 (Rattle.dvg_game.proofs.Facts.both_true (nat_eq (cpu.mem cpu.pc) 0x60)
+  opcode = eqb-true (cpu.mem cpu.pc) 0x60 (both_true (nat_eq (cpu.mem cpu.pc) 0x60)
       (nat_eq cpu.s d.s) there).0
 
   level : cpu.s ≡ d.s
-  level = eqb-true cpu.s d.s (Rattle.dvg_game.proofs.Facts.both_true (nat_eq (cpu.mem cpu.pc) 0x60)
+  level = eqb-true cpu.s d.s (both_true (nat_eq (cpu.mem cpu.pc) 0x60)
       (nat_eq cpu.s d.s) there).1
 
   -- the processor after its RTS
@@ -151,19 +149,19 @@ module _ (R : List ℕ) (rom : ℕ → ℕ) (start : ℕ) (notes : Notes) (accep
   ret_is = ap (λ b. does (decoded opcodes b) (fresh flags cpu)) opcode
 
   abbrev chosen : Choice
-  chosen = record (choice R rom start notes accepted cpu log d) { since = suc since }
+  chosen = record (choice game d) { since = suc since }
 
   abbrev to : ℕ
   to = word_at d.st.mem (d.st.pc + 1)
 
   left : (b : ℕ) → left_by d.st.s cpu.mem d.st.mem b ≡ cpu.mem b
-  left b = left_as R rom start notes accepted cpu log d b
+  left b = left_as game d b
 
   at_stack : (k : ℕ) → k ≤ 255 → stack_place k ≡ 0x100 + k
   at_stack k small = omega (arith, small)
 
   place : d.st.pc + 3 < 65536
-  place = let high = (inside d.st.pc (safe R rom start notes accepted cpu log d).inside).1 in omega (arith, high)
+  place = let high = (inside d.st.pc (safe game d).inside).1 in omega (arith, high)
 
   by_jsr : kind_of (d.st.mem d.st.pc) ≡ kinds.Call → d.s + 2 ≡ d.st.s
       → cpu.mem (0x100 + (d.s + 1)) ≡ (d.st.pc + 2) % 256 → cpu.mem (0x100 + (d.s + 2)) ≡ (d.st.pc + 2) / 256
@@ -253,47 +251,51 @@ module _ (R : List ℕ) (rom : ℕ → ℕ) (start : ℕ) (notes : Notes) (accep
       by (jsr is up one two) = by_jsr is up one two
       by (jmp is same) = by_jmp is same
 
-  -- the call, with any answers of the flag from there on
-  is : IsIn R d.routine d.s d.calls cpu d.mine (λ n. 0)
-  is = d.doing (λ n. 0)
+  -- how its bearer leaves the call
+  over : (is : IsIn R d.routine d.s d.calls cpu d.mine (λ n. 0)) × (end : Ended R d.calls is.call)
+      × B.Between (end.last ∷ d.calls) cpu.mem w
+  over = B.returns d.routine d.s d.calls cpu d.mine w d.place there d.doing
 
-  -- what it leaves that is guarded
-  kept : (b : ℕ) → is_kept (is_table is.call d.calls) b ≡ true → cpu.mem b ≡ (after is.call).mem b
-  kept b guarded = is.same b (left_true (is_kept (is_table is.call d.calls) b) _ guarded)
-      ∙ sym (ap (λ (k : Cpu). k.mem b) is.after)
+  abbrev is : IsIn R d.routine d.s d.calls cpu d.mine (λ n. 0)
+  is = over.0
 
-  in_table : (b : ℕ) → (bounds (is.call ∷ d.calls)).0 ≤ b → b < (bounds (is.call ∷ d.calls)).1
+  abbrev end : Ended R d.calls is.call
+  end = over.1
+
+  kept : (b : ℕ) → is_kept (is_table is.call d.calls) b ≡ true → cpu.mem b ≡ (after end.last).mem b
+  kept b guarded = ended_kept R d.routine d.s d.calls cpu d.mine is end b guarded
+
+  in_table : (b : ℕ) → (bounds (end.last ∷ d.calls)).0 ≤ b → b < (bounds (end.last ∷ d.calls)).1
       → is_table is.call d.calls b ≡ true
-  in_table b low high = covers is.call.routine is.call (bounds d.calls) b low high
+  in_table b low high = ap (λ k. (nat_le (bounds d.calls).0 b && nat_lt b (bounds d.calls).1)
+      || is_offered is.call.routine k b) (sym end.from_is)
+      ∙ ap (λ r. (nat_le (bounds d.calls).0 b && nat_lt b (bounds d.calls).1) || is_offered r end.last.from b)
+      (sym end.routine_is)
+      ∙ covers end.last.routine end.last (bounds d.calls) b low high
 
-  taken : d.routine ≡ calls_of.Puts Labs → (rest : List ℕ) → frame_of d.calls ≡ Some (0, rest)
-      → is_taken is.call ≡ true
-  taken labs_is rest none = labs R is.call d.calls rest is.session (is.routine_is ∙ labs_is) none
-      (has_come R d.routine d.s d.calls cpu d.mine (λ n. 0) is d.place there)
-
-  pub driver_returns : AreBytes ret → InGame R rom start ret (suc since) (made cpu ret ++ log)
+  pub driver_returns : AreBytes ret → InGame R B rom start ret (suc since) w
   driver_returns bytes = record {
     st = came.st;
     run = came.run;
     homeless = came.homeless;
     time = came.time;
     bytes = bytes;
-    calls = is.call ∷ d.calls;
-    logged = record {
-      accesses = ap (λ (k : Cpu). seen k.log ++ accesses_of d.calls) is.after ∙ d.accesses
-          ∙ sym (ap (λ (t : Bool). (if t then seen ret.log else []) ++ log) d.place);
-      tables = λ b low high. is.in_rom b (in_table b low high);
-      session = inr is.session;
-    };
+    calls = end.last ∷ d.calls;
+    between = over.2;
+    tables = λ b low high. is.in_rom b (in_table b low high);
     rests = λ awake. record {
       rested = (
-        is.session,
-        driver_ends R d.routine d.s d.calls cpu d.mine (λ n. 0) is d.place there,
+        end.session,
+        end.over,
         (λ b needed. kept b (needed_kept (is_table is.call d.calls) b needed)),
         (λ b low high. kept b (table_kept (is_table is.call d.calls) b (in_table b low high))),
       );
-      frame = λ blank. subst (λ r. NotBlank (frame_after r is.call (frame_of d.calls))) (sym is.routine_is)
-          (frame_on d.routine is.call (frame_of d.calls) d.st.blank
-          (ap (λ t. blank_after t d.st.blank) (sym d.to) ∙ sym came.blank_is ∙ blank) d.frame taken);
+      frame = λ blank. subst (λ r. NotBlank (frame_after r end.last (frame_of d.calls))) (sym now_is)
+          (frame_on d.routine end.last (frame_of d.calls) d.st.blank
+          (ap (λ t. blank_after t d.st.blank) (sym d.to) ∙ sym came.blank_is ∙ blank) d.frame
+          (λ labs_is. end.taken (is.routine_is ∙ labs_is)));
     };
   }
+    where
+      now_is : end.last.routine ≡ d.routine
+      now_is = end.routine_is ∙ is.routine_is

@@ -1,6 +1,6 @@
 -- A session of calls grows by a step of its newest call, and by a call.
-use Rattle.std.proofs.Common.{◌≡◌, ℕ, suc, Bool, true, false, List, [], ◌∷◌, refl}
-use Rattle.std.specs.Prelude.{◌||◌}
+use Rattle.std.proofs.Common.{◌≡◌, ℕ, suc, true, List, [], ◌∷◌}
+use Rattle.std.proofs.lemmas.Bool.{or_left, or_right}
 use Rattle.dvg_6502.specs.Processor.{Cpu, turn}
 use Rattle.dvg_6502.specs.Amid.{changed, guards, is_kept}
 use Rattle.dvg_6502.specs.Board.{is_own, is_ram}
@@ -9,26 +9,26 @@ use Rattle.dvg_6502.specs.Calls.{Routine, Reset, Tick, Ticks, Run, Offer, Redraw
 use Rattle.dvg_6502.specs.Calls.{entry, frame_of, is_table, Follows, IsSessionBy, UnlessReset}
 use Rattle.dvg_6502.specs.Programs.{Tells}
 use Rattle.dvg_play.specs.Open.{Rested}
-use Rattle.dvg_play.proofs.Going.{goes_on}
+use Rattle.dvg_play.proofs.Going.{and_then, grows, spared}
 
--- the newest call goes on by one step, which finds this memory
-pub record Grown (R : List ℕ) (call : Call) (calls : List Call) (m : ℕ → ℕ) : Type 0 where
-  pub later : ℕ → ℕ → ℕ
-  pub session : IsSessionBy (Tells R) (record call { steps = suc call.steps; others = later } ∷ calls)
-  pub after : after (record call { steps = suc call.steps; others = later })
-      ≡ turn call.from.s (changed m (after call))
+-- the newest call, one step later, which finds this memory
+abbrev pub further : Call → (ℕ → ℕ) → Call
+further call m = record call { steps = suc call.steps; others = and_then call.steps call.others m }
+
+pub further_turns : (call : Call) (m : ℕ → ℕ) → after (further call m) ≡ turn call.from.s (changed m (after call))
+further_turns call m = grows call.from.s call.steps call.others m call.from
 
 pub session_goes_on : (R : List ℕ) (call : Call) (calls : List Call) (m : ℕ → ℕ) → IsSessionBy (Tells R) (call ∷ calls)
     → ((b : ℕ) → guards (is_kept (is_table call calls)) call.from.s (after call).s b ≡ true
     → m b ≡ (after call).mem b)
-    → Grown R call calls m
-session_goes_on R call calls m session same =
-    let on = goes_on (guards (is_kept (is_table call calls)) call.from.s) call.from.s call.others call.steps call.from m
-    session.2 same in record {
-      later = on.later;
-      session = (session.0, session.1, on.harmless, session.3);
-      after = on.after;
-    }
+    → IsSessionBy (Tells R) (further call m ∷ calls)
+session_goes_on R call calls m session same = (
+  session.0,
+  session.1,
+  spared (guards (is_kept (is_table call calls)) call.from.s) call.from.s call.steps call.others m call.from
+      session.2 same,
+  session.3,
+)
 
 pub unless_map : (routine : Routine) (P Q : Type 0) → (P → Q) → UnlessReset routine P → UnlessReset routine Q
 unless_map Reset P Q f is = tt
@@ -40,14 +40,6 @@ unless_map Redraw P Q f is = f is
 unless_map (Open F) P Q f is = f is
 unless_map (Puts part) P Q f is = f is
 unless_map Close P Q f is = f is
-
-or_left : (t u : Bool) → t ≡ true → (t || u) ≡ true
-or_left true u is = refl
-or_left false u is = absurd (cc)
-
-or_right : (t u : Bool) → u ≡ true → (t || u) ≡ true
-or_right true u is = refl
-or_right false u is = is
 
 -- the newest call is followed by one that begins with this memory
 follows : (R : List ℕ) (call : Call) (calls : List Call) → Rested R calls call.from.mem

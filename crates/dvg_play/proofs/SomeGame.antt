@@ -7,7 +7,7 @@ use Rattle.dvg_6502.specs.Processor.{Cpu}
 use Rattle.dvg_game.specs.Checker.{first, places}
 use Rattle.dvg_game.specs.Written.{of_list, rom_of, found, notes_of, note, nmi_note}
 use Rattle.dvg_game.proofs.Facts.{both_true}
-use Rattle.dvg_play.specs.Play.{begins, does}
+use Rattle.dvg_play.specs.Play.{Begins, begins, does}
 use Rattle.dvg_play.specs.SomeGame.{bytes, vectors, rows, rom, notes, start, IsFine, Plays}
 
 pub is_fine : IsFine
@@ -31,7 +31,7 @@ unfolding of_list bytes
 row_small zero = refl
 row_small (suc n) = refl
 
-rom_small : (other : ℕ → ℕ) → ((b : ℕ) → other b < 256) → (b : ℕ) → rom other b < 256
+pub rom_small : (other : ℕ → ℕ) → ((b : ℕ) → other b < 256) → (b : ℕ) → rom other b < 256
 unfolding rom rom_of vectors
 rom_small other small b = by (nat_lt b 0x6800) (nat_lt b first) (nat_lt b 0x7FFA) (nat_lt b 0x8000)
   where
@@ -46,7 +46,7 @@ rom_small other small b = by (nat_lt b 0x6800) (nat_lt b first) (nat_lt b 0x7FFA
     by false false false false = small b
 
 -- after its TXS
-begun : (ℕ → ℕ) → Cpu
+unfoldable pub begun : (ℕ → ℕ) → Cpu
 begun other = record {
   a = 0;
   x = 0;
@@ -64,21 +64,25 @@ begun other = record {
   log = [];
 }
 
+pub it_begins : (other : ℕ → ℕ) → ((b : ℕ) → other b < 256) → Begins (rom other) start (begun other)
+unfolding begun
+it_begins other small = record {
+  loaded = λ b low high. refl;
+  entry = refl;
+  stack = refl;
+  bytes = record {
+    a = omega arith;
+    x = omega arith;
+    y = omega arith;
+    s = omega arith;
+    mem = rom_small other small;
+  };
+}
+
 pub plays : Plays
 unfolding of_list rom_of bytes vectors rom begun
 plays other small =
-    let one = begins (begun other) 0 (record {
-      loaded = λ b low high. refl;
-      entry = refl;
-      stack = refl;
-      bytes = record {
-        a = omega arith;
-        x = omega arith;
-        y = omega arith;
-        s = omega arith;
-        mem = rom_small other small;
-      };
-    }) in
+    let one = begins (begun other) 0 (it_begins other small) in
     let two = does (λ n. 0) one refl (omega arith) in
     let three = does (λ n. 0) two refl (omega arith) in
     (_, three, refl)

@@ -1,25 +1,28 @@
--- Where a play stands: in the game, in a call of the driver, or in an NMI that came amid one.
-use Rattle.std.specs.Prelude.{◌≡◌, ◌⊎◌, ℕ, ◌+◌, ◌/◌, ◌%◌, ◌<◌, ◌≤◌, Bool, true, false, List, [], ◌++◌, Option}
+-- Where a play stands, whatever bears its calls: in the game, in a call of the driver, or in an NMI that came amid one.
+use Rattle.std.specs.Prelude.{◌≡◌, ◌⊎◌, ℕ, ◌+◌, ◌/◌, ◌%◌, ◌<◌, ◌≤◌, Bool, true, false, List, Option}
 use Rattle.std.specs.Prelude.{None, Some}
 use Rattle.dvg_6502.specs.Processor.{Cpu, Access, flags_byte}
 use Rattle.dvg_6502.specs.Amid.{is_code}
-use Rattle.dvg_6502.specs.Board.{seen}
-use Rattle.dvg_6502.specs.Calls.{Routine, Call, bounds, entry, frame_of, IsSessionBy, UnlessReset}
-use Rattle.dvg_6502.specs.Programs.{Tells}
+use Rattle.dvg_6502.specs.Calls.{Routine, Call, bounds, entry, frame_of, UnlessReset}
 use Rattle.dvg_game.specs.Kinds.{kind_of}
 use Rattle.dvg_game.specs.Kinds as kinds
 use Rattle.dvg_game.specs.Machine.{State, IsRun, calling, is_outside, restarts, word_at}
+use Rattle.dvg_game.specs.Checker.{Notes, accepts}
+use Rattle.dvg_game.specs.Safe.{IsSafe}
 use Rattle.dvg_game.specs.Alike.{of_cpu}
+use Rattle.dvg_game.proofs.Whole.{checked_is_safe}
 use Rattle.dvg_play.specs.Play.{AreBytes}
-use Rattle.dvg_play.specs.Open.{InRom, IsOpen, Rested}
+use Rattle.dvg_play.specs.Open.{InRom, Rested}
 use Rattle.dvg_play.specs.Interrupt.{IsSpared}
-use Rattle.dvg_play.specs.Games.{accesses_of}
+use Rattle.dvg_play.proofs.Bearers.{Bearer}
 
--- the calls so far
-pub record Logged (R : List ℕ) (calls : List Call) (log : List Access) : Type 0 where
-  pub accesses : accesses_of calls ≡ log
-  pub tables : (b : ℕ) → (bounds calls).0 ≤ b → b < (bounds calls).1 → InRom b
-  pub session : (calls ≡ []) ⊎ IsSessionBy (Tells R) calls
+-- a game that the checker accepts
+pub record IsAccepted (rom : ℕ → ℕ) (start : ℕ) : Type 0 where
+  pub notes : Notes
+  pub yes : accepts rom start notes ≡ true
+
+pub safe_at : {rom : ℕ → ℕ} {start : ℕ} (game : IsAccepted rom start) (st : State) → IsRun rom start st → IsSafe rom st
+safe_at {rom} {start} game st run = checked_is_safe rom start game.notes game.yes st run
 
 -- a frame that is begun has something in it
 abbrev pub NotBlank : Option (ℕ × List ℕ) → Type 0
@@ -32,15 +35,17 @@ pub record Rests (R : List ℕ) (calls : List Call) (mem : ℕ → ℕ) (blank :
   pub frame : blank ≡ false → NotBlank (frame_of calls)
 
 -- in the game, or in an NMI that came amid it
-pub record InGame (R : List ℕ) (rom : ℕ → ℕ) (start : ℕ) (cpu : Cpu) (since : ℕ) (log : List Access) : Type 0 where
-  pub st : State
-  pub run : IsRun rom start (of_cpu cpu st)
-  pub homeless : st.home ≡ None
-  pub time : st.since ≡ since
-  pub bytes : AreBytes cpu
-  pub calls : List Call
-  pub logged : Logged R calls log
-  pub rests : st.awake ≡ true → Rests R calls cpu.mem st.blank
+pub record InGame (R : List ℕ) (B : Bearer R) (rom : ℕ → ℕ) (start : ℕ) (cpu : Cpu) (since : ℕ) (w : B.World) : Type 0
+  where
+    pub st : State
+    pub run : IsRun rom start (of_cpu cpu st)
+    pub homeless : st.home ≡ None
+    pub time : st.since ≡ since
+    pub bytes : AreBytes cpu
+    pub calls : List Call
+    pub between : B.Between calls cpu.mem w
+    pub tables : (b : ℕ) → (bounds calls).0 ≤ b → b < (bounds calls).1 → InRom b
+    pub rests : st.awake ≡ true → Rests R calls cpu.mem st.blank
 
 -- how the driver was called: by a JSR, whose return address stands there, or by a JMP, which is a call and a return
 pub data Back (st : State) (mem : ℕ → ℕ) (s : ℕ) : Type 0 where
@@ -49,7 +54,7 @@ pub data Back (st : State) (mem : ℕ → ℕ) (s : ℕ) : Type 0 where
   jmp : kind_of (st.mem st.pc) ≡ kinds.Jump → s ≡ st.s → Back st mem s
 
 -- in a call of the driver, where the machine stands at its JSR or JMP
-pub record InDriver (R : List ℕ) (rom : ℕ → ℕ) (start : ℕ) (cpu : Cpu) (log : List Access) : Type 0 where
+pub record InDriver (R : List ℕ) (B : Bearer R) (rom : ℕ → ℕ) (start : ℕ) (cpu : Cpu) (w : B.World) : Type 0 where
   pub st : State
   pub run : IsRun rom start st
   pub outside : st.amid ≡ None
@@ -62,8 +67,7 @@ pub record InDriver (R : List ℕ) (rom : ℕ → ℕ) (start : ℕ) (cpu : Cpu)
   pub back : Back st cpu.mem s
   pub calls : List Call
   pub mine : List Access
-  pub doing : IsOpen R routine s calls cpu mine
-  pub accesses : seen mine ++ accesses_of calls ≡ log
+  pub doing : B.Amid routine s calls cpu mine w
   pub most : st.s ≤ 255
   pub top : s ≤ st.s
   pub level : (cpu.s ≡ s) ⊎ (cpu.s + 2 ≡ s)
@@ -74,9 +78,10 @@ pub record InDriver (R : List ℕ) (rom : ℕ → ℕ) (start : ℕ) (cpu : Cpu)
   pub frame : UnlessReset routine (st.blank ≡ false → NotBlank (frame_of calls))
 
 -- in an NMI that came amid a call of the driver
-pub record InNmi (R : List ℕ) (rom : ℕ → ℕ) (start : ℕ) (cpu : Cpu) (since : ℕ) (log : List Access) : Type 0 where
+pub record InNmi (R : List ℕ) (B : Bearer R) (rom : ℕ → ℕ) (start : ℕ) (cpu : Cpu) (since : ℕ)
+    (w : B.World) : Type 0 where
   pub outer : Cpu
-  pub driver : InDriver R rom start outer log
+  pub driver : InDriver R B rom start outer w
   pub st : State
   pub run : IsRun rom start (of_cpu cpu st)
   pub time : st.since ≡ since
@@ -93,6 +98,6 @@ pub record InNmi (R : List ℕ) (rom : ℕ → ℕ) (start : ℕ) (cpu : Cpu) (s
   pub bytes : AreBytes cpu
   pub kept : (b : ℕ) → IsSpared outer.s b → is_outside b ≡ false → cpu.mem b ≡ outer.mem b
 
-abbrev pub Stage : List ℕ → (ℕ → ℕ) → ℕ → Cpu → ℕ → List Access → Type 0
-Stage R rom start cpu since log =
-    InGame R rom start cpu since log ⊎ (InDriver R rom start cpu log ⊎ InNmi R rom start cpu since log)
+abbrev pub Stage : (R : List ℕ) (B : Bearer R) (rom : ℕ → ℕ) (start : ℕ) → Cpu → ℕ → B.World → Type 0
+Stage R B rom start cpu since w =
+    InGame R B rom start cpu since w ⊎ (InDriver R B rom start cpu w ⊎ InNmi R B rom start cpu since w)

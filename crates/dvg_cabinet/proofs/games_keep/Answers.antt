@@ -1,13 +1,10 @@
-use Rattle.dvg_play.proofs.BegunFrames.{labs_begins}
 use Rattle.dvg_cabinet.proofs.Runs.{games_keep, games_leave_board}
 use Rattle.dvg_cabinet.proofs.games_keep.Goals as goal
 
 pub returns-clause-keeps : goal.returns-clause-keeps
 returns-clause-keeps c =
-    games_keep (record { hindsight = c.hindsight_keeps.ensures; shared = c.machine_keeps.ensures.shared }) labs_begins
+    games_keep (record { hindsight = c.hindsight_keeps.ensures; shared = c.machine_keeps.ensures.shared })
 
 pub returns-clause-leaves : goal.returns-clause-leaves
-returns-clause-leaves c = games_leave_board (record {
-  hindsight = c.hindsight_keeps.ensures;
-  shared = c.machine_keeps.ensures.shared;
-}) labs_begins
+returns-clause-leaves c =
+    games_leave_board (record { hindsight = c.hindsight_keeps.ensures; shared = c.machine_keeps.ensures.shared })
