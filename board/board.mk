@@ -157,7 +157,7 @@ premises = $(BOARD)emulator/premises build/driver.proved build/$(PROGRAM).progra
 premises: good_buttons build/roms/$(MACHINE) build/premises build/driver.proved
 	@$(premises)
 
-proof: build/$(PROGRAM).program
+proof: build/$(PROGRAM).program build/rom
 	@$(BOARD)prove $(if $(PROVE),--prove) . $(PROGRAM)
 
 # Ends where a name of WATCH is no label.

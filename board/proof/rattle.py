@@ -63,6 +63,58 @@ RUNS = '''
 pub runs_safely : RunsSafely
 runs_safely other st run = checked_is_safe (rom other) start notes (is_told other) st run
 '''
+CONTENT = '''-- What the program of {title} offers and puts, by its bytes, with notes
+-- of it, which nobody has to trust. board/prove --law wrote this.
+use Rattle.std.specs.Prelude.{{◌≡◌, ℕ, true, List, [], ◌∷◌}}
+use Rattle.dvg_frame.specs.declared.op.OpKind.{{OpKind}}
+{uses}use Rattle.{of}.specs.{name}.{{notes, rom, start}}
+use Rattle.dvg_content.specs.Brings.{{Ways, brings}}
+use Rattle.dvg_content.specs.Written.{{draft_in, way_in}}
+use Rattle.dvg_cabinet.specs.Keeps.{{KeepsAlways}}
+
+-- the bytes of its vector ROM
+unfoldable pub shapes : List ℕ
+shapes =
+{shapes}
+
+-- how many bytes the instruction has from which alone a place is come to
+unfoldable pub ways : Ways
+ways = way_in
+    ({ways})
+
+-- the drafts of its tables
+unfoldable pub drafts : ℕ → List OpKind
+drafts = draft_in
+    ({drafts})
+
+-- what the test of it says
+abbrev pub IsBrought : Type 0
+IsBrought = (other : ℕ → ℕ) → brings shapes (rom other) start notes ways drafts ≡ true
+
+-- each run of it on its board keeps the headline, with no premise on what it does
+abbrev pub Always : Type 0
+Always = KeepsAlways shapes rom start
+'''
+CONTENT_PROOF = '''use Rattle.std.proofs.Common.{{refl}}
+use Rattle.dvg_game.specs.Checker.{{places}}
+use Rattle.dvg_game.specs.Written.{{of_list, rom_of, found, notes_of, note, nmi_note}}
+use Rattle.{of}.specs.{name} as game
+use Rattle.{of}.proofs.{name}.{{is_told}}
+use Rattle.dvg_content.specs.Written.{{draft_in, way_in}}
+use Rattle.dvg_cabinet.specs.Keeps.{{GamesKeep}}
+use Rattle.dvg_cabinet.proofs.ByBytes.{{games_keep_by_bytes}}
+use Rattle.{crate}.specs.{name}Content.{{shapes, ways, drafts, IsBrought, Always}}
+
+pub is_brought : IsBrought
+unfolding places of_list rom_of found notes_of note nmi_note game.bytes game.vectors game.rows
+    game.rom game.notes shapes ways drafts draft_in way_in
+is_brought other = refl
+
+pub keeps : GamesKeep → Always
+keeps law other image held at clocks on =
+    games_keep_by_bytes law shapes image held (game.rom other) game.start game.notes ways drafts
+    (is_told other) (is_brought other) at clocks on
+'''
 ANSWERS = '''use Rattle.{crate}.proofs.{name}.{{{lemma}}}
 use Rattle.{crate}.proofs.{function}.Goals as goal
 
@@ -124,6 +176,75 @@ def proof(crate, name, accepted):
     return text.replace('\n\npub', lemma + '\n\npub', 1) + RUNS
 
 
+def number(n):
+    return f'(pos {n})' if n >= 0 else f'(negsuc {-n - 1})'
+
+
+def operation(op):
+    """An operation of a draft, as it is written."""
+    kind, *fields = op
+    if kind == 'vctr':
+        scale, dx, dy, z = fields
+        return f'Draw (Vctr {scale} {number(dx)} {number(dy)} {z})'
+    if kind == 'svec':
+        word = fields[0]
+        dx, dy = word & 3, word >> 8 & 3
+        dx, dy = -dx if word & 4 else dx, -dy if word & 0x400 else dy
+        scale = 2 + 2 * (word >> 3 & 1) + (word >> 11 & 1)
+        return f'Draw (Svec {scale} {number(dx)} {number(dy)} {word >> 4 & 15})'
+    if kind == 'labs':
+        return 'Draw (Labs {} {} {})'.format(*fields)
+    names = {'callrom': 'CallRom', 'jumprom': 'JumpRom', 'call': 'Call', 'jump': 'Jump',
+             'return': 'Return', 'halt': 'Stop'}
+    return ' '.join([names[kind], *map(str, fields)])
+
+
+def items(texts):
+    """A list, broken into lines."""
+    text = ''.join(item.replace(' ', '\0') + ' ∷ ' for item in texts) + '[]'
+    lines = textwrap.wrap(text, 112, initial_indent='    ', subsequent_indent='    ',
+                          break_long_words=False, break_on_hyphens=False)
+    return '\n'.join(lines).replace('\0', ' ')
+
+
+NAMES = {'Rattle.std.specs.Prelude': ('pos', 'negsuc'),
+         'Rattle.dvg_code.specs.declared.instr.Instr.TheVariants': ('Labs', 'Svec', 'Vctr'),
+         'Rattle.dvg_frame.specs.declared.op.OpKind.TheVariants':
+             ('Draw', 'CallRom', 'JumpRom', 'Call', 'Jump', 'Return', 'Stop')}
+
+
+def used(text):
+    """The lines that bring in what a text of drafts names."""
+    words = set(re.findall(r'\w+', text))
+    found = {module: [name.replace('Stop', 'Halt as Stop') for name in names if name in words]
+             for module, names in NAMES.items()}
+    return ''.join(f'use {module}.{{{", ".join(names)}}}\n'
+                   for module, names in found.items() if names)
+
+
+def written_content(folder, crate, of, name, title, brought):
+    """Writes a law of what a program brings into the crate in a folder, where the law of its bytes
+    is one of the crate `of`; gives the name of its function."""
+    shapes, ways, drafts = brought
+    listed = items('(0x{:04X}, {} ∷ [])'.format(at, ' ∷ '.join(map(operation, ops)))
+                   for at, ops in sorted(drafts.items())).strip()
+    text = CONTENT.format(
+        title=title, of=of, name=name, shapes=items(f'0x{byte:02X}' for byte in shapes),
+        ways=items(f'(0x{at:04X}, {size})' for at, size in sorted(ways.items())).strip(),
+        drafts=listed, uses=used(listed))
+    function = re.sub('(?<!^)(?=[A-Z])', '_', name).lower() + '_keeps'
+    answers = ANSWERS.format(crate=crate, name=name + 'Content', function=function, lemma='keeps')
+    texts = {f'specs/{name}Content.antt': text,
+             f'proofs/{name}Content.antt': CONTENT_PROOF.format(crate=crate, of=of, name=name),
+             f'proofs/{function}/Answers.antt': answers.replace(
+                 '= keeps', '= keeps c.games_keep.ensures.keeps')}
+    for path, text in texts.items():
+        os.makedirs(os.path.dirname(f'{folder}/{path}'), exist_ok=True)
+        with open(f'{folder}/{path}', 'w', encoding='utf-8') as file:
+            file.write(text)
+    return function
+
+
 def written(folder, crate, name, law):
     """Writes a law into the crate in a folder, under this name; gives the name of its function."""
     program, notes, start, title, accepted = law
@@ -143,9 +264,13 @@ def written(folder, crate, name, law):
 
 def library(crate, functions):
     """The text of src/lib.rt of a crate of such laws: of each name its function."""
-    uses, items = [], []
+    uses, texts = [], []
     for name, function in functions.items():
-        law = 'RunsSafely' if function.endswith('_is_safe') else 'IsTold'
+        law = ('RunsSafely' if function.endswith('_is_safe') else
+               'Always' if function.endswith('_keeps') else 'IsTold')
         uses.append(f'ghost use Rattle.{crate}.specs.{name}.{{{law} as {name}{law}}};\n')
-        items.append(f'\npub fn {function}()\n    ensures {{ {name}{law} }}\n{{}}\n')
-    return '#![tactic(auto)]\n\n' + ''.join(uses) + ''.join(items)
+        body = '{\n    games_keep();\n}' if law == 'Always' else '{}'
+        texts.append(f'\npub fn {function}()\n    ensures {{ {name}{law} }}\n{body}\n')
+    if any(function.endswith('_keeps') for function in functions.values()):
+        uses.append('\nuse dvg_cabinet::games_keep;\n')
+    return '#![tactic(auto)]\n\n' + ''.join(uses) + ''.join(texts)

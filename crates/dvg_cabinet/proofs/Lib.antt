@@ -10,3 +10,4 @@ pub mod Single
 pub mod OnBoard
 pub mod Runs
 pub mod SomeCabinet
+pub mod ByBytes

@@ -9,7 +9,9 @@ use Rattle.dvg_6502.specs.Calls.{Call}
 use Rattle.dvg_6502.specs.Code.{dvg_offer, dvg_pair, dvg_put}
 use Rattle.dvg_board.specs.Board.{Bus}
 use Rattle.dvg_system.specs.Machine.{IsMachine}
+use Rattle.dvg_frame.specs.declared.op.OpKind.{OpKind}
 use Rattle.dvg_game.specs.Checker.{Notes, accepts}
+use Rattle.dvg_content.specs.Brings.{Ways, brings}
 use Rattle.dvg_play.specs.Games.{Content, never_calls}
 use Rattle.dvg_play.specs.Play.{done}
 use Rattle.dvg_cabinet.specs.Cabinet.{AreAlike, IsCabinet, written}
@@ -47,3 +49,16 @@ VectorsKeep = (R image : List ℕ) (held rom : ℕ → ℕ) (start : ℕ) (notes
     → never_calls rom dvg_pair ≡ true
     → (at : Option (Cpu × ℕ)) (clocks : List Bus) → IsCabinet R image held rom start at clocks
     → Keeps R image held clocks
+
+-- where two tests of a game's bytes say so, with notes of them that nobody has to trust, and with no premise on what it
+-- does
+abbrev pub GamesKeepByBytes : Type 0
+GamesKeepByBytes = (R image : List ℕ) (held rom : ℕ → ℕ) (start : ℕ) (notes : Notes) (ways : Ways)
+    (drafts : ℕ → List OpKind) → accepts rom start notes ≡ true → brings R rom start notes ways drafts ≡ true
+    → (at : Option (Cpu × ℕ)) (clocks : List Bus) → IsCabinet R image held rom start at clocks
+    → Keeps R image held clocks
+
+-- of a game: each run of these bytes, whatever stands beside them, with this vector ROM
+abbrev pub KeepsAlways : (R : List ℕ) → (rom : (ℕ → ℕ) → ℕ → ℕ) → (start : ℕ) → Type 0
+KeepsAlways R rom start = (other : ℕ → ℕ) (image : List ℕ) (held : ℕ → ℕ) (at : Option (Cpu × ℕ)) (clocks : List Bus)
+    → IsCabinet R image held (rom other) start at clocks → Keeps R image held clocks

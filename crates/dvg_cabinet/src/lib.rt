@@ -3,7 +3,8 @@
 #![tactic(auto)]
 
 ghost use Rattle.dvg_cabinet.specs.Example.{SomeCabinet};
-ghost use Rattle.dvg_cabinet.specs.Keeps.{GamesKeep, GamesLeaveBoard, VectorsKeep};
+ghost use Rattle.dvg_cabinet.specs.Keeps.{GamesKeep, GamesKeepByBytes, GamesLeaveBoard};
+ghost use Rattle.dvg_cabinet.specs.Keeps.{VectorsKeep};
 
 use dvg_system::{hindsight_keeps, machine_keeps};
 
@@ -16,6 +17,13 @@ pub fn games_keep()
 {
     hindsight_keeps();
     machine_keeps();
+}
+
+/// So it is where two tests of a game's bytes say so, with no premise on what it offers and puts.
+pub fn games_keep_by_bytes()
+    ensures { GamesKeepByBytes }
+{
+    games_keep();
 }
 
 /// A game that builds its frames by `dvg_open`, `dvg_labs`, `dvg_vector` and `dvg_close` alone has

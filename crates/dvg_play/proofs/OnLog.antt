@@ -18,11 +18,11 @@ use Rattle.dvg_play.proofs.Plays.{Brought, by_bytes, by_content, stage_does, sta
 use Rattle.dvg_play.proofs.Stages.{InDriver, InGame, IsAccepted, Stage}
 
 -- these are the accesses of these calls
-abbrev AreLogged : List ℕ → List Call → List Access → Type 0
+abbrev pub AreLogged : List ℕ → List Call → List Access → Type 0
 AreLogged R calls log = (accesses_of calls ≡ log) × ((calls ≡ []) ⊎ IsSessionBy (Tells R) calls)
 
 -- the call ends at its RTS
-returns : (R : List ℕ) (routine : Routine) (s : ℕ) (calls : List Call) (cpu : Cpu) (mine log : List Access)
+pub returns : (R : List ℕ) (routine : Routine) (s : ℕ) (calls : List Call) (cpu : Cpu) (mine log : List Access)
     → is_code cpu.pc ≡ true → at_return s cpu ≡ true → IsOpen R routine s calls cpu mine
     → seen mine ++ accesses_of calls ≡ log
     → (is : IsIn R routine s calls cpu mine (λ n. 0)) × (end : Ended R calls is.call) × AreLogged R
@@ -42,7 +42,7 @@ returns R routine s calls cpu mine log code there call same = let is = call (λ 
   (ap (λ (k : Cpu). seen k.log ++ accesses_of calls) is.after ∙ same, inr is.session),
 )
 
-abbrev on_log : (R : List ℕ) → Bearer R
+abbrev pub on_log : (R : List ℕ) → Bearer R
 on_log R = record {
   World = List Access;
   Makes = λ now log more. more ≡ now ++ log;

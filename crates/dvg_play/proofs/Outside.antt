@@ -16,7 +16,7 @@ use Rattle.dvg_play.specs.Play.{AreBytes}
 use Rattle.dvg_play.specs.Open.{InRom}
 use Rattle.dvg_play.proofs.Bearers.{Bearer}
 use Rattle.dvg_play.proofs.GameSteps.{rested_on}
-use Rattle.dvg_play.proofs.Stages.{Back, jmp, jsr, InDriver, Rests, Stage}
+use Rattle.dvg_play.proofs.Stages.{Back, jmp, jsr, InDriver, InGame, InNmi, Rests, Stage}
 
 pub stack_inside : (k : ℕ) → k ≤ 255 → is_outside (0x100 + k) ≡ false
 stack_inside k few = low_inside (0x100 + k) (omega (arith, few))
@@ -75,12 +75,6 @@ back_turns st old mem same s most (jsr is level one two) = jsr is level
     (same (0x100 + (s + 2)) (stack_inside (s + 2) (omega (arith, level, most))) ∙ two)
 back_turns st old mem same s most (jmp is level) = jmp is level
 
-small_at : {R : List ℕ} {B : Bearer R} {rom : ℕ → ℕ} {start : ℕ} {cpu : Cpu} {since : ℕ} {w : B.World}
-    → Stage R B rom start cpu since w → (b : ℕ) → cpu.mem b < 256
-small_at (inl g) = g.bytes.mem
-small_at (inr (inl d)) = d.bytes.mem
-small_at (inr (inr n)) = n.bytes.mem
-
 -- a call is borne along where its processor's memory turns to this
 abbrev Carries : {R : List ℕ} (B : Bearer R) → Cpu → (ℕ → ℕ) → B.World → B.World → Type 0
 Carries B cpu mem w v = (routine : Routine) (s : ℕ) (calls : List Call) (mine : List Access)
@@ -114,13 +108,11 @@ module _ {R : List ℕ} {B : Bearer R} {rom : ℕ → ℕ} {start : ℕ} {w v : 
     frame = d.frame;
   }
 
-  -- in the game, in a call, or in an NMI that came amid one
-  stage_moves : {cpu : Cpu} {since : ℕ} (mem : ℕ → ℕ) → ((b : ℕ) → mem b < 256) → IsTurned cpu.mem mem
-      → ((calls : List Call) → B.Between calls cpu.mem w → B.Between calls mem v) → Carries B cpu mem w v
-      → ((outer : Cpu) → Carries B outer outer.mem w v)
-      → Stage R B rom start cpu since w → Stage R B rom start (changed mem cpu) since v
-  unfolding driver_moves
-  stage_moves {cpu} mem small same keeping carries amid (inl g) = inl (record {
+  -- in the game
+  game_moves : {cpu : Cpu} {since : ℕ} (mem : ℕ → ℕ) → ((b : ℕ) → mem b < 256) → IsTurned cpu.mem mem
+      → ((calls : List Call) → B.Between calls cpu.mem w → B.Between calls mem v)
+      → InGame R B rom start cpu since w → InGame R B rom start (changed mem cpu) since v
+  game_moves {cpu} mem small same keeping g = record {
     st = g.st;
     run = turns mem g.run same;
     homeless = g.homeless;
@@ -130,7 +122,7 @@ module _ {R : List ℕ} {B : Bearer R} {rom : ℕ → ℕ} {start : ℕ} {w v : 
     between = keeping g.calls g.between;
     tables = g.tables;
     rests = λ awake. on (g.rests awake);
-  })
+  }
     where
       on : Rests R g.calls cpu.mem g.st.blank → Rests R g.calls mem g.st.blank
       on r = record {
@@ -138,8 +130,13 @@ module _ {R : List ℕ} {B : Bearer R} {rom : ℕ → ℕ} {start : ℕ} {w v : 
             (λ b low high. let two = g.tables b low high in same b (rom_inside b two.0 two.1)) r.rested;
         frame = r.frame;
       }
-  stage_moves mem small same keeping carries amid (inr (inl d)) = inr (inl (driver_moves mem small same carries d))
-  stage_moves {cpu} mem small same keeping carries amid (inr (inr n)) = inr (inr (record {
+
+  -- in an NMI that came amid a call
+  nmi_moves : {cpu : Cpu} {since : ℕ} (mem : ℕ → ℕ) → ((b : ℕ) → mem b < 256) → IsTurned cpu.mem mem
+      → ((outer : Cpu) → Carries B outer outer.mem w v)
+      → InNmi R B rom start cpu since w → InNmi R B rom start (changed mem cpu) since v
+  unfolding driver_moves
+  nmi_moves {cpu} mem small same amid n = record {
     outer = n.outer;
     driver = driver_moves n.outer.mem n.driver.bytes.mem (λ b inside. refl) (amid n.outer) n.driver;
     st = n.st;
@@ -150,22 +147,35 @@ module _ {R : List ℕ} {B : Bearer R} {rom : ℕ → ℕ} {start : ℕ} {w v : 
     blank = n.blank;
     bytes = other_bytes cpu mem n.bytes small;
     kept = λ b spared inside. same b inside ∙ n.kept b spared inside;
-  }))
+  }
 
   -- where what bears the calls goes on by itself
   pub stage_waits : {cpu : Cpu} {since : ℕ}
       → ((calls : List Call) (mem : ℕ → ℕ) → B.Between calls mem w → B.Between calls mem v)
       → ((outer : Cpu) → Carries B outer outer.mem w v)
       → Stage R B rom start cpu since w → Stage R B rom start cpu since v
-  stage_waits {cpu} keeping carries one = stage_moves cpu.mem (small_at one) (λ b inside. refl)
-      (λ calls. keeping calls cpu.mem) (carries cpu) carries one
+  stage_waits {cpu} keeping carries (inl g) =
+      inl (game_moves cpu.mem g.bytes.mem (λ b inside. refl) (λ calls. keeping calls cpu.mem) g)
+  stage_waits {cpu} keeping carries (inr (inl d)) =
+      inr (inl (driver_moves cpu.mem d.bytes.mem (λ b inside. refl) (carries cpu) d))
+  stage_waits {cpu} keeping carries (inr (inr n)) =
+      inr (inr (nmi_moves cpu.mem n.bytes.mem (λ b inside. refl) carries n))
 
 -- where what is outside turns
-pub stage_turns : (R : List ℕ) (B : Bearer R) (rom : ℕ → ℕ) (start : ℕ) (cpu : Cpu) (since : ℕ) (w : B.World)
-    (mem : ℕ → ℕ) → ((b : ℕ) → mem b < 256) → IsTurned cpu.mem mem → Stage R B rom start cpu since w
-    → Stage R B rom start (changed mem cpu) since w
-stage_turns R B rom start cpu since w mem small same one = stage_moves mem small same
-    (λ calls before. B.keeps calls cpu.mem mem w (λ b is. same b (needed_inside b (or_right (is_own b) _ is))) before)
-    (λ routine s calls mine doing. B.passes routine s calls cpu mine w mem
-    (λ tables in_rom b guarded. same b (guard_is_inside tables in_rom s cpu.s b guarded)) doing)
-    (λ outer routine s calls mine doing. doing) one
+module _ (R : List ℕ) (B : Bearer R) (rom : ℕ → ℕ) (start : ℕ) (cpu : Cpu) (since : ℕ) (w : B.World) (mem : ℕ → ℕ)
+    (small : (b : ℕ) → mem b < 256) (same : IsTurned cpu.mem mem) where
+  pub game_turns : InGame R B rom start cpu since w → InGame R B rom start (changed mem cpu) since w
+  game_turns g = game_moves mem small same
+      (λ calls before. B.keeps calls cpu.mem mem w (λ b is. same b (needed_inside b (or_right (is_own b) _ is))) before) g
+
+  pub driver_turns : InDriver R B rom start cpu w → InDriver R B rom start (changed mem cpu) w
+  driver_turns d = driver_moves mem small same (λ routine s calls mine doing. B.passes routine s calls cpu mine w mem
+      (λ tables in_rom b guarded. same b (guard_is_inside tables in_rom s cpu.s b guarded)) doing) d
+
+  pub nmi_turns : InNmi R B rom start cpu since w → InNmi R B rom start (changed mem cpu) since w
+  nmi_turns n = nmi_moves mem small same (λ outer routine s calls mine doing. doing) n
+
+  pub stage_turns : Stage R B rom start cpu since w → Stage R B rom start (changed mem cpu) since w
+  stage_turns (inl g) = inl (game_turns g)
+  stage_turns (inr (inl d)) = inr (inl (driver_turns d))
+  stage_turns (inr (inr n)) = inr (inr (nmi_turns n))

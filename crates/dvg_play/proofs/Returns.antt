@@ -123,8 +123,12 @@ ended_kept R routine s calls cpu mine is end b guarded =
     ∙ sym (ap (λ (k : Cpu). k.mem b) is.after) ∙ end.kept b guarded
 
 -- the machine's state at the return
-pub record Came (rom : ℕ → ℕ) (start : ℕ) (ret : Cpu) (since : ℕ) (to : ℕ) (blank : Bool) : Type 0 where
+pub record Came (rom : ℕ → ℕ) (start : ℕ) (ret : Cpu) (since : ℕ) (to : ℕ) (blank : Bool) (old : State) : Type 0 where
   pub st : State
+  -- one step of the machine from its JSR or JMP
+  pub choice : Choice
+  pub stepped : st ≡ step choice old
+  pub place : st.pc ≡ ret.pc
   pub run : IsRun rom start (of_cpu ret st)
   pub homeless : st.home ≡ None
   pub time : st.since ≡ since
@@ -165,9 +169,12 @@ module _ {R : List ℕ} {B : Bearer R} {rom : ℕ → ℕ} {start : ℕ} (game :
 
   by_jsr : kind_of (d.st.mem d.st.pc) ≡ kinds.Call → d.s + 2 ≡ d.st.s
       → cpu.mem (0x100 + (d.s + 1)) ≡ (d.st.pc + 2) % 256 → cpu.mem (0x100 + (d.s + 2)) ≡ (d.st.pc + 2) / 256
-      → Came rom start ret (suc since) to d.st.blank
+      → Came rom start ret (suc since) to d.st.blank d.st
   by_jsr is up one two = record {
     st = new;
+    choice = chosen;
+    stepped = sym step_is;
+    place = alike.pc;
     run = subst (IsRun rom start) (as_cpu new ret alike) (subst (IsRun rom start) step_is (steps chosen d.run d.goes));
     homeless = d.homeless;
     time = refl;
@@ -208,9 +215,12 @@ module _ {R : List ℕ} {B : Bearer R} {rom : ℕ → ℕ} {start : ℕ} (game :
         mem = left;
       }
 
-  by_jmp : kind_of (d.st.mem d.st.pc) ≡ kinds.Jump → d.s ≡ d.st.s → Came rom start ret (suc since) to d.st.blank
+  by_jmp : kind_of (d.st.mem d.st.pc) ≡ kinds.Jump → d.s ≡ d.st.s → Came rom start ret (suc since) to d.st.blank d.st
   by_jmp is same = record {
     st = new;
+    choice = chosen;
+    stepped = sym step_is;
+    place = alike.pc;
     run = subst (IsRun rom start) (as_cpu new ret alike) (subst (IsRun rom start) step_is (steps chosen d.run d.goes));
     homeless = d.homeless;
     time = refl;
@@ -244,10 +254,10 @@ module _ {R : List ℕ} {B : Bearer R} {rom : ℕ → ℕ} {start : ℕ} (game :
         mem = left;
       }
 
-  came : Came rom start ret (suc since) to d.st.blank
+  pub came : Came rom start ret (suc since) to d.st.blank d.st
   came = by d.back
     where
-      by : Back d.st cpu.mem d.s → Came rom start ret (suc since) to d.st.blank
+      by : Back d.st cpu.mem d.s → Came rom start ret (suc since) to d.st.blank d.st
       by (jsr is up one two) = by_jsr is up one two
       by (jmp is same) = by_jmp is same
 

@@ -1,0 +1,6 @@
+mod Frames
+mod Advancing
+mod Landing
+mod Told
+mod Words
+pub mod Whole

@@ -1,0 +1,5 @@
+mod FirstContent
+mod BatContent
+mod AsteroidContent
+mod RocksContent
+mod TestRomContent

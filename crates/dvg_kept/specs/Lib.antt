@@ -1,0 +1,5 @@
+pub mod FirstContent
+pub mod BatContent
+pub mod AsteroidContent
+pub mod RocksContent
+pub mod TestRomContent
