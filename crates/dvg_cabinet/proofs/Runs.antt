@@ -144,7 +144,7 @@ module _ (laws : Laws) (R image : List ℕ) (held rom : ℕ → ℕ) (start : �
       board_waits doing bus is served idle) one
 
   -- what is no code of the driver's writes nothing of the board
-  leaves_board : {cpu : Cpu} {since : ℕ} {clocks : List Bus} (flags : ℕ → ℕ) → Stage R B rom start cpu since clocks
+  pub leaves_board : {cpu : Cpu} {since : ℕ} {clocks : List Bus} (flags : ℕ → ℕ) → Stage R B rom start cpu since clocks
       → is_code cpu.pc ≡ false → written (done flags cpu).log ≡ []
   leaves_board {cpu} {since} {clocks} flags (inl g) out = (quiet cpu g.st flags g.bytes.x g.bytes.y
       (stepping.safe game g).next).none

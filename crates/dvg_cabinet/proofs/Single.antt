@@ -17,14 +17,14 @@ use Rattle.dvg_play.proofs.Notes.{lookup, noted, notes}
 use Rattle.dvg_play.proofs.Opened.{code_guarded}
 use Rattle.dvg_play.proofs.Rows.{byte_at}
 
-abbrev is_low : Mode → Bool
+abbrev pub is_low : Mode → Bool
 is_low Processor.ZeroPage = true
 is_low Processor.ZeroPageX = true
 is_low Processor.ZeroPageY = true
 is_low mode = false
 
 -- no INC, DEC or shift of an absolute address, and no indirect jump
-abbrev is_single : Instr → Bool
+abbrev pub is_single : Instr → Bool
 is_single (Processor.Change mode by) = is_low mode
 is_single (Processor.ShiftAt shift mode) = is_low mode
 is_single Processor.JumpAt = false
@@ -177,13 +177,17 @@ module _ (cpu : Cpu) (flags : ℕ → ℕ) (bytes : AreBytes cpu) where
   few_by Processor.Unknown is = inl refl
 
   -- an instruction of a call that the processor is in
-  pub few : (R : List ℕ) (routine : Routine) (s : ℕ) (calls : List Call) (log : List Access) (future : ℕ → ℕ)
-      → IsIn R routine s calls cpu log future → is_code cpu.pc ≡ true → AreFew (seen (done flags cpu).log)
-  few R routine s calls log future is code =
+  pub single : (R : List ℕ) (routine : Routine) (s : ℕ) (calls : List Call) (log : List Access) (future : ℕ → ℕ)
+      → IsIn R routine s calls cpu log future → is_code cpu.pc ≡ true → is_single (decoded opcodes (cpu.mem cpu.pc)) ≡ true
+  single R routine s calls log future is code =
       let good = good_call R is.call calls is.session in
       let here : cpu.mem cpu.pc ≡ byte_at cpu.pc =
       is.same cpu.pc (code_guarded (is_table is.call calls) s cpu.s cpu.pc code)
       ∙ ap (λ (k : Cpu). k.mem cpu.pc) (sym is.after) ∙ good.coded cpu.pc code in
-      few_by (decoded opcodes (cpu.mem cpu.pc))
-      (ap (λ b. is_single (decoded opcodes b)) here ∙ single_at notes they_are cpu.pc good.note
-      (ap (λ (k : Cpu). noted k.pc) (sym is.after) ∙ good.here))
+      ap (λ b. is_single (decoded opcodes b)) here ∙ single_at notes they_are cpu.pc good.note
+      (ap (λ (k : Cpu). noted k.pc) (sym is.after) ∙ good.here)
+
+  pub few : (R : List ℕ) (routine : Routine) (s : ℕ) (calls : List Call) (log : List Access) (future : ℕ → ℕ)
+      → IsIn R routine s calls cpu log future → is_code cpu.pc ≡ true → AreFew (seen (done flags cpu).log)
+  few R routine s calls log future is code =
+      few_by (decoded opcodes (cpu.mem cpu.pc)) (single R routine s calls log future is code)

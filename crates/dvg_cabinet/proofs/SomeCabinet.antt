@@ -20,13 +20,13 @@ use Rattle.dvg_play.proofs.SomeGame.{begun, it_begins}
 use Rattle.dvg_cabinet.specs.Cabinet.{IsCabinet, powers, begins, does, no_more, one_more}
 use Rattle.dvg_cabinet.specs.Example.{SomeCabinet, nothing}
 
-is_rom : IsRom zeros
+pub is_rom : IsRom zeros
 is_rom = record { count = inl (length-replicate {A = ℕ} 2048 0); bytes = All-replicate (λ b. b < 256) 2048 0 (lit< tt) }
 
-is_image : IsImage zeros
+pub is_image : IsImage zeros
 is_image = record { count = length-replicate {A = ℕ} 2048 0; bytes = All-replicate (λ b. b < 256) 2048 0 (lit< tt) }
 
-zero_at : (n a : ℕ) → 0 ≡ slice_index (replicate n 0) a
+pub zero_at : (n a : ℕ) → 0 ≡ slice_index (replicate n 0) a
 zero_at zero a = refl
 zero_at (suc n) zero = refl
 zero_at (suc n) (suc a) = zero_at n a

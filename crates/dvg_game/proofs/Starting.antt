@@ -49,7 +49,7 @@ module _ (rom : ℕ → ℕ) (cpu : Cpu) (loaded : IsLoaded rom cpu.mem) (at : I
   stores_safe place fine = λ index. may (address place cpu.mem cpu.pc index)
       (reaching place rom cpu.mem cpu.pc index (may_write Main) first second fine)
 
-  boot_safe : (kind : Kind) → may_boot kind rom cpu.pc ≡ true → IsSafeBy kind (idle cpu)
+  pub boot_safe : (kind : Kind) → may_boot kind rom cpu.pc ≡ true → IsSafeBy kind (idle cpu)
   boot_safe (Quiet sets bytes) fine = tt
   boot_safe (Reads sets place) fine = λ index. not_true (is_strobe (address place cpu.mem cpu.pc index))
       (reaching place rom cpu.mem cpu.pc index (λ a. not (is_strobe a)) first second fine)
@@ -138,7 +138,7 @@ module _ (rom : ℕ → ℕ) (cpu : Cpu) (loaded : IsLoaded rom cpu.mem) (at : I
   boot_goes Wild choice fine = absurd (cc)
 
   -- where the processor is after that step
-  steps_on : may_boot (kind_of (cpu.mem cpu.pc)) rom cpu.pc ≡ true
+  pub steps_on : may_boot (kind_of (cpu.mem cpu.pc)) rom cpu.pc ≡ true
       → IsLoaded rom (Processor.step cpu).mem
       × ((Processor.step cpu).pc ≡ cpu.pc + bytes_of (kind_of (cpu.mem cpu.pc)))
   steps_on fine =
