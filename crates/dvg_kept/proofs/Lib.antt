@@ -1,5 +1,5 @@
-mod FirstContent
-mod BatContent
-mod AsteroidContent
-mod RocksContent
-mod TestRomContent
+pub mod FirstContent
+pub mod BatContent
+pub mod AsteroidContent
+pub mod RocksContent
+pub mod TestRomContent
