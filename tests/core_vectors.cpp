@@ -19,6 +19,8 @@ static Vdvg_vectors circuit;
 static Drawing drawing;
 static uint64_t all_ticks, all_moves;
 
+static uint32_t found = UINT32_MAX;     /* the byte that a read of the clock before is to find */
+
 static void clock_it()
 {
     uint32_t first = size > 4096 ? 0x800 : 0x1000, place = 2 * circuit.at + circuit.high;
@@ -47,11 +49,18 @@ static void play_tick(const Shown &shown, bool more)
 {
     for (int clock = 0; clock < 8; clock++) {
         circuit.access = 0;
+        uint32_t wanted = found;
+        found = UINT32_MAX;
         if (clock < 3 && once_in(3)) {
-            access_bus(false, 0x4000 + below(2048), 0);
+            uint32_t place = below(2048);
+            access_bus(false, 0x4000 + place, 0);
+            found = memory[place];
         }
         circuit.tick = clock == 7;
         clock_it();
+        if (wanted != UINT32_MAX) {
+            agree("q", circuit.q, wanted);
+        }
         if (circuit.tick) {
             agree("x", circuit.x, shown.x);
             agree("y", circuit.y, shown.y);
@@ -139,7 +148,7 @@ static void put_list()
     for (uint32_t count = 5 + below(20); count--;) {
         uint32_t k = below(6);
         if (k == 0) {
-            put_word(0xC800 + 32 * below(8));
+            put_word((size > 4096 && once_in(2) ? 0xC400 : 0xC800) + 32 * below(8));
         } else if (k == 1) {
             put_word(0xC000 + 800 + 40 * below(4));
         } else if (k == 2) {

@@ -7,13 +7,13 @@ use Rattle.dvg_log.specs.Log.{Log, ram, open_run}
 use Rattle.dvg_core.specs.Cells.{bit, both, none, some, mux, joined, part}
 use Rattle.dvg_core.specs.Core.{halted}
 use Rattle.dvg_board.specs.Board.{Board, Bus, q, clock}
-use Rattle.dvg_board.specs.Clocks.{IsBus, after, reads}
+use Rattle.dvg_board.specs.Clocks.{IsBus, after, reads, writes, sends}
 use Rattle.dvg_board.specs.Logs.{OfEachBoard}
-use Rattle.dvg_board.specs.Answers.{uses_ram, Answers, AnswersNext}
+use Rattle.dvg_board.specs.Answers.{uses_ram, Answers, AnswersNext, Works, BoardWorks}
 use Rattle.dvg_board.proofs.System.{pin_is, never}
 use Rattle.dvg_board.proofs.Cores.{cores, core_is}
 use Rattle.dvg_board.proofs.Board.{holds}
-use Rattle.dvg_board.proofs.Wires.{on_of, writes_of, place_of, asks_of, not_one}
+use Rattle.dvg_board.proofs.Wires.{on_of, writes_of, place_of, asks_of, not_one, ram_of, ram_is}
 
 never' : {A : Type 0} → true ≡ false → A
 never' e = cc
@@ -117,3 +117,54 @@ answers_next R image held log clocks is_board bus is =
     let h = holds is_board in
     answers image (after held clocks) log bus is h.is_image.count h.same
     (ap (λ c. nat_eq (halted c) 1) (core_is held clocks) ∙ pin_is R image log (cores held clocks) h.keeps)
+
+sends_is : (x y z r : Bool) → both (both (if x then 0 else if y then 0 else 1) (bit z)) (if r then 1 else 0)
+    ≡ bit ((not x && (not y && z)) && r)
+sends_is true y z r = refl
+sends_is false true z r = refl
+sends_is false false false r = refl
+sends_is false false true true = refl
+sends_is false false true false = refl
+
+asks_is : (h o r s p acc on : Bool)
+    → asks_of (nat_eq (both (if h then 1 else 0) (if o then 1 else 0)) 0) r s p acc on
+    ≡ bit (h && (o && (r && (s && (p && not (not acc && on))))))
+asks_is false o r s p acc on = refl
+asks_is true false r s p acc on = refl
+asks_is true true false s p acc on = refl
+asks_is true true true false p acc on = refl
+asks_is true true true true false acc on = refl
+asks_is true true true true true true on = refl
+asks_is true true true true true false true = refl
+asks_is true true true true true false false = refl
+
+module _ (board : Board) (bus : Bus) (is : IsBus bus) where
+  page : nat_eq (part 11 5 bus.a) 8 ≡ nat_eq (bus.a / 0x800) 8
+  page = let small = is.a in let parts : part 11 5 bus.a ≡ bus.a / 0x800 = omega arith in ap (λ n. nat_eq n 8) parts
+
+  place : part 0 11 bus.a ≡ bus.a % 0x800
+  place = omega arith
+
+  ram_steps : (acc wr on : Bool) (a : ℕ) → ram_of board bus (writes_of acc wr on) (on_of acc on) a
+      ≡ (if (not acc && (not wr && on)) && nat_eq a (bus.a % 0x800) then bus.d else board.ram a)
+  ram_steps true wr on a = refl
+  ram_steps false true true a = refl
+  ram_steps false true false a = refl
+  ram_steps false false false a = refl
+  ram_steps false false true a = ap (λ n. if nat_eq a n then bus.d else board.ram a) place
+
+  works : Works board bus
+  works = record {
+    starts = sends_is (nat_eq bus.access 0) (nat_eq bus.write 0) (nat_eq bus.a 12288) (nat_eq bus.reset 0);
+    serves = asks_is (nat_eq (halted board.core) 0) (nat_eq bus.hold 0) (nat_eq bus.reset 0) (nat_eq board.starting 0)
+        (nat_eq board.pending 0) (nat_eq bus.access 0) (nat_eq (part 11 5 bus.a) 8)
+        ∙ ap (λ on. bit (nat_eq (halted board.core) 0 && (nat_eq bus.hold 0 && (nat_eq bus.reset 0
+        && (nat_eq board.starting 0 && (nat_eq board.pending 0 && not (not (nat_eq bus.access 0) && on))))))) page;
+    ram = λ a. ap (λ f. f a) (ram_is board bus)
+        ∙ ram_steps (nat_eq bus.access 0) (nat_eq bus.write 0) (nat_eq (part 11 5 bus.a) 8) a
+        ∙ ap (λ on. if (not (nat_eq bus.access 0) && (not (nat_eq bus.write 0) && on)) && nat_eq a (bus.a % 0x800)
+        then bus.d else board.ram a) page;
+  }
+
+pub board_works : BoardWorks
+board_works board bus is = works board bus is

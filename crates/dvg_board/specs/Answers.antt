@@ -2,8 +2,9 @@
 use Rattle.std.specs.Prelude.{◌≡◌, ℕ, ◌/◌, ◌%◌, ◌&&◌, Bool, true, false, not, nat_eq, if◌then◌else◌, List, slice_index}
 use Rattle.std.specs.Prelude.{is_none}
 use Rattle.dvg_log.specs.Log.{Log, ram, open_run}
+use Rattle.dvg_core.specs.Cells.{bit}
 use Rattle.dvg_board.specs.Board.{Board, Bus, q, clock, halted}
-use Rattle.dvg_board.specs.Clocks.{IsBus, after, reads, sends}
+use Rattle.dvg_board.specs.Clocks.{IsBus, after, reads, writes, sends}
 
 -- the processor uses the RAM in this clock
 abbrev pub uses_ram : Bus → Bool
@@ -27,3 +28,16 @@ pub record Answers (image : List ℕ) (board : Board) (log : Log) (bus : Bus) : 
 -- so it is in each clock with pins that are bits, bytes and an address
 abbrev pub AnswersNext : List ℕ → (ℕ → ℕ) → Log → List Bus → Type 0
 AnswersNext image held log clocks = (bus : Bus) → IsBus bus → Answers image (after held clocks) log bus
+
+-- a clock of any board, whatever came before it and whoever drives it: a strobe starts the core in the next clock, and
+-- nothing else does; a byte is read for the core where nobody holds and all else leaves it alone, and nowhere else; and
+-- the RAM is as it was, but for the byte that is written
+pub record Works (board : Board) (bus : Bus) : Type 0 where
+  pub starts : (clock board bus).starting ≡ bit (sends bus && nat_eq bus.reset 0)
+  pub serves : (clock board bus).pending ≡ bit (nat_eq (halted board) 0 && (nat_eq bus.hold 0 && (nat_eq bus.reset 0
+      && (nat_eq board.starting 0 && (nat_eq board.pending 0 && not (uses_ram bus))))))
+  pub ram : (a : ℕ) → (clock board bus).ram a
+      ≡ (if writes bus && nat_eq a (bus.a % 0x800) then bus.d else board.ram a)
+
+abbrev pub BoardWorks : Type 0
+BoardWorks = (board : Board) (bus : Bus) → IsBus bus → Works board bus

@@ -12,7 +12,7 @@
 ghost use Rattle.dvg_log.specs.Headline.{KeepsHeadline};
 ghost use Rattle.dvg_log.specs.Legal.{IsLegal};
 ghost use Rattle.dvg_log.specs.Log.{Throughout};
-ghost use Rattle.dvg_board.specs.Answers.{AnswersNext};
+ghost use Rattle.dvg_board.specs.Answers.{AnswersNext, BoardWorks};
 ghost use Rattle.dvg_board.specs.Example.{SomeBoard};
 ghost use Rattle.dvg_board.specs.Logs.{HoldsRam, OfEachBoard};
 ghost use Rattle.dvg_board.specs.Shown.{ShowsCore};
@@ -33,6 +33,11 @@ pub fn board_keeps()
 /// the core, and the core is served in each clock in which the RAM is free for it.
 pub fn board_answers()
     ensures { OfEachBoard (λ R image held log clocks. AnswersNext image held log clocks) }
+{}
+
+/// A clock of any board, whoever drives it, and whatever came before.
+pub fn board_works()
+    ensures { BoardWorks }
 {}
 
 /// The pins `at` to `z` are those of the core, and `ends` to `vec_z`, too.

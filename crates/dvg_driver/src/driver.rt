@@ -4,6 +4,8 @@ ghost use Rattle.std.specs.Prelude.{IfNone, IfSome, IsOk, IsSome, IsSomeAnd, IsT
 ghost use Rattle.dvg_frame.specs.Bytes.{IsBehindWordZero, addressed, bytes};
 ghost use Rattle.dvg_frame.specs.Layout.{laid};
 ghost use Rattle.dvg_frame.specs.Left.{last_items};
+ghost use Rattle.dvg_frame.specs.Steps.{Begins};
+ghost use Rattle.dvg_driver.specs.declared.state.Phase.TheVariants as phase;
 ghost use Rattle.dvg_mem.specs.Areas.{base, half_of_high, high, other};
 ghost use Rattle.dvg_driver.specs.Phases.{items_of};
 ghost use Rattle.dvg_driver.specs.Place.{Waiting, Writing};
@@ -162,7 +164,8 @@ impl Driver {
     /// Returns all that the driver keeps, as a value that `resume` takes. The frame that is being
     /// written is copied.
     pub fn state(&self) -> DriverState
-        ensures { self.now ≡ stage_in result }
+        ensures stage { self.now ≡ stage_in result }
+        ensures begins { result.phase ≡ phase.Writing → Begins result.frame }
     {
         let written = match (self.phase, &self.cursor) {
             (Phase::Writing, Some(cursor)) => written_by(cursor),
@@ -294,7 +297,8 @@ impl Driver {
 // Returns the draft whose bytes `cursor` gives, the half that it is laid out for, and how many of
 // them are still to come.
 fn written_by(cursor: &Cursor) -> (Draft, Half, u16)
-    ensures { cursor.now ≡ last_items result.1 result.0 result.2 }
+    ensures items { cursor.now ≡ last_items result.1 result.0 result.2 }
+    ensures begins { Begins result.0 }
 {
     let source = cursor.source();
     (source.0.copy(), source.1, cursor.left())

@@ -55,6 +55,7 @@ impl Cursor {
     ghost use Rattle.dvg_frame.specs.Bytes.{IsBehindWordZero, addressed, bytes};
     ghost use Rattle.dvg_frame.specs.Layout.{laid, size};
     ghost use Rattle.dvg_frame.specs.Left.{last_items};
+    ghost use Rattle.dvg_frame.specs.Steps.{Begins};
 
     /// Returns a cursor over the bytes of `frame`, laid out for `half`.
     pub fn new(frame: Frame, half: Half) -> Cursor
@@ -119,6 +120,7 @@ impl Cursor {
     pub fn source(&self) -> (&Draft, Half)
         ensures items { self.now ≡ last_items result.1 result.0.now (length self.now) }
         ensures left { length self.now ≤ 2 * size result.0.now }
+        ensures begins { Begins result.0.now }
     {
         (&self.draft, self.half)
     }

@@ -19,7 +19,7 @@ use Rattle.dvg_machine.specs.Machine.{Machine}
 use Rattle.dvg_machine.specs.Cycles.{AreAlike, none, same}
 use Rattle.dvg_machine.specs.Steps.{now}
 use Rattle.dvg_machine.specs.Played.{IsPlayed, IsPlaced, powers, alone, tests, resets, begins_call, inside, reset_bus}
-use Rattle.dvg_machine.specs.Played.{CellsKeep, ResetTakes, ResetWaits}
+use Rattle.dvg_machine.specs.Played.{CellsKeep, ResetTakes, CycleEnds, ResetWaits}
 use Rattle.dvg_machine.proofs.Fits.{AllFit, served_of, reset_is, reset_fits}
 use Rattle.dvg_machine.proofs.Found.{answered_of, now_has}
 use Rattle.dvg_machine.proofs.Quiet.{quietly, testing}
@@ -138,7 +138,10 @@ cells_keep legal headline memory shared R image held list older cells on =
     }
 
 pub reset_takes : ResetTakes
-reset_takes cells board drive = (refl, refl, refl)
+reset_takes cells board drive = (refl, refl, refl, refl)
+
+pub cycle_ends : CycleEnds
+cycle_ends cells board two = (refl, refl, refl, refl)
 
 pub reset_waits : ResetWaits
 reset_waits cells board drive = (refl, refl)

@@ -152,3 +152,10 @@ ResetTakes = (cells : Cells) (board : Board) (drive : Drive)
     → let machine : Machine = begins cells board in let pins = drives_cpu machine (resetting drive) in
     (pins.reset ≡ 1) × ((clock machine (resetting drive)).cpu ≡ cpu_clock cells pins)
     × ((drives_board machine (resetting drive)).reset ≡ 1)
+    × ((clock machine (resetting drive)).answers ≡ 0)
+
+-- without a reset nothing is reset, and a cycle ends where the next one begins
+abbrev pub CycleEnds : Type 0
+CycleEnds = (cells : Cells) (board : Board) (two : Two) → let machine : Machine = begins cells board in
+    ((first_bus machine two).reset ≡ 0) × ((second_bus machine two).reset ≡ 0)
+    × ((between machine two).answers ≡ 1) × ((next machine two).answers ≡ 0)

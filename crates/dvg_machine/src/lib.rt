@@ -10,7 +10,7 @@ ghost use Rattle.dvg_machine.specs.GoesOn.{CallGoesOn, CellsGoOn};
 ghost use Rattle.dvg_machine.specs.Needed.{AllIsDoes, NeedsAnswers, NeedsCount, NeedsFree};
 ghost use Rattle.dvg_machine.specs.Needed.{NeedsNoStrobe, NeedsNoWrite, NeedsRests, PremisesFollow};
 ghost use Rattle.dvg_machine.specs.Own.{NmiIsQuiet, OwnIsQuiet};
-ghost use Rattle.dvg_machine.specs.Played.{CellsKeep, ResetTakes, ResetWaits};
+ghost use Rattle.dvg_machine.specs.Played.{CellsKeep, CycleEnds, ResetTakes, ResetWaits};
 ghost use Rattle.dvg_machine.specs.Shown.{ShowsParts};
 ghost use Rattle.dvg_machine.specs.Steps.{CellsStep};
 
@@ -61,6 +61,7 @@ pub fn own_is_quiet()
 /// A reset is taken between two cycles: in the first clock of one it resets the processor and the
 /// board; in the second clock it does nothing.
 pub fn reset_waits()
+    ensures ends { CycleEnds }
     ensures takes { ResetTakes }
     ensures waits { ResetWaits }
 {}

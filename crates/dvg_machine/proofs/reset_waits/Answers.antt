@@ -1,4 +1,4 @@
-use Rattle.dvg_machine.proofs.Playing.{reset_takes, reset_waits}
+use Rattle.dvg_machine.proofs.Playing.{cycle_ends, reset_takes, reset_waits}
 use Rattle.dvg_machine.proofs.reset_waits.Goals as goal
 
 pub returns-clause-takes : goal.returns-clause-takes
@@ -6,3 +6,6 @@ returns-clause-takes c = reset_takes
 
 pub returns-clause-waits : goal.returns-clause-waits
 returns-clause-waits c = reset_waits
+
+pub returns-clause-ends : goal.returns-clause-ends
+returns-clause-ends c = cycle_ends
