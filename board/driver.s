@@ -1,7 +1,7 @@
 ; A frame driver for the Digital Vector Generator, for the 6502: the script of the proved driver
-; in crates/dvg_driver, action by action. crates/dvg_6502 proves it of the bytes of all routines but
-; dvg_copy; all of it is tested against that driver (tests/board).
-; docs/BOARD.md shows how a program uses it, and README.md has the cycles and bytes of each routine.
+; in crates/dvg_driver, action by action. crates/dvg_calls_6502 proves it of the bytes of all
+; routines but dvg_copy; all of it is tested against that driver (tests/board). docs/BOARD.md shows
+; how a program uses it, and README.md has the cycles and bytes of each routine.
 ;
 ;   dvg_reset    before all others, once after each reset of the processor
 ;   dvg_tick     does one action: writes one byte, looks at byte 001, reads the flag, or sends the

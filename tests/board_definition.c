@@ -1,5 +1,5 @@
-/* The definition of the 6502 in crates/dvg_6502/specs/Processor.antt, clause by clause as a plain
- * program, beside the 6502 of board_cpu.h: random single steps, all of which must agree. The
+/* The definition of the 6502 in crates/dvg_calls_6502/specs/Processor.antt, clause by clause as a
+ * plain program, beside the 6502 of board_cpu.h: random single steps, all of which must agree. The
  * table of opcodes is the definition's own: tests/board makes board_opcodes.inc of it.
  *
  *     board_definition STEPS             compares this many steps

@@ -6,7 +6,7 @@ the definition.
 
 MoveVectors.antt has the steps of loads, stores and transfers, FlowVectors.antt those that lead
 elsewhere, use the stack or set a flag, and ComputeVectors.antt those of all other opcodes.
-tests/board makes the three anew, and compares them with those of crates/dvg_6502/proofs.
+tests/board makes the three anew, and compares them with those of crates/dvg_calls_6502/proofs.
 """
 import os
 import sys
@@ -29,7 +29,7 @@ FILES = {
 HEAD = """-- Steps {does}.
 -- tests/board_vectors.py writes this file; Vectors.antt says what the numbers of a step are.
 use Rattle.std.proofs.Common.{{◌≡◌, [], ◌∷◌, refl}}
-use Rattle.dvg_6502.proofs.Vectors.{{wrong_from, gives}}
+use Rattle.dvg_calls_6502.proofs.Vectors.{{wrong_from, gives}}
 """
 
 # How many steps are proved at once: of some more the prover would not say which one is wrong.

@@ -9,9 +9,10 @@ The cells are computed here, by the meaning that each kind has, over random cloc
 dvg_core, also with DVG_WRAPS, of dvg_cpu, of dvg_board, of dvg_vectors, and of dvg_machine. The
 pins after each clock must be those that Icarus Verilog has, and those of Verilator. Some clocks of
 Icarus Verilog are given to the prover, too, which computes them by the definition of the cells:
-proofs/ClockVectors.antt of dvg_core, dvg_cpu and dvg_board must be what is written here. A board
-whose pins are made of several wires is computed, too. Then texts are planted in the Verilog that
-core/cells must refuse, each by a line that says why. The last line is 'N passed, M failed'."""
+proofs/ClockVectors.antt of dvg_cells_core, dvg_cells_cpu and dvg_cells_board must be what is
+written here. A board whose pins are made of several wires is computed, too. Then texts are planted
+in the Verilog that core/cells must refuse, each by a line that says why. The last line is 'N
+passed, M failed'."""
 
 import glob
 import os
@@ -29,7 +30,8 @@ MODULES = ("dvg_core", "dvg_cpu", "dvg_board", "dvg_pace", "dvg_motion", "dvg_ve
 SHOWS = "at high halted done fault stroke x0 y0 x y z".split()
 TELLS = "ends jsrl labs vec sum dx_sign dy_sign dx dy vec_z".split()
 
-with open(f"{texts.TOP}/crates/dvg_6502/specs/Processor.antt", encoding="utf-8") as definition:
+PROCESSOR = f"{texts.TOP}/crates/dvg_calls_6502/specs/Processor.antt"
+with open(PROCESSOR, encoding="utf-8") as definition:
     OPCODES = [int(op, 16) for op in re.findall(r"\((0x[0-9A-F]{2}), \w", definition.read())]
 
 # What each kind of cell computes, as the definition has it.
@@ -296,11 +298,16 @@ VECTORS = 200
 HEAD = """-- Clocks since power-up, as Icarus Verilog reads core/{name}.v.
 -- tests/core_cells.py writes this file; Vectors.antt says what its numbers are.
 use Rattle.std.proofs.Common.{{◌≡◌, ℕ, true, List, [], ◌∷◌, refl}}
-use Rattle.{name}.proofs.Vectors.{{all_pass}}
+use Rattle.{crate}.proofs.Vectors.{{all_pass}}
 
 abbrev clocks : List (List ℕ)
 clocks =
 """
+
+
+def crate_of(name):
+    """The crate of the cells of a module."""
+    return name.replace("dvg_", "dvg_cells_")
 
 
 def vectors(name, circuit, program, folder):
@@ -319,14 +326,19 @@ def vectors(name, circuit, program, folder):
     rows = ([str(pins[it]) for it in circuit.WIDTHS] + line for pins, line in zip(driven, shown))
     lines = "".join(f"    ({' ∷ '.join(row)} ∷ []) ∷\n" for row in rows)
     end = "    []\n\npub pass : all_pass clocks ≡ true\npass = refl\n"
-    return HEAD.format(name=name) + lines + end
+    return HEAD.format(name=name, crate=crate_of(name)) + lines + end
+
+
+def file_of_vectors(name):
+    """Where the clocks of a module stand that the prover is given."""
+    return f"crates/{crate_of(name)}/proofs/ClockVectors.antt"
 
 
 def expect_vectors(suite, name, text):
     """The clocks that the prover is given are those that are made here."""
-    with open(f"{texts.TOP}/crates/{name}/proofs/ClockVectors.antt", encoding="utf-8") as file:
+    with open(f"{texts.TOP}/{file_of_vectors(name)}", encoding="utf-8") as file:
         anew = "" if file.read() == text else "make it anew: tests/core_cells.py FOLDER --write"
-    suite.expect(f"crates/{name}/proofs/ClockVectors.antt", [("what to do", "", anew)])
+    suite.expect(file_of_vectors(name), [("what to do", "", anew)])
 
 
 # What is planted: the module, what is taken away, what is put there, and what core/cells says of
@@ -513,8 +525,7 @@ def main(folder, word="10000"):
         if name not in ("dvg_wraps", "dvg_vectors", "dvg_machine"):
             text = vectors(name, circuit(), programs[0][1], place)
             if word == "--write":
-                with open(f"{texts.TOP}/crates/{name}/proofs/ClockVectors.antt", "w",
-                          encoding="utf-8") as file:
+                with open(f"{texts.TOP}/{file_of_vectors(name)}", "w", encoding="utf-8") as file:
                     file.write(text)
                 continue
             expect_vectors(suite, name, text)

@@ -6,11 +6,11 @@
 
 Of each mistake core/cells writes the cells anew, in a copy of the crate that is proved of the
 changed file, and the prover must refuse a law of that crate, without its examples and the clocks of
-Icarus Verilog; or of dvg_wraps, which is proved of dvg_core.v, too. The Verilog as it is must be
-proved there, of each crate that is asked. A mistake that does no harm may be refused, too, as a
-proof may name a wire; one of dvg_bus.v isn't tried, as that isn't proved. The proofs of dvg_cpu
-that are tables are made anew, too. What the crates stand on must be proved: `./prove dvg_motion
-dvg_wraps dvg_machine`. The last line is 'N passed, M failed'."""
+Icarus Verilog; or of dvg_cells_wraps, which is proved of dvg_core.v, too. The Verilog as it is must
+be proved there, of each crate that is asked. A mistake that does no harm may be refused, too, as a
+proof may name a wire; one of dvg_bus.v isn't tried, as that isn't proved. The proofs of
+dvg_cells_cpu that are tables are made anew, too. What the crates stand on must be proved: `./prove
+dvg_cells_motion dvg_cells_wraps dvg_calls_cells`. The last line is 'N passed, M failed'."""
 
 import os
 import re
@@ -23,17 +23,18 @@ from importlib.util import module_from_spec, spec_from_loader
 
 import texts
 
-CELLS = {"dvg_core": ["core"], "dvg_wraps": ["wraps"], "dvg_cpu": ["cpu"], "dvg_board": ["board"],
-         "dvg_motion": ["motion", "pace", "vectors"], "dvg_machine": ["machine"]}
-LAWS = {"dvg_core": ["core_refines", "pins_tell"],
-        "dvg_wraps": ["wraps_refine", "wraps_tell"],
-        "dvg_cpu": ["cpu_refines", "cpu_stays", "cpu_waits", "cpu_interrupts", "cpu_resets",
-                    "cpu_fits"],
-        "dvg_board": ["board_keeps", "board_answers", "board_shows"],
-        "dvg_motion": ["goes_by_pulses", "shows", "moves_right", "follows", "machine_follows",
-                       "halted_tells", "takes_time", "start_takes", "takes_picture",
-                       "reset_draws", "vectors_show"],
-        "dvg_machine": ["cells_step", "cells_keep", "goes_on", "reset_waits", "machine_shows"]}
+CELLS = {"dvg_cells_core": ["core"], "dvg_cells_wraps": ["wraps"], "dvg_cells_cpu": ["cpu"],
+         "dvg_cells_board": ["board"], "dvg_cells_motion": ["motion", "pace", "vectors"],
+         "dvg_calls_cells": ["machine"]}
+LAWS = {"dvg_cells_core": ["core_refines", "pins_tell"],
+        "dvg_cells_wraps": ["wraps_refine", "wraps_tell"],
+        "dvg_cells_cpu": ["cpu_refines", "cpu_stays", "cpu_waits", "cpu_interrupts", "cpu_resets",
+                          "cpu_fits"],
+        "dvg_cells_board": ["board_keeps", "board_answers", "board_shows", "board_works"],
+        "dvg_cells_motion": ["goes_by_pulses", "shows", "moves_right", "follows", "machine_follows",
+                             "halted_tells", "takes_time", "start_takes", "takes_picture",
+                             "reset_draws", "vectors_show"],
+        "dvg_calls_cells": ["cells_step", "cells_keep", "goes_on", "reset_waits", "machine_shows"]}
 
 
 # The file that the cells of a module are read from, where its name is another one.
@@ -105,7 +106,7 @@ def refusal(room, crate, planted):
             return made.stderr.strip().rpartition("\n")[2]
         with open(f"{room}/specs/{module.capitalize()}.antt", "w", encoding="utf-8") as file:
             file.write(made.stdout)
-    if crate == "dvg_cpu":
+    if crate == "dvg_cells_cpu":
         make_tables(room, crate, planted)
     said = check(room, crate)
     if len(re.findall(r"(?m)^fn \w+::\w+: proved", said)) == len(LAWS[crate]):

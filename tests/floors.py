@@ -53,7 +53,7 @@ OF_DRAWING = [
     ("a crate is missing", "dvg_moment", ""),
     ("a crate stands twice", "dvg_log ", "dvg_log  dvg_gen"),
     ("a name that is no crate", "dvg_log ", "dvg_log  dvg_logging"),
-    ("rows that are exchanged", "dvg_6502  dvg_cpu  dvg_board  dvg_motion",
+    ("rows that are exchanged", "dvg_cells_cpu  dvg_cells_board  dvg_cells_motion",
      "dvg_theorem  dvg_world"),
 ]
 OF_CRATES = [

@@ -62,7 +62,8 @@ JUDGED = ["Makefile", "test", "tests/counts.bash", "plain/erase.rs", "core/dvg_c
           "docs/BOARD.md", "crates/dvg_gen/src/generator.rt", "board/driver.s", "board/tables.awk",
           "page/src/page.mjs"]
 PASSED_OVER = ["crates/dvg_gen/specs/Gen.antt", "plain/crates/dvg/src/main.rs", "page/dvg.html",
-               "crates/dvg_core/must-fail/word_has_seventeen_bits.edit", "tests/cases/play.md"]
+               "crates/dvg_cells_core/must-fail/word_has_seventeen_bits.edit",
+               "tests/cases/play.md"]
 
 
 def missed_mistakes():

@@ -864,7 +864,7 @@ function testTears() {
 
 // Steps of the 6502 of tests/board, of each instruction that the page knows, fewer where fewer
 // events are asked for: after each the registers, the flags and the last two bytes written are the
-// same. The page knows those that the driver has; each is one of the definition in crates/dvg_6502.
+// same. The page knows those that the driver has; each is one of the definition in dvg_calls_6502.
 const STEPS_OF_EACH = events < 20000 ? 100 : 2400;
 
 function runVector(row) {
@@ -882,7 +882,7 @@ function runVector(row) {
 }
 
 function testProcessor() {
-  const definition = readFileSync(`${top}crates/dvg_6502/specs/Processor.antt`, 'utf8');
+  const definition = readFileSync(`${top}crates/dvg_calls_6502/specs/Processor.antt`, 'utf8');
   const rows = [...definition.matchAll(/\((0x[0-9A-F]{2}), ([A-Za-z0-9 ]+)\)/g)]
     .filter(([, code]) => OPCODES.has(Number(code)));
   expect('the opcodes of the definition', rows.map(([, code]) => Number(code)).sort().join(),

@@ -1,6 +1,6 @@
-"""The rules of crates/dvg_content, as `brings` has them, and its notes, which nobody has to trust:
-of a place that is come to from the instruction before it alone, how many bytes that one has; and
-of a table's address the draft."""
+"""The rules of crates/dvg_game_content, as `brings` has them, and its notes, which nobody has to
+trust: of a place that is come to from the instruction before it alone, how many bytes that one has;
+and of a table's address the draft."""
 from opcodes import BRANCHES, CHANGES, STORES, Instruction
 from program import CODE_END, NMI_VECTOR, RESET_VECTOR, is_code, is_driver
 

@@ -1,7 +1,7 @@
 """The documented opcodes of the 6502: of each the mnemonic and the mode.
 
-tests/games compares them with the definition, crates/dvg_6502/specs/Processor.antt, which has no
-BRK and no SED."""
+tests/games compares them with the definition, crates/dvg_calls_6502/specs/Processor.antt, which
+has no BRK and no SED."""
 
 SIZES = {'': 1, '#': 2, 'zp': 2, 'zp,x': 2, 'zp,y': 2, 'abs': 3, 'abs,x': 3, 'abs,y': 3,
          '(zp,x)': 2, '(zp),y': 2, 'rel': 2, '(abs)': 3}

@@ -10,11 +10,11 @@ ROW = 64
 SPECS = '''-- The program of {title}, and notes of it, which nobody has to trust. board/prove --law
 -- wrote this.
 use Rattle.std.specs.Prelude.{{◌≡◌, ℕ, true, false, List, [], ◌∷◌}}
-use Rattle.dvg_6502.specs.Processor.{{A, X, Y}}
-use Rattle.dvg_game.specs.Machine.{{State, IsRun}}
-use Rattle.dvg_game.specs.Checker.{{Main, Sub, Any, Was, Note, Notes, accepts}}
-use Rattle.dvg_game.specs.Safe.{{IsSafe}}
-use Rattle.dvg_game.specs.Written.{{rom_of, notes_of, note, nmi_note}}
+use Rattle.dvg_calls_6502.specs.Processor.{{A, X, Y}}
+use Rattle.dvg_game_rules.specs.Machine.{{State, IsRun}}
+use Rattle.dvg_game_rules.specs.Checker.{{Main, Sub, Any, Was, Note, Notes, accepts}}
+use Rattle.dvg_game_rules.specs.Safe.{{IsSafe}}
+use Rattle.dvg_game_rules.specs.Written.{{rom_of, notes_of, note, nmi_note}}
 
 -- the bytes from 6A87 on
 unfoldable pub bytes : List (List ℕ)
@@ -51,8 +51,8 @@ abbrev pub RunsSafely : Type 0
 RunsSafely = (other : ℕ → ℕ) (st : State) → IsRun (rom other) start st → IsSafe (rom other) st
 '''
 PROOF = '''use Rattle.std.proofs.Common.{{refl}}
-use Rattle.dvg_game.specs.Checker.{{places}}
-use Rattle.dvg_game.specs.Written.{{of_list, rom_of, found, notes_of, note, nmi_note}}
+use Rattle.dvg_game_rules.specs.Checker.{{places}}
+use Rattle.dvg_game_rules.specs.Written.{{of_list, rom_of, found, notes_of, note, nmi_note}}
 use Rattle.{crate}.specs.{name}.{{bytes, vectors, rows, rom, notes, start, IsTold}}
 
 pub is_told : IsTold
@@ -68,9 +68,9 @@ CONTENT = '''-- What the program of {title} offers and puts, by its bytes, with 
 use Rattle.std.specs.Prelude.{{◌≡◌, ℕ, true, List, [], ◌∷◌}}
 use Rattle.dvg_frame.specs.declared.op.OpKind.{{OpKind}}
 {uses}use Rattle.{of}.specs.{name}.{{notes, rom, start}}
-use Rattle.dvg_content.specs.Brings.{{Ways, brings}}
-use Rattle.dvg_content.specs.Written.{{draft_in, way_in}}
-use Rattle.dvg_cabinet.specs.Keeps.{{KeepsAlways}}
+use Rattle.dvg_game_content.specs.Brings.{{Ways, brings}}
+use Rattle.dvg_game_content.specs.Written.{{draft_in, way_in}}
+use Rattle.dvg_game_board.specs.Keeps.{{KeepsAlways}}
 
 -- the bytes of its vector ROM
 unfoldable pub shapes : List ℕ
@@ -96,13 +96,13 @@ abbrev pub Always : Type 0
 Always = KeepsAlways shapes rom start
 '''
 CONTENT_PROOF = '''use Rattle.std.proofs.Common.{{refl}}
-use Rattle.dvg_game.specs.Checker.{{places}}
-use Rattle.dvg_game.specs.Written.{{of_list, rom_of, found, notes_of, note, nmi_note}}
+use Rattle.dvg_game_rules.specs.Checker.{{places}}
+use Rattle.dvg_game_rules.specs.Written.{{of_list, rom_of, found, notes_of, note, nmi_note}}
 use Rattle.{of}.specs.{name} as game
 use Rattle.{of}.proofs.{name}.{{is_told}}
-use Rattle.dvg_content.specs.Written.{{draft_in, way_in}}
-use Rattle.dvg_cabinet.specs.Keeps.{{GamesKeep}}
-use Rattle.dvg_cabinet.proofs.ByBytes.{{games_keep_by_bytes}}
+use Rattle.dvg_game_content.specs.Written.{{draft_in, way_in}}
+use Rattle.dvg_game_board.specs.Keeps.{{GamesKeep}}
+use Rattle.dvg_game_board.proofs.ByBytes.{{games_keep_by_bytes}}
 use Rattle.{crate}.specs.{name}Content.{{shapes, ways, drafts, IsBrought, Always}}
 
 pub is_brought : IsBrought
@@ -172,7 +172,7 @@ def proof(crate, name, accepted):
     if not accepted:
         return text
     text = text.replace('start, IsTold}', 'start, IsTold, RunsSafely}')
-    lemma = '\nuse Rattle.dvg_game.proofs.Whole.{checked_is_safe}'
+    lemma = '\nuse Rattle.dvg_game_rules.proofs.Whole.{checked_is_safe}'
     return text.replace('\n\npub', lemma + '\n\npub', 1) + RUNS
 
 
@@ -272,5 +272,5 @@ def library(crate, functions):
         body = '{\n    games_keep();\n}' if law == 'Always' else '{}'
         texts.append(f'\npub fn {function}()\n    ensures {{ {name}{law} }}\n{body}\n')
     if any(function.endswith('_keeps') for function in functions.values()):
-        uses.append('\nuse dvg_cabinet::games_keep;\n')
+        uses.append('\nuse dvg_game_board::games_keep;\n')
     return '#![tactic(auto)]\n\n' + ''.join(uses) + ''.join(texts)

@@ -1,5 +1,6 @@
-"""What the checker asks of a program, rule by rule: the same as crates/dvg_game/specs/Checker.antt,
-which is what is proved, and why it refuses. tests/games compares the answers of both.
+"""What the checker asks of a program, rule by rule: the same as Checker.antt of
+crates/dvg_game_rules/specs, which is what is proved, and why it refuses. tests/games compares the
+answers of both.
 
 A note says what holds at an instruction:
 

@@ -1,9 +1,9 @@
 //! What follows from the contracts of tables and of the machine code that reads them.
 ghost use Rattle.std.specs.Prelude.{◌≤◌, ◌≡◌, length, OnOk};
 ghost use Rattle.dvg_lay.specs.Refusals.{IsLent};
-ghost use Rattle.dvg_6502.specs.Tables.{AreExpressible};
+ghost use Rattle.dvg_calls_6502.specs.Tables.{AreExpressible};
 
-use dvg_6502::checked_tables;
+use dvg_calls_6502::checked_tables;
 use dvg_frame::Draft;
 use dvg_lay::{Unlaid, lay_tables};
 use dvg_mem::Rom;
@@ -13,8 +13,8 @@ use std::slice;
 
 /// A table of `frame` over `rom` is written only if a table can express it for the driver's machine
 /// code: what its operations name of the ROM stands from 400 on, and what they name of the frame in
-/// half 0. So the law `dvg_6502::tables` speaks of it: the code writes the frame as it is laid for
-/// either half.
+/// half 0. So the law `dvg_calls_6502::tables` speaks of it: the code writes the frame as it is laid
+/// for either half.
 pub fn tables_fit_boards(
     alloc: Global,
     rom: &Rom<Global>,

@@ -1,5 +1,0 @@
-use Rattle.dvg_6502.proofs.Answering.{offer_answers, open_answers, redraw_answers}
-use Rattle.dvg_6502.proofs.answers.Goals as goal
-
-pub returns : goal.returns
-returns c = record { offer = offer_answers; opens = open_answers; redraw = redraw_answers }

@@ -1,0 +1,118 @@
+-- What an instruction of the driver's kind accesses: one byte at most, or bytes of the zero page and the stack.
+use Rattle.std.proofs.Common.{◌≡◌, ℕ, ◌+◌, ◌<◌, ◌≤◌, Bool, true, List, [], ◌∷◌, ◌++◌, length, refl, sym, ◌∙◌, subst, arith, inl, inr}
+use Rattle.std.proofs.lemmas.List.{append_cancel_right}
+use Rattle.std.specs.Prelude.{◌⊎◌}
+use Rattle.dvg_calls_6502.specs.Processor.{Cpu, Access, Reads, Writes, Mode, Immediate, ZeroPage, ZeroPageX, ZeroPageY, Absolute}
+use Rattle.dvg_calls_6502.specs.Processor.{AbsoluteX, AbsoluteY, IndexedIndirect, IndirectIndexed, Register, A, X, Y, Flag, Negative}
+use Rattle.dvg_calls_6502.specs.Processor.{Zero, Carry, Overflow, Decimal, Interrupt, Instr, Load, Store, Transfer, And, Or, Xor}
+use Rattle.dvg_calls_6502.specs.Processor.{Add, Subtract, Compare, TestBits, Change, Step, ShiftAt, ShiftA, Set, Branch, Jump, JumpAt}
+use Rattle.dvg_calls_6502.specs.Processor.{Call, Return, PushA, PushFlags, PullA, PullFlags, FromStack, ToStack, Resume, Pass, Unknown}
+use Rattle.dvg_calls_6502.specs.Processor.{does, reading, setting, flagging, next}
+use Rattle.dvg_calls_cells.specs.Steps.{is_single}
+
+-- all of these are of the zero page or the stack
+abbrev pub AreLow : List Access → Type 0
+AreLow [] = Unit {0}
+AreLow (Reads a byte ∷ list) = (a < 512) × AreLow list
+AreLow (Writes a byte ∷ list) = (a < 512) × AreLow list
+
+abbrev pub AreFew : List Access → Type 0
+AreFew list = (length list ≤ 1) ⊎ AreLow list
+
+-- a log goes on another one by few accesses
+abbrev Grows : List Access → List Access → Type 0
+Grows log before = (news : List Access) × (log ≡ news ++ before) × AreFew news
+
+none : (log : List Access) → Grows log log
+none log = ([], refl, inl (omega arith))
+
+one : (a : Access) (log : List Access) → Grows (a ∷ log) log
+one a log = (a ∷ [], refl, inl (omega arith))
+
+reads : (mode : Mode) (cpu : Cpu) → Grows (reading mode cpu).log cpu.log
+reads Immediate cpu = none cpu.log
+reads ZeroPage cpu = one _ cpu.log
+reads ZeroPageX cpu = one _ cpu.log
+reads ZeroPageY cpu = one _ cpu.log
+reads Absolute cpu = one _ cpu.log
+reads AbsoluteX cpu = one _ cpu.log
+reads AbsoluteY cpu = one _ cpu.log
+reads IndexedIndirect cpu = one _ cpu.log
+reads IndirectIndexed cpu = one _ cpu.log
+
+sets : (r : Register) (byte : ℕ) (cpu : Cpu) (before : List Access) → Grows cpu.log before
+    → Grows (setting r byte cpu).log before
+sets A byte cpu before g = g
+sets X byte cpu before g = g
+sets Y byte cpu before g = g
+
+flags : (flag : Flag) (to : Bool) (cpu : Cpu) → Grows (flagging flag to cpu).log cpu.log
+flags Negative to cpu = none cpu.log
+flags Zero to cpu = none cpu.log
+flags Carry to cpu = none cpu.log
+flags Overflow to cpu = none cpu.log
+flags Decimal to cpu = none cpu.log
+flags Interrupt to cpu = none cpu.log
+
+small : (b : ℕ) → b < 256 → b < 512
+small b less = omega arith
+
+module _ (cpu : Cpu) (bytes : (b : ℕ) → cpu.mem b < 256) where
+  -- a byte that is changed in the zero page
+  changed : (mode : Mode) (by : ℕ) → is_single (Change mode by) ≡ true → Grows (does (Change mode by) cpu).log cpu.log
+  changed Immediate by is = absurd (cc)
+  changed ZeroPage by is =
+      let low = small (cpu.mem (cpu.pc + 1)) (bytes (cpu.pc + 1)) in (_ ∷ _ ∷ [], refl, inr (low, (low, tt)))
+  changed ZeroPageX by is = (_ ∷ _ ∷ [], refl, inr (omega arith, (omega arith, tt)))
+  changed ZeroPageY by is = (_ ∷ _ ∷ [], refl, inr (omega arith, (omega arith, tt)))
+  changed Absolute by is = absurd (cc)
+  changed AbsoluteX by is = absurd (cc)
+  changed AbsoluteY by is = absurd (cc)
+  changed IndexedIndirect by is = absurd (cc)
+  changed IndirectIndexed by is = absurd (cc)
+
+  grows : (instr : Instr) → is_single instr ≡ true → Grows (does instr cpu).log cpu.log
+  grows (Load r mode) is = sets r _ (reading mode cpu) cpu.log (reads mode cpu)
+  grows (Store r mode) is = one _ cpu.log
+  grows (Transfer from to) is = sets to _ (next 1 cpu) cpu.log (none cpu.log)
+  grows (And mode) is = reads mode cpu
+  grows (Or mode) is = reads mode cpu
+  grows (Xor mode) is = reads mode cpu
+  grows (Add mode) is = reads mode cpu
+  grows (Subtract mode) is = reads mode cpu
+  grows (Compare r mode) is = reads mode cpu
+  grows (TestBits mode) is = reads mode cpu
+  grows (Change mode by) is = changed mode by is
+  grows (Step r by) is = sets r _ (next 1 cpu) cpu.log (none cpu.log)
+  grows (ShiftAt shift Immediate) is = absurd (cc)
+  grows (ShiftAt shift ZeroPage) is =
+      let low = small (cpu.mem (cpu.pc + 1)) (bytes (cpu.pc + 1)) in (_ ∷ _ ∷ [], refl, inr (low, (low, tt)))
+  grows (ShiftAt shift ZeroPageX) is = (_ ∷ _ ∷ [], refl, inr (omega arith, (omega arith, tt)))
+  grows (ShiftAt shift ZeroPageY) is = (_ ∷ _ ∷ [], refl, inr (omega arith, (omega arith, tt)))
+  grows (ShiftAt shift Absolute) is = absurd (cc)
+  grows (ShiftAt shift AbsoluteX) is = absurd (cc)
+  grows (ShiftAt shift AbsoluteY) is = absurd (cc)
+  grows (ShiftAt shift IndexedIndirect) is = absurd (cc)
+  grows (ShiftAt shift IndirectIndexed) is = absurd (cc)
+  grows (ShiftA shift) is = none cpu.log
+  grows (Set flag to) is = flags flag to (next 1 cpu)
+  grows (Branch flag when) is = none cpu.log
+  grows Jump is = none cpu.log
+  grows JumpAt is = absurd (cc)
+  grows Call is = (_ ∷ _ ∷ [], refl, inr (omega arith, (omega arith, tt)))
+  grows Return is = none cpu.log
+  grows PushA is = one _ cpu.log
+  grows PushFlags is = one _ cpu.log
+  grows PullA is = none cpu.log
+  grows PullFlags is = none cpu.log
+  grows FromStack is = none cpu.log
+  grows ToStack is = none cpu.log
+  grows Resume is = none cpu.log
+  grows Pass is = none cpu.log
+  grows Unknown is = none cpu.log
+
+  -- by whatever name these accesses go
+  pub few : (instr : Instr) → is_single instr ≡ true → (news : List Access) → (does instr cpu).log ≡ news ++ cpu.log → AreFew news
+  few instr is news e =
+      let g = grows instr is in
+      subst AreFew (append_cancel_right g.0 news cpu.log (sym g.1 ∙ e)) g.2

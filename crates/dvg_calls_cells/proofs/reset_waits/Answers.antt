@@ -1,0 +1,11 @@
+use Rattle.dvg_calls_cells.proofs.Playing.{cycle_ends, reset_takes, reset_waits}
+use Rattle.dvg_calls_cells.proofs.reset_waits.Goals as goal
+
+pub returns-clause-takes : goal.returns-clause-takes
+returns-clause-takes c = reset_takes
+
+pub returns-clause-waits : goal.returns-clause-waits
+returns-clause-waits c = reset_waits
+
+pub returns-clause-ends : goal.returns-clause-ends
+returns-clause-ends c = cycle_ends

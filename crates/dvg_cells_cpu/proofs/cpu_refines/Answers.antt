@@ -1,0 +1,5 @@
+use Rattle.dvg_cells_cpu.proofs.Whole.{refines}
+use Rattle.dvg_cells_cpu.proofs.cpu_refines.Goals as goal
+
+pub returns : goal.returns
+returns c = refines

@@ -1,0 +1,102 @@
+//! The motion and the pace of the hardware, proved from the cells that yosys reads in
+//! `core/dvg_motion.v`, `core/dvg_pace.v` and `core/dvg_vectors.v`, which has both beside a board.
+//! Counters of whole units go as pulses of rate multipliers lead them, tick by tick, and a vector
+//! ends where `Counters::follow` of the generator has it. There is no code here. Each law is the
+//! contract of a function that does nothing.
+//!
+//! `specs/Motion.antt`, `Pace.antt` and `Vectors.antt` are made by `core/cells`. What pulses and
+//! ticks are, is the arcade emulator's, and no schematic's.
+#![tactic(auto)]
+
+ghost use Rattle.dvg_cells_motion.specs.Example.{SomeMotion, SomePicture};
+ghost use Rattle.dvg_cells_motion.specs.Machine.{HaltedTells, MachineFollows, StartTakes};
+ghost use Rattle.dvg_cells_motion.specs.Machine.{TakesTime};
+ghost use Rattle.dvg_cells_motion.specs.Pulses.{FollowsSvec, FollowsVctr, GoesByPulses, MovesRight};
+ghost use Rattle.dvg_cells_motion.specs.Pulses.{Places, PulsesAre, Shows};
+ghost use Rattle.dvg_cells_motion.specs.Shown.{ShowsParts};
+ghost use Rattle.dvg_cells_motion.specs.Times.{ResetDraws, TakesPicture};
+
+/// In the 2^(s+1) ticks of a vector at scale s, 0 to 9, a rate multiplier gives as many pulses as
+/// the vector is long, in whole units: a magnitude of m moves by (m * 2^s + 256) / 512.
+pub fn pulses_are()
+    ensures { PulsesAre }
+{}
+
+/// In each clock of a vector, whatever the other pins were since: the counters are where the pulses
+/// so far led them, and `going` is high until the vector's last tick is over.
+pub fn goes_by_pulses()
+    ensures { GoesByPulses }
+{}
+
+/// Meanwhile the monitor gets ten bits of each counter, and the vector's intensity where bit 10 of
+/// both is 0; after the last tick it is dark.
+pub fn shows()
+    ensures { Shows }
+{}
+
+/// After a vector the counters are those that the definition of the generator gives, and stay so.
+pub fn moves_right()
+    ensures { MovesRight }
+{}
+
+/// So they are where the move of a VCTR or an SVEC leads, from any exact beam; a LABS sets them.
+pub fn follows()
+    ensures vctr { FollowsVctr }
+    ensures svec { FollowsSvec }
+    ensures labs { Places }
+{}
+
+/// The whole machine, after each list of clocks since power-up, whatever the processor did in them:
+/// at rest the counters are those that followed all moves of the run, dark ones too. Where `hold`
+/// is low all is at rest, so no byte is fetched while a vector goes.
+pub fn machine_follows()
+    ensures { MachineFollows }
+{}
+
+/// Where the pin `halted` is high no run is open, and the counters are those that followed all
+/// moves of the newest one: its last stroke is drawn.
+pub fn halted_tells()
+    ensures { HaltedTells }
+{}
+
+/// After a byte `hold` is high for the ticks of what it ends: one of its own, two of a JSRL, and
+/// those of a vector, however short that is. In the tick after them a byte may be fetched again.
+pub fn takes_time()
+    ensures { TakesTime }
+{}
+
+/// A start at rest has one tick of its own.
+pub fn start_takes()
+    ensures { StartTakes }
+{}
+
+/// A picture's time: from a start where `halted` is high to the next clock in which it is, as many
+/// ticks come as `run_ticks` adds up over the instructions of the run, if it came to a HALT; and
+/// beside them those that came while a byte might be fetched and wasn't taken. Where memory answers
+/// at once there are none of these.
+pub fn takes_picture()
+    ensures { TakesPicture }
+{}
+
+/// After a reset, also amid a vector, the board's flag is high at once, and the pin `halted` as
+/// soon as the ticks came that the vector and its instruction had left: it is drawn to its end.
+pub fn reset_draws()
+    ensures { ResetDraws }
+{}
+
+/// The pins of the whole are those of its parts; until an instruction's own ticks are over it is
+/// dark.
+pub fn vectors_show()
+    ensures { ShowsParts }
+{}
+
+/// An example: a machine that draws a vector, after which x has moved by one unit.
+pub fn some_motion()
+    ensures { SomeMotion }
+{}
+
+/// An example: a picture of a HALT alone, which takes four ticks where memory answers at once. So
+/// the premises of `takes_picture` can be met.
+pub fn some_picture()
+    ensures { SomePicture }
+{}

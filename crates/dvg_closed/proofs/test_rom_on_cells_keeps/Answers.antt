@@ -1,5 +1,0 @@
-use Rattle.dvg_closed.proofs.Closed.{test_rom}
-use Rattle.dvg_closed.proofs.test_rom_on_cells_keeps.Goals as goal
-
-pub returns : goal.returns
-returns c = test_rom c.games_on_cells_keep_by_bytes.ensures

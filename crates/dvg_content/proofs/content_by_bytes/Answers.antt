@@ -1,5 +1,0 @@
-use Rattle.dvg_content.proofs.Whole.{content_by_bytes}
-use Rattle.dvg_content.proofs.content_by_bytes.Goals as goal
-
-pub returns : goal.returns
-returns c = content_by_bytes

@@ -1,5 +1,0 @@
-use Rattle.dvg_cpu.proofs.Interrupting.{hears, interrupts}
-use Rattle.dvg_cpu.proofs.cpu_interrupts.Goals as goal
-
-pub returns : goal.returns
-returns c = record { comes = interrupts; hears = hears }

@@ -1,5 +1,0 @@
-use Rattle.dvg_cpu.proofs.Whole.{stays}
-use Rattle.dvg_cpu.proofs.cpu_stays.Goals as goal
-
-pub returns : goal.returns
-returns c = stays

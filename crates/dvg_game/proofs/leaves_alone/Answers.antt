@@ -1,5 +1,0 @@
-use Rattle.dvg_game.proofs.Between.{leaves_alone}
-use Rattle.dvg_game.proofs.leaves_alone.Goals as goal
-
-pub returns : goal.returns
-returns c = leaves_alone

@@ -1,5 +1,0 @@
-use Rattle.dvg_game.proofs.Starting.{starts_up}
-use Rattle.dvg_game.proofs.starts_up.Goals as goal
-
-pub returns : goal.returns
-returns c = starts_up

@@ -1,0 +1,433 @@
+-- Each run of cells stands somewhere, and so it is a run of a cabinet, whose log keeps the headline.
+use Rattle.std.proofs.Common.{◌≡◌, ℕ, zero, suc, ◌-◌, ◌<◌, ◌≤◌, Bool, true, false, List, [], ◌∷◌, ◌++◌, length, refl, sym, ap, ◌∙◌}
+use Rattle.std.proofs.Common.{subst, arith, inl, inr, lit<, leb-true}
+use Rattle.std.specs.Prelude.{◌⊎◌, nat_eq, nat_le, nat_lt, ◌&&◌, if◌then◌else◌, Option, Some, None}
+use Rattle.std.proofs.lemmas.Bool.{cases_lt, lt-leb}
+use Rattle.std.proofs.lemmas.List.Elements.{recursion_from_All}
+use Rattle.dvg_mem.specs.Memory.{IsRom}
+use Rattle.dvg_calls_6502.specs.Processor.{Cpu, put}
+use Rattle.dvg_cells_board.specs.Board.{Board, Bus}
+use Rattle.dvg_cells_board.specs.Clocks.{after}
+use Rattle.dvg_cells_board.specs.Logs.{HoldsRam}
+use Rattle.dvg_cells_cpu.specs.Cpu.{Cpu as Cells, at, dout, write, zeros}
+use Rattle.dvg_cells_cpu.specs.Cpu as cpus
+use Rattle.dvg_cells_cpu.specs.Refines.{Where, pins_of}
+use Rattle.dvg_cells_cpu.proofs.Fitting.{fits}
+use Rattle.dvg_game_rules.proofs.Facts.{both_true}
+use Rattle.dvg_calls_cells.specs.Machine.{Machine, Bus as Pins, clock, drives_board}
+use Rattle.dvg_calls_cells.specs.Cycles.{Drive, Two, with_reset, driven, resetting, first_bus, second_bus, cycle_of}
+use Rattle.dvg_calls_cells.specs.Cycles.{cycles_of}
+use Rattle.dvg_calls_cells.specs.Steps.{AreServed}
+use Rattle.dvg_calls_cells.specs.GoesOn.{drive_for}
+use Rattle.dvg_calls_cells.specs.Played.{IsGiven, at_rest, cells_after, older_after, reset_bus}
+use Rattle.dvg_calls_cells.proofs.Fits.{AllFit, reset_is, reset_fits, served_of}
+use Rattle.dvg_game_6502.proofs.Plays.{Brought, by_bytes, by_content}
+use Rattle.dvg_game_6502.proofs.Stages.{IsAccepted}
+use Rattle.dvg_game_board.proofs.OnBoard.{on_board}
+use Rattle.dvg_calls_board.proofs.Waiting.{below}
+use Rattle.dvg_calls_board.specs.Machine.{OfEachMachine}
+use Rattle.dvg_game_board.specs.Cabinet.{IsCabinet, powers, resets, AreAlike, DrawAlike, none, same, elsewhere}
+use Rattle.dvg_game_board.specs.Keeps.{GamesKeep, Keeps, VectorsKeep}
+use Rattle.dvg_game_board.proofs.Sharing.{Laws}
+use Rattle.dvg_game_cells.specs.Whole.{IsDriven, IsWhole, Finds, calm_after, work_after}
+use Rattle.dvg_game_cells.specs.Whole as whole
+use Rattle.dvg_game_cells.specs.Keeps.{CellsKeep, GamesOnCellsKeep, VectorsOnCellsKeep}
+use Rattle.dvg_game_cells.proofs.Walks.{second_half}
+use Rattle.dvg_game_cells.proofs.Doing.{Asked, Doing, Stand, Task, calm_in, calms, works, wrote, stands, wakes, starts, plays, hears}
+use Rattle.dvg_game_cells.proofs.Fresh.{fresh_cpu, fresh_holds, fresh_shares}
+use Rattle.dvg_game_cells.proofs.Boots as booting
+use Rattle.dvg_game_cells.proofs.Plays as playing
+use Rattle.dvg_game_cells.proofs.Vectors as vectors
+use Rattle.dvg_game_cells.proofs.Ends.{Done, Half, unsnoc, works_in}
+use Rattle.dvg_game_cells.proofs.Snoc.{counts, more_asked, more_calms, more_cells, more_given, more_older, more_works, then_at}
+
+-- clocks that are alike leave boards that draw the same
+alike_draw : {held : ℕ → ℕ} {made shown : List Bus} → AreAlike held made shown → DrawAlike (after held made) (after held shown)
+alike_draw none = (refl, refl)
+alike_draw (same bus rest draw) = draw
+alike_draw (elsewhere bus a reading rest draw) = draw
+
+module _ (laws : Laws) (R image : List ℕ) (held rom : ℕ → ℕ) (start : ℕ) (game : IsAccepted rom start)
+    (brought : Brought R (on_board laws R image held) rom start) where
+  abbrev Standing : Cells → (ℕ → ℕ) → ℕ → List Bus → Type 0
+  Standing cells work calm clocks = Stand R image held rom start cells work calm clocks
+
+  abbrev On : Option (Cpu × ℕ) → List Bus → Type 0
+  On spot clocks = IsCabinet R image held rom start spot clocks
+
+  abbrev Asks : Machine → (ℕ → ℕ) → ℕ → Pins → Type 0
+  Asks machine work calm pins = IsDriven R rom start machine work calm pins
+
+  moved_to : {cells cells' : Cells} {work work' : ℕ → ℕ} {calm calm' : ℕ} {clocks clocks' : List Bus} → cells ≡ cells'
+      → work ≡ work' → calm ≡ calm' → clocks ≡ clocks' → Standing cells work calm clocks → Standing cells' work' calm' clocks'
+  moved_to {cells} {cells'} {work} {work'} {calm} {calm'} {clocks} {clocks'} a b c d s =
+      subst (λ k. Standing k work' calm' clocks') a (subst (λ k. Standing cells k calm' clocks') b
+      (subst (λ k. Standing cells work k clocks') c (subst (λ k. Standing cells work calm k) d s)))
+
+  -- a task's halfway, and its end
+  half : (cpu : Cpu) (older : List Bus) (cells : Cells) (work : ℕ → ℕ) (calm : ℕ) {n : ℕ}
+      → Task R image held rom start cpu older cells calm n → (list : List Two) (two : Two) → length list < n
+      → Doing R image held rom start cpu older cells work calm (list ++ two ∷ [])
+      → Half R image held rom start older cells list two
+  half cpu older cells work calm (wakes spot on holds begin) list two less doing =
+      vectors.wakes_half R image held rom start cpu older cells work calm holds begin spot on list two less doing
+  half cpu older cells work calm (starts spot left on rests fine from) list two less doing =
+      booting.starts_half R image held rom start cpu older cells work calm rests spot left on fine from list two less doing
+  half cpu older cells work calm (plays since on rests free time) list two less doing =
+      playing.plays_half laws R image held rom start game brought cpu older cells work calm since on rests free list two less doing
+  half cpu older cells work calm (hears since on rests due late calm_is) list two less doing =
+      vectors.hears_half R image held rom start cpu older cells work calm laws game brought since on rests due late calm_is list two less doing
+
+  done : (cpu : Cpu) (older : List Bus) (cells : Cells) (work : ℕ → ℕ) (calm : ℕ) {n : ℕ}
+      → Task R image held rom start cpu older cells calm n → (list : List Two) → length list ≡ n
+      → Doing R image held rom start cpu older cells work calm list
+      → Done R image held rom start cpu older cells work calm list
+  done cpu older cells work calm (wakes spot on holds begin) list count doing =
+      vectors.wakes_done R image held rom start cpu older cells work calm holds begin game spot on list count doing
+  done cpu older cells work calm (starts spot left on rests fine from) list count doing =
+      booting.starts_done R image held rom start cpu older cells work calm rests spot left on fine from list count doing
+  done cpu older cells work calm (plays since on rests free time) list count doing =
+      playing.plays_done laws R image held rom start game brought cpu older cells work calm since on rests free time list count doing
+  done cpu older cells work calm (hears since on rests due late calm_is) list count doing =
+      vectors.hears_done R image held rom start cpu older cells work calm laws game brought since on rests due late calm_is list count doing
+
+  at_first : (cpu : Cpu) (older : List Bus) (cells : Cells) (calm : ℕ) {n : ℕ}
+      → Task R image held rom start cpu older cells calm n → (spot : Option (Cpu × ℕ)) × On spot older
+  at_first cpu older cells calm (wakes spot on holds begin) = (spot, on)
+  at_first cpu older cells calm (starts spot left on rests fine from) = (spot, on)
+  at_first cpu older cells calm (plays since on rests free time) = (Some (cpu, since), on)
+  at_first cpu older cells calm (hears since on rests due late calm_is) = (Some (cpu, since), on)
+
+  -- what holds wherever it stands
+  record Holding (cells : Cells) (work : ℕ → ℕ) (clocks : List Bus) : Type 0 where
+    is_rom : IsRom R
+    fitting : AllFit R held clocks cells
+    work_in : (a : ℕ) → work a < 256
+    rom_in : (a : ℕ) → rom a < 256
+    spot : Option (Cpu × ℕ)
+    on : On spot clocks
+
+  abbrev Spot : List Bus → Type 0
+  Spot clocks = (spot : Option (Cpu × ℕ)) × On spot clocks
+
+  -- a task stands halfway, and after the second clock of the cycle
+  both_clocks : (cpu : Cpu) (older : List Bus) (cells : Cells) (work : ℕ → ℕ) (calm n : ℕ)
+      → Task R image held rom start cpu older cells calm n → (list : List Two) (two : Two) → length list < n
+      → Doing R image held rom start cpu older cells work calm (list ++ two ∷ [])
+      → Spot (older_after held older cells (list ++ two ∷ []))
+  both_clocks cpu older cells work calm n task list two less doing =
+      let first = half cpu older cells work calm task list two less doing in
+      let parts = served_of R held (list ++ two ∷ []) older cells doing.fits doing.given in
+      let served = last_served list older cells parts.0 in (
+        first.0,
+        subst (λ k. On first.0 k) (sym (more_older R held rom start two list older cells))
+            (second_half R image held rom start (older_after held older cells list) (cells_after held older cells list) two served first.0 first.1),
+      )
+    where
+      last_served : (l : List Two) (b : List Bus) (c : Cells) → AreServed R (at_rest held b c) (l ++ two ∷ [])
+          → AreServed R (then_at R held rom start b c l) (two ∷ [])
+      last_served [] b c served = served
+      last_served (x ∷ l) b c served =
+          last_served l (second_bus (at_rest held b c) x ∷ first_bus (at_rest held b c) x ∷ b)
+          (cpus.clock c (pins_of (cycle_of (at_rest held b c) x))) served.1.1.1.1
+
+  holding : {cells : Cells} {work : ℕ → ℕ} {calm : ℕ} {clocks : List Bus} → Standing cells work calm clocks → Holding cells work clocks
+  holding (stands cpu older cells work calm n list doing task short) = by (unsnoc list)
+    where
+      with_spot : Spot (older_after held older cells list)
+          → Holding (cells_after held older cells list) (works cells (cycles_of (at_rest held older cells) list) work)
+          (older_after held older cells list)
+      with_spot spot = record {
+        is_rom = doing.is_rom;
+        fitting = (served_of R held list older cells doing.fits doing.given).1;
+        work_in = works_in R image held rom start list older cells work doing.fits doing.given doing.work_in;
+        rom_in = doing.rom_in;
+        spot = spot.0;
+        on = spot.1;
+      }
+
+      by : (list ≡ []) ⊎ ((front : List Two) × (last : Two) × (list ≡ front ++ last ∷ []))
+          → Holding (cells_after held older cells list) (works cells (cycles_of (at_rest held older cells) list) work)
+          (older_after held older cells list)
+      by (inl empty) = with_spot (subst (λ l. Spot (older_after held older cells l)) (sym empty) (at_first cpu older cells calm task))
+      by (inr some) =
+          let does = subst (λ l. Doing R image held rom start cpu older cells work calm l) some.2 doing in
+          let count : length list ≡ suc (length some.0) = ap length some.2 ∙ counts some.0 some.1 in
+          with_spot (subst (λ l. Spot (older_after held older cells l)) (sym some.2)
+          (both_clocks cpu older cells work calm n task some.0 some.1 (omega (arith, count, short)) does))
+
+  -- a cycle more
+  cycle_on : {cells : Cells} {work : ℕ → ℕ} {calm : ℕ} {clocks : List Bus} → Standing cells work calm clocks → (two : Two)
+      → IsGiven R (at_rest held clocks cells) two → Asked rom start cells work calm two.second.nmi two.second.m
+      → Standing (cpus.clock cells (pins_of (cycle_of (at_rest held clocks cells) two))) (wrote cells work)
+      (calm_in cells (cycle_of (at_rest held clocks cells) two) calm)
+      (second_bus (at_rest held clocks cells) two ∷ first_bus (at_rest held clocks cells) two ∷ clocks)
+  cycle_on (stands cpu older cells work calm n list doing task short) two given asked =
+      moved_to (more_cells R held rom start two list older cells) (more_works R held rom start two list older cells work)
+      (more_calms R held rom start two list older cells calm) (more_older R held rom start two list older cells)
+      (by (cases_lt (suc (length list)) n))
+    where
+      more : List Two
+      more = list ++ two ∷ []
+
+      does : Doing R image held rom start cpu older cells work calm (list ++ two ∷ [])
+      does = record {
+        is_rom = doing.is_rom;
+        fits = doing.fits;
+        shares = doing.shares;
+        work_in = doing.work_in;
+        rom_in = doing.rom_in;
+        given = more_given R held rom start two list older cells doing.given given;
+        asked = more_asked R held rom start two list older cells work calm doing.asked asked;
+      }
+
+      by : (suc (length list) < n) ⊎ (n ≤ suc (length list))
+          → Standing (cells_after held older cells (list ++ two ∷ []))
+          (works cells (cycles_of (at_rest held older cells) (list ++ two ∷ [])) work)
+          (calms cells (cycles_of (at_rest held older cells) (list ++ two ∷ [])) calm)
+          (older_after held older cells (list ++ two ∷ []))
+      by (inl less) = stands cpu older cells work calm n (list ++ two ∷ []) does task
+          (let count = counts list two in omega (arith, count, less))
+      by (inr full) = done cpu older cells work calm task (list ++ two ∷ [])
+          (let count = counts list two in omega (arith, count, full, short)) does
+
+  -- the first clock of one
+  half_on : {cells : Cells} {work : ℕ → ℕ} {calm : ℕ} {clocks : List Bus} → Standing cells work calm clocks → (two : Two)
+      → IsGiven R (at_rest held clocks cells) two → Asked rom start cells work calm two.second.nmi two.second.m
+      → Spot (first_bus (at_rest held clocks cells) two ∷ clocks)
+  half_on (stands cpu older cells work calm n list doing task short) two given asked =
+      half cpu older cells work calm task list two short (record {
+        is_rom = doing.is_rom;
+        fits = doing.fits;
+        shares = doing.shares;
+        work_in = doing.work_in;
+        rom_in = doing.rom_in;
+        given = more_given R held rom start two list older cells doing.given given;
+        asked = more_asked R held rom start two list older cells work calm doing.asked asked;
+      })
+
+  -- a reset begins anew, also that of power-up
+  anew : (spot : Option (Cpu × ℕ)) (cells : Cells) (work : ℕ → ℕ) (calm : ℕ) (clocks : List Bus) → On spot clocks → IsRom R
+      → AllFit R held clocks cells → ((a : ℕ) → work a < 256) → ((a : ℕ) → rom a < 256) → cells.state ≡ 0
+      → Standing cells work calm clocks
+  anew spot cells work calm clocks on is_rom fitting work_in rom_in begin =
+      stands (fresh_cpu R image held rom start cells work clocks fitting work_in rom_in) clocks cells work calm 2 [] (record {
+        is_rom = is_rom;
+        fits = fitting;
+        shares = fresh_shares R image held rom start cells work clocks fitting work_in rom_in;
+        work_in = work_in;
+        rom_in = rom_in;
+        given = tt;
+        asked = tt;
+      }) (wakes spot on (fresh_holds R image held rom start cells work clocks fitting work_in rom_in) begin) (omega arith)
+
+  -- between two cycles, or amid one
+  data Now : Machine → (ℕ → ℕ) → ℕ → List Bus → Type 0 where
+    rests : {cells : Cells} {work : ℕ → ℕ} {calm : ℕ} {clocks : List Bus} → Standing cells work calm clocks
+        → Now (at_rest held clocks cells) work calm clocks
+    amid : {cells : Cells} {work : ℕ → ℕ} {calm : ℕ} {clocks : List Bus} → Standing cells work calm clocks → (drive : Drive)
+        → Asks (at_rest held clocks cells) work calm (driven drive)
+        → Now (clock (at_rest held clocks cells) (driven drive)) (work_after (at_rest held clocks cells) (driven drive) work)
+        (calm_after (at_rest held clocks cells) (driven drive) calm) (drives_board (at_rest held clocks cells) (driven drive) ∷ clocks)
+
+  abbrev drive_of : Pins → Drive
+  drive_of pins = record {
+    nmi = pins.nmi;
+    hold = pins.hold;
+    big = pins.big;
+    rom = pins.rom;
+    m = pins.m;
+    undefined = pins.undefined;
+  }
+
+  abbrev Next : Machine → (ℕ → ℕ) → ℕ → List Bus → Pins → Type 0
+  Next machine work calm clocks pins =
+      Now (clock machine pins) (work_after machine pins work) (calm_after machine pins calm) (drives_board machine pins ∷ clocks)
+
+  module _ {cells : Cells} {work : ℕ → ℕ} {calm : ℕ} {clocks : List Bus} (s : Standing cells work calm clocks) where
+    abbrev here : Machine
+    here = at_rest held clocks cells
+
+    first_clock : (reset : ℕ) (drive : Drive) → reset < 2 → Asks here work calm (with_reset reset drive)
+        → Next here work calm clocks (with_reset reset drive)
+    first_clock zero drive less asks = amid s drive asks
+    first_clock (suc zero) drive less asks =
+        let h = holding s in
+        let bus = reset_bus held clocks cells drive in
+        let on = resets bus h.on (reset_is R held clocks cells drive h.fitting asks.nmi asks.vector_rom asks.m) asks.served (refl, refl) refl in
+        rests (anew None (clock here (resetting drive)).cpu work (suc calm) (bus ∷ clocks) on h.is_rom
+        (reset_fits R held clocks cells drive h.fitting asks.nmi asks.vector_rom asks.m) h.work_in h.rom_in refl)
+    first_clock (suc (suc n)) drive less asks = absurd (omega (arith, less))
+
+    -- what is asked of two clocks is asked of the cycle
+    module _ (first : Drive) (asks : Asks here work calm (driven first)) where
+      abbrev middle : Machine
+      middle = clock here (driven first)
+
+      same_work : write cells ≡ 0 → wrote cells work ≡ work
+      same_work is = ap (λ w. if nat_eq w 1 && nat_lt (at cells) 0x200 then put (at cells) (dout cells) work else work) is
+
+      given_by : (reset : ℕ) (second : Drive) → reset < 2
+          → Asks middle (work_after here (driven first) work) (calm_after here (driven first) calm) (with_reset reset second)
+          → IsGiven R here (record { first = first; second = second })
+      given_by zero second less more = record {
+        nmi = more.nmi;
+        first_rom = asks.vector_rom;
+        second_rom = more.vector_rom;
+        m = more.m;
+        first = asks.served;
+        second = more.served;
+      }
+      given_by (suc zero) second less more = record {
+        nmi = more.nmi;
+        first_rom = asks.vector_rom;
+        second_rom = more.vector_rom;
+        m = more.m;
+        first = asks.served;
+        second = more.served;
+      }
+      given_by (suc (suc n)) second less more = absurd (omega (arith, less))
+
+      asked_by : (reset : ℕ) (second : Drive)
+          → Asks middle (work_after here (driven first) work) (calm_after here (driven first) calm) (with_reset reset second)
+          → Asked rom start cells work calm second.nmi second.m
+      asked_by reset second more = record {
+        finds = λ is. subst (λ k. Finds rom k (at cells) second.m) (same_work is) (more.answers refl is);
+        no_strobe = asks.no_strobe;
+        apart = more.apart;
+        boots_alone = asks.boots_alone;
+      }
+
+      second_clock : (reset : ℕ) (second : Drive) → reset < 2
+          → Asks middle (work_after here (driven first) work) (calm_after here (driven first) calm) (with_reset reset second)
+          → Next middle (work_after here (driven first) work) (calm_after here (driven first) calm)
+          (drives_board here (driven first) ∷ clocks) (with_reset reset second)
+      second_clock zero second less more =
+          rests (cycle_on s (record { first = first; second = second }) (given_by zero second less more) (asked_by zero second more))
+      second_clock (suc zero) second less more =
+          rests (cycle_on s (record { first = first; second = second }) (given_by (suc zero) second less more)
+          (asked_by (suc zero) second more))
+      second_clock (suc (suc n)) second less more = absurd (omega (arith, less))
+
+  tick : {machine : Machine} {work : ℕ → ℕ} {calm : ℕ} {clocks : List Bus} (pins : Pins) → Now machine work calm clocks
+      → Asks machine work calm pins → Next machine work calm clocks pins
+  tick pins (rests s) asks = first_clock s pins.reset (drive_of pins) asks.reset asks
+  tick pins (amid s first driven_so) asks = second_clock s first driven_so pins.reset (drive_of pins) asks.reset asks
+
+  now : {machine : Machine} {work : ℕ → ℕ} {calm : ℕ} {clocks : List Bus}
+      → IsWhole R image held rom start machine work calm clocks → Now machine work calm clocks
+  now (whole.powers work calm is_rom is_image first held_in work_in rom_in) =
+      rests (anew None zeros work calm [] (powers is_rom is_image first) is_rom
+      (record { of_cells = fits.0; of_board = record { read = lit< tt; ran = lit< tt; ram = held_in } }) work_in rom_in refl)
+  now (whole.ticks pins on asks) = tick pins (now on) asks
+
+  -- a cycle can be ended
+  module _ {cells : Cells} {work : ℕ → ℕ} {calm : ℕ} {clocks : List Bus} (s : Standing cells work calm clocks) (first : Drive)
+      (asks : Asks (at_rest held clocks cells) work calm (driven first)) where
+    abbrev by_place : (low code high : Bool) → ℕ → ℕ
+    by_place low code high a = if low then work a else if code then rom a else if high then rom (a - 0x8000) else 0
+
+    abbrev answer : ℕ → ℕ
+    answer a = by_place (nat_lt a 0x200) (nat_le 0x4800 a && nat_lt a 0x8000) (nat_le 0xFFFA a) a
+
+    answer_in : (low code high : Bool) (a : ℕ) → by_place low code high a < 256
+    answer_in true code high a = (holding s).work_in a
+    answer_in false true high a = (holding s).rom_in a
+    answer_in false false true a = (holding s).rom_in (a - 0x8000)
+    answer_in false false false a = lit< tt
+
+    -- no address is of two of these
+    finds_by : (low code high : Bool) (a : ℕ) → (low ≡ true → code ≡ false) → (low ≡ true → high ≡ false)
+        → (code ≡ true → high ≡ false) → (byte : ℕ) → byte ≡ by_place low code high a
+        → Where low (byte ≡ work a) × Where code (byte ≡ rom a) × Where high (byte ≡ rom (a - 0x8000))
+    finds_by true true high a p q r byte e = absurd (let x = p refl in cc)
+    finds_by true false true a p q r byte e = absurd (let x = q refl in cc)
+    finds_by true false false a p q r byte e = (e, tt, tt)
+    finds_by false true true a p q r byte e = absurd (let x = r refl in cc)
+    finds_by false true false a p q r byte e = (tt, e, tt)
+    finds_by false false true a p q r byte e = (tt, tt, e)
+    finds_by false false false a p q r byte e = (tt, tt, tt)
+
+    abbrev ending : Two
+    ending = record {
+      first = first;
+      second = drive_for R (clock (at_rest held clocks cells) (driven first)).board cells.was 0 (answer (at cells));
+    }
+
+    ends_given : IsGiven R (at_rest held clocks cells) ending
+    ends_given = record {
+      nmi = (holding s).fitting.of_cells.was;
+      first_rom = asks.vector_rom;
+      second_rom = below R (recursion_from_All (λ byte. byte < 256) R (holding s).is_rom.bytes) _;
+      m = answer_in (nat_lt (at cells) 0x200) (nat_le 0x4800 (at cells) && nat_lt (at cells) 0x8000) (nat_le 0xFFFA (at cells)) (at cells);
+      first = asks.served;
+      second = record { big = refl; rom = λ takes from to. refl };
+    }
+
+    never : (was : ℕ) → was < 2 → (nat_eq was 1 && nat_eq was 0) ≡ true → ⊥
+    never zero less e = cc
+    never (suc zero) less e = cc
+    never (suc (suc n)) less e = absurd (omega (arith, less))
+
+    low_code : (a : ℕ) → nat_lt a 0x200 ≡ true → (nat_le 0x4800 a && nat_lt a 0x8000) ≡ false
+    low_code a e = let small = leb-true (suc a) 0x200 e in
+        ap (λ t. t && nat_lt a 0x8000) (lt-leb 0x4800 a (omega (arith, small)))
+
+    low_high : (a : ℕ) → nat_lt a 0x200 ≡ true → nat_le 0xFFFA a ≡ false
+    low_high a e = let small = leb-true (suc a) 0x200 e in lt-leb 0xFFFA a (omega (arith, small))
+
+    code_high : (a : ℕ) → (nat_le 0x4800 a && nat_lt a 0x8000) ≡ true → nat_le 0xFFFA a ≡ false
+    code_high a e = let small = leb-true (suc a) 0x8000 (both_true (nat_le 0x4800 a) (nat_lt a 0x8000) e).1 in
+        lt-leb 0xFFFA a (omega (arith, small))
+
+    ends_asked : Asked rom start cells work calm cells.was (answer (at cells))
+    ends_asked = record {
+      finds = λ is. let f = finds_by (nat_lt (at cells) 0x200) (nat_le 0x4800 (at cells) && nat_lt (at cells) 0x8000)
+          (nat_le 0xFFFA (at cells)) (at cells) (low_code (at cells)) (low_high (at cells)) (code_high (at cells)) (answer (at cells)) refl in
+          record { in_work = f.0; in_rom = f.1; vectors = f.2 };
+      no_strobe = asks.no_strobe;
+      apart = λ rise. absurd (never cells.was (holding s).fitting.of_cells.was rise);
+      boots_alone = asks.boots_alone;
+    }
+
+    mid : Spot (first_bus (at_rest held clocks cells) ending ∷ clocks)
+    mid = half_on s ending ends_given ends_asked
+
+  -- so its clocks are those of a cabinet
+  record Found (machine : Machine) (clocks : List Bus) : Type 0 where
+    spot : Option (Cpu × ℕ)
+    on : On spot clocks
+    board : machine.board ≡ after held clocks
+
+  find : {machine : Machine} {work : ℕ → ℕ} {calm : ℕ} {clocks : List Bus} → Now machine work calm clocks → Found machine clocks
+  find (rests s) = let h = holding s in record { spot = h.spot; on = h.on; board = refl }
+  find (amid s first asks) = let one = mid s first asks in record { spot = one.0; on = one.1; board = refl }
+
+  -- and what is said of a cabinet is said of the cells
+  of_cabinet : OfEachMachine (λ R image held calls log clocks. HoldsRam image held log clocks)
+      → ((spot : Option (Cpu × ℕ)) (clocks : List Bus) → On spot clocks → Keeps R image held clocks)
+      → (machine : Machine) (work : ℕ → ℕ) (calm : ℕ) (clocks : List Bus)
+      → IsWhole R image held rom start machine work calm clocks → CellsKeep R image held machine clocks
+  of_cabinet memory keeps machine work calm clocks on =
+      let one = find (now on) in
+      let kept = keeps one.spot clocks one.on in
+      let draw = alike_draw kept.alike in record {
+        keeps = kept;
+        board = one.board;
+        draw = (ap (λ (b : Board). b.core) one.board ∙ draw.0, ap (λ (b : Board). b.ram) one.board ∙ draw.1);
+        memory = λ a less. ap (λ (m : ℕ → ℕ). m a) draw.1 ∙ memory R image held kept.calls kept.log kept.shown kept.machine a less;
+      }
+
+pub games_on_cells_keep : Laws → GamesKeep
+    → OfEachMachine (λ R image held calls log clocks. HoldsRam image held log clocks) → GamesOnCellsKeep
+games_on_cells_keep laws keeps memory R image held rom start notes accepted content machine work calm clocks on =
+    let game : IsAccepted rom start = record { notes = notes; yes = accepted } in
+    of_cabinet laws R image held rom start game (by_content R (on_board laws R image held) game content) memory
+    (keeps R image held rom start notes accepted content) machine work calm clocks on
+
+pub vectors_on_cells_keep : Laws → VectorsKeep
+    → OfEachMachine (λ R image held calls log clocks. HoldsRam image held log clocks) → VectorsOnCellsKeep
+vectors_on_cells_keep laws keeps memory R image held rom start notes accepted offers puts pairs machine work calm clocks on =
+    let game : IsAccepted rom start = record { notes = notes; yes = accepted } in
+    of_cabinet laws R image held rom start game (by_bytes R (on_board laws R image held) game offers puts pairs) memory
+    (keeps R image held rom start notes accepted offers puts pairs) machine work calm clocks on

@@ -1,0 +1,72 @@
+-- Cells of a processor and a board on one clock, with memory outside that has a game's ROM: all that may come.
+use Rattle.std.specs.Prelude.{◌≡◌, ℕ, suc, ◌-◌, ◌<◌, ◌≤◌, ◌&&◌, Bool, true, false, nat_eq, nat_le, nat_lt}
+use Rattle.std.specs.Prelude.{if◌then◌else◌, List, [], ◌∷◌, slice_index}
+use Rattle.dvg_mem.specs.Memory.{IsImage, IsRom}
+use Rattle.dvg_calls_6502.specs.Processor.{put}
+use Rattle.dvg_cells_board.specs.Board.{Bus}
+use Rattle.dvg_cells_board.specs.Clocks.{IsServed}
+use Rattle.dvg_cells_cpu.specs.Cpu.{Cpu as Cells, at, write, dout}
+use Rattle.dvg_cells_cpu.specs.Refines.{Where}
+use Rattle.dvg_game_rules.specs.Machine.{word_at, reset_vector}
+use Rattle.dvg_calls_cells.specs.Machine.{Machine, Bus as Pins, powered, clock, access, drives_board}
+
+-- `nmi` rises: it is high in the second clock of a cycle, where it is looked at, and was low when it was looked at before
+abbrev pub rises : Machine → Pins → Bool
+rises machine pins = nat_eq machine.answers 1 && (nat_eq pins.nmi 1 && nat_eq machine.cpu.was 0)
+
+-- how many clocks came since it rose last
+abbrev pub calm_after : Machine → Pins → ℕ → ℕ
+calm_after machine pins calm = if rises machine pins then 0 else suc calm
+
+-- the work RAM outside, of the zero page and the stack, takes what is written there in the clock of the access
+abbrev pub takes : Machine → Pins → Bool
+takes machine pins =
+    nat_eq (access machine pins) 1 && (nat_eq (write machine.cpu) 1 && nat_lt (at machine.cpu) 0x200)
+
+-- and keeps it
+abbrev pub work_after : Machine → Pins → (ℕ → ℕ) → ℕ → ℕ
+work_after machine pins work =
+    if takes machine pins then put (at machine.cpu) (dout machine.cpu) work else work
+
+-- what a read of the memory outside finds: in the zero page and the stack what was written, in the ROM its byte, and its
+-- vectors also at the top, as A15 isn't decoded there. All else finds any byte
+pub record Finds (rom work : ℕ → ℕ) (a byte : ℕ) : Type 0 where
+  pub in_work : Where (nat_lt a 0x200) (byte ≡ work a)
+  pub in_rom : Where (nat_le 0x4800 a && nat_lt a 0x8000) (byte ≡ rom a)
+  pub vectors : Where (nat_le 0xFFFA a) (byte ≡ rom (a - 0x8000))
+
+-- the program boots: PC is between where the reset's vector leads and where the program starts, behind its TXS
+abbrev pub is_booting : (rom : ℕ → ℕ) → (start : ℕ) → Cells → Bool
+is_booting rom start cells = nat_le (word_at rom reset_vector) cells.pc && nat_lt cells.pc start
+
+-- what is asked of a clock
+pub record IsDriven (R : List ℕ) (rom : ℕ → ℕ) (start : ℕ) (machine : Machine) (work : ℕ → ℕ) (calm : ℕ) (pins : Pins) :
+    Type 0 where
+  -- the pins are bits and bytes
+  pub reset : pins.reset < 2
+  pub nmi : pins.nmi < 2
+  pub vector_rom : pins.rom < 256
+  pub m : pins.m < 256
+  -- the generator's ROM and its jumper are served
+  pub served : IsServed R machine.board (drives_board machine pins)
+  -- in the second clock of a cycle that reads, the memory outside answers
+  pub answers : machine.answers ≡ 1 → write machine.cpu ≡ 0 → Finds rom work (at machine.cpu) pins.m
+  -- the strobe is only written
+  pub no_strobe : write machine.cpu ≡ 0 → nat_eq (at machine.cpu) 0x3000 ≡ false
+  -- an NMI rises 10,400 clocks after the one before, which are 5,200 cycles
+  pub apart : rises machine pins ≡ true → 10400 ≤ calm
+  -- and none is due while the program boots
+  pub boots_alone : is_booting rom start machine.cpu ≡ true → machine.cpu.due ≡ 0
+
+-- all that may come since power-up: the machine, the work RAM, how many clocks came since `nmi` rose, and the board's clocks,
+-- the newest first
+pub data IsWhole (R image : List ℕ) (held rom : ℕ → ℕ) (start : ℕ) : Machine → (ℕ → ℕ) → ℕ → List Bus → Type 0 where
+  -- power-up, with any bytes in both RAMs, and bytes in the ROM
+  powers : (work : ℕ → ℕ) (calm : ℕ) → IsRom R → IsImage image → ((a : ℕ) → a < 2048 → held a ≡ slice_index image a)
+      → ((a : ℕ) → held a < 256) → ((a : ℕ) → work a < 256) → ((a : ℕ) → rom a < 256)
+      → IsWhole R image held rom start (powered held) work calm []
+  -- a clock more, maybe with a reset
+  ticks : {machine : Machine} {work : ℕ → ℕ} {calm : ℕ} {clocks : List Bus} (pins : Pins)
+      → IsWhole R image held rom start machine work calm clocks → IsDriven R rom start machine work calm pins
+      → IsWhole R image held rom start (clock machine pins) (work_after machine pins work)
+      (calm_after machine pins calm) (drives_board machine pins ∷ clocks)

@@ -1,0 +1,5 @@
+use Rattle.dvg_game_rules.proofs.Alike.{steps_alike, interrupts_alike}
+use Rattle.dvg_game_rules.proofs.steps_alike.Goals as goal
+
+pub returns : goal.returns
+returns c = record { steps = steps_alike; interrupts = interrupts_alike }

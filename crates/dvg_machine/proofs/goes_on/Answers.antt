@@ -1,5 +1,0 @@
-use Rattle.dvg_machine.proofs.Going.{call_goes_on, cells_go_on}
-use Rattle.dvg_machine.proofs.goes_on.Goals as goal
-
-pub returns : goal.returns
-returns c = record { alone = cells_go_on; calls = call_goes_on }

@@ -1,5 +1,0 @@
-use Rattle.std.proofs.Common.{refl}
-use Rattle.dvg_motion.proofs.vectors_show.Goals as goal
-
-pub returns : goal.returns
-returns c = λ vectors bus. ((refl, refl, refl, refl, refl, refl, refl), (refl, refl, refl, refl, refl, refl), (refl, refl, refl, refl, refl, refl, refl, refl))

@@ -1,5 +1,0 @@
-use Rattle.dvg_play.proofs.Opened.{driver_begins, driver_ends, driver_steps, nmi_passes}
-use Rattle.dvg_play.proofs.driver_goes_on.Goals as goal
-
-pub returns : goal.returns
-returns c = record { begins = driver_begins; steps = driver_steps; passes = nmi_passes; ends = driver_ends }

@@ -1,5 +1,0 @@
-use Rattle.dvg_system.proofs.Example as example
-use Rattle.dvg_system.proofs.some_machine.Goals as goal
-
-pub returns : goal.returns
-returns c = record { offers = example.some_machine; builds = example.some_builder }
