@@ -12,9 +12,9 @@ use std::alloc::Global;
 use std::slice;
 
 /// A table of `frame` over `rom` is written only if a table can express it for the driver's machine
-/// code: what its operations name of the ROM stands from 400 on, and what they name of the frame in
-/// half 0. So the law `dvg_calls_6502::tables` speaks of it: the code writes the frame as it is laid
-/// for either half.
+/// code: what its operations name of the ROM stands from 400 on, and what they name of the frame
+/// in half 0. So the law `dvg_calls_6502::tables` speaks of it: the code writes the frame as it is
+/// laid for either half.
 pub fn tables_fit_boards(
     alloc: Global,
     rom: &Rom<Global>,
