@@ -42,6 +42,16 @@ has() {
     command -v "$1" >/dev/null
 }
 
+# How many processors this may run on.
+processors() {
+    nproc 2>/dev/null || getconf _NPROCESSORS_ONLN
+}
+
+# How long it took to prove the program from nothing: `./prove --anew` wrote it.
+proved_in() {
+    cat "$plain/proved_in"
+}
+
 # Shows what stands at the head of the script that runs.
 show_help() {
     awk 'NR == 1 { next } !/^#/ { exit } { sub(/^# ?/, ""); print }' "$0"
@@ -267,7 +277,7 @@ run_cargo() {
 # profile, the crate, what it is, what proves it, and more options of cargo.
 build_plain() {
     say "building $3 by cargo, in seconds: it is the same code, not proved on this machine"
-    say "$4 proves it, in some 17 minutes"
+    say "$4 proves it, in some $(proved_in)"
     run_guarded "$plain/generate" --to "$workspace" >&2 ||
         give_up 'the plain form of the sources could not be made'
     run_cargo "$1" "$2" "${@:5}" ||

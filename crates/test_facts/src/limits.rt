@@ -1,23 +1,12 @@
-//! The limits as numbers. Clauses and definitions cite them by name, so a wrong number in a source
-//! would change what they say: here it is refused.
+//! The limits as numbers, beside those of `dvg_tool::laws::limits`. Clauses and definitions cite them
+//! by name, so a wrong number in a source would change what they say: here it is refused.
 ghost use Rattle.std.specs.Prelude.{◌≡◌};
 
 use dvg_device::MOST_STAGED;
 use dvg_dump::{LARGE_DUMP_BYTES, MOST_WORDS, SMALL_DUMP_BYTES};
-use dvg_frame::MAX_OPS;
 use dvg_gen::STACK_DEPTH;
-use dvg_log::MOST_EVENTS;
 use dvg_mem::{LARGE_ROM_BYTES, MEMORY_BYTES, ROM_END};
 use dvg_print::LINE_WORDS;
-use dvg_read::MOST_TEXT_BYTES;
-use dvg_tool::MOST_LIST_BYTES;
-
-/// The operations of a draft: at most 511.
-pub fn most_operations() -> usize
-    ensures { result ≡ 511 }
-{
-    MAX_OPS
-}
 
 /// The return addresses that a generator saves: at most 4.
 pub fn most_returns() -> usize
@@ -40,32 +29,11 @@ pub fn end_of_rom() -> u16
     ROM_END
 }
 
-/// The bytes of `list`: at most 8,192.
-pub fn most_listed() -> usize
-    ensures { result ≡ 8192 }
-{
-    MOST_LIST_BYTES
-}
-
 /// The words of a line of a ROM: at most 8.
 pub fn words_of_a_line() -> usize
     ensures { result ≡ 8 }
 {
     LINE_WORDS
-}
-
-/// The bytes of a text: at most 1,048,576.
-pub fn longest_text() -> usize
-    ensures { result ≡ 1048576 }
-{
-    MOST_TEXT_BYTES
-}
-
-/// The events of a trace: at most 65,536.
-pub fn most_events() -> usize
-    ensures { result ≡ 65536 }
-{
-    MOST_EVENTS
 }
 
 /// The words that the run of a dump fetches: at most 65,536.
