@@ -102,6 +102,14 @@ crates_of() {
     done
 }
 
+# These crates, and all that stand on one of them.
+standing_on() {
+    local crate
+    for crate in $(sed -E 's/[ :].*//' "$top/crates.txt"); do
+        ! crates_of "$crate" | grep -qxFf <(printf '%s\n' "$@") || echo "$crate"
+    done
+}
+
 # The digest of what is proved of a crate and of all that it is made of.
 digest_of_crate() {
     local crate files=(crates.txt)
