@@ -12,15 +12,14 @@ proof may name a wire; one of dvg_bus.v isn't tried, as that isn't proved. The p
 dvg_cells_cpu that are tables are made anew, too. What the crates stand on must be proved: `./prove
 dvg_cells_motion dvg_cells_wraps dvg_calls_cells`. The last line is 'N passed, M failed'."""
 
-import os
 import re
 import shutil
 import subprocess
 import sys
 import time
-from importlib.machinery import SourceFileLoader
-from importlib.util import module_from_spec, spec_from_loader
+from pathlib import Path
 
+import rooms
 import texts
 
 CELLS = {"dvg_cells_core": ["core"], "dvg_cells_wraps": ["wraps"], "dvg_cells_cpu": ["cpu"],
@@ -41,19 +40,6 @@ LAWS = {"dvg_cells_core": ["core_refines", "pins_tell"],
 FILES = {"wraps": "core"}
 
 
-def load(name):
-    """A program of tests/ as a module."""
-    loader = SourceFileLoader(name, f"{texts.TOP}/tests/{name}")
-    module = module_from_spec(spec_from_loader(name, loader))
-    sys.modules[name] = module
-    loader.exec_module(module)
-    return module
-
-
-# The words by which a crate is checked.
-words_for = load("wrong_bodies").words_for
-
-
 def is_changed(planted, file):
     """Whether a planted copy isn't the file of core/."""
     with open(f"{planted}/{file}", "rb") as copy, open(f"{texts.TOP}/core/{file}", "rb") as here:
@@ -69,12 +55,8 @@ def crates_of(planted):
 def make_room(room, crate):
     """A copy of a crate, with what is kept of its proof."""
     shutil.rmtree(room, ignore_errors=True)
-    for part in "src", "specs", "proofs":
-        shutil.copytree(f"{texts.TOP}/crates/{crate}/{part}", f"{room}/{part}")
-    kept = f"{texts.TOP}/crates/{crate}/out/incremental"
-    if os.path.isdir(kept):
-        shutil.copytree(kept, f"{room}/out/incremental")
-    os.makedirs(f"{room}/out/incremental", exist_ok=True)
+    here = rooms.ROOT / "crates" / crate
+    rooms.make_room(Path(room), here, here)
 
 
 def make_tables(room, crate, planted):
@@ -84,17 +66,6 @@ def make_tables(room, crate, planted):
                           capture_output=True)
     if made.returncode:
         shutil.copytree(f"{texts.TOP}/crates/{crate}/proofs", f"{room}/proofs", dirs_exist_ok=True)
-
-
-def check(room, crate):
-    """What a check of the laws of a crate writes, within half an hour."""
-    words = words_for(crate) + [word for law in LAWS[crate] for word in ("--only", law)]
-    try:
-        return subprocess.run(words, cwd=room, stdin=subprocess.DEVNULL, stdout=subprocess.PIPE,
-                              stderr=subprocess.STDOUT, encoding="utf-8", errors="replace",
-                              timeout=1800).stdout
-    except subprocess.TimeoutExpired:
-        return "out of time"
 
 
 def refusal(room, crate, planted):
@@ -108,7 +79,7 @@ def refusal(room, crate, planted):
             file.write(made.stdout)
     if crate == "dvg_cells_cpu":
         make_tables(room, crate, planted)
-    said = check(room, crate)
+    said, _ = rooms.check(room, crate, LAWS[crate])
     if len(re.findall(r"(?m)^fn \w+::\w+: proved", said)) == len(LAWS[crate]):
         return None
     laws = re.findall(r"(?m)^fn \w+::(\w+): not proved", said)

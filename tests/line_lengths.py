@@ -17,7 +17,7 @@ EXEMPT = re.compile(
     r"\.antt$|^plain/crates/|^docs/DEFINITIONS\.md$"
     r"|^page/(dvg\.html|dvg\.wasm\.made|driver\.listing)$"
     r"|^tests/(tool_)?cases/.*\.md$|^tests/compare_mistakes$"
-    r"|^crates/[^/]+/(wrong-bodies|must-fail)/")
+    r"|^crates/[^/]+/wrong-(bodies|laws)\.edits$|^tests/refused/")
 
 
 def too_long(path, text):
@@ -62,7 +62,7 @@ JUDGED = ["Makefile", "test", "tests/counts.bash", "plain/erase.rs", "core/dvg_c
           "docs/BOARD.md", "crates/dvg_gen/src/generator.rt", "board/driver.s", "board/tables.awk",
           "page/src/page.mjs"]
 PASSED_OVER = ["crates/dvg_gen/specs/Gen.antt", "plain/crates/dvg/src/main.rs", "page/dvg.html",
-               "crates/dvg_cells_core/must-fail/word_has_seventeen_bits.edit",
+               "crates/dvg_cells_core/wrong-laws.edits",
                "tests/cases/play.md"]
 
 

@@ -22,9 +22,17 @@ CRATES = [name for name in all_crates() if name.startswith("dvg_")]
 CHANGE = re.compile(r"^old: ?(.*)\nnew: ?(.*)$", re.M)
 
 
-def changes(edit):
-    """The changes that a text of a wrong body makes: a file, and its words before and after."""
-    for part in re.split(r"^file: ", edit.read_text(encoding="utf-8"), flags=re.M)[1:]:
+def texts_of(file):
+    """The texts that a file NAME.edits holds, if it is there: the name of each, and what it says."""
+    text = file.read_text(encoding="utf-8") if file.exists() else ""
+    for part in re.split(r"^# ", text, flags=re.M)[1:]:
+        name, _, said = part.partition("\n")
+        yield name.strip(), said
+
+
+def changes(text):
+    """The changes that a text makes: a file, and its words before and after."""
+    for part in re.split(r"^file: ", text, flags=re.M)[1:]:
         name = part.partition("\n")[0].strip()
         for old, new in CHANGE.findall(part):
             yield name, old, new

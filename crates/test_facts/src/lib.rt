@@ -1,7 +1,7 @@
 //! What the contracts are worth. Each function here makes public calls of the other crates, and
 //! proves a concrete fact of what comes out, from the contracts of those calls and the laws of
 //! definitions alone: no body is looked at. A contract that lost its meaning would leave its client
-//! unproved, and a fact that is wrong is refused (the wrong body in `wrong-bodies/`).
+//! unproved, and a fact that is wrong is refused (those of `wrong-bodies.edits`).
 #![tactic(auto)]
 
 pub mod boards;

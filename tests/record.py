@@ -1,0 +1,83 @@
+"""What the prover refused, as tests/refused keeps it for tests/wrong_bodies: a file a crate.
+
+Its first line is a checksum of all that decides what is said of the crate's texts: the texts, the
+crate, the crates that it stands on, the logic of the kit, and the suite. The second has the seconds
+of processors that they took, and then comes a line of each text. It proves nothing: it spares to
+try again what was tried of the same sources. So in each commit a quarter of the crates is tried all
+the same, another one each time."""
+
+import hashlib
+import subprocess
+from dataclasses import dataclass
+
+from rooms import ROOT, crates_below, lines_of_crates
+
+KEPT = ROOT / "tests/refused"
+PARTS = ("src", "specs", "proofs")
+EDITS = ("wrong-bodies.edits", "wrong-laws.edits")
+SUITE = ("tests/wrong_bodies", "tests/wrong_laws.py", "tests/rooms.py", "tests/copies.py",
+         "tools/sources.py")
+SHARE = 4
+
+
+def printed(*words):
+    """What a command prints, or nothing where it fails."""
+    return subprocess.run(words, cwd=ROOT, stdout=subprocess.PIPE, stderr=subprocess.DEVNULL,
+                          encoding="utf-8").stdout
+
+
+def files_for(name, lines):
+    """The files that decide what is said of a crate's texts."""
+    for crate in sorted([name, *crates_below(name, lines)]):
+        for part in PARTS:
+            found = (ROOT / "crates" / crate / part).rglob("*")
+            yield from sorted(it for it in found if it.is_file())
+    yield from (it for it in (ROOT / "crates" / name / edits for edits in EDITS) if it.exists())
+    yield from (ROOT / it for it in SUITE)
+
+
+def checksum(name):
+    """The checksum of all that decides what is said of a crate's texts."""
+    lines = lines_of_crates()
+    uses = [(it, lines[it]) for it in sorted([name, *crates_below(name, lines)])]
+    logic = printed("rt", "version").partition("logic ")[2].strip()
+    digest = hashlib.sha256(f"{logic}\n{uses}\n".encode())
+    for file in files_for(name, lines):
+        digest.update(f"{file.relative_to(ROOT)} {file.stat().st_size}\n".encode())
+        digest.update(file.read_bytes())
+    return digest.hexdigest()
+
+
+@dataclass(frozen=True)
+class Kept:
+    """What is kept of a crate: a checksum, seconds, and the lines of its texts."""
+
+    digest: str
+    seconds: int
+    lines: list
+
+    def is_of(self, name):
+        """Whether this is of the sources that are there."""
+        return self.digest == checksum(name)
+
+
+def read(name):
+    """What is kept of a crate, or what is like nothing."""
+    file = KEPT / name
+    if not file.exists():
+        return Kept("", 0, [])
+    digest, seconds, *lines = file.read_text(encoding="utf-8").splitlines()
+    return Kept(digest, int(seconds.split()[0]), lines)
+
+
+def is_in_turn(name):
+    """Whether a crate is tried in this commit, whatever is kept of it."""
+    commit = printed("git", "rev-parse", "HEAD").strip()
+    return int(hashlib.sha256(f"{commit} {name}".encode()).hexdigest(), 16) % SHARE == 0
+
+
+def write(name, seconds, lines):
+    """Keeps what was said of a crate."""
+    KEPT.mkdir(exist_ok=True)
+    text = "".join(f"{it}\n" for it in [checksum(name), f"{seconds:.0f} seconds", *lines])
+    (KEPT / name).write_text(text, encoding="utf-8")
