@@ -39,7 +39,8 @@ pub fn labs_begins()
 {}
 
 /// Where the checker accepts a game, and what it offers and puts is as `Content` says, its accesses
-/// of the hardware in the driver are those of a session of calls, wherever its NMIs come.
+/// of the hardware in the driver are those of a session of calls, wherever its NMIs come, 860
+/// instructions apart.
 pub fn games_call()
     ensures { GamesCall }
 {}

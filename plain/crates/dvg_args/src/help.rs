@@ -272,9 +272,9 @@ log omits word zero after `started`, or swaps its bytes. Lines are numbered from
 Nothing is judged after the first line that is torn or at fault.
 
 With `--moments` it is `torn at line N: ..` for the first finished run that is
-mixed: at no moment did memory hold all that it read. A moment is ruled out if a
-byte that the run reads changes between the moment and its reading. Line N, which
-is shown, is the read that ruled out the last one. It is
+mixed: at no moment had memory all that it read, with none of it changed between
+that moment and its reading. A byte that comes back has changed. Line N, which is
+shown, is the read that ruled out the last moment. It is
 `line N reads what was not written: ..` for the first line that reads another byte
 than the log told last of it: of the RAM, of the ROM, or of the low byte that was
 told of this very word. Else it is `whole: R runs, H halted, J judged`, where H
