@@ -1,13 +1,38 @@
-# Brings packages of any suite of Debian as files. board/install, packaging/install and
-# page/toolchain read this by `.`. Nothing of the system changes, its lists neither, and root isn't
-# needed.
+# Debian's packages, in the system or as files. board/install, core/install, packaging/install,
+# page/install and page/toolchain read this by `.`.
 #
+#     install_packages PACKAGE..      installs packages in the system, by their names or as files
 #     open_suite FOLDER KIND SUITE    makes FOLDER, for packages, `deb`, or their sources, `deb-src`
 #     of_suite FOLDER apt-get WORD..  runs apt-get or apt-cache over that suite alone
+#
+# What is installed wants root, and waits while another has apt's lock. What comes of a suite are
+# files: nothing of the system changes, its lists neither, and no lock and no root is needed.
 #
 # They come from where this machine's own sources have Debian: from a mirror, if they name one. A
 # machine whose sources name no Debian says where one is: DEBIAN=ADDRESS. apt checks what it fetches
 # by Debian's keys, whichever mirror it is.
+
+# Runs apt-get in the system, as root: WORD.. It waits up to five minutes while another has a lock.
+# apt-get itself waits for that of dpkg alone, and fails at once where another fetches lists.
+system_apt() {
+    apt_root=
+    [ "$(id -u)" = 0 ] || apt_root=sudo
+    apt_tries=60
+    while ! { apt_said=$($apt_root env LC_ALL=C DEBIAN_FRONTEND=noninteractive \
+        apt-get -o DPkg::Lock::Timeout=300 "$@" 2>&1 >&3); } 3>&2; do
+        apt_tries=$((apt_tries - 1))
+        case $apt_said in
+        *'Could not get lock'*) [ $apt_tries -gt 0 ] && sleep 5 && continue ;;
+        esac
+        echo "$apt_said" >&2
+        return 1
+    done
+}
+
+install_packages() {
+    echo "install: this waits up to five minutes while another has apt's lock: $*" >&2
+    system_apt update && system_apt install -y --no-install-recommends "$@"
+}
 
 # apt with lists and a cache of its own: FOLDER apt-get WORD..
 apt_in() {
