@@ -14,7 +14,7 @@ DATA = re.compile(
 # What is written by a script, and what shows commands and outputs whose lines are what they are. A
 # planted mistake has each of its texts in one line. `rt fmt` lays out what is proved: *.antt.
 EXEMPT = re.compile(
-    r"\.antt$|^plain/crates/|^docs/DEFINITIONS\.md$"
+    r"\.antt$|^plain/crates/"
     r"|^page/(dvg\.html|dvg\.wasm\.made|driver\.listing)$"
     r"|^tests/(tool_)?cases/.*\.md$|^tests/compare_mistakes$"
     r"|^crates/[^/]+/wrong-(bodies|laws)\.edits$|^tests/refused/")

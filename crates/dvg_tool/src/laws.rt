@@ -1,5 +1,5 @@
-//! The laws of what is said of drafts, and the limits as numbers. Each is the contract of a function
-//! that does nothing.
+//! The laws of what is said of drafts, and the limits as numbers. Each is the contract of a
+//! function that does nothing.
 ghost use Rattle.std.specs.Prelude.{◌≡◌};
 ghost use Rattle.dvg_frame.specs.declared.draft.TheConstants.{MAX_OPS};
 ghost use Rattle.dvg_log.specs.declared.trace.TheConstants.{MOST_EVENTS};
