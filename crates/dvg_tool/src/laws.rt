@@ -1,11 +1,12 @@
-//! The laws of what is said of drafts, and the limits as numbers. Each is the contract of a
-//! function that does nothing.
+//! The laws of what is said of drafts, and the limits of texts as numbers. Clauses cite a limit by
+//! its name, so a wrong number in a source would change what they say: here it is refused.
 ghost use Rattle.std.specs.Prelude.{◌≡◌};
-ghost use Rattle.dvg_frame.specs.declared.draft.TheConstants.{MAX_OPS};
-ghost use Rattle.dvg_log.specs.declared.trace.TheConstants.{MOST_EVENTS};
-ghost use Rattle.dvg_read.specs.declared.draft_text.TheConstants.{MOST_TEXT_BYTES};
 ghost use Rattle.dvg_tool.specs.CheckLaws.{OneBoundedVerdict, OneVerdict};
-ghost use Rattle.dvg_tool.specs.declared.lists.TheConstants.{MOST_LIST_BYTES};
+
+use crate::lists::MOST_LIST_BYTES;
+use dvg_frame::MAX_OPS;
+use dvg_log::MOST_EVENTS;
+use dvg_read::MOST_TEXT_BYTES;
 
 /// At most one verdict is given of a text.
 pub fn one_verdict()
@@ -17,11 +18,30 @@ pub fn one_bounded_verdict()
     ensures { OneBoundedVerdict }
 {}
 
-/// The limits of what is read, of which each clause speaks by its name: the operations of a draft,
-/// the bytes of a text, the events of a trace, and the bytes of `list`.
-pub fn limits()
-    ensures operations { MAX_OPS ≡ 511 }
-    ensures text { MOST_TEXT_BYTES ≡ 1048576 }
-    ensures events { MOST_EVENTS ≡ 65536 }
-    ensures listed { MOST_LIST_BYTES ≡ 8192 }
-{}
+/// The operations of a draft: at most 511.
+pub fn most_operations() -> usize
+    ensures { result ≡ 511 }
+{
+    MAX_OPS
+}
+
+/// The bytes of a text: at most 1,048,576.
+pub fn longest_text() -> usize
+    ensures { result ≡ 1048576 }
+{
+    MOST_TEXT_BYTES
+}
+
+/// The events of a trace: at most 65,536.
+pub fn most_events() -> usize
+    ensures { result ≡ 65536 }
+{
+    MOST_EVENTS
+}
+
+/// The bytes of `list`: at most 8,192.
+pub fn most_listed() -> usize
+    ensures { result ≡ 8192 }
+{
+    MOST_LIST_BYTES
+}

@@ -1,4 +1,4 @@
-//! The limits as numbers, beside those of `dvg_tool::laws::limits`. Clauses and definitions cite
+//! The limits as numbers, beside those of `dvg_tool::laws`. Clauses and definitions cite
 //! them by name, so a wrong number in a source would change what they say: here it is refused.
 ghost use Rattle.std.specs.Prelude.{◌≡◌};
 
