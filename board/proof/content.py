@@ -1,18 +1,17 @@
-"""Looks at what a program offers and puts, as far as its bytes show it. This is tested, not proved.
+"""Looks at what a program offers and puts by its names, which nothing proves.
 
-At a call of dvg_offer and of dvg_put, A and X are looked for in the instructions right before it,
-up to where something may jump in: loads of constants, or of a list in the ROM by Y, where CPY #n
-and BCS come first. Each table must have the bytes of one that `dvg lay` wrote, and each word must
-be a call of a shape that `dvg lay` accepted.
+What A and X are at a call of dvg_offer and of dvg_put is what brings.py knows of them. That nothing
+tears is what `brings` says, and is proved of it. Here each table must also have the bytes of one
+that `dvg lay` wrote, and each word must be a call of a shape that `dvg lay` accepted, or a short
+vector: so a wrong picture is seen, too.
 """
 import re
 
-from opcodes import BRANCHES, CHANGES, STORES, TRANSFERS, Instruction
-from program import CODE_END, NMI_VECTOR, RESET_VECTOR, ROUTINES, is_driver
+import brings
+from opcodes import Instruction
+from program import CODE_END, DRIVER_END, ROUTINES, is_driver
 
-# What changes neither A nor X nor Y, but for the forms of A.
-KEEP_ALL = BRANCHES | CHANGES | STORES | {'bit', 'clc', 'cld', 'cli', 'clv', 'cmp', 'cpx', 'cpy',
-                                          'nop', 'sec', 'sei'}
+WHAT = {'dvg_offer': 'offered', 'dvg_put': 'put', 'dvg_pair': 'put by dvg_pair'}
 
 
 def tables_of(text):
@@ -31,101 +30,9 @@ def shapes_of(text):
     return {0xC000 | int(place, 16) for place in re.findall(r'^\w+ = \$([0-9A-F]+)$', text, re.M)}
 
 
-def entered(program, notes):
-    """Where an instruction is come to otherwise than from the one before it."""
-    places = {program.word(NMI_VECTOR), program.word(RESET_VECTOR)}
-    for at in notes:
-        i = Instruction(program.rom, at)
-        if i.name in BRANCHES or i.name in ('jmp', 'jsr'):
-            places.add(i.operand)
-        if i.name == 'jsr':
-            places.add(i.next)
-    return places
-
-
-def straight(program, notes, to, places):
-    """The instructions that lead to this one and to nowhere else before, the first one first."""
-    before = {}
-    for at in notes:
-        i = Instruction(program.rom, at)
-        if i.name not in ('jmp', 'jsr', 'rts', 'rti'):
-            before.setdefault(i.next, []).append(i)
-    way = []
-    while to not in places and len(before.get(to, ())) == 1:
-        way[:0] = before[to]
-        to = way[0].at
-    return way
-
-
 def is_data(program, a):
     """Whether an address is in the program's ROM, and not among the driver's bytes."""
     return a in program.rom and not is_driver(a) and a < CODE_END
-
-
-def is_short(word):
-    """A canonical short vector: a zero has no sign."""
-    return word >> 12 == 15 and word & 0x700 != 0x400 and word & 7 != 4
-
-
-class Registers:
-    """What A and X hold for each Y that is possible: a list of bytes, or None where it is unknown.
-    Y itself is bounded by `most`, where that is known."""
-
-    def __init__(self, program, held=None):
-        self.program, self.held = program, held or {'a': None, 'x': None}
-        self.most, self.compared = None, None
-
-    def step(self, i):
-        bound, self.compared = self.compared, None
-        if i.name == 'cpy' and i.mode == '#':
-            self.compared = i.operand
-        elif i.name == 'bcs' and bound is not None:
-            self.bound(bound)
-        elif i.sets() in self.held or i.name in ('pla', 'tax', 'txa', 'tya'):
-            self.load(i)
-        elif i.name not in KEEP_ALL:
-            self.forget(i)
-
-    def forget(self, i):
-        """Y may be another one; constants stay."""
-        is_known = self.most is None and (i.sets() or i.name) in ('y', 'tay')
-        self.__init__(self.program, self.held if is_known else None)
-
-    def bound(self, most):
-        most = min(most, 256 if self.most is None else self.most)
-        self.most = most
-        for register, bytes_ in self.held.items():
-            if bytes_ is not None and len(bytes_) == 1:
-                self.held[register] = bytes_ * most
-            elif bytes_ is not None:
-                self.held[register] = bytes_[:most]
-
-    def load(self, i):
-        if i.name in TRANSFERS:
-            source, to = TRANSFERS[i.name]
-            self.held[to] = self.held.get(source)
-        elif i.name == 'ora' and i.mode == '#' and self.held['a'] is not None:
-            self.held['a'] = [byte | i.operand for byte in self.held['a']]
-        elif i.name in ('lda', 'ldx'):
-            self.held[i.sets()] = self.read(i)
-        else:
-            self.held[i.sets() or 'a'] = None
-
-    def read(self, i):
-        count = 1 if self.most is None else self.most
-        if i.mode == '#':
-            return [i.operand] * count
-        places = [i.operand + k for k in range(count)]
-        if i.mode != 'abs,y' or self.most is None or not all(
-                is_data(self.program, a) for a in places):
-            return None
-        return [self.program.rom[a] for a in places]
-
-    def words(self):
-        """The words that A and X may hold, or None."""
-        if None in self.held.values():
-            return None
-        return [low + 256 * high for low, high in zip(self.held['a'], self.held['x'])]
 
 
 def bytes_at(program, at):
@@ -134,51 +41,58 @@ def bytes_at(program, at):
     return bytes(program.rom[a] for a in range(at, at + size) if is_data(program, a))
 
 
-class Content:
-    """What the calls of a program show of what is offered and put."""
+def is_unbounded(known):
+    """Whether A or X is of a list, and nothing says how far Y goes in it."""
+    return known[2] == 256 and any(map(callable, known[:2]))
 
-    def __init__(self, program, notes, tables, shapes):
-        self.program, self.notes, self.tables, self.shapes = program, notes, tables, shapes
-        self.places = entered(program, notes)
+
+class Content:
+    """What the calls of a program show of what is offered and put: `lines` of what is refused, and
+    `unseen`, what is offered or put where it isn't known."""
+
+    def __init__(self, program, notes, ways, tables, shapes):
+        self.program, self.ways, self.tables, self.shapes = program, ways, tables, shapes
         self.seen = {'dvg_offer': set(), 'dvg_put': set()}
         self.lines, self.unseen = [], []
         for at in sorted(notes):
             i = Instruction(program.rom, at)
-            if i.name in ('jsr', 'jmp'):
-                self.look(i, ROUTINES.get(i.operand))
+            name = ROUTINES.get(i.operand)
+            if i.name in ('jsr', 'jmp') and name in WHAT:
+                self.look(i, name)
 
     def look(self, i, name):
-        if name == 'dvg_pair':
-            self.unseen.append(self.program.where(i.at))
-        if name not in self.seen:
-            return
-        registers = Registers(self.program)
-        for step in straight(self.program, self.notes, i.at, self.places):
-            registers.step(step)
-        words = registers.words()
-        if words is None:
-            self.unseen.append(self.program.where(i.at))
+        known = brings.fact(self.program, self.ways, brings.FAR, i.at)
+        words = [a + 256 * x for a, x in brings.pairs(known) or ()]
+        why = next(filter(None, (self.fault_of(name, word) for word in words)), None)
+        if name == 'dvg_pair' or not words or why and is_unbounded(known):
+            self.unseen.append(f'{WHAT[name]} at {self.program.where(i.at)}')
             return
         self.seen[name] |= set(words)
-        why = next(filter(None, (self.fault_of(name, word) for word in words)), None)
         if why:
             self.lines.append(f'{self.program.where(i.at)}: {i}: {why}')
 
     def fault_of(self, name, word):
-        if name == 'dvg_put' and word not in self.shapes and not is_short(word):
+        if name == 'dvg_put' and word not in self.shapes and not brings.is_short(
+                word & 0xFF, word >> 8):
             return (f'it puts {word:04X}, which is no call of a shape, nor a short vector: '
                     'dvg_call NAME')
         if name == 'dvg_offer' and bytes_at(self.program, word) not in self.tables:
             return f'it offers {word:04X}, where no table stands that dvg lay wrote'
         return None
 
+    def may_call(self, name):
+        """Whether a JSR or JMP to a routine stands anywhere, also in data."""
+        rom = self.program.rom
+        return any(rom[at] in (0x20, 0x4C) and ROUTINES.get(self.program.word(at + 1)) == name
+                   for at in range(DRIVER_END, CODE_END))
+
     def told(self):
         """A line of what was seen."""
+        if not any(map(self.may_call, WHAT)):
+            return 'it calls neither dvg_offer, dvg_put nor dvg_pair'
         tables, words = len(self.seen['dvg_offer']), len(self.seen['dvg_put'])
-        others = 'there are no others'
-        if self.unseen:
-            others = 'not seen is what is offered or put at ' + ', '.join(self.unseen)
-        return f'tested, not proved: {tables} tables checked, {words} words checked; {others}'
+        others = 'there are others' if self.unseen else 'there are no others'
+        return f'{tables} tables checked, {words} words checked; {others}'
 
 
 def read(folder):

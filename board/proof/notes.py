@@ -4,7 +4,7 @@ from program import NMI_VECTOR, RESET_VECTOR, ROUTINES, is_code, is_driver
 from rules import ANYTHING, UNCHANGED, Note, held_after, stores_own
 
 CAP = 900                       # more room, or more instructions of the NMI, than any may have
-MOST_PUSHED = 200
+MOST_PUSHED = 256
 
 
 def join(old, new):

@@ -79,8 +79,9 @@ class Program:
         return self.rom.get(at, 0) + 256 * self.rom.get(at + 1, 0)
 
     def where(self, at):
-        """An address as the label before it, and how far it is from there."""
-        before = [a for a in self.labels if a <= at]
+        """An address as the label before it, and how far it is from there; outside of the ROM, as
+        it is."""
+        before = [a for a in self.labels if a <= at and at in self.rom]
         if not before:
             return f'{at:04X}'
         best = max(before)

@@ -3,6 +3,7 @@ checker accepts them, or that it doesn't."""
 import os
 import re
 import textwrap
+from collections import namedtuple
 
 from program import CODE_END, DRIVER_END, NMI_VECTOR
 
@@ -70,7 +71,7 @@ use Rattle.dvg_frame.specs.declared.op.OpKind.{{OpKind}}
 {uses}use Rattle.{of}.specs.{name}.{{notes, rom, start}}
 use Rattle.dvg_game_content.specs.Brings.{{Ways, brings}}
 use Rattle.dvg_game_content.specs.Written.{{draft_in, way_in}}
-use Rattle.dvg_game_board.specs.Keeps.{{KeepsAlways}}
+use Rattle.{law.keeps}
 
 -- the bytes of its vector ROM
 unfoldable pub shapes : List ℕ
@@ -91,9 +92,9 @@ drafts = draft_in
 abbrev pub IsBrought : Type 0
 IsBrought = (other : ℕ → ℕ) → brings shapes (rom other) start notes ways drafts ≡ true
 
--- each run of it on its board keeps the headline, with no premise on what it does
+-- each run of it on {law.where} keeps the headline, with no premise on what it does
 abbrev pub Always : Type 0
-Always = KeepsAlways shapes rom start
+Always = {law.name} shapes rom start
 '''
 CONTENT_PROOF = '''use Rattle.std.proofs.Common.{{refl}}
 use Rattle.dvg_game_rules.specs.Checker.{{places}}
@@ -101,20 +102,35 @@ use Rattle.dvg_game_rules.specs.Written.{{of_list, rom_of, found, notes_of, note
 use Rattle.{of}.specs.{name} as game
 use Rattle.{of}.proofs.{name}.{{is_told}}
 use Rattle.dvg_game_content.specs.Written.{{draft_in, way_in}}
-use Rattle.dvg_game_board.specs.Keeps.{{GamesKeep}}
-use Rattle.dvg_game_board.proofs.ByBytes.{{games_keep_by_bytes}}
-use Rattle.{crate}.specs.{name}Content.{{shapes, ways, drafts, IsBrought, Always}}
+{law.uses}use Rattle.{crate}.specs.{name}Content.{{shapes, ways, drafts, IsBrought, Always}}
 
 pub is_brought : IsBrought
 unfolding places of_list rom_of found notes_of note nmi_note game.bytes game.vectors game.rows
     game.rom game.notes shapes ways drafts draft_in way_in
 is_brought other = refl
+{law.proof}'''
 
+
+# A law of all games by two tests of their bytes, of which that of a game is made: its name and
+# module, what it is of, the text of a game's proof; the function that has it, and its crate; which
+# part of its contract; and how the name of a game's function ends.
+Law = namedtuple('Law', 'name keeps where uses proof crate function part end')
+ON_BOARD = Law('KeepsAlways', 'dvg_game_board.specs.Keeps.{KeepsAlways}', 'its board', '''\
+use Rattle.dvg_game_board.specs.Keeps.{GamesKeep}
+use Rattle.dvg_game_board.proofs.ByBytes.{games_keep_by_bytes}
+''', '''
 pub keeps : GamesKeep → Always
 keeps law other image held at clocks on =
     games_keep_by_bytes law shapes image held (game.rom other) game.start game.notes ways drafts
     (is_told other) (is_brought other) at clocks on
-'''
+''', 'dvg_game_board', 'games_keep', '.keeps', '_keeps')
+ON_CELLS = Law('KeepsOnCells', 'dvg_closed_cells.specs.Closed.{KeepsOnCells}', 'cells', '''\
+use Rattle.dvg_closed_cells.specs.Closed.{GamesOnCellsKeepByBytes}
+''', '''
+pub keeps : GamesOnCellsKeepByBytes → Always
+keeps law other image held = law shapes image held (game.rom other) game.start game.notes ways
+    drafts (is_told other) (is_brought other)
+''', 'dvg_closed_cells', 'games_on_cells_keep_by_bytes', '', '_on_cells_keeps')
 ANSWERS = '''use Rattle.{crate}.proofs.{name}.{{{lemma}}}
 use Rattle.{crate}.proofs.{function}.Goals as goal
 
@@ -222,22 +238,27 @@ def used(text):
                    for module, names in found.items() if names)
 
 
-def written_content(folder, crate, of, name, title, brought):
-    """Writes a law of what a program brings into the crate in a folder, where the law of its bytes
-    is one of the crate `of`; gives the name of its function."""
+def content_specs(law, of, name, title, brought):
+    """The text of specs/NAMEContent.antt."""
     shapes, ways, drafts = brought
     listed = items('(0x{:04X}, {} ∷ [])'.format(at, ' ∷ '.join(map(operation, ops)))
                    for at, ops in sorted(drafts.items())).strip()
-    text = CONTENT.format(
-        title=title, of=of, name=name, shapes=items(f'0x{byte:02X}' for byte in shapes),
+    return CONTENT.format(
+        law=law, title=title, of=of, name=name, shapes=items(f'0x{byte:02X}' for byte in shapes),
         ways=items(f'(0x{at:04X}, {size})' for at, size in sorted(ways.items())).strip(),
         drafts=listed, uses=used(listed))
-    function = re.sub('(?<!^)(?=[A-Z])', '_', name).lower() + '_keeps'
+
+
+def written_content(folder, law, crate, of, name, title, brought):
+    """Writes a law of what a program brings into the crate in a folder, where the law of its bytes
+    is one of the crate `of`; gives the name of its function."""
+    function = re.sub('(?<!^)(?=[A-Z])', '_', name).lower() + law.end
     answers = ANSWERS.format(crate=crate, name=name + 'Content', function=function, lemma='keeps')
-    texts = {f'specs/{name}Content.antt': text,
-             f'proofs/{name}Content.antt': CONTENT_PROOF.format(crate=crate, of=of, name=name),
+    texts = {f'specs/{name}Content.antt': content_specs(law, of, name, title, brought),
+             f'proofs/{name}Content.antt': CONTENT_PROOF.format(
+                 law=law, crate=crate, of=of, name=name),
              f'proofs/{function}/Answers.antt': answers.replace(
-                 '= keeps', '= keeps c.games_keep.ensures.keeps')}
+                 '= keeps', f'= keeps c.{law.function}.ensures{law.part}')}
     for path, text in texts.items():
         os.makedirs(os.path.dirname(f'{folder}/{path}'), exist_ok=True)
         with open(f'{folder}/{path}', 'w', encoding='utf-8') as file:
@@ -263,14 +284,15 @@ def written(folder, crate, name, law):
 
 
 def library(crate, functions):
-    """The text of src/lib.rt of a crate of such laws: of each name its function."""
+    """The text of src/lib.rt of a crate of such laws, on cells where they are of content: of each
+    name its function."""
     uses, texts = [], []
     for name, function in functions.items():
         law = ('RunsSafely' if function.endswith('_is_safe') else
-               'Always' if function.endswith('_keeps') else 'IsTold')
+               'Always' if function.endswith(ON_CELLS.end) else 'IsTold')
         uses.append(f'ghost use Rattle.{crate}.specs.{name}.{{{law} as {name}{law}}};\n')
-        body = '{\n    games_keep();\n}' if law == 'Always' else '{}'
+        body = f'{{\n    {ON_CELLS.function}();\n}}' if law == 'Always' else '{}'
         texts.append(f'\npub fn {function}()\n    ensures {{ {name}{law} }}\n{body}\n')
-    if any(function.endswith('_keeps') for function in functions.values()):
-        uses.append('\nuse dvg_game_board::games_keep;\n')
+    if any(function.endswith(ON_CELLS.end) for function in functions.values()):
+        uses.append(f'\nuse {ON_CELLS.crate}::{ON_CELLS.function};\n')
     return '#![tactic(auto)]\n\n' + ''.join(uses) + ''.join(texts)

@@ -26,7 +26,12 @@ NMI_STACK = 32                  # bytes that an NMI may push, with its own three
 BOOT_INSTRUCTIONS = 32
 ANYTHING, UNCHANGED = '...', 'axy'
 TOO_EARLY = 'comes before dvg_reset, or after a store of a byte of 10 to 20'
+ASLEEP = 'dvg_reset may not have been called, or a byte of 10 to 20 was stored since'
+LOOPS = 'the NMI may loop, or lasts too long: write each round of a loop for itself'
+SHARED = 'the NMI leads there, too: it ends with RTI, and shares no instruction with the program'
 EMPTY = 'the frame may be empty yet: begin it with dvg_labs'
+# What an instruction elsewhere is mostly the cause of.
+FOLLOWS = TOO_EARLY, ASLEEP, LOOPS, EMPTY
 GOES_ON = {'dvg_put', 'dvg_pair', 'dvg_vector', 'dvg_close'}
 
 
@@ -75,8 +80,8 @@ def check_next(program, notes, now, to):
     if new is None:
         raise Refused(f'it goes on at {to:04X}, where no instruction of the game is known')
     if new.level != now.level:
-        raise Refused(f'it goes on at {where}, which is {new.level}, not {now.level}: '
-                      'is there an RTS or JMP too few?')
+        cure = SHARED if 'nmi' in (new.level, now.level) else 'is there an RTS or JMP too few?'
+        raise Refused(f'it goes on at {where}, which is {new.level}, not {now.level}: {cure}')
     if new.depth != now.depth:
         raise Refused(f'{bytes_of(now.depth)} on the stack, and at {where} {new.depth}: '
                       'push and pull as much on each way')
@@ -84,9 +89,9 @@ def check_next(program, notes, now, to):
         raise Refused('it needs more of the stack than there is: does a subroutine call itself, '
                       'or a loop push?')
     if now.level == 'nmi' and new.fuel >= now.fuel:
-        raise Refused('the NMI may loop, or lasts too long: it waits for nothing')
+        raise Refused(LOOPS)
     if new.awake and not now.awake:
-        raise Refused('dvg_reset may not have been called, or a byte of 10 to 20 was stored since')
+        raise Refused(ASLEEP)
     if any(n not in ('.', h) for n, h in zip(new.held, now.held)):
         raise Refused('a register is not what it is taken for')
     if len(new.slots) > len(now.slots) or any(
@@ -115,6 +120,8 @@ def check_driver(to, now):
 
 
 def check_return(now, blank):
+    if now.level == 'nmi':
+        raise Refused('it returns from level nmi: the NMI ends with RTI')
     if now.level != 'sub':
         raise Refused(f'it returns from level {now.level}, where no call is open')
     if now.depth:
@@ -188,7 +195,8 @@ def after(i, now):
 def check_alone(i, now):
     """What is asked of an instruction by itself."""
     if i.name == 'none':
-        raise Refused(f'{i.opcode:02X} is no opcode: does the program run on into data?')
+        raise Refused(f'{i.opcode:02X} is no opcode: does the program run on into data, or is a '
+                      'branch before it always taken? Write JMP there')
     if i.name in ('brk', 'sed', 'txs') or i.mode == '(abs)':
         raise Refused({'brk': 'it goes where an IRQ does', 'sed': 'decimal sums are not proved',
                        'txs': 'S is set at a reset alone: LDX #$FF, TXS, before any call'}.get(
@@ -260,9 +268,15 @@ def check_begin(program, notes, start):
                       'does a subroutine call itself?')
 
 
+def is_back(i):
+    """Whether an instruction may lead back: in a loop there is one that does."""
+    return (i.name in BRANCHES or i.name == 'jmp') and i.operand <= i.at
+
+
 def refusals(program, notes, start, driver):
-    """Lines, one for each instruction that is refused; none: the program is accepted."""
-    lines = []
+    """Lines, one for each instruction that is refused, causes first; none: the program is
+    accepted."""
+    causes, others = [], []
     for at, byte in enumerate(driver, START):
         if program.rom[at] != byte:
             return [f"{at:04X}: the code there isn't the driver's"]
@@ -270,9 +284,11 @@ def refusals(program, notes, start, driver):
         try:
             check_one(program, notes, at)
         except Refused as why:
-            lines.append(f'{program.where(at)}: {Instruction(program.rom, at)}: {why}')
+            i, follows = Instruction(program.rom, at), str(why).endswith(FOLLOWS)
+            if str(why) != LOOPS or is_back(i):
+                (others if follows else causes).append(f'{program.where(at)}: {i}: {why}')
     try:
         check_begin(program, notes, start)
     except Refused as why:
-        lines.append(f'the vectors: {why}')
-    return lines
+        others.append(f'the vectors: {why}')
+    return causes + others

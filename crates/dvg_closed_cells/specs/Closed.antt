@@ -24,13 +24,13 @@ abbrev pub GamesOnCellsKeepByBytes : Type 0
 GamesOnCellsKeepByBytes = (R image : List ℕ) (held rom : ℕ → ℕ) (start : ℕ) (notes : Notes) (ways : Ways)
     (drafts : ℕ → List OpKind) → accepts rom start notes ≡ true → brings R rom start notes ways drafts ≡ true
     → (machine : Machine) (work : ℕ → ℕ) (calm : ℕ) (clocks : List Bus)
-    → IsWhole R image held rom start machine work calm clocks → CellsKeep R image held machine clocks
+    → IsWhole R image held rom start machine work calm clocks → CellsKeep R image held rom start machine clocks
 
 -- of a game: each run of the cells with these bytes, whatever stands beside them, and with this vector ROM
 abbrev pub KeepsOnCells : (R : List ℕ) → (rom : (ℕ → ℕ) → ℕ → ℕ) → (start : ℕ) → Type 0
 KeepsOnCells R rom start = (other : ℕ → ℕ) (image : List ℕ) (held : ℕ → ℕ) (machine : Machine) (work : ℕ → ℕ) (calm : ℕ)
     (clocks : List Bus) → IsWhole R image held (rom other) start machine work calm clocks
-    → CellsKeep R image held machine clocks
+    → CellsKeep R image held (rom other) start machine clocks
 
 abbrev pub First : Type 0
 First = KeepsOnCells first_content.shapes first.rom first.start

@@ -104,7 +104,8 @@ runs_go_on R image held rom start machine work calm clocks on reset nmi hold fre
       vector_rom = below R (recursion_from_All (λ byte. byte < 256) R all.is_rom.bytes) _;
       m = answer_in rom work free (at machine.cpu) free_in all.work_in all.rom_in (nat_lt (at machine.cpu) 0x200)
           (nat_le 0x4800 (at machine.cpu) && nat_lt (at machine.cpu) 0x8000) (nat_le 0xFFFA (at machine.cpu));
-      served = record { big = refl; rom = λ takes from to. refl };
+      big = refl;
+      from_rom = λ takes from to. refl;
       answers = λ second reading. finds rom work free (at machine.cpu);
       no_strobe = strobe;
       apart = apart;

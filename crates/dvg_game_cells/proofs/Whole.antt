@@ -7,7 +7,7 @@ use Rattle.std.proofs.lemmas.List.Elements.{recursion_from_All}
 use Rattle.dvg_mem.specs.Memory.{IsRom}
 use Rattle.dvg_calls_6502.specs.Processor.{Cpu, put}
 use Rattle.dvg_cells_board.specs.Board.{Board, Bus}
-use Rattle.dvg_cells_board.specs.Clocks.{after}
+use Rattle.dvg_cells_board.specs.Clocks.{IsServed, after}
 use Rattle.dvg_cells_board.specs.Logs.{HoldsRam}
 use Rattle.dvg_cells_cpu.specs.Cpu.{Cpu as Cells, at, dout, write, zeros}
 use Rattle.dvg_cells_cpu.specs.Cpu as cpus
@@ -57,6 +57,10 @@ module _ (laws : Laws) (R image : List ℕ) (held rom : ℕ → ℕ) (start : �
 
   abbrev Asks : Machine → (ℕ → ℕ) → ℕ → Pins → Type 0
   Asks machine work calm pins = IsDriven R rom start machine work calm pins
+
+  served_by : {machine : Machine} {work : ℕ → ℕ} {calm : ℕ} {pins : Pins} → Asks machine work calm pins
+      → IsServed R machine.board (drives_board machine pins)
+  served_by asks = record { big = asks.big; rom = asks.from_rom }
 
   moved_to : {cells cells' : Cells} {work work' : ℕ → ℕ} {calm calm' : ℕ} {clocks clocks' : List Bus} → cells ≡ cells'
       → work ≡ work' → calm ≡ calm' → clocks ≡ clocks' → Standing cells work calm clocks → Standing cells' work' calm' clocks'
@@ -254,7 +258,7 @@ module _ (laws : Laws) (R image : List ℕ) (held rom : ℕ → ℕ) (start : �
     first_clock (suc zero) drive less asks =
         let h = holding s in
         let bus = reset_bus held clocks cells drive in
-        let on = resets bus h.on (reset_is R held clocks cells drive h.fitting asks.nmi asks.vector_rom asks.m) asks.served (refl, refl) refl in
+        let on = resets bus h.on (reset_is R held clocks cells drive h.fitting asks.nmi asks.vector_rom asks.m) (served_by asks) (refl, refl) refl in
         rests (anew None (clock here (resetting drive)).cpu work (suc calm) (bus ∷ clocks) on h.is_rom
         (reset_fits R held clocks cells drive h.fitting asks.nmi asks.vector_rom asks.m) h.work_in h.rom_in refl)
     first_clock (suc (suc n)) drive less asks = absurd (omega (arith, less))
@@ -275,16 +279,16 @@ module _ (laws : Laws) (R image : List ℕ) (held rom : ℕ → ℕ) (start : �
         first_rom = asks.vector_rom;
         second_rom = more.vector_rom;
         m = more.m;
-        first = asks.served;
-        second = more.served;
+        first = served_by asks;
+        second = served_by more;
       }
       given_by (suc zero) second less more = record {
         nmi = more.nmi;
         first_rom = asks.vector_rom;
         second_rom = more.vector_rom;
         m = more.m;
-        first = asks.served;
-        second = more.served;
+        first = served_by asks;
+        second = served_by more;
       }
       given_by (suc (suc n)) second less more = absurd (omega (arith, less))
 
@@ -360,7 +364,7 @@ module _ (laws : Laws) (R image : List ℕ) (held rom : ℕ → ℕ) (start : �
       first_rom = asks.vector_rom;
       second_rom = below R (recursion_from_All (λ byte. byte < 256) R (holding s).is_rom.bytes) _;
       m = answer_in (nat_lt (at cells) 0x200) (nat_le 0x4800 (at cells) && nat_lt (at cells) 0x8000) (nat_le 0xFFFA (at cells)) (at cells);
-      first = asks.served;
+      first = served_by asks;
       second = record { big = refl; rom = λ takes from to. refl };
     }
 
@@ -407,11 +411,13 @@ module _ (laws : Laws) (R image : List ℕ) (held rom : ℕ → ℕ) (start : �
   of_cabinet : OfEachMachine (λ R image held calls log clocks. HoldsRam image held log clocks)
       → ((spot : Option (Cpu × ℕ)) (clocks : List Bus) → On spot clocks → Keeps R image held clocks)
       → (machine : Machine) (work : ℕ → ℕ) (calm : ℕ) (clocks : List Bus)
-      → IsWhole R image held rom start machine work calm clocks → CellsKeep R image held machine clocks
+      → IsWhole R image held rom start machine work calm clocks → CellsKeep R image held rom start machine clocks
   of_cabinet memory keeps machine work calm clocks on =
       let one = find (now on) in
       let kept = keeps one.spot clocks one.on in
       let draw = alike_draw kept.alike in record {
+        spot = one.spot;
+        game = one.on;
         keeps = kept;
         board = one.board;
         draw = (ap (λ (b : Board). b.core) one.board ∙ draw.0, ap (λ (b : Board). b.ram) one.board ∙ draw.1);

@@ -1,5 +1,5 @@
 -- A run of cells can always go on, and there is one.
-use Rattle.std.specs.Prelude.{◌≡◌, ℕ, ◌+◌, ◌-◌, ◌*◌, ◌<◌, ◌≤◌, ◌==◌, ◌&&◌, true, false, not, nat_eq, nat_le, nat_lt}
+use Rattle.std.specs.Prelude.{◌≡◌, ℕ, suc, ◌+◌, ◌-◌, ◌*◌, ◌<◌, ◌≤◌, ◌==◌, ◌&&◌, true, false, not, nat_eq, nat_le, nat_lt}
 use Rattle.std.specs.Prelude.{if◌then◌else◌, List, ◌∷◌, length, slice_index}
 use Rattle.dvg_mem.specs.Memory.{first_word}
 use Rattle.dvg_cells_core.specs.Cells.{bit}
@@ -35,7 +35,7 @@ abbrev pub RunsGoOn : Type 0
 RunsGoOn = (R image : List ℕ) (held rom : ℕ → ℕ) (start : ℕ) (machine : Machine) (work : ℕ → ℕ) (calm : ℕ) (clocks : List Bus)
     → IsWhole R image held rom start machine work calm clocks → (reset nmi hold free : ℕ) → reset < 2 → nmi < 2 → free < 256
     → let pins = pins_for R rom machine work reset nmi hold free in
-    (write machine.cpu ≡ 0 → nat_eq (at machine.cpu) 0x3000 ≡ false) → (rises machine pins ≡ true → 10400 ≤ calm)
+    (write machine.cpu ≡ 0 → nat_eq (at machine.cpu) 0x3000 ≡ false) → (rises machine pins ≡ true → 10400 ≤ suc calm)
     → (is_booting rom start machine.cpu ≡ true → machine.cpu.due ≡ 0)
     → IsWhole R image held rom start (clock machine pins) (work_after machine pins work) (calm_after machine pins calm)
     (drives_board machine pins ∷ clocks)

@@ -1,5 +1,6 @@
 -- The joined law: what the checker's yes to a ROM says of each run of cells that have it in memory.
-use Rattle.std.specs.Prelude.{◌≡◌, ℕ, true, List}
+use Rattle.std.specs.Prelude.{◌≡◌, ℕ, true, List, Option}
+use Rattle.dvg_calls_6502.specs.Processor.{Cpu}
 use Rattle.dvg_calls_6502.specs.Code.{dvg_offer, dvg_pair, dvg_put}
 use Rattle.dvg_cells_board.specs.Board.{Bus}
 use Rattle.dvg_cells_board.specs.Clocks.{after}
@@ -7,13 +8,16 @@ use Rattle.dvg_cells_board.specs.Logs.{HoldsRam}
 use Rattle.dvg_game_rules.specs.Checker.{Notes, accepts}
 use Rattle.dvg_calls_cells.specs.Machine.{Machine}
 use Rattle.dvg_game_6502.specs.Games.{Content, never_calls}
-use Rattle.dvg_game_board.specs.Cabinet.{DrawAlike}
+use Rattle.dvg_game_board.specs.Cabinet.{DrawAlike, IsCabinet}
 use Rattle.dvg_game_board.specs.Keeps.{Keeps}
 use Rattle.dvg_game_cells.specs.Whole.{IsWhole}
 
--- there is a log that the board's clocks make, as `Keeps` has it; the machine's board is the one of these clocks, and has
--- the core and the RAM of the board that the log is of, whose RAM is what the log says
-pub record CellsKeep (R image : List ℕ) (held : ℕ → ℕ) (machine : Machine) (clocks : List Bus) : Type 0 where
+-- the cells did what a 6502 by its definition does with this ROM: their clocks of the board are those of a run of it. There
+-- is a log that these make, as `Keeps` has it; the machine's board is the one of these clocks, and has the core and the RAM
+-- of the board that the log is of, whose RAM is what the log says
+pub record CellsKeep (R image : List ℕ) (held rom : ℕ → ℕ) (start : ℕ) (machine : Machine) (clocks : List Bus) : Type 0 where
+  pub spot : Option (Cpu × ℕ)
+  pub game : IsCabinet R image held rom start spot clocks
   pub keeps : Keeps R image held clocks
   pub board : machine.board ≡ after held clocks
   pub draw : DrawAlike machine.board (after held keeps.shown)
@@ -24,7 +28,7 @@ abbrev pub GamesOnCellsKeep : Type 0
 GamesOnCellsKeep = (R image : List ℕ) (held rom : ℕ → ℕ) (start : ℕ) (notes : Notes)
     → accepts rom start notes ≡ true → Content R rom start
     → (machine : Machine) (work : ℕ → ℕ) (calm : ℕ) (clocks : List Bus)
-    → IsWhole R image held rom start machine work calm clocks → CellsKeep R image held machine clocks
+    → IsWhole R image held rom start machine work calm clocks → CellsKeep R image held rom start machine clocks
 
 -- and each run of a game that builds its frames by dvg_open, dvg_labs, dvg_vector and dvg_close alone: its bytes say so, and
 -- of what it draws there is no premise
@@ -33,4 +37,4 @@ VectorsOnCellsKeep = (R image : List ℕ) (held rom : ℕ → ℕ) (start : ℕ)
     → accepts rom start notes ≡ true → never_calls rom dvg_offer ≡ true → never_calls rom dvg_put ≡ true
     → never_calls rom dvg_pair ≡ true
     → (machine : Machine) (work : ℕ → ℕ) (calm : ℕ) (clocks : List Bus)
-    → IsWhole R image held rom start machine work calm clocks → CellsKeep R image held machine clocks
+    → IsWhole R image held rom start machine work calm clocks → CellsKeep R image held rom start machine clocks

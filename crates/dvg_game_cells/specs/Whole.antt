@@ -1,14 +1,15 @@
 -- Cells of a processor and a board on one clock, with memory outside that has a game's ROM: all that may come.
-use Rattle.std.specs.Prelude.{◌≡◌, ℕ, suc, ◌-◌, ◌<◌, ◌≤◌, ◌&&◌, Bool, true, false, nat_eq, nat_le, nat_lt}
-use Rattle.std.specs.Prelude.{if◌then◌else◌, List, [], ◌∷◌, slice_index}
-use Rattle.dvg_mem.specs.Memory.{IsImage, IsRom}
+use Rattle.std.specs.Prelude.{◌≡◌, ℕ, suc, ◌+◌, ◌-◌, ◌*◌, ◌<◌, ◌≤◌, ◌==◌, ◌&&◌, Bool, true, false, not, nat_eq, nat_le}
+use Rattle.std.specs.Prelude.{nat_lt, if◌then◌else◌, List, [], ◌∷◌, length, slice_index}
+use Rattle.dvg_mem.specs.Memory.{IsImage, IsRom, first_word}
 use Rattle.dvg_calls_6502.specs.Processor.{put}
 use Rattle.dvg_cells_board.specs.Board.{Bus}
-use Rattle.dvg_cells_board.specs.Clocks.{IsServed}
-use Rattle.dvg_cells_cpu.specs.Cpu.{Cpu as Cells, at, write, dout}
+use Rattle.dvg_cells_core.specs.Cells.{bit}
+use Rattle.dvg_cells_cpu.specs.Cpu.{Cpu as Cells}
 use Rattle.dvg_cells_cpu.specs.Refines.{Where}
 use Rattle.dvg_game_rules.specs.Machine.{word_at, reset_vector}
 use Rattle.dvg_calls_cells.specs.Machine.{Machine, Bus as Pins, powered, clock, access, drives_board}
+use Rattle.dvg_calls_cells.specs.Machine as pin
 
 -- `nmi` rises: it is high in the second clock of a cycle, where it is looked at, and was low when it was looked at before
 abbrev pub rises : Machine → Pins → Bool
@@ -21,12 +22,12 @@ calm_after machine pins calm = if rises machine pins then 0 else suc calm
 -- the work RAM outside, of the zero page and the stack, takes what is written there in the clock of the access
 abbrev pub takes : Machine → Pins → Bool
 takes machine pins =
-    nat_eq (access machine pins) 1 && (nat_eq (write machine.cpu) 1 && nat_lt (at machine.cpu) 0x200)
+    nat_eq (access machine pins) 1 && (nat_eq (pin.write machine) 1 && nat_lt (pin.a machine) 0x200)
 
 -- and keeps it
 abbrev pub work_after : Machine → Pins → (ℕ → ℕ) → ℕ → ℕ
 work_after machine pins work =
-    if takes machine pins then put (at machine.cpu) (dout machine.cpu) work else work
+    if takes machine pins then put (pin.a machine) (pin.d machine) work else work
 
 -- what a read of the memory outside finds: in the zero page and the stack what was written, in the ROM its byte, and its
 -- vectors also at the top, as A15 isn't decoded there. All else finds any byte
@@ -47,14 +48,16 @@ pub record IsDriven (R : List ℕ) (rom : ℕ → ℕ) (start : ℕ) (machine : 
   pub nmi : pins.nmi < 2
   pub vector_rom : pins.rom < 256
   pub m : pins.m < 256
-  -- the generator's ROM and its jumper are served
-  pub served : IsServed R machine.board (drives_board machine pins)
+  -- the jumper is set for the generator's ROM, and where `takes`, `at` and `high` ask for a byte of it, it is there
+  pub big : pins.big ≡ bit (not (length R == 2048))
+  pub from_rom : pin.takes machine pins ≡ 1 → first_word R ≤ pin.at machine → pin.at machine < 0xC00
+      → pins.rom ≡ slice_index R (2 * (pin.at machine - first_word R) + pin.high machine)
   -- in the second clock of a cycle that reads, the memory outside answers
-  pub answers : machine.answers ≡ 1 → write machine.cpu ≡ 0 → Finds rom work (at machine.cpu) pins.m
+  pub answers : machine.answers ≡ 1 → pin.write machine ≡ 0 → Finds rom work (pin.a machine) pins.m
   -- the strobe is only written
-  pub no_strobe : write machine.cpu ≡ 0 → nat_eq (at machine.cpu) 0x3000 ≡ false
+  pub no_strobe : pin.write machine ≡ 0 → nat_eq (pin.a machine) 0x3000 ≡ false
   -- an NMI rises 10,400 clocks after the one before, which are 5,200 cycles
-  pub apart : rises machine pins ≡ true → 10400 ≤ calm
+  pub apart : rises machine pins ≡ true → 10400 ≤ suc calm
   -- and none is due while the program boots
   pub boots_alone : is_booting rom start machine.cpu ≡ true → machine.cpu.due ≡ 0
 
