@@ -13,9 +13,8 @@
 # `make help` prints the lines below.
 #
 #: make           makes the ROM set, build/roms, and says how many bytes are taken
-#: make proof      looks at its bytes, by the rules that are proved: in each run they keep to the
-#:                premises of control and memory, or it says which instruction is refused, and why;
-#:                and at tables that it offers and shapes that it puts, which is tested, not proved
+#: make proof      says of its bytes that no run of them tears a picture, by the rules that are
+#:                proved; or what isn't seen; or which instruction is refused, and why
 #: make premises  looks whether the program keeps to the premises of the driver's proof
 #: make judge     the same, and runs it in the emulator without a screen, and says all that is bad
 #: make film      the same, and makes a moving picture of it, build/film.svg
@@ -31,7 +30,7 @@
 #: make eproms    writes what is burned into build/eproms; make test-rom does so for a test ROM
 #: make clean     takes build away
 #:
-#: PROVE    1: proof has the prover itself compute the answer, which needs rt
+#: PROVE    1: proof has the prover itself prove it, which needs rt
 #: JUDGED   how many seconds premises, judge, film and sound run, of the board's time [20]
 #: SECONDS  the same of emulator and torn [5]; SHOTS: when pictures are taken [1.5 2.5 3.5 4.5]
 #: RATE     how many pictures a second judge wants [30]
