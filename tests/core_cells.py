@@ -349,6 +349,7 @@ RESET, INITIAL = "input  wire        reset,", "    initial {read"
 TAKES = "assign takes = pending && !reset && !starting;"
 Q = "assign q     = flag ? {ran, 7'b0} : read;"
 CORE, WRITES = ".clk(clk), .reset(reset), .start(starting)", "if (writes) ram[place] <= d;"
+ANOTHER = "yosys may read another circuit there"
 REFUSED = [
     ("dvg_core", "at + 12'd1", "at * 12'd3", "$mul: this kind isn't known"),
     ("dvg_core", "scale + local_scale", "scale ~^ local_scale", "$xnor: this kind isn't known"),
@@ -357,6 +358,18 @@ REFUSED = [
     ("dvg_core", "s3, scale} = 0;", "s3} = 0; scale = 4'd1;", "scale isn't 0 at power-up"),
     ("dvg_core", "s3, scale} = 0;", "s3} = 0;", "scale isn't 0 at power-up"),
     ("dvg_core", AFTER, "wire [11:0] after = after + at;", "yosys: Warning: found logic loop"),
+    # Two circuits in one text
+    ("dvg_core", SHOWS, f"`ifdef SYNTHESIS\n    {SHOWS}\n`else\n    assign halted = 0;\n`endif",
+     f"dvg_core.v: `ifdef SYNTHESIS: {ANOTHER}"),
+    ("dvg_core", SHOWS, f"`ifndef YOSYS\n    assign halted = 0;\n`else\n    {SHOWS}\n`endif",
+     f"dvg_core.v: `ifndef YOSYS: {ANOTHER}"),
+    ("dvg_core", "`ifdef DVG_WRAPS\n    wire", "`ifdef DVG_WRAP\n    wire", "`ifdef DVG_WRAP: "),
+    ("dvg_core", "`else", "`elsif SYNTHESIS", f"`elsif SYNTHESIS: {ANOTHER}"),
+    ("dvg_core", "module dvg_core", "`define DVG_WRAPS\nmodule dvg_core", "`define DVG_WRAPS: "),
+    ("dvg_core", SHOWS, f"{SHOWS} /* synthesis translate_off */ assign at[0] = 1'b1; "
+     "/* synthesis translate_on */", "dvg_core.v: translate_off: synthesis alone"),
+    ("dvg_board", "module dvg_board", "/* \"//\" */ `timescale 1ns/1ns\nmodule dvg_board",
+     f"dvg_board.v: `timescale: {ANOTHER}"),
     # Clocks
     ("dvg_core", CLOCK, "always @(negedge clk)", "the other edge"),
     ("dvg_core", CLOCK, "always @(posedge start)", "another clock"),

@@ -4,14 +4,16 @@
     core_projects.py CORE      the folder of them
 
 Both must name the same files, which must be there: those of the Verilog must be all that the
-modules of TOPS want, as yosys reads them. Prints how many files they name, or what is wrong (status
-1). Neither FuseSoC nor Quartus is asked."""
+modules of TOPS want, as yosys reads them, and all dvg_*.v of the folder. Prints how many files they
+name, or what is wrong (status 1). Neither FuseSoC nor Quartus is asked."""
 
+import glob
+import os
 import subprocess
 import sys
 import tempfile
 
-TOPS = "dvg_named", "dvg_socket", "dvg_monitor", "dvg_raster", "dvg_enable"
+TOPS = "dvg_named", "dvg_socket", "dvg_monitor", "dvg_raster", "dvg_enable", "dvg_machine"
 READER = """proc set_global_assignment {option kind path} { puts "$option $kind $path" }
 array set ::quartus {qip_path .}
 source dvg.qip
@@ -61,6 +63,9 @@ def main(folder):
     for top in TOPS:
         run(["yosys", "-q", "-p", f"read_verilog {' '.join(files['verilog'])}; "
              f"hierarchy -check -top {top}"], folder)
+    here = {os.path.basename(path) for path in glob.glob(f"{folder}/dvg_*.v")}
+    if here != {*files["verilog"]}:
+        sys.exit(f"not named: {' '.join(sorted(here - {*files['verilog']}))}")
     for name in files["vhdl"]:
         with open(f"{folder}/{name}", encoding="utf-8"):
             pass

@@ -14,48 +14,93 @@ struct Move {
     uint32_t x0, y0, x1, y1, z;
 };
 
-/* What the words of a run show, as they are fetched one after the other. The counters and the
- * global scale are those that the run before left. */
-class Drawing {
+/* What words come to, as they are fetched one after the other. */
+class Words {
 public:
-    std::vector<Shown> ticks;
-    std::vector<Move> moves;
-    Facts facts;
-    uint32_t scale = 0;
+    enum Kind { FIRST, PLACE, VECTOR, CALL, OTHER };
+    Vector vector = {};                 /* that of a VECTOR */
+    uint32_t x = 0, y = 0;              /* those of a PLACE */
+    uint32_t scale = 0;                 /* the global one, which a run leaves to the next one */
 
-    /* A start, whose tick clears the address. */
-    void begin()
+    void begin() { has_first = false; }
+    Kind take(uint32_t word)
     {
-        ticks.clear();
-        moves.clear();
-        has_first = false;
-        dark(1);
-    }
-
-    /* A tick for each byte of a word; an instruction's own ones, of which a JSRL has two; and those
-     * of its vector. */
-    void take(uint32_t word)
-    {
-        dark(2);
+        uint32_t opcode = word >> 12;
         if (has_first) {
             has_first = false;
-            dark(1);
-            take_long(word);
-        } else if (word >> 12 < 0xB) {
+            return take_second(word);
+        }
+        if (opcode < 0xB) {
             has_first = true;
             first = word;
-        } else {
-            dark(word >> 12 == 0xC ? 2 : 1);
-            if (word >> 12 == 0xF) {
-                take_short(word);
-            }
+            return FIRST;
         }
+        if (opcode == 0xF) {
+            uint32_t own = 2 + (word >> 2 & 2) + (word >> 11 & 1);
+            vector = {(scale + own) & 15, word >> 2 & 1, word >> 10 & 1, (word & 3) << 8,
+                word & 0x300, word >> 4 & 15};
+            return VECTOR;
+        }
+        return opcode == 0xC ? CALL : OTHER;
     }
 
 private:
     bool has_first = false;
     uint32_t first = 0;
 
+    Kind take_second(uint32_t second)
+    {
+        if (first >> 12 == 0xA) {
+            x = second & 0xFFF;
+            y = first & 0xFFF;
+            scale = second >> 12;
+            return PLACE;
+        }
+        vector = {(scale + (first >> 12)) & 15, second >> 10 & 1, first >> 10 & 1, second & 0x3FF,
+            first & 0x3FF, second >> 12};
+        return VECTOR;
+    }
+};
+
+/* How many ticks an instruction has of its own. */
+static int own_ticks(Words::Kind kind)
+{
+    return kind == Words::FIRST ? 0 : kind == Words::CALL ? 2 : 1;
+}
+
+/* What the words of a run show, tick by tick. The counters are those that the run before left. */
+class Drawing {
+public:
+    std::vector<Shown> ticks;
+    std::vector<Move> moves;
+    Facts facts;
+    Words words;
+
+    /* A start, whose tick clears the address. */
+    void begin()
+    {
+        ticks.clear();
+        moves.clear();
+        words.begin();
+        dark(1);
+    }
+
+    /* A tick for each byte of a word; an instruction's own ones; and those of its vector. */
+    void take(uint32_t word)
+    {
+        dark(2);
+        Words::Kind kind = words.take(word);
+        dark(own_ticks(kind));
+        if (kind == Words::PLACE) {
+            moves.push_back({facts.x, facts.y, words.x, words.y, 0});
+            facts.x = words.x;
+            facts.y = words.y;
+        } else if (kind == Words::VECTOR) {
+            move(words.vector);
+        }
+    }
+
+private:
     void dark(int count)
     {
         while (count--) {
@@ -73,24 +118,6 @@ private:
         made.x1 = facts.x;
         made.y1 = facts.y;
         moves.push_back(made);
-    }
-    void take_long(uint32_t second)
-    {
-        if (first >> 12 == 0xA) {
-            moves.push_back({facts.x, facts.y, second & 0xFFF, first & 0xFFF, 0});
-            facts.x = second & 0xFFF;
-            facts.y = first & 0xFFF;
-            scale = second >> 12;
-        } else {
-            move({(scale + (first >> 12)) & 15, second >> 10 & 1, first >> 10 & 1, second & 0x3FF,
-                first & 0x3FF, second >> 12});
-        }
-    }
-    void take_short(uint32_t word)
-    {
-        uint32_t own = 2 + (word >> 2 & 2) + (word >> 11 & 1);
-        move({(scale + own) & 15, word >> 2 & 1, word >> 10 & 1, (word & 3) << 8, word & 0x300,
-            word >> 4 & 15});
     }
 };
 

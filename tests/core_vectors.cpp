@@ -1,16 +1,19 @@
 /* dvg_vectors in Verilator beside the facts of core_facts.h, over whole display lists, by the bus
- * of a processor that reads the RAM meanwhile.
+ * of a processor that reads the RAM meanwhile, and after each list in some clocks in which all
+ * comes at random (core_paced.h).
  *
  *     core_vectors LISTS SEED     so many random lists
  *     core_vectors --moves DUMP   the list of a dump; prints its moves, as `dvg picture --moves
  *                                 --units` does but for the address, and then its ticks
  *
- * The DACs, the counters and the intensity are compared in each tick, and how many ticks a list
- * takes. Prints what was played, or the first difference (status 1). */
+ * The DACs, the counters and the intensity are compared in each tick of a list, and how many ticks
+ * it takes: ticks are 4 to 12 clocks apart. Prints what was played, or the first difference (status
+ * 1). */
 #include <cstring>
 #include "Vdvg_vectors.h"
-#include "core_bench.h"
-#include "core_run.h"
+#include "core_paced.h"
+
+enum : uint32_t { RANDOM_CLOCKS = 20000 };
 
 static uint8_t memory[2048 + 4096];
 static size_t size;
@@ -44,19 +47,19 @@ static void put(uint32_t a, uint8_t d)
     circuit.access = circuit.write = 0;
 }
 
-/* A tick of eight clocks, in the first of which the processor may read the RAM. */
-static void play_tick(const Shown &shown, bool more)
+/* A tick of so many clocks. The processor may read the RAM in those that leave two for a byte. */
+static void play_tick(const Shown &shown, uint32_t count, bool more)
 {
-    for (int clock = 0; clock < 8; clock++) {
+    for (uint32_t clock = 0; clock < count; clock++) {
         circuit.access = 0;
         uint32_t wanted = found;
         found = UINT32_MAX;
-        if (clock < 3 && once_in(3)) {
+        if (clock + 3 < count && once_in(3)) {
             uint32_t place = below(2048);
             access_bus(false, 0x4000 + place, 0);
             found = memory[place];
         }
-        circuit.tick = clock == 7;
+        circuit.tick = clock + 1 == count;
         clock_it();
         if (wanted != UINT32_MAX) {
             agree("q", circuit.q, wanted);
@@ -88,8 +91,9 @@ static void play_list()
     clock_it();
     edge(circuit);
     draw_run(drawing, memory, size);
+    uint32_t count = 4 + below(9);
     for (size_t tick = 0; tick < drawing.ticks.size(); tick++) {
-        play_tick(drawing.ticks[tick], tick + 1 < drawing.ticks.size());
+        play_tick(drawing.ticks[tick], count, tick + 1 < drawing.ticks.size());
     }
     agree("the end, x", circuit.x, drawing.facts.x);
     agree("the end, y", circuit.y, drawing.facts.y);
@@ -185,11 +189,18 @@ int main(int argc, char **argv)
         return play_dump(argv[2]);
     }
     uint64_t seed, lists = read_arguments(argc, argv, &seed);
-    for (done_so_far = 0; done_so_far < lists; done_so_far++) {
+    Paced<Vdvg_vectors> paced(circuit, drawing.facts, drawing.words);
+    for (uint64_t list = 0; list < lists; list++) {
         put_list();
         play_list();
+        paced.play(RANDOM_CLOCKS);
     }
-    printf("%" PRIu64 " lists, %" PRIu64 " moves, %" PRIu64 " ticks agree, seed %" PRIu64 "\n",
-        lists, all_moves, all_ticks, seed);
+    printf("%" PRIu64 " lists, %" PRIu64 " moves, %" PRIu64 " ticks agree, seed %" PRIu64
+           "; of all clocks, %" PRIu64 ", those at random have %" PRIu64 " bytes, %" PRIu64
+           " taken in a tick,\n %" PRIu64 " starts, %" PRIu64 " clocks of reset, %" PRIu64
+           " of both amid a vector, %" PRIu64 " HALTs, broken runs %" PRIu64 " %" PRIu64 " %" PRIu64
+           "\n",
+        lists, all_moves, all_ticks, seed, clocks, done_so_far, paced.late, paced.starts,
+        paced.resets, paced.amid, paced.halts, paced.breaks[1], paced.breaks[2], paced.breaks[3]);
     return 0;
 }
