@@ -5,12 +5,15 @@
  *
  * DRIVER has the bytes that are proved, PROGRAM those up to 7FFF, LABELS is ld65's list, EQUATES is
  * build/shapes.equates, and BUTTONS a file of buttons (docs/GAME.md). The program runs by the 6502
- * of board_cpu.h, and an NMI comes each 6,144 cycles, at chance between two instructions, and also
- * amid another NMI; but not amid the first cycles after power-on, in which a program can't have set
- * a byte yet, nor while the self-test switch is closed. Prints how much was seen, or the first
- * thing that is against a premise, and the place of the instruction (status 1). Where nothing is,
- * it also warns of calls that did nothing: a dvg_open that was refused, and what was put outside of
- * a frame. */
+ * of board_cpu.h. With SEED 0 its NMIs come as on the board: one each 6,144 cycles, and none amid
+ * another one, so that a file of buttons is played as it was recorded. With another seed they come
+ * at chance between two instructions, also sooner, and amid another NMI. None comes amid the first
+ * cycles after power-on, in which a program can't have set a byte yet, nor while the self-test
+ * switch is closed.
+ *
+ * Prints how much was seen, or the first thing that is against a premise, and the place of the
+ * instruction (status 1). Where nothing is, it also warns of calls that did nothing: a dvg_open
+ * that was refused, and what was put outside of a frame; and where no frame was made at all. */
 #include <stdarg.h>
 #include <stdio.h>
 #include <stdlib.h>
@@ -68,6 +71,7 @@ static int instruction;                 /* where it stands that runs, or that co
 static int begins_anew;                 /* it went to its reset vector, and calls dvg_reset next */
 static long calls, nmis, nested, frames_built, frames_offered;
 static uint64_t seed;
+static int is_boards;                   /* NMIs come as on the board */
 
 static int word_at(int at) { return memory[at] | memory[at + 1] << 8; }
 
@@ -294,7 +298,7 @@ static int is_building(void) { return memory[VARIABLES] == BUILD; }
 
 static void check_table(int at)
 {
-    int words, known = !tables;
+    int words, known = 0;
     if (at < 0x200 || at >= MEMORY - 4) fail("a table at %04X", at);
     words = word_at(at);
     table_from = at;
@@ -401,22 +405,34 @@ static void end_nmi(int was_interrupted)
     now--;
 }
 
-/* Whether an NMI comes before this instruction. */
+/* Whether an NMI comes before this instruction. Those of the board go on being counted while the
+ * self-test switch keeps them away. */
 static int comes(uint64_t *next, int *was_interrupted)
 {
-    if (closed[TEST - INPUTS]) return 0;
-    if (now == contexts + 1 && !below(400)) {
+    if (closed[TEST - INPUTS]) {
+        if (is_boards && processor.cycles >= *next) *next += NMI_CYCLES;
+        return 0;
+    }
+    if (now == contexts + 1 && !is_boards && !below(400)) {
         *was_interrupted = 1;
         return 1;
     }
     if (is_nmi() || processor.cycles < BEGUN) return 0;
-    if (processor.cycles < *next && below(5000)) return 0;
-    *next = processor.cycles + NMI_CYCLES;
+    if (processor.cycles < *next && (is_boards || below(5000))) return 0;
+    *next = (is_boards ? *next : processor.cycles) + NMI_CYCLES;
     *was_interrupted = 0;
     return 1;
 }
 
 /* --- A run --- */
+
+/* The 6502 of board_cpu.h has neither BRK nor a decimal mode. */
+static void check_opcode(int opcode)
+{
+    if (opcode == 0x00) fail("a BRK");
+    if (opcode == 0xF8) fail("a SED, and D has to stay clear");
+    if (opcode_index[opcode] < 0) fail("%02X, which is no opcode of the manual,", opcode);
+}
 
 static void run_one(void)
 {
@@ -429,7 +445,8 @@ static void run_one(void)
     if (is_nmi() && processor.pc == label(names[TICK]) && ++now->ticks > NMI_MOST_TICKS)
         fail("more than %d ticks in an NMI", NMI_MOST_TICKS);
     if (processor.s < LEAST_STACK && was_reset) fail("the stack grows down to %02X", processor.s);
-    if (!step(&processor)) fail("no opcode");
+    check_opcode(memory[processor.pc % MEMORY]);
+    step(&processor);
 }
 
 static void run(uint64_t cycles)
@@ -494,7 +511,9 @@ int main(int count, char **words)
     read_labels(words[3]);
     if (count == 8) read_presses(words[7]);
     read_shapes(words[4]);
-    seed = strtoull(words[6], 0, 10) * 0x9E3779B97F4A7C15u + 1;
+    seed = strtoull(words[6], 0, 10);
+    is_boards = !seed;
+    seed = seed * 0x9E3779B97F4A7C15u + 1;
     check_place(driver, read_file(words[1], driver, sizeof driver));
     find_tables();
     for (int i = 0; i < 0x400; i++) memory[i] = (uint8_t)below(256);
@@ -506,5 +525,6 @@ int main(int count, char **words)
         calls, nmis, nested, frames_offered, frames_built);
     warn(&refused_opens);
     warn(&vain_puts);
+    if (!frames_built && !frames_offered) printf("warning: no frame was built or offered\n");
     return 0;
 }

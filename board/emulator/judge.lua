@@ -37,6 +37,7 @@ local log = assert(io.open(out .. "/judge.log", "w"))
 local pictures = assert(io.open(out .. "/pictures", "wb"))
 local cpu = manager.machine.devices[":maincpu"]
 local space = cpu.spaces["program"]
+local pc_state, s_state, p_state = cpu.state["PC"], cpu.state["SP"], cpu.state["P"]
 local machine = manager.machine
 local waited, waits_since = 0, 0
 local written, gap, gap_since, shown = 0, 0, 0, 0
@@ -57,7 +58,7 @@ local function places_of(pc, s)
   return table.concat(places, " ")
 end
 
-local function places() return places_of(cpu.state["PC"].value, cpu.state["SP"].value) end
+local function places() return places_of(pc_state.value, s_state.value) end
 
 -- Tells where the program is, once of each pause that lasts too long.
 local told = {}
@@ -65,6 +66,17 @@ local function look_amid(what, since)
   if now() - since <= MOST[what] or told[what] == since then return end
   told[what] = since
   tell("amid %s %.6f %s", what, since, interrupted)
+end
+
+-- The watchdog is written some 76,000 times a second, mostly by one instruction. So the calls that
+-- led there are worked out where it is another one, or where four return addresses are others.
+local last_pc, last_s, last_back
+local function note_places()
+  local pc, s = pc_state.value, s_state.value
+  local back = space:read_u64(s + 1)
+  if pc == last_pc and s == last_s and back == last_back then return end
+  last_pc, last_s, last_back = pc, s, back
+  written_places = places_of(pc, s)
 end
 
 local function note_gap(time)
@@ -79,29 +91,56 @@ local function wait(time)
   waits_since = time
 end
 
--- The labels of ld65's list, if there is one. Where a name is there twice, the first one counts: it
--- is the driver's, or one that is exported.
-local labels = {}
+-- The labels of ld65's list, if there is one: of each name the first place, which is the driver's
+-- where it has such a name, and all places in their order.
+local labels, all_places = {}, {}
 local function read_labels(path)
   local file = io.open(path)
   if not file then return end
   for line in file:lines() do
     local at, name = line:match("^al (%x+) %.(.+)$")
-    if at and not labels[name] then labels[name] = tonumber(at, 16) end
+    at = tonumber(at or "", 16)
+    if at then
+      labels[name] = labels[name] or at
+      all_places[name] = all_places[name] or {}
+      table.insert(all_places[name], at)
+    end
   end
   file:close()
 end
 read_labels(os.getenv("DVG_LABELS") or "")
 
+-- The driver's 17 bytes, and its code.
+local function is_driver(at)
+  local from, code, code_end = labels.dvg_phase, labels.dvg_reset, labels.dvg_end
+  return from and at >= from and at < from + 17 or code and at >= code and at < code_end
+end
+
+-- The places of a name: the program's own, or those of the driver where no other has it.
+local function watched_places(name)
+  local own, seen = {}, {}
+  for _, at in ipairs(all_places[name]) do
+    if not is_driver(at) and not seen[at] then own[#own + 1] = at end
+    seen[at] = true
+  end
+  table.sort(own)
+  return #own > 0 and own or { labels[name] }
+end
+
+local function tell_bytes(name, at, count)
+  local bytes = {}
+  for i = 0, count - 1 do bytes[#bytes + 1] = string.format("%02X", space:read_u8(at + i)) end
+  tell("watched %s %s", name, table.concat(bytes, " "))
+end
+
 local function tell_watched()
   for text in (os.getenv("DVG_WATCH") or ""):gmatch("%S+") do
     local name, count = text:match("^([^:]+):(%d+)$")
     name, count = name or text, tonumber(count or "1")
-    local bytes = {}
-    for i = 0, count - 1 do
-      bytes[#bytes + 1] = string.format("%02X", space:read_u8(labels[name] + i))
+    local found = watched_places(name)
+    for _, at in ipairs(found) do
+      tell_bytes(#found > 1 and string.format("%s at %04X:", name, at) or name, at, count)
     end
-    tell("watched %s %s", name, table.concat(bytes, " "))
   end
 end
 
@@ -123,7 +162,7 @@ _G.dvg_judges = {
   space:install_write_tap(0x3400, 0x35ff, "watchdog", function()
     local time = now()
     note_gap(time)
-    written_places = places()
+    note_places()
     wait(time)
   end),
   space:install_read_tap(0x2002, 0x2002, "flag read", function()
@@ -137,7 +176,7 @@ _G.dvg_judges = {
     waited, shown = 0, now()
   end),
   space:install_read_tap(0x7ffa, 0x7ffa, "NMI", function()
-    local s = cpu.state["SP"].value
+    local s = s_state.value
     interrupted = places_of(space:read_u16(s + 2), s + 3)
     look_amid("watchdog", written)
     look_amid("picture", shown)
@@ -145,7 +184,7 @@ _G.dvg_judges = {
   space:install_read_tap(0x7ffc, 0x7ffc, "reset vector", function()
     tell("reset %.6f %s", now(), interrupted)
     note_gap(now())
-    written_places, interrupted = "", ""
+    written_places, interrupted, last_pc = "", "", nil
   end),
 }
 
@@ -154,7 +193,7 @@ _G.dvg_judges = {
 if labels.dvg_labs then
   local full = labels.dvg_labs - 1
   _G.dvg_room = space:install_read_tap(full, full, "no room", function()
-    if cpu.state["PC"].value == full and cpu.state["P"].value & 1 ~= 0 then
+    if pc_state.value == full and p_state.value & 1 ~= 0 then
       tell("room %.6f %s", now(), places())
     end
   end)

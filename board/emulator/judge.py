@@ -29,13 +29,20 @@ BROKE = {'1': 'a call inside of four calls', '2': 'a return outside of any call'
          '3': 'no memory is there: does a call name a shape, and has the frame its HALT?'}
 places = Places(read_labels(os.environ.get('DVG_LABELS', '')))
 shapes = read_shapes(os.environ.get('DVG_EQUATES', ''))
-bad = 0
+bad = warnings = 0
 
 
 def say(is_good, text):
     global bad
     bad += not is_good
     print(text if is_good else 'BAD: ' + text)
+
+
+def warn(text):
+    """What may be as it should, and often isn't."""
+    global warnings
+    warnings += 1
+    print('warning: ' + text)
 
 
 def by(where, how=' by '):
@@ -108,10 +115,13 @@ def judge_premises(out):
     if os.path.exists(path):
         with open(path, errors='replace') as file:
             said = file.read().strip()
-        first, *warnings = said.split('\n')
+        first, *others = said.split('\n')
         say(not first.startswith('broken'), 'the premises of the proof: ' + first)
-        for text in warnings:
-            print(text)
+        for text in others:
+            if text.startswith('warning: '):
+                warn(text[len('warning: '):])
+            else:
+                print(text)
 
 
 def judge_halves(out, log):
@@ -135,8 +145,9 @@ def judge_resets(log):
     later = log.resets[1:]
     if later:
         times = ', '.join('%.3f' % time for time, _ in later[:5])
-        say(False, '%d resets, at %s s%s%s: did the watchdog wait too long?'
-            % (len(later), times, ' and so on' if later[5:] else '',
+        count = '%d resets' % len(later) if later[1:] else 'a reset'
+        say(False, '%s, at %s s%s%s: did the watchdog wait too long?'
+            % (count, times, ' and so on' if later[5:] else '',
                by(later[0][1], '; the first one came in ')))
     else:
         say(True, 'no reset')
@@ -152,7 +163,7 @@ def judge_resets(log):
 def amid_picture(log, since):
     """Where the program was in a pause that began at this time and was too long; or nothing."""
     return by(log.amid.get(('picture', since)),
-              '; after %.0f of them the program was in ' % (LONGEST_WAIT * 1000))
+              '; after %.0f milliseconds the program was in ' % (LONGEST_WAIT * 1000))
 
 
 def tell_pace(log, rate, each_second, pause, since):
@@ -183,21 +194,34 @@ def judge_rate(log, rate):
             % (len(log.early), by(where), time))
     pauses = [(later - time, time) for time, later in zip(times, times[1:])]
     if not pauses or times[-1] <= times[0]:
-        say(False, '%d pictures: was dvg_reset called, and then a frame published?%s'
-            % (len(times), amid_picture(log, times[-1] if times else 0.0)))
+        count = 'one picture' if times else 'no picture'
+        say(False, '%s in %.1f seconds%s; was dvg_reset called, and then a frame published?'
+            % (count, log.ended, amid_picture(log, times[-1] if times else 0.0)))
         return
     pause, since = max(pauses)
     stands = log.ended - times[-1]
     if stands > max(pause, 0.1):
         pause, since = stands, times[-1]
     tell_pace(log, rate, (len(times) - 1) / (times[-1] - times[0]), pause, since)
+    tell_left(log)
+
+
+def tell_left(log):
+    """The cycles of a picture in which the program waited, where these are least."""
     frames = [(waited, later - time, later)
               for (time, _, resets), (later, waited, resets_then)
               in zip(log.pictures, log.pictures[1:]) if resets == resets_then]
-    if frames:
-        waited, whole, at = min(frames)
-        print('cycles left in the busiest frame: %.0f of %.0f, at %.3f s'
-              % (waited * HERTZ, whole * HERTZ, at))
+    if not frames:
+        return
+    waited, whole, at = min(frames)
+    if not max(frames)[0]:
+        print('cycles left in the busiest frame: not known, as the program never waits in a loop '
+              'that writes the watchdog or reads the flag')
+        return
+    print('cycles left in the busiest frame: %.0f of %.0f, at %.3f s'
+          % (waited * HERTZ, whole * HERTZ, at))
+    if waited * HERTZ < 1:
+        warn('no cycle was left at %.3f s: the program was late for its next picture' % at)
 
 
 def word(memory, k):
@@ -360,7 +384,7 @@ def judge_pictures(out, log, rom, rate):
             pictures.take(event[1])
         elif event[0] == 'reset':
             pictures.frames.reset()
-    tell_longest(pictures, rate)
+    tell_longest(pictures, log, rate)
     tell_fullest(pictures, log)
     if pictures.garbage:
         time, at, value, put = pictures.garbage[0]
@@ -374,17 +398,27 @@ def judge_pictures(out, log, rom, rate):
         print('%d pictures are good, of which %d differ' % (pictures.count, len(pictures.known)))
 
 
-def tell_longest(pictures, rate):
+def tell_longest(pictures, log, rate):
+    """How long the generator took. A program that draws each new picture more than once has less
+    time for it."""
     good = pictures.good
     spent = [(found, at) for found, (at, _) in zip(times_of([text for _, text in good]), good)]
-    if spent:
-        (time, vectors, others), at = max(spent)
-        say(time <= 1000000 / rate, 'the longest picture: %d microseconds, %d vectors, '
-            '%d other instructions, at %.3f s' % (time, vectors, others, at))
+    if not spent:
+        return
+    (time, vectors, others), at = max(spent)
+    say(time <= 1000000 / rate, 'the longest picture: %d microseconds, %d vectors, '
+        '%d other instructions, at %.3f s' % (time, vectors, others, at))
+    drawings = round(len(log.pictures) / len(log.flips)) if log.flips else 1
+    most = 1000000 / rate / max(drawings, 1)
+    if most < time <= 1000000 / rate:
+        warn('that is longer than %.0f microseconds, as each new picture is drawn %d times, and '
+             '%g new ones are wanted a second: they come later' % (most, drawings, rate))
 
 
 def tell_fullest(pictures, log):
     words, time = pictures.fullest
+    if not words and not log.room:
+        return
     why = ''
     if log.room:
         time_of_it, where = log.room[0]
@@ -411,7 +445,8 @@ def judge(out, rom_path, rate):
         print('%d of %d presses of the file of buttons came' % log.pressed)
     for text in log.watched:
         print('watched: ' + text)
-    print('judged %.0f seconds: %s' % (log.ended, 'bad' if bad else 'good'))
+    told = ', with %d warning%s' % (warnings, 's'[warnings == 1:]) if warnings else ''
+    print('judged %.0f seconds: %s%s' % (log.ended, 'bad' if bad else 'good', told))
 
 
 def main():
