@@ -6,9 +6,9 @@ of processors that they took, and then comes a line of each text. It proves noth
 try again what was tried of the same sources. So in each commit a quarter of the crates is tried all
 the same, another one each time."""
 
+import functools
 import hashlib
 import subprocess
-from dataclasses import dataclass
 
 from rooms import ROOT, crates_below, lines_of_crates
 
@@ -20,6 +20,7 @@ SUITE = ("tests/wrong_bodies", "tests/wrong_laws.py", "tests/rooms.py", "tests/c
 SHARE = 4
 
 
+@functools.cache
 def printed(*words):
     """What a command prints, or nothing where it fails."""
     return subprocess.run(words, cwd=ROOT, stdout=subprocess.PIPE, stderr=subprocess.DEVNULL,
@@ -36,8 +37,10 @@ def files_for(name, lines):
     yield from (ROOT / it for it in SUITE)
 
 
+@functools.cache
 def checksum(name):
-    """The checksum of all that decides what is said of a crate's texts."""
+    """The checksum of all that decides what is said of a crate's texts, as it was when this was
+    asked first."""
     lines = lines_of_crates()
     uses = [(it, lines[it]) for it in sorted([name, *crates_below(name, lines)])]
     logic = printed("rt", "version").partition("logic ")[2].strip()
@@ -48,26 +51,19 @@ def checksum(name):
     return digest.hexdigest()
 
 
-@dataclass(frozen=True)
-class Kept:
-    """What is kept of a crate: a checksum, seconds, and the lines of its texts."""
-
-    digest: str
-    seconds: int
-    lines: list
-
-    def is_of(self, name):
-        """Whether this is of the sources that are there."""
-        return self.digest == checksum(name)
-
-
 def read(name):
-    """What is kept of a crate, or what is like nothing."""
+    """What is kept of a crate: a checksum, seconds, and the lines of its texts. Of a new one it is
+    like nothing."""
     file = KEPT / name
     if not file.exists():
-        return Kept("", 0, [])
+        return "", 0, []
     digest, seconds, *lines = file.read_text(encoding="utf-8").splitlines()
-    return Kept(digest, int(seconds.split()[0]), lines)
+    return digest, int(seconds.split()[0]), lines
+
+
+def is_kept(name):
+    """Whether what is kept of a crate is of the sources that are there."""
+    return read(name)[0] == checksum(name)
 
 
 def is_in_turn(name):

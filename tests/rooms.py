@@ -11,7 +11,7 @@ from pathlib import Path
 sys.path.append(str(Path(__file__).resolve().parent.parent / "tools"))
 from sources import ROOT
 
-MOST_SECONDS = 1800
+MOST_SECONDS = 7200
 # Errors of a proof that say nothing of what it proves: a name is gone, or it stands on another one
 # that isn't proved.
 GONE = re.compile(r"is not in scope|has no field|has no `|is no name|was not admitted")

@@ -98,7 +98,7 @@ def refusal(law, said, crate):
 def try_control(crate, room, laws, results):
     """Checks these laws in a room with a crate's folder as it is. Returns those that are proved."""
     said, seconds = check(make_room(room, crate, crate), crate.name, sorted(laws))
-    results.seconds += seconds
+    results.times.append(seconds)
     proved = {law for law, is_proved in proved_in(said, crate).items() if is_proved}
     for law in sorted(laws - proved):
         results.failed.append(f"{law}: isn't proved of the crate as it is: {said[-300:]}")
@@ -111,7 +111,7 @@ def try_law(crate, proved, room, wrong, results):
     for path, text in wrong.files.items():
         (made / path).write_text(text, encoding="utf-8")
     said, seconds = check(made, crate.name, [wrong.law])
-    results.seconds += seconds
+    results.times.append(seconds)
     try:
         why = refusal(wrong.law, said, crate)
         results.passed.append(f"{wrong.name}: {wrong.law}: {why}, {seconds:.0f} s")

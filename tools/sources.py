@@ -23,7 +23,7 @@ CHANGE = re.compile(r"^old: ?(.*)\nnew: ?(.*)$", re.M)
 
 
 def texts_of(file):
-    """The texts that a file NAME.edits holds, if it is there: each name, and what it says."""
+    """The texts of a file NAME.edits, if it is there: the name of each, and what it says."""
     text = file.read_text(encoding="utf-8") if file.exists() else ""
     for part in re.split(r"^# ", text, flags=re.M)[1:]:
         name, _, said = part.partition("\n")
