@@ -14,7 +14,8 @@ from sources import ROOT
 MOST_SECONDS = 7200
 # Errors of a proof that say nothing of what it proves: a name is gone, or it stands on another one
 # that isn't proved.
-GONE = re.compile(r"is not in scope|has no field|has no `|is no name|was not admitted")
+GONE = re.compile(r"is not in scope|has no field|is not a field|has no `|is no name"
+                  r"|was not admitted")
 DEPENDENT = re.compile(r"^\d+ declarations? that depend")
 
 
