@@ -1,5 +1,6 @@
-/* A processor and a memory at random, for the benches of dvg_board and dvg_vectors: it writes, reads,
- * starts and resets, often at the very byte that is fetched; and what the board owes it. */
+/* A processor and a memory at random, for the benches of dvg_board and dvg_vectors: it writes,
+ * reads and starts, often at the very byte that is fetched. And what the board owes it and the
+ * core, which the bench of dvg_machine asks, too. */
 #ifndef CORE_ACCESS_H
 #define CORE_ACCESS_H
 

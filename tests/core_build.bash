@@ -1,6 +1,6 @@
-# How tests/core and tests/core_top build a bench by Verilator. What no bench changes, Verilator's
-# own objects and the headers, is compiled once for a version of both compilers, and kept in
-# build/verilated of this repository.
+# How tests/core and tests/core_top build a bench by Verilator, and of what. What no bench changes,
+# Verilator's own objects and the headers, is compiled once for a version of both compilers, and
+# kept in build/verilated of this repository.
 bench_flags="-O1 -I$top/include"
 
 # Where that is kept.
@@ -40,4 +40,31 @@ build_simulation() {
     make_common "$1" "$made" && cp "$common"/*.o "$1" || return
     ! is_alike "$1" "${like-}" "$made" || cp "$like/$2.o" "$1"
     make -s -C "$1" -f "$made.mk" OPT_FAST= OPT_SLOW= OPT_GLOBAL=
+}
+
+# The module that a bench plays: its name.
+module_of() {
+    case $1 in
+    fetches | wraps) echo dvg_core ;;
+    board | events) echo dvg_board ;;
+    *) echo "dvg_$1" ;;
+    esac
+}
+
+# The files that a module is made of, in the order of its digest: the module, and their folder.
+files_of() {
+    local names=${1#dvg_}
+    case $names in
+    wraps) names=core ;;
+    board) names='core board' ;;
+    vectors) names='core board pace motion vectors' ;;
+    machine) names='cpu core board machine' ;;
+    esac
+    printf "$2/dvg_%s.v\n" $names
+}
+
+# The driver's bytes, as numbers, which the bench of dvg_machine takes.
+write_driver() {
+    sed -n '/^code =/,$p' "$top/crates/dvg_calls_6502/specs/Code.antt" | grep -oE '0x[0-9A-F]{2}' \
+        >"$work/driver"
 }

@@ -83,7 +83,7 @@ public:
         while (count--) {
             circuit.reset = once_in(900);
             choose_access(circuit, is_halted(), OPCODES);
-            if (is_halted() && once_in(25)) {
+            if (once_in(is_halted() ? 25 : 300)) {
                 circuit.access = circuit.write = 1;
                 circuit.a = 0x3000;
             }
