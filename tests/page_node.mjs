@@ -1,9 +1,10 @@
 // What can be tested of the page without a browser: dvg.wasm, and the modules of page/src. Called
 // by tests/page, with the program's name and what to test:
 //
-//     node tests/page_node.mjs DVG FOLDER SEEDS EVENTS [first]
+//     node tests/page_node.mjs DVG FOLDER SEEDS EVENTS [TEST..]
 //
-// FOLDER is for what is thrown away. With `first` the tests end at the first failure.
+// FOLDER is for what is thrown away. Where tests are named, they alone are run, up to the first
+// failure.
 //
 // The last line is 'N passed, M failed'.
 import { spawnSync } from 'node:child_process';
@@ -31,7 +32,7 @@ import { LESSONS, stateOfLesson } from '../page/src/lessons.mjs';
 
 const [program, work] = process.argv.slice(2, 4),
   [seeds, events] = process.argv.slice(4, 6).map(Number),
-  endsAtFirst = process.argv[6] === 'first';
+  named = process.argv.slice(6);
 const top = new URL('..', import.meta.url).pathname;
 const engine = await Engine.of(readFileSync(`${top}page/dvg.wasm`));
 let passed = 0, failed = 0;
@@ -44,7 +45,7 @@ function expect(what, wanted, found) {
     const near = (text) => JSON.stringify(text.slice(Math.max(0, at - 40), at + 60));
     const [left, right] = [near(String(wanted)), near(String(found))];
     console.log(`FAILED: ${what}\n  wanted ${left}\n  found  ${right}`);
-    if (endsAtFirst) end();
+    if (named.length > 0) end();
   }
 }
 
@@ -52,6 +53,12 @@ function end() {
   console.log(`${passed} passed, ${failed} failed`);
   process.exit(failed === 0 ? 0 : 1);
 }
+
+process.on('uncaughtException', (error) => {
+  failed++;
+  console.log(`FAILED: ${error.stack}`);
+  end();
+});
 
 // --- The commands, on tests/cases ---
 
@@ -940,33 +947,12 @@ function testTwin() {
   }
 }
 
-testProcessor();
-testTwin();
-testSchedules();
-testCutWire();
-testMended();
-testOneHalf();
-testMomentLogs();
-testJudged();
-testRuns();
-testProportions();
-testHalves();
-testLongTrace();
-testDrafts();
-testRoms();
-testMoments();
-await testLinks();
-testFiles();
-testRecordings();
-testDumps();
-testDriverTexts();
-testBuses();
-testSketches();
-testTears();
-testLessons();
-testLessonColors();
-testLessonPage();
-// These two take longer than all others.
-testCases();
-testSketchCases();
+const TESTS = [
+  testProcessor, testTwin, testSchedules, testCutWire, testMended, testOneHalf, testMomentLogs,
+  testJudged, testRuns, testProportions, testHalves, testLongTrace, testDrafts, testRoms,
+  testMoments, testLinks, testFiles, testRecordings, testDumps, testDriverTexts, testBuses,
+  testSketches, testTears, testLessons, testLessonColors, testLessonPage, testCases,
+  testSketchCases,
+];
+for (const test of TESTS) if (named.length === 0 || named.includes(test.name)) await test();
 end();

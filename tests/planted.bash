@@ -1,0 +1,50 @@
+# Planted mistakes test the tests, not the sources. The suites that have many of them read this by
+# `.`, and call `try_planted`. PLANTED says when they are tried:
+#
+#     all        each time [default]: the gate does so
+#     changed    where something that they read has changed since they were recorded: ./test quick
+#     record     each time, and recorded where all are found
+#
+# planted.sums is the record: a line for each suite, with its words and a checksum of the files that
+# decide what comes of its planted mistakes: its own, and those of what it tests. The versions of
+# tools aren't part of it: the gate tries all with those that are there.
+
+# Prints the checksum of all files of which these are the folders or the names, from the top on,
+# with their names. What is built there doesn't count.
+sum_of_files() (
+    set -o pipefail
+    cd "$top" && find "$@" -type d \( -name target -o -name build -o -name out \
+        -o -name __pycache__ \) -prune -o -type f -print0 | LC_ALL=C sort -z |
+        xargs -0 sha256sum | sha256sum | cut -d ' ' -f 1
+)
+
+# Writes the checksum of a suite into the record: the arguments are the suite and the checksum.
+record_planted() {
+    local record=$tests/planted.sums
+    (
+        flock 9
+        awk -v suite="$1" 'substr($0, 66) != suite' "$record" >"$work/sums"
+        echo "$2 $1" >>"$work/sums"
+        LC_ALL=C sort -k 2 "$work/sums" >"$record"
+    ) 9<"$tests"
+}
+
+# Tries planted mistakes where PLANTED says so. The first argument is the suite, as it is called;
+# then come what tries them, and the files and folders that decide what comes of them. The suite
+# counts in `passed`, `failed` and `skipped`.
+try_planted() {
+    local sum before="$failed $skipped" is_recorded=
+    sum=$(sum_of_files "${@:3}" tests/planted.bash) || sum=unknown
+    ! grep -qxF "$sum $1" "$tests/planted.sums" || is_recorded=yes
+    if [ "${PLANTED-}" = changed ] && [ -n "$is_recorded" ]; then
+        echo "planted mistakes: not tried, as nothing that they read has changed"
+        return
+    fi
+    [ -n "$is_recorded" ] || [ "${PLANTED-}" = record ] ||
+        echo "planted mistakes: what they read has changed; PLANTED=record $1 tries and records"
+    "$2"
+    if [ "${PLANTED-}" = record ] && [ "$sum" != unknown ] && [ "$before" = "$failed $skipped" ]
+    then
+        record_planted "$1" "$sum"
+    fi
+}
