@@ -5,7 +5,7 @@ use Rattle.std.specs.Prelude.{nat_eq, nat_le, nat_lt, ◌&&◌, if◌then◌else
 use Rattle.dvg_calls_6502.specs.Processor.{Cpu, Instr, JumpAt, Load, ToStack, X, Immediate, does, decoded, opcodes}
 use Rattle.dvg_calls_6502.specs.Amid.{changed}
 use Rattle.dvg_cells_board.specs.Board.{Bus}
-use Rattle.dvg_cells_cpu.specs.Cpu.{Cpu as Cells}
+use Rattle.dvg_cells_cpu.specs.Cpu.{Cpu as Cells, sync}
 use Rattle.dvg_cells_cpu.specs.Refines.{Cycle, made, after_writes, Rests, Goes, cycles, ends, fetched}
 use Rattle.dvg_game_rules.specs.Kinds.{kind, kind_of}
 use Rattle.dvg_game_rules.specs.Machine.{IsLoaded, reset_vector, word_at}
@@ -256,19 +256,38 @@ module _ (R image : List ℕ) (held rom : ℕ → ℕ) (start : ℕ) (cpu : Cpu)
                 (calms cells (cycled list) calm) (begins last 860 on_then start_is doing_new.shares.ram) rests_then doing_new
                 (λ none. inl (omega arith)) late_then
 
-  -- none is due while the program boots
-  free_so : (left : ℕ) → Boots R image held rom start left cpu → word_at rom reset_vector ≤ cpu.pc
-      → (is_booting rom start cells ≡ true → cells.due ≡ 0) → cells.due ≡ 0
-  free_so left so from alone =
+  -- the program boots
+  pub boots_so : (left : ℕ) → Boots R image held rom start left cpu → word_at rom reset_vector ≤ cpu.pc
+      → is_booting rom start cells ≡ true
+  boots_so left so from =
       let less = below left so in
       let e = rests.holds.pc in
-      alone (ap (λ t. t && nat_lt cells.pc start) (le-leb (word_at rom reset_vector) cells.pc (omega (arith, from, e)))
-      ∙ le-leb (suc cells.pc) start (omega (arith, less, e)))
+      ap (λ t. t && nat_lt cells.pc start) (le-leb (word_at rom reset_vector) cells.pc (omega (arith, from, e)))
+      ∙ le-leb (suc cells.pc) start (omega (arith, less, e))
+
+  -- none is due meanwhile
+  free_so : (left : ℕ) → Boots R image held rom start left cpu → word_at rom reset_vector ≤ cpu.pc
+      → (is_booting rom start cells ≡ true → cells.due ≡ 0) → cells.due ≡ 0
+  free_so left so from alone = alone (boots_so left so from)
 
   alone_of : (list : List Two) → 0 < length list → AreAsked rom start work calm (at_rest held older cells) list
       → is_booting rom start cells ≡ true → cells.due ≡ 0
   alone_of [] some asked = absurd (omega (arith, some))
   alone_of (two ∷ list) some asked = asked.0.boots_alone
+
+  -- amid an instruction no opcode is read
+  pub starts_amid : (left : ℕ) → Boots R image held rom start left cpu → word_at rom reset_vector ≤ cpu.pc → (list : List Two)
+      → 0 < length list → length list < cycles (instr_of cpu) → Does list → sync (cells_after held older cells list) ≡ 0
+  starts_amid left so from list some less doing =
+      let free = free_so left so from (alone_of list some doing.asked) in
+      let kinds = view left so in
+      let old = doing.shares.loaded in
+      let bytes = doing.shares.bytes in
+      let claim = Turned.claim_all R image held rom start cpu older cells work calm rests free (in_rom old bytes kinds) bytes
+      (direct old bytes kinds) list doing (omega (arith, less)) in
+      let n = cycles (instr_of cpu) - suc (length list) in
+      Turned.amid_so R image held rom start cpu older cells work calm rests free (in_rom old bytes kinds) bytes
+      (direct old bytes kinds) list claim n (went old bytes kinds free list claim (suc n) (omega (arith, less))) some
 
   pub starts_half : (spot : Option (Cpu × ℕ)) (left : ℕ) → On spot older → Boots R image held rom start left cpu
       → word_at rom reset_vector ≤ cpu.pc → (list : List Two) (two : Two) → length list < cycles (instr_of cpu)

@@ -6,7 +6,7 @@ use Rattle.dvg_calls_6502.specs.Processor.{Cpu, Access, Reads, Writes, Jump, doe
 use Rattle.dvg_calls_6502.specs.Amid.{changed, is_code}
 use Rattle.dvg_calls_6502.specs.Board.{is_ram, seen, strobe_place}
 use Rattle.dvg_cells_board.specs.Board.{Bus}
-use Rattle.dvg_cells_cpu.specs.Cpu.{Cpu as Cells}
+use Rattle.dvg_cells_cpu.specs.Cpu.{Cpu as Cells, sync}
 use Rattle.dvg_cells_cpu.specs.Refines.{Cycle, access, made, after_writes, Rests, Goes, cycles, ends, fetched}
 use Rattle.dvg_game_rules.specs.Kinds.{kind}
 use Rattle.dvg_game_rules.specs.Machine.{IsLoaded, reset_vector, restarting, word_at}
@@ -229,6 +229,15 @@ module _ (laws : Laws) (R image : List ℕ) (held rom : ℕ → ℕ) (start : �
           (quietly R image held rom start (Some (turned more claim, since)) list older cells (on_turned more claim) served.0
           (subst AreQuiet (sym parts.1) (fetched_quiet IsQuiet (instr_of (as_turned more claim)) (as_turned more claim))))
           (goes_on more claim 0 g loud) claim.small loud.0 parts.0 loud.2 loud.3
+
+    -- amid them no opcode is read
+    pub plays_amid : (list : List Two) → 0 < length list → length list < cycles (instr_of cpu) → Does list
+        → sync (cells_after held older cells list) ≡ 0
+    plays_amid list some less doing =
+        let claim = claims list doing (omega (arith, less)) in
+        let n = cycles (instr_of cpu) - suc (length list) in
+        Turned.amid_so R image held rom start cpu older cells work calm rests free it.in_rom it.bytes it.direct list claim n
+        (went list claim (suc n) (omega (arith, less))) some
 
     pub plays_half : (list : List Two) (two : Two) → length list < cycles (instr_of cpu) → Does (list ++ two ∷ [])
         → Half R image held rom start older cells list two

@@ -10,9 +10,9 @@ use Rattle.dvg_calls_6502.specs.Board.{is_hardware, is_ram}
 use Rattle.dvg_cells_core.specs.Cells.{mux}
 use Rattle.dvg_cells_board.specs.Board.{Bus, q}
 use Rattle.dvg_cells_board.specs.Clocks.{after}
-use Rattle.dvg_cells_cpu.specs.Cpu.{Cpu as Cells, at, write, dout, clock}
+use Rattle.dvg_cells_cpu.specs.Cpu.{Cpu as Cells, at, write, dout, clock, sync}
 use Rattle.dvg_cells_cpu.specs.Refines.{Cycle, pins_of, access, made, AreAnswered, Where, ends, Rests, Goes, IsSound, cycles}
-use Rattle.dvg_cells_cpu.specs.Refines.{fetched}
+use Rattle.dvg_cells_cpu.specs.Refines.{AreAmid, ShowsOpcode, fetched}
 use Rattle.dvg_cells_cpu.proofs.Whole.{refines}
 use Rattle.dvg_cells_cpu.proofs.Bounds.{mux_in}
 use Rattle.dvg_game_rules.specs.Machine.{is_outside, IsTurned}
@@ -32,6 +32,17 @@ use Rattle.dvg_game_cells.proofs.Doing.{Asked, AreAsked, Doing, calm_in, calms, 
 use Rattle.dvg_game_cells.proofs.Memory.{low_after, ram_after}
 use Rattle.dvg_game_cells.proofs.Snoc.{then_at}
 use Rattle.dvg_game_cells.proofs.Walks.{on_board}
+
+-- behind cycles of which all but the first read no opcode, and none does that is still to come
+amid_cycles : (list : List Cycle) (cells : Cells) (cycle : Cycle) (later : List Cycle) → AreAmid cells (list ++ cycle ∷ later)
+    → sync (ends cells list) ≡ 0
+amid_cycles [] cells cycle later are = are.0
+amid_cycles (x ∷ list) cells cycle later are = amid_cycles list (clock cells (pins_of x)) cycle later are.1
+
+behind_first : (list : List Cycle) → 0 < length list → (cells : Cells) (cycle : Cycle) (later : List Cycle)
+    → ShowsOpcode cells (list ++ cycle ∷ later) → sync (ends cells list) ≡ 0
+behind_first [] some cells cycle later shows = absurd (omega (arith, some))
+behind_first (x ∷ list) some cells cycle later shows = amid_cycles list (clock cells (pins_of x)) cycle later shows.1
 
 -- cycles in which memory answers as this processor has it
 abbrev pub answers : ℕ → Cells → Cpu → List Cycle
@@ -341,6 +352,16 @@ module _ (R image : List ℕ) (held rom : ℕ → ℕ) (start : ℕ) where
             subst AreFine (sym g.bus)
             (subst (λ l. AreFine (l ++ fetched (instr_of as_turned) as_turned)) (log_is n g)
             (fine as_turned mine (instr_of as_turned) (ap is_direct same_instr ∙ direct) refl))
+
+        -- amid them no opcode is read
+        pub amid_so : (n : ℕ) → Goes (instr_of as_turned) as_turned cells (whole (suc n)) → 0 < length list
+            → sync (cells_after held older cells list) ≡ 0
+        amid_so n g some =
+            let then_cells = cells_after held older cells list in
+            let cycle : Cycle = record { nmi = 0; din = found (at then_cells) as_turned } in
+            let e = count_of list older cells in
+            behind_first (cycled list) (omega (arith, e, some)) cells cycle (answers n (clock then_cells (pins_of cycle)) as_turned)
+            g.opcode
 
         -- what they make, up to the next access
         pub made_next : (n : ℕ) → (more : List Access)

@@ -9,8 +9,8 @@ use Rattle.dvg_calls_6502.specs.Amid.{changed}
 use Rattle.dvg_calls_6502.specs.Board.{is_ram}
 use Rattle.dvg_cells_core.specs.Cells.{bit, mux, part, either, eq}
 use Rattle.dvg_cells_board.specs.Board.{Bus, q}
-use Rattle.dvg_cells_cpu.specs.Cpu.{Cpu as Cells, at, write, dout, clock}
-use Rattle.dvg_cells_cpu.specs.Refines.{Cycle, pins_of, access, made, after_writes, AreAnswered, Where, Holds, Rests, IsSound, cycles}
+use Rattle.dvg_cells_cpu.specs.Cpu.{Cpu as Cells, at, write, dout, clock, sync}
+use Rattle.dvg_cells_cpu.specs.Refines.{Cycle, pins_of, access, made, after_writes, AreAnswered, Where, Holds, Rests, IsSound, cycles, ends}
 use Rattle.dvg_cells_cpu.proofs.Interrupting.{interrupts, restarts, hears}
 use Rattle.dvg_cells_cpu.proofs.Resting.{held as stands_so, in_state}
 use Rattle.dvg_game_rules.specs.Machine.{IsLoaded, is_outside, IsTurned, reset_vector, word_at}
@@ -111,6 +111,15 @@ module _ (cpu : Cpu) (s_in : cpu.s < 256) (ir low high back was : ℕ) where
   nmi_accesses (a ∷ b ∷ c ∷ d ∷ e ∷ []) less = ((third_low, (second_low, (first_low, tt))), (lit≤ tt, (lit≤ tt, tt)))
   nmi_accesses (a ∷ b ∷ c ∷ d ∷ e ∷ f ∷ list) less = absurd (omega (arith, less))
 
+  -- none of them reads an opcode
+  nmi_amid : (list : List Cycle) → length list < 5 → sync (ends risen list) ≡ 0
+  nmi_amid [] less = refl
+  nmi_amid (a ∷ []) less = refl
+  nmi_amid (a ∷ b ∷ []) less = refl
+  nmi_amid (a ∷ b ∷ c ∷ []) less = refl
+  nmi_amid (a ∷ b ∷ c ∷ d ∷ []) less = refl
+  nmi_amid (a ∷ b ∷ c ∷ d ∷ e ∷ list) less = absurd (omega (arith, less))
+
 -- those of a reset read there
 reset_accesses : (cpu : Cpu) (ir low high back was due : ℕ) (list : List Cycle) → length list ≤ 2
     → AreQuiet (made (in_state 0 cpu ir low high back was due) list []) × AreHigh (made (in_state 0 cpu ir low high back was due) list [])
@@ -118,6 +127,12 @@ reset_accesses cpu ir low high back was due [] less = (tt, tt)
 reset_accesses cpu ir low high back was due (a ∷ []) less = (tt, (lit≤ tt, tt))
 reset_accesses cpu ir low high back was due (a ∷ b ∷ []) less = (tt, (lit≤ tt, (lit≤ tt, tt)))
 reset_accesses cpu ir low high back was due (a ∷ b ∷ c ∷ list) less = absurd (omega (arith, less))
+
+reset_amid : (cpu : Cpu) (ir low high back was due : ℕ) (list : List Cycle) → length list < 2
+    → sync (ends (in_state 0 cpu ir low high back was due) list) ≡ 0
+reset_amid cpu ir low high back was due [] less = refl
+reset_amid cpu ir low high back was due (a ∷ []) less = refl
+reset_amid cpu ir low high back was due (a ∷ b ∷ list) less = absurd (omega (arith, less))
 
 module _ (R image : List ℕ) (held rom : ℕ → ℕ) (start : ℕ) where
   high_answered : (list : List Two) (older : List Bus) (cells : Cells) (work : ℕ → ℕ) (calm : ℕ) (k : Cpu)
@@ -254,6 +269,12 @@ module _ (R image : List ℕ) (held rom : ℕ → ℕ) (start : ℕ) where
           (sym (stands_so 0 cells cpu cells.due holds begin refl))
           (reset_accesses cpu cells.ir cells.low cells.high cells.back cells.was cells.due (cycled list) (omega (arith, e, less)))
 
+      pub wakes_amid : (list : List Two) → length list < 2 → sync (cells_after held older cells list) ≡ 0
+      wakes_amid list less =
+          let e = count_of R image held rom start list older cells in
+          subst (λ c. sync (ends c (cycled list)) ≡ 0) (sym (stands_so 0 cells cpu cells.due holds begin refl))
+          (reset_amid cpu cells.ir cells.low cells.high cells.back cells.was cells.due (cycled list) (omega (arith, e, less)))
+
       pub wakes_half : (spot : Option (Cpu × ℕ)) → On spot older → (list : List Two) (two : Two) → length list < 2
           → Does (list ++ two ∷ []) → Half R image held rom start older cells list two
       wakes_half spot on list two less doing =
@@ -294,6 +315,12 @@ module _ (R image : List ℕ) (held rom : ℕ → ℕ) (start : ℕ) where
           subst (λ c. AreQuiet (made c (cycled list) []) × AreHigh (made c (cycled list) []))
           (sym (stands_so 2 cells cpu 1 rests.holds rests.fetches due))
           (nmi_accesses cpu it.bytes.s cells.ir cells.low cells.high cells.back cells.was (cycled list) (omega (arith, e, less)))
+
+      pub hears_amid : (list : List Two) → length list < 5 → sync (cells_after held older cells list) ≡ 0
+      hears_amid list less =
+          let e = count_of R image held rom start list older cells in
+          subst (λ c. sync (ends c (cycled list)) ≡ 0) (sym (stands_so 2 cells cpu 1 rests.holds rests.fetches due))
+          (nmi_amid cpu it.bytes.s cells.ir cells.low cells.high cells.back cells.was (cycled list) (omega (arith, e, less)))
 
       pub hears_half : (list : List Two) (two : Two) → length list < 5
           → Does (list ++ two ∷ []) → Half R image held rom start older cells list two

@@ -1,6 +1,6 @@
 -- Each run of cells stands somewhere, and so it is a run of a cabinet, whose log keeps the headline.
 use Rattle.std.proofs.Common.{◌≡◌, ℕ, zero, suc, ◌-◌, ◌<◌, ◌≤◌, Bool, true, false, List, [], ◌∷◌, ◌++◌, length, refl, sym, ap, ◌∙◌}
-use Rattle.std.proofs.Common.{subst, arith, inl, inr, lit<, leb-true}
+use Rattle.std.proofs.Common.{subst, arith, inl, inr, lit<, eqb-true, leb-true}
 use Rattle.std.specs.Prelude.{◌⊎◌, nat_eq, nat_le, nat_lt, ◌&&◌, if◌then◌else◌, Option, Some, None}
 use Rattle.std.proofs.lemmas.Bool.{cases_lt, lt-leb}
 use Rattle.std.proofs.lemmas.List.Elements.{recursion_from_All}
@@ -9,7 +9,7 @@ use Rattle.dvg_calls_6502.specs.Processor.{Cpu, put}
 use Rattle.dvg_cells_board.specs.Board.{Board, Bus}
 use Rattle.dvg_cells_board.specs.Clocks.{IsServed, after}
 use Rattle.dvg_cells_board.specs.Logs.{HoldsRam}
-use Rattle.dvg_cells_cpu.specs.Cpu.{Cpu as Cells, at, dout, write, zeros}
+use Rattle.dvg_cells_cpu.specs.Cpu.{Cpu as Cells, at, dout, sync, write, zeros}
 use Rattle.dvg_cells_cpu.specs.Cpu as cpus
 use Rattle.dvg_cells_cpu.specs.Refines.{Where, pins_of}
 use Rattle.dvg_cells_cpu.proofs.Fitting.{fits}
@@ -29,9 +29,9 @@ use Rattle.dvg_calls_board.specs.Machine.{OfEachMachine}
 use Rattle.dvg_game_board.specs.Cabinet.{IsCabinet, powers, resets, AreAlike, DrawAlike, none, same, elsewhere}
 use Rattle.dvg_game_board.specs.Keeps.{GamesKeep, Keeps, VectorsKeep}
 use Rattle.dvg_game_board.proofs.Sharing.{Laws}
-use Rattle.dvg_game_cells.specs.Whole.{IsDriven, IsWhole, Finds, calm_after, work_after}
+use Rattle.dvg_game_cells.specs.Whole.{IsDriven, IsWhole, Finds, calm_after, is_booting, work_after}
 use Rattle.dvg_game_cells.specs.Whole as whole
-use Rattle.dvg_game_cells.specs.Keeps.{CellsKeep, GamesOnCellsKeep, VectorsOnCellsKeep}
+use Rattle.dvg_game_cells.specs.Keeps.{CellsKeep, GamesOnCellsKeep, StandAt, VectorsOnCellsKeep}
 use Rattle.dvg_game_cells.proofs.Walks.{second_half}
 use Rattle.dvg_game_cells.proofs.Doing.{Asked, Doing, Stand, Task, calm_in, calms, works, wrote, stands, wakes, starts, plays, hears}
 use Rattle.dvg_game_cells.proofs.Fresh.{fresh_cpu, fresh_holds, fresh_shares}
@@ -94,6 +94,46 @@ module _ (laws : Laws) (R image : List ℕ) (held rom : ℕ → ℕ) (start : �
       playing.plays_done laws R image held rom start game brought cpu older cells work calm since on rests free time list count doing
   done cpu older cells work calm (hears since on rests due late calm_is) list count doing =
       vectors.hears_done R image held rom start cpu older cells work calm laws game brought since on rests due late calm_is list count doing
+
+  -- amid it no opcode is read
+  amid_task : (cpu : Cpu) (older : List Bus) (cells : Cells) (work : ℕ → ℕ) (calm : ℕ) {n : ℕ}
+      → Task R image held rom start cpu older cells calm n → (list : List Two) → 0 < length list → length list < n
+      → Doing R image held rom start cpu older cells work calm list → sync (cells_after held older cells list) ≡ 0
+  amid_task cpu older cells work calm (wakes spot on holds begin) list some less doing =
+      vectors.wakes_amid R image held rom start cpu older cells work calm holds begin list less
+  amid_task cpu older cells work calm (starts spot left on rests fine from) list some less doing =
+      booting.starts_amid R image held rom start cpu older cells work calm rests left fine from list some less doing
+  amid_task cpu older cells work calm (plays since on rests free time) list some less doing =
+      playing.plays_amid laws R image held rom start game brought cpu older cells work calm since on rests free list some less doing
+  amid_task cpu older cells work calm (hears since on rests due late calm_is) list some less doing =
+      vectors.hears_amid R image held rom start cpu older cells work calm laws game brought since on rests due late calm_is list less
+
+  abbrev At : Cells → List Bus → Type 0
+  At cells clocks = (spot : Option (Cpu × ℕ)) × On spot clocks × StandAt cells spot
+
+  not_both : (level : ℕ) → level ≡ 1 → level ≡ 0 → ⊥
+  not_both level high low = let e = sym low ∙ high in cc
+
+  -- where one is read, behind the boot code, the cells have the registers of the processor
+  at_task : (cpu : Cpu) (older : List Bus) (cells : Cells) (work : ℕ → ℕ) (calm : ℕ) {n : ℕ}
+      → Task R image held rom start cpu older cells calm n → sync cells ≡ 1 → is_booting rom start cells ≡ false → At cells older
+  at_task cpu older cells work calm (wakes spot on holds begin) high out =
+      absurd (not_both (sync cells) high
+      (vectors.wakes_amid R image held rom start cpu older cells work calm holds begin [] (omega arith)))
+  at_task cpu older cells work calm (starts spot left on rests fine from) high out =
+      let boots = booting.boots_so R image held rom start cpu older cells work calm rests left fine from in
+      absurd (let e = sym boots ∙ out in cc)
+  at_task cpu older cells work calm (plays since on rests free time) high out = (Some (cpu, since), on, rests.holds)
+  at_task cpu older cells work calm (hears since on rests due late calm_is) high out =
+      absurd (not_both (sync cells) high (vectors.hears_amid R image held rom start cpu older cells work calm laws game brought
+      since on rests due late calm_is [] (omega arith)))
+
+  at_opcode : {cells : Cells} {work : ℕ → ℕ} {calm : ℕ} {clocks : List Bus} → Standing cells work calm clocks → sync cells ≡ 1
+      → is_booting rom start cells ≡ false → At cells clocks
+  at_opcode (stands cpu older cells work calm n [] doing task short) high out = at_task cpu older cells work calm task high out
+  at_opcode (stands cpu older cells work calm n (two ∷ list) doing task short) high out =
+      absurd (not_both (sync (cells_after held older cells (two ∷ list))) high
+      (amid_task cpu older cells work calm task (two ∷ list) (omega arith) short doing))
 
   at_first : (cpu : Cpu) (older : List Bus) (cells : Cells) (calm : ℕ) {n : ℕ}
       → Task R image held rom start cpu older cells calm n → (spot : Option (Cpu × ℕ)) × On spot older
@@ -402,10 +442,27 @@ module _ (laws : Laws) (R image : List ℕ) (held rom : ℕ → ℕ) (start : �
     spot : Option (Cpu × ℕ)
     on : On spot clocks
     board : machine.board ≡ after held clocks
+    registers : machine.answers ≡ 0 → sync machine.cpu ≡ 1 → is_booting rom start machine.cpu ≡ false → StandAt machine.cpu spot
 
   find : {machine : Machine} {work : ℕ → ℕ} {calm : ℕ} {clocks : List Bus} → Now machine work calm clocks → Found machine clocks
-  find (rests s) = let h = holding s in record { spot = h.spot; on = h.on; board = refl }
-  find (amid s first asks) = let one = mid s first asks in record { spot = one.0; on = one.1; board = refl }
+  find (rests {cells} {work} {calm} {clocks} s) = by (nat_eq (sync cells) 1) refl (is_booting rom start cells) refl
+    where
+      by : (t : Bool) → nat_eq (sync cells) 1 ≡ t → (b : Bool) → is_booting rom start cells ≡ b → Found (at_rest held clocks cells) clocks
+      by true high false out =
+          let here = at_opcode s (eqb-true (sync cells) 1 high) out in
+          record { spot = here.0; on = here.1; board = refl; registers = λ rest high out. here.2 }
+      by true high true boots =
+          let h = holding s in
+          record { spot = h.spot; on = h.on; board = refl; registers = λ rest high out. absurd (let e = sym boots ∙ out in cc) }
+      by false low b is =
+          let h = holding s in record {
+            spot = h.spot;
+            on = h.on;
+            board = refl;
+            registers = λ rest high out. absurd (let e = sym low ∙ ap (λ n. nat_eq n 1) high in cc);
+          }
+  find (amid s first asks) =
+      let one = mid s first asks in record { spot = one.0; on = one.1; board = refl; registers = λ rest. absurd (cc) }
 
   -- and what is said of a cabinet is said of the cells
   of_cabinet : OfEachMachine (λ R image held calls log clocks. HoldsRam image held log clocks)
@@ -418,6 +475,7 @@ module _ (laws : Laws) (R image : List ℕ) (held rom : ℕ → ℕ) (start : �
       let draw = alike_draw kept.alike in record {
         spot = one.spot;
         game = one.on;
+        registers = one.registers;
         keeps = kept;
         board = one.board;
         draw = (ap (λ (b : Board). b.core) one.board ∙ draw.0, ap (λ (b : Board). b.ram) one.board ∙ draw.1);

@@ -1,23 +1,32 @@
 -- The joined law: what the checker's yes to a ROM says of each run of cells that have it in memory.
-use Rattle.std.specs.Prelude.{◌≡◌, ℕ, true, List, Option}
+use Rattle.std.specs.Prelude.{◌≡◌, ℕ, true, false, List, Option, Some, None}
 use Rattle.dvg_calls_6502.specs.Processor.{Cpu}
 use Rattle.dvg_calls_6502.specs.Code.{dvg_offer, dvg_pair, dvg_put}
 use Rattle.dvg_cells_board.specs.Board.{Bus}
 use Rattle.dvg_cells_board.specs.Clocks.{after}
 use Rattle.dvg_cells_board.specs.Logs.{HoldsRam}
+use Rattle.dvg_cells_cpu.specs.Cpu.{Cpu as Cells}
+use Rattle.dvg_cells_cpu.specs.Refines.{Holds}
 use Rattle.dvg_game_rules.specs.Checker.{Notes, accepts}
-use Rattle.dvg_calls_cells.specs.Machine.{Machine}
+use Rattle.dvg_calls_cells.specs.Machine.{Machine, sync}
 use Rattle.dvg_game_6502.specs.Games.{Content, never_calls}
 use Rattle.dvg_game_board.specs.Cabinet.{DrawAlike, IsCabinet}
 use Rattle.dvg_game_board.specs.Keeps.{Keeps}
-use Rattle.dvg_game_cells.specs.Whole.{IsWhole}
+use Rattle.dvg_game_cells.specs.Whole.{IsWhole, is_booting}
 
--- the cells did what a 6502 by its definition does with this ROM: their clocks of the board are those of a run of it. There
--- is a log that these make, as `Keeps` has it; the machine's board is the one of these clocks, and has the core and the RAM
--- of the board that the log is of, whose RAM is what the log says
+-- the cells have the registers of the processor that stands here
+abbrev pub StandAt : Cells → Option (Cpu × ℕ) → Type 0
+StandAt cells None = ⊥
+StandAt cells (Some spot) = Holds cells spot.0
+
+-- the cells did what a 6502 by its definition does with this ROM: their clocks of the board are those of a run of it; and in
+-- the first clock of a cycle that reads an opcode, behind the boot code, they have its registers. There is a log that these
+-- clocks make, as `Keeps` has it; the machine's board is the one of these clocks, and has the core and the RAM of the board
+-- that the log is of, whose RAM is what the log says
 pub record CellsKeep (R image : List ℕ) (held rom : ℕ → ℕ) (start : ℕ) (machine : Machine) (clocks : List Bus) : Type 0 where
   pub spot : Option (Cpu × ℕ)
   pub game : IsCabinet R image held rom start spot clocks
+  pub registers : machine.answers ≡ 0 → sync machine ≡ 1 → is_booting rom start machine.cpu ≡ false → StandAt machine.cpu spot
   pub keeps : Keeps R image held clocks
   pub board : machine.board ≡ after held clocks
   pub draw : DrawAlike machine.board (after held keeps.shown)
