@@ -24,8 +24,8 @@ static Vdvg_machine machine;
 static uint8_t memory[0x10000], published[DVG_RAM_BYTES], drawing[DVG_RAM_BYTES];
 static dvg *port, *core;                /* the picture of a frame; the core, byte by byte */
 static bool second, was, resetting;
-static uint32_t counted;
-static uint16_t last_at;                /* where the access before was */
+static uint32_t counted, rose;          /* NMIs: since the last reset, and those to come */
+static uint16_t last_at;                /* where the access before was, since the last reset */
 static uint8_t looked;                  /* what the program found where it looked last */
 
 static struct {
@@ -152,12 +152,13 @@ static void take_write(uint16_t at)
 }
 
 /* What an access does outside the processor. Returns what memory answers. */
-static uint8_t reach()
+static uint8_t reach(bool resets)
 {
     uint16_t at = machine.a;
     bool on_ram = at >= 0x4000 && at < 0x4800, on_board = on_ram || at == 0x2002 || at == 0x3000;
     uint8_t found = below(256);
     if (!machine.access) {
+        last_at = resets ? 0 : last_at;
         return found;
     }
     if (machine.write) {
@@ -173,6 +174,8 @@ static uint8_t reach()
             agree("sync", machine.sync, at == LOOK);
         }
         agree("a reset that is taken", at == 0xFFFC && !resetting, 0);
+        agree("an NMI that never rose", at == 0xFFFA && rose == 0, 0);
+        rose -= at == 0xFFFA;
         counts.looks += at == 0x2002;
         found = on_board ? found : memory[at];
     }
@@ -216,12 +219,13 @@ static void play_clock(bool reset)
         was = machine.nmi;
         counted += rises;
         counts.nmis += rises;
+        rose = resets ? 0 : rose < 2 ? rose + rises : 2;
     }
     agree_on_board(resets);
     dvg_answer answer = tell_core(resets);
     perform(machine, machine.halted, machine.hold, resets || answer.kind != DVG_IDLE);
     second = machine.access;
-    uint8_t found = reach();
+    uint8_t found = reach(resets);
     edge(machine);
     machine.m = found;
     machine.eval();
