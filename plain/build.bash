@@ -141,7 +141,7 @@ link_program() {
         "$kit/c/liblibc_c.a" 2>/dev/null || cp "$made" "$program"
 }
 
-# Says of all crates, of their libraries and of the program, that they are proved: `rt ci` has
+# Says of all crates and of the program that they are proved: `rt ci` has
 # passed, which began with sources of this digest. Fails where these aren't the sources that are
 # there.
 mark_all() {
@@ -150,7 +150,6 @@ mark_all() {
     for crate in "$top"/crates/*/out; do
         crate=${crate%/out}
         mark "${crate##*/}"
-        [ ! -d "$crate/out/rlib" ] || cp "$crate/out/proved" "$crate/out/rlib/of"
     done
 }
 
