@@ -141,9 +141,8 @@ link_program() {
         "$kit/c/liblibc_c.a" 2>/dev/null || cp "$made" "$program"
 }
 
-# Says of all crates and of the program that they are proved: `rt ci` has
-# passed, which began with sources of this digest. Fails where these aren't the sources that are
-# there.
+# Says of all crates and of the program that they are proved: `rt ci` has passed, which began with
+# sources of this digest. Fails where these aren't the sources that are there.
 mark_all() {
     local crate
     [ "$(digest_of_proofs)" = "$1" ] && link_program && set_of "$program" "$1" || return
