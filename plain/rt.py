@@ -2,10 +2,10 @@
 
     python3 -B plain/rt.py lib --jobs 2
 
-rt tells by a sum of all files that a crate is made of whether its library fits, and sums up those of
-a crate below once for each way that leads down to it: 5,000 ways, for the uppermost. Here each sum is
-taken once in each look at a crate. Nothing else is changed, and where rt isn't the program that this
-knows, it runs as it is. `rt ci` is never run so."""
+rt tells by a sum of all files that a crate is made of whether its library fits, and sums up those
+of a crate below once for each way that leads down to it: 5,000 ways, for the uppermost. Here each
+sum is taken once in each look at a crate. Nothing else is changed, and where rt isn't the program
+that this knows, it runs as it is. `rt ci` is never run so."""
 
 import os
 import runpy
