@@ -120,8 +120,7 @@ int main(int argc, char **argv)
            " strokes, broken runs %" PRIu64 " %" PRIu64 " %" PRIu64 "\n",
         done_so_far, clocks, bus_counts.writes, bus_counts.at_its_place, bus_counts.reads,
         bus_counts.looks, counts.starts, counts.resets, bus_counts.rom_bytes, counts.halts,
-        counts.strokes,
-        counts.breaks[1], counts.breaks[2], counts.breaks[3]);
+        counts.strokes, counts.breaks[1], counts.breaks[2], counts.breaks[3]);
     dvg_free(port);
     return 0;
 }

@@ -14,9 +14,9 @@ use Rattle.dvg_calls_cells.specs.Played.{IsPlayed, powers, alone, begins_call, i
 use Rattle.dvg_calls_cells.specs.Played.{cells_after}
 use Rattle.dvg_calls_cells.specs.Example.{SomePlayed}
 use Rattle.dvg_calls_cells.proofs.ExampleCalls.{is_rom, is_image, held_bytes, others, shares, reset}
-use Rattle.dvg_calls_cells.proofs.ExampleCalls.{reset_from, reset_session, reset_bytes, tick, tick_from}
-use Rattle.dvg_calls_cells.proofs.ExampleCalls.{tick_session, tick_bytes, look, look_from, look_session}
-use Rattle.dvg_calls_cells.proofs.ExampleCalls.{look_bytes}
+use Rattle.dvg_calls_cells.proofs.ExampleCalls.{reset_from, reset_session, reset_bytes, tick}
+use Rattle.dvg_calls_cells.proofs.ExampleCalls.{tick_from, tick_session, tick_bytes, look}
+use Rattle.dvg_calls_cells.proofs.ExampleCalls.{look_from, look_session, look_bytes}
 
 -- the pins from outside, with this byte of the memory in the second clock
 abbrev pub drive : ℕ → Drive

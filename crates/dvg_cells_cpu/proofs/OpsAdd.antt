@@ -1,12 +1,13 @@
 -- The opcodes that add a byte. Written by crates/dvg_cells_cpu/tables.
 use Rattle.std.proofs.Common.{◌+◌, ◌-◌, [], ◌∷◌, refl, arith}
-use Rattle.dvg_calls_6502.specs.Processor.{Reads, found, Add, Subtract, Immediate, ZeroPage, ZeroPageX, Absolute, AbsoluteX}
-use Rattle.dvg_calls_6502.specs.Processor.{AbsoluteY, IndexedIndirect, IndirectIndexed}
+use Rattle.dvg_calls_6502.specs.Processor.{Reads, found, Add, Subtract, Immediate, ZeroPage, ZeroPageX, Absolute}
+use Rattle.dvg_calls_6502.specs.Processor.{AbsoluteX, AbsoluteY, IndexedIndirect, IndirectIndexed}
 use Rattle.dvg_cells_cpu.specs.Refines.{Goes}
-use Rattle.dvg_cells_cpu.proofs.Sums.{flat, rejoined, zero_by, minus_by, complement, complement_in, add_result, add_carry}
-use Rattle.dvg_cells_cpu.proofs.Sums.{add_over}
+use Rattle.dvg_cells_cpu.proofs.Sums.{flat, rejoined, zero_by, minus_by, complement, complement_in, add_result}
+use Rattle.dvg_cells_cpu.proofs.Sums.{add_carry, add_over}
 use Rattle.dvg_cells_cpu.proofs.Found.{zp, zp_by, wide, wide_by, word, word_by, pc2, pc3, found_byte, by_first}
-use Rattle.dvg_cells_cpu.proofs.Found.{by_zero_page, by_zero_page_i, by_absolute, by_absolute_i, by_indirect, by_indirect_x}
+use Rattle.dvg_cells_cpu.proofs.Found.{by_zero_page, by_zero_page_i, by_absolute, by_absolute_i, by_indirect}
+use Rattle.dvg_cells_cpu.proofs.Found.{by_indirect_x}
 use Rattle.dvg_cells_cpu.proofs.Seen.{seen_at, tail2, tail3, tail_at}
 use Rattle.dvg_cells_cpu.proofs.Resting.{cy, resting}
 use Rattle.dvg_cells_cpu.proofs.Obeying.{Obeys2, Obeys3, Obeys4, Obeys5}

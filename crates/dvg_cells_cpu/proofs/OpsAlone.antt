@@ -1,16 +1,17 @@
 -- The other opcodes. Written by crates/dvg_cells_cpu/tables.
 use Rattle.std.proofs.Common.{◌+◌, ◌/◌, ◌%◌, true, false, [], ◌∷◌, refl, arith}
 use Rattle.dvg_calls_6502.specs.Processor.{Reads, Writes, A, X, Y, found, reads, address, beside, pulled, stack_place}
-use Rattle.dvg_calls_6502.specs.Processor.{flags_byte, Transfer, Step, ShiftA, Set, Branch, Jump, JumpAt, Call, Return}
-use Rattle.dvg_calls_6502.specs.Processor.{PushA, PushFlags, PullA, PullFlags, FromStack, ToStack, Resume, Pass, Left}
-use Rattle.dvg_calls_6502.specs.Processor.{Right, RotateLeft, RotateRight, Negative, Zero, Carry, Overflow, Decimal}
-use Rattle.dvg_calls_6502.specs.Processor.{Interrupt, Absolute}
+use Rattle.dvg_calls_6502.specs.Processor.{flags_byte, Transfer, Step, ShiftA, Set, Branch, Jump, JumpAt, Call}
+use Rattle.dvg_calls_6502.specs.Processor.{Return, PushA, PushFlags, PullA, PullFlags, FromStack, ToStack, Resume}
+use Rattle.dvg_calls_6502.specs.Processor.{Pass, Left, Right, RotateLeft, RotateRight, Negative, Zero, Carry}
+use Rattle.dvg_calls_6502.specs.Processor.{Overflow, Decimal, Interrupt, Absolute}
 use Rattle.dvg_cells_cpu.specs.Refines.{Goes}
 use Rattle.dvg_cells_cpu.proofs.Sums.{zero_is, zero_by, minus_by, low_bit, lowest, doubled, rolled_left, rolled_right}
 use Rattle.dvg_cells_cpu.proofs.Sums.{halved, branched, flags_is}
-use Rattle.dvg_cells_cpu.proofs.Found.{zp, wide, pc1, by_first, by_two, by_jump, by_pull, by_return, by_resume, s2, s3}
-use Rattle.dvg_cells_cpu.proofs.Seen.{tail1, tail2, tail3, seen_jump, seen_call, call_s, seen_push, seen_pull, seen_return}
-use Rattle.dvg_cells_cpu.proofs.Seen.{seen_resume}
+use Rattle.dvg_cells_cpu.proofs.Found.{zp, wide, pc1, by_first, by_two, by_jump, by_pull, by_return, by_resume, s2}
+use Rattle.dvg_cells_cpu.proofs.Found.{s3}
+use Rattle.dvg_cells_cpu.proofs.Seen.{tail1, tail2, tail3, seen_jump, seen_call, call_s, seen_push, seen_pull}
+use Rattle.dvg_cells_cpu.proofs.Seen.{seen_return, seen_resume}
 use Rattle.dvg_cells_cpu.proofs.Resting.{cy, resting}
 use Rattle.dvg_cells_cpu.proofs.Obeying.{Obeys1, Obeys2, Obeys3, Obeys4, Obeys5}
 

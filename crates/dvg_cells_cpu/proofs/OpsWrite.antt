@@ -1,8 +1,8 @@
 -- The opcodes that write a byte. Written by crates/dvg_cells_cpu/tables.
 use Rattle.std.proofs.Common.{◌+◌, ◌*◌, ◌/◌, ◌%◌, [], ◌∷◌, refl, arith}
 use Rattle.dvg_calls_6502.specs.Processor.{Reads, Writes, A, X, Y, bit_of, found, Store, Change, ShiftAt, Left, Right}
-use Rattle.dvg_calls_6502.specs.Processor.{RotateLeft, RotateRight, ZeroPage, ZeroPageX, ZeroPageY, Absolute, AbsoluteX}
-use Rattle.dvg_calls_6502.specs.Processor.{AbsoluteY, IndexedIndirect, IndirectIndexed}
+use Rattle.dvg_calls_6502.specs.Processor.{RotateLeft, RotateRight, ZeroPage, ZeroPageX, ZeroPageY, Absolute}
+use Rattle.dvg_calls_6502.specs.Processor.{AbsoluteX, AbsoluteY, IndexedIndirect, IndirectIndexed}
 use Rattle.dvg_cells_cpu.specs.Refines.{Goes}
 use Rattle.dvg_cells_cpu.proofs.Sums.{flat, rejoined, zero_is, zero_by, minus_by, lowest, doubled, rolled_left}
 use Rattle.dvg_cells_cpu.proofs.Sums.{rolled_right, halved}

@@ -1,32 +1,37 @@
 -- Each row of the table of opcodes. Written by crates/dvg_cells_cpu/tables.
 use Rattle.std.proofs.Common.{true, false, refl}
-use Rattle.dvg_calls_6502.specs.Processor.{opcodes, A, X, Y, Load, Store, Transfer, And, Or, Xor, Add, Subtract, Compare}
-use Rattle.dvg_calls_6502.specs.Processor.{TestBits, Change, Step, ShiftAt, ShiftA, Set, Branch, Jump, JumpAt, Call, Return}
-use Rattle.dvg_calls_6502.specs.Processor.{PushA, PushFlags, PullA, PullFlags, FromStack, ToStack, Resume, Pass, Left}
-use Rattle.dvg_calls_6502.specs.Processor.{Right, RotateLeft, RotateRight, Negative, Zero, Carry, Overflow, Decimal}
-use Rattle.dvg_calls_6502.specs.Processor.{Interrupt, Immediate, ZeroPage, ZeroPageX, ZeroPageY, Absolute, AbsoluteX}
-use Rattle.dvg_calls_6502.specs.Processor.{AbsoluteY, IndexedIndirect, IndirectIndexed}
+use Rattle.dvg_calls_6502.specs.Processor.{opcodes, A, X, Y, Load, Store, Transfer, And, Or, Xor, Add, Subtract}
+use Rattle.dvg_calls_6502.specs.Processor.{Compare, TestBits, Change, Step, ShiftAt, ShiftA, Set, Branch, Jump}
+use Rattle.dvg_calls_6502.specs.Processor.{JumpAt, Call, Return, PushA, PushFlags, PullA, PullFlags, FromStack}
+use Rattle.dvg_calls_6502.specs.Processor.{ToStack, Resume, Pass, Left, Right, RotateLeft, RotateRight, Negative}
+use Rattle.dvg_calls_6502.specs.Processor.{Zero, Carry, Overflow, Decimal, Interrupt, Immediate, ZeroPage, ZeroPageX}
+use Rattle.dvg_calls_6502.specs.Processor.{ZeroPageY, Absolute, AbsoluteX, AbsoluteY, IndexedIndirect}
+use Rattle.dvg_calls_6502.specs.Processor.{IndirectIndexed}
 use Rattle.dvg_cells_cpu.proofs.Obeying.{AllObey, in_one, in_two, in_three, in_four, in_five}
-use Rattle.dvg_cells_cpu.proofs.OpsTake.{obeys_A9, obeys_A5, obeys_B5, obeys_AD, obeys_BD, obeys_B9, obeys_A1, obeys_B1}
-use Rattle.dvg_cells_cpu.proofs.OpsTake.{obeys_A2, obeys_A6, obeys_B6, obeys_AE, obeys_BE, obeys_A0, obeys_A4, obeys_B4}
-use Rattle.dvg_cells_cpu.proofs.OpsTake.{obeys_AC, obeys_BC, obeys_29, obeys_25, obeys_35, obeys_2D, obeys_3D, obeys_39}
-use Rattle.dvg_cells_cpu.proofs.OpsTake.{obeys_21, obeys_31, obeys_09, obeys_05, obeys_15, obeys_0D, obeys_1D, obeys_19}
-use Rattle.dvg_cells_cpu.proofs.OpsTake.{obeys_01, obeys_11, obeys_49, obeys_45, obeys_55, obeys_4D, obeys_5D, obeys_59}
-use Rattle.dvg_cells_cpu.proofs.OpsTake.{obeys_41, obeys_51, obeys_C9, obeys_C5, obeys_D5, obeys_CD, obeys_DD, obeys_D9}
-use Rattle.dvg_cells_cpu.proofs.OpsTake.{obeys_C1, obeys_D1, obeys_E0, obeys_E4, obeys_EC, obeys_C0, obeys_C4, obeys_CC}
+use Rattle.dvg_cells_cpu.proofs.OpsTake.{obeys_A9, obeys_A5, obeys_B5, obeys_AD, obeys_BD, obeys_B9, obeys_A1}
+use Rattle.dvg_cells_cpu.proofs.OpsTake.{obeys_B1, obeys_A2, obeys_A6, obeys_B6, obeys_AE, obeys_BE, obeys_A0}
+use Rattle.dvg_cells_cpu.proofs.OpsTake.{obeys_A4, obeys_B4, obeys_AC, obeys_BC, obeys_29, obeys_25, obeys_35}
+use Rattle.dvg_cells_cpu.proofs.OpsTake.{obeys_2D, obeys_3D, obeys_39, obeys_21, obeys_31, obeys_09, obeys_05}
+use Rattle.dvg_cells_cpu.proofs.OpsTake.{obeys_15, obeys_0D, obeys_1D, obeys_19, obeys_01, obeys_11, obeys_49}
+use Rattle.dvg_cells_cpu.proofs.OpsTake.{obeys_45, obeys_55, obeys_4D, obeys_5D, obeys_59, obeys_41, obeys_51}
+use Rattle.dvg_cells_cpu.proofs.OpsTake.{obeys_C9, obeys_C5, obeys_D5, obeys_CD, obeys_DD, obeys_D9, obeys_C1}
+use Rattle.dvg_cells_cpu.proofs.OpsTake.{obeys_D1, obeys_E0, obeys_E4, obeys_EC, obeys_C0, obeys_C4, obeys_CC}
 use Rattle.dvg_cells_cpu.proofs.OpsTake.{obeys_24, obeys_2C}
-use Rattle.dvg_cells_cpu.proofs.OpsAdd.{obeys_69, obeys_65, obeys_75, obeys_6D, obeys_7D, obeys_79, obeys_61, obeys_71}
-use Rattle.dvg_cells_cpu.proofs.OpsAdd.{obeys_E9, obeys_E5, obeys_F5, obeys_ED, obeys_FD, obeys_F9, obeys_E1, obeys_F1}
-use Rattle.dvg_cells_cpu.proofs.OpsWrite.{obeys_85, obeys_95, obeys_8D, obeys_9D, obeys_99, obeys_81, obeys_91, obeys_86}
-use Rattle.dvg_cells_cpu.proofs.OpsWrite.{obeys_96, obeys_8E, obeys_84, obeys_94, obeys_8C, obeys_E6, obeys_F6, obeys_EE}
-use Rattle.dvg_cells_cpu.proofs.OpsWrite.{obeys_FE, obeys_C6, obeys_D6, obeys_CE, obeys_DE, obeys_06, obeys_16, obeys_0E}
-use Rattle.dvg_cells_cpu.proofs.OpsWrite.{obeys_1E, obeys_46, obeys_56, obeys_4E, obeys_5E, obeys_26, obeys_36, obeys_2E}
-use Rattle.dvg_cells_cpu.proofs.OpsWrite.{obeys_3E, obeys_66, obeys_76, obeys_6E, obeys_7E}
-use Rattle.dvg_cells_cpu.proofs.OpsAlone.{obeys_AA, obeys_A8, obeys_8A, obeys_98, obeys_E8, obeys_C8, obeys_CA, obeys_88}
-use Rattle.dvg_cells_cpu.proofs.OpsAlone.{obeys_0A, obeys_4A, obeys_2A, obeys_6A, obeys_18, obeys_38, obeys_58, obeys_78}
-use Rattle.dvg_cells_cpu.proofs.OpsAlone.{obeys_B8, obeys_D8, obeys_10, obeys_30, obeys_D0, obeys_F0, obeys_90, obeys_B0}
-use Rattle.dvg_cells_cpu.proofs.OpsAlone.{obeys_50, obeys_70, obeys_4C, obeys_6C, obeys_20, obeys_60, obeys_48, obeys_08}
-use Rattle.dvg_cells_cpu.proofs.OpsAlone.{obeys_68, obeys_28, obeys_BA, obeys_9A, obeys_40, obeys_EA}
+use Rattle.dvg_cells_cpu.proofs.OpsAdd.{obeys_69, obeys_65, obeys_75, obeys_6D, obeys_7D, obeys_79, obeys_61}
+use Rattle.dvg_cells_cpu.proofs.OpsAdd.{obeys_71, obeys_E9, obeys_E5, obeys_F5, obeys_ED, obeys_FD, obeys_F9}
+use Rattle.dvg_cells_cpu.proofs.OpsAdd.{obeys_E1, obeys_F1}
+use Rattle.dvg_cells_cpu.proofs.OpsWrite.{obeys_85, obeys_95, obeys_8D, obeys_9D, obeys_99, obeys_81, obeys_91}
+use Rattle.dvg_cells_cpu.proofs.OpsWrite.{obeys_86, obeys_96, obeys_8E, obeys_84, obeys_94, obeys_8C, obeys_E6}
+use Rattle.dvg_cells_cpu.proofs.OpsWrite.{obeys_F6, obeys_EE, obeys_FE, obeys_C6, obeys_D6, obeys_CE, obeys_DE}
+use Rattle.dvg_cells_cpu.proofs.OpsWrite.{obeys_06, obeys_16, obeys_0E, obeys_1E, obeys_46, obeys_56, obeys_4E}
+use Rattle.dvg_cells_cpu.proofs.OpsWrite.{obeys_5E, obeys_26, obeys_36, obeys_2E, obeys_3E, obeys_66, obeys_76}
+use Rattle.dvg_cells_cpu.proofs.OpsWrite.{obeys_6E, obeys_7E}
+use Rattle.dvg_cells_cpu.proofs.OpsAlone.{obeys_AA, obeys_A8, obeys_8A, obeys_98, obeys_E8, obeys_C8, obeys_CA}
+use Rattle.dvg_cells_cpu.proofs.OpsAlone.{obeys_88, obeys_0A, obeys_4A, obeys_2A, obeys_6A, obeys_18, obeys_38}
+use Rattle.dvg_cells_cpu.proofs.OpsAlone.{obeys_58, obeys_78, obeys_B8, obeys_D8, obeys_10, obeys_30, obeys_D0}
+use Rattle.dvg_cells_cpu.proofs.OpsAlone.{obeys_F0, obeys_90, obeys_B0, obeys_50, obeys_70, obeys_4C, obeys_6C}
+use Rattle.dvg_cells_cpu.proofs.OpsAlone.{obeys_20, obeys_60, obeys_48, obeys_08, obeys_68, obeys_28, obeys_BA}
+use Rattle.dvg_cells_cpu.proofs.OpsAlone.{obeys_9A, obeys_40, obeys_EA}
 use Rattle.dvg_cells_cpu.proofs.Obeying.{Obeys}
 
 row_A9 : Obeys 0xA9 (Load A Immediate)

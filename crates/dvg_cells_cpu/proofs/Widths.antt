@@ -5,7 +5,8 @@ use Rattle.dvg_cells_core.specs.Cells.{add, sub, both, either, eq, lt, mux, none
 use Rattle.dvg_cells_cpu.specs.Cells.{ge}
 use Rattle.dvg_cells_cpu.specs.Cpu.{Cpu as Cells, Pins, clock, at, write, dout}
 use Rattle.dvg_cells_cpu.specs.Widths.{Fits}
-use Rattle.dvg_cells_cpu.proofs.Bounds.{mod_in, wider, mux_in, bit_in, none_in, both_in, either_in, and_in, or_in, xor_in}
+use Rattle.dvg_cells_cpu.proofs.Bounds.{mod_in, wider, mux_in, bit_in, none_in, both_in, either_in, and_in, or_in}
+use Rattle.dvg_cells_cpu.proofs.Bounds.{xor_in}
 
 pub all_in : (cells : Cells) (pins : Pins) → Fits cells → pins.nmi < 2 → pins.din < 256
     → Fits (clock cells pins) × (at cells < 65536) × (write cells < 2) × (dout cells < 256)
