@@ -92,23 +92,31 @@ build/driver.proved: build/driver.o $(BOARD)driver.cfg
 build/premises: $(wildcard $(BOARD)../tests/board_*.[ch])
 	@! command -v $(CC) >/dev/null || $(CC) -O2 -o $@ $(BOARD)../tests/board_premises.c
 
-build/sketch: $(SKETCH) $(BOARD)outline.awk build/options
-	$(if $(SKETCH),awk -f $(BOARD)outline.awk $(SKETCH),echo .rom) >$@
+build/sketch: $(SKETCH) $(BOARD)outline.awk $(BOARD)warn.awk build/options
+	@: >build/sketch.from
+	$(if $(SKETCH),awk -v from=build/sketch.from -f $(BOARD)outline.awk $(SKETCH),echo .rom) >$@
+	@awk -f $(BOARD)warn.awk $@
 
-build/tables.inc: build/sketch $(BOARD)tables.awk
-	"$(DVG)" lay --table <build/sketch >build/tables
+# `dvg lay` with an option, of a sketch, into a file. What it says names the author's own files and
+# lines.
+lay = @"$(DVG)" lay $(1) <$(2) >$(3) 2>$(3).said || status=1; \
+    awk -v sketch=$(2) -f $(BOARD)where.awk build/sketch.from $(3).said >&2; \
+    exit $$status
+
+build/tables.inc: build/sketch $(BOARD)tables.awk $(BOARD)where.awk
+	$(call lay,--table,build/sketch,build/tables)
 	@awk -f $(BOARD)names.awk build/tables
 	@awk -f $(BOARD)tables.awk build/tables >$@
 
 # A program may call each name of the ROM, so each is checked in a frame that calls it.
 build/shapes.equates: build/sketch
-	"$(DVG)" lay --equates <build/sketch >$@
+	$(call lay,--equates,build/sketch,$@)
 	@awk -f $(BOARD)names.awk $@
 	@awk '{ print ".frame\nlabs 0 0 0\ncallrom " $$1 "\nhalt" }' $@ | cat build/sketch - >build/calls
-	"$(DVG)" lay <build/calls >build/called
+	$(call lay,,build/calls,build/called)
 
 build/rom: build/sketch
-	"$(DVG)" lay --rom <build/sketch >$@
+	$(call lay,--rom,build/sketch,$@)
 
 # As `dvg check` and `dvg play` read it.
 build/rom.lines: build/rom
@@ -151,7 +159,7 @@ torn: build/roms/$(MACHINE)
 
 labels = build/$(PROGRAM).labels
 premises = $(BOARD)emulator/premises build/driver.proved build/$(PROGRAM).program $(labels) \
-    build/shapes.equates $(JUDGED) "$(played)"
+    build/shapes.equates $(JUDGED) "$(played)" build/$(PROGRAM).map
 
 premises: good_buttons build/roms/$(MACHINE) build/premises build/driver.proved
 	@$(premises)

@@ -13,7 +13,13 @@
 # generator takes as long for a vector as its scale says, however short it is. The global scale 0
 # shows a shape in its own size, 1 twice as large, and 15 half as large. A vector goes at most 1,023
 # units. -v intensity=N sets how bright it is, 1 to 15; it is 9 where none is given. What can't be
-# read is reported on standard error, with its line, and the status is 1.
+# read is reported on standard error, with its line, and the status is 1. With -v from=FILE that file
+# gets the number of each line that is written, and from which file and line it came.
+
+function out(text) {
+    print text
+    if (from != "") print ++lines, FILENAME, FNR >from
+}
 
 function refuse(text) {
     print "outline.awk: " FILENAME " line " FNR ": " text | "cat 1>&2"
@@ -46,14 +52,14 @@ function vector(x, y, z, scale, step, dx, dy) {
     if (size(dx) > 1023 || size(dy) > 1023) refuse("a move of more than 1,023 units")
     at_x += dx * step
     at_y += dy * step
-    printf "  vctr %d %d %d %d\n", scale, dx, dy, z
+    out(sprintf("  vctr %d %d %d %d", scale, dx, dy, z))
 }
 
 # No operation of a sketch has a comma or an @.
 function is_point(word) { return word ~ /,|^@/ }
 
 function end_outline() {
-    if (is_open) print "  return"
+    if (is_open) out("  return")
     is_open = at_x = at_y = 0
 }
 
@@ -68,20 +74,20 @@ FNR == 1 { end_outline() }
 }
 
 NF == 0 {
-    print whole
+    out(whole)
     next
 }
 
 $1 ~ /:$/ && is_point($2) {
     end_outline()
-    print $1
+    out($1)
     $1 = ""
     $0 = $0
 }
 
 !is_point($1) {
     end_outline()
-    print whole
+    out(whole)
     next
 }
 

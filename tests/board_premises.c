@@ -1,10 +1,11 @@
 /* Whether a program keeps to the premises under which docs/BOARD.md speaks of it, as far as a run
  * shows it.
  *
- *     board_premises DRIVER PROGRAM LABELS EQUATES SECONDS SEED [BUTTONS]
+ *     board_premises DRIVER PROGRAM LABELS EQUATES SECONDS SEED [BUTTONS [MAP]]
  *
  * DRIVER has the bytes that are proved, PROGRAM those up to 7FFF, LABELS is ld65's list, EQUATES is
- * build/shapes.equates, and BUTTONS a file of buttons (docs/GAME.md). The program runs by the 6502
+ * build/shapes.equates, BUTTONS a file of buttons (docs/GAME.md) or empty, and MAP what ld65 tells
+ * of its segments. The program runs by the 6502
  * of board_cpu.h. With SEED 0 its NMIs come as on the board: one each 6,144 cycles, and none amid
  * another one, so that a file of buttons is played as it was recorded. With another seed they come
  * at chance between two instructions, also sooner, and amid another NMI. None comes amid the first
@@ -13,7 +14,9 @@
  *
  * Prints how much was seen, or the first thing that is against a premise, and the place of the
  * instruction (status 1). Where nothing is, it also warns of calls that did nothing: a dvg_open
- * that was refused, and what was put outside of a frame; and where no frame was made at all. */
+ * that was refused, and what was put outside of a frame, or was left out of it; of a scale that
+ * dvg_labs doesn't take; of reads of RAM that nothing had written; and where no frame was made at
+ * all. With a MAP it ends with the labels of the segment CODE at which nothing ran or was read. */
 #include <stdarg.h>
 #include <stdio.h>
 #include <stdlib.h>
@@ -24,10 +27,10 @@
 enum {
     CODE = 0x6800, PROGRAM_BYTES = 0x2000, VARIABLES = 0x10, OPERANDS = 0x1B, OPERANDS_END = 0x1F,
     VARIABLES_END = 0x21, FLAG = 0x2002, STROBE = 0x3000, VECTOR_RAM = 0x4000, MEMORY = 0x8000,
-    BEGUN = 8, NMI_CYCLES = 6144, NMI_MOST_CYCLES = 6048, NMI_MOST_TICKS = 53,
+    BEGUN = 8, NMI_CYCLES = 6144, FRAME_CYCLES = 24576, NMI_MOST_CYCLES = 6048, NMI_MOST_TICKS = 53,
     CYCLES_A_SECOND = 1512000, LEAST_STACK = 0x60,
     INPUTS = 0x2000, CLOCK = 0x2001, TEST = 0x2007, SWITCHES = 0x2800, INPUTS_END = 0x3000,
-    ROM = 0x6000, JSR_OPCODE = 0x20, MOST_CALLS = 3
+    ROM = 0x6000, JSR_OPCODE = 0x20, MOST_CALLS = 3, RAM_END = 0x400, VECTORS = 0x7FFA
 };
 enum { IDLE = 2, BUILD = 7, WRITING = 0x80 };
 enum routine { RESET, RUN, TICKS, TICK, OFFER, REDRAW, OPEN, PUT, PAIR, SET, VECTOR, COPY, CLOSE };
@@ -59,6 +62,15 @@ typedef struct {
 
 static vain refused_opens = { .what = "calls of dvg_open were refused, as the driver was busy" };
 static vain vain_puts = { .what = "instructions were put outside of a frame" };
+static vain left_out = {
+    .what = "instructions were left out, as there is no such vector, or no room"
+};
+static vain lost_scales = {
+    .what = "calls of dvg_labs have bits 3 to 0 of A set: A is 16 times the scale"
+};
+static const vain *const warnings[] = { &refused_opens, &vain_puts, &left_out, &lost_scales };
+static vain blind_reads[RAM_END];       /* of each byte, before anything had written it */
+static uint8_t was_written[RAM_END], was_counted[RAM_END], was_used[MEMORY];
 static uint8_t memory[MEMORY];
 static cpu processor;
 static context contexts[3], *now = contexts;
@@ -120,21 +132,25 @@ static void fail(const char *format, ...)
     exit(1);
 }
 
+static void note_at(vain *calls_in_vain, int at, uint64_t cycles)
+{
+    if (calls_in_vain->count++) return;
+    calls_in_vain->at = at;
+    calls_in_vain->cycles = cycles;
+}
+
 /* Counts the call that is at hand. */
 static void note(vain *calls_in_vain)
 {
-    if (!calls_in_vain->count++) {
-        calls_in_vain->at = (uint16_t)(now->back - 3);
-        calls_in_vain->cycles = now->at_entry.cycles;
-    }
+    note_at(calls_in_vain, (uint16_t)(now->back - 3), now->at_entry.cycles);
 }
 
+/* Without the end of its line. */
 static void warn(const vain *calls_in_vain)
 {
-    if (!calls_in_vain->count) return;
     printf("warning: %ld %s, the first by ", calls_in_vain->count, calls_in_vain->what);
     print_place(calls_in_vain->at);
-    printf(", at %.3f s\n", (double)calls_in_vain->cycles / CYCLES_A_SECOND);
+    printf(", at %.3f s", (double)calls_in_vain->cycles / CYCLES_A_SECOND);
 }
 
 static int below(int count)
@@ -194,10 +210,13 @@ static void read_presses(const char *path)
     qsort(presses, (size_t)press_count, sizeof presses[0], compare_presses);
 }
 
+/* In the board's run they are taken up as the arcade emulator does, some sixty times a second. */
 static void press_buttons(void)
 {
+    uint64_t until = processor.cycles;
+    if (is_boards) until -= until % FRAME_CYCLES;
     while (next_press < press_count &&
-           presses[next_press].time * CYCLES_A_SECOND <= (double)processor.cycles) {
+           presses[next_press].time * CYCLES_A_SECOND <= (double)until) {
         closed[presses[next_press].at - INPUTS] = (uint8_t)presses[next_press].is_down;
         next_press++;
     }
@@ -219,11 +238,19 @@ static int is_hardware(int at)
 
 uint8_t bus_fetch(uint16_t at) { return memory[at % MEMORY]; }
 
+/* After dvg_reset has returned, a byte of RAM that is read should have been written. */
+static void check_read(int at)
+{
+    was_used[at] = 1;
+    if (at >= RAM_END || was_written[at] || now->in_driver || !was_reset) return;
+    note_at(&blind_reads[at], instruction, processor.cycles);
+}
+
 /* Before the first call a program may test the vector RAM and look at the flag: no run is open. */
 uint8_t bus_read(uint16_t at, int dummy)
 {
-    (void)dummy;
     at %= MEMORY;
+    if (!dummy) check_read(at);
     if (is_hardware(at) && !now->in_driver && has_called) fail("%s reads %04X", whose(), at);
     if (at == FLAG) return processor.cycles < run_ends ? 0xFF : 0x7F;
     if (at >= INPUTS && at < INPUTS_END) return read_input(at);
@@ -245,12 +272,20 @@ static void check_write(int at)
         fail("the NMI writes %04X, which stands on the stack above S", at);
 }
 
+/* What an NMI counts by INC is a clock, which may begin anywhere. */
+static void note_write(int at)
+{
+    was_written[at] = 1;
+    if (is_nmi() && (memory[instruction] & 0xE7) == 0xE6) was_counted[at] = 1;
+}
+
 void bus_write(uint16_t at, uint8_t value)
 {
     at %= MEMORY;
     if (!now->in_driver) check_write(at);
+    if (at < RAM_END) note_write(at);
     if (at == STROBE) run_ends = processor.cycles + 500 + (uint64_t)below(30000);
-    if (at < 0x400 || (at >= VECTOR_RAM && at < VECTOR_RAM + 0x800)) memory[at] = value;
+    if (at < RAM_END || (at >= VECTOR_RAM && at < VECTOR_RAM + 0x800)) memory[at] = value;
 }
 
 /* --- What is built --- */
@@ -359,6 +394,7 @@ static void begin_call(void)
     now->back = (uint16_t)(word_at(0x101 + processor.s) + 1);
     calls++;
     if (does_put(now->routine) && !is_building()) note(&vain_puts);
+    if (now->routine == SET && processor.a & 0x0F) note(&lost_scales);
 }
 
 static void end_call(void)
@@ -373,6 +409,7 @@ static void end_call(void)
     }
     if (now->routine == OPEN && is_taken) instructions = 0;
     if (now->routine == OPEN && !is_taken) note(&refused_opens);
+    if (does_put(now->routine) && !is_taken && is_building()) note(&left_out);
     frames_offered += now->routine == OFFER && is_taken;
     frames_built += now->routine == CLOSE && is_taken;
 }
@@ -438,6 +475,7 @@ static void run_one(void)
 {
     int inside = is_driver(processor.pc);
     instruction = processor.pc;
+    was_used[instruction % MEMORY] = 1;
     if (!is_nmi() && processor.pc == word_at(MEMORY - 4)) begins_anew = 1;
     press_buttons();
     if (inside && !now->in_driver) begin_call();
@@ -451,7 +489,7 @@ static void run_one(void)
 
 static void run(uint64_t cycles)
 {
-    uint64_t next = BEGUN;
+    uint64_t next = is_boards ? NMI_CYCLES : BEGUN;
     int was_interrupted = 0;
     while (processor.cycles < cycles) {
         if (comes(&next, &was_interrupted)) take_nmi();
@@ -500,16 +538,74 @@ static void find_tables(void)
     tables = tables_high - tables_low;
 }
 
+/* --- What was seen --- */
+
+/* Of the byte that was read first. The last label of a byte is the program's own. */
+static void tell_blind_reads(void)
+{
+    vain all = { .what = "reads of bytes that nothing had written" };
+    const char *name = 0;
+    int byte = 0;
+    for (int at = 0; at < RAM_END; at++) {
+        const vain *reads = &blind_reads[at];
+        if (was_counted[at] || !reads->count) continue;
+        if (!all.count || reads->cycles < all.cycles) {
+            byte = at;
+            all.at = reads->at;
+            all.cycles = reads->cycles;
+        }
+        all.count += reads->count;
+    }
+    if (!all.count) return;
+    for (int i = 0; i < label_count; i++)
+        if (labels[i].at == byte) name = labels[i].name;
+    warn(&all);
+    printf(", of %04X%s%s\n", byte, name ? ", " : "", name ? name : "");
+}
+
+/* Where the segment DATA begins, by the list of segments, or else the vectors. */
+static int data_of(const char *path)
+{
+    FILE *file = fopen(path, "r");
+    char line[200];
+    unsigned from = VECTORS;
+    if (!file) exit(2);
+    while (fgets(line, sizeof line, file))
+        if (sscanf(line, "DATA %x", &from) == 1) break;
+    fclose(file);
+    return (int)from;
+}
+
+static int compare_labels(const void *one, const void *other)
+{
+    return ((const typeof(labels[0]) *)one)->at - ((const typeof(labels[0]) *)other)->at;
+}
+
+/* The labels of the program's code where nothing ran, in their order. */
+static void tell_unused(int data)
+{
+    int count = 0, last = 0;
+    qsort(labels, (size_t)label_count, sizeof labels[0], compare_labels);
+    for (int i = 0; i < label_count; i++) {
+        const int at = labels[i].at;
+        if (at < code_end || at >= data || at == last || was_used[at] ||
+            strchr(labels[i].name, '-')) continue;
+        printf("%s%s", count++ ? " " : "never run: ", labels[i].name);
+        last = at;
+    }
+    if (count) printf("\n");
+}
+
 int main(int count, char **words)
 {
     uint8_t driver[PROGRAM_BYTES], program[PROGRAM_BYTES];
     size_t size;
-    if (count != 7 && count != 8) return 64;
+    if (count < 7 || count > 9) return 64;
     ready_opcodes();
     size = read_file(words[2], program, sizeof program);
     memcpy(memory + MEMORY - size, program, size);
     read_labels(words[3]);
-    if (count == 8) read_presses(words[7]);
+    if (count > 7 && *words[7]) read_presses(words[7]);
     read_shapes(words[4]);
     seed = strtoull(words[6], 0, 10);
     is_boards = !seed;
@@ -523,8 +619,13 @@ int main(int count, char **words)
     run(strtoull(words[5], 0, 10) * CYCLES_A_SECOND);
     printf("%ld calls, %ld NMIs, %ld of them amid an NMI, %ld frames offered and %ld built\n",
         calls, nmis, nested, frames_offered, frames_built);
-    warn(&refused_opens);
-    warn(&vain_puts);
+    for (unsigned i = 0; i < sizeof warnings / sizeof warnings[0]; i++) {
+        if (!warnings[i]->count) continue;
+        warn(warnings[i]);
+        printf("\n");
+    }
+    tell_blind_reads();
     if (!frames_built && !frames_offered) printf("warning: no frame was built or offered\n");
+    if (count > 8) tell_unused(data_of(words[8]));
     return 0;
 }

@@ -214,14 +214,10 @@ def tell_left(log):
     if not frames:
         return
     waited, whole, at = min(frames)
-    if not max(frames)[0]:
-        print('cycles left in the busiest frame: not known, as the program never waits in a loop '
-              'that writes the watchdog or reads the flag')
-        return
-    print('cycles left in the busiest frame: %.0f of %.0f, at %.3f s'
-          % (waited * HERTZ, whole * HERTZ, at))
-    if waited * HERTZ < 1:
-        warn('no cycle was left at %.3f s: the program was late for its next picture' % at)
+    left = '%.0f' % (waited * HERTZ) if waited else 'none known'
+    doubt = '' if waited else ': it was late, or waits in a loop that writes no watchdog'
+    print('cycles left in the busiest frame: %s of %.0f, at %.3f s%s'
+          % (left, whole * HERTZ, at, doubt))
 
 
 def word(memory, k):
