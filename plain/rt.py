@@ -3,34 +3,35 @@
     python3 -B plain/rt.py lib --jobs 2
 
 rt tells by a sum of all files that a crate is made of whether its library fits, and sums up those
-of a crate below once for each way that leads down to it: 5,000 ways, for the uppermost. Here each
-sum is taken once in each look at a crate. Nothing else is changed, and where rt isn't the program
-that this knows, it runs as it is. `rt ci` is never run so."""
+of a crate below once for each way that leads down to it: 5,000 ways, for the uppermost. Here it
+does so once, and again after each command that it runs. Nothing else is changed, and where rt isn't
+the program that this knows, it runs as it is. `rt ci` is never run so."""
 
 import os
 import runpy
 import shutil
 import sys
-import threading
 
 
-def once_a_look(method):
-    """A method of a crate that calls itself of the crates below: of each of these once, as long as
-    the outermost call takes."""
-    look = threading.local()
+def sum_once(crates):
+    """Has the sum of each crate taken once, until a command has run that may change files."""
+    sums, stamp, call, prove = {}, crates.stamp, crates.call, crates.prove
 
-    def found(crate):
-        if getattr(look, "sums", None) is not None:
-            if crate.name not in look.sums:
-                look.sums[crate.name] = method(crate)
-            return look.sums[crate.name]
-        look.sums = {}
-        try:
-            return method(crate)
-        finally:
-            look.sums = None
+    def stamp_once(crate):
+        if crate.folder not in sums:
+            sums[crate.folder] = stamp(crate)
+        return sums[crate.folder]
 
-    return found
+    def and_forget(command):
+        def run(*arguments):
+            try:
+                return command(*arguments)
+            finally:
+                sums.clear()
+
+        return run
+
+    crates.stamp, crates.call, crates.prove = stamp_once, and_forget(call), and_forget(prove)
 
 
 def main():
@@ -41,8 +42,9 @@ def main():
     if os.path.exists(f"{folder}/rtlib.py"):
         sys.path.insert(0, folder)
         import rtlib
-        if callable(getattr(getattr(rtlib, "Crate", None), "stamp", None)):
-            rtlib.Crate.stamp = once_a_look(rtlib.Crate.stamp)
+        crates = getattr(rtlib, "Crate", None)
+        if all(callable(getattr(crates, it, None)) for it in ("stamp", "call", "prove")):
+            sum_once(crates)
             sys.argv[0] = f"{folder}/rt"
             runpy.run_path(sys.argv[0], run_name="__main__")
             return
