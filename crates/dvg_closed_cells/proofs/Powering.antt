@@ -63,37 +63,37 @@ rom_small rows vectors fine few other small b = by (nat_lt b 0x6800) (nat_lt b f
     by false false false true = item_small 0 vectors (b - 0x7FFA) (lit< tt) few
     by false false false false = small b
 
-powered : (R : List ℕ) (rom : (ℕ → ℕ) → ℕ → ℕ) (start : ℕ) → IsRom R
-    → ((other : ℕ → ℕ) → ((b : ℕ) → other b < 256) → (b : ℕ) → rom other b < 256) → PoweredOn R rom start
-powered R rom start is_rom rom_in other image held work calm small is_image same held_in work_in =
+powered : (R : List ℕ) (rom : (ℕ → ℕ) → ℕ → ℕ) → IsRom R
+    → ((other : ℕ → ℕ) → ((b : ℕ) → other b < 256) → (b : ℕ) → rom other b < 256) → PoweredOn R rom
+powered R rom is_rom rom_in other image held work calm small is_image same held_in work_in =
     powers work calm is_rom is_image same held_in work_in (rom_in other small)
 
 rom_bytes : (R : List ℕ) → length R ≡ 2048 → all_small R ≡ true → IsRom R
 rom_bytes R count all = record { count = inl count; bytes = are_bytes R all }
 
-first_powered : PoweredOn first_content.shapes first_game.rom first_game.start
+first_powered : PoweredOn first_content.shapes first_game.rom
 unfolding first_content.shapes first_game.rom first_game.bytes first_game.vectors
-first_powered = powered first_content.shapes first_game.rom first_game.start (rom_bytes first_content.shapes refl refl)
+first_powered = powered first_content.shapes first_game.rom (rom_bytes first_content.shapes refl refl)
     (rom_small first_game.bytes first_game.vectors refl refl)
 
-bat_powered : PoweredOn bat_content.shapes bat_game.rom bat_game.start
+bat_powered : PoweredOn bat_content.shapes bat_game.rom
 unfolding bat_content.shapes bat_game.rom bat_game.bytes bat_game.vectors
-bat_powered = powered bat_content.shapes bat_game.rom bat_game.start (rom_bytes bat_content.shapes refl refl)
+bat_powered = powered bat_content.shapes bat_game.rom (rom_bytes bat_content.shapes refl refl)
     (rom_small bat_game.bytes bat_game.vectors refl refl)
 
-asteroid_powered : PoweredOn asteroid_content.shapes asteroid_game.rom asteroid_game.start
+asteroid_powered : PoweredOn asteroid_content.shapes asteroid_game.rom
 unfolding asteroid_content.shapes asteroid_game.rom asteroid_game.bytes asteroid_game.vectors
-asteroid_powered = powered asteroid_content.shapes asteroid_game.rom asteroid_game.start (rom_bytes asteroid_content.shapes refl refl)
+asteroid_powered = powered asteroid_content.shapes asteroid_game.rom (rom_bytes asteroid_content.shapes refl refl)
     (rom_small asteroid_game.bytes asteroid_game.vectors refl refl)
 
-rocks_powered : PoweredOn rocks_content.shapes rocks_game.rom rocks_game.start
+rocks_powered : PoweredOn rocks_content.shapes rocks_game.rom
 unfolding rocks_content.shapes rocks_game.rom rocks_game.bytes rocks_game.vectors
-rocks_powered = powered rocks_content.shapes rocks_game.rom rocks_game.start (rom_bytes rocks_content.shapes refl refl)
+rocks_powered = powered rocks_content.shapes rocks_game.rom (rom_bytes rocks_content.shapes refl refl)
     (rom_small rocks_game.bytes rocks_game.vectors refl refl)
 
-test_rom_powered : PoweredOn test_rom_content.shapes test_rom_game.rom test_rom_game.start
+test_rom_powered : PoweredOn test_rom_content.shapes test_rom_game.rom
 unfolding test_rom_content.shapes test_rom_game.rom test_rom_game.bytes test_rom_game.vectors
-test_rom_powered = powered test_rom_content.shapes test_rom_game.rom test_rom_game.start (rom_bytes test_rom_content.shapes refl refl)
+test_rom_powered = powered test_rom_content.shapes test_rom_game.rom (rom_bytes test_rom_content.shapes refl refl)
     (rom_small test_rom_game.bytes test_rom_game.vectors refl refl)
 
 pub can_be_powered : CanBePowered

@@ -24,12 +24,12 @@ abbrev pub GamesOnCellsKeepByBytes : Type 0
 GamesOnCellsKeepByBytes = (R image : List ℕ) (held rom : ℕ → ℕ) (start : ℕ) (notes : Notes) (ways : Ways)
     (drafts : ℕ → List OpKind) → accepts rom start notes ≡ true → brings R rom start notes ways drafts ≡ true
     → (machine : Machine) (work : ℕ → ℕ) (calm : ℕ) (clocks : List Bus)
-    → IsWhole R image held rom start machine work calm clocks → CellsKeep R image held rom start machine clocks
+    → IsWhole R image held rom machine work calm clocks → CellsKeep R image held rom start machine clocks
 
 -- of a game: each run of the cells with these bytes, whatever stands beside them, and with this vector ROM
 abbrev pub KeepsOnCells : (R : List ℕ) → (rom : (ℕ → ℕ) → ℕ → ℕ) → (start : ℕ) → Type 0
 KeepsOnCells R rom start = (other : ℕ → ℕ) (image : List ℕ) (held : ℕ → ℕ) (machine : Machine) (work : ℕ → ℕ) (calm : ℕ)
-    (clocks : List Bus) → IsWhole R image held (rom other) start machine work calm clocks
+    (clocks : List Bus) → IsWhole R image held (rom other) machine work calm clocks
     → CellsKeep R image held (rom other) start machine clocks
 
 abbrev pub First : Type 0
@@ -48,12 +48,12 @@ abbrev pub TestRom : Type 0
 TestRom = KeepsOnCells test_rom_content.shapes test_rom.rom test_rom.start
 
 -- and there are such runs: it can be powered, whatever the RAMs hold (and each run goes on by a clock: RunsGoOn of dvg_game_cells)
-abbrev pub PoweredOn : (R : List ℕ) → (rom : (ℕ → ℕ) → ℕ → ℕ) → (start : ℕ) → Type 0
-PoweredOn R rom start = (other : ℕ → ℕ) (image : List ℕ) (held work : ℕ → ℕ) (calm : ℕ) → ((b : ℕ) → other b < 256)
+abbrev pub PoweredOn : (R : List ℕ) → (rom : (ℕ → ℕ) → ℕ → ℕ) → Type 0
+PoweredOn R rom = (other : ℕ → ℕ) (image : List ℕ) (held work : ℕ → ℕ) (calm : ℕ) → ((b : ℕ) → other b < 256)
     → IsImage image → ((a : ℕ) → a < 2048 → held a ≡ slice_index image a) → ((a : ℕ) → held a < 256)
-    → ((a : ℕ) → work a < 256) → IsWhole R image held (rom other) start (powered held) work calm []
+    → ((a : ℕ) → work a < 256) → IsWhole R image held (rom other) (powered held) work calm []
 
 abbrev pub CanBePowered : Type 0
-CanBePowered = PoweredOn first_content.shapes first.rom first.start × PoweredOn bat_content.shapes bat.rom bat.start
-    × PoweredOn asteroid_content.shapes asteroid.rom asteroid.start × PoweredOn rocks_content.shapes rocks.rom rocks.start
-    × PoweredOn test_rom_content.shapes test_rom.rom test_rom.start
+CanBePowered = PoweredOn first_content.shapes first.rom × PoweredOn bat_content.shapes bat.rom
+    × PoweredOn asteroid_content.shapes asteroid.rom × PoweredOn rocks_content.shapes rocks.rom
+    × PoweredOn test_rom_content.shapes test_rom.rom

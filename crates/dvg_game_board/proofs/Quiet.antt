@@ -13,6 +13,7 @@ use Rattle.dvg_game_rules.specs.Safe.{IsSafeBy, MayWrite}
 use Rattle.dvg_game_rules.specs.Alike.{of_cpu}
 use Rattle.dvg_game_rules.proofs.Facts.{both_true}
 use Rattle.dvg_game_rules.proofs.Memory.{between, either, other}
+use Rattle.dvg_game_rules.proofs.Safety.{IsBeside, beside_of}
 use Rattle.dvg_game_6502.proofs.Guarded.{Free, free}
 use Rattle.dvg_game_6502.specs.Play.{fresh}
 use Rattle.dvg_game_board.specs.Cabinet.{written}
@@ -119,7 +120,7 @@ flagged Processor.Decimal to cpu one quiet = record { none = quiet.none; ram = q
 flagged Processor.Interrupt to cpu one quiet = record { none = quiet.none; ram = quiet.ram }
 
 -- where a store writes, as the checker has it
-stores : (mode : Mode) (cpu : Cpu) (st : State) → cpu.x < 256 → cpu.y < 256 → IsSafeBy (storing mode) (of_cpu cpu st)
+stores : (mode : Mode) (cpu : Cpu) (st : State) → cpu.x < 256 → cpu.y < 256 → IsBeside (storing mode) (of_cpu cpu st)
     → is_board (Processor.address mode cpu) ≡ false
 stores Processor.Immediate cpu st x y safe = absurd safe
 stores Processor.ZeroPage cpu st x y safe = may_aside (of_cpu cpu st) (Processor.address Processor.ZeroPage cpu) (safe 0)
@@ -146,7 +147,7 @@ stores Processor.IndexedIndirect cpu st x y safe = absurd safe
 stores Processor.IndirectIndexed cpu st x y safe = absurd safe
 
 pub quiet_by : (i : Instr) (cpu : Cpu) (st : State) → cpu.log ≡ [] → cpu.x < 256 → cpu.y < 256
-    → IsSafeBy (kind i) (of_cpu cpu st) → IsQuiet cpu (Processor.does i cpu)
+    → IsBeside (kind i) (of_cpu cpu st) → IsQuiet cpu (Processor.does i cpu)
 quiet_by (Processor.Load r mode) cpu st none x y safe =
     set r (Processor.operand mode cpu) cpu (reading mode cpu) (read mode cpu none)
 quiet_by (Processor.Store r mode) cpu st none x y safe =
@@ -207,5 +208,6 @@ quiet_by Processor.Unknown cpu st none x y safe = absurd safe
 pub quiet : (cpu : Cpu) (st : State) (flags : ℕ → ℕ) → cpu.x < 256 → cpu.y < 256
     → IsSafeBy (kinds.kind_of (cpu.mem cpu.pc)) (of_cpu cpu st) → IsQuiet cpu (Processor.step (fresh flags cpu))
 quiet cpu st flags x y safe =
-    let is = quiet_by (Processor.decoded Processor.opcodes (cpu.mem cpu.pc)) (fresh flags cpu) st refl x y safe in
+    let is = quiet_by (Processor.decoded Processor.opcodes (cpu.mem cpu.pc)) (fresh flags cpu) st refl x y
+    (beside_of (kinds.kind_of (cpu.mem cpu.pc)) (of_cpu cpu st) safe) in
     record { none = is.none; ram = is.ram }

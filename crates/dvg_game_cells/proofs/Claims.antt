@@ -58,7 +58,7 @@ tame_writes [] mem t = refl
 tame_writes (Reads a byte ∷ list) mem t = tame_writes list mem t.1
 tame_writes (Writes a byte ∷ list) mem t = absurd t
 
-module _ (R : List ℕ) (held rom : ℕ → ℕ) (start : ℕ) where
+module _ (R : List ℕ) (held rom : ℕ → ℕ) where
   -- one access that is tame is a read
   reads_so : (cells : Cells) (din : ℕ) → AreTame (access cells din ∷ []) → (nat_eq (write cells) 0 ≡ true) × IsTame (at cells)
   reads_so cells din t = by (nat_eq (write cells) 0) refl t
@@ -71,7 +71,7 @@ module _ (R : List ℕ) (held rom : ℕ → ℕ) (start : ℕ) where
 
   pub tame_answered : (list : List Two) (older : List Bus) (cells : Cells) (work : ℕ → ℕ) (calm : ℕ) (cpu : Cpu)
       → AllFit R held older cells → AreGiven R (at_rest held older cells) list
-      → AreAsked rom start work calm (at_rest held older cells) list
+      → AreAsked rom work calm (at_rest held older cells) list
       → ((b : ℕ) → b < 0x200 → cpu.mem b ≡ work b) → ((b : ℕ) → 0x4800 ≤ b → b < 0x8000 → cpu.mem b ≡ rom b)
       → AreTame (made cells (cycles_of (at_rest held older cells) list) [])
       → AreAnswered cpu cells (cycles_of (at_rest held older cells) list)

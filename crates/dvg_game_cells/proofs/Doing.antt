@@ -7,8 +7,9 @@ use Rattle.dvg_cells_board.specs.Board.{Bus}
 use Rattle.dvg_cells_board.specs.Clocks.{after}
 use Rattle.dvg_cells_cpu.specs.Cpu.{Cpu as Cells, at, write, dout, clock}
 use Rattle.dvg_cells_cpu.specs.Refines.{Cycle, pins_of, Holds, Rests, cycles}
-use Rattle.dvg_game_rules.specs.Machine.{IsLoaded, reset_vector, word_at}
+use Rattle.dvg_game_rules.specs.Machine.{IsLoaded}
 use Rattle.dvg_game_rules.specs.Checker.{boots}
+use Rattle.dvg_game_rules.proofs.Early.{Early}
 use Rattle.dvg_calls_cells.specs.Machine.{Machine}
 use Rattle.dvg_calls_cells.specs.Cycles.{Two, next, cycles_of, cycle_of}
 use Rattle.dvg_calls_cells.specs.Steps.{instr_of}
@@ -16,7 +17,8 @@ use Rattle.dvg_calls_cells.specs.Played.{AreGiven, at_rest, older_after, cells_a
 use Rattle.dvg_calls_cells.proofs.Fits.{AllFit}
 use Rattle.dvg_game_6502.specs.Play.{AreBytes}
 use Rattle.dvg_game_board.specs.Cabinet.{IsCabinet}
-use Rattle.dvg_game_cells.specs.Whole.{Finds, is_booting}
+use Rattle.dvg_game_cells.specs.Keeps.{IsBoot}
+use Rattle.dvg_game_cells.specs.Whole.{Finds}
 
 -- the work RAM after a cycle, and after cycles
 abbrev pub wrote : Cells → (ℕ → ℕ) → ℕ → ℕ
@@ -34,13 +36,12 @@ abbrev pub calms : Cells → List Cycle → ℕ → ℕ
 calms cells [] calm = calm
 calms cells (cycle ∷ later) calm = calms (clock cells (pins_of cycle)) later (calm_in cells cycle calm)
 
-module _ (rom : ℕ → ℕ) (start : ℕ) where
+module _ (rom : ℕ → ℕ) where
   -- what is asked of a cycle, beside its pins' widths and what the board is served
   pub record Asked (cells : Cells) (work : ℕ → ℕ) (calm : ℕ) (nmi m : ℕ) : Type 0 where
     pub finds : write cells ≡ 0 → Finds rom work (at cells) m
     pub no_strobe : write cells ≡ 0 → nat_eq (at cells) 0x3000 ≡ false
     pub apart : (nat_eq nmi 1 && nat_eq cells.was 0) ≡ true → 10400 ≤ suc (suc calm)
-    pub boots_alone : is_booting rom start cells ≡ true → cells.due ≡ 0
 
   abbrev pub AreAsked : (ℕ → ℕ) → ℕ → Machine → List Two → Type 0
   AreAsked work calm machine [] = Unit {0}
@@ -68,7 +69,7 @@ module _ (R image : List ℕ) (held rom : ℕ → ℕ) (start : ℕ) where
       pub work_in : (a : ℕ) → work a < 256
       pub rom_in : (a : ℕ) → rom a < 256
       pub given : AreGiven R (at_rest held older cells) list
-      pub asked : AreAsked rom start work calm (at_rest held older cells) list
+      pub asked : AreAsked rom work calm (at_rest held older cells) list
 
   -- at the TXS, behind which the program starts
   pub record AtTxs (cpu : Cpu) : Type 0 where
@@ -86,10 +87,17 @@ module _ (R image : List ℕ) (held rom : ℕ → ℕ) (start : ℕ) where
   pub data Task (cpu : Cpu) (older : List Bus) (cells : Cells) (calm : ℕ) : ℕ → Type 0 where
     -- a reset reads its vector
     wakes : (spot : Option (Cpu × ℕ)) → IsCabinet R image held rom start spot older → Holds cells cpu → cells.state ≡ 0
-        → Task cpu older cells calm 2
+        → cells.due ≡ 0 → Task cpu older cells calm 2
     -- an instruction up to the TXS
     starts : (spot : Option (Cpu × ℕ)) (left : ℕ) → IsCabinet R image held rom start spot older → Rests cells cpu
-        → Boots left cpu → word_at rom reset_vector ≤ cpu.pc → Task cpu older cells calm (cycles (instr_of cpu))
+        → Boots left cpu → IsBoot rom start cpu → cells.due ≡ 0 → Task cpu older cells calm (cycles (instr_of cpu))
+    -- an NMI before the TXS
+    breaks : (spot : Option (Cpu × ℕ)) (left : ℕ) → IsCabinet R image held rom start spot older → Rests cells cpu
+        → Boots left cpu → IsBoot rom start cpu → cells.due ≡ 1 → calm ≤ 12 → Task cpu older cells calm 5
+    -- an instruction of its routine, which leads back to there
+    handles : (spot : Option (Cpu × ℕ)) (left : ℕ) → IsCabinet R image held rom start spot older → Rests cells cpu
+        → (back : Cpu) (since : ℕ) → Boots left back → Early rom start back since cpu → IsBoot rom start cpu → cells.due ≡ 0
+        → calm ≤ 12 * since + 26 → Task cpu older cells calm (cycles (instr_of cpu))
     -- one of the game or of the driver
     plays : (since : ℕ) → IsCabinet R image held rom start (Some (cpu, since)) older → Rests cells cpu → cells.due ≡ 0
         → IsTime since calm → Task cpu older cells calm (cycles (instr_of cpu))

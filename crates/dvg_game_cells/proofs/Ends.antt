@@ -12,7 +12,8 @@ use Rattle.dvg_calls_cells.specs.Steps.{AreServed, instr_of}
 use Rattle.dvg_calls_cells.specs.Played.{AreGiven, at_rest, older_after, cells_after}
 use Rattle.dvg_calls_cells.proofs.Fits.{AllFit, served_of}
 use Rattle.dvg_game_board.specs.Cabinet.{IsCabinet}
-use Rattle.dvg_game_cells.proofs.Doing.{Doing, IsTime, Stand, calms, works, wrote, stands, plays, hears}
+use Rattle.dvg_game_cells.specs.Keeps.{IsBoot}
+use Rattle.dvg_game_cells.proofs.Doing.{Boots, Doing, IsTime, Stand, calms, works, wrote, stands, starts, breaks, plays, hears}
 use Rattle.dvg_game_cells.proofs.Snoc.{then_at}
 use Rattle.dvg_game_cells.proofs.Timing.{at_least}
 
@@ -31,7 +32,7 @@ module _ (R image : List ℕ) (held rom : ℕ → ℕ) (start : ℕ) where
   abbrev pub Half : List Bus → Cells → List Two → Two → Type 0
   Half older cells list two = (spot : Option (Cpu × ℕ))
       × IsCabinet R image held rom start spot
-      (first_bus (then_at R held rom start older cells list) two ∷ older_after held older cells list)
+      (first_bus (then_at R held rom older cells list) two ∷ older_after held older cells list)
 
   -- a task is done
   abbrev pub Done : Cpu → List Bus → Cells → (ℕ → ℕ) → ℕ → List Two → Type 0
@@ -60,7 +61,7 @@ module _ (R image : List ℕ) (held rom : ℕ → ℕ) (start : ℕ) where
   -- what is served in cycles, and in one more
   pub split_served : (two : Two) (list : List Two) (older : List Bus) (cells : Cells)
       → AreServed R (at_rest held older cells) (list ++ two ∷ [])
-      → AreServed R (at_rest held older cells) list × AreServed R (then_at R held rom start older cells list) (two ∷ [])
+      → AreServed R (at_rest held older cells) list × AreServed R (then_at R held rom older cells list) (two ∷ [])
   split_served two [] older cells served = (tt, served)
   split_served two (x ∷ list) older cells served =
       let rest = split_served two list (second_bus (at_rest held older cells) x ∷ first_bus (at_rest held older cells) x ∷ older)
@@ -79,4 +80,17 @@ module _ (R image : List ℕ) (held rom : ℕ → ℕ) (start : ℕ) where
           (at_least (instr_of cpu))
       by (suc zero) less is = let two = late is in
           stands cpu older cells work calm 5 [] doing (hears since on rests is two.0 two.1) (omega arith)
+      by (suc (suc n)) less is = absurd (omega (arith, less))
+
+  -- the same before the TXS
+  pub settle_boot : (cpu : Cpu) (spot : Option (Cpu × ℕ)) (left : ℕ) (older : List Bus) (cells : Cells) (work : ℕ → ℕ) (calm : ℕ)
+      → IsCabinet R image held rom start spot older → Rests cells cpu → Boots R image held rom start left cpu
+      → IsBoot rom start cpu → Doing R image held rom start cpu older cells work calm [] → (cells.due ≡ 1 → calm ≤ 12)
+      → Stand R image held rom start cells work calm older
+  settle_boot cpu spot left older cells work calm on rests boots boot doing close = by cells.due doing.fits.of_cells.due refl
+    where
+      by : (due : ℕ) → due < 2 → cells.due ≡ due → Stand R image held rom start cells work calm older
+      by zero less is = stands cpu older cells work calm (cycles (instr_of cpu)) [] doing (starts spot left on rests boots boot is)
+          (at_least (instr_of cpu))
+      by (suc zero) less is = stands cpu older cells work calm 5 [] doing (breaks spot left on rests boots boot is (close is)) (omega arith)
       by (suc (suc n)) less is = absurd (omega (arith, less))

@@ -1,6 +1,5 @@
 -- A run of cells since power-up, which is computed clock by clock.
 use Rattle.std.proofs.Common.{◌≡◌, ℕ, zero, suc, ◌+◌, Bool, true, false, not, List, [], ◌∷◌, length, refl, arith, lit<}
-use Rattle.std.proofs.Common.{eqb-true}
 use Rattle.std.specs.Prelude.{nat_eq, ◌&&◌}
 use Rattle.dvg_cells_board.specs.Board.{Bus}
 use Rattle.dvg_cells_board.specs.Example.{zeros}
@@ -8,7 +7,7 @@ use Rattle.dvg_cells_cpu.specs.Cpu.{at}
 use Rattle.dvg_game_rules.specs.Written.{of_list, rom_of}
 use Rattle.dvg_game_rules.proofs.Facts.{both_true}
 use Rattle.dvg_calls_cells.specs.Machine.{Machine, clock, drives_board, powered}
-use Rattle.dvg_game_6502.specs.SomeGame.{bytes, vectors, rom, start}
+use Rattle.dvg_game_6502.specs.SomeGame.{bytes, vectors, rom}
 use Rattle.dvg_game_board.specs.Example.{nothing}
 use Rattle.dvg_game_board.proofs.SomeCabinet.{is_image, is_rom, zero_at}
 use Rattle.dvg_game_6502.proofs.SomeGame.{rom_small}
@@ -24,11 +23,11 @@ abbrev went : ℕ → Machine → (ℕ → ℕ) → Machine × (ℕ → ℕ)
 went zero machine work = (machine, work)
 went (suc n) machine work = went n (clock machine (at_next machine work)) (work_after machine (at_next machine work) work)
 
--- in each of them the strobe isn't read, and no NMI is due
+-- in each of them the strobe isn't read
 abbrev fine : ℕ → Machine → (ℕ → ℕ) → Bool
 fine zero machine work = true
-fine (suc n) machine work = not (nat_eq (at machine.cpu) 0x3000) && (nat_eq machine.cpu.due 0
-    && fine n (clock machine (at_next machine work)) (work_after machine (at_next machine work) work))
+fine (suc n) machine work = not (nat_eq (at machine.cpu) 0x3000)
+    && fine n (clock machine (at_next machine work)) (work_after machine (at_next machine work) work)
 
 is_no : (t : Bool) → not t ≡ true → t ≡ false
 is_no true e = absurd (cc)
@@ -39,7 +38,7 @@ never true b e = cc
 never false b e = cc
 
 abbrev Is : Machine → (ℕ → ℕ) → ℕ → List Bus → Type 0
-Is machine work calm clocks = IsWhole zeros zeros nothing (rom nothing) start machine work calm clocks
+Is machine work calm clocks = IsWhole zeros zeros nothing (rom nothing) machine work calm clocks
 
 -- so they come
 goes : (n : ℕ) (machine : Machine) (work : ℕ → ℕ) (calm : ℕ) (clocks : List Bus) → Is machine work calm clocks
@@ -48,13 +47,11 @@ goes : (n : ℕ) (machine : Machine) (work : ℕ → ℕ) (calm : ℕ) (clocks :
 goes zero machine work calm clocks on is = (calm, clocks, on, omega arith)
 goes (suc n) machine work calm clocks on is =
     let a = both_true (not (nat_eq (at machine.cpu) 0x3000)) _ is in
-    let b = both_true (nat_eq machine.cpu.due 0) _ a.1 in
     let pins = at_next machine work in
-    let next = runs_go_on zeros zeros nothing (rom nothing) start machine work calm clocks on 0 0 0 0 (lit< tt) (lit< tt) (lit< tt)
-    (λ reading. is_no (nat_eq (at machine.cpu) 0x3000) a.0) (λ rise. absurd (never (nat_eq machine.answers 1) (nat_eq machine.cpu.was 0) rise))
-    (λ boots. eqb-true machine.cpu.due 0 b.0) in
+    let next = runs_go_on zeros zeros nothing (rom nothing) machine work calm clocks on 0 0 0 0 (lit< tt) (lit< tt) (lit< tt)
+    (λ reading. is_no (nat_eq (at machine.cpu) 0x3000) a.0) (λ rise. absurd (never (nat_eq machine.answers 1) (nat_eq machine.cpu.was 0) rise)) in
     let rest = goes n (clock machine pins) (work_after machine pins work) (calm_after machine pins calm) (drives_board machine pins ∷ clocks)
-    next b.1 in
+    next a.1 in
     let count = rest.3 in (rest.0, rest.1, rest.2, omega (arith, count))
 
 none : ℕ → ℕ
@@ -70,7 +67,7 @@ some_whole =
     let machine = (went 112 (powered nothing) nothing).0 in
     let work = (went 112 (powered nothing) nothing).1 in
     let pins = at_next machine work in
-    let on = runs_go_on zeros zeros nothing (rom nothing) start machine work before.0 before.1 before.2 0 0 0 0 (lit< tt) (lit< tt)
-    (lit< tt) (λ reading. refl) (λ rise. absurd (never (nat_eq machine.answers 1) (nat_eq machine.cpu.was 0) rise)) (λ boots. refl) in
+    let on = runs_go_on zeros zeros nothing (rom nothing) machine work before.0 before.1 before.2 0 0 0 0 (lit< tt) (lit< tt)
+    (lit< tt) (λ reading. refl) (λ rise. absurd (never (nat_eq machine.answers 1) (nat_eq machine.cpu.was 0) rise)) in
     let count = before.3 in
     (_, _, _, drives_board machine pins, before.1, on, omega (arith, count), refl, refl, refl)

@@ -30,7 +30,7 @@ pub record Known (rom : ℕ → ℕ) (cpu : Cpu) : Type 0 where
   pub direct : is_direct (instr_of cpu) ≡ true
   pub single : is_code cpu.pc ≡ true → is_single (instr_of cpu) ≡ true
 
-safe_direct : (i : Instr) (st : State) → IsSafeBy (kind i) st → is_direct i ≡ true
+pub safe_direct : (i : Instr) (st : State) → IsSafeBy (kind i) st → is_direct i ≡ true
 safe_direct JumpAt st safe = absurd safe
 safe_direct i st safe = refl
 

@@ -32,8 +32,8 @@ choose : (t : Bool) (x y : ℕ) → x < 256 → y < 256 → (if t then x else y)
 choose true x y p r = p
 choose false x y p r = r
 
-all_fit : {R image : List ℕ} {held rom : ℕ → ℕ} {start : ℕ} {machine : Machine} {work : ℕ → ℕ} {calm : ℕ} {clocks : List Bus}
-    → IsWhole R image held rom start machine work calm clocks → AllFit R rom machine work
+all_fit : {R image : List ℕ} {held rom : ℕ → ℕ} {machine : Machine} {work : ℕ → ℕ} {calm : ℕ} {clocks : List Bus}
+    → IsWhole R image held rom machine work calm clocks → AllFit R rom machine work
 all_fit (powers work calm is_rom is_image first held_in work_in rom_in) = record {
   is_rom = is_rom;
   cells = fits.0;
@@ -96,7 +96,7 @@ module _ (rom work : ℕ → ℕ) (free a : ℕ) where
       record { in_work = f.0; in_rom = f.1; vectors = f.2 }
 
 pub runs_go_on : RunsGoOn
-runs_go_on R image held rom start machine work calm clocks on reset nmi hold free reset_in nmi_in free_in strobe apart alone =
+runs_go_on R image held rom machine work calm clocks on reset nmi hold free reset_in nmi_in free_in strobe apart =
     let all = all_fit on in
     ticks (pins_for R rom machine work reset nmi hold free) on (record {
       reset = reset_in;
@@ -109,5 +109,4 @@ runs_go_on R image held rom start machine work calm clocks on reset nmi hold fre
       answers = λ second reading. finds rom work free (at machine.cpu);
       no_strobe = strobe;
       apart = apart;
-      boots_alone = alone;
     })

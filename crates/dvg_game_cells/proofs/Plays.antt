@@ -28,10 +28,11 @@ use Rattle.dvg_game_6502.specs.Play.{AreBytes, done, restarts}
 use Rattle.dvg_game_board.specs.Cabinet.{IsCabinet, AreMade, no_more, does as makes_step, touched, turns, written}
 use Rattle.dvg_game_board.proofs.Runs.{leaves_board, standing}
 use Rattle.dvg_game_board.proofs.Sharing.{Laws}
+use Rattle.dvg_game_cells.specs.Keeps.{from_vector}
 use Rattle.dvg_game_cells.proofs.Answering.{tame_fetched, InRom}
 use Rattle.dvg_game_cells.proofs.Claims.{tame_writes}
-use Rattle.dvg_game_cells.proofs.Doing.{Doing, IsTime, Shares, calms, works, stands, starts}
-use Rattle.dvg_game_cells.proofs.Ends.{Done, Half, settle, split_served, unsnoc, works_in}
+use Rattle.dvg_game_cells.proofs.Doing.{Doing, IsTime, Shares, calms, works}
+use Rattle.dvg_game_cells.proofs.Ends.{Done, Half, settle, settle_boot, split_served, unsnoc, works_in}
 use Rattle.dvg_game_cells.proofs.Jumps.{jump_is}
 use Rattle.dvg_game_cells.proofs.Known.{Known, known}
 use Rattle.dvg_game_cells.proofs.Memory.{low_after, ram_after, writes_both}
@@ -201,13 +202,13 @@ module _ (laws : Laws) (R image : List ℕ) (held rom : ℕ → ℕ) (start : �
       then_cells = cells_after held older cells list
 
       abbrev din : ℕ
-      din = (cycle_of (then_at R held rom start older cells list) two).din
+      din = (cycle_of (then_at R held rom older cells list) two).din
 
       made_is : made cells (cycled more) [] ≡ access then_cells din ∷ made cells (cycled list) []
       made_is = ap (λ l. made cells l []) (more_cycles R image held rom start two list older cells)
-          ∙ made_both (cycled list) (cycle_of (then_at R held rom start older cells list) two ∷ []) cells []
+          ∙ made_both (cycled list) (cycle_of (then_at R held rom older cells list) two ∷ []) cells []
 
-      served : AreServed R (at_rest held older cells) list × AreServed R (then_at R held rom start older cells list) (two ∷ [])
+      served : AreServed R (at_rest held older cells) list × AreServed R (then_at R held rom older cells list) (two ∷ [])
       served = split_served R image held rom start two list older cells (served_of R held more older cells doing.fits doing.given).0
 
       quiet_case : AreQuiet (made cells (cycled more) []) → Half R image held rom start older cells list two
@@ -219,7 +220,7 @@ module _ (laws : Laws) (R image : List ℕ) (held rom : ℕ → ℕ) (start : �
           )
 
       loud_case : (g : Went more claim 0) → Loudly more claim 0 g
-          → On (Some (new more claim, suc since)) (first_bus (then_at R held rom start older cells list) two ∷ then_older)
+          → On (Some (new more claim, suc since)) (first_bus (then_at R held rom older cells list) two ∷ then_older)
       loud_case g loud =
           let all : access then_cells din ∷ made cells (cycled list) [] ≡ loud.0 ∷ fetched (instr_of (as_turned more claim)) (as_turned more claim) =
           sym made_is ∙ ap (λ l. made cells l []) (sym (append-nil (cycled more))) ∙ g.bus
@@ -334,7 +335,7 @@ module _ (laws : Laws) (R image : List ℕ) (held rom : ℕ → ℕ) (start : �
       loud_by : (front : List Two) (two : Two) → OnLoud (front ++ two ∷ [])
       loud_by front two doing claim g loud =
           let parts = served front two doing claim in
-          subst (λ c. On (Some (new (front ++ two ∷ []) claim, suc since)) c) (sym (more_older R held rom start two front older cells))
+          subst (λ c. On (Some (new (front ++ two ∷ []) claim, suc since)) c) (sym (more_older R held rom two front older cells))
           (second_half R image held rom start (older_after held older cells front) (cells_after held older cells front) two parts.1
           (Some (new (front ++ two ∷ []) claim, suc since)) (loud_case front two doing claim g loud))
 
@@ -358,9 +359,9 @@ module _ (laws : Laws) (R image : List ℕ) (held rom : ℕ → ℕ) (start : �
       abbrev due : ℕ
       due = end_cells.due
 
-      timed : Timed R held rom start (length list) calm then_calm due × (then_calm ≤ calm + 2 * length list) × (length list ≤ 6)
+      timed : Timed R held rom (length list) calm then_calm due × (then_calm ≤ calm + 2 * length list) × (length list ≤ 6)
       timed =
-          let t = timely R held rom start list older cells work calm doing.fits doing.given doing.asked in
+          let t = timely R held rom list older cells work calm doing.fits doing.given doing.asked in
           let six = at_most (instr_of cpu) in
           (t.timed free, t.bound, omega (arith, six, count))
 
@@ -372,7 +373,7 @@ module _ (laws : Laws) (R image : List ℕ) (held rom : ℕ → ℕ) (start : �
       time_then : IsTime (suc since) then_calm
       time_then = by timed.0 time
         where
-          by : Timed R held rom start (length list) calm then_calm due → IsTime since calm → IsTime (suc since) then_calm
+          by : Timed R held rom (length list) calm then_calm due → IsTime since calm → IsTime (suc since) then_calm
           by (inr rose) time = inl (late_by rose.0 time)
           by (inl none) (inl late) = inl (omega (arith, late))
           by (inl none) (inr close) = let bound = timed.1 in let six = timed.2 in inr (omega (arith, close, bound, six))
@@ -380,7 +381,7 @@ module _ (laws : Laws) (R image : List ℕ) (held rom : ℕ → ℕ) (start : �
       late_then : due ≡ 1 → (860 ≤ suc since) × (then_calm ≤ 12)
       late_then is = by timed.0
         where
-          by : Timed R held rom start (length list) calm then_calm due → (860 ≤ suc since) × (then_calm ≤ 12)
+          by : Timed R held rom (length list) calm then_calm due → (860 ≤ suc since) × (then_calm ≤ 12)
           by (inl none) = absurd (omega (arith, is, none))
           by (inr rose) = let six = timed.2 in let calm_is = rose.1 in (late_by rose.0 time, omega (arith, calm_is, six))
 
@@ -409,10 +410,10 @@ module _ (laws : Laws) (R image : List ℕ) (held rom : ℕ → ℕ) (start : �
             let loaded : IsLoaded rom last.mem = subst (λ (c : Cpu). IsLoaded rom c.mem) (sym same) loaded_so in
             let bytes : AreBytes last = subst AreBytes (sym same)
             (record { a = it.bytes.a; x = it.bytes.x; y = it.bytes.y; s = it.bytes.s; mem = claim.bytes }) in
-            stands last end_older end_cells then_work then_calm (cycles (instr_of last)) [] (doing_then loaded bytes)
-            (starts (Some (turned list claim, since)) boot_most (on_quiet q.0) rests_then
-            (inl (subst (λ p. boots boot_most rom p start ≡ true) (sym pc_is) fine))
-            (omega (arith, pc_is))) (at_least (instr_of last))
+            settle_boot R image held rom start last (Some (turned list claim, since)) boot_most end_older end_cells then_work then_calm
+            (on_quiet q.0) rests_then (inl (subst (λ p. boots boot_most rom p start ≡ true) (sym pc_is) fine))
+            (from_vector last loaded pc_is bytes) (doing_then loaded bytes)
+            (λ is. (late_then is).1)
         | inr loud ↦ absurd (let e = goes_on list claim 0 g loud in cc)
       ]
         where

@@ -12,7 +12,7 @@ pub counts : {A : Type 0} (list : List A) (x : A) → length (list ++ x ∷ []) 
 counts [] x = refl
 counts (y ∷ list) x = ap suc (counts list x)
 
-module _ (R : List ℕ) (held rom : ℕ → ℕ) (start : ℕ) where
+module _ (R : List ℕ) (held rom : ℕ → ℕ) where
   -- the machine after these cycles
   abbrev pub then_at : List Bus → Cells → List Two → Machine
   then_at older cells list = at_rest held (older_after held older cells list) (cells_after held older cells list)
@@ -57,10 +57,10 @@ module _ (R : List ℕ) (held rom : ℕ → ℕ) (start : ℕ) where
         (given.0, more_given list (onward older cells x) (moved older cells x) given.1 one)
 
     pub more_asked : (list : List Two) (older : List Bus) (cells : Cells) (work : ℕ → ℕ) (calm : ℕ)
-        → AreAsked rom start work calm (at_rest held older cells) list
-        → Asked rom start (cells_after held older cells list) (works cells (cycles_of (at_rest held older cells) list) work)
+        → AreAsked rom work calm (at_rest held older cells) list
+        → Asked rom (cells_after held older cells list) (works cells (cycles_of (at_rest held older cells) list) work)
         (calms cells (cycles_of (at_rest held older cells) list) calm) two.second.nmi two.second.m
-        → AreAsked rom start work calm (at_rest held older cells) (list ++ two ∷ [])
+        → AreAsked rom work calm (at_rest held older cells) (list ++ two ∷ [])
     more_asked [] older cells work calm asked one = (one, tt)
     more_asked (x ∷ list) older cells work calm asked one = (
       asked.0,

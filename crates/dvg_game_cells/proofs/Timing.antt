@@ -106,7 +106,7 @@ at_least Resume = omega arith
 at_least Pass = omega arith
 at_least Unknown = omega arith
 
-module _ (R : List ℕ) (held rom : ℕ → ℕ) (start : ℕ) where
+module _ (R : List ℕ) (held rom : ℕ → ℕ) where
   -- no NMI has risen in cycles, and none is due; or one rose, long after the last
   abbrev pub Timed : (length calm calm_then due : ℕ) → Type 0
   Timed n calm calm_then due = (due ≡ 0) ⊎ ((10400 ≤ calm + 2 * n) × (calm_then ≤ 2 * n))
@@ -116,7 +116,7 @@ module _ (R : List ℕ) (held rom : ℕ → ℕ) (start : ℕ) where
     pub timed : old ≡ 0 → Timed n calm calm_then due
 
   pub timely : (list : List Two) (older : List Bus) (cells : Cells) (work : ℕ → ℕ) (calm : ℕ) → AllFit R held older cells
-      → AreGiven R (at_rest held older cells) list → AreAsked rom start work calm (at_rest held older cells) list
+      → AreGiven R (at_rest held older cells) list → AreAsked rom work calm (at_rest held older cells) list
       → Timely (length list) calm (calms cells (cycles_of (at_rest held older cells) list) calm) cells.due
       (cells_after held older cells list).due
   timely [] older cells work calm f given asked = record { bound = omega arith; timed = λ is. inl is }

@@ -123,21 +123,21 @@ module _ (R image : List ℕ) (held rom : ℕ → ℕ) (start : ℕ) where
   module _ (two : Two) where
     pub more_cycles : (list : List Two) (older : List Bus) (cells : Cells)
         → cycles_of (at_rest held older cells) (list ++ two ∷ [])
-        ≡ cycles_of (at_rest held older cells) list ++ cycle_of (then_at R held rom start older cells list) two ∷ []
+        ≡ cycles_of (at_rest held older cells) list ++ cycle_of (then_at R held rom older cells list) two ∷ []
     more_cycles [] older cells = refl
     more_cycles (x ∷ list) older cells =
         ap (λ l. cycle_of (at_rest held older cells) x ∷ l) (more_cycles list (onward older cells x) (moved older cells x))
 
     pub split_given : (list : List Two) (older : List Bus) (cells : Cells) → AreGiven R (at_rest held older cells) (list ++ two ∷ [])
-        → AreGiven R (at_rest held older cells) list × IsGiven R (then_at R held rom start older cells list) two
+        → AreGiven R (at_rest held older cells) list × IsGiven R (then_at R held rom older cells list) two
     split_given [] older cells given = (tt, given.0)
     split_given (x ∷ list) older cells given =
         let rest = split_given list (onward older cells x) (moved older cells x) given.1 in ((given.0, rest.0), rest.1)
 
     pub split_asked : (list : List Two) (older : List Bus) (cells : Cells) (work : ℕ → ℕ) (calm : ℕ)
-        → AreAsked rom start work calm (at_rest held older cells) (list ++ two ∷ [])
-        → AreAsked rom start work calm (at_rest held older cells) list
-        × Asked rom start (cells_after held older cells list) (works cells (cycles_of (at_rest held older cells) list) work)
+        → AreAsked rom work calm (at_rest held older cells) (list ++ two ∷ [])
+        → AreAsked rom work calm (at_rest held older cells) list
+        × Asked rom (cells_after held older cells list) (works cells (cycles_of (at_rest held older cells) list) work)
         (calms cells (cycles_of (at_rest held older cells) list) calm) two.second.nmi two.second.m
     split_asked [] older cells work calm asked = (tt, asked.0)
     split_asked (x ∷ list) older cells work calm asked =
@@ -164,12 +164,12 @@ module _ (R image : List ℕ) (held rom : ℕ → ℕ) (start : ℕ) where
       place = at then_cells
 
       abbrev din : ℕ
-      din = (cycle_of (then_at R held rom start older cells list) two).din
+      din = (cycle_of (then_at R held rom older cells list) two).din
 
-      given : AreGiven R (at_rest held older cells) list × IsGiven R (then_at R held rom start older cells list) two
+      given : AreGiven R (at_rest held older cells) list × IsGiven R (then_at R held rom older cells list) two
       given = split_given two list older cells doing.given
 
-      asked : Asked rom start then_cells (works cells (cycled list) work) (calms cells (cycled list) calm) two.second.nmi two.second.m
+      asked : Asked rom then_cells (works cells (cycled list) work) (calms cells (cycled list) calm) two.second.nmi two.second.m
       asked = (split_asked two list older cells work calm doing.asked).1
 
       fitted : AllFit R held then_older then_cells
@@ -184,8 +184,8 @@ module _ (R image : List ℕ) (held rom : ℕ → ℕ) (start : ℕ) where
           ∙ ap (λ (m : ℕ → ℕ). m (0x4000 + a)) (tame_writes (made cells (cycled list) []) cpu.mem tame)
 
       in_tame : IsTame place → din ≡ cpu.mem place
-      in_tame t = ap (λ o. mux o (q (between (then_at R held rom start older cells list) two).board
-          (second_bus (then_at R held rom start older cells list) two)) two.second.m) (off_board place t)
+      in_tame t = ap (λ o. mux o (q (between (then_at R held rom older cells list) two).board
+          (second_bus (then_at R held rom older cells list) two)) two.second.m) (off_board place t)
           ∙ tame_byte rom (works cells (cycled list) work) place two.second.m cpu.mem
           (asked.finds (eqb-true (write then_cells) 0 reading)) t lows doing.shares.loaded
 
@@ -226,11 +226,11 @@ module _ (R image : List ℕ) (held rom : ℕ → ℕ) (start : ℕ) where
           by_low (inr high) = by_ram high (is_ram place) refl
 
       din_in : din < 256
-      din_in = mux_in (on_board place) (q (between (then_at R held rom start older cells list) two).board
-          (second_bus (then_at R held rom start older cells list) two)) two.second.m 256
-          (q_in (after held (first_bus (then_at R held rom start older cells list) two ∷ then_older))
-          (second_bus (then_at R held rom start older cells list) two)
-          (board_fits (after held then_older) (first_bus (then_at R held rom start older cells list) two) fitted.of_board
+      din_in = mux_in (on_board place) (q (between (then_at R held rom older cells list) two).board
+          (second_bus (then_at R held rom older cells list) two)) two.second.m 256
+          (q_in (after held (first_bus (then_at R held rom older cells list) two ∷ then_older))
+          (second_bus (then_at R held rom older cells list) two)
+          (board_fits (after held then_older) (first_bus (then_at R held rom older cells list) two) fitted.of_board
           (first_is R held then_older then_cells two fitted given.1).d)) given.1.m
 
       -- all that stands outside may have turned
@@ -265,8 +265,8 @@ module _ (R image : List ℕ) (held rom : ℕ → ℕ) (start : ℕ) where
 
       all_answered : AreAnswered turned_cpu cells (cycled (list ++ two ∷ []))
       all_answered = subst (λ l. AreAnswered turned_cpu cells l) (sym (more_cycles two list older cells))
-          (answered_both turned_cpu (cycled list) (cycle_of (then_at R held rom start older cells list) two ∷ []) cells
-          (tame_answered R held rom start list older cells work calm turned_cpu doing.fits given.0
+          (answered_both turned_cpu (cycled list) (cycle_of (then_at R held rom older cells list) two ∷ []) cells
+          (tame_answered R held rom list older cells work calm turned_cpu doing.fits given.0
           (split_asked two list older cells work calm doing.asked).0
           (λ b less. turned_so (nat_eq place 0x2002) refl b (low_inside b less) ∙ doing.shares.low b less)
           (λ b low high. turned_so (nat_eq place 0x2002) refl b (code_inside b low high) ∙ doing.shares.loaded b low high) tame)
@@ -411,8 +411,8 @@ module _ (R image : List ℕ) (held rom : ℕ → ℕ) (start : ℕ) where
             small = claim.small;
             answered = subst (λ l. AreAnswered (as_turned list claim) cells l) (sym (more_cycles two list older cells))
                 (answered_both (as_turned list claim) (cycled list)
-                (cycle_of (then_at R held rom start older cells list) two ∷ []) cells claim.answered (
-                  subst (λ w. Where w ((cycle_of (then_at R held rom start older cells list) two).din
+                (cycle_of (then_at R held rom older cells list) two ∷ []) cells claim.answered (
+                  subst (λ w. Where w ((cycle_of (then_at R held rom older cells list) two).din
                       ≡ found (at (cells_after held older cells list)) (as_turned list claim))) (sym writing) tt,
                   tt,
                 ));
@@ -444,7 +444,7 @@ module _ (R image : List ℕ) (held rom : ℕ → ℕ) (start : ℕ) where
           front_given (x ∷ l) r b c given = (given.0, front_given l r (onward b c x) (moved b c x) given.1)
 
           front_asked : (l r : List Two) (b : List Bus) (c : Cells) (w : ℕ → ℕ) (k : ℕ)
-              → AreAsked rom start w k (at_rest held b c) (l ++ r) → AreAsked rom start w k (at_rest held b c) l
+              → AreAsked rom w k (at_rest held b c) (l ++ r) → AreAsked rom w k (at_rest held b c) l
           front_asked [] r b c w k asked = tt
           front_asked (x ∷ l) r b c w k asked = (
             asked.0,

@@ -29,8 +29,10 @@ use Rattle.dvg_game_6502.specs.Play
 use Rattle.dvg_game_6502.specs.Play.{AreBytes, fresh}
 use Rattle.dvg_game_board.specs.Cabinet.{IsCabinet, nmi, turns}
 use Rattle.dvg_game_board.proofs.Sharing.{Laws}
-use Rattle.dvg_game_cells.proofs.Doing.{Asked, AreAsked, Doing, calm_in, calms, works, wrote, stands, starts}
-use Rattle.dvg_game_cells.proofs.Ends.{Done, Half, settle, split_served, works_in}
+use Rattle.dvg_game_cells.specs.Keeps.{from_vector}
+use Rattle.dvg_game_cells.proofs.Answering.{InRom}
+use Rattle.dvg_game_cells.proofs.Doing.{Asked, AreAsked, Doing, calm_in, calms, works, wrote}
+use Rattle.dvg_game_cells.proofs.Ends.{Done, Half, settle, settle_boot, split_served, works_in}
 use Rattle.dvg_game_cells.proofs.Known.{Known, known}
 use Rattle.dvg_game_cells.proofs.Memory.{low_after, ram_after}
 use Rattle.dvg_game_cells.proofs.Snoc.{counts, then_at}
@@ -137,7 +139,7 @@ reset_amid cpu ir low high back was due (a ∷ b ∷ list) less = absurd (omega 
 module _ (R image : List ℕ) (held rom : ℕ → ℕ) (start : ℕ) where
   high_answered : (list : List Two) (older : List Bus) (cells : Cells) (work : ℕ → ℕ) (calm : ℕ) (k : Cpu)
       → AllFit R held older cells → AreGiven R (at_rest held older cells) list
-      → AreAsked rom start work calm (at_rest held older cells) list
+      → AreAsked rom work calm (at_rest held older cells) list
       → ((b : ℕ) → 0xFFFA ≤ b → k.mem b ≡ rom (b - 0x8000))
       → AreHigh (made cells (cycles_of (at_rest held older cells) list) [])
       → AreAnswered k cells (cycles_of (at_rest held older cells) list)
@@ -155,7 +157,7 @@ module _ (R image : List ℕ) (held rom : ℕ → ℕ) (start : ℕ) where
     where
       by : (w : Bool) → nat_eq (write cells) 0 ≡ w
           → AreHigh ((if w then Reads (at cells) (cycle_of (at_rest held older cells) two).din else Writes (at cells) (dout cells)) ∷ [])
-          → Asked rom start cells work calm two.second.nmi two.second.m → at cells < 65536
+          → Asked rom cells work calm two.second.nmi two.second.m → at cells < 65536
           → Where w ((cycle_of (at_rest held older cells) two).din ≡ found (at cells) k)
       by false e high ask small = tt
       by true e high ask small =
@@ -180,9 +182,9 @@ module _ (R image : List ℕ) (held rom : ℕ → ℕ) (start : ℕ) where
         → AreQuiet (made cells (cycled (list ++ two ∷ [])) []) → Half R image held rom start older cells list two
     half_quiet spot on list two doing quiet =
         let then_cells = cells_after held older cells list in
-        let din = (cycle_of (then_at R held rom start older cells list) two).din in
+        let din = (cycle_of (then_at R held rom older cells list) two).din in
         let made_is = ap (λ l. made cells l []) (more_cycles R image held rom start two list older cells)
-        ∙ made_both (cycled list) (cycle_of (then_at R held rom start older cells list) two ∷ []) cells [] in
+        ∙ made_both (cycled list) (cycle_of (then_at R held rom older cells list) two ∷ []) cells [] in
         let both = write_both IsQuiet (access then_cells din ∷ []) (made cells (cycled list) []) (subst AreQuiet made_is quiet) in
         let served = split_served R image held rom start two list older cells
         (served_of R held (list ++ two ∷ []) older cells doing.fits doing.given).0 in (
@@ -221,28 +223,32 @@ module _ (R image : List ℕ) (held rom : ℕ → ℕ) (start : ℕ) where
     }
 
     -- the ROM's vectors stand at the top, too
-    abbrev with_vectors : ℕ → ℕ
+    abbrev pub with_vectors : ℕ → ℕ
     with_vectors b = if nat_le 0xFFFA b then rom (b - 0x8000) else cpu.mem b
 
-    vectors_turn : IsTurned cpu.mem with_vectors
+    pub vectors_turn : IsTurned cpu.mem with_vectors
     vectors_turn b is = by (nat_le 0xFFFA b) refl
       where
         by : (t : Bool) → nat_le 0xFFFA b ≡ t → (if t then rom (b - 0x8000) else cpu.mem b) ≡ cpu.mem b
         by true e = let out = high_outside b (leb-true 0xFFFA b e) in absurd (let x = sym is ∙ out in cc)
         by false e = refl
 
-    vectors_in : (byte : (b : ℕ) → cpu.mem b < 256) → ((b : ℕ) → rom b < 256) → (b : ℕ) → with_vectors b < 256
+    pub vectors_in : (byte : (b : ℕ) → cpu.mem b < 256) → ((b : ℕ) → rom b < 256) → (b : ℕ) → with_vectors b < 256
     vectors_in byte rom_in b = by (nat_le 0xFFFA b)
       where
         by : (t : Bool) → (if t then rom (b - 0x8000) else cpu.mem b) < 256
         by true = rom_in (b - 0x8000)
         by false = byte b
 
-    vectors_are : (b : ℕ) → 0xFFFA ≤ b → with_vectors b ≡ rom (b - 0x8000)
+    pub vectors_are : (b : ℕ) → 0xFFFA ≤ b → with_vectors b ≡ rom (b - 0x8000)
     vectors_are b high = ap (λ t. if t then rom (b - 0x8000) else cpu.mem b) (le-leb 0xFFFA b high)
 
     abbrev k : Cpu
     k = fresh (λ n. 0) (changed with_vectors cpu)
+
+    -- where an NMI begins
+    abbrev pub entered : Cpu
+    entered = Play.interrupted (changed with_vectors cpu)
 
     holds_k : Holds cells cpu → Holds cells k
     holds_k holds = record {
@@ -260,7 +266,7 @@ module _ (R image : List ℕ) (held rom : ℕ → ℕ) (start : ℕ) where
     }
 
     -- a reset
-    module _ (holds : Holds cells cpu) (begin : cells.state ≡ 0) where
+    module _ (holds : Holds cells cpu) (begin : cells.state ≡ 0) (none : cells.due ≡ 0) where
       reset_so : (list : List Two) → length list ≤ 2
           → AreQuiet (made cells (cycled list) []) × AreHigh (made cells (cycled list) [])
       reset_so list less =
@@ -295,65 +301,65 @@ module _ (R image : List ℕ) (held rom : ℕ → ℕ) (start : ℕ) where
           let bytes : AreBytes (restarted k) =
           record { a = old.a; x = old.x; y = old.y; s = lit< tt; mem = vectors_in old.mem doing.rom_in } in
           let fine = (both_true (stand_at code rom 0x6800) _ (both_true (accepts_game rom start game.notes) _ game.yes).1).1 in
-          stands (restarted k) (older_after held older cells list) (cells_after held older cells list)
-          (works cells (cycled list) work) (calms cells (cycled list) calm) (cycles (instr_of (restarted k))) []
+          settle_boot R image held rom start (restarted k) spot boot_most (older_after held older cells list)
+          (cells_after held older cells list) (works cells (cycled list) work) (calms cells (cycled list) calm)
+          (all_quiet spot on list doing so.0) g.rests (inl fine)
+          (from_vector (restarted k) loaded pc_is bytes)
           (doing_next list doing (restarted k) with_vectors vectors_turn (sym (ap (λ l. after_writes l with_vectors) g.bus)) loaded bytes)
-          (starts spot boot_most (all_quiet spot on list doing so.0) g.rests (inl fine) (omega arith))
-          (at_least (instr_of (restarted k)))
+          (λ due. close due ((timely R held rom list older cells work calm doing.fits doing.given doing.asked).timed none))
+        where
+          close : (cells_after held older cells list).due ≡ 1
+              → Timed R held rom (length list) calm (calms cells (cycled list) calm) (cells_after held older cells list).due
+              → calms cells (cycled list) calm ≤ 12
+          close due (inl is) = absurd (omega (arith, due, is))
+          close due (inr rose) = let long = rose.1 in omega (arith, long, count)
 
     -- an NMI
-    module _ (laws : Laws) (game : IsAccepted rom start) (brought : Brought R (bearing.on_board laws R image held) rom start)
-        (since : ℕ) (on : On (Some (cpu, since)) older) (rests : Rests cells cpu) (due : cells.due ≡ 1) (late : 860 ≤ since)
-        (close : calm ≤ 12) where
-      it : Known rom cpu
-      it = known laws R image held rom start game brought cpu since older on
-
+    module _ (in_rom : InRom cpu) (bytes : AreBytes cpu) (rests : Rests cells cpu) (due : cells.due ≡ 1) (close : calm ≤ 12) where
       nmi_so : (list : List Two) → length list ≤ 5
           → AreQuiet (made cells (cycled list) []) × AreHigh (made cells (cycled list) [])
       nmi_so list less =
           let e = count_of R image held rom start list older cells in
           subst (λ c. AreQuiet (made c (cycled list) []) × AreHigh (made c (cycled list) []))
           (sym (stands_so 2 cells cpu 1 rests.holds rests.fetches due))
-          (nmi_accesses cpu it.bytes.s cells.ir cells.low cells.high cells.back cells.was (cycled list) (omega (arith, e, less)))
+          (nmi_accesses cpu bytes.s cells.ir cells.low cells.high cells.back cells.was (cycled list) (omega (arith, e, less)))
 
-      pub hears_amid : (list : List Two) → length list < 5 → sync (cells_after held older cells list) ≡ 0
-      hears_amid list less =
+      -- no opcode is read
+      pub nmi_unread : (list : List Two) → length list < 5 → sync (cells_after held older cells list) ≡ 0
+      nmi_unread list less =
           let e = count_of R image held rom start list older cells in
           subst (λ c. sync (ends c (cycled list)) ≡ 0) (sym (stands_so 2 cells cpu 1 rests.holds rests.fetches due))
-          (nmi_amid cpu it.bytes.s cells.ir cells.low cells.high cells.back cells.was (cycled list) (omega (arith, e, less)))
+          (nmi_amid cpu bytes.s cells.ir cells.low cells.high cells.back cells.was (cycled list) (omega (arith, e, less)))
 
-      pub hears_half : (list : List Two) (two : Two) → length list < 5
+      pub nmi_half : (spot : Option (Cpu × ℕ)) → On spot older → (list : List Two) (two : Two) → length list < 5
           → Does (list ++ two ∷ []) → Half R image held rom start older cells list two
-      hears_half list two less doing =
+      nmi_half spot on list two less doing =
           let e = counts list two in
-          half_quiet (Some (cpu, since)) on list two doing (nmi_so (list ++ two ∷ []) (omega (arith, e, less))).0
-
-      abbrev new : Cpu
-      new = Play.interrupted (changed with_vectors cpu)
+          half_quiet spot on list two doing (nmi_so (list ++ two ∷ []) (omega (arith, e, less))).0
 
       plain : (b : ℕ) → 0x4800 ≤ b → found b k ≡ with_vectors b
       plain b low = ap (λ t. if t then 0 else with_vectors b) (ne_eqb b 0x2002 (λ e. omega (arith, e, low)))
 
       sound : (rom_in : (b : ℕ) → rom b < 256) → IsSound k
-      sound rom_in = let low = it.in_rom.low in let high = it.in_rom.high in record {
-        a = it.bytes.a;
-        x = it.bytes.x;
-        y = it.bytes.y;
-        s = it.bytes.s;
+      sound rom_in = let low = in_rom.low in let high = in_rom.high in record {
+        a = bytes.a;
+        x = bytes.x;
+        y = bytes.y;
+        s = bytes.s;
         pc = omega (arith, high);
-        bytes = vectors_in it.bytes.mem rom_in;
+        bytes = vectors_in bytes.mem rom_in;
         flags = lit< tt;
         here = plain cpu.pc low;
         first = plain (cpu.pc + 1) (omega (arith, low));
         second = plain (cpu.pc + 2) (omega (arith, low));
       }
 
-      vector : rom 0x7FFA + 256 * rom 0x7FFB ≡ cpu.mem 0x7FFA + 256 * cpu.mem 0x7FFB
-      vector = ap (λ b. b + 256 * rom 0x7FFB) (sym (it.loaded 0x7FFA (lit≤ tt) (lit< tt)))
-          ∙ ap (λ b. cpu.mem 0x7FFA + 256 * b) (sym (it.loaded 0x7FFB (lit≤ tt) (lit< tt)))
+      vector : IsLoaded rom cpu.mem → rom 0x7FFA + 256 * rom 0x7FFB ≡ cpu.mem 0x7FFA + 256 * cpu.mem 0x7FFB
+      vector loaded = ap (λ b. b + 256 * rom 0x7FFB) (sym (loaded 0x7FFA (lit≤ tt) (lit< tt)))
+          ∙ ap (λ b. cpu.mem 0x7FFA + 256 * b) (sym (loaded 0x7FFB (lit≤ tt) (lit< tt)))
 
       -- another one doesn't rise meanwhile
-      nmi_time : (list : List Two) → length list ≡ 5 → Does list → ((cells_after held older cells list).due ≡ 0)
+      pub nmi_time : (list : List Two) → length list ≡ 5 → Does list → ((cells_after held older cells list).due ≡ 0)
           × (calms cells (cycled list) calm ≤ 22)
       nmi_time [] count doing = absurd (omega (arith, count))
       nmi_time (two ∷ list) count doing = by (nat_eq (cycle_of (at_rest held older cells) two).nmi 1 && nat_eq cells.was 0) refl
@@ -361,10 +367,10 @@ module _ (R image : List ℕ) (held rom : ℕ → ℕ) (start : ℕ) where
           cycle : Cycle
           cycle = cycle_of (at_rest held older cells) two
 
-          rest : Timely R held rom start (length list) (calm_in cells (cycle_of (at_rest held older cells) two) calm)
+          rest : Timely R held rom (length list) (calm_in cells (cycle_of (at_rest held older cells) two) calm)
               (calms cells (cycled (two ∷ list)) calm) (clock cells (pins_of (cycle_of (at_rest held older cells) two))).due
               (cells_after held older cells (two ∷ list)).due
-          rest = timely R held rom start list
+          rest = timely R held rom list
               (second_bus (at_rest held older cells) two ∷ first_bus (at_rest held older cells) two ∷ older)
               (clock cells (pins_of (cycle_of (at_rest held older cells) two))) (wrote cells work)
               (calm_in cells (cycle_of (at_rest held older cells) two) calm)
@@ -388,42 +394,64 @@ module _ (R image : List ℕ) (held rom : ℕ → ℕ) (start : ℕ) where
               (only now (rest.timed none), omega (arith, bound, now, long, close))
             where
               only : calm_in cells (cycle_of (at_rest held older cells) two) calm ≡ suc (suc calm)
-                  → Timed R held rom start (length list) (calm_in cells (cycle_of (at_rest held older cells) two) calm)
+                  → Timed R held rom (length list) (calm_in cells (cycle_of (at_rest held older cells) two) calm)
                   (calms cells (cycled (two ∷ list)) calm) (cells_after held older cells (two ∷ list)).due
                   → (cells_after held older cells (two ∷ list)).due ≡ 0
               only now (inl is) = is
               only now (inr rose) = let a = rose.0 in let long = four in absurd (omega (arith, a, now, long, close))
 
-      pub hears_done : (list : List Two) → length list ≡ 5 → Does list
-          → Done R image held rom start cpu older cells work calm list
-      hears_done list count doing =
+      -- all of it
+      pub nmi_done : (list : List Two) → length list ≡ 5 → Does list → Rests (cells_after held older cells list) entered
+          × (entered.mem ≡ after_writes (made cells (cycled list) []) with_vectors) × AreQuiet (made cells (cycled list) [])
+      nmi_done list count doing =
           let so = nmi_so list (omega (arith, count)) in
           let e = count_of R image held rom start list older cells in
           let g = interrupts k cells (cycled list) (sound doing.rom_in) (record { holds = holds_k rests.holds; fetches = rests.fetches }) due (e ∙ count)
-          (high_answered list older cells work calm k doing.fits doing.given doing.asked vectors_are so.1) in
+          (high_answered list older cells work calm k doing.fits doing.given doing.asked vectors_are so.1) in (
+            record {
+              holds = record {
+                a = g.rests.holds.a;
+                x = g.rests.holds.x;
+                y = g.rests.holds.y;
+                s = g.rests.holds.s;
+                pc = g.rests.holds.pc ∙ vector doing.shares.loaded;
+                n = g.rests.holds.n;
+                z = g.rests.holds.z;
+                c = g.rests.holds.c;
+                v = g.rests.holds.v;
+                d = g.rests.holds.d;
+                i = g.rests.holds.i;
+              };
+              fetches = g.rests.fetches;
+            },
+            g.memory ∙ sym (ap (λ l. after_writes l with_vectors) g.bus),
+            so.0,
+          )
+
+    -- and one of a game
+    module _ (laws : Laws) (game : IsAccepted rom start) (brought : Brought R (bearing.on_board laws R image held) rom start)
+        (since : ℕ) (on : On (Some (cpu, since)) older) (rests : Rests cells cpu) (due : cells.due ≡ 1) (late : 860 ≤ since)
+        (close : calm ≤ 12) where
+      it : Known rom cpu
+      it = known laws R image held rom start game brought cpu since older on
+
+      pub hears_amid : (list : List Two) → length list < 5 → sync (cells_after held older cells list) ≡ 0
+      hears_amid = nmi_unread it.in_rom it.bytes rests due close
+
+      pub hears_half : (list : List Two) (two : Two) → length list < 5
+          → Does (list ++ two ∷ []) → Half R image held rom start older cells list two
+      hears_half = nmi_half it.in_rom it.bytes rests due close (Some (cpu, since)) on
+
+      pub hears_done : (list : List Two) → length list ≡ 5 → Does list
+          → Done R image held rom start cpu older cells work calm list
+      hears_done list count doing =
+          let g = nmi_done it.in_rom it.bytes rests due close list count doing in
           let on_turned = turns with_vectors on (vectors_in it.bytes.mem doing.rom_in) vectors_turn in
-          let on_new = nmi (all_quiet (Some (changed with_vectors cpu, since)) on_turned list doing so.0) late in
-          let it_then = known laws R image held rom start game brought new 0 (older_after held older cells list) on_new in
-          let time = nmi_time list count doing in
-          settle R image held rom start new 0 (older_after held older cells list) (cells_after held older cells list)
-          (works cells (cycled list) work) (calms cells (cycled list) calm) on_new
-          (record {
-            holds = record {
-              a = g.rests.holds.a;
-              x = g.rests.holds.x;
-              y = g.rests.holds.y;
-              s = g.rests.holds.s;
-              pc = g.rests.holds.pc ∙ vector;
-              n = g.rests.holds.n;
-              z = g.rests.holds.z;
-              c = g.rests.holds.c;
-              v = g.rests.holds.v;
-              d = g.rests.holds.d;
-              i = g.rests.holds.i;
-            };
-            fetches = g.rests.fetches;
-          })
-          (doing_next list doing new with_vectors vectors_turn
-          (g.memory ∙ sym (ap (λ l. after_writes l with_vectors) g.bus)) it_then.loaded it_then.bytes)
+          let on_new = nmi (all_quiet (Some (changed with_vectors cpu, since)) on_turned list doing g.2) late in
+          let it_then = known laws R image held rom start game brought entered 0 (older_after held older cells list) on_new in
+          let time = nmi_time it.in_rom it.bytes rests due close list count doing in
+          settle R image held rom start entered 0 (older_after held older cells list) (cells_after held older cells list)
+          (works cells (cycled list) work) (calms cells (cycled list) calm) on_new g.0
+          (doing_next list doing entered with_vectors vectors_turn g.1 it_then.loaded it_then.bytes)
           (λ none. let bound = time.1 in inr (omega (arith, bound)))
           (λ some. let none = time.0 in absurd (omega (arith, some, none)))

@@ -29,11 +29,12 @@ use Rattle.dvg_calls_board.specs.Machine.{OfEachMachine}
 use Rattle.dvg_game_board.specs.Cabinet.{IsCabinet, powers, resets, AreAlike, DrawAlike, none, same, elsewhere}
 use Rattle.dvg_game_board.specs.Keeps.{GamesKeep, Keeps, VectorsKeep}
 use Rattle.dvg_game_board.proofs.Sharing.{Laws}
-use Rattle.dvg_game_cells.specs.Whole.{IsDriven, IsWhole, Finds, calm_after, is_booting, work_after}
+use Rattle.dvg_game_cells.specs.Whole.{IsDriven, IsWhole, Finds, calm_after, work_after}
 use Rattle.dvg_game_cells.specs.Whole as whole
-use Rattle.dvg_game_cells.specs.Keeps.{CellsKeep, GamesOnCellsKeep, StandAt, VectorsOnCellsKeep}
+use Rattle.dvg_game_cells.specs.Keeps.{AreBooting, CellsKeep, GamesOnCellsKeep, StandAt, VectorsOnCellsKeep}
 use Rattle.dvg_game_cells.proofs.Walks.{second_half}
-use Rattle.dvg_game_cells.proofs.Doing.{Asked, Doing, Stand, Task, calm_in, calms, works, wrote, stands, wakes, starts, plays, hears}
+use Rattle.dvg_game_cells.proofs.Doing.{Asked, Doing, Shares, Stand, Task, calm_in, calms, works, wrote, stands, wakes, starts, breaks, handles}
+use Rattle.dvg_game_cells.proofs.Doing.{plays, hears}
 use Rattle.dvg_game_cells.proofs.Fresh.{fresh_cpu, fresh_holds, fresh_shares}
 use Rattle.dvg_game_cells.proofs.Boots as booting
 use Rattle.dvg_game_cells.proofs.Plays as playing
@@ -56,7 +57,7 @@ module _ (laws : Laws) (R image : List ℕ) (held rom : ℕ → ℕ) (start : �
   On spot clocks = IsCabinet R image held rom start spot clocks
 
   abbrev Asks : Machine → (ℕ → ℕ) → ℕ → Pins → Type 0
-  Asks machine work calm pins = IsDriven R rom start machine work calm pins
+  Asks machine work calm pins = IsDriven R rom machine work calm pins
 
   served_by : {machine : Machine} {work : ℕ → ℕ} {calm : ℕ} {pins : Pins} → Asks machine work calm pins
       → IsServed R machine.board (drives_board machine pins)
@@ -73,10 +74,14 @@ module _ (laws : Laws) (R image : List ℕ) (held rom : ℕ → ℕ) (start : �
       → Task R image held rom start cpu older cells calm n → (list : List Two) (two : Two) → length list < n
       → Doing R image held rom start cpu older cells work calm (list ++ two ∷ [])
       → Half R image held rom start older cells list two
-  half cpu older cells work calm (wakes spot on holds begin) list two less doing =
-      vectors.wakes_half R image held rom start cpu older cells work calm holds begin spot on list two less doing
-  half cpu older cells work calm (starts spot left on rests fine from) list two less doing =
-      booting.starts_half R image held rom start cpu older cells work calm rests spot left on fine from list two less doing
+  half cpu older cells work calm (wakes spot on holds begin free) list two less doing =
+      vectors.wakes_half R image held rom start cpu older cells work calm holds begin free spot on list two less doing
+  half cpu older cells work calm (starts spot left on rests boots boot free) list two less doing =
+      booting.starts_half R image held rom start cpu older cells work calm rests spot left on boots boot free list two less doing
+  half cpu older cells work calm (breaks spot left on rests boots boot due close) list two less doing =
+      booting.breaks_half R image held rom start cpu older cells work calm rests spot left on boots boot due close list two less doing
+  half cpu older cells work calm (handles spot left on rests back since boots early boot free close) list two less doing =
+      booting.handles_half R image held rom start cpu older cells work calm rests spot left on back since boots early boot free close list two less doing
   half cpu older cells work calm (plays since on rests free time) list two less doing =
       playing.plays_half laws R image held rom start game brought cpu older cells work calm since on rests free list two less doing
   half cpu older cells work calm (hears since on rests due late calm_is) list two less doing =
@@ -86,10 +91,14 @@ module _ (laws : Laws) (R image : List ℕ) (held rom : ℕ → ℕ) (start : �
       → Task R image held rom start cpu older cells calm n → (list : List Two) → length list ≡ n
       → Doing R image held rom start cpu older cells work calm list
       → Done R image held rom start cpu older cells work calm list
-  done cpu older cells work calm (wakes spot on holds begin) list count doing =
-      vectors.wakes_done R image held rom start cpu older cells work calm holds begin game spot on list count doing
-  done cpu older cells work calm (starts spot left on rests fine from) list count doing =
-      booting.starts_done R image held rom start cpu older cells work calm rests spot left on fine from list count doing
+  done cpu older cells work calm (wakes spot on holds begin free) list count doing =
+      vectors.wakes_done R image held rom start cpu older cells work calm holds begin free game spot on list count doing
+  done cpu older cells work calm (starts spot left on rests boots boot free) list count doing =
+      booting.starts_done R image held rom start cpu older cells work calm rests spot left on boots boot free list count doing
+  done cpu older cells work calm (breaks spot left on rests boots boot due close) list count doing =
+      booting.breaks_done R image held rom start cpu older cells work calm rests spot left on boots boot due close game list count doing
+  done cpu older cells work calm (handles spot left on rests back since boots early boot free close) list count doing =
+      booting.handles_done R image held rom start cpu older cells work calm rests spot left on back since boots early boot free close list count doing
   done cpu older cells work calm (plays since on rests free time) list count doing =
       playing.plays_done laws R image held rom start game brought cpu older cells work calm since on rests free time list count doing
   done cpu older cells work calm (hears since on rests due late calm_is) list count doing =
@@ -99,46 +108,58 @@ module _ (laws : Laws) (R image : List ℕ) (held rom : ℕ → ℕ) (start : �
   amid_task : (cpu : Cpu) (older : List Bus) (cells : Cells) (work : ℕ → ℕ) (calm : ℕ) {n : ℕ}
       → Task R image held rom start cpu older cells calm n → (list : List Two) → 0 < length list → length list < n
       → Doing R image held rom start cpu older cells work calm list → sync (cells_after held older cells list) ≡ 0
-  amid_task cpu older cells work calm (wakes spot on holds begin) list some less doing =
-      vectors.wakes_amid R image held rom start cpu older cells work calm holds begin list less
-  amid_task cpu older cells work calm (starts spot left on rests fine from) list some less doing =
-      booting.starts_amid R image held rom start cpu older cells work calm rests left fine from list some less doing
+  amid_task cpu older cells work calm (wakes spot on holds begin free) list some less doing =
+      vectors.wakes_amid R image held rom start cpu older cells work calm holds begin free list less
+  amid_task cpu older cells work calm (starts spot left on rests boots boot free) list some less doing =
+      booting.starts_unread R image held rom start cpu older cells work calm rests spot left on boots boot free list some less doing
+  amid_task cpu older cells work calm (breaks spot left on rests boots boot due close) list some less doing =
+      booting.breaks_unread R image held rom start cpu older cells work calm rests spot left on boots boot due close list less doing.shares
+  amid_task cpu older cells work calm (handles spot left on rests back since boots early boot free close) list some less doing =
+      booting.handles_unread R image held rom start cpu older cells work calm rests spot left on back since boots early boot free close
+      list some less doing
   amid_task cpu older cells work calm (plays since on rests free time) list some less doing =
       playing.plays_amid laws R image held rom start game brought cpu older cells work calm since on rests free list some less doing
   amid_task cpu older cells work calm (hears since on rests due late calm_is) list some less doing =
       vectors.hears_amid R image held rom start cpu older cells work calm laws game brought since on rests due late calm_is list less
 
   abbrev At : Cells → List Bus → Type 0
-  At cells clocks = (spot : Option (Cpu × ℕ)) × On spot clocks × StandAt cells spot
+  At cells clocks = (spot : Option (Cpu × ℕ)) × On spot clocks × (StandAt cells spot ⊎ AreBooting rom start cells)
 
   not_both : (level : ℕ) → level ≡ 1 → level ≡ 0 → ⊥
   not_both level high low = let e = sym low ∙ high in cc
 
-  -- where one is read, behind the boot code, the cells have the registers of the processor
+  -- where one is read, the cells have the registers of the processor
   at_task : (cpu : Cpu) (older : List Bus) (cells : Cells) (work : ℕ → ℕ) (calm : ℕ) {n : ℕ}
-      → Task R image held rom start cpu older cells calm n → sync cells ≡ 1 → is_booting rom start cells ≡ false → At cells older
-  at_task cpu older cells work calm (wakes spot on holds begin) high out =
+      → Task R image held rom start cpu older cells calm n → Shares R image held rom start cpu work older → sync cells ≡ 1
+      → At cells older
+  at_task cpu older cells work calm (wakes spot on holds begin free) shares high =
       absurd (not_both (sync cells) high
-      (vectors.wakes_amid R image held rom start cpu older cells work calm holds begin [] (omega arith)))
-  at_task cpu older cells work calm (starts spot left on rests fine from) high out =
-      let boots = booting.boots_so R image held rom start cpu older cells work calm rests left fine from in
-      absurd (let e = sym boots ∙ out in cc)
-  at_task cpu older cells work calm (plays since on rests free time) high out = (Some (cpu, since), on, rests.holds)
-  at_task cpu older cells work calm (hears since on rests due late calm_is) high out =
+      (vectors.wakes_amid R image held rom start cpu older cells work calm holds begin free [] (omega arith)))
+  at_task cpu older cells work calm (starts spot left on rests boots boot free) shares high =
+      (spot, on, inr (cpu, boot, rests.holds))
+  at_task cpu older cells work calm (breaks spot left on rests boots boot due close) shares high =
+      absurd (not_both (sync cells) high (booting.breaks_unread R image held rom start cpu older cells work calm rests spot left on
+      boots boot due close [] (omega arith) shares))
+  at_task cpu older cells work calm (handles spot left on rests back since boots early boot free close) shares high =
+      (spot, on, inr (cpu, boot, rests.holds))
+  at_task cpu older cells work calm (plays since on rests free time) shares high = (Some (cpu, since), on, inl rests.holds)
+  at_task cpu older cells work calm (hears since on rests due late calm_is) shares high =
       absurd (not_both (sync cells) high (vectors.hears_amid R image held rom start cpu older cells work calm laws game brought
       since on rests due late calm_is [] (omega arith)))
 
   at_opcode : {cells : Cells} {work : ℕ → ℕ} {calm : ℕ} {clocks : List Bus} → Standing cells work calm clocks → sync cells ≡ 1
-      → is_booting rom start cells ≡ false → At cells clocks
-  at_opcode (stands cpu older cells work calm n [] doing task short) high out = at_task cpu older cells work calm task high out
-  at_opcode (stands cpu older cells work calm n (two ∷ list) doing task short) high out =
+      → At cells clocks
+  at_opcode (stands cpu older cells work calm n [] doing task short) high = at_task cpu older cells work calm task doing.shares high
+  at_opcode (stands cpu older cells work calm n (two ∷ list) doing task short) high =
       absurd (not_both (sync (cells_after held older cells (two ∷ list))) high
       (amid_task cpu older cells work calm task (two ∷ list) (omega arith) short doing))
 
   at_first : (cpu : Cpu) (older : List Bus) (cells : Cells) (calm : ℕ) {n : ℕ}
       → Task R image held rom start cpu older cells calm n → (spot : Option (Cpu × ℕ)) × On spot older
-  at_first cpu older cells calm (wakes spot on holds begin) = (spot, on)
-  at_first cpu older cells calm (starts spot left on rests fine from) = (spot, on)
+  at_first cpu older cells calm (wakes spot on holds begin free) = (spot, on)
+  at_first cpu older cells calm (starts spot left on rests boots boot free) = (spot, on)
+  at_first cpu older cells calm (breaks spot left on rests boots boot due close) = (spot, on)
+  at_first cpu older cells calm (handles spot left on rests back since boots early boot free close) = (spot, on)
   at_first cpu older cells calm (plays since on rests free time) = (Some (cpu, since), on)
   at_first cpu older cells calm (hears since on rests due late calm_is) = (Some (cpu, since), on)
 
@@ -164,12 +185,12 @@ module _ (laws : Laws) (R image : List ℕ) (held rom : ℕ → ℕ) (start : �
       let parts = served_of R held (list ++ two ∷ []) older cells doing.fits doing.given in
       let served = last_served list older cells parts.0 in (
         first.0,
-        subst (λ k. On first.0 k) (sym (more_older R held rom start two list older cells))
+        subst (λ k. On first.0 k) (sym (more_older R held rom two list older cells))
             (second_half R image held rom start (older_after held older cells list) (cells_after held older cells list) two served first.0 first.1),
       )
     where
       last_served : (l : List Two) (b : List Bus) (c : Cells) → AreServed R (at_rest held b c) (l ++ two ∷ [])
-          → AreServed R (then_at R held rom start b c l) (two ∷ [])
+          → AreServed R (then_at R held rom b c l) (two ∷ [])
       last_served [] b c served = served
       last_served (x ∷ l) b c served =
           last_served l (second_bus (at_rest held b c) x ∷ first_bus (at_rest held b c) x ∷ b)
@@ -202,13 +223,13 @@ module _ (laws : Laws) (R image : List ℕ) (held rom : ℕ → ℕ) (start : �
 
   -- a cycle more
   cycle_on : {cells : Cells} {work : ℕ → ℕ} {calm : ℕ} {clocks : List Bus} → Standing cells work calm clocks → (two : Two)
-      → IsGiven R (at_rest held clocks cells) two → Asked rom start cells work calm two.second.nmi two.second.m
+      → IsGiven R (at_rest held clocks cells) two → Asked rom cells work calm two.second.nmi two.second.m
       → Standing (cpus.clock cells (pins_of (cycle_of (at_rest held clocks cells) two))) (wrote cells work)
       (calm_in cells (cycle_of (at_rest held clocks cells) two) calm)
       (second_bus (at_rest held clocks cells) two ∷ first_bus (at_rest held clocks cells) two ∷ clocks)
   cycle_on (stands cpu older cells work calm n list doing task short) two given asked =
-      moved_to (more_cells R held rom start two list older cells) (more_works R held rom start two list older cells work)
-      (more_calms R held rom start two list older cells calm) (more_older R held rom start two list older cells)
+      moved_to (more_cells R held rom two list older cells) (more_works R held rom two list older cells work)
+      (more_calms R held rom two list older cells calm) (more_older R held rom two list older cells)
       (by (cases_lt (suc (length list)) n))
     where
       more : List Two
@@ -221,8 +242,8 @@ module _ (laws : Laws) (R image : List ℕ) (held rom : ℕ → ℕ) (start : �
         shares = doing.shares;
         work_in = doing.work_in;
         rom_in = doing.rom_in;
-        given = more_given R held rom start two list older cells doing.given given;
-        asked = more_asked R held rom start two list older cells work calm doing.asked asked;
+        given = more_given R held rom two list older cells doing.given given;
+        asked = more_asked R held rom two list older cells work calm doing.asked asked;
       }
 
       by : (suc (length list) < n) ⊎ (n ≤ suc (length list))
@@ -237,7 +258,7 @@ module _ (laws : Laws) (R image : List ℕ) (held rom : ℕ → ℕ) (start : �
 
   -- the first clock of one
   half_on : {cells : Cells} {work : ℕ → ℕ} {calm : ℕ} {clocks : List Bus} → Standing cells work calm clocks → (two : Two)
-      → IsGiven R (at_rest held clocks cells) two → Asked rom start cells work calm two.second.nmi two.second.m
+      → IsGiven R (at_rest held clocks cells) two → Asked rom cells work calm two.second.nmi two.second.m
       → Spot (first_bus (at_rest held clocks cells) two ∷ clocks)
   half_on (stands cpu older cells work calm n list doing task short) two given asked =
       half cpu older cells work calm task list two short (record {
@@ -246,15 +267,15 @@ module _ (laws : Laws) (R image : List ℕ) (held rom : ℕ → ℕ) (start : �
         shares = doing.shares;
         work_in = doing.work_in;
         rom_in = doing.rom_in;
-        given = more_given R held rom start two list older cells doing.given given;
-        asked = more_asked R held rom start two list older cells work calm doing.asked asked;
+        given = more_given R held rom two list older cells doing.given given;
+        asked = more_asked R held rom two list older cells work calm doing.asked asked;
       })
 
   -- a reset begins anew, also that of power-up
   anew : (spot : Option (Cpu × ℕ)) (cells : Cells) (work : ℕ → ℕ) (calm : ℕ) (clocks : List Bus) → On spot clocks → IsRom R
-      → AllFit R held clocks cells → ((a : ℕ) → work a < 256) → ((a : ℕ) → rom a < 256) → cells.state ≡ 0
+      → AllFit R held clocks cells → ((a : ℕ) → work a < 256) → ((a : ℕ) → rom a < 256) → cells.state ≡ 0 → cells.due ≡ 0
       → Standing cells work calm clocks
-  anew spot cells work calm clocks on is_rom fitting work_in rom_in begin =
+  anew spot cells work calm clocks on is_rom fitting work_in rom_in begin free =
       stands (fresh_cpu R image held rom start cells work clocks fitting work_in rom_in) clocks cells work calm 2 [] (record {
         is_rom = is_rom;
         fits = fitting;
@@ -263,7 +284,7 @@ module _ (laws : Laws) (R image : List ℕ) (held rom : ℕ → ℕ) (start : �
         rom_in = rom_in;
         given = tt;
         asked = tt;
-      }) (wakes spot on (fresh_holds R image held rom start cells work clocks fitting work_in rom_in) begin) (omega arith)
+      }) (wakes spot on (fresh_holds R image held rom start cells work clocks fitting work_in rom_in) begin free) (omega arith)
 
   -- between two cycles, or amid one
   data Now : Machine → (ℕ → ℕ) → ℕ → List Bus → Type 0 where
@@ -300,7 +321,7 @@ module _ (laws : Laws) (R image : List ℕ) (held rom : ℕ → ℕ) (start : �
         let bus = reset_bus held clocks cells drive in
         let on = resets bus h.on (reset_is R held clocks cells drive h.fitting asks.nmi asks.vector_rom asks.m) (served_by asks) (refl, refl) refl in
         rests (anew None (clock here (resetting drive)).cpu work (suc calm) (bus ∷ clocks) on h.is_rom
-        (reset_fits R held clocks cells drive h.fitting asks.nmi asks.vector_rom asks.m) h.work_in h.rom_in refl)
+        (reset_fits R held clocks cells drive h.fitting asks.nmi asks.vector_rom asks.m) h.work_in h.rom_in refl refl)
     first_clock (suc (suc n)) drive less asks = absurd (omega (arith, less))
 
     -- what is asked of two clocks is asked of the cycle
@@ -334,12 +355,11 @@ module _ (laws : Laws) (R image : List ℕ) (held rom : ℕ → ℕ) (start : �
 
       asked_by : (reset : ℕ) (second : Drive)
           → Asks middle (work_after here (driven first) work) (calm_after here (driven first) calm) (with_reset reset second)
-          → Asked rom start cells work calm second.nmi second.m
+          → Asked rom cells work calm second.nmi second.m
       asked_by reset second more = record {
         finds = λ is. subst (λ k. Finds rom k (at cells) second.m) (same_work is) (more.answers refl is);
         no_strobe = asks.no_strobe;
         apart = more.apart;
-        boots_alone = asks.boots_alone;
       }
 
       second_clock : (reset : ℕ) (second : Drive) → reset < 2
@@ -359,10 +379,10 @@ module _ (laws : Laws) (R image : List ℕ) (held rom : ℕ → ℕ) (start : �
   tick pins (amid s first driven_so) asks = second_clock s first driven_so pins.reset (drive_of pins) asks.reset asks
 
   now : {machine : Machine} {work : ℕ → ℕ} {calm : ℕ} {clocks : List Bus}
-      → IsWhole R image held rom start machine work calm clocks → Now machine work calm clocks
+      → IsWhole R image held rom machine work calm clocks → Now machine work calm clocks
   now (whole.powers work calm is_rom is_image first held_in work_in rom_in) =
       rests (anew None zeros work calm [] (powers is_rom is_image first) is_rom
-      (record { of_cells = fits.0; of_board = record { read = lit< tt; ran = lit< tt; ram = held_in } }) work_in rom_in refl)
+      (record { of_cells = fits.0; of_board = record { read = lit< tt; ran = lit< tt; ram = held_in } }) work_in rom_in refl refl)
   now (whole.ticks pins on asks) = tick pins (now on) asks
 
   -- a cycle can be ended
@@ -424,14 +444,13 @@ module _ (laws : Laws) (R image : List ℕ) (held rom : ℕ → ℕ) (start : �
     code_high a e = let small = leb-true (suc a) 0x8000 (both_true (nat_le 0x4800 a) (nat_lt a 0x8000) e).1 in
         lt-leb 0xFFFA a (omega (arith, small))
 
-    ends_asked : Asked rom start cells work calm cells.was (answer (at cells))
+    ends_asked : Asked rom cells work calm cells.was (answer (at cells))
     ends_asked = record {
       finds = λ is. let f = finds_by (nat_lt (at cells) 0x200) (nat_le 0x4800 (at cells) && nat_lt (at cells) 0x8000)
           (nat_le 0xFFFA (at cells)) (at cells) (low_code (at cells)) (low_high (at cells)) (code_high (at cells)) (answer (at cells)) refl in
           record { in_work = f.0; in_rom = f.1; vectors = f.2 };
       no_strobe = asks.no_strobe;
       apart = λ rise. absurd (never cells.was (holding s).fitting.of_cells.was rise);
-      boots_alone = asks.boots_alone;
     }
 
     mid : Spot (first_bus (at_rest held clocks cells) ending ∷ clocks)
@@ -442,24 +461,21 @@ module _ (laws : Laws) (R image : List ℕ) (held rom : ℕ → ℕ) (start : �
     spot : Option (Cpu × ℕ)
     on : On spot clocks
     board : machine.board ≡ after held clocks
-    registers : machine.answers ≡ 0 → sync machine.cpu ≡ 1 → is_booting rom start machine.cpu ≡ false → StandAt machine.cpu spot
+    registers : machine.answers ≡ 0 → sync machine.cpu ≡ 1 → StandAt machine.cpu spot ⊎ AreBooting rom start machine.cpu
 
   find : {machine : Machine} {work : ℕ → ℕ} {calm : ℕ} {clocks : List Bus} → Now machine work calm clocks → Found machine clocks
-  find (rests {cells} {work} {calm} {clocks} s) = by (nat_eq (sync cells) 1) refl (is_booting rom start cells) refl
+  find (rests {cells} {work} {calm} {clocks} s) = by (nat_eq (sync cells) 1) refl
     where
-      by : (t : Bool) → nat_eq (sync cells) 1 ≡ t → (b : Bool) → is_booting rom start cells ≡ b → Found (at_rest held clocks cells) clocks
-      by true high false out =
-          let here = at_opcode s (eqb-true (sync cells) 1 high) out in
-          record { spot = here.0; on = here.1; board = refl; registers = λ rest high out. here.2 }
-      by true high true boots =
-          let h = holding s in
-          record { spot = h.spot; on = h.on; board = refl; registers = λ rest high out. absurd (let e = sym boots ∙ out in cc) }
-      by false low b is =
+      by : (t : Bool) → nat_eq (sync cells) 1 ≡ t → Found (at_rest held clocks cells) clocks
+      by true high =
+          let here = at_opcode s (eqb-true (sync cells) 1 high) in
+          record { spot = here.0; on = here.1; board = refl; registers = λ rest high. here.2 }
+      by false low =
           let h = holding s in record {
             spot = h.spot;
             on = h.on;
             board = refl;
-            registers = λ rest high out. absurd (let e = sym low ∙ ap (λ n. nat_eq n 1) high in cc);
+            registers = λ rest high. absurd (let e = sym low ∙ ap (λ n. nat_eq n 1) high in cc);
           }
   find (amid s first asks) =
       let one = mid s first asks in record { spot = one.0; on = one.1; board = refl; registers = λ rest. absurd (cc) }
@@ -468,7 +484,7 @@ module _ (laws : Laws) (R image : List ℕ) (held rom : ℕ → ℕ) (start : �
   of_cabinet : OfEachMachine (λ R image held calls log clocks. HoldsRam image held log clocks)
       → ((spot : Option (Cpu × ℕ)) (clocks : List Bus) → On spot clocks → Keeps R image held clocks)
       → (machine : Machine) (work : ℕ → ℕ) (calm : ℕ) (clocks : List Bus)
-      → IsWhole R image held rom start machine work calm clocks → CellsKeep R image held rom start machine clocks
+      → IsWhole R image held rom machine work calm clocks → CellsKeep R image held rom start machine clocks
   of_cabinet memory keeps machine work calm clocks on =
       let one = find (now on) in
       let kept = keeps one.spot clocks one.on in

@@ -1,5 +1,6 @@
 -- The joined law: what the checker's yes to a ROM says of each run of cells that have it in memory.
-use Rattle.std.specs.Prelude.{◌≡◌, ℕ, true, false, List, Option, Some, None}
+use Rattle.std.specs.Prelude.{◌≡◌, ◌⊎◌, ◌<◌, ℕ, true, false, nat_eq, List, Option, Some, None}
+use Rattle.dvg_calls_6502.specs.Amid.{changed}
 use Rattle.dvg_calls_6502.specs.Processor.{Cpu}
 use Rattle.dvg_calls_6502.specs.Code.{dvg_offer, dvg_pair, dvg_put}
 use Rattle.dvg_cells_board.specs.Board.{Bus}
@@ -8,25 +9,41 @@ use Rattle.dvg_cells_board.specs.Logs.{HoldsRam}
 use Rattle.dvg_cells_cpu.specs.Cpu.{Cpu as Cells}
 use Rattle.dvg_cells_cpu.specs.Refines.{Holds}
 use Rattle.dvg_game_rules.specs.Checker.{Notes, accepts}
+use Rattle.dvg_game_rules.specs.Machine.{IsLoaded, IsTurned, reset_vector, word_at}
 use Rattle.dvg_calls_cells.specs.Machine.{Machine, sync}
 use Rattle.dvg_game_6502.specs.Games.{Content, never_calls}
+use Rattle.dvg_game_6502.specs.Play.{AreBytes, done, interrupted}
 use Rattle.dvg_game_board.specs.Cabinet.{DrawAlike, IsCabinet}
 use Rattle.dvg_game_board.specs.Keeps.{Keeps}
-use Rattle.dvg_game_cells.specs.Whole.{IsWhole, is_booting}
+use Rattle.dvg_game_cells.specs.Whole.{IsWhole}
 
--- the cells have the registers of the processor that stands here
+-- a 6502 by its definition with this ROM, between a reset and the program's start: where the reset's vector leads, with any
+-- registers and any memory but in the ROM; an instruction on, but not from the start; at an NMI; and where switches, coins and
+-- all else outside turn to any bytes
+pub data IsBoot (rom : ℕ → ℕ) (start : ℕ) : Cpu → Type 0 where
+  from_vector : (cpu : Cpu) → IsLoaded rom cpu.mem → cpu.pc ≡ word_at rom reset_vector → AreBytes cpu → IsBoot rom start cpu
+  by_step : {cpu : Cpu} (flags : ℕ → ℕ) → IsBoot rom start cpu → nat_eq cpu.pc start ≡ false → flags 0 < 256
+      → IsBoot rom start (done flags cpu)
+  by_nmi : {cpu : Cpu} → IsBoot rom start cpu → IsBoot rom start (interrupted cpu)
+  by_turn : {cpu : Cpu} (mem : ℕ → ℕ) → IsBoot rom start cpu → ((b : ℕ) → mem b < 256) → IsTurned cpu.mem mem
+      → IsBoot rom start (changed mem cpu)
+
+-- the cells have the registers of the processor that stands here, or of one that boots
 abbrev pub StandAt : Cells → Option (Cpu × ℕ) → Type 0
 StandAt cells None = ⊥
 StandAt cells (Some spot) = Holds cells spot.0
 
+abbrev pub AreBooting : (rom : ℕ → ℕ) → (start : ℕ) → Cells → Type 0
+AreBooting rom start cells = (cpu : Cpu) × IsBoot rom start cpu × Holds cells cpu
+
 -- the cells did what a 6502 by its definition does with this ROM: their clocks of the board are those of a run of it; and in
--- the first clock of a cycle that reads an opcode, behind the boot code, they have its registers. There is a log that these
--- clocks make, as `Keeps` has it; the machine's board is the one of these clocks, and has the core and the RAM of the board
--- that the log is of, whose RAM is what the log says
+-- the first clock of a cycle that reads an opcode they have its registers, or those of one that boots. There is a log that
+-- these clocks make, as `Keeps` has it; the machine's board is the one of these clocks, and has the core and the RAM of the
+-- board that the log is of, whose RAM is what the log says
 pub record CellsKeep (R image : List ℕ) (held rom : ℕ → ℕ) (start : ℕ) (machine : Machine) (clocks : List Bus) : Type 0 where
   pub spot : Option (Cpu × ℕ)
   pub game : IsCabinet R image held rom start spot clocks
-  pub registers : machine.answers ≡ 0 → sync machine ≡ 1 → is_booting rom start machine.cpu ≡ false → StandAt machine.cpu spot
+  pub registers : machine.answers ≡ 0 → sync machine ≡ 1 → StandAt machine.cpu spot ⊎ AreBooting rom start machine.cpu
   pub keeps : Keeps R image held clocks
   pub board : machine.board ≡ after held clocks
   pub draw : DrawAlike machine.board (after held keeps.shown)
@@ -37,7 +54,7 @@ abbrev pub GamesOnCellsKeep : Type 0
 GamesOnCellsKeep = (R image : List ℕ) (held rom : ℕ → ℕ) (start : ℕ) (notes : Notes)
     → accepts rom start notes ≡ true → Content R rom start
     → (machine : Machine) (work : ℕ → ℕ) (calm : ℕ) (clocks : List Bus)
-    → IsWhole R image held rom start machine work calm clocks → CellsKeep R image held rom start machine clocks
+    → IsWhole R image held rom machine work calm clocks → CellsKeep R image held rom start machine clocks
 
 -- and each run of a game that builds its frames by dvg_open, dvg_labs, dvg_vector and dvg_close alone: its bytes say so, and
 -- of what it draws there is no premise
@@ -46,4 +63,4 @@ VectorsOnCellsKeep = (R image : List ℕ) (held rom : ℕ → ℕ) (start : ℕ)
     → accepts rom start notes ≡ true → never_calls rom dvg_offer ≡ true → never_calls rom dvg_put ≡ true
     → never_calls rom dvg_pair ≡ true
     → (machine : Machine) (work : ℕ → ℕ) (calm : ℕ) (clocks : List Bus)
-    → IsWhole R image held rom start machine work calm clocks → CellsKeep R image held rom start machine clocks
+    → IsWhole R image held rom machine work calm clocks → CellsKeep R image held rom start machine clocks

@@ -5,9 +5,7 @@ use Rattle.dvg_mem.specs.Memory.{IsImage, IsRom, first_word}
 use Rattle.dvg_calls_6502.specs.Processor.{put}
 use Rattle.dvg_cells_board.specs.Board.{Bus}
 use Rattle.dvg_cells_core.specs.Cells.{bit}
-use Rattle.dvg_cells_cpu.specs.Cpu.{Cpu as Cells}
 use Rattle.dvg_cells_cpu.specs.Refines.{Where}
-use Rattle.dvg_game_rules.specs.Machine.{word_at, reset_vector}
 use Rattle.dvg_calls_cells.specs.Machine.{Machine, Bus as Pins, powered, clock, access, drives_board}
 use Rattle.dvg_calls_cells.specs.Machine as pin
 
@@ -36,13 +34,8 @@ pub record Finds (rom work : ℕ → ℕ) (a byte : ℕ) : Type 0 where
   pub in_rom : Where (nat_le 0x4800 a && nat_lt a 0x8000) (byte ≡ rom a)
   pub vectors : Where (nat_le 0xFFFA a) (byte ≡ rom (a - 0x8000))
 
--- the program boots: PC is between where the reset's vector leads and where the program starts, behind its TXS
-abbrev pub is_booting : (rom : ℕ → ℕ) → (start : ℕ) → Cells → Bool
-is_booting rom start cells = nat_le (word_at rom reset_vector) cells.pc && nat_lt cells.pc start
-
 -- what is asked of a clock
-pub record IsDriven (R : List ℕ) (rom : ℕ → ℕ) (start : ℕ) (machine : Machine) (work : ℕ → ℕ) (calm : ℕ) (pins : Pins) :
-    Type 0 where
+pub record IsDriven (R : List ℕ) (rom : ℕ → ℕ) (machine : Machine) (work : ℕ → ℕ) (calm : ℕ) (pins : Pins) : Type 0 where
   -- the pins are bits and bytes
   pub reset : pins.reset < 2
   pub nmi : pins.nmi < 2
@@ -58,18 +51,16 @@ pub record IsDriven (R : List ℕ) (rom : ℕ → ℕ) (start : ℕ) (machine : 
   pub no_strobe : pin.write machine ≡ 0 → nat_eq (pin.a machine) 0x3000 ≡ false
   -- an NMI rises 10,400 clocks after the one before, which are 5,200 cycles
   pub apart : rises machine pins ≡ true → 10400 ≤ suc calm
-  -- and none is due while the program boots
-  pub boots_alone : is_booting rom start machine.cpu ≡ true → machine.cpu.due ≡ 0
 
 -- all that may come since power-up: the machine, the work RAM, how many clocks came since `nmi` rose, and the board's clocks,
 -- the newest first
-pub data IsWhole (R image : List ℕ) (held rom : ℕ → ℕ) (start : ℕ) : Machine → (ℕ → ℕ) → ℕ → List Bus → Type 0 where
+pub data IsWhole (R image : List ℕ) (held rom : ℕ → ℕ) : Machine → (ℕ → ℕ) → ℕ → List Bus → Type 0 where
   -- power-up, with any bytes in both RAMs, and bytes in the ROM
   powers : (work : ℕ → ℕ) (calm : ℕ) → IsRom R → IsImage image → ((a : ℕ) → a < 2048 → held a ≡ slice_index image a)
       → ((a : ℕ) → held a < 256) → ((a : ℕ) → work a < 256) → ((a : ℕ) → rom a < 256)
-      → IsWhole R image held rom start (powered held) work calm []
+      → IsWhole R image held rom (powered held) work calm []
   -- a clock more, maybe with a reset
   ticks : {machine : Machine} {work : ℕ → ℕ} {calm : ℕ} {clocks : List Bus} (pins : Pins)
-      → IsWhole R image held rom start machine work calm clocks → IsDriven R rom start machine work calm pins
-      → IsWhole R image held rom start (clock machine pins) (work_after machine pins work)
+      → IsWhole R image held rom machine work calm clocks → IsDriven R rom machine work calm pins
+      → IsWhole R image held rom (clock machine pins) (work_after machine pins work)
       (calm_after machine pins calm) (drives_board machine pins ∷ clocks)

@@ -329,7 +329,7 @@ entering notes nmi fine = by (noted notes nmi) refl fine
         }
 
 -- an NMI comes, at a place of the game, or in the driver
-comes_so : (notes : Notes) (st : State) (choice : Choice) (pc s : ℕ) (stands : Stands notes st pc s)
+pub comes_so : (notes : Notes) (st : State) (choice : Choice) (pc s : ℕ) (stands : Stands notes st pc s)
     → ((st.home ≡ None) × (st.pc ≡ pc) × (st.s ≡ s)) ⊎ (st.home ≡ Some (pc, s)) → st.s ≤ s → spare ≤ st.s
     → (st.blank ≡ true → stands.now.blank ≡ true) → Enters notes (word_at st.mem nmi_vector)
     → Handles notes (interrupted choice st)

@@ -1,5 +1,5 @@
 -- Each step of the NMI leaves what held.
-use Rattle.std.proofs.Common.{suc, ◌-◌, ◌≡◌, ℕ, ◌+◌, ◌%◌, ◌≤◌, inl, inr, Bool, true, false, refl, sym}
+use Rattle.std.proofs.Common.{suc, ◌≡◌, ℕ, ◌+◌, ◌%◌, ◌≤◌, inl, inr, Bool, true, false, refl, sym}
 use Rattle.std.proofs.Common.{◌∙◌}
 use Rattle.std.proofs.Common.{subst, arith, eqb-true}
 use Rattle.std.specs.Prelude.{nat_eq, nat_le, ◌&&◌, ◌||◌, not, if◌then◌else◌, Option, None, Some}
@@ -104,6 +104,22 @@ module _ (rom : ℕ → ℕ) (notes : Notes) (st : State) (loaded : IsLoaded rom
   reset_there : word_at st.mem reset_vector ≡ word_at rom reset_vector
   reset_there = vector rom notes st loaded
 
+  -- it calls no subroutine
+  pub no_call : fine_by Call notes rom st.pc h.now ≡ true → ⊥
+  no_call fine = by (is_driver (word_at rom (st.pc + 1))) fine
+    where
+      to : ℕ
+      to = word_at rom (st.pc + 1)
+
+      by : (t : Bool) → (if t then enters to h.now && leads notes (st.pc + 3)
+          (record h.now { awake = is_reset to || h.now.awake; blank = blank_after to h.now.blank })
+          else nat_le 2 h.now.room
+          && (not (same_level h.now.level Nmi) && (leads notes to (begun (ends_of (noted notes to)) h.now)
+          && leads notes (st.pc + 3) (record h.now { blank = ends_of (noted notes to) })))) ≡ true → ⊥
+      by true fine = not_entered to h.now h.level (both_true (enters to h.now) _ fine).0
+      by false fine = is_nmi h.now.level h.level
+          (both_true (not (same_level h.now.level Nmi)) _ (both_true (nat_le 2 h.now.room) _ fine).1).0
+
   pub nmi_step : (kind : Kind) (choice : Choice) → fine_by kind notes rom st.pc h.now ≡ true
       → restarting kind st ≡ false → Good rom notes (does kind choice (ticked st))
   nmi_step (Quiet sets bytes) choice fine go =
@@ -142,19 +158,7 @@ module _ (rom : ℕ → ℕ) (notes : Notes) (st : State) (loaded : IsLoaded rom
           → Good rom notes (if t then returned (driven to choice (ticked st)) else record (ticked st) { pc = to })
       by true fine = absurd (not_entered to h.now h.level (both_true (enters to h.now) _ fine).0)
       by false fine = nmi_moved _ (jump_moves notes rom choice st h.now loaded nmi_rom nmi_top h.room fine)
-  nmi_step Call choice fine go = absurd (by (is_driver (word_at rom (st.pc + 1))) fine)
-    where
-      to : ℕ
-      to = word_at rom (st.pc + 1)
-
-      by : (t : Bool) → (if t then enters to h.now && leads notes (st.pc + 3)
-          (record h.now { awake = is_reset to || h.now.awake; blank = blank_after to h.now.blank })
-          else nat_le 2 h.now.room
-          && (not (same_level h.now.level Nmi) && (leads notes to (begun (ends_of (noted notes to)) h.now)
-          && leads notes (st.pc + 3) (record h.now { blank = ends_of (noted notes to) })))) ≡ true → ⊥
-      by true fine = not_entered to h.now h.level (both_true (enters to h.now) _ fine).0
-      by false fine = is_nmi h.now.level h.level
-          (both_true (not (same_level h.now.level Nmi)) _ (both_true (nat_le 2 h.now.room) _ fine).1).0
+  nmi_step Call choice fine go = absurd (no_call fine)
   nmi_step Return choice fine go =
       absurd (two_levels h.now.level h.level (both_true (same_level h.now.level Sub) _ fine).0)
   nmi_step Finish choice fine go = record {

@@ -13,6 +13,7 @@ pub mod Whole
 pub mod Between
 pub mod Alike
 pub mod Starting
+pub mod Early
 pub mod Bat
 pub mod First
 pub mod Rocks

@@ -1,5 +1,5 @@
 -- What comes next where all holds is safe.
-use Rattle.std.proofs.Common.{◌-◌, ◌≡◌, ℕ, ◌+◌, ◌*◌, ◌%◌, ◌≤◌, ◌⊎◌, inl, inr, Bool, true, false, refl, sym, ap}
+use Rattle.std.proofs.Common.{◌≡◌, ℕ, ◌+◌, ◌*◌, ◌%◌, ◌≤◌, ◌⊎◌, inl, inr, Bool, true, false, refl, sym, ap}
 use Rattle.std.proofs.Common.{◌∙◌}
 use Rattle.std.proofs.Common.{List, [], ◌∷◌, subst, arith, eqb-true, leb-true}
 use Rattle.std.specs.Prelude.{nat_eq, nat_le, ◌&&◌, ◌||◌, not, if◌then◌else◌, None, Some}
@@ -22,7 +22,18 @@ use Rattle.dvg_game_rules.proofs.Calling.{leads_back, open_call, or_more as or_a
 use Rattle.dvg_game_rules.proofs.Saved.{holds_less}
 use Rattle.dvg_game_rules.proofs.Stepping.{vector}
 use Rattle.dvg_game_rules.proofs.Handling.{two_levels, is_nmi, not_entered, first_there}
-use Rattle.dvg_game_rules.proofs.Handling.{second_there, nmi_low, nmi_word}
+use Rattle.dvg_game_rules.proofs.Handling.{second_there, nmi_low, nmi_word, no_call}
+
+-- what it asks of memory alone, wherever the stack is
+abbrev pub IsBeside : Kind → State → Type 0
+IsBeside (Stores place) st = (index : ℕ) → MayWrite st (address place st.mem st.pc index)
+IsBeside Wild st = ⊥
+IsBeside kind st = Unit {0}
+
+pub beside_of : (kind : Kind) (st : State) → IsSafeBy kind st → IsBeside kind st
+beside_of (Stores place) st safe = safe
+beside_of Wild st safe = safe
+beside_of kind st safe = tt
 
 -- what an NMI came upon, part by part
 abbrev upon : (pc s p a x y : ℕ) → Came
@@ -62,7 +73,7 @@ may st Sub a out outside closed is = one (either (is_free a) _ is)
     one (inr operand) = inr (outside, inl operand)
 may st Nmi a out outside closed is = absurd (out refl)
 
-may_nmi : (st : State) (level : Level) (a : ℕ) → level ≡ Nmi → may_write level a ≡ true → MayWrite st a
+pub may_nmi : (st : State) (level : Level) (a : ℕ) → level ≡ Nmi → may_write level a ≡ true → MayWrite st a
 may_nmi st Main a is fine = absurd (cc)
 may_nmi st Sub a is fine = absurd (cc)
 may_nmi st Nmi a is fine = inl fine
@@ -260,19 +271,7 @@ module _ (rom : ℕ → ℕ) (notes : Notes) (st : State) (loaded : IsLoaded rom
           → InCase t (st.amid ≡ None) (InCase (is_driver to) (IsCalled st to × ComesBack st) (Unit {0}))
       first_by true fine = absurd (is_nmi h.now.level h.level fine)
       first_by false fine = by (is_driver to) fine
-  nmi_safe Call fine = absurd (by (is_driver (word_at rom (st.pc + 1))) fine)
-    where
-      to : ℕ
-      to = word_at rom (st.pc + 1)
-
-      by : (t : Bool) → (if t then enters to h.now && leads notes (st.pc + 3)
-          (record h.now { awake = is_reset to || h.now.awake; blank = blank_after to h.now.blank })
-          else nat_le 2 h.now.room
-          && (not (same_level h.now.level Nmi) && (leads notes to (begun (ends_of (noted notes to)) h.now)
-          && leads notes (st.pc + 3) (record h.now { blank = ends_of (noted notes to) })))) ≡ true → ⊥
-      by true fine = not_entered to h.now h.level (both_true (enters to h.now) _ fine).0
-      by false fine = is_nmi h.now.level h.level
-          (both_true (not (same_level h.now.level Nmi)) _ (both_true (nat_le 2 h.now.room) _ fine).1).0
+  nmi_safe Call fine = absurd (no_call rom notes st loaded h fine)
   nmi_safe Return fine = absurd (two_levels h.now.level h.level (both_true (same_level h.now.level Sub) _ fine).0)
   nmi_safe Finish fine =
       let two = both_true (nat_eq h.now.depth 0) _ (both_true (same_level h.now.level Nmi) _ fine).1 in
