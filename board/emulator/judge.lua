@@ -9,6 +9,7 @@
 --     room TIME PLACES       an instruction that was put into a frame found no room
 --     reset TIME PLACES      the processor fetched its reset vector, the first time at the start;
 --                            the places are those of the last NMI before it, if there was one
+--     banks TIME PLACES      OUT_BANKS was set, the first time
 --     watchdog GAP TIME PLACES
 --                            the longest time without a write of the watchdog, and when it began
 --     amid WHAT TIME PLACES  where the program was, by its first NMI after MOST seconds in which no
@@ -155,7 +156,17 @@ emu.register_stop(function()
   pictures:close()
 end)
 
+-- Where OUT_BANKS is: its address and its bit.
+local is_deluxe = machine.system.name == "astdelux"
+local banks, banks_bit = is_deluxe and 0x3c04 or 0x3200, is_deluxe and 0x80 or 0x04
+local has_set_banks = false
+
 _G.dvg_judges = {
+  space:install_write_tap(banks, banks, "banks", function(_, data)
+    if data & banks_bit == 0 or has_set_banks then return end
+    has_set_banks = true
+    tell("banks %.6f %s", now(), places())
+  end),
   space:install_write_tap(0x4000, 0x47ff, "written", function(at, data)
     tell("wrote %03X %02X %.6f %s", at - 0x4000, data, now(), places())
   end),

@@ -60,7 +60,7 @@ class Log:
     def __init__(self, path):
         self.events, self.pictures, self.early, self.resets, self.room = [], [], [], [], []
         self.faults, self.watched, self.pressed = [], [], None
-        self.flips, self.amid = [], {}
+        self.flips, self.amid, self.banks = [], {}, None
         self.gap, self.gap_since, self.gap_places, self.ended = 0.0, 0.0, [], None
         with open(path, errors='replace') as file:
             for number, line in enumerate(file, 1):
@@ -79,6 +79,8 @@ class Log:
             self.pressed = int(rest[0]), int(rest[1])
         elif kind == 'ended':
             self.ended = float(rest[0])
+        elif kind == 'banks':
+            self.banks = float(rest[0]), [int(at, 16) for at in rest[1:]]
         elif kind == 'amid':
             self.amid[rest[0], float(rest[1])] = [int(at, 16) for at in rest[2:]]
         elif kind == 'watchdog':
@@ -394,6 +396,13 @@ def judge_pictures(out, log, rom, rate):
         print('%d pictures are good, of which %d differ' % (pictures.count, len(pictures.known)))
 
 
+def tell_banks(log):
+    if log.banks:
+        time, where = log.banks
+        warn('OUT_BANKS was set%s, at %.3f s: pages 2 and 3 of the RAM change places, and the '
+             'picture of a table turns upside down' % (by(where), time))
+
+
 def tell_longest(pictures, log, rate):
     """How long the generator took. A program that draws each new picture more than once has less
     time for it."""
@@ -437,6 +446,7 @@ def judge(out, rom_path, rate):
     judge_resets(log)
     judge_rate(log, rate)
     judge_pictures(out, log, rom, rate)
+    tell_banks(log)
     if log.pressed:
         print('%d of %d presses of the file of buttons came' % log.pressed)
     for text in log.watched:

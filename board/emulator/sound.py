@@ -4,7 +4,8 @@
 
 Heard is what goes up and down by more than a 500th of the whole range: a sound that is off may
 leave a level, which is still. Where a script ends the emulator, the sizes in the head of WAV are
-0: they are mended. Status 1 where WAV can't be read.
+0: they are mended. Which sounds are on at the end stands in `sounding` beside WAV (press.lua).
+Status 1 where WAV can't be read.
 """
 import array
 import os
@@ -49,6 +50,14 @@ def heights(path):
             found.append(max(max(part) - min(part) for part in parts))
 
 
+def tell_sounding(path):
+    """Which sounds are on at the end, if that was looked at."""
+    if os.path.exists(path):
+        with open(path, encoding='utf-8') as file:
+            for line in file:
+                print('on at the end: ' + line.strip())
+
+
 def main():
     signal.signal(signal.SIGPIPE, signal.SIG_DFL)
     try:
@@ -59,6 +68,7 @@ def main():
     for second, height in enumerate(found):
         text = 'heard, %d of 100' % max(1, height * 100 // 65536) if height > LEAST else 'nothing'
         print('second %d: %s' % (second, text))
+    tell_sounding(os.path.join(os.path.dirname(sys.argv[1]), 'sounding'))
     count = sum(height > LEAST for height in found)
     print('%s: something is heard in %d of %d seconds' % (sys.argv[1], count, len(found)))
 
