@@ -272,6 +272,18 @@ static void test_others(dvg *one, dvg *other)
            "and a generator takes its place");
 }
 
+/* Chance gives the numbers of its generator from 1979 on: of others hardly anything is tried. */
+static void test_chance(void)
+{
+    static const uint32_t wanted[] = {0xD59015AD, 0xF509DA73, 0xC611C2A4};
+    chance = 1979;
+    for (size_t i = 0; i < 3; i++) {
+        expect(random_word() == wanted[i], "a number of chance");
+    }
+    chance = 1979;
+    expect(below(1000) == 741, "a number of chance below 1,000");
+}
+
 int main(int count, char **words)
 {
     dvg *one = NULL, *other = NULL;
@@ -282,6 +294,7 @@ int main(int count, char **words)
     if (dvg_new(&one) != 0 || dvg_new(&other) != 0) {
         return 2;
     }
+    test_chance();
     test_others(one, other);
     seed = strtoull(words[2], NULL, 10);
     for (unsigned long left = strtoul(words[1], NULL, 10); left > 0; left--, seed++) {
