@@ -451,7 +451,7 @@ def judge(out, rom_path, rate):
         print('%d of %d presses of the file of buttons came' % log.pressed)
     for text in log.watched:
         print('watched: ' + text)
-    told = ', with %d warning%s' % (warnings, 's'[warnings == 1:]) if warnings else ''
+    told = ', with %d warning%s' % (warnings, 's'[warnings == 1:]) if warnings and not bad else ''
     print('judged %.0f seconds: %s%s' % (log.ended, 'bad' if bad else 'good', told))
 
 
