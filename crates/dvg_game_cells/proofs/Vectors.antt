@@ -10,14 +10,13 @@ use Rattle.dvg_calls_6502.specs.Board.{is_ram}
 use Rattle.dvg_cells_core.specs.Cells.{bit, mux, part, either, eq}
 use Rattle.dvg_cells_board.specs.Board.{Bus, q}
 use Rattle.dvg_cells_cpu.specs.Cpu.{Cpu as Cells, at, write, dout, clock, sync}
-use Rattle.dvg_cells_cpu.specs.Refines.{Cycle, pins_of, access, made, after_writes, AreAnswered, Where, Holds, Rests, IsSound, cycles, ends}
+use Rattle.dvg_cells_cpu.specs.Refines.{Cycle, pins_of, access, made, after_writes, AreAnswered, Where, Holds, Rests, IsSound, ends}
 use Rattle.dvg_cells_cpu.proofs.Interrupting.{interrupts, restarts, hears}
 use Rattle.dvg_cells_cpu.proofs.Resting.{held as stands_so, in_state}
 use Rattle.dvg_game_rules.specs.Machine.{IsLoaded, is_outside, IsTurned, reset_vector, word_at}
 use Rattle.dvg_game_rules.specs.Checker.{accepts_game, boot_most, stand_at}
 use Rattle.dvg_game_rules.proofs.Facts.{both_true}
 use Rattle.dvg_calls_cells.specs.Cycles.{Two, IsQuiet, AreQuiet, next, first_bus, second_bus, cycles_of, cycle_of, between}
-use Rattle.dvg_calls_cells.specs.Steps.{instr_of}
 use Rattle.dvg_calls_cells.specs.Played.{AreGiven, at_rest, older_after, cells_after}
 use Rattle.dvg_calls_cells.proofs.Fits.{AllFit, cycle_fits, first_is, served_of}
 use Rattle.dvg_calls_cells.proofs.Quiet.{made_more, write_both}
@@ -36,7 +35,7 @@ use Rattle.dvg_game_cells.proofs.Ends.{Done, Half, settle, settle_boot, split_se
 use Rattle.dvg_game_cells.proofs.Known.{Known, known}
 use Rattle.dvg_game_cells.proofs.Memory.{low_after, ram_after}
 use Rattle.dvg_game_cells.proofs.Snoc.{counts, then_at}
-use Rattle.dvg_game_cells.proofs.Timing.{Timed, Timely, at_least, timely}
+use Rattle.dvg_game_cells.proofs.Timing.{Timed, Timely, timely}
 use Rattle.dvg_game_cells.proofs.Turned.{code_inside, count_of, low_inside, made_both, more_cycles, ram_inside}
 use Rattle.dvg_game_cells.proofs.Walks.{on_board, quiet_half, quietly}
 
