@@ -8,9 +8,12 @@ does so once, and again after each command that it runs. Nothing else is changed
 the program that this knows, it runs as it is. `rt ci` is never run so."""
 
 import os
-import runpy
 import shutil
 import sys
+from importlib.machinery import SourceFileLoader
+from importlib.util import module_from_spec, spec_from_loader
+
+METHODS = "below", "stamp", "call", "prove"
 
 
 def look_once(crates):
@@ -42,21 +45,27 @@ def look_once(crates):
     crates.call, crates.prove = and_forget(call), and_forget(prove)
 
 
+def load(program):
+    """The kit's rt as a module, if it is the program that this knows."""
+    if not os.path.exists(os.path.join(os.path.dirname(program), "rtlib.py")):
+        return None
+    loader = SourceFileLoader("kit_rt", program)
+    made = module_from_spec(spec_from_loader("kit_rt", loader))
+    loader.exec_module(made)
+    crates = getattr(getattr(made, "rtlib", None), "Crate", None)
+    is_known = all(callable(getattr(crates, it, None)) for it in METHODS)
+    return made if is_known and callable(getattr(made, "main", None)) else None
+
+
 def main():
     program = shutil.which("rt")
     if not program:
         sys.exit("rt isn't here")
-    folder = os.path.dirname(os.path.realpath(program))
-    if os.path.exists(f"{folder}/rtlib.py"):
-        sys.path.insert(0, folder)
-        import rtlib
-        crates = getattr(rtlib, "Crate", None)
-        if all(callable(getattr(crates, it, None)) for it in ("below", "stamp", "call", "prove")):
-            look_once(crates)
-            sys.argv[0] = f"{folder}/rt"
-            runpy.run_path(sys.argv[0], run_name="__main__")
-            return
-    os.execv(program, ["rt", *sys.argv[1:]])
+    made = load(os.path.realpath(program))
+    if made is None:
+        os.execv(program, ["rt", *sys.argv[1:]])
+    look_once(made.rtlib.Crate)
+    sys.exit(made.main(sys.argv[1:]))
 
 
 main()
