@@ -1174,6 +1174,23 @@ function litOf(id, least = 120) {
   })()`);
 }
 
+// A vector of 100 units that begins 10 units beside an edge, at the left and below, and leads over
+// it: hardly more than these 10 are on the screen. To the other edge it would be all across.
+async function testEdges() {
+  for (const [edge, words] of [['left', [0xA200, 0x000A, 0x9000, 0xF464]],
+    ['lower', [0xA00A, 0x0200, 0x9464, 0xF000]]]) {
+    const dump = new DataView(new ArrayBuffer(4096));
+    [0xE001, ...words, 0xB000].forEach((word, k) => dump.setUint16(2 * k, word, true));
+    await openPage();
+    await tab.drop('screen', put('edge.dump', new Uint8Array(dump.buffer)));
+    await comes('file-title', 'The dump edge.dump');
+    await tab.click('now');
+    const lit = await litOf('screen');
+    expect(`a stroke over the ${edge} edge isn't drawn across the screen`, true,
+      lit > 10 && lit < 1000);
+  }
+}
+
 // The least contrast of a text with what lies under it.
 const CONTRAST = `(() => {
   const rgb = (text) => text.match(/[0-9.]+/g).map(Number);
@@ -1269,6 +1286,9 @@ async function testKeys() {
   await tab.key('ArrowRight');
   await tab.key('ArrowRight');
   expect('a word is told', /^Half 0, word 1: .* places the beam.* Word 001: [0-9A-F]{4}, LABS /,
+    await tab.text('word-text'));
+  await tab.key('ArrowUp');
+  expect('up from the first row is the first word', /^Word zero: .* Word 000: [0-9A-F]{4}, JMPL /,
     await tab.text('word-text'));
   await tab.value('document.getElementById("wire").focus()');
   await tab.key(' ');
@@ -1525,6 +1545,7 @@ const tests = {
     testOneHalf, testLink, testFiles, testDrops, testUnjudged, testLongLog,
   testHttp, testInView, testGrey, testCode, testTour, testMend,
     testWidths, testColors, testMotion, testKeys, testRows,
+    testEdges,
   testLive, testPlain, testLessonFrames, testEditorsStill, testReadAloud, testSpeed,
 };
 for (const [name, test] of Object.entries(tests)) {
