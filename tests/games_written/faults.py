@@ -69,4 +69,11 @@ FAULTS = [
      '3210, no output'),
     ('tanks.s', 'an NMI that begins all anew', '        lda IN_SLAM\n        bmi no_fall',
      '        lda IN_SLAM\n        bpl *+5\n        jmp reset', 'the NMI jumps to the reset'),
+    ('flak.s', 'a title behind the last one', 'cpy #tables_high - tables_low',
+     'cpy #tables_high - tables_low + 1', 'where no table stands'),
+    ('flak.s', 'a shape behind the last one', 'cpy #LISTED', 'cpy #LISTED + 1', 'it puts '),
+    ('flak.s', 'a hit without its PLA', '        pla\n        ldy #SCORE_DIGITS - 2',
+     '        ldy #SCORE_DIGITS - 2', 'on the stack'),
+    ('flak.s', 'coins that a subroutine counts', '        inc coins\n', '        jsr one_more\n',
+     'the NMI calls a subroutine'),
 ]
