@@ -1,5 +1,5 @@
 -- A run can go on.
-use Rattle.std.proofs.Common.{◌≡◌, ℕ, suc, ◌-◌, ◌<◌, Bool, true, false, List, refl, ap}
+use Rattle.std.proofs.Common.{◌≡◌, ℕ, suc, ◌-◌, ◌<◌, Bool, true, false, List, refl, ap, subst, sym}
 use Rattle.std.proofs.Common.{arith, lit<, leb-true}
 use Rattle.std.specs.Prelude.{nat_eq, nat_le, nat_lt, ◌&&◌, if◌then◌else◌}
 use Rattle.std.proofs.lemmas.Bool.{lt-leb}
@@ -102,11 +102,14 @@ runs_go_on R image held rom machine work calm clocks on reset nmi hold free rese
       reset = reset_in;
       nmi = nmi_in;
       vector_rom = below R (recursion_from_All (λ byte. byte < 256) R all.is_rom.bytes) _;
-      m = answer_in rom work free (at machine.cpu) free_in all.work_in all.rom_in (nat_lt (at machine.cpu) 0x200)
-          (nat_le 0x4800 (at machine.cpu) && nat_lt (at machine.cpu) 0x8000) (nat_le 0xFFFA (at machine.cpu));
+      m = choose (nat_eq machine.answers 1) (answer rom work free (at machine.cpu)) free
+          (answer_in rom work free (at machine.cpu) free_in all.work_in all.rom_in (nat_lt (at machine.cpu) 0x200)
+          (nat_le 0x4800 (at machine.cpu) && nat_lt (at machine.cpu) 0x8000) (nat_le 0xFFFA (at machine.cpu))) free_in;
       big = refl;
       from_rom = λ takes from to. refl;
-      answers = λ second reading. finds rom work free (at machine.cpu);
+      answers = λ second reading. subst (λ n. Finds rom work (at machine.cpu)
+          (if nat_eq n 1 then answer rom work free (at machine.cpu) else free)) (sym second)
+          (finds rom work free (at machine.cpu));
       no_strobe = strobe;
       apart = apart;
     })

@@ -17,7 +17,7 @@ abbrev pub answer : (rom work : ℕ → ℕ) → (free a : ℕ) → ℕ
 answer rom work free a = if nat_lt a 0x200 then work a else if nat_le 0x4800 a && nat_lt a 0x8000 then rom a
     else if nat_le 0xFFFA a then rom (a - 0x8000) else free
 
--- the pins where that and the generator's ROM are served
+-- the pins where that is served in the second clock of a cycle, and any byte before, and the generator's ROM in each
 abbrev pub pins_for : List ℕ → (ℕ → ℕ) → Machine → (ℕ → ℕ) → (reset nmi hold free : ℕ) → Pins
 pins_for R rom machine work reset nmi hold free = record {
   reset = reset;
@@ -25,7 +25,7 @@ pins_for R rom machine work reset nmi hold free = record {
   hold = hold;
   big = bit (not (length R == 2048));
   rom = slice_index R (2 * (pin.at machine.board - first_word R) + pin.high machine.board);
-  m = answer rom work free (at machine.cpu);
+  m = if nat_eq machine.answers 1 then answer rom work free (at machine.cpu) else free;
   undefined = 0;
 }
 
