@@ -4,15 +4,18 @@ Its first line is a checksum of all that decides what is said of the crate's tex
 crate, the crates that it stands on, the logic of the kit, and the suite. The second has the seconds
 of processors that they took, and then comes a line of each text. It proves nothing: it spares to
 try again what was tried of the same sources. So in each commit a quarter of the crates is tried all
-the same, another one each time."""
+the same, another one each time. Each run leaves what it was told in build/refused, from where it is
+taken."""
 
 import functools
 import hashlib
+import shutil
 import subprocess
 
 from rooms import ROOT, crates_below, lines_of_crates
 
 KEPT = ROOT / "tests/refused"
+TOLD = ROOT / "build/refused"
 PARTS = ("src", "specs", "proofs")
 EDITS = ("wrong-bodies.edits", "wrong-laws.edits")
 SUITE = ("tests/wrong_bodies", "tests/wrong_laws.py", "tests/rooms.py", "tests/copies.py",
@@ -72,8 +75,19 @@ def is_in_turn(name):
     return int(hashlib.sha256(f"{commit} {name}".encode()).hexdigest(), 16) % SHARE == 0
 
 
-def write(name, seconds, lines):
-    """Keeps what was said of a crate."""
-    KEPT.mkdir(exist_ok=True)
+def leave(name, seconds, lines):
+    """Leaves in build/refused what was said of a crate."""
+    TOLD.mkdir(parents=True, exist_ok=True)
     text = "".join(f"{it}\n" for it in [checksum(name), f"{seconds:.0f} seconds", *lines])
-    (KEPT / name).write_text(text, encoding="utf-8")
+    (TOLD / name).write_text(text, encoding="utf-8")
+
+
+def take(name):
+    """Takes into tests/refused what a run left of a crate. Returns whether one did, of the sources
+    that are there."""
+    file = TOLD / name
+    if not file.exists() or file.read_text(encoding="utf-8").split("\n")[0] != checksum(name):
+        return False
+    KEPT.mkdir(exist_ok=True)
+    shutil.copyfile(file, KEPT / name)
+    return True
