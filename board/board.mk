@@ -3,8 +3,8 @@
 #
 #     PROGRAM    its source without .s
 #     SKETCH     sketches of its frames and shapes, if it has some; they become one, build/sketch.
-#                docs/FORMATS.md has their form, and outline.awk adds outlines to it. Each frame is
-#                a table of its name, in build/tables.inc. The names of the ROM are in
+#                `dvg help lay` has their form, and outline.awk adds outlines to it. Each frame is a
+#                table of its name, in build/tables.inc. The names of the ROM are in
 #                build/shapes.equates.
 #     MACHINE    the arcade emulator's name of the board: asteroid, or astdelux for Asteroids Deluxe
 #     DEFINES    options of ca65 for the program, DRIVER those for the driver
