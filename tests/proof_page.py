@@ -8,7 +8,7 @@ import os
 import re
 
 # The crates whose files all stand on the page, in their order.
-WHOLE = ["dvg_theorem", "dvg_world", "dvg_calls_6502"]
+WHOLE = ["dvg_theorem", "dvg_world"]
 
 TOKEN = re.compile(r"(?m)^## (\w+)|\b(dvg_\w+):(?!:)|\*\*(\w+)\*\*")
 
