@@ -344,11 +344,13 @@ static void test_strobe(dvg *one, dvg *other)
     dvg_open_world(other, NULL, rom, DVG_ROM_BYTES);
     expect(!dvg_run_is_open(other) && dvg_strobe(other).kind == DVG_NO_STROBE, "none was sent");
     publish(one);
-    dvg_restore(other, bytes, dvg_save(one, bytes, sizeof bytes));
+    expect(dvg_restore(other, bytes, dvg_save(one, bytes, sizeof bytes)).kind == DVG_OPENED,
+           "a world goes on in another device");
     expect(!dvg_run_is_open(other) && dvg_strobe(other).kind == DVG_STARTED, "a strobe arrives");
     expect(dvg_run_is_open(other) && run(other).kind == DVG_DONE && dvg_strokes(other) == 1,
            "and its run draws the frame");
-    dvg_restore(one, bytes, dvg_save(other, bytes, sizeof bytes));
+    expect(dvg_restore(one, bytes, dvg_save(other, bytes, sizeof bytes)).kind == DVG_OPENED,
+           "and back in the first one");
     expect(!dvg_run_is_open(one) && dvg_strobe(one).kind == DVG_STARTED
                && run(one).kind == DVG_DONE && dvg_strokes(one) == 1, "it is drawn once more");
 }
@@ -391,7 +393,8 @@ static void test_judging(dvg *world, dvg *judge)
     publish(world);
     dvg_strobe(world);
     dvg_fetch(world);
-    dvg_restore(world, bytes, dvg_save(world, bytes, sizeof bytes));
+    expect(dvg_restore(world, bytes, dvg_save(world, bytes, sizeof bytes)).kind == DVG_OPENED,
+           "a world goes on amid a run");
     dvg_open_judge(judge);
     /* Of the 16 bytes of its run one was fetched. */
     for (int bytes_left = 15; bytes_left > 0; bytes_left--) {
