@@ -44,7 +44,7 @@ static bool is_refused() {
     return now;
 }
 
-dvg_block rattle_alloc(std::size_t bytes, std::size_t align) {
+dvg_block dvg_heap_alloc(std::size_t bytes, std::size_t align) {
     if (is_refused()) {
         return answer(nullptr);
     }
@@ -52,11 +52,11 @@ dvg_block rattle_alloc(std::size_t bytes, std::size_t align) {
     return answer(std::malloc(bytes == 0 ? align : bytes));
 }
 
-dvg_block rattle_realloc(void *old, std::size_t, std::size_t bytes, std::size_t align) {
+dvg_block dvg_heap_realloc(void *old, std::size_t, std::size_t bytes, std::size_t align) {
     return is_refused() ? answer(nullptr) : answer(std::realloc(old, bytes == 0 ? align : bytes));
 }
 
-void rattle_dealloc(void *old) {
+void dvg_heap_free(void *old) {
     blocks--;
     std::free(old);
 }
