@@ -735,6 +735,23 @@ static inline dvg_answer dvg_fetch(dvg *device)
     return dvg_ask(device, DVG_REQUEST_FETCH);
 }
 
+/* Of a world: lets it go on until a run ends. Each step is a tick, the strobe that this sent, and a
+ * fetch; there are `most` of them at most. Answers the last fetch: DVG_DONE; DVG_BROKE;
+ * DVG_NO_MEMORY; of another kind, where no run ended within these steps. */
+static inline dvg_answer dvg_run_to_halt(dvg *device, uint32_t most)
+{
+    dvg_answer answer = dvg_answer_of(DVG_STILL);
+    dvg_there(device);
+    for (; most > 0 && (answer.kind == DVG_STILL || answer.kind == DVG_LOW
+                        || answer.kind == DVG_FETCHED); most--) {
+        if (dvg_tick(device).kind == DVG_SENT) {
+            dvg_strobe(device);
+        }
+        answer = dvg_fetch(device);
+    }
+    return answer;
+}
+
 /* Of a generator: which byte it wants. DVG_WANTED; DVG_STILL: it is halted, which is the HALT flag.
  * The answer to a strobe, or to the byte before, has said it already. */
 static inline dvg_answer dvg_wants(dvg *device)

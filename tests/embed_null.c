@@ -49,6 +49,7 @@
     CALL(dvg_driver_tick(NULL, true, 0)) \
     CALL(dvg_strobe(NULL)) \
     CALL(dvg_fetch(NULL)) \
+    CALL(dvg_run_to_halt(NULL, 0)) \
     CALL(dvg_wants(NULL)) \
     CALL(dvg_generator_fetch(NULL, 0)) \
     CALL(dvg_generator_hole(NULL)) \

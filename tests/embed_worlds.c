@@ -335,6 +335,51 @@ static dvg_answer run(dvg *device)
     return answer;
 }
 
+/* Lets a world with a frame come so many steps on, by dvg_run_to_halt and by hand: both end alike,
+ * and in the same state. Returns the kind that both end with. */
+static dvg_kind run_both(dvg *one, dvg *other, uint32_t most)
+{
+    static uint8_t bytes[DVG_SAVED_WORLD_BYTES], others[DVG_SAVED_WORLD_BYTES];
+    dvg_kind last = DVG_STILL, ended;
+    size_t size;
+    dvg_open_world(one, NULL, rom, DVG_ROM_BYTES);
+    dvg_open_world(other, NULL, rom, DVG_ROM_BYTES);
+    while (dvg_tick(one).kind != DVG_IDLE) {
+    }
+    dvg_clear(one);
+    dvg_labs(one, 0, 0, 0);
+    dvg_vctr(one, 9, 100, 100, 7);
+    dvg_halt(one);
+    expect(dvg_offer(one).kind == DVG_OFFERED, "a frame is offered");
+    expect(dvg_restore(other, bytes, dvg_save(one, bytes, sizeof bytes)).kind == DVG_OPENED,
+           "to both");
+    ended = dvg_run_to_halt(one, most).kind;
+    for (; most > 0 && last != DVG_DONE; most--) {
+        if (dvg_tick(other).kind == DVG_SENT) {
+            expect(dvg_strobe(other).kind == DVG_STARTED, "the strobe arrives");
+        }
+        last = dvg_fetch(other).kind;
+    }
+    size = dvg_save(one, bytes, sizeof bytes);
+    expect(ended == last && dvg_save(other, others, sizeof others) == size
+               && memcmp(bytes, others, size) == 0, "a run goes on as by hand");
+    return ended;
+}
+
+/* A world whose run is brought to its end by one call. */
+static void test_run_to_halt(dvg *one, dvg *other)
+{
+    uint32_t most = 0;
+    expect(dvg_shut(one).kind == DVG_CLOSED && dvg_run_to_halt(one, 9).kind == DVG_CLOSED,
+           "nothing runs where nothing is open");
+    while (most < 99 && run_both(one, other, most) != DVG_DONE) {
+        most++;
+    }
+    /* The run has six words: a jump into the frame, and its five. */
+    expect(most >= 12 && most < 99, "a run ends");
+    expect(run_both(one, other, 1000) == DVG_DONE && dvg_strokes(one) == 1, "and no other begins");
+}
+
 /* A strobe that was sent, and didn't arrive before the save, arrives after the restore; one that
  * arrived before has the frame drawn once more. */
 static void test_strobe(dvg *one, dvg *other)
@@ -421,6 +466,7 @@ int main(int count, char **words)
     memset(rom, 0xD0, sizeof rom);
     test_others(one, other);
     memset(rom, 0xD0, sizeof rom);
+    test_run_to_halt(one, other);
     test_strobe(one, other);
     test_other_rom(one, other);
     test_judging(one, other);
