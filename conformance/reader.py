@@ -15,7 +15,7 @@ class Broke(Exception):
 
 
 class Started(Exception):
-    """A start strobe arrives amid a run."""
+    """A start strobe arrives amid a run, or a run is told no further."""
 
 
 class Generator:
@@ -27,8 +27,8 @@ class Generator:
         self.whole_x = self.whole_y = 0
 
     def start(self, until):
-        """A start strobe: a run begins, that another one ends after so many words, and perhaps a
-        low byte; or none, where there is no `until`."""
+        """A start strobe: a run begins, of which so many words are told, and perhaps a low byte
+        more; or all, where there is no `until`."""
         self.at, self.first, self.calls, self.until = 0, 0, [], until
         self.words, self.lines, self.strokes, self.units = 0, [], [], []
 
@@ -39,7 +39,7 @@ class Generator:
         return self.memory[self.at]
 
     def look_for_start(self):
-        """Raises Started where the strobe arrives that ends this run."""
+        """Raises Started where no more is told of this run."""
         if self.until and self.words == self.until[0]:
             if self.until[1]:
                 self.lines.append('low %03X %02X' % (self.at, self.peek() & 0xFF))
@@ -119,24 +119,22 @@ class Generator:
         return self.lines + [end] + self.strokes + self.units
 
 
-def starts(theirs):
-    """When start strobes arrive in these lines: for each run after how many words, and whether a
-    low byte came, too; None where it ends by itself."""
-    runs = '\n'.join(theirs).split('\nstarted')
-    for run in runs[:-1]:
-        if '\nhalted' in run:
+def told(theirs):
+    """How much of each run these lines tell: how many words, and whether a low byte came after
+    them; None where the run ends by itself."""
+    for run in '\n'.join(theirs).split('\nstarted'):
+        if '\nhalted' in run or '\nbroke' in run:
             yield None
         else:
             yield run.count('fetched'), '\nlow' in '\n' + run
-    yield None
 
 
 def play(memory, theirs):
     """All lines of a file."""
     mine, generator = [], Generator(memory)
-    for number, until in enumerate(starts(theirs)):
+    for number, until in enumerate(told(theirs)):
         mine += ['started'] * (number > 0) + generator.run(until)
-    return mine
+    return mine + ['endless'] * (until is not None)
 
 
 def signed(word, sign, size):

@@ -11,37 +11,48 @@
 #define TO_THE_END 0xFFFF
 #define MOST_STARTS 4
 
-/* The first runs, by hand: a memory as words with the addresses from which on they stand, and after
- * how many bytes a start strobe ends a run, before the last one. */
+/* The first runs, by hand: a memory as words with the addresses from which on they stand; after how
+ * many bytes a start strobe ends a run, before the last one; and how many bytes of a last run are
+ * told that has no end, or 0. */
 static const struct {
     const char *memory;
     unsigned starts[MOST_STARTS];
+    unsigned endless;
 } by_hand[] = {
     /* dots, long and short */
-    {"A064 0064 5000 9000 F070 0000 1000 F470 B000", {0}},
+    {"A064 0064 5000 9000 F070 0000 1000 F470 B000", {0}, 0},
     /* a LABS with scale 0, after one with another */
-    {"A100 3100 2040 7040 A100 0200 2040 7040 A200 F200 2040 7040 A300 0300 F1F1 B000", {0}},
+    {"A100 3100 2040 7040 A100 0200 2040 7040 A200 F200 2040 7040 A300 0300 F1F1 B000", {0}, 0},
     /* minus zero, long and short */
-    {"A400 0400 5400 7400 9400 F400 F474 FC7C 5000 7400 5400 7000 B000", {0}},
+    {"A400 0400 5400 7400 9400 F400 F474 FC7C 5000 7400 5400 7000 B000", {0}, 0},
     /* bit 11, which says nothing, and in a LABS does */
-    {"A800 0800 5810 7820 5C10 7820 5810 7C20 A7FF 0FFF 4901 2A02 B000", {0}},
+    {"A800 0800 5810 7820 5C10 7820 5810 7C20 A7FF 0FFF 4901 2A02 B000", {0}, 0},
     /* sums of scales that are over 9, and those that are over 15 */
     {"A200 5200 4010 7010 5010 7010 6010 7010 A210 F210 1010 7010 9010 7010 A220 A220 4010 7010 "
-     "F1F1 FFFF B000", {0}},
+     "F1F1 FFFF B000", {0}, 0},
     /* each bit of a short vector, alone */
     {"A080 1080 F0F1 F0F2 F1F0 F2F0 F0F5 F5F0 F8F1 F0F9 F8F9 F9F8 F011 F021 F041 F081 F3FB B000",
-     {0}},
+     {0}, 0},
     /* beyond each edge, with fractions, which a LABS takes away */
     {"A000 0000 9001 7001 9401 7401 9401 7401 AFFF 0FFF 93FF 73FF 0003 7005 AFFF 0FFF 0001 1001 "
-     "BFFF", {0}},
+     "BFFF", {0}, 0},
     /* calls, returns and jumps: 12 bits of each address, the last call first, low bits of a HALT */
     {"C010 5001 7001 E800 @010 C020 5002 7002 D000 @020 5003 7003 DFFF @800 C900 5004 7004 E00A "
-     "@900 F1F1 D123 @00A B5A5", {0}},
+     "@900 F1F1 D123 @00A B5A5", {0}, 0},
     /* a second run begins where the first one ended, with its scale */
-    {"5010 7020 5410 0420 A123 2456 3008 7008 B000", {TO_THE_END, TO_THE_END}},
+    {"5010 7020 5410 0420 A123 2456 3008 7008 B000", {TO_THE_END, TO_THE_END}, 0},
     /* starts amid runs: with four calls open, before a second word, and before a high byte */
     {"C010 @010 C020 @020 C030 @030 C040 @040 5010 7020 5020 7010 D000 @031 D000 @021 D000 "
-     "@011 D000 @001 B000", {8, 10, 15}},
+     "@011 D000 @001 B000", {8, 10, 15}, 0},
+    /* sums of 8, 9 and 10, of short vectors, too; the longest moves both ways */
+    {"A400 4400 F879 F971 F8F9 A400 7400 F171 F171 FD75 A400 8400 F171 A400 0400 67FF 77FF 63FF "
+     "73FF 9800 7002 B000", {0}, 0},
+    /* carries of addresses: from 0FF to 100, and of a return address, from 1FF to 200 */
+    {"E0FE @0FE 5010 7020 C1FF @101 5030 7000 B000 @1FF C3FE @200 D000 @3FE F1F1 D000", {0}, 0},
+    /* the end of the RAM: 400 comes after 3FF, and has no memory */
+    {"E3FD @3FD F1F1 A123 2456", {0}, 0},
+    /* a jump to itself */
+    {"A400 0400 F1F1 E003", {0}, 16},
 };
 
 #define BY_HAND (sizeof by_hand / sizeof by_hand[0])
@@ -268,11 +279,12 @@ static FILE *open_file(const char *folder, unsigned long number, const char *end
     return fopen(name, "w");
 }
 
-/* Writes a run by hand, which has other starts before the last one. */
+/* Writes a run by hand, which may have other starts before the last one. */
 static void write_by_hand(FILE *memory, FILE *text, dvg *port, struct vector *vector,
                           unsigned long number)
 {
     const unsigned *starts = by_hand[number].starts;
+    unsigned endless = by_hand[number].endless;
     take_by_hand(vector, by_hand[number].memory);
     begin(port);
     for (; *starts != 0; starts++) {
@@ -285,9 +297,14 @@ static void write_by_hand(FILE *memory, FILE *text, dvg *port, struct vector *ve
         }
         fputs("started\n", text);
     }
-    start(port, vector, MOST_RUN, TO_THE_END);
+    start(port, vector, MOST_RUN, endless > 0 ? endless : TO_THE_END);
     write_memory(memory, vector);
-    write_run(text, port, vector);
+    if (endless > 0) {
+        write_fetched(text, vector);
+        fputs("endless\n", text);
+    } else {
+        write_run(text, port, vector);
+    }
 }
 
 int main(int count, char **arguments)

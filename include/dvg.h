@@ -6,7 +6,7 @@
  * in each order, and each has an answer: no request can do harm. The functions below it only put
  * requests together and take answers apart.
  *
- * What opens in a device is one of four:
+ * What opens in a device is one of these:
  *
  *   a world             both ends, over a RAM and a ROM that it holds; it is saved and restored
  *   a driver alone      it is handed the HALT flag and byte 001 of a RAM, and answers what is to
@@ -21,9 +21,9 @@
  *
  *   1. Initialise the pointer before the call: `dvg *device = NULL;`, then `dvg_new(&device)`. Hand
  *      the other functions only a pointer that dvg_new wrote and dvg_free didn't get yet, and touch
- *      what it points to by these functions alone. dvg_free passes a null pointer over. dvg_turn
- *      and dvg_turns, which are linked, look at nothing, and crash. Each other call that is handed
- *      one is ended by assert, where that is on.
+ *      what it points to by these functions alone. dvg_free passes a null pointer over, and
+ *      dvg_turn looks at nothing, and crashes. Each other call that is handed one, for a device or
+ *      for bytes that it needs, is ended by assert, where that is on.
  *   2. Use a device in one call at a time, on any thread: what one thread did to it must be seen
  *      by the next one, as a mutex or a join has it. Never use it in a signal handler, or in the
  *      forked child of a process with threads. No two devices share anything but the heap.
@@ -79,6 +79,16 @@ extern "C" {
 /* Within how many words `dvg picture` looks for the end of a run: a cap for dvg_draw. */
 #define DVG_MOST_WORDS 65536
 
+/* Marks a call whose answer must be looked at: a compiler warns where it isn't. */
+#if (defined(__cplusplus) && __cplusplus >= 201703L) \
+    || (defined(__STDC_VERSION__) && __STDC_VERSION__ >= 202000L)
+#define DVG_MUST_USE [[nodiscard]]
+#elif defined(__GNUC__)
+#define DVG_MUST_USE __attribute__((__warn_unused_result__))
+#else
+#define DVG_MUST_USE
+#endif
+
 /* A device. Only pointers to it are of use. */
 typedef struct dvg dvg;
 
@@ -91,7 +101,7 @@ typedef struct dvg dvg;
  *     if (dvg_new(&device) != 0) { .. }
  *
  * 0: it did. 2: there was no memory, and *out is as it was. */
-uint32_t dvg_new(dvg **out);
+DVG_MUST_USE uint32_t dvg_new(dvg **out);
 
 /* One request, and its answer. */
 uint64_t dvg_turn(dvg *device, uint64_t request);
@@ -308,12 +318,18 @@ static inline dvg_answer dvg_answer_of(uint64_t number)
 }
 
 /* The device that a call below was handed. A null pointer ends the program by assert, if that is
- * on: NDEBUG turns it off, and then nothing looks. Nor do dvg_turn and dvg_turns, which are linked.
- */
+ * on: NDEBUG turns it off, and then nothing looks. */
 static inline dvg *dvg_there(dvg *device)
 {
     assert(device != NULL && "a call of dvg.h was handed no device: dvg_new makes one");
     return device;
+}
+
+/* The same of what a call below reads or writes: of bytes, a move, or what a generator holds. */
+static inline void dvg_need(const void *place)
+{
+    assert(place != NULL && "a call of dvg.h was handed a null pointer for what it needs");
+    (void)place;
 }
 
 /* One request, with its answer taken apart. Of requests for strokes the answer is no such thing. */
@@ -438,6 +454,9 @@ static inline dvg_answer dvg_stage_bytes(dvg *device, const uint8_t *bytes, size
 {
     dvg_answer answer = dvg_stage_byte(device, 0, 0);
     size_t first = 0;
+    if (count > 0) {
+        dvg_need(bytes);
+    }
     while (first < count && answer.kind == DVG_STAGED) {
         size_t after = first + 1;
         while (after < count && after - first < 0xFFFF && bytes[after] == bytes[first]) {
@@ -467,14 +486,28 @@ static inline dvg_answer dvg_stage_ram(dvg *device, const uint8_t *ram)
     return dvg_stage_bytes(device, ram, DVG_RAM_BYTES);
 }
 
-/* Asks for this, for which bytes were staged with this answer, and takes them away: more bytes than
- * can be staged are the wrong size for each request. */
+/* Whether a ROM may have this many bytes. */
+static inline bool dvg_is_rom_length(size_t length)
+{
+    return length == DVG_ROM_BYTES || length == DVG_LARGE_ROM_BYTES;
+}
+
+/* Stages a ROM after what is staged. As dvg_stage_bytes; DVG_WRONG_SIZE: that is no length of one,
+ * and `rom` isn't looked at. */
+static inline dvg_answer dvg_stage_rom(dvg *device, const uint8_t *rom, size_t rom_length)
+{
+    if (!dvg_is_rom_length(rom_length)) {
+        dvg_there(device);
+        return dvg_answer_of(DVG_WRONG_SIZE);
+    }
+    return dvg_stage_bytes(device, rom, rom_length);
+}
+
+/* Asks for this, for which bytes were staged with this answer, and takes them away. */
 static inline dvg_answer dvg_ask_staged(dvg *device, dvg_answer staged, uint64_t request)
 {
     if (staged.kind == DVG_STAGED) {
         staged = dvg_ask(device, request);
-    } else if (staged.kind == DVG_FULL) {
-        staged.kind = DVG_WRONG_SIZE;
     }
     dvg_unstage(device);
     return staged;
@@ -496,7 +529,7 @@ static inline dvg_answer dvg_open_world(dvg *device, const uint8_t *ram, const u
 {
     dvg_answer staged = dvg_stage_ram(device, ram);
     if (staged.kind == DVG_STAGED) {
-        staged = dvg_stage_bytes(device, rom, rom_length);
+        staged = dvg_stage_rom(device, rom, rom_length);
     }
     return dvg_ask_staged(device, staged, DVG_REQUEST_OPEN_WORLD);
 }
@@ -507,7 +540,7 @@ static inline dvg_answer dvg_open_driver(dvg *device, const uint8_t *rom, size_t
 {
     dvg_answer staged;
     dvg_unstage(device);
-    staged = dvg_stage_bytes(device, rom, rom_length);
+    staged = dvg_stage_rom(device, rom, rom_length);
     return dvg_ask_staged(device, staged, DVG_REQUEST_OPEN_DRIVER);
 }
 
@@ -702,6 +735,23 @@ static inline dvg_answer dvg_fetch(dvg *device)
     return dvg_ask(device, DVG_REQUEST_FETCH);
 }
 
+/* Of a world: lets it go on until a run ends. Each step is a tick, the strobe that this sent, and a
+ * fetch; there are `most` of them at most. Answers the last fetch: DVG_DONE; DVG_BROKE;
+ * DVG_NO_MEMORY; of another kind, where no run ended within these steps. */
+static inline dvg_answer dvg_run_to_halt(dvg *device, uint32_t most)
+{
+    dvg_answer answer = dvg_answer_of(DVG_STILL);
+    dvg_there(device);
+    for (; most > 0 && (answer.kind == DVG_STILL || answer.kind == DVG_LOW
+                        || answer.kind == DVG_FETCHED); most--) {
+        if (dvg_tick(device).kind == DVG_SENT) {
+            dvg_strobe(device);
+        }
+        answer = dvg_fetch(device);
+    }
+    return answer;
+}
+
 /* Of a generator: which byte it wants. DVG_WANTED; DVG_STILL: it is halted, which is the HALT flag.
  * The answer to a strobe, or to the byte before, has said it already. */
 static inline dvg_answer dvg_wants(dvg *device)
@@ -732,6 +782,7 @@ static inline dvg_answer dvg_generator_move(dvg *device, uint8_t byte, dvg_move 
 {
     dvg_answer answer = dvg_ask(device, DVG_REQUEST_MOVE | (uint64_t)byte << 16);
     uint64_t from, to;
+    dvg_need(move);
     if (answer.kind != DVG_MOVES) {
         return answer;
     }
@@ -763,6 +814,7 @@ static inline dvg_answer dvg_held_by(dvg *device, dvg_held *held)
 {
     dvg_answer answer = dvg_ask(device, DVG_REQUEST_HOLDS);
     uint64_t beam;
+    dvg_need(held);
     if (answer.kind != DVG_HOLDS) {
         return answer;
     }
@@ -804,6 +856,7 @@ static inline dvg_answer dvg_ram_byte(dvg *device, uint16_t address)
 static inline dvg_answer dvg_ram(dvg *device, uint8_t *ram)
 {
     dvg_answer answer = dvg_ram_byte(device, 0);
+    dvg_need(ram);
     for (uint16_t at = 0; answer.kind == DVG_BYTE && at < DVG_RAM_BYTES; at++) {
         answer = dvg_ram_byte(device, at);
         ram[at] = (uint8_t)answer.value;
@@ -917,6 +970,7 @@ static inline dvg_saved dvg_saved_as(const uint8_t *bytes, size_t size)
     if (size < 16 || size % 8 != 0 || (uint64_t)size >> 35 != 0) {
         return DVG_SAVED_NOTHING;
     }
+    dvg_need(bytes);
     switch (bytes[2]) {
     case 'G': what = DVG_SAVED_GENERATOR; break;
     case 'R': what = DVG_SAVED_WRAPPING; break;
@@ -959,7 +1013,11 @@ static inline size_t dvg_save(dvg *device, uint8_t *bytes, size_t size)
     bool wraps = (dvg_ask(device, DVG_REQUEST_HOLDS).value & 0x40) != 0;
     dvg_saved what = is_world ? DVG_SAVED_WORLD : wraps ? DVG_SAVED_WRAPPING : DVG_SAVED_GENERATOR;
     size_t parts = dvg_saved_parts(what);
-    size_t at = dvg_save_answers(device, DVG_REQUEST_STATE, DVG_STATE, bytes, size, parts);
+    size_t at;
+    if (size > 0) {
+        dvg_need(bytes);
+    }
+    at = dvg_save_answers(device, DVG_REQUEST_STATE, DVG_STATE, bytes, size, parts);
     if (at == parts) {
         return 0;
     }
@@ -1037,7 +1095,7 @@ static inline dvg_answer dvg_restore_world(dvg *device, const uint8_t *bytes, si
  * Whatever the answer, what was told of a state by DVG_REQUEST_TELL_STATE may be forgotten. Where a
  * world is open and the bytes are those of one, no byte is staged then, also none that was before,
  * and the draft is the frame in them, or a beginning of it: dvg_clear begins the next one. */
-static inline dvg_answer dvg_restore(dvg *device, const uint8_t *bytes, size_t size)
+DVG_MUST_USE static inline dvg_answer dvg_restore(dvg *device, const uint8_t *bytes, size_t size)
 {
     dvg_saved what = dvg_saved_as(bytes, size);
     dvg_answer answer = dvg_answer_of(DVG_NO_STATE);
@@ -1163,6 +1221,8 @@ static inline dvg_answer dvg_hand_from(dvg *device, int32_t next, const uint8_t 
                                        const uint8_t *rom, size_t rom_length)
 {
     size_t byte = (size_t)next;
+    dvg_need(ram);
+    dvg_need(rom);
     if (byte < DVG_RAM_BYTES) {
         return dvg_generator_fetch(device, ram[byte]);
     }
@@ -1181,7 +1241,7 @@ static inline dvg_answer dvg_generator_fetch_from(dvg *device, const uint8_t *ra
                                                   const uint8_t *rom, size_t rom_length)
 {
     dvg_answer wanted;
-    if (rom_length != DVG_ROM_BYTES && rom_length != DVG_LARGE_ROM_BYTES) {
+    if (!dvg_is_rom_length(rom_length)) {
         return dvg_answer_of(DVG_WRONG_SIZE);
     }
     wanted = dvg_wants(device);
@@ -1227,7 +1287,7 @@ static inline dvg_drawn dvg_draw(dvg *device, const uint8_t *ram, const uint8_t 
     uint64_t number;
     drawn.words = 0;
     drawn.strokes = 0;
-    if (rom_length != DVG_ROM_BYTES && rom_length != DVG_LARGE_ROM_BYTES) {
+    if (!dvg_is_rom_length(rom_length)) {
         drawn.last = dvg_answer_of(DVG_WRONG_SIZE);
         return drawn;
     }

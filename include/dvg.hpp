@@ -6,19 +6,41 @@
  *     dvg_halt(world);
  *     dvg_answer answer = dvg_tick(world);
  *
- * What dvg.h says of devices and of their callers is said of these, too. */
+ * What dvg.h says of devices and of their callers is said of these, too.
+ *
+ * Where a program is compiled without exceptions, what would be thrown ends it by abort, and says
+ * why. There a program asks dvg_saved_as and dvg_restore of bytes that may be any, and looks at the
+ * answer. */
 #ifndef DVG_HPP
 #define DVG_HPP
 
 #include "dvg.h"
 
 #include <cstdint>
+#include <cstdio>
+#include <cstdlib>
 #include <memory>
 #include <new>
 #include <stdexcept>
 #include <vector>
 
 namespace gerbilargent {
+
+/* What is thrown, or ends a program without exceptions. */
+namespace refusals {
+#if defined(__cpp_exceptions) || defined(__EXCEPTIONS) || defined(_CPPUNWIND)
+[[noreturn]] inline void no_memory() { throw std::bad_alloc(); }
+[[noreturn]] inline void moved_away(const char *why) { throw std::logic_error(why); }
+[[noreturn]] inline void bad_argument(const char *why) { throw std::invalid_argument(why); }
+#else
+[[noreturn]] inline void bad_argument(const char *why) {
+    std::fprintf(stderr, "dvg.hpp: %s\n", why);
+    std::abort();
+}
+[[noreturn]] inline void no_memory() { bad_argument("no memory"); }
+[[noreturn]] inline void moved_away(const char *why) { bad_argument(why); }
+#endif
+} // namespace refusals
 
 /* Bytes of a RAM or a ROM. */
 using Bytes = std::vector<std::uint8_t>;
@@ -31,7 +53,7 @@ public:
     Device() {
         dvg *made = nullptr;
         if (dvg_new(&made) != 0) {
-            throw std::bad_alloc();
+            refusals::no_memory();
         }
         device_.reset(made);
     }
@@ -39,7 +61,7 @@ public:
     /* The device for a call of dvg.h. std::logic_error where it was moved away. */
     operator dvg *() const {
         if (!device_) {
-            throw std::logic_error("the device was moved away");
+            refusals::moved_away("the device was moved away");
         }
         return device_.get();
     }
@@ -60,10 +82,10 @@ protected:
     /* Throws what an answer is that isn't DVG_OPENED. */
     static void expect_opened(dvg_answer answer) {
         if (answer.kind == DVG_NO_MEMORY) {
-            throw std::bad_alloc();
+            refusals::no_memory();
         }
         if (answer.kind != DVG_OPENED) {
-            throw std::invalid_argument(dvg_kind_text(answer.kind));
+            refusals::bad_argument(dvg_kind_text(answer.kind));
         }
     }
 
@@ -77,12 +99,11 @@ protected:
     /* Restores this of bytes, and nothing else: dvg_restore. */
     void restore_as(dvg_saved what, const Bytes &bytes) {
         if (dvg_saved_as(bytes.data(), bytes.size()) != what) {
-            throw std::invalid_argument("restore: no saved state of this class and version");
+            refusals::bad_argument("restore: no saved state of this class and version");
         }
         dvg_answer answer = dvg_restore(*this, bytes.data(), bytes.size());
         if (answer.kind == DVG_NO_STATE) {
-            throw std::invalid_argument(
-                "restore: its parts don't fit, or this ROM refuses its frame");
+            refusals::bad_argument("restore: its parts don't fit, or this ROM refuses its frame");
         }
         expect_opened(answer);
     }
@@ -100,7 +121,7 @@ class World : public Device {
 public:
     World(const Bytes &ram, const Bytes &rom) {
         if (ram.size() != DVG_RAM_BYTES) {
-            throw std::invalid_argument("a RAM has 2,048 bytes");
+            refusals::bad_argument("a RAM has 2,048 bytes");
         }
         expect_opened(dvg_open_world(*this, ram.data(), rom.data(), rom.size()));
     }
@@ -120,7 +141,7 @@ public:
     }
 
     /* Its state as bytes, without its ROM and the strokes of a finished run: dvg_save. */
-    Bytes save() const { return saved(); }
+    DVG_MUST_USE Bytes save() const { return saved(); }
 
     /* Has it go on as the world over the same ROM whose state these bytes are: dvg_restore, which
      * leaves another draft, and doesn't compare the ROM. Of other bytes, a generator's among them,
@@ -141,7 +162,7 @@ public:
 class AnyGenerator : public Device {
 public:
     /* Whether this byte makes a move, if it is handed over next, and which: dvg_generator_move. */
-    bool move_by(std::uint8_t byte, dvg_move &move) const {
+    DVG_MUST_USE bool move_by(std::uint8_t byte, dvg_move &move) const {
         return dvg_generator_move(*this, byte, &move).kind == DVG_MOVES;
     }
 
@@ -163,7 +184,7 @@ public:
     }
 
     /* Its state as bytes: dvg_save. */
-    Bytes save() const { return saved(); }
+    DVG_MUST_USE Bytes save() const { return saved(); }
 
 protected:
     AnyGenerator() = default;
@@ -180,7 +201,7 @@ public:
 
     /* Another one that goes on as this one does, without the strokes of a finished run.
      * std::bad_alloc. */
-    Generator copy() const {
+    DVG_MUST_USE Generator copy() const {
         Generator other;
         other.restore(save());
         return other;
@@ -194,7 +215,7 @@ public:
 
     /* As those of a Generator, of the bytes and with a copy of a WrappingGenerator. */
     void restore(const Bytes &bytes) { restore_as(DVG_SAVED_WRAPPING, bytes); }
-    WrappingGenerator copy() const {
+    DVG_MUST_USE WrappingGenerator copy() const {
         WrappingGenerator other;
         other.restore(save());
         return other;

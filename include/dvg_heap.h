@@ -22,14 +22,14 @@ typedef struct dvg_block {
 } dvg_block;
 
 /* A new block. */
-dvg_block rattle_alloc(size_t bytes, size_t align);
+dvg_block dvg_heap_alloc(size_t bytes, size_t align);
 
 /* The block at `old` with another size: its first `kept` bytes stay, and where `ok` is false it
  * stays as it is. */
-dvg_block rattle_realloc(void *old, size_t kept, size_t bytes, size_t align);
+dvg_block dvg_heap_realloc(void *old, size_t kept, size_t bytes, size_t align);
 
 /* Frees a block. */
-void rattle_dealloc(void *old);
+void dvg_heap_free(void *old);
 
 #ifdef __cplusplus
 }

@@ -1,11 +1,20 @@
 /* What the library for C gives beside its three functions: its version, and many requests in one
- * call; and that dvg_free takes a null pointer. It calls those three, and is tested, not proved. */
+ * call; that dvg_free takes a null pointer, and that dvg_new is ended by assert where it gets one.
+ * It calls those three, and is tested, not proved. */
 #include "dvg.h"
 
-/* ./lib has given the function that frees a device this name. Who links this file with an archive
- * in which that is still called dvg_free leaves this part out: there it wants a device. */
-#ifdef DVG_FREE_IS_RENAMED
+/* ./lib has given the functions that make and free a device these names. Who links this file with
+ * an archive in which they are still called dvg_new and dvg_free leaves this part out: there both
+ * want a pointer. */
+#ifdef DVG_IS_RENAMED
+uint32_t dvg_new_device(dvg **out);
 void dvg_free_device(dvg *device);
+
+uint32_t dvg_new(dvg **out)
+{
+    dvg_need(out);
+    return dvg_new_device(out);
+}
 
 void dvg_free(dvg *device)
 {
@@ -38,6 +47,11 @@ static bool is_last(uint64_t request, uint64_t number)
 size_t dvg_turns(dvg *device, const uint64_t *requests, uint64_t *answers, size_t count)
 {
     size_t asked = 0;
+    if (count > 0) {
+        dvg_there(device);
+        dvg_need(requests);
+        dvg_need(answers);
+    }
     while (asked < count) {
         uint64_t request = requests[asked];
         uint64_t number = dvg_turn(device, request);

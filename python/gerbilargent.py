@@ -64,9 +64,9 @@ from typing import (
 )
 
 __all__ = [
-    "BadByte", "BadLog", "BadOperation", "BadState", "Beam", "Break", "Busy", "Bytes", "Closed",
-    "Draft", "DraftFull", "DraftRefused", "Driver", "Endless", "Entry", "Error", "Event", "Fault",
-    "Generator", "Halted", "InUse", "Judge", "Kind", "LibraryMissing", "MOST_OPERATIONS",
+    "BadByte", "BadCount", "BadLog", "BadOperation", "BadState", "Beam", "Break", "Busy", "Bytes",
+    "Closed", "Draft", "DraftFull", "DraftRefused", "Driver", "Endless", "Entry", "Error", "Event",
+    "Fault", "Generator", "Halted", "InUse", "Judge", "Kind", "LibraryMissing", "MOST_OPERATIONS",
     "MOST_WORDS", "MomentJudge", "Move", "NoBytes", "NoDraft", "NoEvent", "NoInteger", "NoStrobe",
     "NoStroke", "NoText", "NotCopied", "NothingPublished", "Opened", "Operation", "OutOfMemory",
     "Picture", "RAM_BYTES", "RETURNS", "ROM_SIZES", "RunBroke", "Stroke", "Torn", "Verdict",
@@ -346,6 +346,10 @@ class BadByte(Error, ValueError):
     """A byte isn't 0 to 255, a word or an address of more bits than 16, or none of the RAM."""
 
 
+class BadCount(Error, ValueError):
+    """A count is out of its range: the units of an SVG, or the most words of a run."""
+
+
 class BadState(Error, ValueError):
     """Bytes are no saved state of what is to be restored, or one of another version.
 
@@ -564,6 +568,15 @@ def _whole(name: str, value: int) -> int:
         raise NoInteger(f"{name} is {value!r}, and must be an integer") from None
 
 
+def _count(name: str, value: int, least: int, most: Optional[int] = None) -> int:
+    """The count of this name, where it is one from the least to the most, or from the least on."""
+    count = _whole(name, value)
+    if count < least or most is not None and count > most:
+        until = "or more" if most is None else f"to {most}"
+        raise BadCount(f"{name} is {count}, and must be {least} {until}")
+    return count
+
+
 def _byte(value: int) -> int:
     """The byte, where it is one."""
     byte = _whole("a byte", value)
@@ -652,6 +665,10 @@ def _saved_world(saved: bytes) -> "tuple[bytes, array[int], array[int], int]":
     return saved[8:8 + RAM_BYTES], parts, operations, driver
 
 
+#: What is asked of a world for each byte of its RAM.
+_OF_RAM = array("Q", (int(_Request.BYTE) | at << 8 for at in range(RAM_BYTES)))
+
+
 def _units(start: int, end: int) -> int:
     """The move from one position to another in whole units, a half rounded away from zero."""
     ahead = (end - start) % 0x200000
@@ -680,8 +697,15 @@ _ENTRY_BITS = (1 << 40) - 1
 
 @functools.lru_cache(maxsize=1 << 14)
 def _entry_of(number: int) -> Entry:
-    """The entry that an answer is, with the number of strokes from bit 40 on."""
-    return Entry(Kind(number & 0xFF), number >> 8 & 0xFFFF, number >> 24 & 0xFFFF, number >> 40)
+    """The entry that an answer is, of a DONE with the number of strokes from bit 40 on."""
+    kind = Kind(number & 0xFF)
+    strokes = number >> 40 if kind is Kind.DONE else 0
+    return Entry(kind, number >> 8 & 0xFFFF, number >> 24 & 0xFFFF, strokes)
+
+
+def _done(number: int, strokes: int) -> int:
+    """The answer of a DONE with its number of strokes, as `_entry_of` takes it."""
+    return number & _ENTRY_BITS | strokes << 40
 
 
 def _length(name: str, held: "Sequence[int]") -> int:
@@ -846,7 +870,7 @@ class _Device:
             asked += library.dvg_turns(device, here, here, count - asked)
             kind = numbers[asked - 1] & 0xFF
             if kind == done:
-                numbers[asked - 1] |= library.dvg_turn(device, strokes) << 40
+                numbers[asked - 1] = _done(numbers[asked - 1], library.dvg_turn(device, strokes))
         return asked
 
     def _ask(self, request: _Request, fields: int = 0) -> Entry:
@@ -864,7 +888,7 @@ class _Device:
         if entry.kind is Kind.BROKE:
             raise RunBroke(entry.address, Break(entry.value & 3))
         if entry.kind is Kind.DONE:
-            return _entry_of(number | self._turn(_Request.STROKES) << 40)
+            return _entry_of(_done(number, self._turn(_Request.STROKES)))
         return entry
 
     def _ask_all(self, requests: "array[int]") -> Entry:
@@ -893,7 +917,7 @@ class _Device:
         """The answers to this request, numbered from 0, as long as this is their lowest byte."""
         found = array("Q")
         while True:
-            numbers = range(len(found), len(found) + 512)
+            numbers = range(len(found), len(found) + (512 if found else 16))
             asked = array("Q", (int(request) | number << 8 for number in numbers))
             self._turns(asked)
             found.extend(itertools.takewhile(lambda answer: answer & 0xFF == code, asked))
@@ -1299,11 +1323,12 @@ class Generator(_Device):
     ) -> Picture:
         """Starts over this RAM and ROM, which don't change, and runs up to the HALT.
 
-        RunBroke; Endless, where there is no end within this many words; WrongSize, OutOfMemory.
+        RunBroke; Endless, where there is no end within this many words; BadCount, where they are
+        less than 0; WrongSize, OutOfMemory.
         """
         held_rom = _rom(rom)
         memory, rom_bytes = _ram(ram) + held_rom, len(held_rom)
-        most = _whole("most_words", most_words)
+        most = _count("most_words", most_words, 0)
         low, fetched = int(Kind.LOW), int(Kind.FETCHED)
         number = self._turn(_Request.STROBE)
         words = 0
@@ -1353,9 +1378,9 @@ class World(_Device):
         return self._ram()
 
     def _ram(self) -> bytes:
-        asked = array("Q", (int(_Request.BYTE) | at << 8 for at in range(RAM_BYTES)))
+        asked = array("Q", _OF_RAM)
         self._turns(asked)
-        return bytes(number >> 24 for number in asked)
+        return _turned(asked).tobytes()[3::8]  # bits 24 to 31 of each answer
 
     @_alone
     def save(self) -> bytes:
@@ -1650,7 +1675,7 @@ def picture(dump: Bytes, most_words: int = MOST_WORDS) -> Picture:
     """What a dump of the vector memory draws, as `dvg picture` says it.
 
     A dump is the 2,048 bytes of a RAM and then the 2,048 or 4,096 bytes of a ROM: 4,096 or 6,144.
-    RunBroke; Endless; WrongSize; OutOfMemory.
+    RunBroke; Endless; BadCount; WrongSize; OutOfMemory.
     """
     held = _bytes("a dump", dump)
     if len(held) not in (4096, 6144):
@@ -1837,9 +1862,9 @@ def svg(strokes: Iterable[Stroke], units: int = 1024) -> str:
 
     Intensities 1 to 15 are opacities of 0.30 to 1.00, lines 2 pixels wide, and a stroke of length 0
     a dot. A stroke goes the shorter way; where that crosses the edge at 4,096 units, it is there
-    twice.
+    twice. BadCount: these are no units, 1 to 4,096. NoStroke.
     """
-    side = _whole("units", units) * 512
+    side = _count("units", units, 1, 4096) * 512
     head = (f'<svg xmlns="http://www.w3.org/2000/svg" width="1024" height="1024" '
             f'viewBox="-256 -256 {side} {side}">\n'
             f'<rect x="-256" y="-256" width="{side}" height="{side}"/>\n'

@@ -25,7 +25,7 @@ static bool refuses = false;
 
 static unsigned char nowhere;
 
-dvg_block rattle_alloc(size_t bytes, size_t align)
+dvg_block dvg_heap_alloc(size_t bytes, size_t align)
 {
     dvg_block got = {false, &nowhere};
     size_t size = bytes == 0 ? align : bytes;
@@ -41,7 +41,7 @@ dvg_block rattle_alloc(size_t bytes, size_t align)
     return got;
 }
 
-void rattle_dealloc(void *old)
+void dvg_heap_free(void *old)
 {
     unsigned char *block = (unsigned char *)old - ROOM;
     size_t size;
@@ -50,12 +50,12 @@ void rattle_dealloc(void *old)
     free(block);
 }
 
-dvg_block rattle_realloc(void *old, size_t kept, size_t bytes, size_t align)
+dvg_block dvg_heap_realloc(void *old, size_t kept, size_t bytes, size_t align)
 {
-    dvg_block got = rattle_alloc(bytes, align);
+    dvg_block got = dvg_heap_alloc(bytes, align);
     if (got.ok) {
         memcpy(got.block, old, kept);
-        rattle_dealloc(old);
+        dvg_heap_free(old);
     }
     return got;
 }

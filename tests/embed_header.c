@@ -156,15 +156,15 @@ static void test_staging(dvg *none)
     static const int full[] = {DVG_STAGED, DVG_STAGED, DVG_FULL};
     static const int opened[] = {DVG_CLEARED, DVG_STAGED, DVG_STAGED,
                                  DVG_STAGED,  DVG_OPENED, DVG_CLEARED};
-    static const int wrong[] = {DVG_CLEARED, DVG_STAGED, DVG_STAGED, DVG_FULL, DVG_CLEARED};
+    static const int wrong[] = {DVG_CLEARED, DVG_STAGED, DVG_CLEARED};
     static const int none_left[] = {DVG_CLEARED, DVG_NO_MEMORY, DVG_CLEARED};
     static const int driver[] = {DVG_CLEARED, DVG_STAGED, DVG_STAGED, DVG_WRONG_SIZE, DVG_CLEARED};
     static const int reset[] = {DVG_CLEARED, DVG_STAGED, DVG_STAGED, DVG_CLEARED, DVG_CLEARED};
     static const uint64_t runs[] = {10, 0x307000A, 0x100000A, 0x109000A};
     static const uint64_t world[] = {11, 0x80000000A, 10, 0x80000000A, 12, 11};
-    static const uint64_t too_long[] = {11, 0x80000000A, 10, 0x80000000A, 11};
     static const uint64_t refused[] = {11, 0x80000000A, 11};
     static const uint64_t driver_alone[] = {11, 10, 0x80000000A, 13, 11};
+    static const uint64_t nothing[] = {11, 11};
     static const uint64_t all[] = {11, 10, 0x80000000A, 7, 11};
     static const uint64_t empty[] = {10};
     ASKS(11, dvg_unstage(none));
@@ -181,9 +181,11 @@ static void test_staging(dvg *none)
     answer(6, opened);
     expect_all(dvg_open_world(none, NULL, ram, 2048), DVG_OPENED, 6, world,
                "a world is opened by RAM and then ROM");
-    answer(5, wrong);
-    expect_all(dvg_open_world(none, NULL, ram, 2048), DVG_WRONG_SIZE, 5, too_long,
-               "what can't be staged has the wrong size");
+    answer(3, wrong);
+    expect_all(dvg_open_world(none, NULL, NULL, 6145), DVG_WRONG_SIZE, 3, refused,
+               "a ROM of another length is not looked at");
+    expect_all(dvg_open_driver(none, NULL, 2047), DVG_WRONG_SIZE, 2, nothing,
+               "nor is that of a driver");
     answer(3, none_left);
     expect_all(dvg_open_world(none, NULL, ram, 2048), DVG_NO_MEMORY, 3, refused,
                "refused memory ends an opening");

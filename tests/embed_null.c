@@ -1,9 +1,10 @@
 /* Hands each call of include/dvg.h a null pointer for a device: dvg_free must do nothing, and each
- * other one must be ended by the header's assert, which says so. Each call is made in a process of
- * its own.
+ * other one must be ended by the header's assert, which says so. So must each call that is handed
+ * one for what it reads or writes; where it does neither, it must answer. Each is made in a process
+ * of its own.
  *
  *     embed_null           tests them. The last line is 'N passed, M failed'
- *     embed_null --names   prints the calls
+ *     embed_null --names   prints the calls that are handed no device
  *
  * It is linked with the archive of ./lib. */
 #define _POSIX_C_SOURCE 200809L
@@ -16,13 +17,14 @@
 #include <sys/wait.h>
 #include <unistd.h>
 
-/* Of dvg_turn and dvg_turns, which are linked, nothing is said. */
+/* Of dvg_turn nothing is said. */
 #define CALLS \
     CALL(dvg_ask(NULL, DVG_REQUEST_TICK)) \
     CALL(dvg_stage_byte(NULL, 0, 1)) \
     CALL(dvg_stage_bytes(NULL, bytes, 9)) \
     CALL(dvg_unstage(NULL)) \
     CALL(dvg_stage_ram(NULL, bytes)) \
+    CALL(dvg_stage_rom(NULL, bytes, 9)) \
     CALL(dvg_ask_staged(NULL, line, DVG_REQUEST_TICK)) \
     CALL(dvg_open_world(NULL, bytes, bytes, DVG_ROM_BYTES)) \
     CALL(dvg_open_driver(NULL, bytes, DVG_ROM_BYTES)) \
@@ -47,6 +49,7 @@
     CALL(dvg_driver_tick(NULL, true, 0)) \
     CALL(dvg_strobe(NULL)) \
     CALL(dvg_fetch(NULL)) \
+    CALL(dvg_run_to_halt(NULL, 0)) \
     CALL(dvg_wants(NULL)) \
     CALL(dvg_generator_fetch(NULL, 0)) \
     CALL(dvg_generator_hole(NULL)) \
@@ -61,7 +64,7 @@
     CALL(dvg_reset_all(NULL, bytes)) \
     CALL(dvg_save(NULL, ram, sizeof ram)) \
     CALL(dvg_save_answers(NULL, DVG_REQUEST_STATE, DVG_STATE, ram, sizeof ram, 8)) \
-    CALL(dvg_restore(NULL, saved, sizeof saved)) \
+    CALL(dvg_restore(NULL, saved, sizeof saved).kind) \
     CALL(dvg_restore_world(NULL, saved_world, sizeof saved_world)) \
     CALL(dvg_tell_saved(NULL, DVG_SAVED_GENERATOR, saved, 8, sizeof saved)) \
     CALL(dvg_judge_line(NULL, DVG_STARTED, 0, 0)) \
@@ -78,8 +81,47 @@
     CALL(dvg_generator_fetch_from(NULL, bytes, bytes, DVG_ROM_BYTES)) \
     CALL(dvg_draw(NULL, bytes, bytes, DVG_ROM_BYTES, 9, NULL, NULL))
 
+/* Null pointers for what a call needs. `device` is one in which a run of a generator is open. */
+#define NEEDING \
+    CALL(dvg_new(NULL) == 0) \
+    CALL(dvg_turns(NULL, numbers, numbers, 3)) \
+    CALL(dvg_turns(device, NULL, numbers, 3)) \
+    CALL(dvg_turns(device, numbers, NULL, 3)) \
+    CALL(dvg_stage_bytes(device, NULL, 9)) \
+    CALL(dvg_open_world(device, bytes, NULL, DVG_ROM_BYTES)) \
+    CALL(dvg_open_driver(device, NULL, DVG_LARGE_ROM_BYTES)) \
+    CALL(dvg_generator_move(device, 0, NULL)) \
+    CALL(dvg_held_by(device, NULL)) \
+    CALL(dvg_ram(device, NULL)) \
+    CALL(dvg_saved_as(NULL, 16)) \
+    CALL(dvg_save(device, NULL, 1)) \
+    CALL(dvg_restore(device, NULL, 16).kind) \
+    CALL(dvg_hand_from(device, 0, NULL, bytes, DVG_ROM_BYTES)) \
+    CALL(dvg_hand_from(device, 0x1000, bytes, NULL, DVG_ROM_BYTES)) \
+    CALL(dvg_generator_fetch_from(device, NULL, bytes, DVG_ROM_BYTES)) \
+    CALL(dvg_draw(device, NULL, bytes, DVG_ROM_BYTES, 9, NULL, NULL))
+
+/* What answers: a null pointer that nothing is read of, and a length that none has. */
+static bool answers(dvg *device)
+{
+    const uint8_t *nowhere = (const uint8_t *)1;
+    return dvg_turns(device, NULL, NULL, 0) == 0
+           && dvg_stage_bytes(device, NULL, 0).kind == DVG_STAGED
+           && dvg_saved_as(NULL, 0) == DVG_SAVED_NOTHING && dvg_save(device, NULL, 0) > 0
+           && dvg_restore(device, NULL, 0).kind == DVG_NO_STATE
+           && dvg_open_world(device, NULL, NULL, 0).kind == DVG_WRONG_SIZE
+           && dvg_open_world(device, NULL, nowhere, 6145).kind == DVG_WRONG_SIZE
+           && dvg_open_driver(device, nowhere, (size_t)-1).kind == DVG_WRONG_SIZE
+           && dvg_generator_fetch_from(device, nowhere, nowhere, 1).kind == DVG_WRONG_SIZE
+           && dvg_draw(device, nowhere, nowhere, 1, 9, NULL, NULL).last.kind == DVG_WRONG_SIZE
+           && dvg_wants(device).kind == DVG_WANTED;
+}
+
 #define CALL(call) #call,
-static const char *const names[] = {CALLS};
+static const char *const names[] = {CALLS NEEDING};
+#undef CALL
+#define CALL(call) +1
+enum { WITHOUT_DEVICE = 0 CALLS };
 #undef CALL
 
 static const uint8_t bytes[DVG_LARGE_ROM_BYTES];
@@ -87,10 +129,24 @@ static const uint8_t saved[16] = {'D', 'V', 'G', DVG_SAVED_VERSION, 1, 0, 0, 0, 
 static const uint8_t saved_world[8] = {DVG_REQUEST_RESUME_WORLD};
 static const dvg_answer line = {DVG_STARTED, 0, 0, -1};
 
+/* A device in which a run of a generator is open. */
+static dvg *make_device(void)
+{
+    dvg *device = NULL;
+    if (dvg_new(&device) != 0) {
+        exit(2);
+    }
+    dvg_open_generator(device);
+    dvg_strobe(device);
+    return device;
+}
+
 /* Makes the call of this number. */
 static void make(int number)
 {
+    uint64_t numbers[3] = {DVG_REQUEST_WANTS, DVG_REQUEST_WANTS, DVG_REQUEST_WANTS};
     uint8_t ram[DVG_RAM_BYTES];
+    dvg *device = make_device();
     dvg_move move;
     dvg_held held;
     int here = 0;
@@ -98,8 +154,9 @@ static void make(int number)
     if (here++ == number) { \
         (void)(call); \
     }
-    CALLS
+    CALLS NEEDING
 #undef CALL
+    dvg_free(device);
 }
 
 /* Makes the call in a child. Writes the first bytes of its standard error to `said`, a text of
@@ -128,32 +185,39 @@ static int made_apart(int number, char *said, size_t size)
     return status;
 }
 
-/* Whether the call is ended by the assert. */
+/* Whether the call is ended by an assert of the header, which says this or that. */
 static bool is_ended(int number)
 {
     char said[400];
     int status = made_apart(number, said, sizeof said);
     return WIFSIGNALED(status) && WTERMSIG(status) == SIGABRT
-           && strstr(said, "dvg.h was handed no device") != NULL;
+           && (strstr(said, "dvg.h was handed no device: dvg_new makes one") != NULL
+               || strstr(said, "dvg.h was handed a null pointer for what it needs") != NULL);
 }
 
 int main(int count, char **words)
 {
     const int calls = (int)(sizeof names / sizeof *names);
+    dvg *device = make_device();
     int failed = 0;
     if (count > 1 && strcmp(words[1], "--names") == 0) {
-        for (int number = 0; number < calls; number++) {
+        for (int number = 0; number < WITHOUT_DEVICE; number++) {
             puts(names[number]);
         }
         return 0;
     }
     dvg_free(NULL);
+    if (!answers(device)) {
+        failed++;
+        printf("FAILED: a call that needs no bytes answers otherwise\n");
+    }
+    dvg_free(device);
     for (int number = 0; number < calls; number++) {
         if (!is_ended(number)) {
             failed++;
             printf("FAILED: %s isn't ended by assert\n", names[number]);
         }
     }
-    printf("%d passed, %d failed\n", calls + 1 - failed, failed);
+    printf("%d passed, %d failed\n", calls + 2 - failed, failed);
     return failed != 0;
 }

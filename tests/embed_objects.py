@@ -61,6 +61,7 @@ class Watched:
     def __init__(self, library):
         self.library = library
         self.alive, self.made, self.wrong = {}, 0, []
+        self.asked = 0
         self.in_call = {}
         self.amid = None
 
@@ -80,9 +81,11 @@ class Watched:
         self.library.dvg_free(device)
 
     def dvg_turn(self, device, request):
+        self.asked += 1
         return self.watched(device, lambda: self.library.dvg_turn(device, request))
 
     def dvg_turns(self, device, at, answers, count):
+        self.asked += count
         return self.watched(device, lambda: self.library.dvg_turns(device, at, answers, count))
 
     def watched(self, device, call):
@@ -371,6 +374,88 @@ def test_failing():
         expect_raises(g.Closed, half.__enter__, "what couldn't be opened")
         del half
     expect_none_left("what can't be opened")
+
+
+# --- What is asked and answered ---
+
+#: The requests whose answers are whole numbers, each bit of which says something.
+NUMBERS = {g._Request[name] for name in (
+    "STROKES", "STROKE_FROM", "STROKE_TO", "STROKE_INTENSITY", "MOVE_TO", "BEAM", "STATE",
+    "DRIVER", "OPERATION",
+)}
+
+
+class Later:
+    """A later library: in its answers bits are set that say nothing today."""
+
+    def __init__(self, library):
+        self.library = library
+        self.dvg_new, self.dvg_free = library.dvg_new, library.dvg_free
+
+    def dvg_turn(self, device, request):
+        answer = self.library.dvg_turn(device, request)
+        return answer if request & 0xFF in NUMBERS else answer | 7 << 61
+
+    def dvg_turns(self, device, at, answers, count):
+        numbers = (g.ctypes.c_uint64 * count).from_address(at)
+        requests = list(numbers)
+        asked = self.library.dvg_turns(device, at, answers, count)
+        for number, request in enumerate(requests[:asked]):
+            if request & 0xFF not in NUMBERS:
+                numbers[number] |= 7 << 61
+        return asked
+
+
+def returned():
+    """What calls of each class return."""
+    with World() as world, Generator() as generator, Driver() as driver, MomentJudge() as judge:
+        drawn = world.draw(FRAME)
+        events = [Event.REDRAW] + [Event.TICK] * 9 + [Event.STROBE] + [Event.FETCH] * 99
+        entries = world.run(events)
+        told = [judge.tell(entry) for entry in entries]
+        generator.strobe()
+        fetched = [(generator.fetch_from(world.ram), generator.wanted, generator.first_word)
+                   for _ in range(9)]
+        return (
+            drawn, entries, told, fetched, world.tick(), world.halted, world.beam, world.strokes,
+            world.ram, world.save(), driver.tick(True, 0), generator.move_by(0x90),
+            generator.return_addresses, generator.beam, generator.save(),
+            generator.draw(world.ram), repr(world),
+        )
+
+
+def test_answers():
+    """Bits of an answer that say nothing are passed over."""
+    wanted = returned()
+    expect(sum(entry.kind is Kind.DONE for entry in wanted[1]) == 1, "a picture is drawn")
+    real = library.library
+    library.library = Later(real)
+    try:
+        found = returned()
+    finally:
+        library.library = real
+    for number, (theirs, ours) in enumerate(zip(found, wanted)):
+        expect(theirs == ours, f"{number}: a later library returns {theirs!r}, not {ours!r}")
+    expect_none_left("a later library")
+
+
+def test_counts():
+    """A save asks little: what it asks is counted, as its time isn't the same each time."""
+    with World() as world, Generator() as generator:
+        for call, most in ((world.save, 2100), (generator.save, 20), (lambda: world.ram, 2048)):
+            before = library.asked
+            call()
+            expect(library.asked - before <= most, f"{library.asked - before} requests of {most}")
+        world.restore(world.save())
+    for call in (
+        lambda: g.svg([], 0), lambda: g.svg([], -5), lambda: g.svg([], 4097),
+        lambda: g.picture(bytes(4096), -1), lambda: Generator().draw(RAM, most_words=-1),
+    ):
+        expect_raises(g.BadCount, call, "a count out of its range")
+    expect(str(raised(g.svg, [], 0)) == "units is 0, and must be 1 to 4096", "it says the range")
+    expect_raises(g.Endless, lambda: Generator().draw(RAM, most_words=0), "no words")
+    expect("<svg" in g.svg([], 1) and "<svg" in g.svg([], 4096), "the ends of the range")
+    expect_none_left("counts")
 
 
 # --- Forks, threads, signals ---
@@ -698,7 +783,8 @@ def storm(seconds, seed):
 for test in (
     test_calls, test_copies, test_copies_of_generators, test_copies_of_drafts,
     test_copies_of_values, test_with, test_subclasses, test_cycles, test_failing, test_forks,
-    test_ended_threads, test_in_use, test_signals, test_fetching, test_types,
+    test_ended_threads, test_in_use, test_signals, test_fetching, test_types, test_answers,
+    test_counts,
 ):
     test()
 if len(sys.argv) > 1:

@@ -17,7 +17,7 @@ static long living = 0;
 
 static unsigned char nowhere;
 
-dvg_block rattle_alloc(size_t bytes, size_t align)
+dvg_block dvg_heap_alloc(size_t bytes, size_t align)
 {
     dvg_block got = {false, &nowhere};
     if (is_refused(bytes)) {
@@ -33,17 +33,17 @@ dvg_block rattle_alloc(size_t bytes, size_t align)
     return got;
 }
 
-dvg_block rattle_realloc(void *old, size_t kept, size_t bytes, size_t align)
+dvg_block dvg_heap_realloc(void *old, size_t kept, size_t bytes, size_t align)
 {
-    dvg_block got = rattle_alloc(bytes, align);
+    dvg_block got = dvg_heap_alloc(bytes, align);
     if (got.ok) {
         memcpy(got.block, old, kept);
-        rattle_dealloc(old);
+        dvg_heap_free(old);
     }
     return got;
 }
 
-void rattle_dealloc(void *old)
+void dvg_heap_free(void *old)
 {
     living--;
     free(old);

@@ -44,7 +44,7 @@ static bool is_refused() {
     return now;
 }
 
-dvg_block rattle_alloc(std::size_t bytes, std::size_t align) {
+dvg_block dvg_heap_alloc(std::size_t bytes, std::size_t align) {
     if (is_refused()) {
         return answer(nullptr);
     }
@@ -52,11 +52,11 @@ dvg_block rattle_alloc(std::size_t bytes, std::size_t align) {
     return answer(std::malloc(bytes == 0 ? align : bytes));
 }
 
-dvg_block rattle_realloc(void *old, std::size_t, std::size_t bytes, std::size_t align) {
+dvg_block dvg_heap_realloc(void *old, std::size_t, std::size_t bytes, std::size_t align) {
     return is_refused() ? answer(nullptr) : answer(std::realloc(old, bytes == 0 ? align : bytes));
 }
 
-void rattle_dealloc(void *old) {
+void dvg_heap_free(void *old) {
     blocks--;
     std::free(old);
 }
@@ -64,7 +64,7 @@ void rattle_dealloc(void *old) {
 // What came of the calls.
 struct Counts {
     unsigned long calls, no_memory, no_argument, moved_away, right_rams, wrong_rams;
-    unsigned long restored_worlds;
+    unsigned long restored, restored_worlds;
 };
 
 class Storm {
@@ -286,7 +286,7 @@ private:
         }
         std::uint8_t little[30];
         dvg_save(d, little, below(31));
-        dvg_restore(d, saved.data(), saved.size());
+        counts_.restored += dvg_restore(d, saved.data(), saved.size()).kind == DVG_OPENED;
         switch (below(4)) {
         case 0: return pick(generators_).restore(saved);
         case 1: return pick(wrapping_).restore(saved);
@@ -367,8 +367,8 @@ int main(int count, char **words) {
                     counts.right_rams);
         failed++;
     }
-    if (counts.restored_worlds == 0) {
-        std::puts("FAILED: no world was restored");
+    if (counts.restored_worlds == 0 || counts.restored == 0) {
+        std::puts("FAILED: no world was restored, or nothing by dvg_restore");
         failed++;
     }
     if (counts.moved_away == 0 || counts.no_argument == 0 || refused_memory == 0) {

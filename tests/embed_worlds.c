@@ -335,6 +335,51 @@ static dvg_answer run(dvg *device)
     return answer;
 }
 
+/* Lets a world with a frame come so many steps on, by dvg_run_to_halt and by hand: both end alike,
+ * and in the same state. Returns the kind that both end with. */
+static dvg_kind run_both(dvg *one, dvg *other, uint32_t most)
+{
+    static uint8_t bytes[DVG_SAVED_WORLD_BYTES], others[DVG_SAVED_WORLD_BYTES];
+    dvg_kind last = DVG_STILL, ended;
+    size_t size;
+    dvg_open_world(one, NULL, rom, DVG_ROM_BYTES);
+    dvg_open_world(other, NULL, rom, DVG_ROM_BYTES);
+    while (dvg_tick(one).kind != DVG_IDLE) {
+    }
+    dvg_clear(one);
+    dvg_labs(one, 0, 0, 0);
+    dvg_vctr(one, 9, 100, 100, 7);
+    dvg_halt(one);
+    expect(dvg_offer(one).kind == DVG_OFFERED, "a frame is offered");
+    expect(dvg_restore(other, bytes, dvg_save(one, bytes, sizeof bytes)).kind == DVG_OPENED,
+           "to both");
+    ended = dvg_run_to_halt(one, most).kind;
+    for (; most > 0 && last != DVG_DONE; most--) {
+        if (dvg_tick(other).kind == DVG_SENT) {
+            expect(dvg_strobe(other).kind == DVG_STARTED, "the strobe arrives");
+        }
+        last = dvg_fetch(other).kind;
+    }
+    size = dvg_save(one, bytes, sizeof bytes);
+    expect(ended == last && dvg_save(other, others, sizeof others) == size
+               && memcmp(bytes, others, size) == 0, "a run goes on as by hand");
+    return ended;
+}
+
+/* A world whose run is brought to its end by one call. */
+static void test_run_to_halt(dvg *one, dvg *other)
+{
+    uint32_t most = 0;
+    expect(dvg_shut(one).kind == DVG_CLOSED && dvg_run_to_halt(one, 9).kind == DVG_CLOSED,
+           "nothing runs where nothing is open");
+    while (most < 99 && run_both(one, other, most) != DVG_DONE) {
+        most++;
+    }
+    /* The run has six words: a jump into the frame, and its five. */
+    expect(most >= 12 && most < 99, "a run ends");
+    expect(run_both(one, other, 1000) == DVG_DONE && dvg_strokes(one) == 1, "and no other begins");
+}
+
 /* A strobe that was sent, and didn't arrive before the save, arrives after the restore; one that
  * arrived before has the frame drawn once more. */
 static void test_strobe(dvg *one, dvg *other)
@@ -344,11 +389,13 @@ static void test_strobe(dvg *one, dvg *other)
     dvg_open_world(other, NULL, rom, DVG_ROM_BYTES);
     expect(!dvg_run_is_open(other) && dvg_strobe(other).kind == DVG_NO_STROBE, "none was sent");
     publish(one);
-    dvg_restore(other, bytes, dvg_save(one, bytes, sizeof bytes));
+    expect(dvg_restore(other, bytes, dvg_save(one, bytes, sizeof bytes)).kind == DVG_OPENED,
+           "a world goes on in another device");
     expect(!dvg_run_is_open(other) && dvg_strobe(other).kind == DVG_STARTED, "a strobe arrives");
     expect(dvg_run_is_open(other) && run(other).kind == DVG_DONE && dvg_strokes(other) == 1,
            "and its run draws the frame");
-    dvg_restore(one, bytes, dvg_save(other, bytes, sizeof bytes));
+    expect(dvg_restore(one, bytes, dvg_save(other, bytes, sizeof bytes)).kind == DVG_OPENED,
+           "and back in the first one");
     expect(!dvg_run_is_open(one) && dvg_strobe(one).kind == DVG_STARTED
                && run(one).kind == DVG_DONE && dvg_strokes(one) == 1, "it is drawn once more");
 }
@@ -391,7 +438,8 @@ static void test_judging(dvg *world, dvg *judge)
     publish(world);
     dvg_strobe(world);
     dvg_fetch(world);
-    dvg_restore(world, bytes, dvg_save(world, bytes, sizeof bytes));
+    expect(dvg_restore(world, bytes, dvg_save(world, bytes, sizeof bytes)).kind == DVG_OPENED,
+           "a world goes on amid a run");
     dvg_open_judge(judge);
     /* Of the 16 bytes of its run one was fetched. */
     for (int bytes_left = 15; bytes_left > 0; bytes_left--) {
@@ -418,6 +466,7 @@ int main(int count, char **words)
     memset(rom, 0xD0, sizeof rom);
     test_others(one, other);
     memset(rom, 0xD0, sizeof rom);
+    test_run_to_halt(one, other);
     test_strobe(one, other);
     test_other_rom(one, other);
     test_judging(one, other);

@@ -25,6 +25,7 @@
  * 2: memory or a file failed; 64: arguments. */
 #include "mine.h"
 #include <dvg.h>
+#include <errno.h>
 #include <stdio.h>
 #include <stdlib.h>
 #include <string.h>
@@ -33,14 +34,17 @@
 #define MOST_RUN 200 /* words of a random run, before it is handed a HALT */
 #define MOST_FETCHED (DVG_MOST_WORDS + 4) /* words of any run, with that HALT */
 #define MOST_STROKES MOST_FETCHED
+#define MOST_STARTS 2 /* start strobes amid runs */
 #define HALT 0xB000
 #define HOLE (-1)
 
 /* What both sides are run over. */
 struct test {
     int32_t words[WORDS];  /* a word each, or HOLE */
-    unsigned interrupted;  /* bytes of a first run, which a start strobe ends; 0: there is none */
-    unsigned most;         /* words of the run, before a HALT is handed in place of the memory's */
+    unsigned starts[MOST_STARTS]; /* bytes of each run before the last one, after which a start
+                                     strobe comes; 0: there is no such run */
+    unsigned most;         /* words of the last run, before a HALT is handed in place of the
+                              memory's */
 };
 
 /* What came of it. */
@@ -314,13 +318,18 @@ static void begin_port(void)
 static void run(const struct test *test, struct outcome *outcome)
 {
     struct test again;
+    bool power_on = true;
+    unsigned i;
     memset(outcome, 0, sizeof *outcome);
     begin_port();
-    if (test->interrupted > 0) {
-        run_once(test, outcome, true, test->interrupted);
+    for (i = 0; i < MOST_STARTS && !outcome->differs; i++) {
+        if (test->starts[i] > 0) {
+            run_once(test, outcome, power_on, test->starts[i]);
+            power_on = false;
+        }
     }
     if (!outcome->differs) {
-        run_once(test, outcome, test->interrupted == 0, 2 * test->most + 8);
+        run_once(test, outcome, power_on, 2 * test->most + 8);
     }
     outcome->compared = outcome->words;
     if (!outcome->differs && outcome->broke != DVG_BREAK_NONE) {
@@ -371,22 +380,23 @@ static void take_fetched(struct test *test)
     take(test, &candidate);
 }
 
-/* What the run fetched, but for its calls, jumps and returns, stands in a row from word 000. */
+/* What the run fetched, but for its HALT, calls, returns and jumps, stands in a row from 000. */
 static void take_row(struct test *test)
 {
     struct outcome outcome;
     struct test candidate = *test;
     unsigned i, place = 0;
+    bool second = false;
     run(test, &outcome);
     for (i = 0; i < WORDS; i++) {
         candidate.words[i] = HALT;
     }
     for (i = 0; i < outcome.words; i++) {
         unsigned opcode = fetched_word[i] >> 12;
-        bool follows = i > 0 && fetched_at[i] == fetched_at[i - 1] + 1;
-        if ((follows || opcode < 0xB || opcode == 0xF) && place < WORDS) {
+        if ((second || opcode <= 0xA || opcode == 0xF) && place < WORDS) {
             candidate.words[place++] = (int32_t)fetched_word[i];
         }
+        second = !second && opcode <= 0xA;
     }
     take(test, &candidate);
 }
@@ -451,13 +461,13 @@ static unsigned length_of(const struct test *test)
     return length;
 }
 
-/* Takes the shortest first run with which it still differs, or none at all. */
-static bool shrink_first_run(struct test *test)
+/* Takes the shortest run of this number with which it still differs, or none at all. */
+static bool shrink_run(struct test *test, unsigned number)
 {
     struct test candidate = *test;
     unsigned bytes;
-    for (bytes = 0; bytes < test->interrupted; bytes++) {
-        candidate.interrupted = bytes;
+    for (bytes = 0; bytes < test->starts[number]; bytes++) {
+        candidate.starts[number] = bytes;
         if (take(test, &candidate)) {
             return true;
         }
@@ -468,8 +478,11 @@ static bool shrink_first_run(struct test *test)
 /* One pass of smaller tests. Returns whether one was taken. */
 static bool shrink_once(struct test *test)
 {
-    bool taken = shrink_first_run(test);
-    unsigned place = 0;
+    bool taken = false;
+    unsigned place = 0, number;
+    for (number = 0; number < MOST_STARTS; number++) {
+        taken |= shrink_run(test, number);
+    }
     while (place < length_of(test)) {
         if (shrink_word(test, place)) {
             taken = true;
@@ -509,8 +522,11 @@ static void report(struct test *test)
             printf("%03X %04X\n", i, (unsigned)test->words[i]);
         }
     }
-    if (test->interrupted > 0) {
-        printf("a start strobe arrives after %u bytes of a first run\n", test->interrupted);
+    for (i = 0; i < MOST_STARTS; i++) {
+        if (test->starts[i] > 0) {
+            printf("a start strobe arrives after %u bytes of a %s run\n", test->starts[i],
+                   i > 0 && test->starts[0] > 0 ? "second" : "first");
+        }
     }
     if (outcome.words > test->most) {
         printf("from word %u of the run on, B000 is handed\n", test->most);
@@ -540,7 +556,8 @@ static int32_t random_word(bool any)
     return (int32_t)(opcodes[choice] | low);
 }
 
-/* Writes a random test: also with holes, with an address that goes on after FFF, interrupted. */
+/* Writes a random test: also with holes, with an address that goes on after FFF, and with start
+ * strobes that end a run, two in one test of eight. */
 static void make_random(struct test *test)
 {
     unsigned i;
@@ -553,7 +570,8 @@ static void make_random(struct test *test)
     if (number_below(8) == 0) {
         test->words[0] = (int32_t)(0xE000 | (0xFF0 + number_below(16)));
     }
-    test->interrupted = number_below(2) ? 1 + number_below(60) : 0;
+    test->starts[0] = number_below(2) ? 1 + number_below(60) : 0;
+    test->starts[1] = number_below(4) == 0 ? 1 + number_below(60) : 0;
     test->most = 1 + number_below(MOST_RUN);
 }
 
@@ -576,7 +594,7 @@ static bool read_image(struct test *test, const char *name)
         bool there = i < 0x400 || (i < 0xC00 && 2 * i >= 0x1800 - (length - DVG_RAM_BYTES));
         test->words[i] = there ? bytes[from] | bytes[from + 1] << 8 : HOLE;
     }
-    test->interrupted = 0;
+    memset(test->starts, 0, sizeof test->starts);
     test->most = DVG_MOST_WORDS;
     return true;
 }
@@ -629,18 +647,19 @@ static void write_shrunk(const struct test *test)
  * whether its run has an end. */
 static bool is_whole(const struct test *test, const struct outcome *outcome, const char *name)
 {
-    printf("%s: no difference in %u words", name, outcome->compared);
+    bool ends = outcome->compared <= test->most;
+    printf("%s: no difference in %u words", name, ends ? outcome->compared : test->most);
     if (outcome->broke != DVG_BREAK_NONE) {
         bool wrap_goes_on = outcome->broke != DVG_BREAK_HOLE;
         printf("; not compared: what follows the %s at %03X%s",
                wrap_goes_on ? dvg_break_text(outcome->broke) : "word without memory",
                outcome->broke_at, wrap_goes_on ? ", which --wrap compares" : "");
     }
-    if (outcome->compared > test->most) {
+    if (!ends) {
         printf("; not compared: what follows them: it has no end within %u words", test->most);
     }
     printf("\n");
-    return outcome->compared <= test->most;
+    return ends;
 }
 
 static int compare_images(struct test *test, char **names)
@@ -703,10 +722,14 @@ static int take_option(char **words)
     return units || moves || wrap;
 }
 
-/* The number that this word of the command line is, in digits alone; of any other word 0. */
+/* The number that this word of the command line is, in digits alone; of any other word 0, and of
+ * one that 64 bits don't hold. */
 static uint64_t number_of(const char *word)
 {
-    return word[strspn(word, "0123456789")] == '\0' ? strtoull(word, NULL, 10) : 0;
+    unsigned long long number;
+    errno = 0;
+    number = strtoull(word, NULL, 10);
+    return word[strspn(word, "0123456789")] == '\0' && errno == 0 ? number : 0;
 }
 
 int main(int count, char **arguments)
