@@ -17,8 +17,8 @@
  * that was refused, and what was put outside of a frame, or was left out of it; of a scale that
  * dvg_labs doesn't take, and of a place that wasn't set anew; of reads of RAM that nothing had
  * written, and of an input whose wrong bits decide; and where no frame was made at all. With a ROM
- * it tells in the board's run of which places that put something nothing is seen, or a part in no
- * picture. With a MAP it ends with the labels of the segment CODE at which nothing ran or was
+ * it names in the board's run the places where in each picture nothing is seen of what they put, or
+ * a part isn't. With a MAP it ends with the labels of the segment CODE at which nothing ran or was
  * read. */
 #include <stdarg.h>
 #include <stdio.h>
