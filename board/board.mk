@@ -159,7 +159,7 @@ torn: build/roms/$(MACHINE)
 
 labels = build/$(PROGRAM).labels
 premises = $(BOARD)emulator/premises build/driver.proved build/$(PROGRAM).program $(labels) \
-    build/shapes.equates $(JUDGED) "$(played)" build/$(PROGRAM).map
+    build/shapes.equates $(JUDGED) "$(played)" build/$(PROGRAM).map build/rom
 
 premises: good_buttons build/roms/$(MACHINE) build/premises build/driver.proved
 	@$(premises)

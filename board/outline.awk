@@ -5,16 +5,18 @@
 #
 # An outline is points X,Y in units of the screen, from where the beam is when the shape is called.
 # The beam draws to each point, and moves to one after an @ without drawing. A name may stand before
-# them, and more points in the next lines; `return` is added after the last. A house, with a door:
+# them, and more points in the next lines. `return` is added after the last, where the outline has a
+# name or is of the ROM; one without a name in a frame is drawn there. A house, with a bright door:
 #
-#     house: 60,0 60,40 30,60 0,40 0,0 @20,0 20,20 35,20 35,0 @0,0
+#     house: 60,0 60,40 30,60 0,40 0,0 @20,0 intensity=12 20,20 35,20 35,0 @0,0
 #
 # All other lines stay as they are. Each vector gets the least scale that has room for its move: the
 # generator takes as long for a vector as its scale says, however short it is. The global scale 0
 # shows a shape in its own size, 1 twice as large, and 15 half as large. A vector goes at most 1,023
-# units. -v intensity=N sets how bright it is, 1 to 15; it is 9 where none is given. What can't be
-# read is reported on standard error, with its line, and the status is 1. With -v from=FILE that
-# file gets the number of each line that is written, and from which file and line it came.
+# units. intensity=N, 0 to 15, sets how bright the points after it are, up to the end of an outline.
+# Else it is what -v intensity=N says, or 9. What can't be read is reported on standard error, with
+# its line, and the status is 1. With -v from=FILE that file gets the number of each line that is
+# written, and from which file and line it came.
 
 function out(text) {
     print text
@@ -55,12 +57,25 @@ function vector(x, y, z, scale, step, dx, dy) {
     out(sprintf("  vctr %d %d %d %d", scale, dx, dy, z))
 }
 
-# No operation of a sketch has a comma or an @.
-function is_point(word) { return word ~ /,|^@/ }
+# No operation of a sketch has a comma, an @ or an =.
+function is_point(word) { return word ~ /,|^@|=/ }
 
+# At a line that isn't of the last outline.
 function end_outline() {
-    if (is_open) out("  return")
+    if (is_open && (is_named || in_rom)) out("  return")
     is_open = at_x = at_y = 0
+    is_named = $1 ~ /:$/
+    bright = intensity
+}
+
+function draw_to(word, z, point) {
+    if (word ~ /^intensity=([0-9]|1[0-5])$/) bright = substr(word, 11)
+    else if (word ~ /^@?-?[0-9]+(\.[0-9]+)?,-?[0-9]+(\.[0-9]+)?$/) {
+        z = word ~ /^@/ ? 0 : bright
+        sub(/^@/, "", word)
+        split(word, point, ",")
+        vector(point[1], point[2], z)
+    } else refuse("no point: '" word "'")
 }
 
 BEGIN { if (intensity == "") intensity = 9 }
@@ -87,19 +102,15 @@ $1 ~ /:$/ && is_point($2) {
 
 !is_point($1) {
     end_outline()
+    if ($1 ~ /^\./) in_rom = $1 == ".rom"
+    if (NF > 1) is_named = 0
     out(whole)
     next
 }
 
 {
     is_open = 1
-    for (i = 1; i <= NF; i++) {
-        z = $i ~ /^@/ ? 0 : intensity
-        if ($i ~ /^@?-?[0-9]+(\.[0-9]+)?,-?[0-9]+(\.[0-9]+)?$/) {
-            split(z ? $i : substr($i, 2), point, ",")
-            vector(point[1], point[2], z)
-        } else refuse("no point: '" $i "'")
-    }
+    for (i = 1; i <= NF; i++) draw_to($i)
 }
 
 END {

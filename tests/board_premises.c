@@ -1,12 +1,12 @@
 /* Whether a program keeps to the premises under which docs/BOARD.md speaks of it, as far as a run
  * shows it.
  *
- *     board_premises DRIVER PROGRAM LABELS EQUATES SECONDS SEED [BUTTONS [MAP]]
+ *     board_premises DRIVER PROGRAM LABELS EQUATES SECONDS SEED [BUTTONS [MAP [ROM]]]
  *
  * DRIVER has the bytes that are proved, PROGRAM those up to 7FFF, LABELS is ld65's list, EQUATES is
- * build/shapes.equates, BUTTONS a file of buttons (docs/GAME.md) or empty, and MAP what ld65 tells
- * of its segments. The program runs by the 6502
- * of board_cpu.h. With SEED 0 its NMIs come as on the board: one each 6,144 cycles, and none amid
+ * build/shapes.equates, BUTTONS a file of buttons (docs/GAME.md) or empty, MAP what ld65 tells of
+ * its segments, and ROM the bytes of the vector ROM. The program runs by the 6502 of board_cpu.h.
+ * With SEED 0 its NMIs come as on the board: one each 6,144 cycles, and none amid
  * another one, so that a file of buttons is played as it was recorded. With another seed they come
  * at chance between two instructions, also sooner, and amid another NMI. None comes amid the first
  * cycles after power-on, in which a program can't have set a byte yet, nor while the self-test
@@ -15,14 +15,18 @@
  * Prints how much was seen, or the first thing that is against a premise, and the place of the
  * instruction (status 1). Where nothing is, it also warns of calls that did nothing: a dvg_open
  * that was refused, and what was put outside of a frame, or was left out of it; of a scale that
- * dvg_labs doesn't take; of reads of RAM that nothing had written; and where no frame was made at
- * all. With a MAP it ends with the labels of the segment CODE at which nothing ran or was read. */
+ * dvg_labs doesn't take, and of a place that wasn't set anew; of reads of RAM that nothing had
+ * written, and of an input whose wrong bits decide; and where no frame was made at all. With a ROM
+ * it names in the board's run the places where in each picture nothing is seen of what they put, or
+ * a part isn't. With a MAP it ends with the labels of the segment CODE at which nothing ran or was
+ * read. */
 #include <stdarg.h>
 #include <stdio.h>
 #include <stdlib.h>
 #include <string.h>
 #include "board_cpu.h"
 #include "board_labels.h"
+#include "board_strokes.h"
 
 enum {
     CODE = 0x6800, PROGRAM_BYTES = 0x2000, VARIABLES = 0x10, OPERANDS = 0x1B, OPERANDS_END = 0x1F,
@@ -30,7 +34,9 @@ enum {
     BEGUN = 8, NMI_CYCLES = 6144, FRAME_CYCLES = 24576, NMI_MOST_CYCLES = 6048, NMI_MOST_TICKS = 53,
     CYCLES_A_SECOND = 1512000, LEAST_STACK = 0x60,
     INPUTS = 0x2000, CLOCK = 0x2001, TEST = 0x2007, SWITCHES = 0x2800, INPUTS_END = 0x3000,
-    ROM = 0x6000, JSR_OPCODE = 0x20, MOST_CALLS = 3, RAM_END = 0x400, VECTORS = 0x7FFA
+    ROM = 0x6000, JSR_OPCODE = 0x20, RTI_OPCODE = 0x40, RTS_OPCODE = 0x60, TXS_OPCODE = 0x9A,
+    BNE_OPCODE = 0xD0, BEQ_OPCODE = 0xF0, MOST_CALLS = 3, RAM_END = 0x400, VECTORS = 0x7FFA,
+    FREE = 0x11, ALL_OPERANDS = 0xF, VECTOR_ROM_END = 0x5800, VECTOR_ROM = 0x1000
 };
 enum { IDLE = 2, BUILD = 7, WRITING = 0x80 };
 enum routine { RESET, RUN, TICKS, TICK, OFFER, REDRAW, OPEN, PUT, PAIR, SET, VECTOR, COPY, CLOSE };
@@ -68,7 +74,16 @@ static vain left_out = {
 static vain lost_scales = {
     .what = "calls of dvg_labs have bits 3 to 0 of A set: A is 16 times the scale"
 };
-static const vain *const warnings[] = { &refused_opens, &vain_puts, &left_out, &lost_scales };
+static vain old_places = {
+    .what = "calls of dvg_labs or dvg_vector take bytes of dvg_x or dvg_y from before the last one"
+};
+static vain misread = {
+    .what = "branches by BEQ or BNE look at all bits of a switch: BMI and BPL look at the one that "
+        "counts, and AND #SWITCHES_MASK leaves two"
+};
+static const vain *const warnings[] = {
+    &refused_opens, &vain_puts, &left_out, &lost_scales, &old_places, &misread
+};
 static vain blind_reads[RAM_END];       /* of each byte, before anything had written it */
 static uint8_t was_written[RAM_END], was_counted[RAM_END], was_used[MEMORY];
 static uint8_t memory[MEMORY];
@@ -84,10 +99,16 @@ static int begins_anew;                 /* it went to its reset vector, and call
 static long calls, nmis, nested, frames_built, frames_offered;
 static uint64_t seed;
 static int is_boards;                   /* NMIs come as on the board */
+static int has_rom;                     /* the vector ROM is there */
+static int operands_set;                /* a bit for each byte of dvg_y and dvg_x */
+static int input_read = -1;             /* the input that the last instruction read, or -1 */
 
 static int word_at(int at) { return memory[at] | memory[at + 1] << 8; }
 
 static int is_driver(int at) { return at >= CODE && at < code_end; }
+
+/* Whether a label is local to a macro: ca65 makes a name for it. */
+static int is_macros(int i) { return strchr(labels[i].name, '-') != 0; }
 
 /* As `6AF8, picture + 23`: the label before it, in the driver one of its routines. */
 static void print_place(int at)
@@ -97,7 +118,7 @@ static void print_place(int at)
     for (int i = 0; i < label_count; i++) {
         const int found = labels[i].at, is_routine = !strncmp(labels[i].name, "dvg_", 4);
         if (found < ROM || found > at || (name && found <= from)) continue;
-        if (is_driver(at) ? !is_routine : is_driver(found)) continue;
+        if (is_driver(at) ? !is_routine : is_driver(found) || is_macros(i)) continue;
         name = labels[i].name;
         from = found;
     }
@@ -106,13 +127,20 @@ static void print_place(int at)
     if (name && at > from && !is_driver(at)) printf(" + %d", at - from);
 }
 
+/* The JSR whose return address stands on the stack above s, or 0. */
+static int call_above(int s)
+{
+    const int call = s < 0xFE ? word_at(0x101 + s) - 2 : 0;
+    return call < ROM || call >= MEMORY - 6 || memory[call] != JSR_OPCODE ? 0 : call;
+}
+
 /* Where the driver was called from, by the JSRs whose return addresses stand on the stack. */
 static void print_calls(void)
 {
     int s = processor.s;
-    for (int i = 0; i < MOST_CALLS && s < 0xFE; i++, s += 2) {
-        int call = word_at(0x101 + s) - 2;
-        if (call < ROM || call >= MEMORY - 6 || memory[call] != JSR_OPCODE) return;
+    for (int i = 0; i < MOST_CALLS; i++, s += 2) {
+        const int call = call_above(s);
+        if (!call) return;
         if (is_driver(call)) continue;
         printf(", from ");
         print_place(call);
@@ -253,8 +281,9 @@ uint8_t bus_read(uint16_t at, int dummy)
     if (!dummy) check_read(at);
     if (is_hardware(at) && !now->in_driver && has_called) fail("%s reads %04X", whose(), at);
     if (at == FLAG) return processor.cycles < run_ends ? 0xFF : 0x7F;
-    if (at >= INPUTS && at < INPUTS_END) return read_input(at);
-    return memory[at];
+    if (at < INPUTS || at >= INPUTS_END) return memory[at];
+    input_read = at;
+    return read_input(at);
 }
 
 /* A write that isn't the driver's. */
@@ -270,6 +299,7 @@ static void check_write(int at)
         fail("%s writes %04X, of the table that is being written", whose(), at);
     if (is_nmi() && at >> 8 == 1 && (at & 0xFF) > now->before.s)
         fail("the NMI writes %04X, which stands on the stack above S", at);
+    if (is_operand) operands_set |= 1 << (at - OPERANDS);
 }
 
 /* What an NMI counts by INC is a clock, which may begin anywhere. */
@@ -358,6 +388,9 @@ static int does_put(enum routine routine)
         routine == COPY;
 }
 
+/* Whether it takes dvg_y and dvg_x, and leaves something else there. */
+static int moves(enum routine routine) { return routine == SET || routine == VECTOR; }
+
 /* What one must do before a call of this routine. */
 static void check_call(enum routine routine)
 {
@@ -395,6 +428,9 @@ static void begin_call(void)
     calls++;
     if (does_put(now->routine) && !is_building()) note(&vain_puts);
     if (now->routine == SET && processor.a & 0x0F) note(&lost_scales);
+    if (!moves(now->routine)) return;
+    if (operands_set != ALL_OPERANDS) note(&old_places);
+    operands_set = 0;
 }
 
 static void end_call(void)
@@ -407,9 +443,13 @@ static void end_call(void)
         was_reset = 1;
         begins_anew = 0;
     }
-    if (now->routine == OPEN && is_taken) instructions = 0;
+    if (now->routine == OPEN && is_taken) instructions = put_count = 0;
     if (now->routine == OPEN && !is_taken) note(&refused_opens);
     if (does_put(now->routine) && !is_taken && is_building()) note(&left_out);
+    if (does_put(now->routine) && is_taken)
+        note_put((uint16_t)(now->back - 3), call_above(processor.s));
+    if (now->routine == CLOSE && is_taken && has_rom)
+        draw_frame(memory + VECTOR_RAM, memory[FREE] & 2 ? 0x201 : 0x001);
     frames_offered += now->routine == OFFER && is_taken;
     frames_built += now->routine == CLOSE && is_taken;
 }
@@ -468,7 +508,21 @@ static void check_opcode(int opcode)
 {
     if (opcode == 0x00) fail("a BRK");
     if (opcode == 0xF8) fail("a SED, and D has to stay clear");
+    if (opcode == TXS_OPCODE && is_nmi())
+        fail("the NMI sets S: is it the reset? VECTORS has .word nmi, reset, irq");
+    if (opcode == RTI_OPCODE && !is_nmi())
+        fail("an RTI of no NMI: is it the reset's? VECTORS has .word nmi, reset, irq");
+    if (opcode == RTS_OPCODE && is_nmi() && processor.s == (uint8_t)(now->before.s - 3))
+        fail("the NMI ends with RTS, and not with RTI");
     if (opcode_index[opcode] < 0) fail("%02X, which is no opcode of the manual,", opcode);
+}
+
+/* Of a switch the other bits aren't known: bit 7 counts, or bits 1 and 0 of those on the board. */
+static void check_input(int opcode)
+{
+    if (input_read >= 0 && (opcode == BEQ_OPCODE || opcode == BNE_OPCODE))
+        note_at(&misread, instruction, processor.cycles);
+    input_read = -1;
 }
 
 static void run_one(void)
@@ -484,6 +538,7 @@ static void run_one(void)
         fail("more than %d ticks in an NMI", NMI_MOST_TICKS);
     if (processor.s < LEAST_STACK && was_reset) fail("the stack grows down to %02X", processor.s);
     check_opcode(memory[processor.pc % MEMORY]);
+    check_input(memory[processor.pc % MEMORY]);
     step(&processor);
 }
 
@@ -526,6 +581,8 @@ static void check_place(const uint8_t *driver, size_t size)
     if (label("dvg_phase") != VARIABLES || label("length") != VARIABLES_END - 1)
         fail("the driver's variables stand from %02X on", label("dvg_phase"));
     code_end = CODE + (int)size;
+    if (word_at(VECTORS) == word_at(VECTORS + 2))
+        fail("the NMI's vector leads to the reset: VECTORS has .word nmi, reset, irq");
 }
 
 /* The lists of tables, if the program has some. */
@@ -563,6 +620,33 @@ static void tell_blind_reads(void)
     printf(", of %04X%s%s\n", byte, name ? ", " : "", name ? name : "");
 }
 
+/* From where to where the strokes go, and what the tube shows. */
+static void print_strokes(const place_seen *place)
+{
+    printf("it goes from %ld, %ld to %ld, %ld, and the tube shows 0, %d to %d, %d\n",
+        place->low[0] / UNIT, place->low[1] / UNIT, place->high[0] / UNIT, place->high[1] / UNIT,
+        TUBE_BOTTOM, TUBE_RIGHT, TUBE_TOP);
+}
+
+/* Of a place of whose strokes none is seen, or some in no picture, or all are tiny. */
+static void tell_place(const place_seen *place)
+{
+    const int is_tiny = place->is_bright && !place->scale && place->most >= SHORT_MOVE;
+    if (!place->pictures || (place->seen_count && place->off_count < place->pictures && !is_tiny))
+        return;
+    printf("warning: %s of what ", is_tiny ? "all is of scale 0" : place->seen_count ?
+        "a part isn't seen" : "nothing is seen");
+    print_place(place->call);
+    if (place->around) printf(", from ");
+    if (place->around) print_place(place->around);
+    printf(" puts, in %s%ld pictures: ", place->seen_count ? "each of " : "", place->pictures);
+    if (is_tiny)
+        printf("at most %.1f units; A is 16 times the scale, and the intensity\n",
+            (double)place->most / UNIT);
+    else if (!place->is_bright) printf("all is dark\n");
+    else print_strokes(place);
+}
+
 /* Where the segment DATA begins, by the list of segments, or else the vectors. */
 static int data_of(const char *path)
 {
@@ -588,8 +672,7 @@ static void tell_unused(int data)
     qsort(labels, (size_t)label_count, sizeof labels[0], compare_labels);
     for (int i = 0; i < label_count; i++) {
         const int at = labels[i].at;
-        if (at < code_end || at >= data || at == last || was_used[at] ||
-            strchr(labels[i].name, '-')) continue;
+        if (at < code_end || at >= data || at == last || was_used[at] || is_macros(i)) continue;
         printf("%s%s", count++ ? " " : "never run: ", labels[i].name);
         last = at;
     }
@@ -600,13 +683,19 @@ int main(int count, char **words)
 {
     uint8_t driver[PROGRAM_BYTES], program[PROGRAM_BYTES];
     size_t size;
-    if (count < 7 || count > 9) return 64;
+    if (count < 7 || count > 10) return 64;
     ready_opcodes();
     size = read_file(words[2], program, sizeof program);
     memcpy(memory + MEMORY - size, program, size);
     read_labels(words[3]);
     if (count > 7 && *words[7]) read_presses(words[7]);
     read_shapes(words[4]);
+    if (count > 9) {
+        uint8_t rom[VECTOR_ROM];
+        has_rom = 1;
+        size = read_file(words[9], rom, sizeof rom);
+        memcpy(memory + VECTOR_ROM_END - size, rom, size);
+    }
     seed = strtoull(words[6], 0, 10);
     is_boards = !seed;
     seed = seed * 0x9E3779B97F4A7C15u + 1;
@@ -626,6 +715,7 @@ int main(int count, char **words)
     }
     tell_blind_reads();
     if (!frames_built && !frames_offered) printf("warning: no frame was built or offered\n");
+    for (int i = 0; is_boards && i < place_count; i++) tell_place(&places_seen[i]);
     if (count > 8) tell_unused(data_of(words[8]));
     return 0;
 }

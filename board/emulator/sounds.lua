@@ -1,20 +1,25 @@
--- For scripts of the arcade emulator: which of the board's sounds are on.
+-- For scripts of the arcade emulator: which of the board's sounds and coin counters are on.
 --
 --     dofile("sounds.lua")
 --     dvg_watch_sounds(INC)    from now on it looks at what is written; INC is asteroids.inc or
 --                              deluxe.inc, which has the names
---     dvg_sounding()           lines of a sound that is on, and since which second
+--     dvg_sounding()           lines of one that is on, and since which second
 --
 -- SOUND_.. are on while bit 7 of what was written last is set, THUMP while THUMP_ON is, and
--- EXPLOSION while it is loud.
+-- EXPLOSION while it is loud. OUT_COIN_.. is a bit of OUTPUTS, or has an address of its own.
 
--- The sounds of the .inc: each name with its address and the bits that have it sound.
+local OUTPUTS = 0x3200
+
+-- Those of the .inc: each name with its address and the bits that have it on.
 local function read_sounds(path)
   local bits, found = { THUMP = 0x10, EXPLOSION = 0x3c }, {}
   for line in io.lines(path) do
     local name, at = line:match("^([A-Z_]+)%s*=%s*%$(3%x%x%x)")
-    if name and (bits[name] or name:match("^SOUND_")) then
+    local counter, bit = line:match("^(OUT_COIN_%u+)%s*=%s*%%([01]+)")
+    if name and (bits[name] or name:match("^SOUND_") or name:match("^OUT_COIN_")) then
       found[#found + 1] = { name = name, at = tonumber(at, 16), bits = bits[name] or 0x80 }
+    elseif counter then
+      found[#found + 1] = { name = counter, at = OUTPUTS, bits = tonumber(bit, 2) }
     end
   end
   return found

@@ -11,6 +11,8 @@ import brings
 from opcodes import Instruction
 from program import CODE_END, DRIVER_END, ROUTINES, is_driver
 
+CURE = ('it is seen where lda LIST,y and ldx LIST,y stand right before the call, and before these '
+        'cpy #LENGTH and bcs, or and #MASK and tay; or where lda # and ldx # do')
 WHAT = {'dvg_offer': 'offered', 'dvg_put': 'put', 'dvg_pair': 'put by dvg_pair'}
 
 

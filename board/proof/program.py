@@ -72,7 +72,8 @@ class Program:
         for line in labels:
             word, label = line.split()[1:]
             at = int(word, 16)
-            if at in self.rom and not is_driver(at) and not label.startswith(('.__', '.dvg_')):
+            is_own = '-' not in label and not label.startswith(('.__', '.dvg_'))
+            if at in self.rom and not is_driver(at) and is_own:
                 self.labels.setdefault(at, label[1:])
 
     def word(self, at):

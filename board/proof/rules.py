@@ -29,9 +29,12 @@ TOO_EARLY = 'comes before dvg_reset, or after a store of a byte of 10 to 20'
 ASLEEP = 'dvg_reset may not have been called, or a byte of 10 to 20 was stored since'
 LOOPS = 'the NMI may loop, or lasts too long: write each round of a loop for itself'
 SHARED = 'the NMI leads there, too: it ends with RTI, and shares no instruction with the program'
+DEEP = ('it needs more of the stack than there is: does a subroutine call itself, or a loop push? '
+        'Let it keep in RAM what it would push')
+ORDER = 'VECTORS has .word nmi, reset, irq, in this order'
 EMPTY = 'the frame may be empty yet: begin it with dvg_labs'
 # What an instruction elsewhere is mostly the cause of.
-FOLLOWS = TOO_EARLY, ASLEEP, LOOPS, EMPTY
+FOLLOWS = TOO_EARLY, ASLEEP, LOOPS, EMPTY, DEEP
 GOES_ON = {'dvg_put', 'dvg_pair', 'dvg_vector', 'dvg_close'}
 
 
@@ -52,17 +55,29 @@ def stores_own(i):
     return i.writes() and any(map(is_own, i.reached() or ()))
 
 
+def cure_of(a):
+    """What to write in the place of a store into an address, or ''."""
+    cures = [(0x100, 0x200, 'push it, or keep it in page 2'),
+             (0x3200, 0x4000, 'an output is written by its name, as WATCHDOG, without an index'),
+             (0x4000, 0x4800, 'the driver alone writes there, so leave out a test of it'),
+             (0x4800, 0x8000, 'what changes stands in RAM (.segment "BSS")'),
+             (0x8000, 0x10000, 'write that one, by its name')]
+    return next((cure for low, high, cure in cures if low <= a < high), '')
+
+
 def check_store(i, level):
     if i.reached() is None:
-        raise Refused('it stores through a pointer, which may lead anywhere: store by an index')
+        raise Refused('it stores through a pointer, which may lead anywhere: store by an index, '
+                      'into an array for each field (sta FIELD,x)')
     for a in i.reached():
         if may_write(level, a):
             continue
-        if len(i.reached()) > 1:
-            cure = ('let the array stand from 0200 on, and begin at 0300 or before (.segment "BSS")'
-                    if i.operand < 0x400 else 'an index is for arrays in RAM alone')
-            raise Refused(f'by its index it may reach {a:04X}, {place(a)}: {cure}')
-        raise Refused(f'it writes {a:04X}, {place(a)}{", in the NMI" * (level == "nmi")}')
+        if len(i.reached()) > 1 and i.operand < 0x400:
+            raise Refused(f'by its index it may reach {a:04X}, {place(a)}: let the array stand '
+                          'from 0200 on, and begin at 0300 or before (.segment "BSS")')
+        does = 'by its index it may reach' if len(i.reached()) > 1 else 'it writes'
+        cure = f': {cure_of(a)}' if cure_of(a) else ''
+        raise Refused(f'{does} {a:04X}, {place(a)}{", in the NMI" * (level == "nmi")}{cure}')
 
 
 def check_read(i):
@@ -86,8 +101,7 @@ def check_next(program, notes, now, to):
         raise Refused(f'{bytes_of(now.depth)} on the stack, and at {where} {new.depth}: '
                       'push and pull as much on each way')
     if new.room > now.room:
-        raise Refused('it needs more of the stack than there is: does a subroutine call itself, '
-                      'or a loop push?')
+        raise Refused(DEEP)
     if now.level == 'nmi' and new.fuel >= now.fuel:
         raise Refused(LOOPS)
     if new.awake and not now.awake:
@@ -125,8 +139,9 @@ def check_return(now, blank):
     if now.level != 'sub':
         raise Refused(f'it returns from level {now.level}, where no call is open')
     if now.depth:
+        by_table = '; in place of a jump by two bytes, compare, and JMP' if now.depth == 2 else ''
         raise Refused(f'it returns with {bytes_of(now.depth)} more on the stack: '
-                      'pull what was pushed, on each way')
+                      f'pull what was pushed, on each way{by_table}')
     if blank and not now.ends:
         raise Refused('it returns with an empty frame')
 
@@ -195,11 +210,13 @@ def after(i, now):
 def check_alone(i, now):
     """What is asked of an instruction by itself."""
     if i.name == 'none':
-        raise Refused(f'{i.opcode:02X} is no opcode: does the program run on into data, or is a '
-                      'branch before it always taken? Write JMP there')
+        raise Refused(f'{i.opcode:02X} is no opcode: does the program run on into data? Write JMP '
+                      'for a branch that is always taken, and keep text away from behind a JSR')
     if i.name in ('brk', 'sed', 'txs') or i.mode == '(abs)':
-        raise Refused({'brk': 'it goes where an IRQ does', 'sed': 'decimal sums are not proved',
-                       'txs': 'S is set at a reset alone: LDX #$FF, TXS, before any call'}.get(
+        raise Refused({'brk': 'it goes where an IRQ does',
+                       'sed': 'decimal sums are not proved: parts/score.inc counts by digits',
+                       'txs': 'S is set at a reset alone: LDX #$FF, TXS behind one another, before '
+                              'any call'}.get(
                            i.name, 'a jump by a table leads nobody knows where: compare, and JMP'))
     if i.writes():
         check_store(i, now.level)
@@ -208,7 +225,8 @@ def check_alone(i, now):
     if i.name in ('pha', 'php') and now.room < 1:
         raise Refused('the stack has no room for it')
     if i.name in ('pla', 'plp') and now.depth < 1:
-        raise Refused('it takes what was not pushed here: a subroutine ends by RTS alone')
+        raise Refused('it takes what was not pushed here: a subroutine ends by RTS alone, and gets '
+                      'the address of a text in A and X')
 
 
 def check_one(program, notes, at):
@@ -228,12 +246,13 @@ def check_one(program, notes, at):
         check_next(program, notes, after(i, now), i.next)
 
 
-def boot(program):
+def boot(program, vector=RESET_VECTOR):
     """Where a program starts, after its reset's LDX #$FF, TXS. Refused gives the address, too."""
-    at = program.word(RESET_VECTOR)
+    at = program.word(vector)
     for _ in range(BOOT_INSTRUCTIONS):
         if not is_code(at):
-            raise Refused(at, 'the reset leads out of the game')
+            mirror = f': let its vector be {at - 0x8000:04X}' if is_code(at - 0x8000) else ''
+            raise Refused(at, f'the reset leads out of the game{mirror}')
         if [program.rom[at + k] for k in range(3)] == [0xA2, 0xFF, 0x9A]:
             return at + 3
         i = Instruction(program.rom, at)
@@ -250,7 +269,8 @@ def check_boot(i):
     check_alone(i, Note('main', 0, ANYTHING, '', 0, 0, False, False, False))
     others = {'jmp', 'jsr', 'rts', 'rti', 'pla', 'plp'} | BRANCHES | set(TRANSFERS)
     if i.name in others or i.writes() and i.size == 3 and ',' in i.mode:
-        raise Refused('a reset begins with LDX #$FF, TXS; before it come loads and stores alone')
+        raise Refused('a reset begins with LDX #$FF, TXS; before it come loads and stores alone: '
+                      f'{ORDER if i.name == "rti" else "let this follow it"}')
 
 
 def check_begin(program, notes, start):
@@ -266,6 +286,11 @@ def check_begin(program, notes, start):
     if first.room + NMI_STACK > 255:
         raise Refused(f'the program may push {first.room} bytes, and {255 - NMI_STACK} are there: '
                       'does a subroutine call itself?')
+
+
+def is_elsewhere(why, now):
+    """Whether another instruction is mostly the cause of this refusal."""
+    return why.endswith(FOLLOWS) and not (why == DEEP and now.level == 'sub')
 
 
 def is_back(i):
@@ -284,7 +309,7 @@ def refusals(program, notes, start, driver):
         try:
             check_one(program, notes, at)
         except Refused as why:
-            i, follows = Instruction(program.rom, at), str(why).endswith(FOLLOWS)
+            i, follows = Instruction(program.rom, at), is_elsewhere(str(why), notes[at])
             if str(why) != LOOPS or is_back(i):
                 (others if follows else causes).append(f'{program.where(at)}: {i}: {why}')
     try:
