@@ -4,9 +4,10 @@ is a function of that file with these clauses; a name `A::B` is a function of th
 type or a module A; and a path is one of the crate, or of the one that is named before it, or of
 the repository.
 
-The doors of docs/TRUST.md are looked at, too: in a line '- `CRATE::NAME` (`CLAUSE`, ..), `NAME`,
-by `DEFINITION`: ..' each name is a function of the crate before it, with these clauses; and each
-crate with contracts has a door."""
+The main results of docs/TRUST.md are looked at, too: in a line '- `CRATE::NAME` (`CLAUSE`, ..),
+`NAME`, by `DEFINITION`: ..' each name is a function of the crate before it, with these clauses. So
+are the names of docs/THEOREM.md, of which the ladder has most, functions of the crates before
+them."""
 
 import glob
 import os
@@ -19,8 +20,8 @@ CONTRACTS = 3
 CONTRACT = re.compile(r"(?m)^- `([\w:]+)` \(((?:`\w+`, )*)([\w/.]+)\):")
 NAME = re.compile(r"`(\w+(?:::\w+)+)`")
 PATH = re.compile(r"(?:(\w+)'s )?(?<![\w/])((?:src|specs|proofs)/[\w/.]*\w)")
-DOOR = re.compile(r"(?m)^- (`\w+::.*?): ")
-DOOR_NAME = re.compile(r"(by )?`([\w:]+)`(?: \(((?:`\w+`(?:, )?)+)\))?")
+RESULT = re.compile(r"(?m)^- (`\w+::.*?): ")
+RESULT_NAME = re.compile(r"(by )?`([\w:]+)`(?: \(((?:`\w+`(?:, )?)+)\))?")
 # Folders at the top whose files a page may name.
 FOLDERS = ["bench", "core", "docs", "include", "tests"]
 FILE = re.compile(rf"(?<![\w/])((?:{'|'.join(FOLDERS)})/[\w/.]*\w)")
@@ -82,11 +83,11 @@ def wrong_contracts(files, crate, page):
             yield f"{name} has no such clauses: {' '.join(sorted(wanted))}"
 
 
-def read_doors(crates, page):
-    """The names of the doors, each with its crate and its clauses."""
-    for head in DOOR.findall(page):
+def read_results(crates, page):
+    """The names of the results, each with its crate and its clauses."""
+    for head in RESULT.findall(page):
         crate = None
-        for by, name, clauses in DOOR_NAME.findall(head):
+        for by, name, clauses in RESULT_NAME.findall(head):
             parts = name.split("::")
             if parts[0] in crates:
                 crate, *parts = parts
@@ -94,11 +95,9 @@ def read_doors(crates, page):
                 yield crate, parts, set(re.findall(r"\w+", clauses))
 
 
-def wrong_doors(files, crates, page, counts):
-    """What is wrong with the doors of docs/TRUST.md. `counts` says how many public functions each
-    crate with contracts has."""
-    doors = list(read_doors(crates, page))
-    for crate, parts, clauses in doors:
+def wrong_results(files, crates, page):
+    """What is wrong with the main results of docs/TRUST.md."""
+    for crate, parts, clauses in read_results(crates, page):
         name = "::".join(parts)
         found = [has for path, text in files.items() if path.startswith(f"{crate}/src/")
                  for has in clauses_of(text, parts[-1])]
@@ -106,9 +105,6 @@ def wrong_doors(files, crates, page, counts):
             yield f"{crate} has no {name}"
         elif not any(clauses <= has for has in found):
             yield f"{name} of {crate} has no such clauses: {' '.join(sorted(clauses))}"
-    with_door = {crate for crate, _, _ in doors}
-    yield from (f"{crate} has no door" for crate, count in counts.items()
-                if count and crate not in with_door)
 
 
 def wrong_names(files, crates, page, crate=None):
@@ -179,19 +175,25 @@ def missed_mistakes(crates, pages, files, counts):
     return missed
 
 
-# Mistakes in the doors: what stands there, and what is put in its place.
-PLANTED_DOORS = [
-    ("a door of no function", "`dvg_frame::check`", "`dvg_frame::checked`"),
-    ("a function of another crate", "`dvg_c::dvg_new`", "`dvg_device::dvg_new`"),
+# Mistakes in the results: what stands there, and what is put in its place.
+PLANTED_RESULTS = [
+    ("a result of no function", "`dvg_frame::check`", "`dvg_frame::checked`"),
+    ("a function of another crate", "`dvg_c::dvg_turn`", "`dvg_device::dvg_turn`"),
     ("a clause that isn't there", "(`tears`, `took`)", "(`tears`, `taken`)"),
     ("a clause of another function", "`take` (`torn`)", "`take` (`fetched`)"),
-    ("a crate without a door", "`dvg_svg::", "`svg::"),
 ]
 
 
-def missed_doors(files, crates, page, counts):
+# A law of docs/THEOREM.md, and one that isn't there.
+PLANTED_LAW = ("`dvg_game_board::games_keep`", "`dvg_game_cells::games_keep`")
+
+
+def missed_results(files, crates, page, theorem):
     """The planted mistakes that aren't found, or change nothing."""
     tried = [(what, text := page.replace(before, after), text != page,
-              list(wrong_doors(files, crates, text, counts)))
-             for what, before, after in PLANTED_DOORS]
+              list(wrong_results(files, crates, text)))
+             for what, before, after in PLANTED_RESULTS]
+    turned = theorem.replace(*PLANTED_LAW)
+    tried.append(("a law of another crate", turned, turned != theorem,
+                  list(wrong_names(files, crates, turned))))
     return [what for what, _, is_changed, found in tried if not is_changed or not found]
