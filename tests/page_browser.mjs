@@ -497,8 +497,6 @@ async function testCutWire() {
   const whole = await tab.value(REDS);
   expect('a whole picture is not red', true, whole.red === 0 && whole.blue > 100);
   await tab.click('zoom-all');
-  await tab.value('scrollTo(0, 0)');
-  writeFileSync(`${work}/page_whole.png`, await tab.screenshot());
   await tab.click('wire');
   expect('the wire is cut',
     'true', await tab.value('document.getElementById("wire").getAttribute("aria-pressed")'));
@@ -1680,10 +1678,11 @@ async function testGameDrops() {
   await expectSoon('bytes come early', /^Early: [0-9]+ bytes, the first by 6C8F: sta \$4004, /,
     () => tab.text('run-halves'));
   await tab.drop('tube', filesOfGame(1)[0]);
-  expect('a program without shapes', /vector ROM isn't among them/, await tab.text('game-said'));
+  await expectSoon('a program without shapes', /vector ROM isn't among them/,
+    () => tab.text('game-said'));
   await tab.drop('tube', `${top}examples/logs/tears.log`);
-  expect('a log leads to the board', false,
-    await tab.value('document.body.classList.contains("plays")'));
+  await expectSoon('a log leads to the board', false,
+    () => tab.value('document.body.classList.contains("plays")'));
 }
 
 // On each size the picture and the verdicts are in view; on a phone the picture and its buttons.
