@@ -1639,7 +1639,8 @@ async function testWhatIf() {
   await expectSoon('it tears', /^Torn: ([0-9]+) of [0-9]+ pictures\.$/,
     () => tab.text('run-moments'));
   await expectSoon('so says the answer', /^It tears: /, () => tab.text('what-text'));
-  expect('an early byte has its instruction', /^Early: [0-9]+ bytes, the first by the driver, 6[89A][0-9A-F]{2}: sta /,
+  expect('an early byte has its instruction',
+    /^Early: [0-9]+ bytes, the first by the driver, 6[89A][0-9A-F]{2}: sta /,
     await tab.text('run-halves'));
   expect('the tube is red', true, (await tab.value(LIT)).red.length > 100);
   writeFileSync(`${work}/page_game_torn.png`, await tab.screenshot());

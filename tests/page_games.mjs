@@ -109,7 +109,8 @@ function testSteps() {
   const { stdout } = spawnSync(`${work}/page_cpu`, [String(TRIES)]);
   const lines = digestsOfSteps();
   expect('steps of the 6502', stdout.toString().trim().split('\n'), lines);
-  return console.log(`the 6502 beside board_cpu.h: ${lines.at(-1).split(' ')[0]} steps, with cycles`);
+  const [steps] = lines.at(-1).split(' ');
+  return console.log(`the 6502 beside board_cpu.h: ${steps} steps, with cycles`);
 }
 
 // --- The checker ---
@@ -316,7 +317,8 @@ function testBoard() {
   expect('not one that is written', 0, fed.counts.resets);
   const stuck = boardOfBytes(0x02);
   stuck.run(100);
-  expect('an opcode that no manual has is told', 'no instruction that the page knows at 6800: 02', stuck.fault);
+  expect('an opcode that no manual has is told',
+    'no instruction that the page knows at 6800: 02', stuck.fault);
   for (const [name, at] of [['fire', 0x2004], ['left', 0x2407], ['coin', 0x2400]]) {
     still.press(name, true);
     const down = still.read(at);
@@ -346,7 +348,8 @@ async function testGameFiles() {
   const sockets = [socket('035145-04e.ef2', 0), socket('035144-04e.h2', 1),
     socket('035143-02.j2', 2), { name: '035127-02.np3', bytes: shapes }];
   const whole = { name: 'game.program', bytes }, rom = { name: 'rom', bytes: shapes };
-  const labels = { name: 'game.labels', bytes: Buffer.from('al 006C71 .draw\nal 006800 .dvg_reset') };
+  const text = 'al 006C71 .draw\nal 006800 .dvg_reset';
+  const labels = { name: 'game.labels', bytes: Buffer.from(text) };
   const zips = zipsOf(sockets);
   for (const [what, files] of [['a program', [whole, rom]], ['sockets', sockets],
     ['others', [rom, whole, labels]], ...zips]) {
@@ -384,7 +387,8 @@ function zipsOf(files) {
 }
 
 const TESTS = [
-  testSteps, testBuilt, testChecker, testJudges, testMendedBoard, testRate, testBoard, testNmi, testGameFiles,
+  testSteps, testBuilt, testChecker, testJudges, testMendedBoard, testRate, testBoard, testNmi,
+  testGameFiles,
 ];
 for (const test of TESTS) if (named.length === 0 || named.includes(test.name)) await test();
 end();

@@ -5,9 +5,9 @@
 
 Each game of tests/games is made in FOLDER, and COUNT times one of them is changed at random. Each
 fault of game_faults.py is there, too. The answer is JSON: the driver's bytes; `games`, by their
-names with their program, labels and vector ROM; and `cases`, each with its game, what is changed, the
-status, the lines, and the status that board/prove has by the names of tables and shapes, which the
-page hasn't. Bytes are in base64.
+names with their program, labels and vector ROM; and `cases`, each with its game, what is changed,
+the status, the lines, and the status that board/prove has by the names of tables and shapes, which
+the page hasn't. Bytes are in base64.
 """
 import base64
 import importlib.machinery

@@ -15,7 +15,7 @@ const LEAPS = ['jmp', 'jsr', 'rts', 'rti'];
 const MOST_WORDS = 511, MOST_CALLS = 4;
 const ROM_AT = 0x4800, NO_WORD = 0x400, ROM_END_WORD = 0xC00, SMALL_ROM_BYTES = 2048;
 
-/* --- Notes: how many bytes the instruction before has, where a place is come to from it alone --- */
+/* --- Notes: how many bytes the instruction before has that alone leads to a place --- */
 
 /* Where an instruction is come to otherwise than from the one before it. */
 function enteredPlaces(program, notes, start) {

@@ -1,5 +1,5 @@
-/* What a game is dropped as: its program, its three sockets, its vector ROM, its labels, or a zip of
- * these; and the games that are built in. */
+/* What a game is dropped as: its program, its three sockets, its vector ROM, its labels, or a zip
+ * of these; and the games that are built in. */
 import { NMI_VECTOR, PROGRAM_END, RESET_VECTOR, START, labelsOf } from './programs.mjs';
 
 const SOCKET_BYTES = 2048, PROGRAM_BYTES = PROGRAM_END - START, NO_BYTE = 0xFF;
@@ -75,8 +75,9 @@ export async function unzipped(files) {
 
 /* The numbers of a zip: where a file of its list has how it is packed, how long it is so, how long
  * its name, what follows that, and where it stands; and where it stands, its names are as long. */
-const ZIP_ENTRY = { SIGN: 0x02014B50, METHOD: 10, PACKED: 20, NAME: 28, EXTRA: 30, REMARK: 32, AT: 42,
-  BYTES: 46 };
+const ZIP_ENTRY = {
+  SIGN: 0x02014B50, METHOD: 10, PACKED: 20, NAME: 28, EXTRA: 30, REMARK: 32, AT: 42, BYTES: 46,
+};
 const ZIP_HEADER = { NAME: 26, EXTRA: 28, BYTES: 30 };
 const ZIP_END = { SIGN: 0x06054B50, COUNT: 10, AT: 16, BYTES: 22 };
 const DEFLATED = 8;

@@ -49,7 +49,8 @@ export function waysOn(program, one) {
 function driven(to, note) {
   const name = ROUTINES.get(to);
   const stays = note.blank && name !== 'dvg_labs' && name !== 'dvg_reset';
-  return { ...note, awake: note.awake || name === 'dvg_reset', blank: name === 'dvg_open' || stays };
+  const blank = name === 'dvg_open' || stays;
+  return { ...note, awake: note.awake || name === 'dvg_reset', blank };
 }
 
 /* What holds behind an instruction that isn't a jump. */

@@ -24,7 +24,8 @@ const OPENING = [['coin', 0.4, 0.6], ['start1', 1, 1.3]];
 /* The mistake that a game may have: the first stores into the vector RAM in place of a put. */
 const PUT_CALL = [0x20, 0x57, 0x69], STORES_AT = [0x4004, 0x4404], STA = 0x8D;
 
-/* A program in which calls of dvg_put became stores into the list that is drawn. */
+/* A program in which calls of dvg_put, if it has some, became stores into the list that is drawn.
+ */
 function withMistake(program) {
   const changed = program.slice();
   let count = 0;
@@ -97,6 +98,8 @@ export class Play {
     Object.assign(this, { name, game, script: [] });
     setText(byId('game-said'), said);
     byId('mistake').checked = false;
+    const isSame = withMistake(game.program).every((byte, k) => byte === game.program[k]);
+    byId('mistake').parentElement.hidden = isSame;
     this.restart();
     byId('tube').focus({ preventScroll: true });
   }

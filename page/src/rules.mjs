@@ -85,12 +85,13 @@ function checkNext(program, notes, now, to) {
     refuse(`it goes on at ${hex(to, 4)}, where no instruction of the game is known`);
   }
   if (next.level !== now.level) {
-    const cure = [next.level, now.level].includes('nmi') ? SHARED : 'is there an RTS or JMP too few?';
+    const cure = [next.level, now.level].includes('nmi') ? SHARED
+      : 'is there an RTS or JMP too few?';
     refuse(`it goes on at ${where}, which is ${next.level}, not ${now.level}: ${cure}`);
   }
   if (next.depth !== now.depth) {
-    refuse(`${counted(now.depth, 'byte')} on the stack, and at ${where} ${next.depth}: push and pull as `
-      + 'much on each way');
+    refuse(`${counted(now.depth, 'byte')} on the stack, and at ${where} ${next.depth}: push and `
+      + 'pull as much on each way');
   }
   if (next.room > now.room) {
     refuse('it needs more of the stack than there is: does a subroutine call itself, or a loop '
@@ -127,8 +128,8 @@ function checkReturn(now, isBlank) {
   if (now.level === 'nmi') refuse('it returns from level nmi: the NMI ends with RTI');
   if (now.level !== 'sub') refuse(`it returns from level ${now.level}, where no call is open`);
   if (now.depth > 0) {
-    refuse(`it returns with ${counted(now.depth, 'byte')} more on the stack: pull what was pushed, on `
-      + 'each way');
+    refuse(`it returns with ${counted(now.depth, 'byte')} more on the stack: pull what was `
+      + 'pushed, on each way');
   }
   if (isBlank && !now.ends) refuse('it returns with an empty frame');
 }
