@@ -5,6 +5,7 @@
 import { execFileSync } from 'node:child_process';
 import { createHash } from 'node:crypto';
 import { readFileSync, readdirSync } from 'node:fs';
+import { packedGames } from './games.mjs';
 import { SCENES } from './src/playfield.mjs';
 
 const page = new URL('.', import.meta.url).pathname;
@@ -34,14 +35,16 @@ function sketches() {
     .map(([name, input]) => [name, execFileSync('awk', awk, { input, encoding: 'utf8' })]));
 }
 
-// What the page needs beside its sources: dvg.wasm, the opening, and the examples.
+// What the page needs beside its sources: dvg.wasm, the games, the opening, and the examples.
 function built() {
   const frames = framesOfExamples();
   const logs = { ...textsOf('logs', /\.log$/), ...textsOf('moments', /\.log$/) };
   const files = { ...sketches(), ...logs, ...textsOf('traces', null) };
   const wasm = readFileSync(`${page}dvg.wasm`).toString('base64');
   const listing = readFileSync(`${page}driver.listing`, 'utf8');
+  const games = packedGames().map(({ folder, ...game }) => game);
   return `const LISTING = ${JSON.stringify(listing)};\n`
+    + `const GAMES = ${JSON.stringify(games)};\n`
     + `const SCENES = ${JSON.stringify(SCENES)};\n`
     + `const FRAMES = ${JSON.stringify(frames)};\nconst FILES = ${JSON.stringify(files)};\n`
     + `const WASM = '${wasm}';\n`;

@@ -10,12 +10,16 @@ import { existsSync, readFileSync, readdirSync, statSync, writeFileSync } from '
 import { createServer } from 'node:http';
 import { comesTo, startChromium } from './page_chromium.mjs';
 import { DROP_LONG_LOG, MOVE_OVER_IT, movesText } from './page_long.mjs';
+import { builtGame } from '../page/src/eproms.mjs';
 import { LESSONS } from '../page/src/lessons.mjs';
+import { strokesOfLines } from '../page/src/tears.mjs';
+import { packedGames } from '../page/games.mjs';
 
 const [chromium, program, work] = process.argv.slice(2, 5),
   [seeds, events] = process.argv.slice(5, 7).map(Number), chosen = process.argv.slice(7);
 const top = new URL('..', import.meta.url).pathname;
-const file = `${top}page/dvg.html`, address = `file://${file}`;
+// The page, and its board, which begins with the tour.
+const file = `${top}page/dvg.html`, front = `file://${file}`, address = `${front}#opening`;
 let passed = 0, failed = 0;
 
 function fits(wanted, found) {
@@ -493,8 +497,6 @@ async function testCutWire() {
   const whole = await tab.value(REDS);
   expect('a whole picture is not red', true, whole.red === 0 && whole.blue > 100);
   await tab.click('zoom-all');
-  await tab.value('scrollTo(0, 0)');
-  writeFileSync(`${work}/page_whole.png`, await tab.screenshot());
   await tab.click('wire');
   expect('the wire is cut',
     'true', await tab.value('document.getElementById("wire").getAttribute("aria-pressed")'));
@@ -680,9 +682,9 @@ async function testLink() {
   expect('it holds all of the state', wanted, await seen());
   await tab.click('compare');
   expect('and the same log', new RegExp(`^the same: ${events} events`), await tab.text('compared'));
-  await openPage(`${address}#z=AAAA`);
+  await openPage(`${front}#z=AAAA`);
   expect('a broken link is told', /holds no state/, await tab.text('said'));
-  await openPage(`${address}#trace=tick%20x`);
+  await openPage(`${front}#trace=tick%20x`);
   expect('a broken trace is told', 'The trace is refused: dvg: syntax at line 1',
     await tab.text('said'));
   expect('the other tab has no fault', '', tab.faults.join());
@@ -871,7 +873,7 @@ async function testHttp() {
   });
   await new Promise((resolve) => { server.listen(0, '127.0.0.1', resolve); });
   const before = tab.requests.length;
-  await openPage(`http://127.0.0.1:${server.address().port}/dvg.html`);
+  await openPage(`http://127.0.0.1:${server.address().port}/dvg.html#opening`);
   await tab.click('once');
   await tab.click('compare');
   expect('over http: compared', /^the same/, await tab.text('compared'));
@@ -1504,6 +1506,201 @@ async function testReadAloud() {
   expect('the picture is told in words', true, images.includes(await tab.text('picture-text')));
 }
 
+// --- Games ---
+
+// Opens a game that is built in, by its place among them.
+async function openGame(number) {
+  await tab.open(front);
+  await tab.click(`#games button:nth-child(${number})`);
+}
+
+// The bright pixels of the tube, by their places, how wide it is, and which of them are red.
+const LIT = `(() => {
+  const { width, height } = document.getElementById('tube'), found = [], red = [];
+  const { data } = document.getElementById('tube').getContext('2d')
+    .getImageData(0, 0, width, height);
+  for (let k = 0; k < data.length; k += 4) {
+    if (Math.max(data[k], data[k + 1]) < 140) continue;
+    found.push(k >> 2);
+    if (data[k] > 2 * data[k + 1]) red.push(k >> 2);
+  }
+  return { width, found, red };
+})()`;
+
+// The first look is a game: its pictures are whole, it is accepted, and keeps its pace.
+async function testGame() {
+  await tab.size(1280, 900);
+  await tab.open(front);
+  expect('why, over everything', /^One chip draws this picture .* nobody ever sees half of each\?/,
+    await wordsOf('.why-play'));
+  await expectSoon('its pictures are whole', /^Whole: each of [0-9]{2,} pictures\.$/,
+    () => tab.text('run-moments'));
+  expect('each byte comes in time', 'In time: each byte.', await tab.text('run-halves'));
+  expect('each run is finished', 'Finished: each run.', await tab.text('run-left'));
+  expect('it is accepted', 'Accepted: no run of these bytes tears a picture.',
+    await tab.text('every'));
+  await expectSoon('its pace', /^6[01]\.[0-9] pictures a second, [3-9]/,
+    () => tab.text('run-counts'));
+  writeFileSync(`${work}/page_game.png`, await tab.screenshot());
+  await tab.click('pause');
+  expect('strokes are seen', true, (await tab.value(LIT)).found.length > 300);
+  const words = (await tab.value('document.getElementById("play").innerText'));
+  expect('"tested, not proved" is said once', 2, words.split('tested, not proved').length);
+}
+
+// The strokes of each picture of examples/first, as `dvg play` draws them.
+function picturesOfFirst() {
+  const script = '{ cat garden.sketch; awk -f walk.awk; } | awk -f ../../board/outline.awk';
+  const sketch = execFileSync('sh', ['-c', script], { cwd: `${top}examples/first` });
+  const [rom, ...offers] = runProgram(['lay', '--draft'], sketch).split(/^(?=offer$)/m);
+  return offers.map((offer) => strokesOfLines(runProgram(['play'], `${rom}tick 2\n${offer}`
+    + 'tick 1100\nstrobe\nfetch 9999\n').split('\n')).filter(([, , , , z]) => z > 0));
+}
+
+// Points along strokes, on a tube that is so wide: 10 units more are on each side of the 1,024.
+function pointsOf(strokes, width) {
+  const place = (x, y) => [(x / 512 + 10) * width / 1044, width - (y / 512 + 10) * width / 1044];
+  return strokes.flatMap(([x0, y0, x1, y1]) => {
+    const steps = Math.ceil(Math.hypot(x1 - x0, y1 - y0) / 512) + 1;
+    return Array.from({ length: steps + 1 }, (_, k) => (
+      place(x0 + (x1 - x0) * k / steps, y0 + (y1 - y0) * k / steps)));
+  });
+}
+
+// Whether what is lit is what strokes draw: each of their points is, and nothing far from them.
+function isDrawn(strokes, { width, found }) {
+  const near = (far, points) => new Set(points.flatMap(([x, y]) => {
+    const all = [];
+    for (let dx = -far; dx <= far; dx++) for (let dy = -far; dy <= far; dy++) {
+      all.push(Math.round(x + dx) + width * Math.round(y + dy));
+    }
+    return all;
+  }));
+  const points = pointsOf(strokes, width), lit = new Set(found), close = near(5, points);
+  return found.every((at) => close.has(at))
+    && points.every((point) => [...near(2, [point])].some((at) => lit.has(at)));
+}
+
+// What is on the tube is a picture of that game, as `dvg` draws it: one, and no other one.
+async function testTube() {
+  const pictures = picturesOfFirst(), seen = new Set();
+  await openGame(4);
+  for (let k = 0; k < 4; k++) {
+    await tab.until('Number(document.getElementById("tube").dataset.strokes) > 0');
+    await tab.click('pause');
+    const lit = await tab.value(LIT);
+    const fitting = pictures.map((one, n) => (isDrawn(one, lit) ? n : -1)).filter((n) => n >= 0);
+    expect('one picture is on the tube', 1, fitting.length);
+    seen.add(fitting[0]);
+    await tab.click('pause');
+    await tab.until(`new Promise((done) => setTimeout(() => done(true), 400))`);
+  }
+  expect('and later another one', true, seen.size > 1);
+}
+
+// Keys and touches come to the game: in Rocks the ship turns, and a shot is seen.
+async function testHands() {
+  await tab.open(front);
+  await tab.until('/, [3-9]\\.[0-9] s/.test(document.getElementById("run-counts").textContent)');
+  const asks = (name) => tab.value(`[...document.querySelectorAll('.pads button')]
+    .find((one) => one.dataset.input === '${name}').classList.contains('down')`);
+  const { x, y } = await tab.middle('[data-input=fire]');
+  await tab.mouse('mousePressed', x, y, { button: 'left', clickCount: 1 });
+  expect('fire is down', true, await asks('fire'));
+  await tab.mouse('mouseReleased', x, y, { button: 'left', clickCount: 1 });
+  expect('and up again', false, await asks('fire'));
+  await openGame(5);
+  await tab.until('/, [1-9]\\.[0-9] s/.test(document.getElementById("run-counts").textContent)');
+  const shown = async () => {
+    await tab.until('new Promise((done) => setTimeout(() => done(true), 300))');
+    return (await tab.value(LIT)).found.join();
+  };
+  const before = await shown();
+  await tab.hold('ArrowLeft', 37, true);
+  const during = await shown();
+  await tab.hold('ArrowLeft', 37, false);
+  expect('the test ROM shows that a key is down', true, before !== during);
+}
+
+// What comes of a board that is changed, after a guess: the test ROM goes dark with its wire cut,
+// and with strobes ignored it tears; mended, it is whole again.
+async function testWhatIf() {
+  await openGame(5);
+  await tab.click('game-wire');
+  await tab.click('[data-guess=tears]');
+  await expectSoon('it goes dark', /^You said: it tears\. It goes dark: each strobe /,
+    () => tab.text('what-text'));
+  expect('runs are abandoned', /^Abandoned: [0-9]+ runs, /, await tab.text('run-left'));
+  expect('the tube is dark', 0, (await tab.value(LIT)).found.length);
+  expect('what is said of each run is of a whole wire', true,
+    await tab.value('document.getElementById("wire-note").checkVisibility()'));
+  await tab.choose('beam', '4');
+  await tab.click('strobes-ignored');
+  await expectSoon('it tears', /^Torn: ([0-9]+) of [0-9]+ pictures\.$/,
+    () => tab.text('run-moments'));
+  await expectSoon('so says the answer', /^It tears: /, () => tab.text('what-text'));
+  expect('an early byte has its instruction',
+    /^Early: [0-9]+ bytes, the first by the driver, 6[89A][0-9A-F]{2}: sta /,
+    await tab.text('run-halves'));
+  expect('the tube is red', true, (await tab.value(LIT)).red.length > 100);
+  writeFileSync(`${work}/page_game_torn.png`, await tab.screenshot());
+  await tab.click('game-wire');
+  await tab.click('strobes-ignored');
+  await tab.choose('beam', '1');
+  await expectSoon('it is whole again', /^Whole: each of [0-9]{2,} pictures\.$/,
+    () => tab.text('run-moments'));
+}
+
+// The program and the vector ROM of a game, as files; with changes of the program.
+function filesOfGame(number, changes = []) {
+  const packed = packedGames()[number], unpack = (text) => Buffer.from(text, 'base64');
+  const listing = readFileSync(`${top}page/driver.listing`, 'utf8').split('\n')
+    .flatMap((line) => line.split('\t')[0].split(' ').slice(1).map((byte) => parseInt(byte, 16)));
+  const { program: bytes, shapes } = builtGame(Object.fromEntries(['bytes', 'vectors', 'shapes']
+    .map((part) => [part, unpack(packed[part])])), Uint8Array.from(listing));
+  for (const [at, byte] of changes) bytes[at - 0x6800] = byte;
+  return [put('game.program', bytes), put('rom', shapes)];
+}
+
+// A game that is dropped runs; one with a fault is refused, and the fault is told.
+async function testGameDrops() {
+  await openPage();
+  await tab.drop('rows', filesOfGame(1));
+  await expectSoon('a dropped game runs', /^Whole: each of [0-9]{2,} pictures\.$/,
+    () => tab.text('run-moments'));
+  expect('it is accepted', /^Accepted: /, await tab.text('every'));
+  expect('and told', 'game.program, rom.', await tab.text('game-said'));
+  const at = 0x6C8F, stores = [[at, 0x8D], [at + 1, 0x04], [at + 2, 0x40]];
+  await tab.drop('tube', filesOfGame(1, stores));
+  await expectSoon('one with a fault is refused', /^Refused: 1 instruction may tear it/,
+    () => tab.text('every'));
+  expect('it is told why', '6C8F: sta $4004: it writes 4004, the vector RAM',
+    await tab.text('every-lines'));
+  await expectSoon('bytes come early', /^Early: [0-9]+ bytes, the first by 6C8F: sta \$4004, /,
+    () => tab.text('run-halves'));
+  await tab.drop('tube', filesOfGame(1)[0]);
+  await expectSoon('a program without shapes', /vector ROM isn't among them/,
+    () => tab.text('game-said'));
+  await tab.drop('tube', `${top}examples/logs/tears.log`);
+  await expectSoon('a log leads to the board', false,
+    () => tab.value('document.body.classList.contains("plays")'));
+}
+
+// On each size the picture and the verdicts are in view; on a phone the picture and its buttons.
+async function testGameWidths() {
+  for (const [width, height, ...more] of [[400, 800], [800, 900], [1280, 900, '#in-run', '#every',
+    '#game-wire'], [1920, 1000, '#in-run', '#in-every-run', '#what-if']]) {
+    await tab.size(width, height, width < 640);
+    await tab.open(front);
+    await expectSoon(`${width} by ${height}: in view`, '',
+      () => outOfView(['#tube', '.pads', ...more]));
+    expect(`${width}: it doesn't scroll sideways`, true,
+      await tab.value('document.documentElement.scrollWidth <= innerWidth'));
+    writeFileSync(`${work}/page_game_${width}.png`, await tab.screenshot());
+  }
+  await tab.size(1600, 1000, false);
+}
+
 // --- How long a frame of the animation takes ---
 
 async function testSpeed() {
@@ -1546,6 +1743,7 @@ const tests = {
   testHttp, testInView, testGrey, testCode, testTour, testMend,
     testWidths, testColors, testMotion, testKeys, testRows,
     testEdges,
+  testGame, testTube, testHands, testWhatIf, testGameDrops, testGameWidths,
   testLive, testPlain, testLessonFrames, testEditorsStill, testReadAloud, testSpeed,
 };
 for (const [name, test] of Object.entries(tests)) {

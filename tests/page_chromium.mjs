@@ -226,10 +226,16 @@ class Tab {
     })()`);
   }
 
-  // Drops a file in the middle of an element.
-  async drop(id, file) {
+  // Holds a key down, or lets it go.
+  async hold(key, code, isDown) {
+    await this.send('Input.dispatchKeyEvent', { type: isDown ? 'rawKeyDown' : 'keyUp', key,
+      windowsVirtualKeyCode: code });
+  }
+
+  // Drops a file, or several, in the middle of an element.
+  async drop(id, files) {
     const { x, y } = await this.middle(id);
-    const data = { items: [], files: [file], dragOperationsMask: 1 };
+    const data = { items: [], files: [files].flat(), dragOperationsMask: 1 };
     for (const type of ['dragEnter', 'dragOver', 'drop']) await this.send('Input.dispatchDragEvent',
       { type, x, y, data });
   }

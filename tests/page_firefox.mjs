@@ -10,7 +10,7 @@ import { connect, createServer } from 'node:net';
 import { DROP_LONG_LOG, MOVE_OVER_IT, movesText } from './page_long.mjs';
 
 const [firefox, work] = process.argv.slice(2);
-const address = `file://${new URL('../page/dvg.html', import.meta.url).pathname}`;
+const address = `file://${new URL('../page/dvg.html', import.meta.url).pathname}#opening`;
 // How long something is waited for, in milliseconds: long, as a machine may be busy.
 const WAIT = 240000, COLON = 58;
 let passed = 0, failed = 0;

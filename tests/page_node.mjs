@@ -26,7 +26,7 @@ import { besideOf, tearOf } from '../page/src/tears.mjs';
 import { halvesVerdict, leftVerdict, momentsVerdict, sinceOf } from '../page/src/verdicts.mjs';
 import { eventText } from '../page/src/words.mjs';
 import { driverOf, driverText, generatorOf } from '../page/src/inside.mjs';
-import { OPCODES, Processor } from '../page/src/processor.mjs';
+import { Processor } from '../page/src/processor.mjs';
 import { Twin, bytesOfTable, linesOfListing } from '../page/src/twin.mjs';
 import { LESSONS, stateOfLesson } from '../page/src/lessons.mjs';
 
@@ -867,51 +867,7 @@ function testTears() {
   board.free();
 }
 
-// --- The 6502, and the driver in its code ---
-
-// Steps of the 6502 of tests/board, of each instruction that the page knows, fewer where fewer
-// events are asked for: after each the registers, the flags and the last two bytes written are the
-// same. The page knows those that the driver has; each is one of the definition in dvg_calls_6502.
-const STEPS_OF_EACH = events < 20000 ? 100 : 2400;
-
-function runVector(row) {
-  const [seed, ...instruction] = row.slice(0, 4), pc = row[8], writes = [];
-  const written = new Map(instruction.map((byte, k) => [pc + k, byte]));
-  const processor = new Processor({
-    read: (at) => written.get(at) ?? (at * at * 3 + at * 7 + seed) % 256,
-    write: (at, byte) => { written.set(at, byte); writes.unshift(at); },
-  });
-  const names = ['a', 'x', 'y', 's', 'pc', 'n', 'z', 'c', 'v', 'd', 'i'];
-  names.forEach((name, k) => { processor[name] = row[4 + k]; });
-  processor.step();
-  const last = [...writes, 65536, 65536].slice(0, 2).flatMap((at) => [at, written.get(at) ?? 0]);
-  return [...names.map((name) => processor[name]), ...last];
-}
-
-function testProcessor() {
-  const definition = readFileSync(`${top}crates/dvg_calls_6502/specs/Processor.antt`, 'utf8');
-  const rows = [...definition.matchAll(/\((0x[0-9A-F]{2}), ([A-Za-z0-9 ]+)\)/g)]
-    .filter(([, code]) => OPCODES.has(Number(code)));
-  expect('the opcodes of the definition', rows.map(([, code]) => Number(code)).sort().join(),
-    [...OPCODES.keys()].sort().join());
-  writeFileSync(`${work}/board_opcodes.inc`,
-    rows.map(([, code, what]) => `{ ${code}, "${what}" },\n`).join(''));
-  const made = spawnSync('gcc', ['-O2', `-I${work}`, '-o', `${work}/definition`,
-    `${top}tests/board_definition.c`]);
-  if (made.error) return console.log('skipped: steps of the 6502 of tests/board: gcc is not here');
-  const { stdout } = spawnSync(`${work}/definition`, ['vectors', String(STEPS_OF_EACH)],
-    { maxBuffer: 1 << 28 });
-  const steps = stdout.toString().trim().split('\n').map((line) => line.split(' ').map(Number));
-  const wrong = steps.find((row) => runVector(row).join(' ') !== row.slice(15).join(' '));
-  expect('the steps are those of the 6502 of tests/board', undefined, wrong?.join(' '));
-  expect('they are all', STEPS_OF_EACH * OPCODES.size, steps.length);
-  const bytes = { 0x300: 0xB1, 0x301: 0xFF, 0xFF: 0x34, 0: 0x12, 0x1234: 7 };
-  const wraps = new Processor({ read: (at) => bytes[at] ?? 0, write: () => {} });
-  wraps.pc = 0x300;
-  wraps.step();
-  expect('a pointer at the end of page zero goes on at its beginning', 7, wraps.a);
-  return console.log(`the 6502: ${steps.length} steps of ${OPCODES.size} opcodes`);
-}
+// --- The driver in its code ---
 
 function refusal(byte) {
   const processor = new Processor({ read: () => byte, write: () => {} });
@@ -942,13 +898,14 @@ function testTwin() {
     }
   }
   console.log(`the driver's code beside the board: ${ticks} ticks`);
-  for (const byte of [0x00, 0x61, 0xF8, 0xFF]) {
-    expect(`opcode ${byte} is refused`, 'no instruction of the driver', refusal(byte).slice(0, 28));
+  for (const byte of [0x00, 0x02, 0xF8, 0xFF]) {
+    expect(`opcode ${byte} is refused`, 'no instruction that the page knows',
+      refusal(byte).split(' at ')[0]);
   }
 }
 
 const TESTS = [
-  testProcessor, testTwin, testSchedules, testCutWire, testMended, testOneHalf, testMomentLogs,
+  testTwin, testSchedules, testCutWire, testMended, testOneHalf, testMomentLogs,
   testJudged, testRuns, testProportions, testHalves, testLongTrace, testDrafts, testRoms,
   testMoments, testLinks, testFiles, testRecordings, testDumps, testDriverTexts, testBuses,
   testSketches, testTears, testLessons, testLessonColors, testLessonPage, testCases,

@@ -79,8 +79,8 @@ function vectorTime(scale) {
 }
 const OTHER_TIME = 4;
 
-/* The words of a run, and how long each takes. */
-class WordTimes {
+/* The words of a run, and how many microseconds each takes. */
+export class WordTimes {
   constructor() { this.begin(); }
 
   begin() {

@@ -70,7 +70,7 @@ export function listenToMemory(memory, show) {
   });
 }
 
-/* Files that are dropped, pasted or chosen: each is opened, as this kind if one is given. */
+/* Files that are dropped, pasted or chosen: they are opened, as this kind where it isn't null. */
 export function listenToFiles(open) {
   const { body } = document;
   document.addEventListener('dragover', (event) => {
@@ -83,19 +83,19 @@ export function listenToFiles(open) {
   document.addEventListener('drop', (event) => {
     event.preventDefault();
     body.classList.remove('dropping');
-    const [file] = event.dataTransfer.files;
-    if (file) open(file);
+    const files = [...event.dataTransfer.files];
+    if (files.length > 0) open(files, null);
   });
   document.addEventListener('paste', (event) => {
     const text = event.clipboardData?.getData('text/plain') ?? '';
     if (text === '' || /^(INPUT|TEXTAREA)$/.test(event.target.tagName)) return;
     event.preventDefault();
-    open(new File([text], 'what was pasted'));
+    open([new File([text], 'what was pasted')], null);
   });
-  for (const [id, kind] of [['open', null], ['open-rom', 'rom']]) {
+  for (const [id, kind] of [['open', null], ['open-rom', 'rom'], ['open-game', null]]) {
     byId(id).addEventListener('change', (event) => {
-      const [file] = event.target.files;
-      if (file) open(file, kind);
+      const files = [...event.target.files];
+      if (files.length > 0) open(files, kind);
       event.target.value = '';
     });
   }
@@ -107,7 +107,7 @@ function fitCanvas(canvas, width, height) {
   if (canvas.height !== height) canvas.height = height;
 }
 
-/* Canvases that get another size, after which `fitted` is called. */
+/* Canvases that get another size, after which `fitted` is called. Returns what looks at them. */
 export function listenToSizes(canvases, fitted) {
   const fit = () => {
     const ratio = Math.min(2, devicePixelRatio || 1);
@@ -120,4 +120,5 @@ export function listenToSizes(canvases, fitted) {
   fit();
   const observer = new ResizeObserver(fit);
   for (const canvas of canvases) observer.observe(canvas);
+  return fit;
 }

@@ -23,7 +23,11 @@ import {
   HOW_TEXT, ONE_HALF_TEXT, counted, countsText, durationText, instructionText, leftText,
   momentCode, momentText, pictureText, runText, wordCode, wordText,
 } from './words.mjs';
-import { FILES, FRAMES, LISTING, SCENES, WASM } from './built.mjs';
+import { builtGame, isOfGame } from './eproms.mjs';
+import { Play, listenToPlay } from './play.mjs';
+import { DRIVER_END, START } from './programs.mjs';
+import { linesOfListing } from './twin.mjs';
+import { FILES, FRAMES, GAMES, LISTING, SCENES, WASM } from './built.mjs';
 
 /* What stands in the editors by a name. */
 const EXAMPLES = { ...SCENES, ...FRAMES };
@@ -32,6 +36,8 @@ const EXAMPLES = { ...SCENES, ...FRAMES };
 const [FIRST_A, FIRST_B] = Object.keys(SCENES);
 const FIRST = { a: FIRST_A, b: FIRST_B }, FIRST_EVENTS = 2600;
 
+/* What leads to the opening of the board, in the part of an address that no browser sends. */
+const OPENING_HASH = '#opening';
 const LOG_BEFORE = 12, LOG_AFTER = 4;
 /* Why what is grey is so: of a recording, and of a board with as many events as it holds. */
 const ELSEWHERE = 'This happened elsewhere: it can\'t be run, cut or added to.';
@@ -50,8 +56,9 @@ const JUDGE_EVERY = 500, TEXTS_EVERY = 100;
 const MOST_PASSED = 200;
 
 let engine, drawer, tube, board, schedule = null, running = false;
-/* What shows a concern of its own: the verdicts, the driver's code, and files that are opened. */
-let verdicts, code, drops;
+/* What shows a concern of its own: the verdicts, the driver's code, files that are opened, and a
+ * game. `fitSizes` gives canvases that come into view their size. */
+let verdicts, code, drops, play, fitSizes;
 /* What is shown: the board, or a recording of what happened elsewhere. */
 let shown;
 /* When texts were shown, when a frame was, and whose turn it is to be drawn. */
@@ -562,14 +569,48 @@ function nameOr(text) {
   return Object.keys(EXAMPLES).find((name) => EXAMPLES[name] === text) ?? text;
 }
 
+/* Where the address leads: to a game, to the tour, or to a state of the board. */
 async function loadFragment() {
+  const isGame = location.hash.length <= 1;
+  showGame(isGame);
   try {
-    if (location.hash.length > 1) loadState(await stateOf(location.hash));
-    else showNewcomer();
+    if (isGame) beginGame();
+    else if (location.hash === OPENING_HASH) showNewcomer();
+    else loadState(await stateOf(location.hash));
   } catch (fault) {
     tell(`This link holds no state: ${fault.message}`, true);
     if (board === undefined) loadState(FIRST);
   }
+}
+
+/* Shows a game in place of the board, or the board. */
+function showGame(isShown) {
+  if (running) setRunning(false);
+  document.body.classList.toggle('plays', isShown);
+  play.setShown(isShown);
+  fitSizes();
+}
+
+/* The first game, unless there is one; at rest for someone who wants less motion. */
+function beginGame() {
+  if (play.arcade !== null) return;
+  play.openBuilt(0, true);
+  if (wantsLessMotion()) play.setPaused(true);
+}
+
+/* Opens files: a game, or else the first of them on the board. */
+async function openFiles(files, kind) {
+  const read = await Promise.all(files.map(async (file) => (
+    { name: file.name, bytes: new Uint8Array(await file.arrayBuffer()) })));
+  const isGame = kind === null && read.some(({ bytes }) => isOfGame(bytes));
+  if (isGame && await play.openFiles(read)) {
+    showGame(true);
+    history.replaceState(null, '', '#');
+    return;
+  }
+  if (board === undefined) loadState(FIRST);
+  showGame(false);
+  await drops.open(files[0], kind);
 }
 
 /* The opening at rest; and after that the tour, but for someone who wants less motion. */
@@ -770,7 +811,7 @@ function makeExamples() {
   const list = byId('examples');
   for (const name of Object.keys(FILES)) list.append(new Option(name));
   list.addEventListener('change', () => {
-    if (list.value !== '') drops.open(new File([FILES[list.value]], list.value));
+    if (list.value !== '') openFiles([new File([FILES[list.value]], list.value)], null);
     list.value = '';
   });
 }
@@ -950,16 +991,35 @@ function listenToHands() {
     zoom, goTo, walk: (events) => goTo(at + events), drawRows: () => rows.draw(shown, at, colors),
   });
   listenToMemory(memory, show);
-  listenToFiles((file, kind) => drops.open(file, kind));
-  listenToSizes([byId('screen'), byId('rows'), byId('memory')], () => {
+  listenToFiles(openFiles);
+  fitSizes = listenToSizes([byId('screen'), byId('rows'), byId('memory'), byId('tube')], () => {
     rows.fit();
     memory.fit();
-    if (board !== undefined) show();
+    if (play?.isShown) play.drawAnew();
+    else if (board !== undefined) show();
   });
   matchMedia('(prefers-color-scheme: light)').addEventListener('change', () => {
     readColors();
     show();
   });
+}
+
+/* The games that are built in, by their names. */
+function makePlay() {
+  const lines = linesOfListing(LISTING), driver = new Uint8Array(DRIVER_END - START);
+  for (const { at, bytes } of lines) if (bytes.length > 0) driver.set(bytes, at - START);
+  const games = GAMES.map(({ name, ...parts }) => {
+    const bytes = Object.fromEntries(Object.entries(parts)
+      .map(([part, text]) => [part, bytesOfBase64(text)]));
+    return { name, ...builtGame(bytes, driver) };
+  });
+  play = new Play(engine, games, driver);
+  byId('games').replaceChildren(...games.map(({ name }, k) => {
+    const button = Object.assign(document.createElement('button'), { textContent: name });
+    button.addEventListener('click', () => play.openBuilt(k));
+    return button;
+  }));
+  listenToPlay(play);
 }
 
 function makeEditors() {
@@ -1012,6 +1072,7 @@ async function begin() {
   verdicts = new Verdicts(engine, goToResult);
   code = new Code(engine, LISTING);
   drops = new Drops(engine, drawer, DROP_STAGE);
+  makePlay();
   addEventListener('hashchange', loadFragment);
   await loadFragment();
   showPreviews();

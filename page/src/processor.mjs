@@ -1,82 +1,295 @@
-/* The 6502, as far as the driver's proved routines use it: what it doesn't know it refuses. A bus
- * is told each byte that it reads and writes. It counts no cycles. */
+/* The 6502: its documented instructions but BRK and SED, and their cycles. A bus is told each byte
+ * that it reads and writes, but for those that an indexed address reads at a wrong page. There is
+ * no decimal mode. Tested, not proved. */
 import { hex } from './hex.mjs';
 
-/* The instructions by their opcodes: a name, and how it finds its operand. */
+/* The instructions: a name, and its opcodes, each with how it finds its operand. */
 const CODES = `
-  05 ORA zp    06 ASL zp    09 ORA imm   0A ASL acc   10 BPL rel   11 ORA iny   18 CLC none
-  20 JSR abs   24 BIT zp    26 ROL zp    29 AND imm   2C BIT abs   30 BMI rel   38 SEC none
-  45 EOR zp    49 EOR imm   4A LSR acc   4C JMP abs   50 BVC rel   60 RTS none  84 STY zp
-  85 STA zp    86 STX zp    88 DEY none  8A TXA none  8D STA abs   90 BCC rel   91 STA iny
-  95 STA zpx   98 TYA none  A0 LDY imm   A2 LDX imm   A4 LDY zp    A5 LDA zp    A6 LDX zp
-  A9 LDA imm   AA TAX none  AD LDA abs   B0 BCS rel   B1 LDA iny   B5 LDA zpx   C0 CPY imm
-  C4 CPY zp    C6 DEC zp    C8 INY none  C9 CMP imm   CA DEX none  D0 BNE rel   D6 DEC zpx
-  E6 INC zp    F0 BEQ rel`;
+adc 69# 65zp 75zp,x 6dabs 7dabs,x 79abs,y 61(zp,x) 71(zp),y
+and 29# 25zp 35zp,x 2dabs 3dabs,x 39abs,y 21(zp,x) 31(zp),y
+asl 0a 06zp 16zp,x 0eabs 1eabs,x
+bcc 90rel
+bcs b0rel
+beq f0rel
+bit 24zp 2cabs
+bmi 30rel
+bne d0rel
+bpl 10rel
+brk 00
+bvc 50rel
+bvs 70rel
+clc 18
+cld d8
+cli 58
+clv b8
+cmp c9# c5zp d5zp,x cdabs ddabs,x d9abs,y c1(zp,x) d1(zp),y
+cpx e0# e4zp ecabs
+cpy c0# c4zp ccabs
+dec c6zp d6zp,x ceabs deabs,x
+dex ca
+dey 88
+eor 49# 45zp 55zp,x 4dabs 5dabs,x 59abs,y 41(zp,x) 51(zp),y
+inc e6zp f6zp,x eeabs feabs,x
+inx e8
+iny c8
+jmp 4cabs 6c(abs)
+jsr 20abs
+lda a9# a5zp b5zp,x adabs bdabs,x b9abs,y a1(zp,x) b1(zp),y
+ldx a2# a6zp b6zp,y aeabs beabs,y
+ldy a0# a4zp b4zp,x acabs bcabs,x
+lsr 4a 46zp 56zp,x 4eabs 5eabs,x
+nop ea
+ora 09# 05zp 15zp,x 0dabs 1dabs,x 19abs,y 01(zp,x) 11(zp),y
+pha 48
+php 08
+pla 68
+plp 28
+rol 2a 26zp 36zp,x 2eabs 3eabs,x
+ror 6a 66zp 76zp,x 6eabs 7eabs,x
+rti 40
+rts 60
+sbc e9# e5zp f5zp,x edabs fdabs,x f9abs,y e1(zp,x) f1(zp),y
+sec 38
+sed f8
+sei 78
+sta 85zp 95zp,x 8dabs 9dabs,x 99abs,y 81(zp,x) 91(zp),y
+stx 86zp 96zp,y 8eabs
+sty 84zp 94zp,x 8cabs
+tax aa
+tay a8
+tsx ba
+txa 8a
+txs 9a
+tya 98`;
 
-const SIZES = { none: 1, acc: 1, imm: 2, zp: 2, zpx: 2, iny: 2, rel: 2, abs: 3 };
-
-export const OPCODES = new Map([...CODES.matchAll(/(\w\w) (\w{3}) (\w+)/g)]
-  .map(([, code, name, mode]) => [parseInt(code, 16), { name, mode, size: SIZES[mode] }]));
-
-const BRANCHES = {
-  BPL: ['n', 0], BMI: ['n', 1], BVC: ['v', 0], BCC: ['c', 0], BCS: ['c', 1], BNE: ['z', 0],
-  BEQ: ['z', 1],
+/* How many bytes an instruction has. */
+const SIZES = {
+  '': 1, '#': 2, zp: 2, 'zp,x': 2, 'zp,y': 2, abs: 3, 'abs,x': 3, 'abs,y': 3, '(zp,x)': 2,
+  '(zp),y': 2, rel: 2, '(abs)': 3,
 };
-const TRANSFERS = { TXA: ['x', 'a'], TYA: ['y', 'a'], TAX: ['a', 'x'] };
-const COUNTS = { DEX: ['x', -1], DEY: ['y', -1], INY: ['y', 1] };
+
+/* The instructions by their opcodes: a name, how it finds its operand, and its bytes. */
+export const OPCODES = new Map(CODES.trim().split('\n').flatMap((line) => {
+  const [name, ...forms] = line.split(' ');
+  return forms.map((form) => {
+    const mode = form.slice(2);
+    return [parseInt(form.slice(0, 2), 16), { name, mode, size: SIZES[mode] }];
+  });
+}));
+
+/* Where the operand stands. */
+const PLACES = {
+  '#': (cpu) => cpu.skip(),
+  zp: (cpu) => cpu.take(),
+  'zp,x': (cpu) => (cpu.take() + cpu.x) & 0xFF,
+  'zp,y': (cpu) => (cpu.take() + cpu.y) & 0xFF,
+  abs: (cpu) => cpu.takeWord(),
+  'abs,x': (cpu) => cpu.indexed(cpu.takeWord(), cpu.x),
+  'abs,y': (cpu) => cpu.indexed(cpu.takeWord(), cpu.y),
+  '(zp,x)': (cpu) => cpu.pointer((cpu.take() + cpu.x) & 0xFF),
+  '(zp),y': (cpu) => cpu.indexed(cpu.pointer(cpu.take()), cpu.y),
+};
+
+/* What is done with a byte that is read. */
+const READS = {
+  adc: (cpu, byte) => cpu.add(byte),
+  sbc: (cpu, byte) => cpu.add(byte ^ 0xFF),
+  and: (cpu, byte) => { cpu.a = cpu.flag(cpu.a & byte); },
+  ora: (cpu, byte) => { cpu.a = cpu.flag(cpu.a | byte); },
+  eor: (cpu, byte) => { cpu.a = cpu.flag(cpu.a ^ byte); },
+  lda: (cpu, byte) => { cpu.a = cpu.flag(byte); },
+  ldx: (cpu, byte) => { cpu.x = cpu.flag(byte); },
+  ldy: (cpu, byte) => { cpu.y = cpu.flag(byte); },
+  cmp: (cpu, byte) => cpu.compare(cpu.a, byte),
+  cpx: (cpu, byte) => cpu.compare(cpu.x, byte),
+  cpy: (cpu, byte) => cpu.compare(cpu.y, byte),
+  bit: (cpu, byte) => cpu.test(byte),
+};
+
+/* The register that is written. */
+export const STORES = { sta: 'a', stx: 'x', sty: 'y' };
+
+/* What a byte is changed to. It stands in A, where there is no operand. */
+export const CHANGES = {
+  asl: (cpu, byte) => cpu.shiftLeft(byte, 0),
+  rol: (cpu, byte) => cpu.shiftLeft(byte, cpu.c),
+  lsr: (cpu, byte) => cpu.shiftRight(byte, 0),
+  ror: (cpu, byte) => cpu.shiftRight(byte, cpu.c),
+  inc: (cpu, byte) => cpu.flag((byte + 1) & 0xFF),
+  dec: (cpu, byte) => cpu.flag((byte - 1) & 0xFF),
+};
+
+/* The flag that is looked at, and what it is where the branch is taken. */
+export const BRANCHES = {
+  bpl: ['n', 0], bmi: ['n', 1], bvc: ['v', 0], bvs: ['v', 1], bcc: ['c', 0], bcs: ['c', 1],
+  bne: ['z', 0], beq: ['z', 1],
+};
+
+/* From which register to which other one. */
+export const TRANSFERS = { tax: 'ax', txa: 'xa', tay: 'ay', tya: 'ya' };
+
+/* All other instructions. */
+const OTHERS = {
+  clc: (cpu) => { cpu.c = 0; },
+  sec: (cpu) => { cpu.c = 1; },
+  cli: (cpu) => { cpu.i = 0; },
+  sei: (cpu) => { cpu.i = 1; },
+  clv: (cpu) => { cpu.v = 0; },
+  cld: (cpu) => { cpu.d = 0; },
+  nop: () => {},
+  inx: (cpu) => { cpu.x = cpu.flag((cpu.x + 1) & 0xFF); },
+  iny: (cpu) => { cpu.y = cpu.flag((cpu.y + 1) & 0xFF); },
+  dex: (cpu) => { cpu.x = cpu.flag((cpu.x - 1) & 0xFF); },
+  dey: (cpu) => { cpu.y = cpu.flag((cpu.y - 1) & 0xFF); },
+  tsx: (cpu) => { cpu.x = cpu.flag(cpu.s); },
+  txs: (cpu) => { cpu.s = cpu.x; },
+  pha: (cpu) => cpu.push(cpu.a),
+  php: (cpu) => cpu.push(cpu.status | BREAK),
+  pla: (cpu) => { cpu.a = cpu.flag(cpu.pull()); },
+  plp: (cpu) => { cpu.status = cpu.pull(); },
+  jsr: (cpu) => cpu.call(),
+  rts: (cpu) => { cpu.pc = (cpu.pullWord() + 1) & 0xFFFF; },
+  rti: (cpu) => {
+    cpu.status = cpu.pull();
+    cpu.pc = cpu.pullWord();
+  },
+  jmp: (cpu) => { cpu.pc = cpu.takeWord(); },
+};
+
+const BREAK = 0x10, UNUSED = 0x20, NMI_AT = 0xFFFA, RESET_AT = 0xFFFC;
+
+/* How many cycles an instruction takes that reads its operand: another page takes one more. */
+const CYCLES = {
+  '': 2, '#': 2, rel: 2, zp: 3, 'zp,x': 4, 'zp,y': 4, abs: 4, 'abs,x': 4, 'abs,y': 4,
+  '(zp,x)': 6, '(zp),y': 5,
+};
+const OTHER_CYCLES = {
+  pha: 3, php: 3, pla: 4, plp: 4, jsr: 6, rts: 6, rti: 6, jmp: 3,
+};
+const NMI_CYCLES = 7;
+
+function cyclesOf(name, mode) {
+  if (mode === '(abs)') return 5;
+  if (name in OTHER_CYCLES) return OTHER_CYCLES[name];
+  const crosses = /abs,|\),/.test(mode) ? 1 : 0;
+  if (name in STORES) return CYCLES[mode] + crosses;
+  return name in CHANGES && mode !== '' ? CYCLES[mode] + crosses + 2 : CYCLES[mode];
+}
+
+/* What an instruction does on a processor, as a function of that. */
+function actionOf(name, mode) {
+  const place = PLACES[mode];
+  if (name in READS) {
+    const use = READS[name];
+    return (cpu) => {
+      use(cpu, cpu.bus.read(place(cpu)));
+      cpu.cycles += cpu.crossed;
+    };
+  }
+  if (name in STORES) {
+    const register = STORES[name];
+    return (cpu) => cpu.bus.write(place(cpu), cpu[register]);
+  }
+  if (name in CHANGES) return actionOfChange(CHANGES[name], place);
+  if (name in BRANCHES) {
+    const [flag, taken] = BRANCHES[name];
+    return (cpu) => cpu.branch(cpu[flag] === taken);
+  }
+  if (name in TRANSFERS) {
+    const [from, to] = TRANSFERS[name];
+    return (cpu) => { cpu[to] = cpu.flag(cpu[from]); };
+  }
+  return mode === '(abs)' ? (cpu) => cpu.jumpByTable() : OTHERS[name];
+}
+
+/* A byte that is changed is written twice: as it was, and as it is then. */
+function actionOfChange(change, place) {
+  if (place === undefined) return (cpu) => { cpu.a = change(cpu, cpu.a); };
+  return (cpu) => {
+    const at = place(cpu), byte = cpu.bus.read(at);
+    cpu.bus.write(at, byte);
+    cpu.bus.write(at, change(cpu, byte));
+  };
+}
+
+/* By its opcode what an instruction does, and its cycles; nothing where it isn't known. */
+const ACTIONS = [], ACTION_CYCLES = [];
+for (const [code, { name, mode }] of OPCODES) {
+  ACTIONS[code] = actionOf(name, mode);
+  ACTION_CYCLES[code] = cyclesOf(name, mode);
+}
 
 export class Processor {
   /* `bus` has read(address), and write(address, byte). */
   constructor(bus) {
     this.bus = bus;
-    Object.assign(this, { a: 0, x: 0, y: 0, s: 0xFF, pc: 0, n: 0, z: 0, c: 0, v: 0 });
+    Object.assign(this, { a: 0, x: 0, y: 0, s: 0xFF, pc: 0, n: 0, z: 0, c: 0, v: 0, d: 0, i: 0 });
+    Object.assign(this, { cycles: 0, crossed: 0 });
   }
 
-  /* One instruction; throws where it doesn't know it. */
+  /* One instruction; throws where it doesn't know it, and stays there. */
   step() {
-    const opcode = this.bus.read(this.pc), known = OPCODES.get(opcode);
-    if (known === undefined) {
-      throw new Error(`no instruction of the driver at ${hex(this.pc, 4)}: ${hex(opcode, 2)}`);
+    const at = this.pc, opcode = this.take(), action = ACTIONS[opcode];
+    if (action === undefined) {
+      this.pc = at;
+      throw new Error(`no instruction that the page knows at ${hex(at, 4)}: ${hex(opcode, 2)}`);
     }
-    const at = this.pc, { name, mode, size } = known;
-    this.pc = (at + size) & 0xFFFF;
-    if (mode === 'rel') this.branch(name, at);
-    else if (mode === 'none') this.act(name);
-    else this.use(name, mode, this.addressOf(mode, at));
+    this.crossed = 0;
+    this.cycles += ACTION_CYCLES[opcode];
+    action(this);
   }
 
-  word(at, next) { return this.bus.read(at) | this.bus.read(next) << 8; }
+  reset() {
+    this.i = 1;
+    this.pc = this.word(RESET_AT);
+  }
 
-  /* Where the operand of an instruction at this place stands. */
-  addressOf(mode, at) {
-    const first = (at + 1) & 0xFFFF;
-    if (mode === 'acc') return null;
-    if (mode === 'imm') return first;
-    if (mode === 'abs') return this.word(first, (at + 2) & 0xFFFF);
-    const zero = this.bus.read(first);
-    if (mode === 'zpx') return (zero + this.x) & 0xFF;
-    return mode === 'zp' ? zero : (this.word(zero, (zero + 1) & 0xFF) + this.y) & 0xFFFF;
+  /* An NMI comes between two instructions. */
+  interrupt() {
+    this.pushWord(this.pc);
+    this.push(this.status);
+    this.i = 1;
+    this.pc = this.word(NMI_AT);
+    this.cycles += NMI_CYCLES;
+  }
+
+  /* The flags as a byte, as an NMI pushes it. */
+  get status() {
+    const { n, v, d, i, z, c } = this;
+    return n << 7 | v << 6 | UNUSED | d << 3 | i << 2 | z << 1 | c;
+  }
+
+  set status(byte) {
+    const bit = (k) => byte >> k & 1;
+    Object.assign(this, { n: bit(7), v: bit(6), d: bit(3), i: bit(2), z: bit(1), c: bit(0) });
+  }
+
+  /* The place of the next byte of the program, which is passed. */
+  skip() {
+    const at = this.pc;
+    this.pc = (at + 1) & 0xFFFF;
+    return at;
+  }
+
+  take() { return this.bus.read(this.skip()); }
+
+  takeWord() { return this.take() | this.take() << 8; }
+
+  word(at) { return this.bus.read(at) | this.bus.read((at + 1) & 0xFFFF) << 8; }
+
+  /* A pointer in the zero page, in which its second byte stands, too. */
+  pointer(at) { return this.bus.read(at) | this.bus.read((at + 1) & 0xFF) << 8; }
+
+  indexed(base, index) {
+    const at = (base + index) & 0xFFFF;
+    this.crossed = (base ^ at) >> 8 === 0 ? 0 : 1;
+    return at;
   }
 
   flag(byte) {
-    this.z = Number(byte === 0);
+    this.z = byte === 0 ? 1 : 0;
     this.n = byte >> 7;
     return byte;
-  }
-
-  branch(name, at) {
-    const [flag, taken] = BRANCHES[name], by = this.bus.read((at + 1) & 0xFFFF);
-    if (this[flag] === taken) this.pc = (this.pc + by - 2 * (by & 0x80)) & 0xFFFF;
-  }
-
-  /* An instruction without an operand. */
-  act(name) {
-    if (name in TRANSFERS) this[TRANSFERS[name][1]] = this.flag(this[TRANSFERS[name][0]]);
-    else if (name in COUNTS) {
-      const [register, by] = COUNTS[name];
-      this[register] = this.flag((this[register] + by) & 0xFF);
-    } else if (name === 'RTS') this.pc = ((this.pull() | this.pull() << 8) + 1) & 0xFFFF;
-    else this.c = Number(name === 'SEC');
   }
 
   push(byte) {
@@ -89,57 +302,58 @@ export class Processor {
     return this.bus.read(0x100 | this.s);
   }
 
-  /* An instruction with an operand: at this address, or in A where it is null. */
-  use(name, mode, address) {
-    const register = name[2].toLowerCase();
-    if (name === 'JMP') this.pc = address;
-    else if (name === 'JSR') {
-      const last = (this.pc - 1) & 0xFFFF;
-      this.push(last >> 8);
-      this.push(last & 0xFF);
-      this.pc = address;
-    } else if (name.startsWith('ST')) this.bus.write(address, this[register]);
-    else {
-      const byte = address === null ? this.a : this.bus.read(address);
-      if (name.startsWith('LD')) this[register] = this.flag(byte);
-      else if (name === 'BIT') this.test(byte);
-      else if (name === 'CMP') this.compare(this.a, byte);
-      else if (name === 'CPY') this.compare(this.y, byte);
-      else this.change(name, address, byte);
-    }
+  pushWord(word) {
+    this.push(word >> 8);
+    this.push(word & 0xFF);
+  }
+
+  pullWord() { return this.pull() | this.pull() << 8; }
+
+  call() {
+    const to = this.takeWord();
+    this.pushWord((this.pc - 1) & 0xFFFF);
+    this.pc = to;
+  }
+
+  /* A pointer's second byte is read on the page of its first. */
+  jumpByTable() {
+    const at = this.takeWord(), next = (at & 0xFF00) | ((at + 1) & 0xFF);
+    this.pc = this.bus.read(at) | this.bus.read(next) << 8;
+  }
+
+  branch(isTaken) {
+    const by = this.take();
+    if (!isTaken) return;
+    const to = (this.pc + by - 2 * (by & 0x80)) & 0xFFFF;
+    this.cycles += (to ^ this.pc) >> 8 === 0 ? 1 : 2;
+    this.pc = to;
   }
 
   test(byte) {
-    this.z = Number((this.a & byte) === 0);
+    this.z = (this.a & byte) === 0 ? 1 : 0;
     this.n = byte >> 7;
     this.v = byte >> 6 & 1;
   }
 
   compare(value, byte) {
-    this.c = Number(value >= byte);
+    this.c = value >= byte ? 1 : 0;
     this.flag((value - byte) & 0xFF);
   }
 
-  /* An instruction of logic, which changes A; or one that writes back what it has changed,
-   * after the byte as it was. */
-  change(name, address, byte) {
-    if (name === 'ORA') this.a = this.flag(this.a | byte);
-    else if (name === 'AND') this.a = this.flag(this.a & byte);
-    else if (name === 'EOR') this.a = this.flag(this.a ^ byte);
-    else {
-      const made = this.flag(this.shifted(name, byte));
-      if (address === null) this.a = made;
-      else {
-        this.bus.write(address, byte);
-        this.bus.write(address, made);
-      }
-    }
+  add(byte) {
+    const sum = this.a + byte + this.c;
+    this.v = (~(this.a ^ byte) & (this.a ^ sum)) >> 7 & 1;
+    this.c = sum >> 8;
+    this.a = this.flag(sum & 0xFF);
   }
 
-  shifted(name, byte) {
-    if (name === 'INC' || name === 'DEC') return (byte + (name === 'INC' ? 1 : -1)) & 0xFF;
-    const low = name === 'ROL' ? this.c : 0;
-    this.c = name === 'LSR' ? byte & 1 : byte >> 7;
-    return name === 'LSR' ? byte >> 1 : (byte << 1 | low) & 0xFF;
+  shiftLeft(byte, low) {
+    this.c = byte >> 7;
+    return this.flag((byte << 1 | low) & 0xFF);
+  }
+
+  shiftRight(byte, high) {
+    this.c = byte & 1;
+    return this.flag(byte >> 1 | high << 7);
   }
 }

@@ -1,0 +1,214 @@
+/* The board of Asteroids with a game on it: the 6502 runs the program's bytes, and the generator of
+ * dvg.wasm reads the same vector RAM, each at its own time. Both judges look on. Tested, not
+ * proved. */
+import { WordTimes } from './chance.mjs';
+import { KIND } from './engine.mjs';
+import { Processor } from './processor.mjs';
+import { AREA } from './signs.mjs';
+
+/* The processor's cycles in a second, from one NMI to the next, and until the watchdog resets. */
+export const HERTZ = 1512000;
+const NMI_EVERY = 6144, WATCHDOG_AFTER = 131072;
+/* A clock of some 3 kHz: set in half of so many cycles. */
+const CLOCK_HALF = 256;
+/* How many microseconds the generator takes for a byte, beside the time of its vector. */
+const BYTE_TIME = 0.5;
+
+/* What stands where. A15 isn't decoded. */
+const AT = {
+  BANKS: 0x200, RAM_END: 0x400, INPUTS: 0x2000, CLOCK: 0x2001, HALT: 0x2002, TEST: 0x2007,
+  SWITCHES: 0x2800, INPUTS_END: 0x3000, STROBE: 0x3000, OUTPUTS: 0x3200, WATCHDOG: 0x3400,
+  WATCHDOG_END: 0x3600, VECTORS: 0x4000, VECTORS_END: 0x4800, SHAPES_END: 0x5800, END: 0x8000,
+};
+const OUT_BANKS = 4, BANK_BYTES = 0x100;
+
+/* The places of the buttons and switches, as board/asteroids.inc names them. */
+export const INPUTS = {
+  hyperspace: 0x2003, fire: 0x2004, step: 0x2005, slam: 0x2006, test: AT.TEST, coin: 0x2400,
+  start1: 0x2403, start2: 0x2404, thrust: 0x2405, right: 0x2406, left: 0x2407,
+};
+/* The switches on the board: a coin for a game, four ships, English. */
+const SWITCHES = [0xFE, 0xFC, 0xFC, 0xFC];
+const CLOSED = 0xFF, OPEN = 0x7F;
+
+/* What is counted of a run, from a moment on. */
+function countsOf(cycles) {
+  return {
+    from: cycles, pictures: 0, torn: 0, early: 0, first: null, left: 0, resets: 0, fetched: 0,
+    written: 0,
+  };
+}
+
+export class Arcade {
+  /* `program` are the bytes that end at 7FFF, and `shapes` those that end at 57FF. */
+  constructor(engine, program, shapes) {
+    this.memory = new Uint8Array(AT.END);
+    this.memory.set(shapes, AT.SHAPES_END - shapes.length);
+    this.memory.set(program, AT.END - program.length);
+    this.map = engine.mapOf(shapes.length);
+    this.generator = engine.device();
+    this.generator.openGenerator();
+    this.judge = engine.device();
+    this.judge.openJudge();
+    this.halves = engine.halves();
+    this.inputs = new Set();
+    Object.assign(this, { wireCut: false, slow: 1, ignored: false });
+    Object.assign(this, { running: false, isMixed: false, swapped: 0, at: 0, fault: '' });
+    Object.assign(this, { picture: null, number: 0, isOld: false });
+    this.words = new WordTimes();
+    this.processor = new Processor(this);
+    Object.assign(this, { fetchAt: 0, nmiAt: NMI_EVERY, watchedAt: 0 });
+    this.countAnew();
+    this.processor.reset();
+  }
+
+  free() {
+    this.generator.free();
+    this.judge.free();
+    this.halves.free();
+  }
+
+  /* From now on the counts are of the runs that begin. */
+  countAnew() {
+    this.counts = countsOf(this.processor.cycles);
+    this.isOld = this.running;
+  }
+
+  /* How many seconds of the board's time are counted. */
+  get seconds() { return (this.processor.cycles - this.counts.from) / HERTZ; }
+
+  /* Opens or closes a switch, by its name in INPUTS. */
+  press(name, isDown) {
+    if (isDown) this.inputs.add(INPUTS[name]);
+    else this.inputs.delete(INPUTS[name]);
+  }
+
+  /* --- The processor's bus --- */
+
+  read(address) {
+    const at = address % AT.END;
+    if (at < AT.RAM_END) return this.memory[this.placeOf(at)];
+    return at >= AT.INPUTS && at < AT.INPUTS_END ? this.readInput(at) : this.memory[at];
+  }
+
+  /* Pages 2 and 3 change places while OUT_BANKS is set. */
+  placeOf(at) { return at < AT.BANKS ? at : at ^ this.swapped; }
+
+  readInput(at) {
+    if (at === AT.HALT) {
+      this.catchUp();
+      return this.running && !this.wireCut ? CLOSED : OPEN;
+    }
+    if (at === AT.CLOCK) return this.processor.cycles & CLOCK_HALF ? CLOSED : OPEN;
+    if (at >= AT.SWITCHES && at < AT.SWITCHES + SWITCHES.length) return SWITCHES[at - AT.SWITCHES];
+    return this.inputs.has(at) ? CLOSED : OPEN;
+  }
+
+  write(address, byte) {
+    const at = address % AT.END;
+    if (at < AT.RAM_END) this.memory[this.placeOf(at)] = byte;
+    else if (at >= AT.VECTORS && at < AT.VECTORS_END) this.writeVector(at, byte);
+    else if (at >= AT.STROBE && at < AT.OUTPUTS) this.strobe();
+    else if (at === AT.OUTPUTS) this.swapped = byte & OUT_BANKS ? BANK_BYTES : 0;
+    else if (at >= AT.WATCHDOG && at < AT.WATCHDOG_END) this.watchedAt = this.processor.cycles;
+  }
+
+  /* A byte comes into the vector RAM, after all that the generator has read by now. */
+  writeVector(at, byte) {
+    const { counts } = this, place = at - AT.VECTORS;
+    this.catchUp();
+    counts.written++;
+    if (this.halves.wrote(place) && !this.isOld) {
+      counts.early++;
+      counts.first ??= { at: this.at, place: at, cycles: this.processor.cycles };
+    }
+    this.memory[at] = byte;
+    this.tell(KIND.WROTE, place, byte);
+  }
+
+  tell(kind, address = 0, value = 0) {
+    const { kind: state } = this.judge.tell(kind, address, value);
+    if (state === KIND.NO_MOMENT || state === KIND.TORN) this.isMixed = true;
+  }
+
+  /* --- The generator --- */
+
+  strobe() {
+    this.catchUp();
+    if (this.running && this.ignored) return;
+    if (this.running && !this.isOld) this.counts.left++;
+    this.generator.strobe();
+    this.tell(KIND.STARTED);
+    this.halves.started();
+    this.words.begin();
+    Object.assign(this, { running: true, isMixed: false, isOld: false });
+    this.fetchAt = this.processor.cycles;
+  }
+
+  /* Lets the generator fetch what it has fetched by now. */
+  catchUp() { while (this.running && this.fetchAt <= this.processor.cycles) this.fetch(); }
+
+  /* Fetches a byte: after the second one of a word the beam takes its time. */
+  fetch() {
+    const { address, value: side } = this.generator.wants();
+    const got = this.map[address] === AREA.HOLE ? this.generator.fetchHole()
+      : this.generator.fetch(this.memory[AT.VECTORS + 2 * address + side]);
+    this.counts.fetched++;
+    this.tell(got.kind, got.address, got.value);
+    if (got.kind === KIND.LOW) this.passTime(0);
+    else if (got.kind === KIND.BROKE) this.end();
+    else {
+      this.halves.fetched(got.address, got.value);
+      this.passTime(this.words.of(got.value));
+      if (got.kind === KIND.DONE) this.finish();
+    }
+  }
+
+  /* Lets microseconds pass, of a beam that is so many times as slow. */
+  passTime(time) { this.fetchAt += (time + BYTE_TIME) * this.slow * HERTZ / 1e6; }
+
+  end() {
+    this.running = false;
+    this.halves.halted();
+  }
+
+  /* A picture is done. */
+  finish() {
+    this.end();
+    this.number++;
+    this.picture = { id: this.number, strokes: this.generator.strokes(), torn: this.isMixed };
+    if (this.isOld) return;
+    this.counts.pictures++;
+    if (this.isMixed) this.counts.torn++;
+  }
+
+  /* --- Time --- */
+
+  /* Runs for so many cycles, or until an instruction comes that isn't known: `fault` tells it. */
+  run(cycles) {
+    const { processor } = this, end = processor.cycles + cycles;
+    try {
+      while (this.fault === '' && processor.cycles < end) this.runOne();
+    } catch (fault) {
+      this.fault = fault.message;
+    }
+    this.catchUp();
+  }
+
+  runOne() {
+    const { processor } = this;
+    if (processor.cycles >= this.nmiAt) {
+      this.nmiAt += NMI_EVERY;
+      if (!this.inputs.has(AT.TEST)) processor.interrupt();
+    }
+    this.at = processor.pc;
+    processor.step();
+    if (processor.cycles - this.watchedAt > WATCHDOG_AFTER) this.resetByWatchdog();
+  }
+
+  resetByWatchdog() {
+    this.counts.resets++;
+    this.watchedAt = this.processor.cycles;
+    this.processor.reset();
+  }
+}

@@ -1,0 +1,178 @@
+/* Makes notes of a program: what holds at each instruction, as board/proof/notes.py does. Nothing
+ * is promised of them: the checker refuses what is wrong. A note says
+ *
+ *     level   main, sub or nmi, which end with nothing, RTS and RTI
+ *     depth   how many bytes were pushed since the level began
+ *     held    what A, X and Y hold: 'a', 'x', 'y' for what was there where the NMI came, or '.'
+ *     slots   the same of the bytes that were pushed last, the newest first
+ *     room    how many bytes it may still push, with all that it calls
+ *     fuel    how many instructions the NMI may still do
+ *     awake   dvg_reset was called, and none of the driver's bytes were written since
+ *     blank   a frame that is being built may have nothing in it
+ *     ends    the same, where this subroutine returns
+ */
+import { NMI_VECTOR, RESET_VECTOR, ROUTINES, heldAfter, isCode, isDriver } from './programs.mjs';
+
+/* More room, or more instructions of the NMI, than any may have. */
+const CAP = 900;
+const MOST_PUSHED = 256;
+export const FIRST_NOTE = {
+  level: 'main', depth: 0, held: '...', slots: '', room: 0, fuel: 0, awake: false, blank: false,
+  ends: false,
+};
+export const UNCHANGED = 'axy';
+
+function isSame(a, b) {
+  return a !== undefined && a.level === b.level && a.depth === b.depth && a.held === b.held
+    && a.slots === b.slots && a.awake === b.awake && a.blank === b.blank;
+}
+
+/* What holds where two ways meet; the level and the bytes on the stack stay. */
+function joined(old, now) {
+  if (old === undefined) return now;
+  const held = [...old.held].map((one, k) => (one === now.held[k] ? one : '.')).join('');
+  return { ...old, held, awake: old.awake && now.awake, blank: old.blank || now.blank };
+}
+
+/* Where an instruction goes on, and how many bytes more are on the stack there. */
+export function waysOn(program, one) {
+  if (one.branches) return [[one.operand, 0], [one.next, 0]];
+  if (one.name === 'jmp') {
+    const ends = one.goesByTable || one.operand === program.word(RESET_VECTOR);
+    return ends || isDriver(one.operand) ? [] : [[one.operand, 0]];
+  }
+  if (['rts', 'rti', 'brk', 'none'].includes(one.name)) return [];
+  return [[one.next, { pha: 1, php: 1, pla: -1, plp: -1 }[one.name] ?? 0]];
+}
+
+/* What holds after a call of the driver. */
+function driven(to, note) {
+  const name = ROUTINES.get(to);
+  const stays = note.blank && name !== 'dvg_labs' && name !== 'dvg_reset';
+  const blank = name === 'dvg_open' || stays;
+  return { ...note, awake: note.awake || name === 'dvg_reset', blank };
+}
+
+/* What holds behind an instruction that isn't a jump. */
+function beyond(one, note) {
+  const held = heldAfter(one, note, note.slots[0] ?? '.'), { name } = one;
+  if (name === 'pha' || name === 'php') {
+    const slot = name === 'pha' ? note.held[0] : '.';
+    return { ...note, depth: note.depth + 1, slots: slot + note.slots };
+  }
+  if (name === 'pla' || name === 'plp') {
+    return { ...note, depth: Math.max(note.depth - 1, 0), slots: note.slots.slice(1), held };
+  }
+  return one.storesOwn ? { ...note, awake: false } : { ...note, held };
+}
+
+/* Goes over all that is reached until nothing changes. */
+class Flow {
+  /* `ends` has the subroutines that may leave a frame blank. With `fills` what follows a call is
+   * taken as not blank. */
+  constructor(program, start, ends, fills = false) {
+    Object.assign(this, { program, ends, fills, notes: new Map(), owner: new Map(), work: [] });
+    const nmi = program.word(NMI_VECTOR);
+    this.go(start, FIRST_NOTE, start);
+    this.go(nmi, { ...FIRST_NOTE, level: 'nmi', held: UNCHANGED }, nmi);
+    while (this.work.length > 0) this.follow(this.work.pop());
+    this.spread();
+  }
+
+  /* A subroutine that runs or jumps into another one's instructions ends as that one does. */
+  spread() {
+    for (let before = -1; before !== this.ends.size;) {
+      before = this.ends.size;
+      for (const at of this.notes.keys()) this.spreadFrom(at);
+    }
+  }
+
+  spreadFrom(at) {
+    const ways = waysOn(this.program, this.program.at(at));
+    if (ways.some(([to]) => this.ends.has(this.owner.get(to)))) this.ends.add(this.owner.get(at));
+  }
+
+  go(at, note, owner) {
+    const now = joined(this.notes.get(at), note);
+    if (!isCode(at) || isSame(this.notes.get(at), now)) return;
+    this.notes.set(at, now);
+    this.owner.set(at, owner);
+    this.work.push(at);
+  }
+
+  follow(at) {
+    const one = this.program.at(at), note = this.notes.get(at), owner = this.owner.get(at);
+    if (['brk', 'none', 'rti'].includes(one.name) || one.goesByTable) return;
+    if (one.name === 'rts') {
+      if (note.blank) this.ends.add(owner);
+    } else if (one.name === 'jmp') this.jump(one.operand, note, owner);
+    else if (one.name === 'jsr') this.go(one.next, this.called(one.operand, note), owner);
+    else {
+      if (one.branches) this.go(one.operand, note, owner);
+      if (note.depth < MOST_PUSHED) this.go(one.next, beyond(one, note), owner);
+    }
+  }
+
+  jump(to, note, owner) {
+    if (isDriver(to)) {
+      if (driven(to, note).blank) this.ends.add(owner);
+    } else if (to !== this.program.word(RESET_VECTOR)) this.go(to, note, owner);
+  }
+
+  called(to, note) {
+    if (isDriver(to)) return driven(to, note);
+    this.go(to, { ...note, level: 'sub', depth: 0, slots: '' }, to);
+    return { ...note, blank: this.ends.has(to) && !this.fills };
+  }
+}
+
+/* How many bytes an instruction may push with what comes after it, where that is known. */
+function roomOf(one, ways, room) {
+  let need = Math.max(0, ...ways.map(([to, more]) => (room.get(to) ?? 0) + more));
+  if (isDriver(one.operand) && (one.name === 'jsr' || one.name === 'jmp')) need = Math.max(need, 4);
+  else if (one.name === 'jsr') need = Math.max(need, (room.get(one.operand) ?? 0) + 2);
+  return Math.min(need, CAP);
+}
+
+/* The least room of each instruction, and the least fuel of the NMI's; CAP: there is none. */
+function measured(program, notes) {
+  const places = [...notes.keys()].sort((a, b) => b - a);
+  const room = new Map(places.map((at) => [at, 0])), fuel = new Map(room);
+  const ways = new Map(places.map((at) => [at, waysOn(program, program.at(at))]));
+  const count = (at) => {
+    const need = roomOf(program.at(at), ways.get(at), room);
+    const rest = ways.get(at).map(([to]) => (fuel.get(to) ?? 0) + 1);
+    const lasts = notes.get(at).level === 'nmi' ? Math.min(CAP, Math.max(1, ...rest)) : 0;
+    const isNew = need !== room.get(at) || lasts !== fuel.get(at);
+    room.set(at, need);
+    fuel.set(at, lasts);
+    return isNew;
+  };
+  while (places.filter(count).length > 0);
+  return { room, fuel };
+}
+
+/* The subroutines that are called with an empty frame, and may return with it. */
+export function emptyOnes(program, start) {
+  const flow = new Flow(program, start, new Set(), true), found = new Set();
+  for (const [at, note] of flow.notes) {
+    const one = program.at(at);
+    if (note.blank && one.name === 'jsr' && flow.ends.has(one.operand)) found.add(one.operand);
+  }
+  return [...found].sort((a, b) => a - b);
+}
+
+/* Notes of all instructions that are reached from the start and the NMI's vector. */
+export function makeNotes(program, start) {
+  const ends = new Set();
+  let flow;
+  for (let before = -1; before !== ends.size;) {
+    before = ends.size;
+    flow = new Flow(program, start, ends);
+  }
+  const { room, fuel } = measured(program, flow.notes);
+  return new Map([...flow.notes].map(([at, note]) => [at, {
+    ...note, room: room.get(at), fuel: note.level === 'nmi' ? fuel.get(at) : 0,
+    ends: ends.has(flow.owner.get(at)),
+  }]));
+}

@@ -1,0 +1,394 @@
+// What can be tested of the page's games without a browser: the 6502, the board, the judges and the
+// checker of page/src, each beside another one. Called by tests/page, with the program's name:
+//
+//     node tests/page_games.mjs DVG FOLDER SEEDS EVENTS [TEST..]
+//
+// FOLDER is for what is thrown away. Where tests are named, they alone are run, up to the first
+// failure. The last line is 'N passed, M failed'.
+import { spawnSync } from 'node:child_process';
+import { existsSync, mkdirSync, readFileSync, writeFileSync } from 'node:fs';
+import { Arcade, HERTZ } from '../page/src/arcade.mjs';
+import { VERDICT, judgeProgram } from '../page/src/checker.mjs';
+import { Engine, KIND } from '../page/src/engine.mjs';
+import { builtGame, gameOf, isOfGame, unzipped } from '../page/src/eproms.mjs';
+import { hex } from '../page/src/hex.mjs';
+import { OPCODES, Processor } from '../page/src/processor.mjs';
+import { Program, labelsOf } from '../page/src/programs.mjs';
+import { linesOfListing } from '../page/src/twin.mjs';
+import { packedGames } from '../page/games.mjs';
+
+const [program, work] = process.argv.slice(2, 4), events = Number(process.argv[5]),
+  named = process.argv.slice(6);
+const isShort = events < 20000;
+const top = new URL('..', import.meta.url).pathname;
+const engine = await Engine.of(readFileSync(`${top}page/dvg.wasm`));
+let passed = 0, failed = 0;
+
+function expect(what, wanted, found) {
+  const [left, right] = [wanted, found].map((one) => JSON.stringify(one) ?? 'nothing');
+  if (left === right) passed++;
+  else {
+    failed++;
+    console.log(`FAILED: ${what}\n  wanted ${left.slice(0, 300)}\n  found  ${right.slice(0, 300)}`);
+    if (named.length > 0) end();
+  }
+}
+
+function end() {
+  console.log(`${passed} passed, ${failed} failed`);
+  process.exit(failed === 0 ? 0 : 1);
+}
+
+process.on('uncaughtException', (error) => {
+  failed++;
+  console.log(`FAILED: ${error.stack}`);
+  end();
+});
+
+const bytesOf = (text) => new Uint8Array(Buffer.from(text, 'base64'));
+
+// The driver's bytes, as the page has them.
+function driverOfPage() {
+  const lines = linesOfListing(readFileSync(`${top}page/driver.listing`, 'utf8'));
+  return Uint8Array.from(lines.flatMap(({ bytes }) => bytes));
+}
+
+// The games that are built in, by the folders of examples/.
+const GAMES = new Map(packedGames().map(({ folder, bytes, vectors, shapes }) => [folder,
+  builtGame({ bytes: bytesOf(bytes), vectors: bytesOf(vectors), shapes: bytesOf(shapes) },
+    driverOfPage())]));
+
+// --- The 6502 ---
+
+// How many random states the 6502 has, of which three in five begin with an opcode.
+const TRIES = isShort ? 100000 : 1000000;
+
+// Steps of the page's 6502 from random states, as page_cpu.c has them: a line after each 10,000.
+function digestsOfSteps() {
+  const memory = new Uint8Array(0x10000), lines = [];
+  let digest = 0, state = 12345, steps = 0;
+  const drawn = () => {
+    state = (state ^ state << 13) >>> 0;
+    state = (state ^ state >>> 17) >>> 0;
+    state = (state ^ state << 5) >>> 0;
+    return state;
+  };
+  const mix = (value) => { digest = (Math.imul(digest, 31) + value) >>> 0; };
+  const cpu = new Processor({
+    read: (at) => memory[at],
+    write: (at, byte) => { memory[at] = byte; mix(at); mix(byte); },
+  });
+  for (let at = 0; at < memory.length; at++) memory[at] = drawn();
+  for (let k = 1; k <= TRIES; k++) {
+    for (const name of ['a', 'x', 'y', 's', 'status']) cpu[name] = drawn() & 0xFF;
+    Object.assign(cpu, { pc: drawn() & 0xFFFF, cycles: 0 });
+    memory[cpu.pc] = drawn();
+    const name = OPCODES.get(memory[cpu.pc])?.name ?? 'brk';
+    if (name !== 'brk' && name !== 'sed') {
+      if (drawn() % 64 === 0) cpu.interrupt();
+      else cpu.step();
+      steps++;
+      for (const part of ['a', 'x', 'y', 's', 'status', 'pc', 'cycles']) mix(cpu[part]);
+    }
+    if (k % 10000 === 0) lines.push(`${steps} ${digest}`);
+  }
+  return lines;
+}
+
+// The opcodes are those of the definition in dvg_calls_6502, with BRK and SED, which it hasn't and
+// the page refuses. Registers, flags, cycles and writes of random steps, and of NMIs, are those of
+// board_cpu.h.
+function testSteps() {
+  const definition = readFileSync(`${top}crates/dvg_calls_6502/specs/Processor.antt`, 'utf8');
+  const codes = [...definition.matchAll(/\((0x[0-9A-F]{2}), [A-Za-z0-9 ]+\)/g)].map(([, code]) => (
+    Number(code)));
+  expect('the opcodes', [...codes, 0x00, 0xF8].sort((a, b) => a - b),
+    [...OPCODES.keys()].sort((a, b) => a - b));
+  const made = spawnSync('gcc', ['-O2', '-o', `${work}/page_cpu`, `${top}tests/page_cpu.c`]);
+  if (made.error) return console.log('skipped: steps of the 6502 of board_cpu.h: gcc is not here');
+  const { stdout } = spawnSync(`${work}/page_cpu`, [String(TRIES)]);
+  const lines = digestsOfSteps();
+  expect('steps of the 6502', stdout.toString().trim().split('\n'), lines);
+  const [steps] = lines.at(-1).split(' ');
+  return console.log(`the 6502 beside board_cpu.h: ${steps} steps, with cycles`);
+}
+
+// --- The checker ---
+
+const CASES = 240;
+
+// What board/prove says of programs: tests/page_programs.py is asked once.
+function programs() {
+  const file = `${work}/programs.json`, folder = `${work}/made`;
+  if (!existsSync(file)) {
+    mkdirSync(folder, { recursive: true });
+    const asked = ['-B', `${top}tests/page_programs.py`, folder, String(CASES), '1'];
+    const { stdout, stderr, status } = spawnSync('python3', asked,
+      { maxBuffer: 1 << 28, env: { ...process.env, DVG: program } });
+    if (status !== 0) throw new Error(`page_programs.py: ${stderr}`);
+    writeFileSync(file, stdout);
+  }
+  return JSON.parse(readFileSync(file, 'utf8'));
+}
+
+const hasTools = spawnSync('ca65', ['--version']).error === undefined;
+
+// The games that are built in have the bytes that `make` makes of examples/.
+function testBuilt() {
+  if (!hasTools) return console.log('skipped: the bytes of the games: ca65 is not here');
+  const { games, driver } = programs();
+  expect('the driver\'s bytes', driver, Buffer.from(driverOfPage()).toString('base64'));
+  for (const [folder, game] of GAMES) {
+    const [bytes, shapes] = [game.program, game.shapes].map((one) => Buffer.from(one).toString(
+      'base64'));
+    expect(`the program of ${folder}`, games[folder].program, bytes);
+    expect(`the vector ROM of ${folder}`, games[folder].rom, shapes);
+  }
+  return null;
+}
+
+// The bytes of a case: a game with changes, or a program of its own.
+function programOfCase(one, games) {
+  const game = one.program === undefined ? games[one.game] : one, bytes = bytesOf(game.program);
+  for (const [at, byte] of one.changes ?? []) bytes[at] = byte;
+  return { bytes, labels: labelsOf(game.labels), rom: bytesOf(game.rom) };
+}
+
+// Of programs, most of them changed at random, each verdict and each line is that of board/prove
+// without names; and what is accepted here and refused there is so by its names alone.
+function testChecker() {
+  if (!hasTools) return console.log('skipped: the checker beside board/prove: ca65 is not here');
+  const { games, cases, driver } = programs(), proved = bytesOf(driver);
+  const counts = { 0: 0, 1: 0, 3: 0, named: 0 };
+  const some = isShort ? cases.filter((one, k) => k % 4 === 0 || one.program) : cases;
+  for (const [k, one] of some.entries()) {
+    const { bytes, labels, rom } = programOfCase(one, games);
+    const { verdict, lines } = judgeProgram(new Program(bytes, labels), rom, proved);
+    const what = `case ${k}, ${one.game} with ${JSON.stringify(one.changes ?? 'a fault')}`;
+    expect(`${what}: the lines`, one.lines, lines);
+    expect(`${what}: the verdict`, one.status, verdict);
+    counts[verdict]++;
+    if (verdict !== one.named) counts.named++;
+  }
+  for (const verdict of Object.values(VERDICT)) {
+    expect(`some have the verdict ${verdict}`, true, counts[verdict] > 0);
+  }
+  return console.log(`the checker beside board/prove: ${some.length} programs, ${counts[0]} `
+    + `accepted, ${counts[1]} refused, ${counts[3]} unseen; ${counts.named} told apart by names`);
+}
+
+// --- The board and its judges ---
+
+// A board that keeps its log.
+class Logged extends Arcade {
+  tell(kind, at = 0, value = 0) {
+    const word = hex(at, 3);
+    const line = { [KIND.STARTED]: 'started', [KIND.LOW]: `low ${word} ${hex(value, 2)}`,
+      [KIND.WROTE]: `wrote ${word} ${hex(value, 2)}`, [KIND.BROKE]: 'halted' }[kind];
+    (this.log ??= []).push(line ?? `fetched ${word} ${hex(value, 4)}`);
+    if (kind === KIND.DONE) this.log.push('halted');
+    super.tell(kind, at, value);
+  }
+}
+
+// What is pressed in a run: a button, from which tenth of a second on, and until which.
+const PRESSED = [['coin', 5, 6], ['start1', 8, 10], ['thrust', 12, 16], ['fire', 13, 14],
+  ['left', 14, 18], ['fire', 16, 17], ['right', 20, 24], ['fire', 21, 22]];
+
+// Runs a game for so many tenths of a second.
+function playGame(arcade, tenths) {
+  for (let tenth = 0; tenth < tenths; tenth++) {
+    for (const [button, from, to] of PRESSED) {
+      if (tenth === from || tenth === to) arcade.press(button, tenth === from);
+    }
+    arcade.run(HERTZ / 10);
+  }
+  return arcade;
+}
+
+function boardOf(folder, changes, kind = Arcade) {
+  const { program: bytes, shapes } = GAMES.get(folder);
+  return Object.assign(new kind(engine, bytes, shapes), changes);
+}
+
+// Which boards are judged: a game, what is asked of its board, and what comes of it.
+const BOARDS = [
+  ['asteroid_game', {}, 'whole'], ['asteroid_game', { slow: 8 }, 'whole'],
+  ['bat', {}, 'whole'], ['bat', { wireCut: true }, 'whole'],
+  ['asteroid_game', { wireCut: true }, 'whole'],
+  ['asteroid_game', { wireCut: true, slow: 4 }, 'dark'],
+  ['asteroid_game', { wireCut: true, slow: 6, ignored: true }, 'early'],
+  ['asteroid_game', { wireCut: true, slow: 8, ignored: true }, 'torn'],
+  ['test_rom', { wireCut: true }, 'dark'],
+  ['test_rom', { wireCut: true, slow: 4, ignored: true }, 'torn'],
+];
+
+// What a run came to, by what the board counted.
+function cameTo({ torn, early, left, pictures }) {
+  if (torn > 0) return 'torn';
+  if (left > pictures) return 'dark';
+  return early > 0 ? 'early' : 'whole';
+}
+
+// Of runs of games, with the wire whole and cut, what the judges say live is what `dvg torn` says
+// of their logs.
+function testJudges() {
+  let lines = 0;
+  for (const [folder, changes, wanted] of BOARDS) {
+    const arcade = playGame(boardOf(folder, changes, Logged), isShort ? 15 : 25);
+    const { counts, log } = arcade, what = `${folder} with ${JSON.stringify(changes)}`;
+    const input = `${log.join('\n')}\n`;
+    const says = (...words) => spawnSync(program, ['torn', ...words], { input, maxBuffer: 1 << 28 })
+      .stdout.toString().split(/[:\n]/)[0].replace(/ at line.*/, '');
+    expect(`${what}: what comes of it`, wanted, cameTo(counts));
+    expect(`${what}: by halves`, counts.early > 0 ? 'torn' : 'not torn', says());
+    if (counts.pictures > 0) {
+      expect(`${what}: by moments`, counts.torn > 0 ? 'torn' : 'whole', says('--moments'));
+    }
+    const isOf = (text) => (line) => line.startsWith(text);
+    expect(`${what}: its writes`, log.filter(isOf('wrote')).length, counts.written);
+    expect(`${what}: its pictures`, log.filter(isOf('halted')).length, counts.pictures);
+    lines += log.length;
+    arcade.free();
+  }
+  console.log(`the judges beside dvg torn: ${BOARDS.length} runs, ${lines} lines`);
+}
+
+// What is counted after the wire was mended is of the runs that begin then: none is torn, early or
+// abandoned, whenever it was.
+function testMendedBoard() {
+  const arcade = boardOf('test_rom', { wireCut: true, slow: 4, ignored: true });
+  arcade.run(HERTZ);
+  for (let k = 0; k < 6; k++) {
+    Object.assign(arcade, { wireCut: true, ignored: true });
+    arcade.run(HERTZ / 3 + 20011 * k);
+    expect('it tears while it is cut', true, arcade.counts.torn + arcade.counts.early > 0);
+    Object.assign(arcade, { wireCut: false, ignored: false });
+    arcade.countAnew();
+    arcade.run(HERTZ / 2);
+    const { pictures, torn, early, left } = arcade.counts;
+    expect('it is whole once it was mended', [0, 0, 0, true], [torn, early, left, pictures > 0]);
+  }
+  arcade.free();
+}
+
+// A new picture each four NMIs, as docs/GAME.md has it: 61.5 in a second.
+function testRate() {
+  const arcade = playGame(boardOf('asteroid_game', {}), 5);
+  arcade.countAnew();
+  playGame(arcade, 20);
+  const { pictures, left, resets } = arcade.counts;
+  expect('pictures in two seconds', Math.round(2 * HERTZ / 6144 / 4), pictures);
+  expect('all are finished, and the watchdog is content', [0, 0, ''],
+    [left, resets, arcade.fault]);
+  expect('strokes are on the screen', true, arcade.picture.strokes.length > 20);
+  arcade.free();
+}
+
+// The board of a program of a few bytes at 6800, which an NMI leaves at once.
+function boardOfBytes(...bytes) {
+  const image = new Uint8Array(6144).fill(0x40);
+  image.set(bytes);
+  image.set([0xF0, 0x7F, 0x00, 0x68], 6144 - 6);
+  return new Arcade(engine, image, new Uint8Array(2048));
+}
+
+// What a byte of RAM is after some cycles of a program of a few bytes.
+function leftAt(at, ...bytes) {
+  const arcade = boardOfBytes(...bytes);
+  arcade.run(400);
+  return arcade.read(at);
+}
+
+const STAY = [0x4C, 0x00, 0x68];
+
+// The banks, the watchdog, the NMI, the inputs and the flag.
+function testBoard() {
+  const stays = (at) => [0x4C, at & 0xFF, at >> 8];
+  const swap = [0xA9, 7, 0x8D, 0, 2, 0xA9, 4, 0x8D, 0, 0x32];
+  expect('banks change places', 7, leftAt(0x300, ...swap, ...stays(0x680A)));
+  const back = [...swap, 0xA9, 0, 0x8D, 0, 0x32];
+  expect('and change back', 7, leftAt(0x200, ...back, ...stays(0x680F)));
+  const still = boardOfBytes(...STAY);
+  still.run(131072 * 3 + 1000);
+  expect('the watchdog resets each 131,072 cycles', 3, still.counts.resets);
+  const fed = boardOfBytes(0x8D, 0x00, 0x34, ...STAY);
+  fed.run(131072 * 3);
+  expect('not one that is written', 0, fed.counts.resets);
+  const stuck = boardOfBytes(0x02);
+  stuck.run(100);
+  expect('an opcode that no manual has is told',
+    'no instruction that the page knows at 6800: 02', stuck.fault);
+  for (const [name, at] of [['fire', 0x2004], ['left', 0x2407], ['coin', 0x2400]]) {
+    still.press(name, true);
+    const down = still.read(at);
+    still.press(name, false);
+    expect(`the switch ${name}`, [0xFF, 0x7F], [down, still.read(at)]);
+  }
+  expect('A15 isn\'t decoded', still.read(0x7FFD), still.read(0xFFFD));
+}
+
+// An NMI comes each 6,144 cycles, but not while the self-test switch is closed.
+function testNmi() {
+  for (const isClosed of [false, true]) {
+    const arcade = boardOfBytes(0x8D, 0x00, 0x34, ...STAY);
+    arcade.memory.set([0xE6, 0x20, 0x40], 0x7FF0);
+    arcade.press('test', isClosed);
+    arcade.run(6144 * 50 + 40);
+    expect(`NMIs with the switch ${isClosed}`, isClosed ? 0 : 50, arcade.read(0x20));
+  }
+}
+
+// --- Files ---
+
+// What a game is dropped as, by names and by bytes.
+async function testGameFiles() {
+  const { program: bytes, shapes } = GAMES.get('bat');
+  const socket = (name, k) => ({ name, bytes: bytes.slice(2048 * k, 2048 * (k + 1)) });
+  const sockets = [socket('035145-04e.ef2', 0), socket('035144-04e.h2', 1),
+    socket('035143-02.j2', 2), { name: '035127-02.np3', bytes: shapes }];
+  const whole = { name: 'game.program', bytes }, rom = { name: 'rom', bytes: shapes };
+  const text = 'al 006C71 .draw\nal 006800 .dvg_reset';
+  const labels = { name: 'game.labels', bytes: Buffer.from(text) };
+  const zips = zipsOf(sockets);
+  for (const [what, files] of [['a program', [whole, rom]], ['sockets', sockets],
+    ['others', [rom, whole, labels]], ...zips]) {
+    const game = gameOf(await unzipped(files));
+    expect(`${what}: its program`, Buffer.from(bytes).toString('hex'),
+      Buffer.from(game.program).toString('hex'));
+    expect(`${what}: its shapes`, Buffer.from(shapes).toString('hex'),
+      Buffer.from(game.shapes).toString('hex'));
+    expect(`${what}: nothing is missing`, '', game.missing.replace('NP3', ''));
+  }
+  expect('labels', [[0x6C71, 'draw']], [...gameOf([whole, labels]).labels]);
+  expect('a socket alone', 'H2, J2, NP3', gameOf([sockets[0]]).missing);
+  expect('a vector ROM alone', null, gameOf([rom]));
+  for (const [what, file, wanted] of [['a program', bytes, true], ['EF2', sockets[0].bytes, true],
+    ['J2', sockets[2].bytes, true], ['a vector ROM', shapes, false],
+    ['a dump', new Uint8Array(6144), false], ['a text', Buffer.from('labs 0 0 0'), false]]) {
+    expect(`${what} is of a game`, wanted, isOfGame(file));
+  }
+}
+
+// Two zips of files: packed, and as they are.
+function zipsOf(files) {
+  const folder = `${work}/zipped`;
+  mkdirSync(folder, { recursive: true });
+  for (const { name, bytes } of files) writeFileSync(`${folder}/${name}`, bytes);
+  const script = 'import sys, zipfile; z = zipfile.ZipFile(sys.argv[1], "w", int(sys.argv[2]));'
+    + '[z.write(name, "roms/" + name.split("/")[-1]) for name in sys.argv[3:]]; z.close()';
+  return ['8', '0'].map((method) => {
+    const file = `${work}/game${method}.zip`;
+    const { status, stderr } = spawnSync('python3', ['-c', script, file, method,
+      ...files.map(({ name }) => `${folder}/${name}`)]);
+    if (status !== 0) throw new Error(`zipfile: ${stderr}`);
+    return [`a zip by method ${method}`, [{ name: 'game.zip', bytes: readFileSync(file) }]];
+  });
+}
+
+const TESTS = [
+  testSteps, testBuilt, testChecker, testJudges, testMendedBoard, testRate, testBoard, testNmi,
+  testGameFiles,
+];
+for (const test of TESTS) if (named.length === 0 || named.includes(test.name)) await test();
+end();
