@@ -107,8 +107,10 @@ static int word_at(int at) { return memory[at] | memory[at + 1] << 8; }
 
 static int is_driver(int at) { return at >= CODE && at < code_end; }
 
-/* Whether a label is local to a macro: ca65 makes a name for it. */
-static int is_macros(int i) { return strchr(labels[i].name, '-') != 0; }
+static int is_drivers(int i) { return !strncmp(labels[i].name, "dvg_", 4); }
+
+/* Whether a label is the program's own: one local to a macro has a name that ca65 made. */
+static int is_own(int i) { return !is_drivers(i) && !strchr(labels[i].name, '-'); }
 
 /* As `6AF8, picture + 23`: the label before it, in the driver one of its routines. */
 static void print_place(int at)
@@ -116,9 +118,9 @@ static void print_place(int at)
     const char *name = 0;
     int from = 0;
     for (int i = 0; i < label_count; i++) {
-        const int found = labels[i].at, is_routine = !strncmp(labels[i].name, "dvg_", 4);
+        const int found = labels[i].at;
         if (found < ROM || found > at || (name && found <= from)) continue;
-        if (is_driver(at) ? !is_routine : is_driver(found) || is_macros(i)) continue;
+        if (is_driver(at) ? !is_drivers(i) : is_driver(found) || !is_own(i)) continue;
         name = labels[i].name;
         from = found;
     }
@@ -672,7 +674,7 @@ static void tell_unused(int data)
     qsort(labels, (size_t)label_count, sizeof labels[0], compare_labels);
     for (int i = 0; i < label_count; i++) {
         const int at = labels[i].at;
-        if (at < code_end || at >= data || at == last || was_used[at] || is_macros(i)) continue;
+        if (at < code_end || at >= data || at == last || was_used[at] || !is_own(i)) continue;
         printf("%s%s", count++ ? " " : "never run: ", labels[i].name);
         last = at;
     }
