@@ -1,6 +1,8 @@
 /* A heap of one's own for build/libdvg.a, for C99 and C++. Nobody needs this header but who defines
  * these three functions: then the archive's own, which call malloc, realloc and free, aren't
  * linked. The shared library has taken its own already: there these functions are never called.
+ * The pieces that cargo makes without GNU binutils (docs/C.md) call them rattle_alloc,
+ * rattle_realloc and rattle_dealloc.
  *
  * The three are of one allocator. A block is of `bytes` bytes, or of `align` where that is 0, and
  * is aligned to each power of two up to 16 that divides its size. `align` is a power of two, 16 at
