@@ -1,7 +1,7 @@
 -- What the check says of the frames of a sketch that was read.
 use Rattle.std.proofs.Common.{◌≡◌, All, List, ℕ, map, subst, sym}
-use Rattle.dvg_lay.specs.Refusals.{IsFault, IsGood}
-use Rattle.dvg_lay.specs.declared.refusal.Refusal.{Refusal}
+use Rattle.dvg_blame.specs.Refusals.{IsFault, IsGood}
+use Rattle.dvg_blame.specs.declared.refusal.Refusal.{Refusal}
 use Rattle.dvg_named.specs.ReadSketches.{IsReadOf, IsSketchOf, frames_in, lent_of}
 use Rattle.dvg_named.specs.declared.meaning.NamedFrame.{NamedFrame}
 use Rattle.dvg_named.specs.declared.meaning.RomName.{RomName}

@@ -3,7 +3,7 @@ use Rattle.std.specs.Prelude.{◌≡◌, ◌+◌, ℕ, All, List, ◌∷◌, ◌
 use Rattle.dvg_frame.specs.declared.fault.FrameFault.{FrameFault}
 use Rattle.dvg_frame.specs.declared.op.OpKind.{OpKind}
 use Rattle.dvg_frame.specs.Faults.{Refuses}
-use Rattle.dvg_lay.specs.Refusals.{IsFirst, IsGood}
+use Rattle.dvg_blame.specs.Refusals.{IsFirst, IsGood}
 use Rattle.dvg_log.specs.Log.{Line}
 use Rattle.dvg_logs.specs.LogLines.{Tells}
 use Rattle.dvg_named.specs.ReadSketches.{IsSketchOf, lent_of}

@@ -4,9 +4,9 @@ ghost use Rattle.std.specs.Char.{to_ascii_lowercase};
 ghost use Rattle.dvg_named.specs.ReadSketches.{AreInside, IsReadOf};
 ghost use Rattle.dvg_explain.specs.Answers.{AnswersFrames, AnswersSketch};
 
+use dvg_blame::{Blamed, Reason, Refusal, Unlaid, check_all};
 use dvg_code::OutOfMemory;
 use dvg_frame::{Draft, FrameFault, Op, OpKind, check};
-use dvg_lay::{Blamed, Reason, Refusal, Unlaid, check_all};
 use dvg_mem::Rom;
 use dvg_named::{NamedFrame, Sketch, read_sketch};
 use dvg_read::{TextFault, Unread};

@@ -7,10 +7,10 @@ use Rattle.dvg_read.proofs.Zips.{zip_push}
 use Rattle.dvg_gen.specs.declared.stroke.Stroke.{Stroke}
 use Rattle.dvg_named.specs.declared.meaning.NamedFrame.{NamedFrame}
 use Rattle.dvg_named.specs.declared.meaning.RomName.{RomName}
-use Rattle.dvg_lay.specs.declared.refusal.Unlaid.{Unlaid}
-use Rattle.dvg_lay.specs.Refusals.{IsUnlaid}
-use Rattle.dvg_lay.proofs.Lists.{first_at}
-use Rattle.dvg_lay.proofs.Described.{unlaid_weaker}
+use Rattle.dvg_blame.specs.declared.refusal.Unlaid.{Unlaid}
+use Rattle.dvg_blame.specs.Refusals.{IsUnlaid}
+use Rattle.dvg_blame.proofs.Lists.{first_at}
+use Rattle.dvg_blame.proofs.Described.{unlaid_weaker}
 use Rattle.dvg_svg.specs.Svg.{strokes_of}
 use Rattle.dvg_lay.specs.Drawings.{CanBeDrawn, IsDrawnFrame, IsUndrawn, TellsUndrawn}
 

@@ -2,7 +2,7 @@
 use Rattle.std.proofs.Common.{◌≡◌, ◌∙◌, ℕ, ◌+◌, ◌*◌, ◌≤◌, ◌<◌, List, [], ◌∷◌, ◌++◌, length, take, drop, refl, sym, ap, arith, length-drop}
 use Rattle.std.proofs.lemmas.List.{append-nil, drop-drop}
 use Rattle.dvg_lay.specs.Drafts.{given_line, given_lines}
-use Rattle.dvg_lay.proofs.Lists.{grew}
+use Rattle.dvg_blame.proofs.Lists.{grew}
 
 -- the first line is that of the first eight words
 first_line : (address : ℕ) (words : List ℕ) → 8 ≤ length words → given_lines address words ≡ given_line address (take 8 words) ++ given_lines (address + 8) (drop 8 words)

@@ -2,12 +2,8 @@ mod Grew
 mod GivenRows
 mod LaidBytes
 mod LaidCuttings
-pub mod Lists
-mod NearNames
 mod RomBytes
-mod SaidTokens
 mod TableLines
-pub mod Described
 pub mod SketchesLaid
 mod ChecksSaid
 mod EndsDrawn

@@ -7,7 +7,7 @@ use Rattle.std.proofs.lemmas.List.{drop_more}
 use Rattle.dvg_code.specs.Words.{word_in}
 use Rattle.dvg_mem.specs.Memory.{IsRom, first_word, rom_word}
 use Rattle.dvg_mem.proofs.Roms.{rom_there, word_fits}
-use Rattle.dvg_lay.proofs.Lists.{grew}
+use Rattle.dvg_blame.proofs.Lists.{grew}
 
 -- the two bytes of word k stand before those of the next
 pub word_bytes : (R : List ℕ) (k w : ℕ) → All (λ byte. byte < 256) R → 2 * k + 1 < length R → w ≡ word_in R k

@@ -11,7 +11,7 @@ use Rattle.dvg_frame.proofs.Sizes.{canon_length}
 use Rattle.dvg_named.specs.declared.meaning.NamedFrame.{NamedFrame}
 use Rattle.dvg_rows.specs.declared.source.Source.{Source}
 use Rattle.dvg_lay.specs.Texts.{frame_table, op_line, op_lines, tables}
-use Rattle.dvg_lay.proofs.Lists.{grew, next_at}
+use Rattle.dvg_blame.proofs.Lists.{grew, next_at}
 
 -- the words that are left, cut after those of an operation
 pub record IsCut (F : List OpKind) (rest : List ℕ) (count : ℕ) (op : OpKind) (more : List ℕ) : Type 0 where

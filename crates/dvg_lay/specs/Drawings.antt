@@ -5,9 +5,9 @@ use Rattle.dvg_frame.specs.Picture.{IsBound, IsPicture}
 use Rattle.dvg_frame.specs.declared.place.Place.TheVariants.{InFrame}
 use Rattle.dvg_named.specs.declared.meaning.NamedFrame.{NamedFrame}
 use Rattle.dvg_named.specs.declared.meaning.RomName.{RomName}
-use Rattle.dvg_lay.specs.declared.refusal.Reason.TheVariants.{ManyWords}
-use Rattle.dvg_lay.specs.declared.refusal.Refusal.{Refusal}
-use Rattle.dvg_lay.specs.Refusals.{Blames, IsFirst, IsGood, TellsFault}
+use Rattle.dvg_blame.specs.declared.refusal.Reason.TheVariants.{ManyWords}
+use Rattle.dvg_blame.specs.declared.refusal.Refusal.{Refusal}
+use Rattle.dvg_blame.specs.Refusals.{Blames, IsFirst, IsGood, TellsFault}
 use Rattle.dvg_dump.specs.declared.runs.TheConstants.{MOST_WORDS}
 
 -- the check accepts the frame over a ROM, and its picture has these strokes and at most 65,536 words

@@ -7,7 +7,7 @@ use Rattle.dvg_named.specs.declared.meaning.NamedFrame.{NamedFrame}
 use Rattle.dvg_named.specs.declared.meaning.RomName.{RomName}
 use Rattle.dvg_job.specs.declared.form.Show.{Show}
 use Rattle.dvg_svg.specs.Svg.{strokes_of, svgs_text}
-use Rattle.dvg_lay.specs.declared.refusal.Refusal.{Refusal}
+use Rattle.dvg_blame.specs.declared.refusal.Refusal.{Refusal}
 use Rattle.dvg_lay.specs.Drawings.{IsDrawnFrame, IsUndrawn}
 use Rattle.dvg_lay.specs.Sketches.{Makes}
 

@@ -4,8 +4,8 @@ use Rattle.dvg_named.specs.declared.meaning.NamedFrame.{NamedFrame}
 use Rattle.dvg_named.specs.declared.meaning.RomName.{RomName}
 use Rattle.dvg_job.specs.declared.form.LayForm.{LayForm}
 use Rattle.dvg_job.specs.declared.form.LayForm.TheVariants.{Bytes, Table, Rom as RomBytes, Equates, Draft}
-use Rattle.dvg_lay.specs.declared.refusal.Refusal.{Refusal}
-use Rattle.dvg_lay.specs.Refusals.{IsFault, IsGood, IsLow, NamesHighRom}
+use Rattle.dvg_blame.specs.declared.refusal.Refusal.{Refusal}
+use Rattle.dvg_blame.specs.Refusals.{IsFault, IsGood, IsLow, NamesHighRom}
 use Rattle.dvg_lay.specs.Texts.{frames_bytes, name_lines, tables}
 use Rattle.dvg_lay.specs.Drafts.{drafts_text}
 

@@ -15,7 +15,7 @@ use Rattle.dvg_named.specs.declared.meaning.NamedFrame.{NamedFrame}
 use Rattle.dvg_named.specs.declared.meaning.RomName.{RomName}
 use Rattle.dvg_read.specs.DraftReading.{Gives}
 use Rattle.dvg_lay.specs.Drafts.{drafts_text}
-use Rattle.dvg_lay.specs.Refusals.{IsLent}
+use Rattle.dvg_blame.specs.Refusals.{IsLent}
 
 -- an operation of a draft as an instruction at a place, with its canonical words for a half
 abbrev pub op_at : Half → List OpKind → ℕ → OpKind → Placed

@@ -1,6 +1,4 @@
-pub mod Said
 pub mod Texts
-pub mod Refusals
 pub mod Drafts
 pub mod Forms
 pub mod Sketches

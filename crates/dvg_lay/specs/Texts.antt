@@ -13,7 +13,7 @@ use Rattle.dvg_print.specs.Lines.{hex_3, hex_4}
 use Rattle.dvg_named.specs.declared.meaning.NamedFrame.{NamedFrame}
 use Rattle.dvg_named.specs.declared.meaning.RomName.{RomName}
 use Rattle.dvg_rows.specs.declared.source.Source.{Source}
-use Rattle.dvg_lay.specs.Said.{said}
+use Rattle.dvg_blame.specs.Said.{said}
 
 -- the bytes of frames in order, each as it lies in a half
 abbrev pub frames_bytes : Half → List NamedFrame → List ℕ

@@ -3,12 +3,12 @@ ghost use Rattle.std.specs.Prelude.{All, IfOk};
 ghost use Rattle.dvg_io.specs.Faults.{ComesBeforeText};
 ghost use Rattle.dvg_io.specs.Serving.{AreFresh, Serves};
 ghost use Rattle.dvg_lay.specs.DrawnSketches.{Draws, IsDrawn, shown};
-ghost use Rattle.dvg_lay.specs.Refusals.{IsLent};
+ghost use Rattle.dvg_blame.specs.Refusals.{IsLent};
 ghost use Rattle.dvg_read.specs.declared.draft_text.TheConstants.{MOST_TEXT_BYTES};
 
 use crate::frames::draw_frames;
 use crate::making::{Making, SketchEngine};
-use crate::refusal::{Refusal, Unlaid};
+use dvg_blame::{Refusal, Unlaid};
 use dvg_code::OutOfMemory;
 use dvg_gen::Stroke;
 use dvg_io::{StreamFailed, ToolFault, Watched, serve};

@@ -1,11 +1,11 @@
 //! The forms in which a sketch is laid out.
 ghost use Rattle.std.specs.Prelude.{◌≡◌, All, IfErr, IfOk, OnOk};
 ghost use Rattle.dvg_lay.specs.Forms.{IsLaid, IsRefusal, MayLay, form_text};
-ghost use Rattle.dvg_lay.specs.Refusals.{IsLent, IsUnlaid};
+ghost use Rattle.dvg_blame.specs.Refusals.{IsLent, IsUnlaid};
 
 use crate::drafts::lay_drafts;
 use crate::laying::{lay_bytes, lay_names, lay_rom, lay_tables};
-use crate::refusal::{Refusal, Unlaid};
+use dvg_blame::{Refusal, Unlaid};
 use dvg_code::OutOfMemory;
 use dvg_job::LayForm;
 use dvg_mem::Rom;

@@ -1,13 +1,12 @@
 //! Frames that are drawn.
 ghost use Rattle.std.specs.Prelude.{All, IfErr, IfOk};
 ghost use Rattle.std.specs.List.{AllZip};
-ghost use Rattle.dvg_lay.specs.Refusals.{IsLent, IsUnlaid};
+ghost use Rattle.dvg_blame.specs.Refusals.{IsLent, IsUnlaid};
 ghost use Rattle.dvg_svg.specs.Svg.{strokes_of};
 ghost use Rattle.dvg_lay.specs.Drawings.{IsDrawnFrame, IsUndrawn, TellsUndrawn};
 
-use crate::checking::{good_frame, tell_long};
 use crate::picture::picture_of;
-use crate::refusal::Unlaid;
+use dvg_blame::{Unlaid, good_frame, tell_long};
 use dvg_dump::MOST_WORDS;
 use dvg_frame::Checker;
 use dvg_gen::Stroke;

@@ -1,13 +1,12 @@
 //! What is laid out of a sketch.
 ghost use Rattle.std.specs.Prelude.{◌≡◌, ◌⊎◌, All, IfErr, IfOk, OnOk};
-ghost use Rattle.dvg_lay.specs.Refusals.{IsFault, IsGood, IsLent, IsLow, NamesHighRom, IsUnlaid};
+ghost use Rattle.dvg_blame.specs.Refusals.{IsFault, IsGood, IsLent, IsLow, NamesHighRom, IsUnlaid};
 ghost use Rattle.dvg_lay.specs.Texts.{frames_bytes, name_lines, tables};
 
-use crate::checking::{check_all, check_low_words, good_frame};
 use crate::laid::put_laid;
 use crate::names::put_names;
-use crate::refusal::Unlaid;
 use crate::table::put_table;
+use dvg_blame::{Unlaid, check_all, check_low_words, good_frame};
 use dvg_frame::Checker;
 use dvg_mem::{Half, ROM_END, Rom};
 use dvg_named::{NamedFrame, RomName};

@@ -8,7 +8,6 @@
 //! frame is drawn by a run of the generator over a memory that has it.
 #![tactic(auto)]
 
-mod checking;
 mod drafts;
 mod drawing;
 mod engine;
@@ -21,19 +20,15 @@ mod making;
 mod memory;
 mod names;
 mod picture;
-mod refusal;
-mod said;
 mod table;
 mod text;
 mod time;
 mod verdicts;
 mod walk;
 
-pub use checking::check_all;
 pub use drawing::{SketchPictures, draw_sketch};
 pub use engine::lay_sketch;
 pub use form::Laid;
 pub use laying::lay_tables;
-pub use refusal::{Blamed, Reason, Refusal, Unlaid};
 pub use time::PictureTime;
 pub use verdicts::{FrameVerdict, Said, check_sketch};

@@ -5,7 +5,7 @@ ghost use Rattle.dvg_named.specs.ReadSketches.{AreInside, IsReadOf};
 ghost use Rattle.dvg_named.specs.SketchFaults.{HasSketchFault};
 ghost use Rattle.dvg_named.specs.declared.meaning.NamedFrame.{NamedFrame as HeldFrame};
 ghost use Rattle.dvg_named.specs.declared.meaning.RomName.{RomName as HeldName};
-ghost use Rattle.dvg_lay.specs.Refusals.{IsLent};
+ghost use Rattle.dvg_blame.specs.Refusals.{IsLent};
 ghost use Rattle.dvg_lay.specs.Sketches.{ComesOf};
 ghost use Rattle.dvg_read.specs.declared.draft_text.TheConstants.{MOST_TEXT_BYTES};
 

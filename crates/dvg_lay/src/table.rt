@@ -3,12 +3,12 @@ ghost use Rattle.std.specs.Prelude.{◌≡◌, ◌++◌, IfOk, OnOk, decimal, le
 ghost use Rattle.dvg_mem.specs.declared.half.Half.TheVariants.{H0};
 ghost use Rattle.dvg_frame.specs.Bytes.{bytes};
 ghost use Rattle.dvg_frame.specs.Layout.{laid, op_words};
-ghost use Rattle.dvg_lay.specs.Refusals.{IsLent};
+ghost use Rattle.dvg_blame.specs.Refusals.{IsLent};
 ghost use Rattle.dvg_lay.specs.Texts.{frame_table, label, op_line, op_lines, word_line};
 
 use crate::laid::put_laid;
-use crate::said::put_said;
 use crate::text::{put, put_decimal, put_words};
+use dvg_blame::put_said;
 use dvg_code::OutOfMemory;
 use dvg_frame::{Checked, Op, OpKind};
 use dvg_io::collect_words;

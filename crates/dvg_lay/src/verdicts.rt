@@ -3,7 +3,7 @@ ghost use Rattle.std.specs.Prelude.{◌≡◌, ◌↔◌, ◌++◌, All, IfOk, I
 ghost use Rattle.dvg_frame.specs.Faults.{IsChecked};
 ghost use Rattle.dvg_io.specs.Faults.{ComesBeforeText};
 ghost use Rattle.dvg_io.specs.Serving.{AreFresh, Serves};
-ghost use Rattle.dvg_lay.specs.Refusals.{IsLent};
+ghost use Rattle.dvg_blame.specs.Refusals.{IsLent};
 ghost use Rattle.dvg_lay.specs.Checks.{ChecksFrames, ChecksSketch};
 ghost use Rattle.dvg_lay.specs.Checks.{IsGoodVerdict, IsVerdictOn, said_line};
 ghost use Rattle.dvg_read.specs.declared.draft_text.TheConstants.{MOST_TEXT_BYTES};

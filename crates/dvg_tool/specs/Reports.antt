@@ -5,7 +5,7 @@ use Rattle.dvg_io.specs.Serving.{Meaning}
 use Rattle.dvg_dump.specs.declared.ending.Outcome.{Outcome}
 use Rattle.dvg_dump.specs.declared.ending.Outcome.TheVariants as outcomes
 use Rattle.dvg_explain.specs.declared.kind.Finding.{Finding}
-use Rattle.dvg_lay.specs.declared.refusal.Refusal.{Refusal}
+use Rattle.dvg_blame.specs.declared.refusal.Refusal.{Refusal}
 use Rattle.dvg_lay.specs.declared.verdicts.FrameVerdict.{FrameVerdict}
 use Rattle.dvg_picture.specs.declared.undrawn.Undrawn.{Undrawn}
 use Rattle.dvg_print.specs.declared.log_verdict.LogFinding.{LogFinding}

@@ -4,8 +4,8 @@ ghost use Rattle.std.specs.Io.KnownBytes.{Keeps};
 ghost use Rattle.dvg_tool.specs.Outcomes.{FinishesAs, status_of};
 ghost use Rattle.dvg_io.specs.Watching.{failures_of, stream_of};
 
+use dvg_blame::Refusal;
 use dvg_io::{ToolFault, Watched};
-use dvg_lay::Refusal;
 use dvg_picture::Undrawn;
 use std::alloc::{Allocator, Global};
 use std::io::Write;

@@ -6,9 +6,10 @@ ghost use Rattle.dvg_tool.specs.Reports.{of_moments, of_outcome, of_undrawn, of_
 ghost use Rattle.dvg_tool.specs.declared.outcome.Done.{Done as HeldDone};
 
 use crate::outcome::Done;
+use dvg_blame::Refusal;
 use dvg_explain::Finding;
 use dvg_io::ToolFault;
-use dvg_lay::{Refusal, Said};
+use dvg_lay::Said;
 use dvg_logs::{LogFinding, LogVerdict, MomentVerdict};
 use dvg_picture::{Outcome, Undrawn};
 use dvg_print::{BoundedVerdict, Verdict};

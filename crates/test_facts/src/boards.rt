@@ -1,11 +1,12 @@
 //! What follows from the contracts of tables and of the machine code that reads them.
 ghost use Rattle.std.specs.Prelude.{◌≤◌, ◌≡◌, length, OnOk};
-ghost use Rattle.dvg_lay.specs.Refusals.{IsLent};
+ghost use Rattle.dvg_blame.specs.Refusals.{IsLent};
 ghost use Rattle.dvg_calls_6502.specs.Tables.{AreExpressible};
 
+use dvg_blame::Unlaid;
 use dvg_calls_6502::checked_tables;
 use dvg_frame::Draft;
-use dvg_lay::{Unlaid, lay_tables};
+use dvg_lay::lay_tables;
 use dvg_mem::Rom;
 use dvg_named::{NamedFrame, RomName};
 use std::alloc::Global;

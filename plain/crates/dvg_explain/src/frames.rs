@@ -1,7 +1,7 @@
 //! What the check says of the frames of a sketch. A draft is one, too.
+use dvg_blame::{Blamed, Reason, Refusal, Unlaid, check_all};
 use dvg_code::OutOfMemory;
 use dvg_frame::{Draft, FrameFault, Op, OpKind, check};
-use dvg_lay::{Blamed, Reason, Refusal, Unlaid, check_all};
 use dvg_mem::Rom;
 use dvg_named::{NamedFrame, Sketch, read_sketch};
 use dvg_read::{TextFault, Unread};

@@ -3,7 +3,7 @@ use std::prelude::*;
 
 use crate::frames::draw_frames;
 use crate::making::{Making, SketchEngine};
-use crate::refusal::{Refusal, Unlaid};
+use dvg_blame::{Refusal, Unlaid};
 use dvg_code::OutOfMemory;
 use dvg_gen::Stroke;
 use dvg_io::{StreamFailed, ToolFault, Watched, serve};

@@ -3,7 +3,7 @@ use std::prelude::*;
 
 use crate::drafts::lay_drafts;
 use crate::laying::{lay_bytes, lay_names, lay_rom, lay_tables};
-use crate::refusal::{Refusal, Unlaid};
+use dvg_blame::{Refusal, Unlaid};
 use dvg_code::OutOfMemory;
 use dvg_job::LayForm;
 use dvg_mem::Rom;

@@ -1,9 +1,8 @@
 //! Frames that are drawn.
 use std::prelude::*;
 
-use crate::checking::{good_frame, tell_long};
 use crate::picture::picture_of;
-use crate::refusal::Unlaid;
+use dvg_blame::{Unlaid, good_frame, tell_long};
 use dvg_dump::MOST_WORDS;
 use dvg_frame::Checker;
 use dvg_gen::Stroke;

@@ -1,11 +1,10 @@
 //! What is laid out of a sketch.
 use std::prelude::*;
 
-use crate::checking::{check_all, check_low_words, good_frame};
 use crate::laid::put_laid;
 use crate::names::put_names;
-use crate::refusal::Unlaid;
 use crate::table::put_table;
+use dvg_blame::{Unlaid, check_all, check_low_words, good_frame};
 use dvg_frame::Checker;
 use dvg_mem::{Half, ROM_END, Rom};
 use dvg_named::{NamedFrame, RomName};

@@ -10,7 +10,6 @@
 
 extern crate plain_std as std;
 
-mod checking;
 mod drafts;
 mod drawing;
 mod engine;
@@ -22,19 +21,15 @@ mod making;
 mod memory;
 mod names;
 mod picture;
-mod refusal;
-mod said;
 mod table;
 mod text;
 mod time;
 mod verdicts;
 mod walk;
 
-pub use checking::check_all;
 pub use drawing::{SketchPictures, draw_sketch};
 pub use engine::lay_sketch;
 pub use form::Laid;
 pub use laying::lay_tables;
-pub use refusal::{Blamed, Reason, Refusal, Unlaid};
 pub use time::PictureTime;
 pub use verdicts::{FrameVerdict, Said, check_sketch};

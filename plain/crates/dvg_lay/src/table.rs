@@ -2,8 +2,8 @@
 use std::prelude::*;
 
 use crate::laid::put_laid;
-use crate::said::put_said;
 use crate::text::{put, put_decimal, put_words};
+use dvg_blame::put_said;
 use dvg_code::OutOfMemory;
 use dvg_frame::{Checked, Op, OpKind};
 use dvg_io::collect_words;

@@ -1,6 +1,6 @@
 //! How the program ends.
+use dvg_blame::Refusal;
 use dvg_io::{ToolFault, Watched};
-use dvg_lay::Refusal;
 use dvg_picture::Undrawn;
 use std::alloc::{Allocator, Global};
 use std::io::Write;

@@ -2,9 +2,10 @@
 use std::prelude::*;
 
 use crate::outcome::Done;
+use dvg_blame::Refusal;
 use dvg_explain::Finding;
 use dvg_io::ToolFault;
-use dvg_lay::{Refusal, Said};
+use dvg_lay::Said;
 use dvg_logs::{LogFinding, LogVerdict, MomentVerdict};
 use dvg_picture::{Outcome, Undrawn};
 use dvg_print::{BoundedVerdict, Verdict};

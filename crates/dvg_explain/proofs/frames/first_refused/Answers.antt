@@ -1,7 +1,7 @@
 use Rattle.std.proofs.Common.{All, ◌∙◌, subst, sym}
 use Rattle.dvg_named.specs.ReadSketches.{IsSketchOf}
-use Rattle.dvg_lay.specs.Refusals.{IsFault, IsGood, IsLent}
-use Rattle.dvg_lay.proofs.SketchesLaid.{all_lent}
+use Rattle.dvg_blame.specs.Refusals.{IsFault, IsGood, IsLent}
+use Rattle.dvg_blame.proofs.LentFrames.{all_lent}
 use Rattle.dvg_explain.proofs.FramesAnswered.{accepts, refuses}
 use Rattle.dvg_explain.proofs.frames.first_refused.Goals as goal
 

@@ -1,9 +1,9 @@
 use Rattle.std.proofs.Common.{◌∙◌, ◌++◌, ap, sym}
 use Rattle.dvg_frame.specs.Bytes.{bytes}
 use Rattle.dvg_frame.specs.Layout.{laid}
-use Rattle.dvg_lay.specs.Refusals.{IsGood}
-use Rattle.dvg_lay.proofs.Lists.{added, all_at, all_in, of_ok}
-use Rattle.dvg_lay.proofs.Described.{fault_at}
+use Rattle.dvg_blame.specs.Refusals.{IsGood}
+use Rattle.dvg_blame.proofs.Lists.{added, all_at, all_in, of_ok}
+use Rattle.dvg_blame.proofs.Described.{fault_at}
 use Rattle.dvg_lay.proofs.laying.lay_bytes.Goals as goal
 
 pub returns-in-Err-clause-refused : goal.returns-in-Err-clause-refused

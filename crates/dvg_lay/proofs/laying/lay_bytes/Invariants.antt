@@ -1,5 +1,5 @@
 use Rattle.std.proofs.Common.{◌≡◌, ◌++◌, All, drop, take}
-use Rattle.dvg_lay.specs.Refusals.{IsGood}
+use Rattle.dvg_blame.specs.Refusals.{IsGood}
 use Rattle.dvg_lay.specs.Texts.{frames_bytes}
 use Rattle.dvg_lay.proofs.laying.lay_bytes.Given as goal
 

@@ -1,8 +1,8 @@
 use Rattle.std.proofs.Common.{◌∙◌, sym}
-use Rattle.dvg_lay.specs.Refusals.{IsGood}
-use Rattle.dvg_lay.proofs.Lists.{all_at, all_in, of_ok}
+use Rattle.dvg_blame.specs.Refusals.{IsGood}
+use Rattle.dvg_blame.proofs.Lists.{all_at, all_in, of_ok}
 use Rattle.dvg_lay.proofs.TableLines.{table_added}
-use Rattle.dvg_lay.proofs.Described.{fault_at}
+use Rattle.dvg_blame.proofs.Described.{fault_at}
 use Rattle.dvg_lay.proofs.laying.put_tables.Goals as goal
 
 pub returns-in-Err-clause-refused : goal.returns-in-Err-clause-refused

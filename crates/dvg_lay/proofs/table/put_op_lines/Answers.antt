@@ -1,7 +1,7 @@
 use Rattle.std.proofs.Common.{◌∙◌, ap, arith}
 use Rattle.dvg_mem.specs.declared.half.Half.TheVariants.{H0}
 use Rattle.dvg_frame.specs.Cursors.{laid_ops}
-use Rattle.dvg_lay.proofs.Lists.{next_at}
+use Rattle.dvg_blame.proofs.Lists.{next_at}
 use Rattle.dvg_lay.proofs.TableLines.{cut_words, line_added}
 use Rattle.dvg_lay.proofs.table.put_op_lines.Goals as goal
 

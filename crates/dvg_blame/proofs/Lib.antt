@@ -1,0 +1,5 @@
+pub mod Lists
+mod NearNames
+mod SaidTokens
+pub mod Described
+pub mod LentFrames

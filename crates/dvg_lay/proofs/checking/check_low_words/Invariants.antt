@@ -1,6 +1,0 @@
-use Rattle.std.proofs.Common.{All, take}
-use Rattle.dvg_lay.specs.Refusals.{NamesHighRom}
-use Rattle.dvg_lay.proofs.checking.check_low_words.Given as goal
-
-abbrev pub invariant-loop-frame : goal.invariant-loop-frame
-invariant-loop-frame g l = All NamesHighRom (take l.frame-index l.frames)
