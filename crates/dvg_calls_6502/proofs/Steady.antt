@@ -2,7 +2,7 @@
 use Rattle.std.proofs.Common.{◌≡◌, ℕ, zero, suc, inl, inr, ◌+◌, ◌%◌, Bool, true, false, not, refl, sym, ap, ◌∙◌, arith, eq-eqb}
 use Rattle.std.specs.Prelude.{nat_eq, ◌&&◌, ◌||◌}
 use Rattle.dvg_calls_6502.specs.Processor.{Cpu, run, turn, at_return, decoded, opcodes, stack_place}
-use Rattle.dvg_calls_6502.specs.Board.{is_own, is_hardware}
+use Rattle.dvg_calls_6502.specs.Board.{is_own, is_readable}
 use Rattle.dvg_calls_6502.specs.Amid.{is_work, is_kept, is_code, is_steady, are_steady, guards, all_in, goes_home, touches}
 use Rattle.dvg_calls_6502.proofs.Running.{steady_more, and_true}
 use Rattle.dvg_calls_6502.proofs.Memory.{both_true}
@@ -10,7 +10,7 @@ use Rattle.dvg_calls_6502.proofs.Growing.{Splits, split, stays}
 
 -- the code is kept
 pub code_kept : (tables : ℕ → Bool) (b : ℕ) → is_code b ≡ true → is_kept tables b ≡ true
-code_kept tables b is = by (is_own b) (is_work b) (is_code b) (is_hardware b || tables b) is
+code_kept tables b is = by (is_own b) (is_work b) (is_code b) (is_readable b || tables b) is
   where
     by : (o f c t : Bool) → c ≡ true → (o || (f || (c || t))) ≡ true
     by true f c t is = refl

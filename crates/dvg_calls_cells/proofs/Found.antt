@@ -5,7 +5,7 @@ use Rattle.std.proofs.lemmas.Bool.{ne_eqb, eqb-true, eq-eqb, or_left as or_first
 use Rattle.dvg_calls_6502.specs.Processor.{Cpu, found, flag_place}
 use Rattle.dvg_calls_6502.specs.Processor.{turn, stack_place}
 use Rattle.dvg_calls_6502.specs.Amid.{amid, changed, AreHarmless, Guard, guards, is_kept, is_work, is_code}
-use Rattle.dvg_calls_6502.specs.Board.{is_hardware, is_ram, is_own}
+use Rattle.dvg_calls_6502.specs.Board.{is_own, is_ram, is_readable}
 use Rattle.dvg_calls_6502.specs.Calls.{Call, IsSession, is_table}
 use Rattle.dvg_cells_core.specs.Cells.{bit, mux, none, part, joined, both, either, eq}
 use Rattle.dvg_cells_board.specs.Board.{Board, Bus, q}
@@ -112,15 +112,15 @@ pub now_has : (held : ℕ → ℕ) (call : Call) (calls : List Call) (older : Li
     → IsSession (later 1 call ∷ calls) → (a : ℕ) → a < 2048 → (after held older).ram a ≡ (now call).mem (0x4000 + a)
 now_has held call calls older have session a less =
     let b = 0x4000 + a in
-    let hard : is_hardware b ≡ true = or_first (is_ram b) (nat_eq b flag_place || nat_eq b 0x3000) (ram_place a less) in
+    let readable : is_readable b ≡ true = or_first (is_ram b) (nat_eq b flag_place) (ram_place a less) in
     sym (harmless_at (guards (is_kept (is_table (later 1 call) calls)) call.from.s) call.from.s call.steps call.others call.from session.2 b
-    (guarded b hard) ∙ have a less)
+    (guarded b readable) ∙ have a less)
   where
-    guarded : (b : ℕ) → is_hardware b ≡ true → guards (is_kept (is_table (later 1 call) calls)) call.from.s (amid call.from.s call.others call.steps call.from).s b ≡ true
-    guarded b hard =
+    guarded : (b : ℕ) → is_readable b ≡ true → guards (is_kept (is_table (later 1 call) calls)) call.from.s (amid call.from.s call.others call.steps call.from).s b ≡ true
+    guarded b readable =
         let now = (amid call.from.s call.others call.steps call.from).s in
         let tables = is_table (later 1 call) calls in
         or_first (is_kept tables b) (not (nat_eq now call.from.s) && (nat_eq b (stack_place (now + 1)) || nat_eq b (stack_place (now + 2))))
-        (or_last (is_own b) (is_work b || (is_code b || (is_hardware b || tables b)))
-        (or_last (is_work b) (is_code b || (is_hardware b || tables b))
-        (or_last (is_code b) (is_hardware b || tables b) (or_first (is_hardware b) (tables b) hard))))
+        (or_last (is_own b) (is_work b || (is_code b || (is_readable b || tables b)))
+        (or_last (is_work b) (is_code b || (is_readable b || tables b))
+        (or_last (is_code b) (is_readable b || tables b) (or_first (is_readable b) (tables b) readable))))

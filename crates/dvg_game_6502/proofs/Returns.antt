@@ -7,7 +7,7 @@ use Rattle.dvg_calls_6502.specs.Processor.{Cpu, Access, at_return, decoded, does
 use Rattle.dvg_calls_6502.specs.Processor as processor
 use Rattle.dvg_calls_6502.specs.Amid as driver
 use Rattle.dvg_calls_6502.specs.Amid.{is_kept, is_work}
-use Rattle.dvg_calls_6502.specs.Board.{is_hardware, is_own, is_ram}
+use Rattle.dvg_calls_6502.specs.Board.{is_own, is_ram, is_readable}
 use Rattle.dvg_calls_6502.specs.Calls.{Routine, Call, after, bounds, entry, frame_after, frame_of, is_offered}
 use Rattle.dvg_calls_6502.specs.Calls.{is_table, is_taken, put_on, taken_bounds, UnlessReset}
 use Rattle.dvg_calls_6502.specs.Calls as calls_of
@@ -40,11 +40,11 @@ needed_kept tables b is = by (either (is_own b) (is_ram b) is)
     by : (is_own b ≡ true) ⊎ (is_ram b ≡ true) → is_kept tables b ≡ true
     by (inl own) = or_left (is_own b) _ own
     by (inr ram) = or_right (is_own b) _ (or_right (is_work b) _ (or_right (driver.is_code b) _
-        (or_left (is_hardware b) (tables b) (or_left (is_ram b) _ ram))))
+        (or_left (is_readable b) (tables b) (or_left (is_ram b) _ ram))))
 
 pub table_kept : (tables : ℕ → Bool) (b : ℕ) → tables b ≡ true → is_kept tables b ≡ true
 table_kept tables b is = or_right (is_own b) _ (or_right (is_work b) _ (or_right (driver.is_code b) _
-    (or_right (is_hardware b) (tables b) is)))
+    (or_right (is_readable b) (tables b) is)))
 
 -- a table that stands after a call was one of its own
 pub covers : (routine : Routine) (call : Call) (old : ℕ × ℕ) (b : ℕ) → (taken_bounds routine call old).0 ≤ b

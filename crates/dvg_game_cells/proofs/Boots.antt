@@ -19,6 +19,7 @@ use Rattle.dvg_game_rules.proofs.Early.{early_time, early_turns}
 use Rattle.dvg_game_rules.proofs.Standing.{Handles, Runs}
 use Rattle.dvg_game_rules.proofs.Safety.{IsBeside, beside_of}
 use Rattle.dvg_game_rules.proofs.Starting.{boot_safe, steps_on}
+use Rattle.dvg_game_rules.proofs.Turning.{rom_inside}
 use Rattle.dvg_calls_cells.specs.Cycles.{Two, IsQuiet, AreQuiet, cycles_of}
 use Rattle.dvg_calls_cells.specs.Steps.{instr_of}
 use Rattle.dvg_calls_cells.specs.Played.{at_rest, older_after, cells_after}
@@ -41,7 +42,7 @@ use Rattle.dvg_game_cells.proofs.Plays.{written_quiet}
 use Rattle.dvg_game_cells.proofs.Snoc.{counts}
 use Rattle.dvg_game_cells.proofs.Timing.{Timed, at_least, at_most, timely}
 use Rattle.dvg_game_cells.proofs.Turned
-use Rattle.dvg_game_cells.proofs.Turned.{code_inside, made_both}
+use Rattle.dvg_game_cells.proofs.Turned.{made_both}
 use Rattle.dvg_game_cells.proofs.Vectors.{all_quiet, doing_next, entered, half_quiet, nmi_done, nmi_half, nmi_time, nmi_unread, vectors_in}
 use Rattle.dvg_game_cells.proofs.Vectors.{vectors_turn, with_vectors}
 
@@ -287,7 +288,7 @@ module _ (R image : List ℕ) (held rom : ℕ → ℕ) (start : ℕ) (cpu : Cpu)
       new = last it list claim
 
       loaded_so : (b : ℕ) → 0x4800 ≤ b → b < 0x8000 → claim.mem b ≡ rom b
-      loaded_so b low high = claim.turned b (code_inside b low high) ∙ old b low high
+      loaded_so b low high = claim.turned b (rom_inside b low high) ∙ old b low high
 
       opcode_so : now.mem now.pc ≡ rom cpu.pc
       opcode_so = let low = in_rom.low in let high = in_rom.high in loaded_so cpu.pc low (omega (arith, high))
@@ -407,7 +408,7 @@ module _ (R image : List ℕ) (held rom : ℕ → ℕ) (start : ℕ) (cpu : Cpu)
           let time = nmi_time R image held rom start cpu older cells work calm there bytes rests due close list count doing in
           let old : AreBytes (changed mem cpu) = record { a = bytes.a; x = bytes.x; y = bytes.y; s = bytes.s; mem = small } in
           let early = early_begins rom start game.notes (both_true (accepts_game rom start game.notes) _ game.yes).0 cpu mem
-          (λ b low top. turned b (code_inside b low top) ∙ doing.shares.loaded b low top) bytes.s in
+          (λ b low top. turned b (rom_inside b low top) ∙ doing.shares.loaded b low top) bytes.s in
           let bound = time.1 in
           let new = entered R image held rom start cpu older cells work calm in
           stands new (older_after held older cells list) (cells_after held older cells list) (works cells (cycled list) work)

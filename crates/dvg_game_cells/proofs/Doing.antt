@@ -40,7 +40,6 @@ module _ (rom : ℕ → ℕ) where
   -- what is asked of a cycle, beside its pins' widths and what the board is served
   pub record Asked (cells : Cells) (work : ℕ → ℕ) (calm : ℕ) (nmi m : ℕ) : Type 0 where
     pub finds : write cells ≡ 0 → Finds rom work (at cells) m
-    pub no_strobe : write cells ≡ 0 → nat_eq (at cells) 0x3000 ≡ false
     pub apart : (nat_eq nmi 1 && nat_eq cells.was 0) ≡ true → 10400 ≤ suc (suc calm)
 
   abbrev pub AreAsked : (ℕ → ℕ) → ℕ → Machine → List Two → Type 0

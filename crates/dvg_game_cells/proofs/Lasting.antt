@@ -96,7 +96,7 @@ module _ (rom work : ℕ → ℕ) (free a : ℕ) where
       record { in_work = f.0; in_rom = f.1; vectors = f.2 }
 
 pub runs_go_on : RunsGoOn
-runs_go_on R image held rom machine work calm clocks on reset nmi hold free reset_in nmi_in free_in strobe apart =
+runs_go_on R image held rom machine work calm clocks on reset nmi hold free reset_in nmi_in free_in apart =
     let all = all_fit on in
     ticks (pins_for R rom machine work reset nmi hold free) on (record {
       reset = reset_in;
@@ -110,6 +110,5 @@ runs_go_on R image held rom machine work calm clocks on reset nmi hold free rese
       answers = λ second reading. subst (λ n. Finds rom work (at machine.cpu)
           (if nat_eq n 1 then answer rom work free (at machine.cpu) else free)) (sym second)
           (finds rom work free (at machine.cpu));
-      no_strobe = strobe;
       apart = apart;
     })

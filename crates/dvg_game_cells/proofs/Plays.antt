@@ -13,6 +13,7 @@ use Rattle.dvg_game_rules.specs.Machine.{IsLoaded, reset_vector, restarting, wor
 use Rattle.dvg_game_rules.specs.Checker.{accepts_game, boots, boot_most, stand_at}
 use Rattle.dvg_game_rules.specs.Alike.{idle}
 use Rattle.dvg_game_rules.proofs.Facts.{both_true}
+use Rattle.dvg_game_rules.proofs.Turning.{low_inside, rom_inside}
 use Rattle.dvg_calls_6502.specs.Code.{code}
 use Rattle.dvg_calls_cells.specs.Cycles.{Two, IsQuiet, AreQuiet, cycles_of, cycle_of, first_bus}
 use Rattle.dvg_calls_cells.specs.Steps.{AreServed, instr_of, is_single}
@@ -39,7 +40,7 @@ use Rattle.dvg_game_cells.proofs.Memory.{low_after, ram_after, writes_both}
 use Rattle.dvg_game_cells.proofs.Snoc.{counts, more_older, then_at}
 use Rattle.dvg_game_cells.proofs.Timing.{Timed, at_least, at_most, timely}
 use Rattle.dvg_game_cells.proofs.Turned
-use Rattle.dvg_game_cells.proofs.Turned.{made_both, more_cycles, code_inside, low_inside, ram_inside}
+use Rattle.dvg_game_cells.proofs.Turned.{made_both, more_cycles, ram_inside}
 use Rattle.dvg_game_cells.proofs.Walks.{loud_half, quiet_half, quietly, second_half}
 
 -- where nothing is written to the board, the accesses leave it alone
@@ -418,7 +419,7 @@ module _ (laws : Laws) (R image : List ℕ) (held rom : ℕ → ℕ) (start : �
       ]
         where
           loaded_so : (b : ℕ) → 0x4800 ≤ b → b < 0x8000 → claim.mem b ≡ rom b
-          loaded_so b low high = claim.turned b (code_inside b low high) ∙ it.loaded b low high
+          loaded_so b low high = claim.turned b (rom_inside b low high) ∙ it.loaded b low high
 
       pub plays_done : Done R image held rom start cpu older cells work calm list
       plays_done = by (restarts (turned list claim)) refl

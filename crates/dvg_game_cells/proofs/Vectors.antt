@@ -16,6 +16,7 @@ use Rattle.dvg_cells_cpu.proofs.Resting.{held as stands_so, in_state}
 use Rattle.dvg_game_rules.specs.Machine.{IsLoaded, is_outside, IsTurned, reset_vector, word_at}
 use Rattle.dvg_game_rules.specs.Checker.{accepts_game, boot_most, stand_at}
 use Rattle.dvg_game_rules.proofs.Facts.{both_true}
+use Rattle.dvg_game_rules.proofs.Turning.{low_inside, rom_inside}
 use Rattle.dvg_calls_cells.specs.Cycles.{Two, IsQuiet, AreQuiet, next, first_bus, second_bus, cycles_of, cycle_of, between}
 use Rattle.dvg_calls_cells.specs.Played.{AreGiven, at_rest, older_after, cells_after}
 use Rattle.dvg_calls_cells.proofs.Fits.{AllFit, cycle_fits, first_is, served_of}
@@ -36,7 +37,7 @@ use Rattle.dvg_game_cells.proofs.Known.{Known, known}
 use Rattle.dvg_game_cells.proofs.Memory.{low_after, ram_after}
 use Rattle.dvg_game_cells.proofs.Snoc.{counts, then_at}
 use Rattle.dvg_game_cells.proofs.Timing.{Timed, Timely, timely}
-use Rattle.dvg_game_cells.proofs.Turned.{code_inside, count_of, low_inside, made_both, more_cycles, ram_inside}
+use Rattle.dvg_game_cells.proofs.Turned.{count_of, made_both, more_cycles, ram_inside}
 use Rattle.dvg_game_cells.proofs.Walks.{on_board, quiet_half, quietly}
 
 -- each of these reads is at the top of memory
@@ -61,12 +62,11 @@ last_false false = refl
 -- what is there stands outside
 high_outside : (b : ℕ) → 0xFFFA ≤ b → is_outside b ≡ true
 high_outside b high =
-    ap (λ t. nat_le 0x200 b && not (((nat_le 0x4000 b && t) || (nat_eq b 0x2002 || nat_eq b 0x3000)) || (nat_le 0x4800 b && nat_lt b 0x8000)))
+    ap (λ t. nat_le 0x200 b && not (((nat_le 0x4000 b && t) || nat_eq b 0x2002) || (nat_le 0x4800 b && nat_lt b 0x8000)))
     (lt-leb (suc b) 0x4800 (omega (arith, high)))
-    ∙ ap (λ t. nat_le 0x200 b && not ((t || (nat_eq b 0x2002 || nat_eq b 0x3000)) || (nat_le 0x4800 b && nat_lt b 0x8000)))
+    ∙ ap (λ t. nat_le 0x200 b && not ((t || nat_eq b 0x2002) || (nat_le 0x4800 b && nat_lt b 0x8000)))
     (last_false (nat_le 0x4000 b))
-    ∙ ap (λ t. nat_le 0x200 b && not ((t || nat_eq b 0x3000) || (nat_le 0x4800 b && nat_lt b 0x8000))) (ne_eqb b 0x2002 (λ e. omega (arith, e, high)))
-    ∙ ap (λ t. nat_le 0x200 b && not (t || (nat_le 0x4800 b && nat_lt b 0x8000))) (ne_eqb b 0x3000 (λ e. omega (arith, e, high)))
+    ∙ ap (λ t. nat_le 0x200 b && not (t || (nat_le 0x4800 b && nat_lt b 0x8000))) (ne_eqb b 0x2002 (λ e. omega (arith, e, high)))
     ∙ ap (λ t. nat_le 0x200 b && not (false || (nat_le 0x4800 b && t))) (lt-leb (suc b) 0x8000 (omega (arith, high)))
     ∙ ap (λ t. nat_le 0x200 b && not (false || t)) (last_false (nat_le 0x4800 b))
     ∙ no_of (nat_le 0x200 b) (le-leb 0x200 b (omega (arith, high)))
@@ -295,7 +295,7 @@ module _ (R image : List ℕ) (held rom : ℕ → ℕ) (start : ℕ) where
           (high_answered list older cells work calm k doing.fits doing.given doing.asked vectors_are so.1) in
           let pc_is : (restarted k).pc ≡ word_at rom reset_vector = refl in
           let loaded : IsLoaded rom (restarted k).mem =
-          λ b low high. vectors_turn b (code_inside b low high) ∙ doing.shares.loaded b low high in
+          λ b low high. vectors_turn b (rom_inside b low high) ∙ doing.shares.loaded b low high in
           let old = doing.shares.bytes in
           let bytes : AreBytes (restarted k) =
           record { a = old.a; x = old.x; y = old.y; s = lit< tt; mem = vectors_in old.mem doing.rom_in } in

@@ -358,7 +358,6 @@ module _ (laws : Laws) (R image : List ℕ) (held rom : ℕ → ℕ) (start : �
           → Asked rom cells work calm second.nmi second.m
       asked_by reset second more = record {
         finds = λ is. subst (λ k. Finds rom k (at cells) second.m) (same_work is) (more.answers refl is);
-        no_strobe = asks.no_strobe;
         apart = more.apart;
       }
 
@@ -449,7 +448,6 @@ module _ (laws : Laws) (R image : List ℕ) (held rom : ℕ → ℕ) (start : �
       finds = λ is. let f = finds_by (nat_lt (at cells) 0x200) (nat_le 0x4800 (at cells) && nat_lt (at cells) 0x8000)
           (nat_le 0xFFFA (at cells)) (at cells) (low_code (at cells)) (low_high (at cells)) (code_high (at cells)) (answer (at cells)) refl in
           record { in_work = f.0; in_rom = f.1; vectors = f.2 };
-      no_strobe = asks.no_strobe;
       apart = λ rise. absurd (never cells.was (holding s).fitting.of_cells.was rise);
     }
 

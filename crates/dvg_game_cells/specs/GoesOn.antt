@@ -29,13 +29,12 @@ pins_for R rom machine work reset nmi hold free = record {
   undefined = 0;
 }
 
--- each run can have a clock more, whatever `reset`, `nmi`, `hold` and the free byte are in it: but for a read of the strobe, and an NMI
--- that rises too soon
+-- each run can have a clock more, whatever `reset`, `nmi`, `hold` and the free byte are in it, unless an NMI rises too soon
 abbrev pub RunsGoOn : Type 0
 RunsGoOn = (R image : List ℕ) (held rom : ℕ → ℕ) (machine : Machine) (work : ℕ → ℕ) (calm : ℕ) (clocks : List Bus)
     → IsWhole R image held rom machine work calm clocks → (reset nmi hold free : ℕ) → reset < 2 → nmi < 2 → free < 256
     → let pins = pins_for R rom machine work reset nmi hold free in
-    (write machine.cpu ≡ 0 → nat_eq (at machine.cpu) 0x3000 ≡ false) → (rises machine pins ≡ true → 10400 ≤ suc calm)
+    (rises machine pins ≡ true → 10400 ≤ suc calm)
     → IsWhole R image held rom (clock machine pins) (work_after machine pins work) (calm_after machine pins calm)
     (drives_board machine pins ∷ clocks)
 

@@ -47,8 +47,6 @@ pub record IsDriven (R : List ℕ) (rom : ℕ → ℕ) (machine : Machine) (work
       → pins.rom ≡ slice_index R (2 * (pin.at machine - first_word R) + pin.high machine)
   -- in the second clock of a cycle that reads, the memory outside answers
   pub answers : machine.answers ≡ 1 → pin.write machine ≡ 0 → Finds rom work (pin.a machine) pins.m
-  -- the strobe is only written
-  pub no_strobe : pin.write machine ≡ 0 → nat_eq (pin.a machine) 0x3000 ≡ false
   -- an NMI rises 10,400 clocks after the one before, which are 5,200 cycles
   pub apart : rises machine pins ≡ true → 10400 ≤ suc calm
 

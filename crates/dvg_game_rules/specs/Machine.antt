@@ -8,7 +8,7 @@ use Rattle.std.specs.Prelude.{nat_eq}
 use Rattle.std.specs.Prelude.{nat_le}
 use Rattle.std.specs.Prelude.{nat_lt, if◌then◌else◌, Option, None, Some, List, [], ◌∷◌}
 use Rattle.dvg_calls_6502.specs.Code.{dvg_reset, dvg_open, dvg_labs}
-use Rattle.dvg_calls_6502.specs.Board.{is_hardware}
+use Rattle.dvg_calls_6502.specs.Board.{is_readable}
 use Rattle.dvg_calls_6502.specs.Processor.{Register, A, X, Y, put, stack_place, target}
 use Rattle.dvg_game_rules.specs.Kinds.{Sets, Nothing, Only, Kind, Quiet, Reads, Transfer, Stores, Push}
 use Rattle.dvg_game_rules.specs.Kinds.{PushFlags, Pull, PullFlags, Branch, Jump, Call, Return, Finish, Wild, kind_of}
@@ -238,10 +238,10 @@ within choice st = record st {
   home = Some (st.pc, st.s);
 }
 
--- switches, coins, sounds, RAM that is exchanged: what a pin answers, and nothing keeps. It is all but the zero page, the
--- stack, the driver's hardware and the ROM
+-- switches, coins, sounds, RAM that is exchanged, the strobe's place: what a pin answers, and nothing keeps. It is all but
+-- the zero page, the stack, the vector RAM, the flag and the ROM
 abbrev pub is_outside : ℕ → Bool
-is_outside b = nat_le 0x200 b && not (is_hardware b || (nat_le 0x4800 b && nat_lt b 0x8000))
+is_outside b = nat_le 0x200 b && not (is_readable b || (nat_le 0x4800 b && nat_lt b 0x8000))
 
 -- between two memories that alone may have changed
 abbrev pub IsTurned : (old new : ℕ → ℕ) → Type 0
