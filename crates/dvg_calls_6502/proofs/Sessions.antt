@@ -50,14 +50,14 @@ covers_after (Calls.Offer F) call bounds b low high = by (Calls.is_taken call) l
         (omega (arith, low)) high)
     by false low high = left_true _ (Calls.is_offered (Calls.Offer F) call.from b) (both_bounds bounds.0 bounds.1 b low high)
 
-kept_own : (tables : ℕ → Bool) (b : ℕ) → is_own b ≡ true → is_kept tables b ≡ true
+pub kept_own : (tables : ℕ → Bool) (b : ℕ) → is_own b ≡ true → is_kept tables b ≡ true
 kept_own tables b is = left_true (is_own b) _ is
 
 pub kept_ram : (tables : ℕ → Bool) (b : ℕ) → is_ram b ≡ true → is_kept tables b ≡ true
 kept_ram tables b is = right_true (is_own b) _ (right_true (is_work b) _ (right_true (is_code b) _
     (left_true (is_readable b) (tables b) (left_true (is_ram b) _ is))))
 
-kept_table : (tables : ℕ → Bool) (b : ℕ) → tables b ≡ true → is_kept tables b ≡ true
+pub kept_table : (tables : ℕ → Bool) (b : ℕ) → tables b ≡ true → is_kept tables b ≡ true
 kept_table tables b is = right_true (is_own b) _ (right_true (is_work b) _ (right_true (is_code b) _
     (right_true (is_readable b) (tables b) is)))
 
@@ -199,7 +199,7 @@ abbrev kind_of : Access → Action
 kind_of (Reads a byte) = if nat_eq a 0x4001 then Peek else Read (tells_halted byte)
 kind_of (Writes a byte) = if nat_eq a 0x3000 then Sent else Wrote (a - 0x4000) byte
 
-head_same : (x y : Access) → ◌≡◌ {A = List Access} (x ∷ []) (y ∷ []) → x ≡ y
+pub head_same : (x y : Access) → ◌≡◌ {A = List Access} (x ∷ []) (y ∷ []) → x ≡ y
 head_same x y is = cc
 
 is_kind : (action : Action) (access : Access) → Shows action (access ∷ []) → action ≡ kind_of access

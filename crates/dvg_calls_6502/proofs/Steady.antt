@@ -1,6 +1,7 @@
 -- Calls that take guarded bytes alone, over any number of steps.
 use Rattle.std.proofs.Common.{◌≡◌, ℕ, zero, suc, inl, inr, ◌+◌, ◌%◌, Bool, true, false, not, refl, sym, ap, ◌∙◌, arith, eq-eqb}
 use Rattle.std.specs.Prelude.{nat_eq, ◌&&◌, ◌||◌}
+use Rattle.std.proofs.lemmas.Bool.{or_left}
 use Rattle.dvg_calls_6502.specs.Processor.{Cpu, run, turn, at_return, decoded, opcodes, stack_place}
 use Rattle.dvg_calls_6502.specs.Board.{is_own, is_readable}
 use Rattle.dvg_calls_6502.specs.Amid.{is_work, is_kept, is_code, is_steady, are_steady, guards, all_in, goes_home, touches}
@@ -34,12 +35,8 @@ returned : (kept : ℕ → Bool) (s k : ℕ) (cpu : Cpu) → at_return s cpu ≡
 returned kept s zero cpu here pc = refl
 returned kept s (suc k) cpu here pc =
     and_true (is_steady kept s cpu) (are_steady kept s k (turn s cpu))
-    (and_true (kept cpu.pc) _ pc (either (at_return s cpu) _ here))
+    (and_true (kept cpu.pc) _ pc (or_left (at_return s cpu) _ here))
     (ap (are_steady kept s k) (stays s 1 cpu here) ∙ returned kept s k cpu here pc)
-  where
-    either : (t u : Bool) → t ≡ true → (t || u) ≡ true
-    either true u is = refl
-    either false u is = absurd (cc)
 
 -- a call that is steady up to its return is steady
 pub steady_all : (kept : ℕ → Bool) (s n k : ℕ) (cpu : Cpu) → are_steady kept s n cpu ≡ true

@@ -2,8 +2,7 @@
 use Rattle.std.proofs.Common.{◌≡◌, ℕ, zero, suc, ◌+◌, ◌/◌, ◌<◌, Bool, true, false, not, List, [], ◌∷◌, refl, sym, ap, ◌∙◌, subst, arith}
 use Rattle.std.specs.Prelude.{nat_eq, ◌&&◌, ◌||◌, if◌then◌else◌}
 use Rattle.std.proofs.lemmas.Bool.{ne_eqb, eqb-true, eq-eqb, or_left as or_first, or_right as or_last}
-use Rattle.dvg_calls_6502.specs.Processor.{Cpu, found, flag_place}
-use Rattle.dvg_calls_6502.specs.Processor.{turn, stack_place}
+use Rattle.dvg_calls_6502.specs.Processor.{Cpu, found, flag_place, turn, stack_place}
 use Rattle.dvg_calls_6502.specs.Amid.{amid, changed, AreHarmless, Guard, guards, is_kept, is_work, is_code}
 use Rattle.dvg_calls_6502.specs.Board.{is_own, is_ram, is_readable}
 use Rattle.dvg_calls_6502.specs.Calls.{Call, IsSession, is_table}
@@ -18,14 +17,8 @@ use Rattle.dvg_calls_cells.specs.Cycles.{Two, first_bus, second_bus, cycle_of, c
 use Rattle.dvg_calls_cells.specs.Steps.{now}
 use Rattle.dvg_calls_cells.specs.Played.{AreGiven, AreFound, in_board, at_rest}
 use Rattle.dvg_calls_cells.proofs.Fits.{AllFit, cycle_fits, first_is}
+use Rattle.dvg_calls_cells.proofs.Quiet.{both_none}
 use Rattle.dvg_calls_board.proofs.Ram.{in_ram as ram_place}
-
-both_none : (x : ℕ) → both x 0 ≡ 0
-both_none x = by (nat_eq x 0)
-  where
-    by : (t : Bool) → ◌≡◌ {A = ℕ} (if t then 0 else 0) 0
-    by true = refl
-    by false = refl
 
 -- the board in the clock of a read of its RAM, and after it
 module _ (b : Board) (bus next : Bus) (access : bus.access ≡ 1) (reading : bus.write ≡ 0) where

@@ -14,6 +14,7 @@ use Rattle.dvg_calls_cells.proofs.Fits.{AllFit, served_of}
 use Rattle.dvg_game_board.specs.Cabinet.{IsCabinet}
 use Rattle.dvg_game_cells.specs.Keeps.{IsBoot}
 use Rattle.dvg_game_cells.proofs.Doing.{Boots, Doing, IsTime, Stand, calms, works, wrote, stands, starts, breaks, plays, hears}
+use Rattle.dvg_game_cells.proofs.Fresh.{choose}
 use Rattle.dvg_game_cells.proofs.Snoc.{then_at}
 use Rattle.dvg_game_cells.proofs.Timing.{at_least}
 
@@ -50,12 +51,8 @@ module _ (R image : List ℕ) (held rom : ℕ → ℕ) (start : ℕ) where
       (served_of R held (two ∷ []) older cells f (given.0, tt)).1 given.1
       (λ a. one (nat_eq (write cells) 1 && nat_lt (at cells) 0x200) a)
     where
-      put_in : (t : Bool) (x y : ℕ) → x < 256 → y < 256 → (if t then x else y) < 256
-      put_in true x y p q = p
-      put_in false x y p q = q
-
       one : (t : Bool) (a : ℕ) → (if t then put (at cells) (dout cells) work else work) a < 256
-      one true a = put_in (nat_eq a (at cells)) (dout cells) (work a) (fits.2 cells f.of_cells).2 (less a)
+      one true a = choose (nat_eq a (at cells)) (dout cells) (work a) (fits.2 cells f.of_cells).2 (less a)
       one false a = less a
 
   -- what is served in cycles, and in one more

@@ -1,5 +1,5 @@
 -- A run of cells since power-up, which is computed clock by clock.
-use Rattle.std.proofs.Common.{◌≡◌, ℕ, zero, suc, ◌+◌, Bool, true, false, not, List, [], ◌∷◌, length, refl, arith, lit<}
+use Rattle.std.proofs.Common.{◌≡◌, ℕ, zero, suc, ◌+◌, Bool, true, false, List, [], ◌∷◌, length, refl, arith, lit<}
 use Rattle.std.specs.Prelude.{nat_eq, ◌&&◌}
 use Rattle.dvg_cells_board.specs.Board.{Bus}
 use Rattle.dvg_cells_board.specs.Example.{zeros}
@@ -40,9 +40,6 @@ goes (suc n) machine work calm clocks on =
     let rest = goes n (clock machine pins) (work_after machine pins work) (calm_after machine pins calm) (drives_board machine pins ∷ clocks)
     next in
     let count = rest.3 in (rest.0, rest.1, rest.2, omega (arith, count))
-
-none : ℕ → ℕ
-none b = 0
 
 first : Is (powered nothing) nothing 0 []
 first = powers nothing 0 is_rom is_image (λ a few. zero_at 2048 a) (λ a. lit< tt) (λ a. lit< tt) (rom_small nothing (λ b. lit< tt))

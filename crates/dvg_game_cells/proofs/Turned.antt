@@ -25,14 +25,15 @@ use Rattle.dvg_calls_cells.specs.Played.{AreGiven, IsGiven, at_rest, older_after
 use Rattle.dvg_calls_cells.proofs.Fits.{AllFit, board_fits, served_of, first_is, q_in}
 use Rattle.dvg_calls_cells.proofs.Found.{answered_of}
 use Rattle.dvg_calls_cells.proofs.Quiet.{made_more}
+use Rattle.dvg_calls_cells.proofs.Stepping.{on_board}
 use Rattle.dvg_calls_board.proofs.Ram.{in_ram as ram_place}
 use Rattle.dvg_game_6502.specs.Play.{AreBytes, fresh}
 use Rattle.dvg_game_cells.proofs.Answering.{AreFine, AreTame, InRom, IsTame, fine, fine_end, is_direct}
-use Rattle.dvg_game_cells.proofs.Claims.{off_board, tame_answered, tame_byte, tame_writes}
+use Rattle.dvg_game_cells.proofs.Claims.{off_board, tame_answered, tame_byte, tame_writes, where_so}
 use Rattle.dvg_game_cells.proofs.Doing.{Asked, AreAsked, Doing, calm_in, calms, works, wrote}
+use Rattle.dvg_game_cells.proofs.Fresh.{choose}
 use Rattle.dvg_game_cells.proofs.Memory.{low_after, ram_after}
 use Rattle.dvg_game_cells.proofs.Snoc.{then_at}
-use Rattle.dvg_game_cells.proofs.Walks.{on_board}
 
 -- behind cycles of which all but the first read no opcode, and none does that is still to come
 amid_cycles : (list : List Cycle) (cells : Cells) (cycle : Cycle) (later : List Cycle) → AreAmid cells (list ++ cycle ∷ later)
@@ -80,10 +81,6 @@ made_both (cycle ∷ one) two cells log = made_both one two (clock cells (pins_o
 pub length_both : {A : Type 0} (one two : List A) → length (one ++ two) ≡ length one + length two
 length_both [] two = omega arith
 length_both (x ∷ one) two = let e = length_both one two in omega (arith, e)
-
-where_so : {P : Type 0} (t : Bool) → t ≡ true → Where t P → P
-where_so true e p = p
-where_so false e p = absurd (cc)
 
 -- what doesn't stand outside
 pub ram_inside : (a : ℕ) → a < 2048 → is_outside (0x4000 + a) ≡ false
@@ -230,10 +227,6 @@ module _ (R image : List ℕ) (held rom : ℕ → ℕ) (start : ℕ) where
       turned_in : (f : Bool) (b : ℕ) → (if f then cpu.mem b else put place din cpu.mem b) < 256
       turned_in true b = doing.shares.bytes.mem b
       turned_in false b = choose (nat_eq b place) din (cpu.mem b) din_in (doing.shares.bytes.mem b)
-        where
-          choose : (t : Bool) (x y : ℕ) → x < 256 → y < 256 → (if t then x else y) < 256
-          choose true x y p r = p
-          choose false x y p r = r
 
       found_so : (f : Bool) → din ≡ (if f then din else (if f then cpu.mem place else put place din cpu.mem place))
       found_so true = refl

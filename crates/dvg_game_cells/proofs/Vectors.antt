@@ -22,6 +22,7 @@ use Rattle.dvg_calls_cells.specs.Played.{AreGiven, at_rest, older_after, cells_a
 use Rattle.dvg_calls_cells.proofs.Fits.{AllFit, cycle_fits, first_is, served_of}
 use Rattle.dvg_calls_cells.proofs.Quiet.{made_more, write_both}
 use Rattle.dvg_calls_cells.proofs.Seen.{no_ram}
+use Rattle.dvg_calls_cells.proofs.Stepping.{on_board}
 use Rattle.dvg_game_6502.proofs.Plays.{Brought}
 use Rattle.dvg_game_6502.proofs.Stages.{IsAccepted}
 use Rattle.dvg_game_board.proofs.OnBoard as bearing
@@ -31,6 +32,7 @@ use Rattle.dvg_game_board.specs.Cabinet.{IsCabinet, nmi, turns}
 use Rattle.dvg_game_board.proofs.Sharing.{Laws}
 use Rattle.dvg_game_cells.specs.Keeps.{from_vector}
 use Rattle.dvg_game_cells.proofs.Answering.{InRom}
+use Rattle.dvg_game_cells.proofs.Claims.{where_so}
 use Rattle.dvg_game_cells.proofs.Doing.{Asked, AreAsked, Doing, calm_in, calms, works, wrote}
 use Rattle.dvg_game_cells.proofs.Ends.{Done, Half, settle, settle_boot, split_served, works_in}
 use Rattle.dvg_game_cells.proofs.Known.{Known, known}
@@ -38,7 +40,7 @@ use Rattle.dvg_game_cells.proofs.Memory.{low_after, ram_after}
 use Rattle.dvg_game_cells.proofs.Snoc.{counts, then_at}
 use Rattle.dvg_game_cells.proofs.Timing.{Timed, Timely, timely}
 use Rattle.dvg_game_cells.proofs.Turned.{count_of, made_both, more_cycles, ram_inside}
-use Rattle.dvg_game_cells.proofs.Walks.{on_board, quiet_half, quietly}
+use Rattle.dvg_game_cells.proofs.Walks.{quiet_half, quietly}
 
 -- each of these reads is at the top of memory
 abbrev AreHigh : List Access → Type 0
@@ -76,10 +78,6 @@ off_high a high small =
     ap (λ t. either (either (bit t) (eq a 8194)) (eq a 12288)) (ne_eqb (part 11 5 a) 8 (λ e. omega (arith, e, high, small)))
     ∙ ap (λ t. either (either 0 (bit t)) (eq a 12288)) (ne_eqb a 8194 (λ e. omega (arith, e, high)))
     ∙ ap (λ t. either 0 (bit t)) (ne_eqb a 12288 (λ e. omega (arith, e, high)))
-
-where_so : {P : Type 0} (t : Bool) → t ≡ true → Where t P → P
-where_so true e p = p
-where_so false e p = absurd (cc)
 
 -- a place of the stack is neither of the vector RAM nor the strobe's
 low_quiet : (a : ℕ) → a < 0x200 → (is_ram a ≡ false) × (nat_eq a 0x3000 ≡ false)

@@ -1,12 +1,12 @@
 -- A run of cells can always go on, and there is one.
-use Rattle.std.specs.Prelude.{◌≡◌, ℕ, suc, ◌+◌, ◌-◌, ◌*◌, ◌<◌, ◌≤◌, ◌==◌, ◌&&◌, true, false, not, nat_eq, nat_le, nat_lt}
+use Rattle.std.specs.Prelude.{◌≡◌, ℕ, suc, ◌+◌, ◌-◌, ◌*◌, ◌<◌, ◌≤◌, ◌==◌, ◌&&◌, true, not, nat_eq, nat_le, nat_lt}
 use Rattle.std.specs.Prelude.{if◌then◌else◌, List, ◌∷◌, length, slice_index}
 use Rattle.dvg_mem.specs.Memory.{first_word}
 use Rattle.dvg_cells_core.specs.Cells.{bit}
 use Rattle.dvg_cells_board.specs.Board as pin
 use Rattle.dvg_cells_board.specs.Board.{Bus}
 use Rattle.dvg_cells_board.specs.Example.{zeros}
-use Rattle.dvg_cells_cpu.specs.Cpu.{at, write}
+use Rattle.dvg_cells_cpu.specs.Cpu.{at}
 use Rattle.dvg_calls_cells.specs.Machine.{Machine, Bus as Pins, clock, drives_board}
 use Rattle.dvg_game_6502.specs.SomeGame as game
 use Rattle.dvg_game_board.specs.Example.{nothing}

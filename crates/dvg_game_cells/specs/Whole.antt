@@ -1,5 +1,5 @@
 -- Cells of a processor and a board on one clock, with memory outside that has a game's ROM: all that may come.
-use Rattle.std.specs.Prelude.{◌≡◌, ℕ, suc, ◌+◌, ◌-◌, ◌*◌, ◌<◌, ◌≤◌, ◌==◌, ◌&&◌, Bool, true, false, not, nat_eq, nat_le}
+use Rattle.std.specs.Prelude.{◌≡◌, ℕ, suc, ◌+◌, ◌-◌, ◌*◌, ◌<◌, ◌≤◌, ◌==◌, ◌&&◌, Bool, true, not, nat_eq, nat_le}
 use Rattle.std.specs.Prelude.{nat_lt, if◌then◌else◌, List, [], ◌∷◌, length, slice_index}
 use Rattle.dvg_mem.specs.Memory.{IsImage, IsRom, first_word}
 use Rattle.dvg_calls_6502.specs.Processor.{put}

@@ -1,6 +1,5 @@
 -- A 6502 that runs a game: where it goes, where it writes, and which registers it saves. Whatever it computes, reads
--- and
--- decides may be anything.
+-- and decides may be anything.
 --
 -- A15 isn't decoded on the board, so an address from 8000 on is one below: the ROM's vectors stand at 7FFA to 7FFD.
 use Rattle.std.specs.Prelude.{false, true, ◌≡◌, ℕ, suc, ◌+◌, ◌-◌, ◌*◌, ◌/◌, ◌%◌, ◌≤◌, ◌<◌, ◌&&◌, ◌||◌, Bool, not}
@@ -56,9 +55,8 @@ pub record State : Type 0 where
   -- since dvg_open no dvg_labs was called
   pub blank : Bool
 
--- what is left open: what an instruction computes or reads into a register, what X or Y hold at a store, what is
--- stored or
--- pushed, whether a branch is taken, what the driver and NMIs amid it leave of registers and memory, and when the
+-- what is left open: what an instruction computes or reads into a register, what X or Y hold at a store, what is stored
+-- or pushed, whether a branch is taken, what the driver and NMIs amid it leave of registers and memory, and when the
 -- last came
 pub record Choice : Type 0 where
   pub a : ℕ
@@ -257,9 +255,8 @@ pub record Begins (rom : ℕ → ℕ) (start : ℕ) (st : State) : Type 0 where
   pub home : st.home ≡ None
   pub blank : st.blank ≡ false
 
--- the runs of a ROM since a reset: any choices, any answers from outside, and an NMI wherever at least 860 instructions came since the last
--- one. An
--- NMI comes each 6,144 cycles, and no instruction has more than 7.
+-- the runs of a ROM since a reset: any choices, any answers from outside, and an NMI wherever at least 860 instructions
+-- came since the last one. An NMI comes each 6,144 cycles, and no instruction has more than 7.
 pub data IsRun (rom : ℕ → ℕ) (start : ℕ) : State → Type 0 where
   begins : (st : State) → Begins rom start st → IsRun rom start st
   steps : {st : State} (choice : Choice) → IsRun rom start st → restarts st ≡ false → IsRun rom start (step choice st)
