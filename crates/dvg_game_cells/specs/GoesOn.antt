@@ -29,7 +29,8 @@ pins_for R rom machine work reset nmi hold free = record {
   undefined = 0;
 }
 
--- each run can have a clock more, whatever `reset`, `nmi`, `hold` and the free byte are in it, unless an NMI rises too soon
+-- each run can have a clock more in which memory and the generator's ROM answer, whatever `reset`, `nmi`, `hold` and the free
+-- byte are in it, unless an NMI rises too soon
 abbrev pub RunsGoOn : Type 0
 RunsGoOn = (R image : List ℕ) (held rom : ℕ → ℕ) (machine : Machine) (work : ℕ → ℕ) (calm : ℕ) (clocks : List Bus)
     → IsWhole R image held rom machine work calm clocks → (reset nmi hold free : ℕ) → reset < 2 → nmi < 2 → free < 256

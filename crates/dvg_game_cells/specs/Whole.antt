@@ -27,8 +27,8 @@ abbrev pub work_after : Machine → Pins → (ℕ → ℕ) → ℕ → ℕ
 work_after machine pins work =
     if takes machine pins then put (pin.a machine) (pin.d machine) work else work
 
--- what a read of the memory outside finds: in the zero page and the stack what was written, in the ROM its byte, and its
--- vectors also at the top, as A15 isn't decoded there. All else finds any byte
+-- what a read of the memory outside finds: in the zero page and the stack what was written; from 4800 to 7FFF always the
+-- same byte, the ROM's where there is one; and its vectors also at the top, as A15 isn't decoded there. All else finds any byte
 pub record Finds (rom work : ℕ → ℕ) (a byte : ℕ) : Type 0 where
   pub in_work : Where (nat_lt a 0x200) (byte ≡ work a)
   pub in_rom : Where (nat_le 0x4800 a && nat_lt a 0x8000) (byte ≡ rom a)
