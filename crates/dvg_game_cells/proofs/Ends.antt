@@ -1,6 +1,6 @@
 -- What each task comes to, halfway and at its end.
 use Rattle.std.proofs.Common.{◌≡◌, ℕ, zero, suc, ◌<◌, ◌≤◌, Bool, true, false, List, [], ◌∷◌, ◌++◌, refl, ap, arith, inl, inr}
-use Rattle.std.specs.Prelude.{◌⊎◌, nat_eq, nat_lt, ◌&&◌, if◌then◌else◌, Option, Some}
+use Rattle.std.specs.Prelude.{◌⊎◌, nat_eq, nat_lt, ◌&&◌, if◌then◌else◌, Option, None, Some}
 use Rattle.dvg_calls_6502.specs.Processor.{Cpu, put}
 use Rattle.dvg_cells_board.specs.Board.{Bus}
 use Rattle.dvg_cells_cpu.specs.Cpu.{Cpu as Cells, at, write, dout}
@@ -82,7 +82,7 @@ module _ (R image : List ℕ) (held rom : ℕ → ℕ) (start : ℕ) where
   -- the same before the TXS
   pub settle_boot : (cpu : Cpu) (spot : Option (Cpu × ℕ)) (left : ℕ) (older : List Bus) (cells : Cells) (work : ℕ → ℕ) (calm : ℕ)
       → IsCabinet R image held rom start spot older → Rests cells cpu → Boots R image held rom start left cpu
-      → IsBoot rom start cpu → Doing R image held rom start cpu older cells work calm [] → (cells.due ≡ 1 → calm ≤ 12)
+      → IsBoot rom start None cpu → Doing R image held rom start cpu older cells work calm [] → (cells.due ≡ 1 → calm ≤ 12)
       → Stand R image held rom start cells work calm older
   settle_boot cpu spot left older cells work calm on rests boots boot doing close = by cells.due doing.fits.of_cells.due refl
     where

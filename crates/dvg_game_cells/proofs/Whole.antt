@@ -136,12 +136,12 @@ module _ (laws : Laws) (R image : List ℕ) (held rom : ℕ → ℕ) (start : �
       absurd (not_both (sync cells) high
       (vectors.wakes_amid R image held rom start cpu older cells work calm holds begin free [] (omega arith)))
   at_task cpu older cells work calm (starts spot left on rests boots boot free) shares high =
-      (spot, on, inr (cpu, boot, rests.holds))
+      (spot, on, inr (None, cpu, boot, rests.holds))
   at_task cpu older cells work calm (breaks spot left on rests boots boot due close) shares high =
       absurd (not_both (sync cells) high (booting.breaks_unread R image held rom start cpu older cells work calm rests spot left on
       boots boot due close [] (omega arith) shares))
   at_task cpu older cells work calm (handles spot left on rests back since boots early boot free close) shares high =
-      (spot, on, inr (cpu, boot, rests.holds))
+      (spot, on, inr (Some back.pc, cpu, boot, rests.holds))
   at_task cpu older cells work calm (plays since on rests free time) shares high = (Some (cpu, since), on, inl rests.holds)
   at_task cpu older cells work calm (hears since on rests due late calm_is) shares high =
       absurd (not_both (sync cells) high (vectors.hears_amid R image held rom start cpu older cells work calm laws game brought
