@@ -5,7 +5,7 @@ use Rattle.std.proofs.lemmas.Bool.{eqb-false, ne_eqb, leb-false}
 use Rattle.std.proofs.lemmas.Nat.{and_le_l}
 use Rattle.std.specs.Prelude.{nat_eq, nat_le, bit_and, bit_or, if◌then◌else◌, ◌&&◌, ◌||◌}
 use Rattle.dvg_calls_6502.specs.Processor.{Cpu, Access, Reads, Writes, put}
-use Rattle.dvg_calls_6502.specs.Board.{seen, is_hardware, is_own}
+use Rattle.dvg_calls_6502.specs.Board.{seen, is_hardware, is_own, is_readable}
 use Rattle.dvg_calls_6502.specs.Amid.{is_work, is_kept, is_code}
 use Rattle.dvg_calls_6502.specs.Feed.{moved_byte, put_for, second_then, second_byte}
 use Rattle.dvg_calls_6502.proofs.Running.{Ends, on, at, seen_as}
@@ -39,7 +39,7 @@ flags_then is_flag flags = if is_flag then (λ n. flags (suc n)) else flags
 -- a stretch that ends with the read of another's byte
 pub taken : (b : ℕ) (tables : ℕ → Bool) (u : Bool) → (tables b && true) ≡ true
     → ((((is_kept tables b || u) && true) && true) && true) ≡ true
-taken b tables u is = by (is_own b) (is_work b) (is_code b) (is_hardware b) (tables b) is
+taken b tables u is = by (is_own b) (is_work b) (is_code b) (is_readable b) (tables b) is
   where
     by : (o f c h t : Bool) → (t && true) ≡ true → (((((o || (f || (c || (h || t)))) || u) && true) && true) && true) ≡ true
     by true f c h t is = refl

@@ -23,6 +23,7 @@ pub mod WordsRun
 pub mod VectorCall
 pub mod Offering
 pub mod Growing
+pub mod Few
 pub mod Steady
 pub mod Standing
 pub mod Going

@@ -5,11 +5,11 @@ use Rattle.std.specs.Prelude.{nat_eq, if◌then◌else◌}
 use Rattle.dvg_calls_6502.specs.Processor.{Cpu, bit_of, does, decoded, opcodes, flags_byte, interrupted, put, stack_place, has_bit}
 use Rattle.dvg_calls_6502.specs.Interrupts.{InterruptReturns}
 
-bit_small : (b : Bool) → bit_of b < 2
+pub bit_small : (b : Bool) → bit_of b < 2
 bit_small true = omega arith
 bit_small false = omega arith
 
-is_bit : (b : Bool) → nat_eq (bit_of b) 1 ≡ b
+pub is_bit : (b : Bool) → nat_eq (bit_of b) 1 ≡ b
 is_bit true = refl
 is_bit false = refl
 

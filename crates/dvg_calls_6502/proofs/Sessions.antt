@@ -10,7 +10,7 @@ use Rattle.dvg_driver.specs.Script.{Item, Offered, Asked, Did}
 use Rattle.dvg_driver.proofs.Shapes.{place_life}
 use Rattle.dvg_calls_6502.specs.Processor.{Cpu, Access, Reads, Writes, run, turn}
 use Rattle.dvg_calls_6502.specs.Amid.{Guard, AreHarmless, changed, guards, is_kept, is_work, is_code, are_steady}
-use Rattle.dvg_calls_6502.specs.Board.{IsLoaded, seen, tells_halted, is_own, is_ram, is_hardware}
+use Rattle.dvg_calls_6502.specs.Board.{IsLoaded, seen, tells_halted, is_own, is_ram, is_readable}
 use Rattle.dvg_calls_6502.specs.Tables.{table_of}
 use Rattle.dvg_calls_6502.specs.Routines.{Enters, Shows}
 use Rattle.dvg_calls_6502.specs.Calls
@@ -50,16 +50,16 @@ covers_after (Calls.Offer F) call bounds b low high = by (Calls.is_taken call) l
         (omega (arith, low)) high)
     by false low high = left_true _ (Calls.is_offered (Calls.Offer F) call.from b) (both_bounds bounds.0 bounds.1 b low high)
 
-kept_own : (tables : ℕ → Bool) (b : ℕ) → is_own b ≡ true → is_kept tables b ≡ true
+pub kept_own : (tables : ℕ → Bool) (b : ℕ) → is_own b ≡ true → is_kept tables b ≡ true
 kept_own tables b is = left_true (is_own b) _ is
 
 pub kept_ram : (tables : ℕ → Bool) (b : ℕ) → is_ram b ≡ true → is_kept tables b ≡ true
 kept_ram tables b is = right_true (is_own b) _ (right_true (is_work b) _ (right_true (is_code b) _
-    (left_true (is_hardware b) (tables b) (left_true (is_ram b) _ is))))
+    (left_true (is_readable b) (tables b) (left_true (is_ram b) _ is))))
 
-kept_table : (tables : ℕ → Bool) (b : ℕ) → tables b ≡ true → is_kept tables b ≡ true
+pub kept_table : (tables : ℕ → Bool) (b : ℕ) → tables b ≡ true → is_kept tables b ≡ true
 kept_table tables b is = right_true (is_own b) _ (right_true (is_work b) _ (right_true (is_code b) _
-    (right_true (is_hardware b) (tables b) is)))
+    (right_true (is_readable b) (tables b) is)))
 
 -- one byte more is left alone
 both_harmless : (g h u : Guard) → ((now k : ℕ) → u now k ≡ true → (g now k ≡ true) ⊎ (h now k ≡ true))
@@ -87,7 +87,7 @@ spared call calls steady alone b leaves =
     (steady tables (λ k low high. left_true (is_table call calls k) (nat_eq k b)
     (left_true _ (is_offered call.routine call.from k) (both_bounds (bounds calls).0 (bounds calls).1 k low high))))
     (both_harmless (guards (is_kept (is_table call calls)) call.from.s) (λ now k. nat_eq k b)
-    (guards (is_kept tables) call.from.s) (λ now k. parted (is_own k) (is_work k) (is_code k) (is_hardware k)
+    (guards (is_kept tables) call.from.s) (λ now k. parted (is_own k) (is_work k) (is_code k) (is_readable k)
     (is_table call calls k) (nat_eq k b) _) call.from.s call.steps call.others call.from alone leaves) in
     ap (λ (k : Cpu). k.mem b) came.same ∙ came.keeps b (left_true (is_kept tables b) _
     (kept_table tables b (right_true (is_table call calls b) (nat_eq b b) (eq-eqb b b refl))))
@@ -199,7 +199,7 @@ abbrev kind_of : Access → Action
 kind_of (Reads a byte) = if nat_eq a 0x4001 then Peek else Read (tells_halted byte)
 kind_of (Writes a byte) = if nat_eq a 0x3000 then Sent else Wrote (a - 0x4000) byte
 
-head_same : (x y : Access) → ◌≡◌ {A = List Access} (x ∷ []) (y ∷ []) → x ≡ y
+pub head_same : (x y : Access) → ◌≡◌ {A = List Access} (x ∷ []) (y ∷ []) → x ≡ y
 head_same x y is = cc
 
 is_kind : (action : Action) (access : Access) → Shows action (access ∷ []) → action ≡ kind_of access

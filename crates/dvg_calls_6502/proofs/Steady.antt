@@ -1,8 +1,9 @@
 -- Calls that take guarded bytes alone, over any number of steps.
 use Rattle.std.proofs.Common.{◌≡◌, ℕ, zero, suc, inl, inr, ◌+◌, ◌%◌, Bool, true, false, not, refl, sym, ap, ◌∙◌, arith, eq-eqb}
 use Rattle.std.specs.Prelude.{nat_eq, ◌&&◌, ◌||◌}
+use Rattle.std.proofs.lemmas.Bool.{or_left}
 use Rattle.dvg_calls_6502.specs.Processor.{Cpu, run, turn, at_return, decoded, opcodes, stack_place}
-use Rattle.dvg_calls_6502.specs.Board.{is_own, is_hardware}
+use Rattle.dvg_calls_6502.specs.Board.{is_own, is_readable}
 use Rattle.dvg_calls_6502.specs.Amid.{is_work, is_kept, is_code, is_steady, are_steady, guards, all_in, goes_home, touches}
 use Rattle.dvg_calls_6502.proofs.Running.{steady_more, and_true}
 use Rattle.dvg_calls_6502.proofs.Memory.{both_true}
@@ -10,7 +11,7 @@ use Rattle.dvg_calls_6502.proofs.Growing.{Splits, split, stays}
 
 -- the code is kept
 pub code_kept : (tables : ℕ → Bool) (b : ℕ) → is_code b ≡ true → is_kept tables b ≡ true
-code_kept tables b is = by (is_own b) (is_work b) (is_code b) (is_hardware b || tables b) is
+code_kept tables b is = by (is_own b) (is_work b) (is_code b) (is_readable b || tables b) is
   where
     by : (o f c t : Bool) → c ≡ true → (o || (f || (c || t))) ≡ true
     by true f c t is = refl
@@ -34,12 +35,8 @@ returned : (kept : ℕ → Bool) (s k : ℕ) (cpu : Cpu) → at_return s cpu ≡
 returned kept s zero cpu here pc = refl
 returned kept s (suc k) cpu here pc =
     and_true (is_steady kept s cpu) (are_steady kept s k (turn s cpu))
-    (and_true (kept cpu.pc) _ pc (either (at_return s cpu) _ here))
+    (and_true (kept cpu.pc) _ pc (or_left (at_return s cpu) _ here))
     (ap (are_steady kept s k) (stays s 1 cpu here) ∙ returned kept s k cpu here pc)
-  where
-    either : (t u : Bool) → t ≡ true → (t || u) ≡ true
-    either true u is = refl
-    either false u is = absurd (cc)
 
 -- a call that is steady up to its return is steady
 pub steady_all : (kept : ℕ → Bool) (s n k : ℕ) (cpu : Cpu) → are_steady kept s n cpu ≡ true

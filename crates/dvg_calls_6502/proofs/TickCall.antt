@@ -15,6 +15,7 @@ use Rattle.dvg_calls_6502.specs.Calls.{AreShown}
 use Rattle.dvg_calls_6502.proofs.Running.{at, run_more, returned, steady_more, and_true}
 use Rattle.dvg_calls_6502.proofs.Memory.{AreSmall, laid, page_in, in_page, in_code, known, loaded, put_out, put_small, state_is, small_page}
 use Rattle.dvg_calls_6502.proofs.Memory.{both_true, le_not}
+use Rattle.dvg_calls_6502.proofs.Few.{low_plain}
 use Rattle.dvg_calls_6502.proofs.Acting.{Covers, IsInRam}
 use Rattle.dvg_calls_6502.proofs.Steady.{rts_steady, code_kept}
 use Rattle.dvg_calls_6502.proofs.Ticking.{acts}
@@ -53,14 +54,6 @@ acted_out (Wrote a v) mem b in_ram out = ap (λ (t : Bool). if t then v else mem
         rw (low, high) refl
 acted_out (Read halted) mem b in_ram out = refl
 acted_out Sent mem b in_ram out = refl
-
--- below its places there is no hardware
-low_quiet : (b : ℕ) → b < 0x2000 → is_hardware b ≡ false
-low_quiet b low =
-    let ram : nat_le 0x4000 b ≡ false = le_not 0x4000 b (omega (arith, low)) in
-    let flag : nat_eq b 0x2002 ≡ false = ne_eqb b 0x2002 (λ same. absurd (omega (arith, same, low))) in
-    let strobe : nat_eq b 0x3000 ≡ false = ne_eqb b 0x3000 (λ same. absurd (omega (arith, same, low))) in
-    rw (ram, flag, strobe) refl
 
 -- the two places that call dvg_tick: in dvg_run, and in dvg_ticks
 abbrev pub site_of : Bool → ℕ
@@ -261,7 +254,7 @@ module _ (P : Claim) (begin stop : ℕ) (goes : GoesByTicks P begin stop) (q a x
   not_q = ap (λ s. nat_eq s q) inner_is ∙ ne_eqb inner q (λ same. absurd (omega arith))
 
   kept_low : (b : ℕ) → is_own b ≡ false → b < 0x2000 → fin.mem b ≡ laid page stacked b
-  kept_low b own low = did.kept b own (low_quiet b low)
+  kept_low b own low = did.kept b own (low_plain b (omega (arith, low)))
 
   not_own : (p : ℕ) → 0x1B ≤ p → is_own p ≡ false
   not_own p low = let a : nat_le 0x10 p ≡ true = le-leb 0x10 p (omega arith) in

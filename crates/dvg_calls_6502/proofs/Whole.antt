@@ -1,9 +1,9 @@
 -- Calls one after the other build a whole frame.
 use Rattle.std.proofs.Common.{◌≡◌, ℕ, suc, inl, inr, ◌+◌, ◌*◌, ◌≤◌, Bool, true, false, not, List, [], ◌∷◌, ◌++◌}
-use Rattle.std.proofs.Common.{length, refl, sym, ap, ◌∙◌, subst, arith, append_assoc, length-append}
+use Rattle.std.proofs.Common.{length, refl, sym, ap, ◌∙◌, subst, arith, append_assoc, length-append, Some, ◌-◌}
 use Rattle.std.proofs.lemmas.List.{append-nil}
-use Rattle.std.proofs.Common.{Some, ◌-◌}
-use Rattle.std.specs.Prelude.{◌⊎◌, ◌||◌, option_and_then}
+use Rattle.std.specs.Prelude.{◌⊎◌, option_and_then}
+use Rattle.std.proofs.lemmas.Bool.{or_left}
 use Rattle.dvg_mem.specs.declared.half.Half.{Half}
 use Rattle.dvg_mem.specs.declared.half.Half.TheVariants.{H0, H1}
 use Rattle.dvg_frame.specs.Bytes.{addressed, bytes}
@@ -38,11 +38,7 @@ written_append a (x ∷ xs) ys = let e : suc a + length xs ≡ a + suc (length x
     ∙ append_assoc (written (a + suc (length xs)) ys) (written (suc a) xs) (Writes a x ∷ [])
 
 own_kept : (b : ℕ) → is_own b ≡ true → is_kept_building b ≡ true
-own_kept b is = left_true (is_own b) _ is
-  where
-    left_true : (t u : Bool) → t ≡ true → (t || u) ≡ true
-    left_true true u is = refl
-    left_true false u is = absurd (cc)
+own_kept b is = or_left (is_own b) _ is
 
 -- a call amid others that has returned, by the run without them
 record Same (call : Done) (end : Cpu) : Type 0 where
@@ -60,12 +56,8 @@ same entry before call steps done out back =
     record {
       log = ap (λ (k : Cpu). k.log) came.same ∙ ap (λ (k : Cpu). k.log) ends;
       own = λ b is. ap (λ (k : Cpu). k.mem b) came.same
-          ∙ came.keeps b (left_true (is_kept_building b) _ (own_kept b is)) ∙ ap (λ (k : Cpu). k.mem b) ends;
+          ∙ came.keeps b (or_left (is_kept_building b) _ (own_kept b is)) ∙ ap (λ (k : Cpu). k.mem b) ends;
     }
-  where
-    left_true : (t u : Bool) → t ≡ true → (t || u) ≡ true
-    left_true true u is = refl
-    left_true false u is = absurd (cc)
 
 -- what a part does, whether it puts something or is refused
 record Does (cpu : Cpu) (half : Half) (flipped : Bool) (now rest : List ℕ) : Type 0 where

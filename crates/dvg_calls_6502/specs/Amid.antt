@@ -7,7 +7,7 @@ use Rattle.dvg_calls_6502.specs.Processor.{Branch, Jump, Call, Return}
 use Rattle.dvg_calls_6502.specs.Processor.{decoded, opcodes, address, stack_place, turn, run, at_return}
 use Rattle.dvg_calls_6502.specs.Processor.{ZeroPageY, AbsoluteX, AbsoluteY, IndexedIndirect, Add, Subtract, ShiftAt, JumpAt}
 use Rattle.dvg_calls_6502.specs.Processor.{PushA, PushFlags, PullA, PullFlags, ToStack, Resume, beside}
-use Rattle.dvg_calls_6502.specs.Board.{is_own, is_hardware}
+use Rattle.dvg_calls_6502.specs.Board.{is_own, is_readable}
 
 -- the processor, with another memory
 abbrev pub changed : (ℕ → ℕ) → Cpu → Cpu
@@ -117,9 +117,9 @@ are_steady kept s (suc n) cpu = is_steady kept s cpu && are_steady kept s n (tur
 abbrev pub is_work : ℕ → Bool
 is_work b = nat_le 0x1B b && nat_lt b 0x21
 
--- what is kept all along a call of the driver: its bytes, its code, the hardware, and tables
+-- what is kept all along a call of the driver: its bytes, its code, what it reads of the hardware, and tables
 abbrev pub is_kept : (tables : ℕ → Bool) → ℕ → Bool
-is_kept tables b = is_own b || (is_work b || (is_code b || (is_hardware b || tables b)))
+is_kept tables b = is_own b || (is_work b || (is_code b || (is_readable b || tables b)))
 
 -- the other one is the same but for memory, and there each guarded byte is the same
 pub record CameOut (guard : Guard) (cpu other : Cpu) : Type 0 where

@@ -57,6 +57,10 @@ strobe_place = 0x3000
 abbrev pub is_hardware : ℕ → Bool
 is_hardware b = is_ram b || (nat_eq b flag_place || nat_eq b strobe_place)
 
+-- what of it a read finds: the vector RAM and the flag
+abbrev pub is_readable : ℕ → Bool
+is_readable b = is_ram b || nat_eq b flag_place
+
 -- what is seen outside: a read of the hardware, and a write of anything but the zero page and the stack
 abbrev pub seen : List Access → List Access
 seen [] = []

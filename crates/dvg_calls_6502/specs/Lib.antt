@@ -1,4 +1,5 @@
 pub mod Processor
+pub mod Single
 pub mod Code
 pub mod Board
 pub mod Amid

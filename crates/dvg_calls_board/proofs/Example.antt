@@ -1,8 +1,7 @@
 -- The first picture of a machine: the driver boots and takes a table, writes and publishes its frame, and the core draws
 -- it; a redraw is asked for meanwhile, and finds the core running. The prover runs both ends, step by step.
 use Rattle.std.proofs.Common.{◌≡◌, ℕ, zero, suc, ◌+◌, ◌<◌, Bool, true, false, List, [], ◌∷◌, ◌++◌, length, Option, Some, None, drop, take}
-use Rattle.std.proofs.Common.{refl, sym, ap, ◌∙◌, subst, arith, lit<, eqb-true, leb-true}
-use Rattle.std.proofs.Common.{length-append}
+use Rattle.std.proofs.Common.{refl, sym, ap, ◌∙◌, subst, arith, lit<, eqb-true, leb-true, length-append}
 use Rattle.std.proofs.lemmas.List.{length-replicate, get_or-replicate}
 use Rattle.std.proofs.lemmas.List.Elements.{All-cons, All-nil, All-replicate}
 use Rattle.std.proofs.lemmas.Bool.{ne_eqb}
@@ -266,7 +265,7 @@ is_image : IsImage zeros
 is_image = record { count = length-replicate {A = ℕ} 2048 0; bytes = All-replicate (λ b. b < 256) 2048 0 (lit< tt) }
 
 -- the RAM is zeros, as the processor has it
-shares : (a : ℕ) → a < 2048 → start (0x4000 + a) ≡ held a
+pub shares : (a : ℕ) → a < 2048 → start (0x4000 + a) ≡ held a
 shares a small =
     let page : in_page (0x4000 + a) ≡ false = out_of_page (0x4000 + a) (omega arith) in
     let code : nat_le 0x6800 (0x4000 + a) ≡ false = le_not 0x6800 (0x4000 + a) (omega arith) in

@@ -6,4 +6,4 @@ mod Machine
 mod Hindsight
 pub mod Waiting
 mod Returns
-mod Example
+pub mod Example

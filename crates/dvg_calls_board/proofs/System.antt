@@ -13,11 +13,10 @@ use Rattle.dvg_log.specs.declared.entry.Entry.TheVariants.{Acted, Started, Clear
 use Rattle.dvg_log.specs.Log.{◌⟼◌, Log, Throughout, ram, life, strobed, open_run}
 use Rattle.dvg_log.specs.Legal.{IsLegal, Fits}
 use Rattle.dvg_log.specs.Headline.{KeepsHeadline}
-use Rattle.dvg_calls_6502.specs.Processor.{Reads, Writes}
+use Rattle.dvg_calls_6502.specs.Processor.{Reads, Writes, Access}
 use Rattle.dvg_calls_6502.specs.Joined.{IsMade, FitsBoard, IsBoards}
 use Rattle.dvg_calls_6502.proofs.Joined.{board_keeps as code_keeps}
 use Rattle.dvg_cells_core.specs.Core.{halted}
-use Rattle.dvg_calls_6502.specs.Processor.{Access}
 use Rattle.dvg_calls_6502.specs.Routines.{Shows}
 use Rattle.dvg_cells_board.specs.Board.{Bus, takes, q, clock}
 use Rattle.dvg_cells_board.specs.Answers.{AnswersNext}

@@ -1,9 +1,7 @@
 -- The first picture of the cells: the driver boots and takes a table, and dvg_run writes and publishes its frame and sends a
 -- strobe; the core draws it while the program idles. The prover runs the cells, cycle by cycle.
-use Rattle.std.proofs.Common.{◌≡◌, ℕ, ◌+◌, ◌<◌, Bool, true, false, List, [], ◌∷◌, drop, refl, sym, ◌∙◌, arith, lit<}
-use Rattle.std.specs.Prelude.{nat_eq, nat_le, if◌then◌else◌}
-use Rattle.std.proofs.lemmas.Bool.{ne_eqb}
-use Rattle.std.proofs.lemmas.List.{get_or-replicate}
+use Rattle.std.proofs.Common.{◌≡◌, ℕ, ◌<◌, Bool, true, false, List, [], ◌∷◌, drop, refl, sym, ◌∙◌, lit<}
+use Rattle.std.specs.Prelude.{if◌then◌else◌}
 use Rattle.dvg_driver.specs.declared.action.Action.TheVariants.{Peek, Read}
 use Rattle.dvg_log.specs.declared.event.Event.TheVariants.{Offer, Tick}
 use Rattle.dvg_log.specs.declared.entry.Entry.TheVariants.{Offered, Acted}
@@ -11,9 +9,8 @@ use Rattle.dvg_log.specs.Log.{◌⟼◌, Log}
 use Rattle.dvg_calls_6502.specs.Processor.{Cpu, run}
 use Rattle.dvg_calls_6502.specs.Amid.{guards, is_kept}
 use Rattle.dvg_calls_6502.specs.Calls as calls
-use Rattle.dvg_calls_6502.specs.Calls.{Call, IsSession, is_table, is_over}
+use Rattle.dvg_calls_6502.specs.Calls.{IsSession, is_table, is_over}
 use Rattle.dvg_calls_6502.specs.Joined.{stroke}
-use Rattle.dvg_calls_6502.proofs.Memory.{in_page, le_not, out_of_page}
 use Rattle.dvg_calls_6502.proofs.Interrupted.{still_harmless}
 use Rattle.dvg_calls_6502.proofs.Quiet.{quiet}
 use Rattle.dvg_calls_6502.proofs.ExampleWorld.{start, start_loaded}
@@ -23,8 +20,8 @@ use Rattle.dvg_cells_board.specs.Board.{powered}
 use Rattle.dvg_cells_board.specs.Fetches.{drew}
 use Rattle.dvg_cells_board.specs.Example.{zeros}
 use Rattle.dvg_cells_board.proofs.Example.{held}
+use Rattle.dvg_calls_board.proofs.Example.{shares}
 use Rattle.dvg_calls_board.specs.Machine.{IsChecked, told}
-use Rattle.dvg_cells_cpu.specs.Cpu.{Cpu as Cells}
 use Rattle.dvg_cells_cpu.specs.Cpu as cpu
 use Rattle.dvg_calls_cells.specs.Machine.{Machine}
 use Rattle.dvg_calls_cells.specs.Cycles.{begins, ends, buses}
@@ -35,16 +32,6 @@ use Rattle.dvg_calls_cells.proofs.Following.{Ready, Alone, enters_by, plays_alon
 use Rattle.dvg_calls_cells.proofs.Lines.{Line}
 use Rattle.dvg_calls_cells.proofs.Telling.{Followed, written_line, told_write, tells}
 use Rattle.dvg_calls_cells.proofs.Following.{two_of, Amid, from, session, up_to, further}
-
--- the RAM is zeros, as the processor has it
-pub shares : (a : ℕ) → a < 2048 → start (0x4000 + a) ≡ held a
-shares a small =
-    let page : in_page (0x4000 + a) ≡ false = out_of_page (0x4000 + a) (omega arith) in
-    let code : nat_le 0x6800 (0x4000 + a) ≡ false = le_not 0x6800 (0x4000 + a) (omega arith) in
-    let table : nat_le 0x5000 (0x4000 + a) ≡ false = le_not 0x5000 (0x4000 + a) (omega arith) in
-    let x : nat_eq (0x4000 + a) 0x1C ≡ false = ne_eqb (0x4000 + a) 0x1C (λ e. omega (arith, e)) in
-    let y : nat_eq (0x4000 + a) 0x1E ≡ false = ne_eqb (0x4000 + a) 0x1E (λ e. omega (arith, e)) in
-    rw (page, code, x, y, table) (sym (get_or-replicate 2048 a 0 0 small))
 
 -- the reset's vector, and JSR 6800
 abbrev pub boots : List ℕ

@@ -10,8 +10,7 @@ use Rattle.dvg_cells_board.proofs.Example.{held, served}
 use Rattle.dvg_cells_cpu.specs.Cpu.{Cpu as Cells}
 use Rattle.dvg_cells_cpu.specs.Cpu as cpu
 use Rattle.dvg_calls_cells.specs.Cycles.{Drive, Two}
-use Rattle.dvg_calls_cells.specs.Played.{IsPlayed, powers, alone, begins_call, inside, older_after}
-use Rattle.dvg_calls_cells.specs.Played.{cells_after}
+use Rattle.dvg_calls_cells.specs.Played.{IsPlayed, powers, alone, begins_call, inside, older_after, cells_after}
 use Rattle.dvg_calls_cells.specs.Example.{SomePlayed}
 use Rattle.dvg_calls_cells.proofs.ExampleCalls.{is_rom, is_image, held_bytes, others, shares, reset}
 use Rattle.dvg_calls_cells.proofs.ExampleCalls.{reset_from, reset_session, reset_bytes, tick}

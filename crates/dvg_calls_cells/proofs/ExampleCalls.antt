@@ -49,7 +49,7 @@ small phase free publish a b less =
 abbrev pub others : Cpu → ℕ → ℕ → ℕ
 others from k = (run from.s k from).mem
 
-abbrev plain : Routine → ℕ → Cpu → Call
+abbrev pub plain : Routine → ℕ → Cpu → Call
 plain routine n from = record { routine = routine; from = from; steps = n; others = others from }
 
 follows : (r : Routine) (from : Cpu) (n : ℕ) (olds : List Call) (call : Call) → at_return from.s (run from.s n from) ≡ true
@@ -65,26 +65,34 @@ follows r from n olds call returned same =
       },
     )
 
+-- dvg_reset, over any memory
+abbrev pub resetting : (ℕ → ℕ) → ℕ → Cpu
+resetting mem s = at 0x6800 0 0 0 s false false false false false true (laid reset_page mem) (λ n. 0) []
+
+pub resets : (mem : ℕ → ℕ) → ((b : ℕ) → mem b < 256) → (s n : ℕ) → s < 256
+    → IsSession (plain calls.Reset n (resetting mem s) ∷ [])
+resets mem bytes s n low = (
+  record {
+    entry = refl;
+    log = refl;
+    loaded = loaded reset_page mem (small 0 0 0 (lit< tt) (lit< tt) (lit< tt)) bytes;
+    a = lit< tt;
+    x = lit< tt;
+    s = low;
+  },
+  tt,
+  still_harmless (guards (is_kept (is_table (plain calls.Reset n (resetting mem s)) [])) s) s n (resetting mem s),
+  tt,
+)
+
 abbrev pub reset_from : Cpu
-reset_from = state 0x6800 0 0xFB reset_page
+reset_from = resetting world 0xFB
 
 abbrev pub reset : ℕ → Call
 reset n = plain calls.Reset n reset_from
 
 pub reset_session : (n : ℕ) → IsSession (reset n ∷ [])
-reset_session n = (
-  record {
-    entry = refl;
-    log = refl;
-    loaded = loaded reset_page world (small 0 0 0 (lit< tt) (lit< tt) (lit< tt)) world_small;
-    a = lit< tt;
-    x = lit< tt;
-    s = lit< tt;
-  },
-  tt,
-  still_harmless (guards (is_kept (is_table (reset n) [])) 0xFB) 0xFB n reset_from,
-  tt,
-)
+reset_session n = resets world world_small 0xFB n (lit< tt)
 
 after_reset : (run 0xFB 4 reset_from).mem ≡ laid tick_page world
 after_reset = ap (put 0x12 3) (put_page 0 0 (page_of 0 0 0 0 0 0 0 0 0 0 0) world (omega arith) refl)

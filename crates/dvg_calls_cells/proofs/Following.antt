@@ -7,6 +7,7 @@ use Rattle.dvg_calls_6502.specs.Amid.{guards, is_kept, changed}
 use Rattle.dvg_calls_6502.specs.Board.{IsLoaded, is_ram, strobe_place}
 use Rattle.dvg_calls_6502.specs.Calls.{Routine, Call, IsSession, Follows, Brings, UnlessReset, is_table, is_over, is_refused, is_leaving}
 use Rattle.dvg_calls_6502.specs.Calls.{entry, frame_of}
+use Rattle.dvg_calls_6502.specs.Single.{is_single}
 use Rattle.dvg_calls_6502.proofs.Running.{run_more}
 use Rattle.dvg_calls_6502.proofs.Memory.{both_true}
 use Rattle.dvg_calls_6502.proofs.Interrupted.{still, still_harmless}
@@ -21,7 +22,7 @@ use Rattle.dvg_cells_cpu.specs.Cpu.{Cpu as Cells, at, write, dout}
 use Rattle.dvg_cells_cpu.specs.Refines.{Where, Rests, cycles, access}
 use Rattle.dvg_calls_cells.specs.Machine.{Machine}
 use Rattle.dvg_calls_cells.specs.Cycles.{Drive, Two, begins, between, next, ends, buses, cycle_of, AreQuiet}
-use Rattle.dvg_calls_cells.specs.Steps.{now, instr_of, is_single}
+use Rattle.dvg_calls_cells.specs.Steps.{now, instr_of}
 use Rattle.dvg_calls_cells.specs.Played.{IsPlayed, IsGiven, AreGiven, AreFound, IsPlaced, Does, at_rest, in_board, alone, begins_call}
 use Rattle.dvg_calls_cells.specs.Played.{inside}
 use Rattle.dvg_calls_cells.proofs.Stepping.{ends_are, ends_cells}
@@ -325,6 +326,15 @@ are_quiet (m ∷ ms) cells board =
     let last = next machine (two_of m) in
     (is_given machine m && is_quiet cells) && are_quiet ms last.cpu last.board
 
+abbrev pub are_given : List ℕ → Machine → Bool
+are_given [] machine = true
+are_given (m ∷ ms) machine = is_given machine m && are_given ms (next machine (two_of m))
+
+pub list_given : (ms : List ℕ) (machine : Machine) → are_given ms machine ≡ true → AreGiven zeros machine (twos ms)
+list_given [] machine is = tt
+list_given (m ∷ ms) machine is = let both = both_true (is_given machine m) _ is in
+    (given_of machine m both.0, list_given ms (next machine (two_of m)) both.1)
+
 pub record Alone (list : List Call) (older : List Bus) (cells : Cells) (board : Board) : Type 0 where
   pub on : IsPlayed zeros zeros held list older cells
   pub is_board : after held older ≡ board
@@ -374,14 +384,14 @@ goes_by ms was q =
       follows = was.follows;
     }
 
--- a call begins with the registers that the cells have, over this memory, where the flag gives this byte
-abbrev pub enters_by : Routine → (flag : ℕ) → (ℕ → ℕ) → Cells → Cpu
-enters_by r flag mem cells = record {
+-- a processor with the registers of the cells, over this memory
+abbrev pub of_cells : Cells → (ℕ → ℕ) → Cpu
+of_cells cells mem = record {
   a = cells.a;
   x = cells.x;
   y = cells.y;
   s = cells.s;
-  pc = entry r;
+  pc = cells.pc;
   n = nat_eq cells.n 1;
   z = nat_eq cells.z 1;
   c = nat_eq cells.c 1;
@@ -389,9 +399,13 @@ enters_by r flag mem cells = record {
   d = nat_eq cells.d 1;
   i = nat_eq cells.i 1;
   mem = mem;
-  flags = λ n. flag;
+  flags = λ n. 0;
   log = [];
 }
+
+-- a call begins with those, where the flag gives this byte
+abbrev pub enters_by : Routine → (flag : ℕ) → (ℕ → ℕ) → Cells → Cpu
+enters_by r flag mem cells = record (of_cells cells mem) { pc = entry r; flags = λ n. flag }
 
 -- they are at its entry, and hold bytes
 abbrev pub enters_so : Routine → ℕ → (ℕ → ℕ) → Cells → Bool
@@ -439,10 +453,6 @@ module _ (r : Routine) (flag : ℕ) (was : Ready) where
       on = begun_on;
       is_board = was.is_board;
     })
-
-    -- and after more of them
-    abbrev pub on_by : ℕ → Amid r from was.list → Amid r from was.list
-    on_by = lives r from was.list session refl was.loaded
 
     -- at its end
     abbrev pub ready_by : (at : Amid r from was.list) → (over r from at.n at.cpu && fit (written at.cpu.log)) ≡ true → Ready

@@ -2,10 +2,9 @@
 use Rattle.std.proofs.Common.{◌≡◌, ℕ, zero, suc, ◌+◌, ◌/◌, ◌<◌, Bool, true, false, not, List, [], ◌∷◌, refl, sym, ap, ◌∙◌, subst, arith}
 use Rattle.std.specs.Prelude.{nat_eq, ◌&&◌, ◌||◌, if◌then◌else◌}
 use Rattle.std.proofs.lemmas.Bool.{ne_eqb, eqb-true, eq-eqb, or_left as or_first, or_right as or_last}
-use Rattle.dvg_calls_6502.specs.Processor.{Cpu, found, flag_place}
-use Rattle.dvg_calls_6502.specs.Processor.{turn, stack_place}
+use Rattle.dvg_calls_6502.specs.Processor.{Cpu, found, flag_place, turn, stack_place}
 use Rattle.dvg_calls_6502.specs.Amid.{amid, changed, AreHarmless, Guard, guards, is_kept, is_work, is_code}
-use Rattle.dvg_calls_6502.specs.Board.{is_hardware, is_ram, is_own}
+use Rattle.dvg_calls_6502.specs.Board.{is_own, is_ram, is_readable}
 use Rattle.dvg_calls_6502.specs.Calls.{Call, IsSession, is_table}
 use Rattle.dvg_cells_core.specs.Cells.{bit, mux, none, part, joined, both, either, eq}
 use Rattle.dvg_cells_board.specs.Board.{Board, Bus, q}
@@ -18,14 +17,8 @@ use Rattle.dvg_calls_cells.specs.Cycles.{Two, first_bus, second_bus, cycle_of, c
 use Rattle.dvg_calls_cells.specs.Steps.{now}
 use Rattle.dvg_calls_cells.specs.Played.{AreGiven, AreFound, in_board, at_rest}
 use Rattle.dvg_calls_cells.proofs.Fits.{AllFit, cycle_fits, first_is}
+use Rattle.dvg_calls_cells.proofs.Quiet.{both_none}
 use Rattle.dvg_calls_board.proofs.Ram.{in_ram as ram_place}
-
-both_none : (x : ℕ) → both x 0 ≡ 0
-both_none x = by (nat_eq x 0)
-  where
-    by : (t : Bool) → ◌≡◌ {A = ℕ} (if t then 0 else 0) 0
-    by true = refl
-    by false = refl
 
 -- the board in the clock of a read of its RAM, and after it
 module _ (b : Board) (bus next : Bus) (access : bus.access ≡ 1) (reading : bus.write ≡ 0) where
@@ -112,15 +105,15 @@ pub now_has : (held : ℕ → ℕ) (call : Call) (calls : List Call) (older : Li
     → IsSession (later 1 call ∷ calls) → (a : ℕ) → a < 2048 → (after held older).ram a ≡ (now call).mem (0x4000 + a)
 now_has held call calls older have session a less =
     let b = 0x4000 + a in
-    let hard : is_hardware b ≡ true = or_first (is_ram b) (nat_eq b flag_place || nat_eq b 0x3000) (ram_place a less) in
+    let readable : is_readable b ≡ true = or_first (is_ram b) (nat_eq b flag_place) (ram_place a less) in
     sym (harmless_at (guards (is_kept (is_table (later 1 call) calls)) call.from.s) call.from.s call.steps call.others call.from session.2 b
-    (guarded b hard) ∙ have a less)
+    (guarded b readable) ∙ have a less)
   where
-    guarded : (b : ℕ) → is_hardware b ≡ true → guards (is_kept (is_table (later 1 call) calls)) call.from.s (amid call.from.s call.others call.steps call.from).s b ≡ true
-    guarded b hard =
+    guarded : (b : ℕ) → is_readable b ≡ true → guards (is_kept (is_table (later 1 call) calls)) call.from.s (amid call.from.s call.others call.steps call.from).s b ≡ true
+    guarded b readable =
         let now = (amid call.from.s call.others call.steps call.from).s in
         let tables = is_table (later 1 call) calls in
         or_first (is_kept tables b) (not (nat_eq now call.from.s) && (nat_eq b (stack_place (now + 1)) || nat_eq b (stack_place (now + 2))))
-        (or_last (is_own b) (is_work b || (is_code b || (is_hardware b || tables b)))
-        (or_last (is_work b) (is_code b || (is_hardware b || tables b))
-        (or_last (is_code b) (is_hardware b || tables b) (or_first (is_hardware b) (tables b) hard))))
+        (or_last (is_own b) (is_work b || (is_code b || (is_readable b || tables b)))
+        (or_last (is_work b) (is_code b || (is_readable b || tables b))
+        (or_last (is_code b) (is_readable b || tables b) (or_first (is_readable b) (tables b) readable))))

@@ -1,7 +1,6 @@
 pub mod Fits
 pub mod Found
 pub mod Quiet
-pub mod Few
 pub mod Seen
 pub mod Stepping
 pub mod Playing

@@ -8,7 +8,7 @@ use Rattle.dvg_cells_board.specs.Board.{Bus}
 use Rattle.dvg_cells_board.specs.Clocks.{after, writes, sends, changes}
 use Rattle.dvg_log.specs.Log.{Log}
 use Rattle.dvg_calls_board.specs.Machine as system
-use Rattle.dvg_calls_board.specs.Machine.{IsMachine, IsChecked, OfEachMachine, HaveRam, calls_after}
+use Rattle.dvg_calls_board.specs.Machine.{IsMachine, OfEachMachine, HaveRam, calls_after}
 use Rattle.dvg_calls_cells.specs.Cycles.{AreAlike, none, same, elsewhere}
 use Rattle.dvg_calls_cells.specs.Played.{Keeps}
 use Rattle.dvg_calls_cells.specs.Needed.{AreCalls, AreChecked, AreWired, PremisesFollow, AllIsDoes}

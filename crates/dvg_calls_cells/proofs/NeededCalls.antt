@@ -1,17 +1,15 @@
 -- A call of dvg_reset, over a memory that has an instruction where a return leads: STA 4000, at 0001.
-use Rattle.std.proofs.Common.{◌≡◌, ℕ, ◌+◌, ◌<◌, true, false, [], ◌∷◌, refl, sym, arith, lit<}
+use Rattle.std.proofs.Common.{◌≡◌, ℕ, ◌+◌, ◌<◌, false, [], ◌∷◌, sym, arith, lit<}
 use Rattle.std.specs.Prelude.{nat_eq, nat_le}
 use Rattle.std.proofs.lemmas.Bool.{ne_eqb}
 use Rattle.std.proofs.lemmas.List.{get_or-replicate}
 use Rattle.dvg_calls_6502.specs.Processor.{Cpu, put}
-use Rattle.dvg_calls_6502.specs.Amid.{guards, is_kept}
 use Rattle.dvg_calls_6502.specs.Calls as calls
-use Rattle.dvg_calls_6502.specs.Calls.{Call, IsSession, is_table}
+use Rattle.dvg_calls_6502.specs.Calls.{Call, IsSession}
 use Rattle.dvg_calls_6502.proofs.Running.{at}
 use Rattle.dvg_calls_6502.proofs.Memory.{laid, in_page, loaded, put_small, le_not, out_of_page}
-use Rattle.dvg_calls_6502.proofs.Interrupted.{still_harmless}
 use Rattle.dvg_cells_board.proofs.Example.{held}
-use Rattle.dvg_calls_cells.proofs.ExampleCalls.{reset_page, small, others}
+use Rattle.dvg_calls_cells.proofs.ExampleCalls.{plain, reset_page, resets, resetting, small}
 
 abbrev world : ℕ → ℕ
 world = put 1 0x8D (put 3 0x40 (λ b. 0))
@@ -20,25 +18,13 @@ world_small : (b : ℕ) → world b < 256
 world_small = put_small 1 0x8D (put 3 0x40 (λ b. 0)) (lit< tt) (put_small 3 0x40 (λ b. 0) (lit< tt) (λ b. lit< tt))
 
 abbrev pub reset_from : Cpu
-reset_from = at 0x6800 0 0 0 0xFD false false false false false true (laid reset_page world) (λ n. 0) []
+reset_from = resetting world 0xFD
 
 abbrev pub reset : ℕ → Call
-reset n = record { routine = calls.Reset; from = reset_from; steps = n; others = others reset_from }
+reset n = plain calls.Reset n reset_from
 
 pub reset_session : (n : ℕ) → IsSession (reset n ∷ [])
-reset_session n = (
-  record {
-    entry = refl;
-    log = refl;
-    loaded = loaded reset_page world (small 0 0 0 (lit< tt) (lit< tt) (lit< tt)) world_small;
-    a = lit< tt;
-    x = lit< tt;
-    s = lit< tt;
-  },
-  tt,
-  still_harmless (guards (is_kept (is_table (reset n) [])) 0xFD) 0xFD n reset_from,
-  tt,
-)
+reset_session n = resets world world_small 0xFD n (lit< tt)
 
 pub reset_bytes : (b : ℕ) → laid reset_page world b < 256
 reset_bytes = (loaded reset_page world (small 0 0 0 (lit< tt) (lit< tt) (lit< tt)) world_small).bytes

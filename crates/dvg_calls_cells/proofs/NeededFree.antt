@@ -4,7 +4,8 @@ use Rattle.std.specs.Prelude.{◌&&◌}
 use Rattle.dvg_calls_6502.specs.Processor.{Cpu, turn, at_return}
 use Rattle.dvg_calls_6502.specs.Board.{IsLoaded}
 use Rattle.dvg_calls_6502.specs.Calls as calls
-use Rattle.dvg_calls_6502.specs.Calls.{Routine, Call, IsSession, is_over}
+use Rattle.dvg_calls_6502.specs.Calls.{Routine, Call, IsSession}
+use Rattle.dvg_calls_6502.specs.Single.{is_single}
 use Rattle.dvg_calls_6502.proofs.Memory.{both_true}
 use Rattle.dvg_calls_6502.proofs.Interrupted.{still}
 use Rattle.dvg_calls_6502.proofs.Quiet.{quiet, written, fit, not_true, loaded_after}
@@ -17,7 +18,7 @@ use Rattle.dvg_cells_cpu.specs.Cpu.{Cpu as Cells}
 use Rattle.dvg_cells_cpu.specs.Refines.{Rests, cycles}
 use Rattle.dvg_calls_cells.specs.Machine.{Machine}
 use Rattle.dvg_calls_cells.specs.Cycles.{Two, begins, between, ends, buses}
-use Rattle.dvg_calls_cells.specs.Steps.{instr_of, is_single}
+use Rattle.dvg_calls_cells.specs.Steps.{instr_of}
 use Rattle.dvg_calls_cells.specs.Played.{IsPlayed, IsGiven, AreGiven, AreFound, IsPlaced, Does, Keeps, inside, older_after}
 use Rattle.dvg_calls_cells.specs.Needed.{DoesBy, all, NeedsFree}
 use Rattle.dvg_calls_cells.proofs.Stepping.{ends_are, ends_cells}

@@ -1,33 +1,17 @@
 -- Runs of which one premise doesn't hold, and which have no log. The prover computes each cycle from the cells.
 use Rattle.std.proofs.Common.{◌≡◌, ℕ, ◌<◌, List, [], ◌∷◌, refl, lit<, arith}
 use Rattle.dvg_calls_6502.specs.Calls as calls
-use Rattle.dvg_calls_6502.specs.Calls.{Call}
 use Rattle.dvg_cells_board.specs.Clocks.{after}
 use Rattle.dvg_cells_board.specs.Example.{zeros}
-use Rattle.dvg_cells_board.proofs.Example.{served}
 use Rattle.dvg_calls_board.specs.Machine.{OfEachMachine, HaveRam}
-use Rattle.dvg_calls_cells.specs.Machine.{Machine}
-use Rattle.dvg_calls_cells.specs.Cycles.{Two, between}
-use Rattle.dvg_calls_cells.specs.Played.{IsPlayed, IsGiven, alone, begins_call, older_after, cells_after}
+use Rattle.dvg_calls_cells.specs.Cycles.{Two}
+use Rattle.dvg_calls_cells.specs.Played.{IsPlayed, alone, at_rest, begins_call, older_after, cells_after}
 use Rattle.dvg_calls_cells.specs.Needed.{held, NeedsNoStrobe, NeedsNoWrite, NeedsRests, NeedsCount, NeedsAnswers}
 use Rattle.dvg_calls_cells.proofs.Needed.{sent_by_none, has_ram}
 use Rattle.dvg_calls_cells.proofs.ExampleCalls as made
 use Rattle.dvg_calls_cells.proofs.NeededCalls as other
 use Rattle.dvg_calls_cells.proofs.Example as example
-use Rattle.dvg_calls_cells.proofs.Example.{twos, drive}
-
--- a cycle in which the core is at word zero, or in the RAM
-given : (machine : Machine) (m : ℕ) → m < 256 → machine.board.core.at < 0x400
-    → (between machine (record { first = drive 0; second = drive m })).board.core.at < 0x400
-    → IsGiven zeros machine (record { first = drive 0; second = drive m })
-given machine m few first second = record {
-  nmi = lit< tt;
-  first_rom = lit< tt;
-  second_rom = lit< tt;
-  m = few;
-  first = served _ _ refl first;
-  second = served _ _ refl second;
-}
+use Rattle.dvg_calls_cells.proofs.Following.{list_given, twos}
 
 -- STA 3000, at power-up
 pub needs_no_strobe : NeedsNoStrobe
@@ -36,10 +20,7 @@ needs_no_strobe = (
   example.cells1,
   twos (0x8D ∷ 0x00 ∷ 0x30 ∷ 0x00 ∷ []),
   example.on1,
-  (
-    given _ _ (lit< tt) (lit< tt) (lit< tt),
-    (given _ _ (lit< tt) (lit< tt) (lit< tt), (given _ _ (lit< tt) (lit< tt) (lit< tt), (given _ _ (lit< tt) (lit< tt) (lit< tt), tt))),
-  ),
+  list_given (0x8D ∷ 0x00 ∷ 0x30 ∷ 0x00 ∷ []) (at_rest held example.older1 example.cells1) refl,
   (refl, tt),
   sent_by_none zeros zeros held _ _ _ refl refl refl refl,
 )
@@ -56,10 +37,7 @@ module _ (shared : OfEachMachine (λ R image held list log clocks. HaveRam list 
       example.cells8,
       twos (0x8D ∷ 0x00 ∷ 0x40 ∷ 0x00 ∷ []),
       example.on8,
-      (
-        given _ _ (lit< tt) (lit< tt) (lit< tt),
-        (given _ _ (lit< tt) (lit< tt) (lit< tt), (given _ _ (lit< tt) (lit< tt) (lit< tt), (given _ _ (lit< tt) (lit< tt) (lit< tt), tt))),
-      ),
+      list_given (0x8D ∷ 0x00 ∷ 0x40 ∷ 0x00 ∷ []) (at_rest held example.older8 example.cells8) refl,
       (refl, tt),
       λ keeps.
           let differs : 0 ≡ 3 = has_ram shared zeros zeros held (made.reset 4) [] _ keeps 0 (lit< tt) in
@@ -86,10 +64,7 @@ module _ (shared : OfEachMachine (λ R image held list log clocks. HaveRam list 
       single = refl;
       count = refl;
       answered = tt;
-      given = (
-        given _ _ (lit< tt) (lit< tt) (lit< tt),
-        (given _ _ (lit< tt) (lit< tt) (lit< tt), (given _ _ (lit< tt) (lit< tt) (lit< tt), (given _ _ (lit< tt) (lit< tt) (lit< tt), tt))),
-      );
+      given = list_given (0x8D ∷ 0x00 ∷ 0x40 ∷ 0x00 ∷ []) (at_rest held example.older11 example.cells11) refl;
     },
     λ keeps.
         let differs : 0 ≡ 3 = has_ram shared zeros zeros held (made.tick 4) (made.reset 4 ∷ []) _ keeps 0 (lit< tt) in
@@ -102,19 +77,8 @@ module _ (shared : OfEachMachine (λ R image held list log clocks. HaveRam list 
 
   strayed_on : IsPlayed zeros zeros held (made.reset 0 ∷ []) (older_after held example.older3 example.cells3 strayed)
       (cells_after held example.older3 example.cells3 strayed)
-  strayed_on = alone strayed example.reset_on (
-    given _ _ (lit< tt) (lit< tt) (lit< tt),
-    (
-      given _ _ (lit< tt) (lit< tt) (lit< tt),
-      (
-        given _ _ (lit< tt) (lit< tt) (lit< tt),
-        (
-          given _ _ (lit< tt) (lit< tt) (lit< tt),
-          (given _ _ (lit< tt) (lit< tt) (lit< tt), (given _ _ (lit< tt) (lit< tt) (lit< tt), (given _ _ (lit< tt) (lit< tt) (lit< tt), tt))),
-        ),
-      ),
-    ),
-  ) tt
+  strayed_on = alone strayed example.reset_on (list_given (0x4C ∷ 0x88 ∷ 0x68 ∷ 0xA9 ∷ 0x05 ∷ 0x8D ∷ 0x00 ∷ [])
+      (at_rest held example.older3 example.cells3) refl) tt
 
   pub needs_rests : NeedsRests
   needs_rests = (
@@ -134,7 +98,8 @@ module _ (shared : OfEachMachine (λ R image held list log clocks. HaveRam list 
       single = refl;
       count = refl;
       answered = (refl, (tt, tt));
-      given = (given _ _ (lit< tt) (lit< tt) (lit< tt), (given _ _ (lit< tt) (lit< tt) (lit< tt), tt));
+      given = list_given (0x40 ∷ 0x00 ∷ []) (at_rest held (older_after held example.older3 example.cells3 strayed)
+          (cells_after held example.older3 example.cells3 strayed)) refl;
     },
     λ keeps.
         let differs : 0 ≡ 5 = has_ram shared zeros zeros held (made.reset 1) [] _ keeps 0 (lit< tt) in
@@ -142,12 +107,14 @@ module _ (shared : OfEachMachine (λ R image held list log clocks. HaveRam list 
   )
 
   -- in place of LDA alone, the cells do dvg_reset to its end, and STA 4000 after it
+  abbrev boots : List ℕ
+  boots = 0xA9 ∷ 0x00 ∷ 0x85 ∷ 0x10 ∷ 0x00 ∷ 0xA9 ∷ 0x03 ∷ 0x85 ∷ 0x12 ∷ 0x00 ∷ 0x60 ∷ 0x00 ∷ 0x00 ∷ 0x8D ∷ 0x00 ∷ 0x40 ∷ 0x00 ∷ []
+
   abbrev booted : List Two
   booted = twos (0x00 ∷ 0x68 ∷ [])
 
   booted_on : IsPlayed zeros zeros held [] (older_after held [] example.cells0 booted) (cells_after held [] example.cells0 booted)
-  booted_on = alone booted example.on0
-      (given _ _ (lit< tt) (lit< tt) (lit< tt), (given _ _ (lit< tt) (lit< tt) (lit< tt), tt)) tt
+  booted_on = alone booted example.on0 (list_given (0x00 ∷ 0x68 ∷ []) (at_rest held [] example.cells0) refl) tt
 
   reset_on : IsPlayed zeros zeros held (other.reset 0 ∷ []) (older_after held [] example.cells0 booted)
       (cells_after held [] example.cells0 booted)
@@ -161,7 +128,7 @@ module _ (shared : OfEachMachine (λ R image held list log clocks. HaveRam list 
     [],
     older_after held [] example.cells0 booted,
     cells_after held [] example.cells0 booted,
-    twos (0xA9 ∷ 0x00 ∷ 0x85 ∷ 0x10 ∷ 0x00 ∷ 0xA9 ∷ 0x03 ∷ 0x85 ∷ 0x12 ∷ 0x00 ∷ 0x60 ∷ 0x00 ∷ 0x00 ∷ 0x8D ∷ 0x00 ∷ 0x40 ∷ 0x00 ∷ []),
+    twos boots,
     reset_on,
     other.reset_session 1,
     record {
@@ -173,55 +140,8 @@ module _ (shared : OfEachMachine (λ R image held list log clocks. HaveRam list 
       single = refl;
       count = tt;
       answered = (refl, (refl, (refl, (refl, (tt, (refl, (refl, (refl, (refl, (tt, (refl, (refl, (refl, (refl, (refl, (refl, (tt, tt)))))))))))))))));
-      given = (
-        given _ _ (lit< tt) (lit< tt) (lit< tt),
-        (
-          given _ _ (lit< tt) (lit< tt) (lit< tt),
-          (
-            given _ _ (lit< tt) (lit< tt) (lit< tt),
-            (
-              given _ _ (lit< tt) (lit< tt) (lit< tt),
-              (
-                given _ _ (lit< tt) (lit< tt) (lit< tt),
-                (
-                  given _ _ (lit< tt) (lit< tt) (lit< tt),
-                  (
-                    given _ _ (lit< tt) (lit< tt) (lit< tt),
-                    (
-                      given _ _ (lit< tt) (lit< tt) (lit< tt),
-                      (
-                        given _ _ (lit< tt) (lit< tt) (lit< tt),
-                        (
-                          given _ _ (lit< tt) (lit< tt) (lit< tt),
-                          (
-                            given _ _ (lit< tt) (lit< tt) (lit< tt),
-                            (
-                              given _ _ (lit< tt) (lit< tt) (lit< tt),
-                              (
-                                given _ _ (lit< tt) (lit< tt) (lit< tt),
-                                (
-                                  given _ _ (lit< tt) (lit< tt) (lit< tt),
-                                  (
-                                    given _ _ (lit< tt) (lit< tt) (lit< tt),
-                                    (
-                                      given _ _ (lit< tt) (lit< tt) (lit< tt),
-                                      (given _ _ (lit< tt) (lit< tt) (lit< tt), tt),
-                                    ),
-                                  ),
-                                ),
-                              ),
-                            ),
-                          ),
-                        ),
-                      ),
-                    ),
-                  ),
-                ),
-              ),
-            ),
-          ),
-        ),
-      );
+      given = list_given boots (at_rest held (older_after held [] example.cells0 booted)
+          (cells_after held [] example.cells0 booted)) refl;
     },
     λ keeps.
         let differs : 0 ≡ 3 = has_ram shared zeros zeros held (other.reset 1) [] _ keeps 0 (lit< tt) in

@@ -72,7 +72,8 @@ other_page a e = elim (eqb_tells (a / 0x800) 8) [
   | inr t ↦ t.0
 ]
 
-idle_write : (board : Board) (bus : Bus) → nat_eq bus.write 0 ≡ false → is_ram bus.a ≡ false → nat_eq bus.a 0x3000 ≡ false
+-- a write beside the vector RAM and the strobe leaves the board alone
+pub idle_write : (board : Board) (bus : Bus) → nat_eq bus.write 0 ≡ false → is_ram bus.a ≡ false → nat_eq bus.a 0x3000 ≡ false
     → IsIdle board bus
 idle_write board bus e ram strobe =
     idle_by board bus (no_read_in bus e 0x2002) (no_read_in bus e 0x4001)
@@ -129,7 +130,7 @@ idle_core : (c : Core) (is_open reset start hole one two : ℕ)
 idle_core c zero reset start hole one two = refl
 idle_core c (suc n) reset start hole one two = rw (ne_eqb (suc n) 0 (λ e. absurd (omega arith))) refl
 
-both_none : (a : ℕ) → ◌≡◌ {A = ℕ} (if nat_eq a 0 then 0 else 0) 0
+pub both_none : (a : ℕ) → ◌≡◌ {A = ℕ} (if nat_eq a 0 then 0 else 0) 0
 both_none a = by (nat_eq a 0)
   where
     by : (t : Bool) → ◌≡◌ {A = ℕ} (if t then 0 else 0) 0

@@ -8,6 +8,8 @@ use Rattle.dvg_calls_6502.specs.Amid.{amid, changed}
 use Rattle.dvg_calls_6502.specs.Board.{seen, is_hardware, is_ram}
 use Rattle.dvg_calls_6502.specs.Calls
 use Rattle.dvg_calls_6502.specs.Calls.{Call, is_over, IsSession}
+use Rattle.dvg_calls_6502.specs.Single.{is_single}
+use Rattle.dvg_calls_6502.proofs.Few.{AreFew, few}
 use Rattle.dvg_log.specs.Log.{Log}
 use Rattle.dvg_cells_core.specs.Cells.{bit, eq, either, mux, part}
 use Rattle.dvg_cells_board.specs.Board.{Board, Bus, q}
@@ -23,8 +25,7 @@ use Rattle.dvg_cells_cpu.proofs.Whole.{refines}
 use Rattle.dvg_calls_cells.specs.Machine.{Machine}
 use Rattle.dvg_calls_cells.specs.Cycles.{Two, begins, first_bus, second_bus, next, buses, cycles_of, cycle_of, ends}
 use Rattle.dvg_calls_cells.specs.Cycles.{IsQuiet, AreQuiet, AreAlike, same}
-use Rattle.dvg_calls_cells.specs.Steps.{AreServed, now, instr_of, is_single, Steps, CellsStep}
-use Rattle.dvg_calls_cells.proofs.Few.{AreFew, few}
+use Rattle.dvg_calls_cells.specs.Steps.{AreServed, now, instr_of, Steps, CellsStep}
 use Rattle.dvg_calls_cells.proofs.Quiet.{Quietly, write_both, write_append, made_more, quietly, quiet_cycle}
 use Rattle.dvg_calls_cells.proofs.Seen.{AreUnseen, IsSeen, either_way, fetched_quiet, low_unseen, seen_more, seen_one, unseen}
 use Rattle.dvg_calls_cells.proofs.Seen.{unseen_quiet}
@@ -53,7 +54,7 @@ ram_bit a less e = elim (leb_tells 0x4000 a) [
   | inr t ↦ absurd (let no : (nat_le 0x4000 a && nat_lt a 0x4800) ≡ false = ap (λ k. k && nat_lt a 0x4800) t.0 in cc)
 ]
 
-abbrev on_board : ℕ → ℕ
+abbrev pub on_board : ℕ → ℕ
 on_board a = either (either (eq (part 11 5 a) 8) (eq a 8194)) (eq a 12288)
 
 three_bits : (r f s : Bool) → (r || (f || s)) ≡ true → either (either (bit r) (bit f)) (bit s) ≡ 1
@@ -62,7 +63,7 @@ three_bits false true s e = refl
 three_bits false false true e = refl
 three_bits false false false e = absurd (cc)
 
-answered_there : (a : ℕ) → a < 65536 → is_hardware a ≡ true → on_board a ≡ 1
+pub answered_there : (a : ℕ) → a < 65536 → is_hardware a ≡ true → on_board a ≡ 1
 answered_there a less e = by (is_ram a) refl
   where
     by : (b : Bool) → is_ram a ≡ b → on_board a ≡ 1
@@ -71,14 +72,14 @@ answered_there a less e = by (is_ram a) refl
         (or_more (nat_eq (part 11 5 a) 8) (nat_eq a 8194 || nat_eq a 12288)
         (sym (ap (λ t. t || (nat_eq a 8194 || nat_eq a 12288)) is) ∙ e))
 
-one_of : (s t : Bool) → nat_eq (if s then (if t then 0 else 1) else 1) 0 ≡ false
+pub one_of : (s t : Bool) → nat_eq (if s then (if t then 0 else 1) else 1) 0 ≡ false
     → ◌≡◌ {A = ℕ} (if s then (if t then 0 else 1) else 1) 1
 one_of true true e = absurd (cc)
 one_of true false e = refl
 one_of false t e = refl
 
 -- the newest of some accesses
-head_is : (a b : Access) (l r : List Access) → a ∷ l ≡ b ∷ r → (a ≡ b) × (l ≡ r)
+pub head_is : (a b : Access) (l r : List Access) → a ∷ l ≡ b ∷ r → (a ≡ b) × (l ≡ r)
 head_is a b l r e = (ap (λ l. first l) e, ap (λ l. others l) e)
   where
     first : List Access → Access

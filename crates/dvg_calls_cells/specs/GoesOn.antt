@@ -4,6 +4,7 @@ use Rattle.std.specs.Prelude.{length, slice_index}
 use Rattle.dvg_mem.specs.Memory.{first_word}
 use Rattle.dvg_calls_6502.specs.Processor.{Cpu, at_return, found}
 use Rattle.dvg_calls_6502.specs.Calls.{Call, is_over}
+use Rattle.dvg_calls_6502.specs.Single.{is_single}
 use Rattle.dvg_cells_core.specs.Cells.{bit, part}
 use Rattle.dvg_cells_board.specs.Board.{Board, Bus}
 use Rattle.dvg_cells_board.specs.Board as pin
@@ -11,7 +12,7 @@ use Rattle.dvg_cells_cpu.specs.Cpu.{Cpu as Cells, at, write}
 use Rattle.dvg_cells_cpu.specs.Refines.{Where, Rests, cycles, made}
 use Rattle.dvg_calls_cells.specs.Machine.{Machine, clock}
 use Rattle.dvg_calls_cells.specs.Cycles.{Drive, Two, driven, next, cycle_of, cycles_of, AreQuiet}
-use Rattle.dvg_calls_cells.specs.Steps.{now, instr_of, is_single}
+use Rattle.dvg_calls_cells.specs.Steps.{now, instr_of}
 use Rattle.dvg_calls_cells.specs.Played.{IsPlayed, IsPlaced, Does, at_rest, in_board, older_after, cells_after}
 
 -- the pins from outside, where the board's ROM and its jumper are served

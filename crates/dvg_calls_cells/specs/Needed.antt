@@ -5,6 +5,7 @@ use Rattle.dvg_mem.specs.Memory.{IsImage, IsRom}
 use Rattle.dvg_calls_6502.specs.Processor.{at_return}
 use Rattle.dvg_calls_6502.specs.Board.{is_ram}
 use Rattle.dvg_calls_6502.specs.Calls.{Call, is_over, IsSession}
+use Rattle.dvg_calls_6502.specs.Single.{is_single}
 use Rattle.dvg_cells_core.specs.Cells.{bit}
 use Rattle.dvg_cells_board.specs.Board.{Bus}
 use Rattle.dvg_cells_board.specs.Clocks.{after}
@@ -13,7 +14,7 @@ use Rattle.dvg_calls_board.specs.Machine.{IsChecked, HaveRam, later}
 use Rattle.dvg_cells_cpu.specs.Cpu.{Cpu as Cells}
 use Rattle.dvg_cells_cpu.specs.Refines.{Where, Rests, cycles, made}
 use Rattle.dvg_calls_cells.specs.Cycles.{Two, cycles_of, WriteAt, IsSilent}
-use Rattle.dvg_calls_cells.specs.Steps.{now, instr_of, is_single}
+use Rattle.dvg_calls_cells.specs.Steps.{now, instr_of}
 use Rattle.dvg_calls_cells.specs.Played.{IsPlayed, IsPlaced, AreGiven, AreFound, Does, Keeps, at_rest, older_after}
 
 -- over a ROM of zeros, and a RAM of zeros at first

@@ -7,6 +7,7 @@ use Rattle.dvg_log.specs.Legal.{IsLegal}
 use Rattle.dvg_log.specs.Headline.{KeepsHeadline}
 use Rattle.dvg_calls_6502.specs.Processor.{Cpu, at_return, found}
 use Rattle.dvg_calls_6502.specs.Calls.{Routine, Call, is_over, IsSession}
+use Rattle.dvg_calls_6502.specs.Single.{is_single}
 use Rattle.dvg_cells_board.specs.Board.{Board, Bus}
 use Rattle.dvg_cells_board.specs.Clocks.{IsServed, after}
 use Rattle.dvg_cells_board.specs.Logs.{HoldsRam}
@@ -18,7 +19,7 @@ use Rattle.dvg_calls_cells.specs.Machine.{Machine, drives_board, drives_cpu, clo
 use Rattle.dvg_calls_cells.specs.Cycles.{Drive, driven, resetting, Two, begins, between, next, first_bus, second_bus}
 use Rattle.dvg_calls_cells.specs.Cycles.{buses, cycle_of}
 use Rattle.dvg_calls_cells.specs.Cycles.{cycles_of, AreQuiet, SendNothing, StandFor}
-use Rattle.dvg_calls_cells.specs.Steps.{now, instr_of, is_single}
+use Rattle.dvg_calls_cells.specs.Steps.{now, instr_of}
 
 -- a cycle that is driven by bits and bytes, in which the board's ROM and its jumper are served
 pub record IsGiven (R : List ℕ) (machine : Machine) (two : Two) : Type 0 where

@@ -1,9 +1,8 @@
 -- An instruction of a call of the driver's code on the cells is a step of the call, and its access is made on the
 -- board.
-use Rattle.std.specs.Prelude.{◌≡◌, ℕ, Bool, true, false, List, [], ◌∷◌, length}
-use Rattle.dvg_calls_6502.specs.Processor.{Cpu, Mode, ZeroPage, ZeroPageX, ZeroPageY, Instr, Change, ShiftAt, JumpAt}
-use Rattle.dvg_calls_6502.specs.Processor.{opcodes, decoded}
-use Rattle.dvg_calls_6502.specs.Processor.{at_return}
+use Rattle.std.specs.Prelude.{◌≡◌, ℕ, true, false, List, [], ◌∷◌, length}
+use Rattle.dvg_calls_6502.specs.Processor.{Cpu, Instr, opcodes, decoded, at_return}
+use Rattle.dvg_calls_6502.specs.Single.{is_single}
 use Rattle.dvg_calls_6502.specs.Amid.{changed}
 use Rattle.dvg_calls_6502.specs.Calls
 use Rattle.dvg_calls_6502.specs.Calls.{Call, is_over, IsSession}
@@ -31,20 +30,6 @@ now call = changed (call.others call.steps) (Calls.after call)
 
 abbrev pub instr_of : Cpu → Instr
 instr_of cpu = decoded opcodes (cpu.mem cpu.pc)
-
--- one access at most, or all in the zero page and the stack: no INC, DEC or shift of an absolute address, and no
--- indirect jump. The driver has none of these
-abbrev pub is_low : Mode → Bool
-is_low ZeroPage = true
-is_low ZeroPageX = true
-is_low ZeroPageY = true
-is_low mode = false
-
-abbrev pub is_single : Instr → Bool
-is_single (Change mode by) = is_low mode
-is_single (ShiftAt shift mode) = is_low mode
-is_single JumpAt = false
-is_single instr = true
 
 -- after an instruction: a step of the call is made, the log has grown by what the board did, and the processor's cells
 -- rest as the step leaves the processor

@@ -1,6 +1,6 @@
 -- Each of these sentences has runs: the ROM, whatever stands beside it, and the vector ROM are bytes, so that it can be
 -- powered.
-use Rattle.std.proofs.Common.{◌≡◌, inl, ℕ, zero, suc, ◌-◌, ◌/◌, ◌%◌, ◌<◌, Bool, true, false, List, [], ◌∷◌, refl, arith}
+use Rattle.std.proofs.Common.{◌≡◌, inl, ℕ, zero, suc, ◌-◌, ◌/◌, ◌%◌, ◌<◌, Bool, true, false, List, [], ◌∷◌, refl}
 use Rattle.std.proofs.Common.{leb-true, lit<}
 use Rattle.std.specs.Prelude.{◌&&◌, nat_lt, if◌then◌else◌, All, length}
 use Rattle.std.proofs.lemmas.List.Elements.{All-cons, All-nil}

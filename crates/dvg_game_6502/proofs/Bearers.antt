@@ -8,8 +8,7 @@ use Rattle.dvg_calls_6502.specs.Amid.{changed, guards, is_code, is_kept}
 use Rattle.dvg_calls_6502.specs.Board.{is_ram, seen}
 use Rattle.dvg_calls_6502.specs.Routines.{Enters, Labs}
 use Rattle.dvg_calls_6502.specs.Calls.{Routine, Offer, Puts, Call, after, bounds, entry, frame_of, is_offered}
-use Rattle.dvg_calls_6502.specs.Calls.{is_over, is_table}
-use Rattle.dvg_calls_6502.specs.Calls.{is_taken, IsSessionBy, UnlessReset}
+use Rattle.dvg_calls_6502.specs.Calls.{is_over, is_table, is_taken, IsSessionBy, UnlessReset}
 use Rattle.dvg_calls_6502.specs.Programs.{Tells}
 use Rattle.dvg_game_rules.specs.Kinds.{kind_of}
 use Rattle.dvg_game_rules.specs.Machine.{State}

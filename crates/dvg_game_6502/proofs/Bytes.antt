@@ -10,12 +10,14 @@ use Rattle.dvg_calls_6502.specs.Processor.{ShiftAt, ShiftA, Set, Branch, Jump, J
 use Rattle.dvg_calls_6502.specs.Processor.{PullFlags, FromStack, ToStack, Resume, Pass, Unknown, opcodes, decoded, Cpu}
 use Rattle.dvg_calls_6502.specs.Processor.{put, address, found, flag_place, operand, reading, next, setting, adding}
 use Rattle.dvg_calls_6502.specs.Processor.{of_register, flagging, shifted, changing, flags_byte, stack_place, does}
+use Rattle.dvg_calls_6502.proofs.Memory.{put_small}
+use Rattle.dvg_calls_6502.proofs.Resuming.{bit_small}
 use Rattle.dvg_game_rules.specs.Alike.{of_cpu}
 use Rattle.dvg_game_rules.proofs.Facts.{inside}
 use Rattle.dvg_game_rules.proofs.Memory.{between}
 use Rattle.dvg_game_6502.specs.Play.{AreBytes, done, fresh}
 use Rattle.dvg_game_6502.proofs.Bearers.{Bearer}
-use Rattle.dvg_game_6502.proofs.GameSteps.{bit_small, put_small}
+use Rattle.dvg_game_6502.proofs.GameSteps.{flags_small}
 use Rattle.dvg_game_6502.proofs.Stages.{IsAccepted, Stage, safe_at}
 
 shifted_small : (shift : Shift) (carry : Bool) (old : ℕ) → old < 256 → shifted shift carry old < 256
@@ -23,16 +25,6 @@ shifted_small Left carry old small = omega arith
 shifted_small Right carry old small = omega (arith, small)
 shifted_small RotateLeft carry old small = omega arith
 shifted_small RotateRight carry old small = let bit = bit_small carry in omega (arith, small, bit)
-
-asked_small : (cpu : Cpu) → flags_byte true cpu < 256
-asked_small cpu =
-    let n = bit_small cpu.n in
-    let v = bit_small cpu.v in
-    let d = bit_small cpu.d in
-    let i = bit_small cpu.i in
-    let z = bit_small cpu.z in
-    let c = bit_small cpu.c in
-    omega (arith, n, v, d, i, z, c)
 
 -- a register is set to a byte
 set_bytes : (r : Register) (byte : ℕ) (cpu : Cpu) → byte < 256 → AreBytes cpu → AreBytes (setting r byte cpu)
@@ -157,7 +149,7 @@ module _ (cpu : Cpu) (bytes : AreBytes cpu) (flag : cpu.flags 0 < 256) where
     x = bytes.x;
     y = bytes.y;
     s = omega arith;
-    mem = put_small (stack_place cpu.s) (flags_byte true cpu) cpu.mem (asked_small cpu) bytes.mem;
+    mem = put_small (stack_place cpu.s) (flags_byte true cpu) cpu.mem (flags_small true cpu) bytes.mem;
   }
   does_bytes PullA low = record {
     a = bytes.mem (stack_place (cpu.s + 1));

@@ -1,6 +1,6 @@
 -- The game's JSR or JMP leads into the driver.
 use Rattle.std.proofs.Common.{◌≡◌, ◌⊎◌, inl, inr, ℕ, zero, suc, ◌+◌, ◌*◌, ◌/◌, ◌%◌, ◌<◌, ◌≤◌, true, false, List, []}
-use Rattle.std.proofs.Common.{◌∷◌, refl, sym, ap, ◌∙◌, subst, arith, leb-true}
+use Rattle.std.proofs.Common.{◌∷◌, refl, sym, ap, ◌∙◌, subst, arith}
 use Rattle.std.specs.Prelude.{length, slice_index}
 use Rattle.std.proofs.lemmas.Bool.{or_right}
 use Rattle.dvg_calls_6502.specs.Processor.{Cpu, decoded, does, opcodes, put, stack_place}
@@ -50,9 +50,6 @@ byte_at [] mem at are i less = absurd (omega (arith, less))
 byte_at (byte ∷ bytes) mem at are zero less = ap mem (let e : at + 0 ≡ at = omega arith in e) ∙ are.0
 byte_at (byte ∷ bytes) mem at are (suc i) less = ap mem (let e : at + suc i ≡ suc at + i = omega arith in e)
     ∙ byte_at bytes mem (suc at) are.1 i (omega (arith, less))
-
-code_ends : 0x6800 + length code ≤ 0x8000
-code_ends = leb-true (0x6800 + length code) 0x8000 refl
 
 module _ {R : List ℕ} {B : Bearer R} {rom : ℕ → ℕ} {start : ℕ} (game : IsAccepted rom start)
     {cpu : Cpu} {since : ℕ} {w : B.World} (g : InGame R B rom start cpu since w) (go : Play.restarts cpu ≡ false)

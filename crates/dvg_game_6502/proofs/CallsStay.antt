@@ -1,27 +1,23 @@
 -- Each step of each call of a session stays in the driver's code, and writes what it may.
 use Rattle.std.proofs.Common.{◌≡◌, ◌⊎◌, inl, inr, ℕ, zero, suc, ◌+◌, ◌-◌, ◌*◌, ◌%◌, ◌<◌, Bool, true}
-use Rattle.std.proofs.Common.{false, List, [], ◌∷◌}
-use Rattle.std.proofs.Common.{◌++◌, refl, sym, ap, ◌∙◌, subst, arith, eqb-true, eq-eqb, leb-true}
+use Rattle.std.proofs.Common.{false, List, [], ◌∷◌, ◌++◌, refl, sym, ap, ◌∙◌, subst, arith, eqb-true, eq-eqb, leb-true}
 use Rattle.std.proofs.Common.{Some}
-use Rattle.std.proofs.lemmas.Bool.{ne_eqb}
+use Rattle.std.proofs.lemmas.Bool.{ne_eqb, or_left, or_right}
 use Rattle.std.specs.Prelude.{nat_eq, nat_lt, nat_le, ◌&&◌, ◌||◌, not, if◌then◌else◌}
-use Rattle.std.proofs.lemmas.Bool.{or_left}
 use Rattle.dvg_calls_6502.specs.Processor.{Access, Reads, Writes, Cpu, at_return, stack_place, step, turn}
 use Rattle.dvg_calls_6502.specs.Amid.{AreHarmless, amid, changed, guards, is_code, is_kept}
 use Rattle.dvg_calls_6502.specs.Board.{is_own}
 use Rattle.dvg_calls_6502.specs.Routines.{Enters, Labs, Pair, Put, Vector}
 use Rattle.dvg_calls_6502.specs.Calls as c
-use Rattle.dvg_calls_6502.specs.Calls.{Routine, Call, after, entry, is_decided, is_leaving, is_over}
-use Rattle.dvg_calls_6502.specs.Calls.{is_refused, is_table}
+use Rattle.dvg_calls_6502.specs.Calls.{Routine, Call, after, entry, is_leaving, is_over, is_refused, is_table}
 use Rattle.dvg_calls_6502.specs.Calls.{IsSessionBy, UnlessReset}
 use Rattle.dvg_calls_6502.specs.Programs.{Tells}
 use Rattle.dvg_game_rules.proofs.Facts.{both_true}
 use Rattle.dvg_game_6502.specs.Stays.{CallsStay}
 use Rattle.dvg_game_6502.proofs.Claims.{AreHard, Nothing, Claim, Unknown, Ready, Sized, Holds, HoldsIn}
-use Rattle.dvg_game_6502.proofs.Claims.{Means, Note, is_known}
-use Rattle.dvg_game_6502.proofs.Claims.{Low, Blank, Aims, Inside}
+use Rattle.dvg_game_6502.proofs.Claims.{Means, Note, is_known, Low, Blank, Aims, Inside}
 use Rattle.dvg_game_6502.proofs.Notes.{lookup, noted, notes}
-use Rattle.dvg_game_6502.proofs.Rows.{byte_at}
+use Rattle.dvg_game_6502.proofs.Rows.{byte_at, some_same}
 use Rattle.dvg_game_6502.proofs.Staying.{Good, Level, below, home, noted_is_code}
 use Rattle.dvg_game_6502.proofs.Turning.{Turned, turned}
 use Rattle.dvg_game_6502.proofs.HardLogs.{hard_session}
@@ -213,9 +209,6 @@ known_of (row ∷ rows) at note all is ends =
     two : ((is_known row.1.claim || not (is_end (byte_at row.0))) ≡ true) × (end_known rows ≡ true)
     two = both_true (is_known row.1.claim || not (is_end (byte_at row.0))) (end_known rows) all
 
-    some_same : {x y : Note} → Some x ≡ Some y → x ≡ y
-    some_same is = cc
-
     either : (t u : Bool) → (t || not u) ≡ true → u ≡ true → t ≡ true
     either true u a b = refl
     either false true a b = absurd (cc)
@@ -249,13 +242,9 @@ returned_ends s cpu is = or_left (nat_eq (cpu.mem cpu.pc) 0x60) _
     (both_true (nat_eq (cpu.mem cpu.pc) 0x60) _ is).0
 
 leaving_ends : (s : ℕ) (cpu : Cpu) → is_leaving s cpu ≡ true → is_end (cpu.mem cpu.pc) ≡ true
-leaving_ends s cpu is = right (nat_eq (cpu.mem cpu.pc) 0x60) (nat_eq (cpu.mem cpu.pc) 0x18)
+leaving_ends s cpu is = or_right (nat_eq (cpu.mem cpu.pc) 0x60) (nat_eq (cpu.mem cpu.pc) 0x18)
     (both_true (nat_eq (cpu.mem cpu.pc) 0x18) _
     (both_true (is_code (cpu.pc + 1)) _ (both_true (is_code cpu.pc) _ is).1).1).0
-  where
-    right : (t u : Bool) → u ≡ true → (t || u) ≡ true
-    right true u is = refl
-    right false u is = is
 
 -- where a call is over
 ready_over : (call : Call) (routine : Routine) → call.routine ≡ routine

@@ -1,18 +1,19 @@
 -- A play in a call of the driver: its steps, an NMI, and its return.
 use Rattle.std.proofs.Common.{◌≡◌, ◌⊎◌, inl, inr, ℕ, suc, ◌+◌, ◌-◌, ◌%◌, ◌<◌, ◌≤◌, Bool, true, false, List}
-use Rattle.std.proofs.Common.{◌++◌, refl, sym, ap, ◌∙◌, subst, arith, leb-true, eqb-true}
+use Rattle.std.proofs.Common.{◌++◌, refl, sym, ap, ◌∙◌, subst, arith, leb-true}
 use Rattle.std.specs.Prelude.{◌&&◌, ◌||◌, not, nat_eq, nat_le, nat_lt, if◌then◌else◌, Some}
+use Rattle.std.proofs.lemmas.Bool.{ne_eqb}
 use Rattle.dvg_calls_6502.specs.Processor.{Cpu, Access, at_return, flags_byte, stack_place, step, turn}
 use Rattle.dvg_calls_6502.specs.Amid as driver
 use Rattle.dvg_calls_6502.specs.Amid.{changed, guards, is_kept, is_work}
-use Rattle.dvg_calls_6502.specs.Board.{is_hardware, is_own, is_ram, seen}
+use Rattle.dvg_calls_6502.specs.Board.{is_hardware, is_own, seen}
 use Rattle.dvg_calls_6502.specs.Calls.{Call, Routine, after, is_table}
 use Rattle.dvg_game_rules.specs.Machine.{Choice, State, IsRun, calls_driver, left_by, nmi_within, restarts, within}
 use Rattle.dvg_game_rules.specs.Machine as machine
 use Rattle.dvg_game_rules.specs.Safe.{IsSafe}
 use Rattle.dvg_game_rules.specs.Alike.{of_cpu}
 use Rattle.dvg_game_rules.proofs.Facts.{both_true}
-use Rattle.dvg_game_rules.proofs.Memory.{between, either}
+use Rattle.dvg_game_rules.proofs.Memory.{between}
 use Rattle.dvg_game_6502.specs.Play.{AreBytes, done, interrupted}
 use Rattle.dvg_game_6502.specs.Open.{IsIn, IsOpen}
 use Rattle.dvg_game_6502.specs.Stays.{Stays, is_written}
@@ -21,6 +22,7 @@ use Rattle.dvg_game_6502.proofs.CallsStay.{calls_stay}
 use Rattle.dvg_game_6502.proofs.GameSteps.{bytes_pushed, pushed_below}
 use Rattle.dvg_game_6502.proofs.Logs.{log_is_passive, upon}
 use Rattle.dvg_game_6502.proofs.Stages.{Back, jmp, jsr, InDriver, InNmi, IsAccepted, safe_at}
+use Rattle.dvg_game_6502.proofs.Staying.{untouched}
 
 turned : (s : ℕ) (cpu : Cpu) → at_return s cpu ≡ false → turn s cpu ≡ step cpu
 turned s cpu not_there = ap (λ (t : Bool). if t then cpu else step cpu) not_there
@@ -62,61 +64,29 @@ stays R routine s calls cpu log flags call not_there deep = record {
 
 -- the ROM and the stack above are none that a call writes
 pub unwritten : (s b : ℕ) → 2 ≤ s → s ≤ 255 → ((0x100 + s < b) × (b < 0x200)) ⊎ (0x4800 ≤ b) → is_written s b ≡ false
-unwritten s b some most far = by (is_written s b) refl
+unwritten s b some most far =
+    by (is_own b) (is_work b) (is_hardware b) (nat_eq b (stack_place s)) (nat_eq b (stack_place (s + 255)))
+    (untouched b (above far) (beside far)) (ne_eqb b (stack_place s) (λ e. off s (omega arith) (omega (arith, e, most)) far))
+    (ne_eqb b (stack_place (s + 255)) (λ e. off (s - 1) (omega arith) (omega (arith, e, most, some)) far))
   where
-    no_own : (0x10 ≤ b) × (b < 0x21) → ⊥
-    no_own page = at far
-      where
-        at : ((0x100 + s < b) × (b < 0x200)) ⊎ (0x4800 ≤ b) → ⊥
-        at (inl two) = let low = two.0 in let high = page.1 in omega (arith, low, high)
-        at (inr low) = let high = page.1 in omega (arith, low, high)
+    above : ((0x100 + s < b) × (b < 0x200)) ⊎ (0x4800 ≤ b) → 0x21 ≤ b
+    above (inl two) = let low = two.0 in omega (arith, low)
+    above (inr low) = omega (arith, low)
 
-    no_ram : (0x2002 ≤ b) × (b < 0x4800) → ⊥
-    no_ram ram = at far
-      where
-        at : ((0x100 + s < b) × (b < 0x200)) ⊎ (0x4800 ≤ b) → ⊥
-        at (inl two) = let high = two.1 in let low = ram.0 in omega (arith, low, high)
-        at (inr low) = let high = ram.1 in omega (arith, low, high)
+    beside : ((0x100 + s < b) × (b < 0x200)) ⊎ (0x4800 ≤ b) → (b < 0x2002) ⊎ (0x4800 ≤ b)
+    beside (inl two) = let high = two.1 in inl (omega (arith, high))
+    beside (inr low) = inr low
 
-    no_stack : (k : ℕ) → k ≤ s → b ≡ 0x100 + k → ⊥
-    no_stack k less is = at far
-      where
-        at : ((0x100 + s < b) × (b < 0x200)) ⊎ (0x4800 ≤ b) → ⊥
-        at (inl two) = let low = two.0 in omega (arith, low, less, is)
-        at (inr low) = omega (arith, low, less, is, most)
+    off : (k : ℕ) → k ≤ s → b ≡ 0x100 + k → ((0x100 + s < b) × (b < 0x200)) ⊎ (0x4800 ≤ b) → ⊥
+    off k less is (inl two) = let low = two.0 in omega (arith, low, less, is)
+    off k less is (inr low) = omega (arith, low, less, is, most)
 
-    five : (nat_eq b (stack_place s) ≡ true) ⊎ (nat_eq b (stack_place (s + 255)) ≡ true) → ⊥
-    five (inl top) = let e = eqb-true b (stack_place s) top in no_stack s (omega arith) (omega (arith, e, most))
-    five (inr next) = let e = eqb-true b (stack_place (s + 255)) next in
-        no_stack (s - 1) (omega arith) (omega (arith, e, most, some))
-
-    four : (is_hardware b ≡ true) ⊎ ((nat_eq b (stack_place s) || nat_eq b (stack_place (s + 255))) ≡ true) → ⊥
-    four (inl hardware) = place (either (is_ram b) _ hardware)
-      where
-        place : (is_ram b ≡ true) ⊎ ((nat_eq b 0x2002 || nat_eq b 0x3000) ≡ true) → ⊥
-        place (inl ram) = let two = between 0x4000 0x4800 b ram in let low = two.0 in no_ram (omega (arith, low), two.1)
-        place (inr more) = last (either (nat_eq b 0x2002) _ more)
-          where
-            last : (nat_eq b 0x2002 ≡ true) ⊎ (nat_eq b 0x3000 ≡ true) → ⊥
-            last (inl flag) = let e = eqb-true b 0x2002 flag in no_ram (omega (arith, e), omega (arith, e))
-            last (inr strobe) = let e = eqb-true b 0x3000 strobe in no_ram (omega (arith, e), omega (arith, e))
-    four (inr stack) = five (either (nat_eq b (stack_place s)) _ stack)
-
-    two : (is_work b ≡ true) ⊎ ((is_hardware b || (nat_eq b (stack_place s) || nat_eq b (stack_place
-        (s + 255)))) ≡ true)
-        → ⊥
-    two (inl work) = let page = between 0x1B 0x21 b work in let low = page.0 in no_own (omega (arith, low), page.1)
-    two (inr more) = four (either (is_hardware b) _ more)
-
-    one : (is_own b ≡ true) ⊎ ((is_work b || (is_hardware b || (nat_eq b (stack_place s) || nat_eq b (stack_place
-        (s + 255)))))
-        ≡ true) → ⊥
-    one (inl own) = let page = between 0x10 0x1B b own in let high = page.1 in no_own (page.0, omega (arith, high))
-    one (inr more) = two (either (is_work b) _ more)
-
-    by : (t : Bool) → is_written s b ≡ t → t ≡ false
-    by true is = absurd (one (either (is_own b) _ is))
-    by false is = refl
+    by : (t u v w x : Bool) → (t || (u || v)) ≡ false → w ≡ false → x ≡ false → (t || (u || (v || (w || x)))) ≡ false
+    by false false false false x one two three = three
+    by true u v w x one two three = absurd (cc)
+    by false true v w x one two three = absurd (cc)
+    by false false true w x one two three = absurd (cc)
+    by false false false true x one two three = absurd (cc)
 
 module _ {R : List ℕ} {B : Bearer R} {rom : ℕ → ℕ} {start : ℕ} (game : IsAccepted rom start)
     {cpu : Cpu} {w : B.World} (d : InDriver R B rom start cpu w) where

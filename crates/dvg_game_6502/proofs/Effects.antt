@@ -1,17 +1,12 @@
 -- What instructions leave that store nothing, or at an address of the zero page.
 use Rattle.std.proofs.Common.{◌≡◌, ℕ, ◌+◌, Bool, true, false, refl, sym, ap, ◌∙◌}
 use Rattle.dvg_calls_6502.specs.Processor.{Cpu, Register, A, X, Y, Instr, Mode, Immediate, ZeroPage, put}
-use Rattle.dvg_calls_6502.specs.Processor.{does, reading, setting}
-use Rattle.dvg_calls_6502.specs.Processor.{ZeroPageX, ZeroPageY, Absolute, AbsoluteX, AbsoluteY}
+use Rattle.dvg_calls_6502.specs.Processor.{does, reading, setting, ZeroPageX, ZeroPageY, Absolute, AbsoluteX, AbsoluteY}
 use Rattle.dvg_calls_6502.specs.Processor.{IndexedIndirect, size}
 use Rattle.dvg_calls_6502.specs.Processor.{IndirectIndexed, Load, Store, Transfer, And, Or, Xor, Compare}
-use Rattle.dvg_calls_6502.specs.Processor.{TestBits, Change}
-use Rattle.dvg_calls_6502.specs.Processor.{Step, ShiftAt, ShiftA, Set, Flag, Negative, Zero, Carry}
-use Rattle.dvg_calls_6502.specs.Processor.{Overflow, Decimal}
-use Rattle.dvg_calls_6502.specs.Processor.{Interrupt, flagging}
-use Rattle.dvg_calls_6502.specs.Processor.{operand, next}
-use Rattle.dvg_game_6502.proofs.Claims.{is_quiet, is_storing}
-use Rattle.dvg_game_6502.proofs.Claims.{length_of, sets}
+use Rattle.dvg_calls_6502.specs.Processor.{TestBits, Change, Step, ShiftAt, ShiftA, Set, Flag, Negative, Zero, Carry}
+use Rattle.dvg_calls_6502.specs.Processor.{Overflow, Decimal, Interrupt, flagging, operand, next}
+use Rattle.dvg_game_6502.proofs.Claims.{is_quiet, is_storing, length_of, sets}
 
 -- registers that aren't set, S, and the next address
 pub record Goes (instr : Instr) (cpu new : Cpu) : Type 0 where

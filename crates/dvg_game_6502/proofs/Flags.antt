@@ -11,8 +11,7 @@ use Rattle.dvg_calls_6502.specs.Processor.{ShiftAt, ShiftA, Set, Branch, Jump, J
 use Rattle.dvg_calls_6502.specs.Processor.{PullFlags, FromStack, ToStack, Resume, Pass, Unknown, adding, address, beside}
 use Rattle.dvg_calls_6502.specs.Processor.{carrying}
 use Rattle.dvg_calls_6502.specs.Processor.{flag_place, found, lost, next, of_register, operand, Reads, reading, reads}
-use Rattle.dvg_calls_6502.specs.Processor.{setting}
-use Rattle.dvg_calls_6502.specs.Processor.{shifted, size, telling, writing}
+use Rattle.dvg_calls_6502.specs.Processor.{setting, shifted, size, telling, writing}
 
 -- with other answers of the flag from now on
 abbrev pub told : (ℕ → ℕ) → Cpu → Cpu

@@ -1,12 +1,10 @@
 -- What a branch of the driver makes of what is known, and what may be forgotten.
 use Rattle.std.proofs.Common.{◌≡◌, ◌⊎◌, inl, inr, ℕ, suc, ◌+◌, ◌%◌, ◌<◌, ◌≤◌, Bool, true, false}
-use Rattle.std.proofs.Common.{refl, sym, ap, ◌∙◌, subst, arith}
-use Rattle.std.proofs.Common.{eqb-true, leb-true}
-use Rattle.std.proofs.lemmas.Bool.{eqb-false, leb-false}
+use Rattle.std.proofs.Common.{refl, sym, ap, ◌∙◌, subst, arith, eqb-true, leb-true}
+use Rattle.std.proofs.lemmas.Bool.{eqb-false, leb-false, not-false, not-true}
 use Rattle.std.specs.Prelude.{nat_eq, nat_lt, nat_le, not, if◌then◌else◌}
 use Rattle.dvg_calls_6502.specs.Processor.{Cpu, A, X, Y, Instr, Branch, Negative, Zero, does, decoded}
-use Rattle.dvg_calls_6502.specs.Processor.{opcodes, is_so, of_flag}
-use Rattle.dvg_calls_6502.specs.Processor.{target}
+use Rattle.dvg_calls_6502.specs.Processor.{opcodes, is_so, of_flag, target}
 use Rattle.dvg_game_6502.proofs.Claims.{Claim, Ready, Sized, Low, Aims, Inside, Points}
 use Rattle.dvg_game_6502.proofs.Claims.{Also, Nothing, Is, Small, Even, Twice, Says, Under, Over, Found}
 use Rattle.dvg_game_6502.proofs.Claims.{HoldsIn, MeansIn, is_known}
@@ -155,24 +153,16 @@ module _ (cpu : Cpu) where
       (λ is. ((let small = holds.0 in let e = means (was is) in omega (arith, small, e)), tt))
     where
       was : not cpu.z ≡ false → cpu.z ≡ true
-      was is = turned cpu.z is
-        where
-          turned : (t : Bool) → not t ≡ false → t ≡ true
-          turned true is = refl
-          turned false is = absurd (cc)
+      was is = not-false cpu.z is
   forked building = λ holds means. by_flag (Branch Zero false)
       (not cpu.z) Ready Nothing Aims Nothing refl refl refl
       (λ is. (holds, tt))
       (λ is. (
         high_aims (cpu.mem 0x10) (cpu.mem 0x14) (cpu.mem 0x15)
-            (let e = means (turned cpu.z is) in above (cpu.mem 0x10) e) holds,
+            (let e = means (not-false cpu.z is) in above (cpu.mem 0x10) e) holds,
         tt,
       ))
     where
-      turned : (t : Bool) → not t ≡ false → t ≡ true
-      turned true is = refl
-      turned false is = absurd (cc)
-
       above : (b : ℕ) → b % 256 ≡ 7 → 7 ≤ b
       above b e = omega arith
   forked {c = c} plus = λ holds means. by_flag (Branch Negative false)
@@ -182,11 +172,7 @@ module _ (cpu : Cpu) where
     where
       positive : not cpu.n ≡ true → cpu.n ≡ nat_le 128 cpu.x → nat_le 128 cpu.x ≡ false
       positive is same = let e : not (nat_le 128 cpu.x) ≡ true = ap not (sym same)
-          ∙ is in turned (nat_le 128 cpu.x) e
-        where
-          turned : (t : Bool) → not t ≡ true → t ≡ false
-          turned false is = refl
-          turned true is = absurd (cc)
+          ∙ is in not-true (nat_le 128 cpu.x) e
 
       up : (cpu.x ≡ 254) ⊎ (cpu.x ≡ 0) → nat_le 128 cpu.x ≡ false → (cpu.x ≡ 0) ⊎ (cpu.x ≡ 2)
       up (inl is) low = absurd (let less = unset cpu.x low in omega (arith, is, less))

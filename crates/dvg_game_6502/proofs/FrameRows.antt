@@ -1,13 +1,10 @@
 -- The rows of the routines that take frames, and of those that build them.
 use Rattle.std.proofs.Common.{refl}
 use Rattle.dvg_game_6502.proofs.Notes.{offer, put, pair, close, axes, vector}
-use Rattle.dvg_game_6502.proofs.Rules.{plain, beside, axis, axis_down, lda, ldx, ldy, ldy_phase, ldy_at}
-use Rattle.dvg_game_6502.proofs.Rules.{iny, sty_at}
-use Rattle.dvg_game_6502.proofs.Rules.{dey, once, twice, mask, double, page, lower, sta_phase, stx_phase}
-use Rattle.dvg_game_6502.proofs.Rules.{clear, aim}
+use Rattle.dvg_game_6502.proofs.Rules.{plain, beside, axis, axis_down, lda, ldx, ldy, ldy_phase, ldy_at, iny, sty_at}
+use Rattle.dvg_game_6502.proofs.Rules.{dey, once, twice, mask, double, page, lower, sta_phase, stx_phase, clear, aim}
 use Rattle.dvg_game_6502.proofs.Rules.{turn_page, store, cpy}
-use Rattle.dvg_game_6502.proofs.Forks.{either, idle, building, plus, same, low_ready, low_sized}
-use Rattle.dvg_game_6502.proofs.Forks.{aims_ready}
+use Rattle.dvg_game_6502.proofs.Forks.{either, idle, building, plus, same, low_ready, low_sized, aims_ready}
 use Rattle.dvg_game_6502.proofs.Forks.{inside_aims, inside_ready, as_is, nothing, small}
 use Rattle.dvg_game_6502.proofs.Rows.{Rows, ◌▸◌, ends, goes_on, alone, forks, jumps, returns, to}
 

@@ -1,14 +1,16 @@
 -- A play between calls of the driver: the game's instructions, and its NMI's.
 use Rattle.std.proofs.Common.{◌≡◌, ◌⊎◌, inl, inr, ℕ, suc, ◌+◌, ◌/◌, ◌%◌, ◌<◌, ◌≤◌, Bool, true, false, List, []}
 use Rattle.std.proofs.Common.{◌∷◌, refl, sym, ap, ◌∙◌, subst, arith, le-leb, leb-true}
-use Rattle.std.specs.Prelude.{◌&&◌, ◌||◌, not, nat_eq, nat_le, nat_lt, if◌then◌else◌}
+use Rattle.std.specs.Prelude.{◌&&◌, ◌||◌, not, nat_le, nat_lt, if◌then◌else◌}
 use Rattle.std.proofs.lemmas.Bool.{or_right}
-use Rattle.dvg_calls_6502.specs.Processor.{Cpu, bit_of, flags_byte, put, stack_place}
+use Rattle.dvg_calls_6502.specs.Processor.{Cpu, flags_byte, put, stack_place}
 use Rattle.dvg_calls_6502.specs.Amid as driver
 use Rattle.dvg_calls_6502.specs.Board.{is_own, is_ram, seen}
 use Rattle.dvg_calls_6502.specs.Calls.{Call, bounds}
+use Rattle.dvg_calls_6502.proofs.Memory.{put_small}
+use Rattle.dvg_calls_6502.proofs.Resuming.{bit_small}
 use Rattle.dvg_game_rules.specs.Kinds.{kind_of}
-use Rattle.dvg_game_rules.specs.Machine.{Choice, State, begins, calling, nmi, restarts, step}
+use Rattle.dvg_game_rules.specs.Machine.{Choice, IsRun, State, begins, calling, nmi, restarts, step}
 use Rattle.dvg_game_rules.specs.Between.{is_drivers}
 use Rattle.dvg_game_rules.specs.Checker.{first, is_code, places}
 use Rattle.dvg_game_rules.specs.Safe.{IsSafe}
@@ -85,26 +87,16 @@ rested_on R (older ∷ calls) mem now own table rested = (
 )
 
 -- an NMI leaves bytes
-pub bit_small : (b : Bool) → bit_of b < 2
-bit_small true = omega arith
-bit_small false = omega arith
-
-flags_small : (cpu : Cpu) → flags_byte false cpu < 256
-flags_small cpu =
+pub flags_small : (asked : Bool) (cpu : Cpu) → flags_byte asked cpu < 256
+flags_small asked cpu =
+    let b = bit_small asked in
     let n = bit_small cpu.n in
     let v = bit_small cpu.v in
     let d = bit_small cpu.d in
     let i = bit_small cpu.i in
     let z = bit_small cpu.z in
     let c = bit_small cpu.c in
-    omega (arith, n, v, d, i, z, c)
-
-pub put_small : (a v : ℕ) (mem : ℕ → ℕ) → v < 256 → ((b : ℕ) → mem b < 256) → (b : ℕ) → put a v mem b < 256
-put_small a v mem small all b = by (nat_eq b a)
-  where
-    by : (t : Bool) → (if t then v else mem b) < 256
-    by true = small
-    by false = all b
+    omega (arith, b, n, v, d, i, z, c)
 
 pub bytes_pushed : (cpu : Cpu) → AreBytes cpu → cpu.pc < 65536 → AreBytes (interrupted cpu)
 bytes_pushed cpu bytes low = record {
@@ -114,7 +106,7 @@ bytes_pushed cpu bytes low = record {
   s = omega arith;
   mem = put_small (stack_place (cpu.s + 254)) (flags_byte false cpu)
       (put (stack_place (cpu.s + 255)) (cpu.pc % 256) (put (stack_place cpu.s) (cpu.pc / 256) cpu.mem))
-      (flags_small cpu)
+      (flags_small false cpu)
       (put_small (stack_place (cpu.s + 255)) (cpu.pc % 256) (put (stack_place cpu.s) (cpu.pc / 256) cpu.mem)
       (omega arith)
       (put_small (stack_place cpu.s) (cpu.pc / 256) cpu.mem (omega (arith, low)) bytes.mem));
@@ -175,21 +167,26 @@ pushing byte = record {
 ram_off : (b : ℕ) → is_ram b ≡ true → (b < 0x100) ⊎ (0x200 ≤ b)
 ram_off b is = needed_off b (or_right (is_own b) (is_ram b) is)
 
+-- a run of the checker's machine begins there
+pub run_begins : (rom : ℕ → ℕ) (start : ℕ) (cpu : Cpu) (since : ℕ) → Begins rom start cpu
+    → IsRun rom start (record (idle cpu) { since = since })
+run_begins rom start cpu since is = begins (record (idle cpu) { since = since }) (record {
+  loaded = is.loaded;
+  entry = is.entry;
+  stack = is.stack;
+  calls = refl;
+  amid = refl;
+  home = refl;
+  blank = refl;
+})
+
 pub game_begins : (R : List ℕ) (B : Bearer R) (rom : ℕ → ℕ) (start : ℕ) (cpu : Cpu) (since : ℕ) (w : B.World)
     (calls : List Call) → B.Between calls cpu.mem w
     → ((b : ℕ) → (bounds calls).0 ≤ b → b < (bounds calls).1 → InRom b) → Begins rom start cpu
     → InGame R B rom start cpu since w
 game_begins R B rom start cpu since w calls between tables is = record {
   st = record (idle cpu) { since = since };
-  run = begins (record (idle cpu) { since = since }) (record {
-    loaded = is.loaded;
-    entry = is.entry;
-    stack = is.stack;
-    calls = refl;
-    amid = refl;
-    home = refl;
-    blank = refl;
-  });
+  run = run_begins rom start cpu since is;
   homeless = refl;
   time = refl;
   bytes = is.bytes;

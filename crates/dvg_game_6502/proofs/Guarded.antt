@@ -4,7 +4,7 @@ use Rattle.std.proofs.Common.{ap, ◌∙◌, arith, eqb-true, eq-eqb, leb-true}
 use Rattle.std.specs.Prelude.{◌&&◌, ◌||◌, not, nat_eq, nat_le, nat_lt}
 use Rattle.dvg_calls_6502.specs.Processor.{stack_place}
 use Rattle.dvg_calls_6502.specs.Amid.{is_code, is_kept, is_work}
-use Rattle.dvg_calls_6502.specs.Board.{is_hardware, is_own, is_ram}
+use Rattle.dvg_calls_6502.specs.Board.{is_own, is_ram, is_readable}
 use Rattle.dvg_game_rules.specs.Checker.{is_free, is_output}
 use Rattle.dvg_game_rules.proofs.Facts.{both_true}
 use Rattle.dvg_game_rules.proofs.Memory.{between, either, output_place}
@@ -32,7 +32,7 @@ free b is = one (either (nat_lt b 0x10) _ is)
 
 -- where a call of the driver wants a byte kept
 abbrev Kept : ℕ → Type 0
-Kept b = ((0x10 ≤ b) × (b < 0x21)) ⊎ ((b ≡ 0x2002) ⊎ ((b ≡ 0x3000) ⊎ (0x4000 ≤ b)))
+Kept b = ((0x10 ≤ b) × (b < 0x21)) ⊎ ((b ≡ 0x2002) ⊎ (0x4000 ≤ b))
 
 pub bound : (b : ℕ) → (Free b → ⊥) → is_free b ≡ false
 bound b never_free = by (is_free b) refl
@@ -50,45 +50,36 @@ never b (inr (inl flag)) (inl less) = omega (arith, flag, less)
 never b (inr (inl flag)) (inr (inl two)) = let high = two.1 in omega (arith, flag, high)
 never b (inr (inl flag)) (inr (inr (inl two))) = let high = two.1 in omega (arith, flag, high)
 never b (inr (inl flag)) (inr (inr (inr two))) = let low = two.0 in omega (arith, flag, low)
-never b (inr (inr (inl strobe))) (inl less) = omega (arith, strobe, less)
-never b (inr (inr (inl strobe))) (inr (inl two)) = let high = two.1 in omega (arith, strobe, high)
-never b (inr (inr (inl strobe))) (inr (inr (inl two))) = let high = two.1 in omega (arith, strobe, high)
-never b (inr (inr (inl strobe))) (inr (inr (inr two))) = let low = two.0 in omega (arith, strobe, low)
-never b (inr (inr (inr far))) (inl less) = omega (arith, far, less)
-never b (inr (inr (inr far))) (inr (inl two)) = let high = two.1 in omega (arith, far, high)
-never b (inr (inr (inr far))) (inr (inr (inl two))) = let high = two.1 in omega (arith, far, high)
-never b (inr (inr (inr far))) (inr (inr (inr two))) = let high = two.1 in omega (arith, far, high)
+never b (inr (inr far)) (inl less) = omega (arith, far, less)
+never b (inr (inr far)) (inr (inl two)) = let high = two.1 in omega (arith, far, high)
+never b (inr (inr far)) (inr (inr (inl two))) = let high = two.1 in omega (arith, far, high)
+never b (inr (inr far)) (inr (inr (inr two))) = let high = two.1 in omega (arith, far, high)
 
 above : (s b : ℕ) → s ≤ 255 → Kept b → (b < 0x100) ⊎ (0x100 + s < b)
 above s b low (inl page) = let high = page.1 in inl (omega (arith, high))
 above s b low (inr (inl flag)) = inr (omega (arith, low, flag))
-above s b low (inr (inr (inl strobe))) = inr (omega (arith, low, strobe))
-above s b low (inr (inr (inr far))) = inr (omega (arith, low, far))
+above s b low (inr (inr far)) = inr (omega (arith, low, far))
 
 kept : (tables : ℕ → Bool) → ((b : ℕ) → tables b ≡ true → 0x4800 ≤ b) → (b : ℕ) → is_kept tables b ≡ true → Kept b
 kept tables rom b is = one (either (is_own b) _ is)
   where
-    five : ((is_ram b ≡ true) ⊎ ((nat_eq b 0x2002 || nat_eq b 0x3000) ≡ true)) → Kept b
-    five (inl ram) = inr (inr (inr (between 0x4000 0x4800 b ram).0))
-    five (inr more) = by (either (nat_eq b 0x2002) _ more)
-      where
-        by : ((nat_eq b 0x2002 ≡ true) ⊎ (nat_eq b 0x3000 ≡ true)) → Kept b
-        by (inl flag) = inr (inl (eqb-true b 0x2002 flag))
-        by (inr strobe) = inr (inr (inl (eqb-true b 0x3000 strobe)))
+    five : ((is_ram b ≡ true) ⊎ (nat_eq b 0x2002 ≡ true)) → Kept b
+    five (inl ram) = inr (inr (between 0x4000 0x4800 b ram).0)
+    five (inr flag) = inr (inl (eqb-true b 0x2002 flag))
 
-    four : ((is_hardware b ≡ true) ⊎ (tables b ≡ true)) → Kept b
-    four (inl hardware) = five (either (is_ram b) _ hardware)
-    four (inr table) = let high = rom b table in inr (inr (inr (omega (arith, high))))
+    four : ((is_readable b ≡ true) ⊎ (tables b ≡ true)) → Kept b
+    four (inl readable) = five (either (is_ram b) _ readable)
+    four (inr table) = let high = rom b table in inr (inr (omega (arith, high)))
 
-    three : ((is_code b ≡ true) ⊎ ((is_hardware b || tables b) ≡ true)) → Kept b
-    three (inl code) = let low = (between 0x6800 0x6A87 b code).0 in inr (inr (inr (omega (arith, low))))
-    three (inr more) = four (either (is_hardware b) _ more)
+    three : ((is_code b ≡ true) ⊎ ((is_readable b || tables b) ≡ true)) → Kept b
+    three (inl code) = let low = (between 0x6800 0x6A87 b code).0 in inr (inr (omega (arith, low)))
+    three (inr more) = four (either (is_readable b) _ more)
 
-    two : ((is_work b ≡ true) ⊎ ((is_code b || (is_hardware b || tables b)) ≡ true)) → Kept b
+    two : ((is_work b ≡ true) ⊎ ((is_code b || (is_readable b || tables b)) ≡ true)) → Kept b
     two (inl work) = let page = between 0x1B 0x21 b work in let low = page.0 in inl (omega (arith, low), page.1)
     two (inr more) = three (either (is_code b) _ more)
 
-    one : ((is_own b ≡ true) ⊎ ((is_work b || (is_code b || (is_hardware b || tables b))) ≡ true)) → Kept b
+    one : ((is_own b ≡ true) ⊎ ((is_work b || (is_code b || (is_readable b || tables b))) ≡ true)) → Kept b
     one (inl own) = let page = between 0x10 0x1B b own in let high = page.1 in inl (page.0, omega (arith, high))
     one (inr more) = two (either (is_work b) _ more)
 

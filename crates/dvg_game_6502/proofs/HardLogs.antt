@@ -1,8 +1,6 @@
 -- Outside the zero page and the stack, the calls of a session write the hardware alone.
-use Rattle.std.proofs.Common.{◌≡◌, ℕ, suc, ◌+◌, ◌*◌, ◌<◌, ◌≤◌, Bool, true, false, List, [], ◌∷◌}
-use Rattle.std.proofs.Common.{◌++◌}
-use Rattle.std.proofs.Common.{length, refl, sym, ap, ◌∙◌, subst, arith, eqb-true, le-leb, None}
-use Rattle.std.proofs.Common.{Some}
+use Rattle.std.proofs.Common.{◌≡◌, ℕ, suc, ◌+◌, ◌*◌, ◌<◌, ◌≤◌, Bool, true, false, List, [], ◌∷◌, ◌++◌}
+use Rattle.std.proofs.Common.{length, refl, sym, ap, ◌∙◌, subst, arith, eqb-true, le-leb, None, Some}
 use Rattle.std.specs.Prelude.{nat_eq, nat_lt, nat_le, ◌&&◌, ◌||◌, if◌then◌else◌}
 use Rattle.dvg_mem.specs.declared.half.Half.{Half}
 use Rattle.dvg_mem.specs.declared.half.Half.TheVariants.{H0, H1}
@@ -14,19 +12,17 @@ use Rattle.dvg_frame.proofs.Bytes.{addressed-length}
 use Rattle.dvg_frame.proofs.Cursors.{items_of_laid}
 use Rattle.dvg_driver.specs.declared.action.Action.TheVariants.{Peek, Wrote, Read, Sent, Idle}
 use Rattle.dvg_driver.specs.Script.{Item, Offered, Asked, Did, frame_writes, word_zero}
-use Rattle.dvg_driver.specs.Place.{Place, Start, Booting, Resting, Writing, Waiting, Sending}
-use Rattle.dvg_driver.specs.Place.{next_place}
+use Rattle.dvg_driver.specs.Place.{Place, Start, Booting, Resting, Writing, Waiting, Sending, next_place}
 use Rattle.dvg_driver.specs.Place.{place_of_life, with_left}
 use Rattle.dvg_driver.proofs.Places.{life_place, place_before, some_same}
 use Rattle.dvg_calls_6502.specs.Processor.{Access, Reads, Writes}
 use Rattle.dvg_calls_6502.specs.Board.{byte1_place, is_hardware, seen}
 use Rattle.dvg_calls_6502.specs.Tables.{table_of}
 use Rattle.dvg_calls_6502.specs.Calls as c
-use Rattle.dvg_calls_6502.specs.Calls.{Routine, Call, after, is_taken, Adds, AreShown, IsLifeOf}
-use Rattle.dvg_calls_6502.specs.Calls.{IsSession, IsSessionBy}
+use Rattle.dvg_calls_6502.specs.Calls.{Routine, Call, after, is_taken, Adds, AreShown, IsLifeOf, IsSession, IsSessionBy}
 use Rattle.dvg_calls_6502.specs.Programs.{Tells, renamed, with_drafts}
 use Rattle.dvg_calls_6502.proofs.Programs.{hindsight}
-use Rattle.dvg_calls_6502.proofs.Sessions.{calls_live}
+use Rattle.dvg_calls_6502.proofs.Sessions.{calls_live, head_same}
 use Rattle.dvg_game_6502.proofs.Claims.{AreHard}
 
 -- all these writes are in the vector RAM
@@ -201,9 +197,6 @@ ram_hard a less = by (nat_le 0x4000 (0x4000 + a)) (nat_lt (0x4000 + a) 0x4800)
     by false u v a b = absurd (cc)
     by true false v a b = absurd (cc)
 
-first_same : (x y : Access) → ◌≡◌ {A = List Access} (x ∷ []) (y ∷ []) → x ≡ y
-first_same x y is = cc
-
 address_same : (a b x y : ℕ) → Writes a x ≡ Writes b y → a ≡ b
 address_same a b x y is = cc
 
@@ -211,16 +204,16 @@ shown_hard : (item : Item) (items : List Item) (a byte : ℕ) (log : List Access
     → AreShown (item ∷ items) (Writes a byte ∷ log) → InRam item → is_hardware a ≡ true
 shown_hard (Did (Wrote b v)) items a byte log shown near =
     let same = address_same a (0x4000 + b) byte v
-    (first_same (Writes a byte) (Writes (0x4000 + b) v) shown.0) in
+    (head_same (Writes a byte) (Writes (0x4000 + b) v) shown.0) in
     ap is_hardware same ∙ ram_hard b near
 shown_hard (Did Sent) items a byte log shown near =
     let same = address_same a 0x3000 byte shown.0.0
-    (first_same (Writes a byte) (Writes 0x3000 shown.0.0) shown.0.1) in
+    (head_same (Writes a byte) (Writes 0x3000 shown.0.0) shown.0.1) in
     ap is_hardware same
 shown_hard (Did Peek) items a byte log shown near =
-    absurd (let e = first_same (Writes a byte) (Reads 0x4001 shown.0.0) shown.0.1 in cc)
+    absurd (let e = head_same (Writes a byte) (Reads 0x4001 shown.0.0) shown.0.1 in cc)
 shown_hard (Did (Read halted)) items a byte log shown near =
-    absurd (let e = first_same (Writes a byte) (Reads 0x2002 shown.0.0) shown.0.1 in cc)
+    absurd (let e = head_same (Writes a byte) (Reads 0x2002 shown.0.0) shown.0.1 in cc)
 shown_hard (Did Idle) items a byte log shown near = absurd (let e = shown.0 in cc)
 shown_hard (Offered half F) items a byte log shown near = absurd shown
 shown_hard Asked items a byte log shown near = absurd shown

@@ -1,31 +1,26 @@
 -- Each rule tells what its instruction leaves.
 use Rattle.std.proofs.Common.{◌≡◌, ◌⊎◌, inl, inr, ℕ, zero, suc, ◌+◌, ◌-◌, ◌*◌, ◌%◌, ◌<◌, ◌≤◌, Bool}
-use Rattle.std.proofs.Common.{true, false, refl, sym, ap}
-use Rattle.std.proofs.Common.{◌∙◌, subst, arith, eqb-true, leb-true, le-leb}
-use Rattle.std.proofs.lemmas.Bool.{ne_eqb}
+use Rattle.std.proofs.Common.{true, false, refl, sym, ap, ◌∙◌, subst, arith, eqb-true, leb-true, le-leb}
+use Rattle.std.proofs.lemmas.Bool.{cases_lt, ne_eqb}
 use Rattle.std.proofs.lemmas.Nat.{and_le_r}
-use Rattle.std.specs.Prelude.{nat_eq, nat_lt, nat_le, ◌||◌, bit_and, bit_or}
-use Rattle.dvg_calls_6502.specs.Processor.{Cpu, A, X, Y, Instr, Store, Change, ZeroPage, ZeroPageX}
-use Rattle.dvg_calls_6502.specs.Processor.{Absolute, Step}
-use Rattle.dvg_calls_6502.specs.Processor.{put, does, decoded, opcodes, found, Left, ShiftA, And, Or}
-use Rattle.dvg_calls_6502.specs.Processor.{Load}
+use Rattle.std.specs.Prelude.{nat_eq, nat_le, ◌||◌, bit_and, bit_or}
+use Rattle.dvg_calls_6502.specs.Processor.{Cpu, A, X, Y, Instr, Store, Change, ZeroPage, ZeroPageX, Absolute, Step}
+use Rattle.dvg_calls_6502.specs.Processor.{put, does, decoded, opcodes, found, Left, ShiftA, And, Or, Load}
 use Rattle.dvg_calls_6502.specs.Processor.{Immediate, Compare, IndirectIndexed}
-use Rattle.dvg_calls_6502.specs.Board.{is_hardware, is_own, is_ram}
+use Rattle.dvg_calls_6502.specs.Board.{is_hardware, is_own}
 use Rattle.dvg_calls_6502.specs.Amid.{is_work}
-use Rattle.dvg_game_rules.proofs.Facts.{both_true}
+use Rattle.dvg_calls_6502.proofs.Few.{high_plain}
 use Rattle.dvg_game_6502.proofs.Claims.{Claim, Ready, Low, Blank, Aims, Inside, Points}
 use Rattle.dvg_game_6502.proofs.Claims.{Also, Nothing, Is, UpTo, Small, Even, Page, Once, Twice, Says}
 use Rattle.dvg_game_6502.proofs.Claims.{Under, Over, Found}
-use Rattle.dvg_game_6502.proofs.Claims.{AreHard, Did, HoldsIn, MeansIn, is_quiet, is_storing, is_touched}
-use Rattle.dvg_game_6502.proofs.Claims.{leaves}
+use Rattle.dvg_game_6502.proofs.Claims.{AreHard, Did, HoldsIn, MeansIn, is_quiet, is_storing, is_touched, leaves}
 use Rattle.dvg_game_6502.proofs.Claims.{length_of}
 use Rattle.dvg_game_6502.proofs.Effects.{Goes, quiet, stored}
 use Rattle.dvg_game_6502.proofs.Rules.{Straight, plain, beside, far, axis, axis_down, lda, ldx, ldy}
 use Rattle.dvg_game_6502.proofs.Rules.{lda_phase, ldx_phase}
 use Rattle.dvg_game_6502.proofs.Rules.{ldy_phase, ldy_at, iny, sty_at, dey, once, twice, count, mask}
 use Rattle.dvg_game_6502.proofs.Rules.{double, page, lower}
-use Rattle.dvg_game_6502.proofs.Rules.{sta_phase, stx_phase, inc_phase, clear, aim, turn_page, store}
-use Rattle.dvg_game_6502.proofs.Rules.{cpy}
+use Rattle.dvg_game_6502.proofs.Rules.{sta_phase, stx_phase, inc_phase, clear, aim, turn_page, store, cpy}
 use Rattle.dvg_game_6502.proofs.Rules.{aside, kept, left, spared, stores_aside}
 
 -- up to 4, with bit 6 set
@@ -39,18 +34,11 @@ in_page (suc (suc (suc (suc (suc a))))) low = absurd (omega arith)
 
 -- an address of the hardware from 4000 on is one of the vector RAM
 ram_below : (b : ℕ) → 0x4000 ≤ b → is_hardware b ≡ true → b < 0x4800
-ram_below b high is = by (is_ram b) refl
+ram_below b high is = by (cases_lt b 0x4800)
   where
-    by : (t : Bool) → is_ram b ≡ t → b < 0x4800
-    by true ram = let two = both_true (nat_le 0x4000 b) (nat_lt b 0x4800) ram in leb-true
-        (suc b) 0x4800 two.1
-    by false none =
-        let flag : nat_eq b 0x2002 ≡ false =
-        ne_eqb b 0x2002 (λ same. absurd (omega (arith, same))) in
-        let strobe : nat_eq b 0x3000 ≡ false =
-        ne_eqb b 0x3000 (λ same. absurd (omega (arith, same))) in
-        absurd (let e = sym is ∙ ap (λ (t : Bool). t || (nat_eq b 0x2002 || nat_eq b 0x3000)) none
-        ∙ ap (λ (t : Bool). t || nat_eq b 0x3000) flag ∙ strobe in cc)
+    by : (b < 0x4800) ⊎ (0x4800 ≤ b) → b < 0x4800
+    by (inl less) = less
+    by (inr more) = absurd (let no = high_plain b more in cc)
 
 module _ (cpu : Cpu) (place : cpu.mem 0x13 < 256) where
   -- the claim: what is known after the instruction

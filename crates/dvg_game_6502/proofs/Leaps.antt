@@ -3,8 +3,7 @@ use Rattle.std.proofs.Common.{◌≡◌, ◌⊎◌, inl, inr, ℕ, ◌+◌, ◌�
 use Rattle.std.specs.Prelude.{None, nat_eq}
 use Rattle.dvg_calls_6502.specs.Processor
 use Rattle.dvg_calls_6502.specs.Processor.{Instr, Mode, Immediate, ZeroPage, ZeroPageX, ZeroPageY, Absolute, AbsoluteX}
-use Rattle.dvg_calls_6502.specs.Processor.{AbsoluteY}
-use Rattle.dvg_calls_6502.specs.Processor.{IndexedIndirect, IndirectIndexed}
+use Rattle.dvg_calls_6502.specs.Processor.{AbsoluteY, IndexedIndirect, IndirectIndexed}
 use Rattle.dvg_game_rules.specs.Kinds.{Sets, Kind, Quiet, Reads, Transfer, Stores, Push, PushFlags, Pull, PullFlags, Branch}
 use Rattle.dvg_game_rules.specs.Kinds.{Jump, Call, Return, Finish, Wild, kind, storing, taking}
 use Rattle.dvg_game_rules.specs.Machine.{State, calling, is_driver, reset_vector, restarting, word_at}

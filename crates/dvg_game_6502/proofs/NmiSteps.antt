@@ -1,26 +1,27 @@
 -- A play in an NMI that came amid a call of the driver: its steps, and its RTI.
 use Rattle.std.proofs.Common.{◌≡◌, ℕ, suc, ◌+◌, ◌*◌, ◌/◌, ◌%◌, ◌<◌, ◌≤◌, Bool, true, false, List}
 use Rattle.std.proofs.Common.{refl, sym, ap, ◌∙◌, subst, arith}
-use Rattle.std.specs.Prelude.{nat_eq, None, Some}
+use Rattle.std.specs.Prelude.{nat_eq, None}
 use Rattle.dvg_calls_6502.specs.Processor.{Cpu, bit_of, decoded, does, flags_byte, has_bit, opcodes, pulled}
 use Rattle.dvg_calls_6502.specs.Processor.{stack_place}
 use Rattle.dvg_calls_6502.specs.Amid.{changed, is_code}
 use Rattle.dvg_calls_6502.specs.Calls.{frame_of}
+use Rattle.dvg_calls_6502.proofs.Resuming.{bit_small, is_bit}
 use Rattle.dvg_game_rules.specs.Kinds.{Finish, kind_of}
 use Rattle.dvg_game_rules.specs.Machine.{Came, State, IsRun, calling, goes_home, reset_vector, restarting, restarts}
-use Rattle.dvg_game_rules.specs.Machine.{resumed_at}
-use Rattle.dvg_game_rules.specs.Machine.{step, steps, word_at}
+use Rattle.dvg_game_rules.specs.Machine.{resumed_at, step, steps, word_at}
 use Rattle.dvg_game_rules.specs.Machine as machine
 use Rattle.dvg_game_rules.specs.Safe.{IsSafe, IsSafeBy}
 use Rattle.dvg_game_rules.specs.Alike.{of_cpu}
 use Rattle.dvg_game_rules.proofs.Facts.{inside}
+use Rattle.dvg_game_rules.proofs.Early.{same_came}
 use Rattle.dvg_game_rules.proofs.Local.{ticked}
 use Rattle.dvg_game_6502.specs.Play
 use Rattle.dvg_game_6502.specs.Play.{AreBytes, done, fresh}
 use Rattle.dvg_game_6502.proofs.Along.{Followed, along, amid_stays, follow, is_finish, restarts_same}
 use Rattle.dvg_game_6502.proofs.Bearers.{Bearer}
 use Rattle.dvg_game_6502.proofs.DriverSteps.{two_levels}
-use Rattle.dvg_game_6502.proofs.GameSteps.{bit_small, outside_code, pushing}
+use Rattle.dvg_game_6502.proofs.GameSteps.{outside_code, pushing}
 use Rattle.dvg_game_6502.proofs.Guarded.{guard_is_spared, stack_spared}
 use Rattle.dvg_game_6502.proofs.Outside.{guard_is_inside, stack_inside}
 use Rattle.dvg_game_6502.proofs.Leaps.{calling_same, finishing, is_called, restarting_same, resume_is}
@@ -28,14 +29,7 @@ use Rattle.dvg_game_6502.proofs.Sessions.{unless_map}
 use Rattle.dvg_game_6502.proofs.Spares.{spares}
 use Rattle.dvg_game_6502.proofs.Stages.{Back, jmp, jsr, InDriver, InNmi, NotBlank, IsAccepted, safe_at}
 
-same_came : (one two : Came) → Some one ≡ Some two → one ≡ two
-same_came one two is = cc
-
 -- the flags that an NMI pushed
-is_bit : (b : Bool) → nat_eq (bit_of b) 1 ≡ b
-is_bit true = refl
-is_bit false = refl
-
 flag_back : (byte weight : ℕ) (flag : Bool) → byte / weight % 2 ≡ bit_of flag → has_bit weight byte ≡ flag
 flag_back byte weight flag has = ap (λ b. nat_eq b 1) has ∙ is_bit flag
 
@@ -47,7 +41,7 @@ pub record FlagsBack (cpu : Cpu) (byte : ℕ) : Type 0 where
   pub z : has_bit 2 byte ≡ cpu.z
   pub c : has_bit 1 byte ≡ cpu.c
 
-flags_back : (cpu : Cpu) → FlagsBack cpu (flags_byte false cpu)
+pub flags_back : (cpu : Cpu) → FlagsBack cpu (flags_byte false cpu)
 flags_back cpu =
     let n = bit_small cpu.n in
     let v = bit_small cpu.v in

@@ -1,6 +1,5 @@
 -- What is noted at each address of the driver's code but dvg_copy's: each row is proved.
-use Rattle.std.specs.Prelude.{ℕ, true, false, List, [], ◌∷◌, ◌++◌, Option, None, Some, nat_eq}
-use Rattle.std.specs.Prelude.{if◌then◌else◌}
+use Rattle.std.specs.Prelude.{ℕ, true, false, List, [], ◌∷◌, ◌++◌, Option, None, Some, nat_eq, if◌then◌else◌}
 use Rattle.dvg_calls_6502.specs.Processor.{A, X, Y}
 use Rattle.dvg_game_6502.proofs.Claims.{Claim, Unknown, Ready, Sized, Low, Blank, Aims, Inside, Note}
 use Rattle.dvg_game_6502.proofs.Claims.{Also, Nothing, Is, UpTo, Small, Even, Page, Once, Twice, Says}

@@ -5,13 +5,13 @@ use Rattle.std.proofs.Common.{sym, ap, ◌∙◌, subst, leb-true}
 use Rattle.std.specs.Prelude.{if◌then◌else◌, nat_eq, nat_le, nat_lt, ◌&&◌, ◌||◌}
 use Rattle.std.proofs.lemmas.Bool.{or_left}
 use Rattle.dvg_calls_6502.specs.Processor.{Cpu, Access, at_return, decoded, opcodes, step, turn}
-use Rattle.dvg_calls_6502.specs.Amid.{changed, guards, is_code, is_kept, is_work}
-use Rattle.dvg_calls_6502.specs.Board.{is_hardware, is_own}
+use Rattle.dvg_calls_6502.specs.Amid.{changed, guards, is_code, is_kept}
 use Rattle.dvg_calls_6502.specs.Calls as calls_of
 use Rattle.dvg_calls_6502.specs.Calls.{Routine, after, bounds, call_of, entry, frame_of, has_returned, is_offered, is_table}
 use Rattle.dvg_calls_6502.specs.Calls.{UnlessReset}
 use Rattle.dvg_calls_6502.specs.Programs.{Tells}
 use Rattle.dvg_calls_6502.specs.Routines.{Enters}
+use Rattle.dvg_calls_6502.proofs.Steady.{code_kept}
 use Rattle.dvg_game_rules.proofs.Facts.{both_true}
 use Rattle.dvg_game_rules.proofs.Memory.{either}
 use Rattle.dvg_game_6502.specs.Play.{done, fresh}
@@ -23,14 +23,7 @@ use Rattle.dvg_game_6502.proofs.Sessions.{further, further_turns, session_begins
 -- the code is guarded
 pub code_guarded : (tables : ℕ → Bool) (s now b : ℕ) → is_code b ≡ true
     → guards (is_kept tables) s now b ≡ true
-code_guarded tables s now b is = or_left (is_kept tables b) _
-    (by (is_own b) (is_work b) (is_code b) (is_hardware b || tables b) is)
-  where
-    by : (t u v w : Bool) → v ≡ true → (t || (u || (v || w))) ≡ true
-    by true u v w is = refl
-    by false true v w is = refl
-    by false false true w is = refl
-    by false false false w is = absurd (cc)
+code_guarded tables s now b is = or_left (is_kept tables b) _ (code_kept tables b is)
 
 module _ {R : List ℕ} {routine : Routine} {s : ℕ} {calls : List calls_of.Call} {cpu : Cpu} {log : List Access}
     {flags : ℕ → ℕ} (is : IsIn R routine s calls cpu log flags) where

@@ -1,17 +1,16 @@
 -- What is outside turns, at any time: a play stands as it stood.
-use Rattle.std.proofs.Common.{◌≡◌, ◌⊎◌, inl, inr, ℕ, ◌+◌, ◌<◌, ◌≤◌, Bool, true, false, List, refl, ◌∙◌}
-use Rattle.std.proofs.Common.{arith, eqb-true}
+use Rattle.std.proofs.Common.{◌≡◌, ◌⊎◌, inl, inr, ℕ, ◌+◌, ◌<◌, ◌≤◌, Bool, true, false, List, refl, ◌∙◌, arith, eqb-true}
 use Rattle.std.specs.Prelude.{◌&&◌, ◌||◌, not, nat_eq}
 use Rattle.std.proofs.lemmas.Bool.{or_left, or_right}
 use Rattle.dvg_calls_6502.specs.Processor.{Cpu, Access, stack_place}
 use Rattle.dvg_calls_6502.specs.Amid as driver
 use Rattle.dvg_calls_6502.specs.Amid.{changed, guards, is_kept, is_work}
-use Rattle.dvg_calls_6502.specs.Board.{is_hardware, is_own, is_ram}
+use Rattle.dvg_calls_6502.specs.Board.{is_own, is_ram, is_readable}
 use Rattle.dvg_calls_6502.specs.Calls.{Call, Routine}
 use Rattle.dvg_game_rules.specs.Machine.{State, IsTurned, is_outside, turns}
 use Rattle.dvg_game_rules.proofs.Facts.{both_true}
 use Rattle.dvg_game_rules.proofs.Memory.{between, either}
-use Rattle.dvg_game_rules.proofs.Turning.{hardware_inside, low_inside, rom_inside}
+use Rattle.dvg_game_rules.proofs.Turning.{low_inside, readable_inside, rom_inside}
 use Rattle.dvg_game_6502.specs.Play.{AreBytes}
 use Rattle.dvg_game_6502.specs.Open.{InRom}
 use Rattle.dvg_game_6502.proofs.Bearers.{Bearer}
@@ -30,27 +29,27 @@ needed_inside b is = by (either (is_own b) (is_ram b) is)
   where
     by : (is_own b ≡ true) ⊎ (is_ram b ≡ true) → is_outside b ≡ false
     by (inl own) = own_inside b own
-    by (inr ram) = hardware_inside b (or_left (is_ram b) _ ram)
+    by (inr ram) = readable_inside b (or_left (is_ram b) _ ram)
 
 -- and so is what is guarded amid a call
 pub guard_is_inside : (tables : ℕ → Bool) → ((b : ℕ) → tables b ≡ true → InRom b) → (s now b : ℕ)
     → guards (is_kept tables) s now b ≡ true → is_outside b ≡ false
 guard_is_inside tables in_rom s now b is = one (either (is_kept tables b) _ is)
   where
-    last : (is_hardware b ≡ true) ⊎ (tables b ≡ true) → is_outside b ≡ false
-    last (inl hardware) = hardware_inside b hardware
+    last : (is_readable b ≡ true) ⊎ (tables b ≡ true) → is_outside b ≡ false
+    last (inl readable) = readable_inside b readable
     last (inr table) = let two = in_rom b table in rom_inside b two.0 two.1
 
-    four : (driver.is_code b ≡ true) ⊎ ((is_hardware b || tables b) ≡ true) → is_outside b ≡ false
+    four : (driver.is_code b ≡ true) ⊎ ((is_readable b || tables b) ≡ true) → is_outside b ≡ false
     four (inl code) = let two = between 0x6800 0x6A87 b code in let low = two.0 in let high = two.1 in
         rom_inside b (omega (arith, low)) (omega (arith, high))
-    four (inr more) = last (either (is_hardware b) _ more)
+    four (inr more) = last (either (is_readable b) _ more)
 
-    three : (is_work b ≡ true) ⊎ ((driver.is_code b || (is_hardware b || tables b)) ≡ true) → is_outside b ≡ false
+    three : (is_work b ≡ true) ⊎ ((driver.is_code b || (is_readable b || tables b)) ≡ true) → is_outside b ≡ false
     three (inl work) = let high = (between 0x1B 0x21 b work).1 in low_inside b (omega (arith, high))
     three (inr more) = four (either (driver.is_code b) _ more)
 
-    two : (is_own b ≡ true) ⊎ ((is_work b || (driver.is_code b || (is_hardware b || tables b))) ≡ true)
+    two : (is_own b ≡ true) ⊎ ((is_work b || (driver.is_code b || (is_readable b || tables b))) ≡ true)
         → is_outside b ≡ false
     two (inl own) = own_inside b own
     two (inr more) = three (either (is_work b) _ more)

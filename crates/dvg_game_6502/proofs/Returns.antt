@@ -1,23 +1,24 @@
 -- A call of the driver comes to its RTS, and the play is in the game again.
 use Rattle.std.proofs.Common.{◌≡◌, ◌⊎◌, inl, inr, ℕ, zero, suc, ◌+◌, ◌*◌, ◌/◌, ◌%◌, ◌<◌, ◌≤◌, Bool, true, false, List}
-use Rattle.std.proofs.Common.{◌∷◌, refl, sym, ap, ◌∙◌, subst, arith, le-leb, eqb-true}
+use Rattle.std.proofs.Common.{◌∷◌, refl, sym, ap, ◌∙◌, subst, arith, eqb-true}
 use Rattle.std.specs.Prelude.{◌&&◌, ◌||◌, nat_eq, nat_le, nat_lt, if◌then◌else◌, None, Some, Option, drop, length}
 use Rattle.std.proofs.lemmas.Bool.{or_left, or_right}
 use Rattle.dvg_calls_6502.specs.Processor.{Cpu, Access, at_return, decoded, does, opcodes, stack_place}
 use Rattle.dvg_calls_6502.specs.Processor as processor
 use Rattle.dvg_calls_6502.specs.Amid as driver
-use Rattle.dvg_calls_6502.specs.Amid.{is_kept, is_work}
-use Rattle.dvg_calls_6502.specs.Board.{is_hardware, is_own, is_ram}
+use Rattle.dvg_calls_6502.specs.Amid.{is_kept}
+use Rattle.dvg_calls_6502.specs.Board.{is_own, is_ram}
 use Rattle.dvg_calls_6502.specs.Calls.{Routine, Call, after, bounds, entry, frame_after, frame_of, is_offered}
 use Rattle.dvg_calls_6502.specs.Calls.{is_table, is_taken, put_on, taken_bounds, UnlessReset}
 use Rattle.dvg_calls_6502.specs.Calls as calls_of
 use Rattle.dvg_calls_6502.specs.Routines.{Put, Pair, Labs, Vector, put_by}
 use Rattle.dvg_calls_6502.specs.Tables.{table_of}
+use Rattle.dvg_calls_6502.proofs.Interrupted.{within}
+use Rattle.dvg_calls_6502.proofs.Sessions.{kept_own, kept_ram, kept_table}
 use Rattle.dvg_game_rules.specs.Kinds.{kind_of}
 use Rattle.dvg_game_rules.specs.Kinds as kinds
 use Rattle.dvg_game_rules.specs.Machine.{Choice, State, IsRun, blank_after, calling, driven, is_driver, left_by, returned}
-use Rattle.dvg_game_rules.specs.Machine.{step, steps}
-use Rattle.dvg_game_rules.specs.Machine.{called, word_at}
+use Rattle.dvg_game_rules.specs.Machine.{step, steps, called, word_at}
 use Rattle.dvg_game_rules.specs.Machine as machine
 use Rattle.dvg_game_rules.specs.Alike.{AreAlike, of_cpu}
 use Rattle.dvg_game_rules.proofs.Facts.{both_true, inside}
@@ -30,34 +31,26 @@ use Rattle.dvg_game_6502.proofs.Bearers.{Bearer, Ended}
 use Rattle.dvg_game_6502.proofs.DriverSteps.{choice, left_as, safe}
 use Rattle.dvg_game_6502.proofs.Stages.{Back, jmp, jsr, InDriver, InGame, NotBlank, IsAccepted}
 
-in_bounds : (low high b : ℕ) → low ≤ b → b < high → (nat_le low b && nat_lt b high) ≡ true
-in_bounds low high b one two = ap (λ t. t && nat_lt b high) (le-leb low b one) ∙ le-leb (suc b) high two
-
 -- what is needed between calls is kept amid them
 pub needed_kept : (tables : ℕ → Bool) (b : ℕ) → (is_own b || is_ram b) ≡ true → is_kept tables b ≡ true
 needed_kept tables b is = by (either (is_own b) (is_ram b) is)
   where
     by : (is_own b ≡ true) ⊎ (is_ram b ≡ true) → is_kept tables b ≡ true
-    by (inl own) = or_left (is_own b) _ own
-    by (inr ram) = or_right (is_own b) _ (or_right (is_work b) _ (or_right (driver.is_code b) _
-        (or_left (is_hardware b) (tables b) (or_left (is_ram b) _ ram))))
-
-pub table_kept : (tables : ℕ → Bool) (b : ℕ) → tables b ≡ true → is_kept tables b ≡ true
-table_kept tables b is = or_right (is_own b) _ (or_right (is_work b) _ (or_right (driver.is_code b) _
-    (or_right (is_hardware b) (tables b) is)))
+    by (inl own) = kept_own tables b own
+    by (inr ram) = kept_ram tables b ram
 
 -- a table that stands after a call was one of its own
 pub covers : (routine : Routine) (call : Call) (old : ℕ × ℕ) (b : ℕ) → (taken_bounds routine call old).0 ≤ b
     → b < (taken_bounds routine call old).1
     → ((nat_le old.0 b && nat_lt b old.1) || is_offered routine call.from b) ≡ true
 covers calls_of.Reset call old b low high = absurd (omega (arith, high))
-covers calls_of.Tick call old b low high = or_left _ false (in_bounds old.0 old.1 b low high)
-covers calls_of.Ticks call old b low high = or_left _ false (in_bounds old.0 old.1 b low high)
-covers calls_of.Run call old b low high = or_left _ false (in_bounds old.0 old.1 b low high)
-covers calls_of.Redraw call old b low high = or_left _ false (in_bounds old.0 old.1 b low high)
-covers (calls_of.Open F) call old b low high = or_left _ false (in_bounds old.0 old.1 b low high)
-covers (calls_of.Puts part) call old b low high = or_left _ false (in_bounds old.0 old.1 b low high)
-covers calls_of.Close call old b low high = or_left _ false (in_bounds old.0 old.1 b low high)
+covers calls_of.Tick call old b low high = or_left _ false (within old.0 old.1 b low high)
+covers calls_of.Ticks call old b low high = or_left _ false (within old.0 old.1 b low high)
+covers calls_of.Run call old b low high = or_left _ false (within old.0 old.1 b low high)
+covers calls_of.Redraw call old b low high = or_left _ false (within old.0 old.1 b low high)
+covers (calls_of.Open F) call old b low high = or_left _ false (within old.0 old.1 b low high)
+covers (calls_of.Puts part) call old b low high = or_left _ false (within old.0 old.1 b low high)
+covers calls_of.Close call old b low high = or_left _ false (within old.0 old.1 b low high)
 covers (calls_of.Offer F) call old b low high = by (is_taken call) low high
   where
     t : ℕ
@@ -67,8 +60,8 @@ covers (calls_of.Offer F) call old b low high = by (is_taken call) low high
         → b < (if u then (t + 2, t + 2 + length (table_of F)) else old).1
         → ((nat_le old.0 b && nat_lt b old.1) || is_offered (calls_of.Offer F) call.from b) ≡ true
     by true low high = or_right (nat_le old.0 b && nat_lt b old.1) _
-        (in_bounds t (t + 2 + length (table_of F)) b (omega (arith, low)) high)
-    by false low high = or_left _ (is_offered (calls_of.Offer F) call.from b) (in_bounds old.0 old.1 b low high)
+        (within t (t + 2 + length (table_of F)) b (omega (arith, low)) high)
+    by false low high = or_left _ (is_offered (calls_of.Offer F) call.from b) (within old.0 old.1 b low high)
 
 -- a frame isn't blank where the checker says so
 puts_more : (now : List ℕ) (frame : Option (ℕ × List ℕ)) → NotBlank frame → NotBlank (put_on now frame)
@@ -160,9 +153,6 @@ module _ {R : List ℕ} {B : Bearer R} {rom : ℕ → ℕ} {start : ℕ} (game :
 
   left : (b : ℕ) → left_by d.st.s cpu.mem d.st.mem b ≡ cpu.mem b
   left b = left_as game d b
-
-  at_stack : (k : ℕ) → k ≤ 255 → stack_place k ≡ 0x100 + k
-  at_stack k small = omega (arith, small)
 
   place : d.st.pc + 3 < 65536
   place = let high = (inside d.st.pc (safe game d).inside).1 in omega (arith, high)
@@ -298,7 +288,7 @@ module _ {R : List ℕ} {B : Bearer R} {rom : ℕ → ℕ} {start : ℕ} (game :
         end.session,
         end.over,
         (λ b needed. kept b (needed_kept (is_table is.call d.calls) b needed)),
-        (λ b low high. kept b (table_kept (is_table is.call d.calls) b (in_table b low high))),
+        (λ b low high. kept b (kept_table (is_table is.call d.calls) b (in_table b low high))),
       );
       frame = λ blank. subst (λ r. NotBlank (frame_after r end.last (frame_of d.calls))) (sym now_is)
           (frame_on d.routine end.last (frame_of d.calls) d.st.blank

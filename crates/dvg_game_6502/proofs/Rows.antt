@@ -1,6 +1,5 @@
 -- A row: what one instruction of the driver makes of its note serves the notes of where it leads.
-use Rattle.std.proofs.Common.{◌≡◌, ℕ, ◌+◌, ◌-◌, ◌*◌, Bool, true, false, List, [], ◌∷◌, ◌++◌, refl}
-use Rattle.std.proofs.Common.{sym, ap, ◌∙◌}
+use Rattle.std.proofs.Common.{◌≡◌, ℕ, ◌+◌, ◌-◌, ◌*◌, Bool, true, false, List, [], ◌∷◌, ◌++◌, refl, sym, ap, ◌∙◌}
 use Rattle.std.proofs.Common.{subst, eqb-true, Some}
 use Rattle.std.specs.Prelude.{nat_eq, nat_lt, ◌||◌, not, slice_index, if◌then◌else◌}
 use Rattle.dvg_calls_6502.specs.Processor.{decoded, opcodes, target}
@@ -50,7 +49,7 @@ pub rows_of_both : {one two : List (ℕ × Note)} → Rows one → Rows two → 
 rows_of_both ends b = b
 rows_of_both (row ▸ rows) b = row ▸ rows_of_both rows b
 
-some_same : {x y : Note} → Some x ≡ Some y → x ≡ y
+pub some_same : {x y : Note} → Some x ≡ Some y → x ≡ y
 some_same is = cc
 
 -- the row of an address

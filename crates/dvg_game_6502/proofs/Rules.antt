@@ -1,7 +1,5 @@
 -- What one instruction of the driver makes of what is known.
-use Rattle.std.proofs.Common.{◌≡◌, ◌⊎◌, ℕ, suc, ◌+◌, ◌*◌, ◌%◌, ◌<◌, Bool, true, false, refl, sym}
-use Rattle.std.proofs.Common.{ap, ◌∙◌}
-use Rattle.std.proofs.Common.{subst}
+use Rattle.std.proofs.Common.{◌≡◌, ◌⊎◌, ℕ, suc, ◌+◌, ◌*◌, ◌%◌, ◌<◌, Bool, true, false, refl, sym, ap, ◌∙◌, subst}
 use Rattle.std.proofs.lemmas.Bool.{ne_eqb}
 use Rattle.std.specs.Prelude.{nat_eq, nat_lt, ◌&&◌, not, if◌then◌else◌}
 use Rattle.dvg_calls_6502.specs.Processor.{Cpu, A, X, Y, Instr, Store, Change, ZeroPage, Absolute}
@@ -9,10 +7,8 @@ use Rattle.dvg_calls_6502.specs.Processor.{put, decoded, opcodes}
 use Rattle.dvg_game_rules.proofs.Facts.{both_true, not_true}
 use Rattle.dvg_game_6502.proofs.Claims.{Claim, Ready, Low, Blank, Aims, Inside}
 use Rattle.dvg_game_6502.proofs.Claims.{Also, Nothing, Is, UpTo, Small, Even, Page, Once, Twice, Says}
-use Rattle.dvg_game_6502.proofs.Claims.{Under, Over, Found}
-use Rattle.dvg_game_6502.proofs.Claims.{Did, Holds, HoldsIn, MeansIn, is_known, is_quiet}
-use Rattle.dvg_game_6502.proofs.Claims.{is_storing, is_touched, leaves}
-use Rattle.dvg_game_6502.proofs.Claims.{length_of, sets}
+use Rattle.dvg_game_6502.proofs.Claims.{Under, Over, Found, Did, Holds, HoldsIn, MeansIn, is_known, is_quiet}
+use Rattle.dvg_game_6502.proofs.Claims.{is_storing, is_touched, leaves, length_of, sets}
 use Rattle.dvg_game_6502.proofs.Effects.{Goes}
 
 -- a store there leaves what is known, and is allowed

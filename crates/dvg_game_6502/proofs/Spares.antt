@@ -1,24 +1,22 @@
 -- What an NMI's routine leaves as it was.
 use Rattle.std.proofs.Common.{◌≡◌, ℕ, ◌+◌, ◌/◌, ◌%◌, ◌<◌, ◌≤◌, ◌⊎◌, inl, inr, Bool, true, false, refl, sym, ap, ◌∙◌}
 use Rattle.std.proofs.Common.{subst, arith}
-use Rattle.std.specs.Prelude.{if◌then◌else◌, Option, None, Some}
+use Rattle.std.specs.Prelude.{if◌then◌else◌, None, Some}
 use Rattle.dvg_calls_6502.specs.Processor.{A, X, Y, put, stack_place}
 use Rattle.dvg_game_rules.specs.Kinds.{Nothing, Only, Kind, Quiet, Reads, Transfer, Stores, Push, PushFlags, Pull, PullFlags}
 use Rattle.dvg_game_rules.specs.Kinds.{Branch, Jump, Call, Return, Finish, Wild, kind_of}
 use Rattle.dvg_game_rules.specs.Machine.{State, Came, Choice, IsRun, does, restarting, is_driver, address}
-use Rattle.dvg_game_rules.specs.Machine.{word_at, resumed_at, goes_home, returned, driven, called}
+use Rattle.dvg_game_rules.specs.Machine.{word_at, resumed_at, returned, driven, called}
 use Rattle.dvg_game_rules.specs.Checker.{Notes, is_free, accepts, accepts_game}
 use Rattle.dvg_game_rules.specs.Safe.{MayWrite, IsSafeBy, IsCalled, ComesBack, InCase}
 use Rattle.dvg_game_rules.proofs.Facts.{both_true}
+use Rattle.dvg_game_rules.proofs.Between.{home_mem}
+use Rattle.dvg_game_rules.proofs.Early.{same_came}
 use Rattle.dvg_game_rules.proofs.Memory.{other}
 use Rattle.dvg_game_rules.proofs.Local.{ticked}
 use Rattle.dvg_game_rules.proofs.Standing.{Good, Runs, Handles, low as low_of}
 use Rattle.dvg_game_rules.proofs.Whole.{checked_is_safe, good_run}
 use Rattle.dvg_game_6502.specs.Interrupt.{IsSpared, NmiSpares}
-
-home_mem : (o : Option (ℕ × ℕ)) (st : State) (b : ℕ) → (goes_home o st).mem b ≡ st.mem b
-home_mem None st b = refl
-home_mem (Some place) st b = refl
 
 -- one instruction of it
 module _ (st : State) (came : Came) (amid : st.amid ≡ Some came) (low : st.s + 3 ≤ came.s) (high : came.s ≤ 255)
@@ -90,9 +88,6 @@ module _ (st : State) (came : Came) (amid : st.amid ≡ Some came) (low : st.s +
   leaves Finish choice safe go = home_mem st.home
       (record (ticked st) { pc = resumed_at st; s = (st.s + 3) % 256; amid = None; home = None }) b
   leaves Wild choice safe go = absurd safe
-
-same_came : (one two : Came) → Some one ≡ Some two → one ≡ two
-same_came one two is = cc
 
 module _ (rom : ℕ → ℕ) (start : ℕ) (notes : Notes) (accepted : accepts rom start notes ≡ true) where
   good : (st : State) → IsRun rom start st → Good rom notes st

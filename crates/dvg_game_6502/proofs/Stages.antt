@@ -1,6 +1,5 @@
 -- Where a play stands, whatever bears its calls: in the game, in a call of the driver, or in an NMI that came amid one.
-use Rattle.std.specs.Prelude.{◌≡◌, ◌⊎◌, ℕ, ◌+◌, ◌/◌, ◌%◌, ◌<◌, ◌≤◌, Bool, true, false, List, Option}
-use Rattle.std.specs.Prelude.{None, Some}
+use Rattle.std.specs.Prelude.{◌≡◌, ◌⊎◌, ℕ, ◌+◌, ◌/◌, ◌%◌, ◌<◌, ◌≤◌, Bool, true, false, List, Option, None, Some}
 use Rattle.dvg_calls_6502.specs.Processor.{Cpu, Access, flags_byte}
 use Rattle.dvg_calls_6502.specs.Amid.{is_code}
 use Rattle.dvg_calls_6502.specs.Calls.{Routine, Call, bounds, entry, frame_of, UnlessReset}

@@ -1,24 +1,18 @@
 -- Where a call of the driver is, and what is known there.
-use Rattle.std.proofs.Common.{◌≡◌, ◌⊎◌, inl, inr, ℕ, suc, ◌+◌, ◌%◌, ◌<◌, ◌≤◌, Bool, true, false}
-use Rattle.std.proofs.Common.{List, [], ◌∷◌}
+use Rattle.std.proofs.Common.{◌≡◌, ◌⊎◌, inl, inr, ℕ, ◌+◌, ◌%◌, ◌<◌, ◌≤◌, Bool, true, false, List, [], ◌∷◌}
 use Rattle.std.proofs.Common.{refl, sym, ap, ◌∙◌, arith, eqb-true, leb-true, Some}
-use Rattle.std.proofs.lemmas.Bool.{ne_eqb}
 use Rattle.std.specs.Prelude.{nat_eq, nat_lt, nat_le, ◌&&◌, ◌||◌, if◌then◌else◌}
-use Rattle.dvg_calls_6502.specs.Processor.{Cpu, stack_place}
-use Rattle.dvg_calls_6502.specs.Processor.{word_at}
+use Rattle.dvg_calls_6502.specs.Processor.{Cpu, stack_place, word_at}
 use Rattle.dvg_calls_6502.specs.Amid.{is_code, is_work}
-use Rattle.dvg_calls_6502.specs.Board.{is_hardware, is_own, is_ram}
+use Rattle.dvg_calls_6502.specs.Board.{is_hardware, is_own}
+use Rattle.dvg_calls_6502.proofs.Few.{high_plain, low_plain, outside}
 use Rattle.dvg_game_rules.proofs.Facts.{both_true}
 use Rattle.dvg_game_6502.specs.Stays.{is_written}
-use Rattle.dvg_game_6502.proofs.Claims.{HoldsIn, MeansIn, Note, Nothing, Ready}
-use Rattle.dvg_game_6502.proofs.Claims.{is_known, is_touched}
+use Rattle.dvg_game_6502.proofs.Claims.{HoldsIn, MeansIn, Note, Nothing, Ready, is_known, is_touched}
 use Rattle.dvg_game_6502.proofs.Notes.{lookup, noted, notes, outer}
-use Rattle.dvg_game_6502.proofs.Rows.{Rows, byte_at}
-use Rattle.dvg_game_6502.proofs.Rows.{rows_of_both}
-use Rattle.dvg_game_6502.proofs.TickRows.{burst_rows, reset_rows, run_rows, tick_rows, ticks_rows}
-use Rattle.dvg_game_6502.proofs.TickRows.{write_rows}
-use Rattle.dvg_game_6502.proofs.FrameRows.{axes_rows, close_rows, offer_rows, pair_rows, put_rows}
-use Rattle.dvg_game_6502.proofs.FrameRows.{vector_rows}
+use Rattle.dvg_game_6502.proofs.Rows.{Rows, byte_at, rows_of_both}
+use Rattle.dvg_game_6502.proofs.TickRows.{burst_rows, reset_rows, run_rows, tick_rows, ticks_rows, write_rows}
+use Rattle.dvg_game_6502.proofs.FrameRows.{axes_rows, close_rows, offer_rows, pair_rows, put_rows, vector_rows}
 
 -- S is as where the call began; or it is two lower, and above it stands where dvg_tick returns to
 pub data Level (s : ℕ) (within : Bool) (cpu : Cpu) : Type 0 where
@@ -68,48 +62,18 @@ pub noted_is_code : (at : ℕ) (note : Note) → noted at ≡ Some note → is_c
 noted_is_code at note is = code_of notes at note refl is
 
 -- the code and the stack aren't touched
-outside : (low high b : ℕ) → high ≤ b → (nat_le low b && nat_lt b high) ≡ false
-outside low high b above = by (nat_le low b) (nat_lt b high) refl
-  where
-    by : (t u : Bool) → nat_lt b high ≡ u → (t && u) ≡ false
-    by true true is = absurd (let less = leb-true (suc b) high is in omega (arith, less, above))
-    by true false is = refl
-    by false u is = refl
-
-under : (low high b : ℕ) → b < low → (nat_le low b && nat_lt b high) ≡ false
-under low high b less = by (nat_le low b) (nat_lt b high) refl
-  where
-    by : (t u : Bool) → nat_le low b ≡ t → (t && u) ≡ false
-    by true u is = absurd (let above = leb-true low b is in omega (arith, less, above))
-    by false u is = refl
-
-neither : (t u v w x : Bool) → t ≡ false → u ≡ false → v ≡ false → w ≡ false → x ≡ false
-    → (t || (u || (v || (w || x)))) ≡ false
-neither false false false false false a b c d e = refl
-neither true u v w x a b c d e = absurd (cc)
-neither false true v w x a b c d e = absurd (cc)
-neither false false true w x a b c d e = absurd (cc)
-neither false false false true x a b c d e = absurd (cc)
-neither false false false false true a b c d e = absurd (cc)
+neither : (t u v : Bool) → t ≡ false → u ≡ false → v ≡ false → (t || (u || v)) ≡ false
+neither false false v a b c = c
+neither true u v a b c = absurd (cc)
+neither false true v a b c = absurd (cc)
 
 pub untouched : (b : ℕ) → 0x21 ≤ b → (b < 0x2002) ⊎ (0x4800 ≤ b) → is_touched b ≡ false
-untouched b above far = neither (is_own b) (is_work b) (is_ram b) (nat_eq b 0x2002)
-    (nat_eq b 0x3000)
-    (outside 0x10 0x1B b (omega arith)) (outside 0x1B 0x21 b above) (ram far)
-    (ne_eqb b 0x2002 (flag far))
-    (ne_eqb b 0x3000 (strobe far))
+untouched b above far = neither (is_own b) (is_work b) (is_hardware b) (outside 0x10 0x1B b (omega arith))
+    (outside 0x1B 0x21 b above) (plain far)
   where
-    ram : (b < 0x2002) ⊎ (0x4800 ≤ b) → is_ram b ≡ false
-    ram (inl low) = under 0x4000 0x4800 b (omega arith)
-    ram (inr high) = outside 0x4000 0x4800 b high
-
-    flag : (b < 0x2002) ⊎ (0x4800 ≤ b) → b ≡ 0x2002 → ⊥
-    flag (inl low) same = omega arith
-    flag (inr high) same = omega arith
-
-    strobe : (b < 0x2002) ⊎ (0x4800 ≤ b) → b ≡ 0x3000 → ⊥
-    strobe (inl low) same = omega arith
-    strobe (inr high) same = omega arith
+    plain : (b < 0x2002) ⊎ (0x4800 ≤ b) → is_hardware b ≡ false
+    plain (inl low) = low_plain b low
+    plain (inr high) = high_plain b high
 
 pub code_untouched : (b : ℕ) → is_code b ≡ true → is_touched b ≡ false
 code_untouched b is = let two = both_true (nat_le 0x6800 b) (nat_lt b 0x6A87) is in

@@ -1,11 +1,9 @@
 -- The rows of dvg_reset, dvg_run, dvg_ticks and dvg_tick.
 use Rattle.std.proofs.Common.{refl}
 use Rattle.dvg_game_6502.proofs.Notes.{reset, run, burst, ticks, tick, write}
-use Rattle.dvg_game_6502.proofs.Rules.{plain, beside, far, lda, lda_phase, ldx_phase, ldy_at, iny}
-use Rattle.dvg_game_6502.proofs.Rules.{sty_at, count}
+use Rattle.dvg_game_6502.proofs.Rules.{plain, beside, far, lda, lda_phase, ldx_phase, ldy_at, iny, sty_at, count}
 use Rattle.dvg_game_6502.proofs.Rules.{lower, sta_phase, inc_phase, turn_page, store}
-use Rattle.dvg_game_6502.proofs.Forks.{either, busy_a, busy_x, none, same, low_ready, aims_ready}
-use Rattle.dvg_game_6502.proofs.Forks.{inside_aims, as_is}
+use Rattle.dvg_game_6502.proofs.Forks.{either, busy_a, busy_x, none, same, low_ready, aims_ready, inside_aims, as_is}
 use Rattle.dvg_game_6502.proofs.Forks.{nothing}
 use Rattle.dvg_game_6502.proofs.Rows.{Rows, ◌▸◌, ends, goes_on, forks, jumps, calls, returns, to}
 

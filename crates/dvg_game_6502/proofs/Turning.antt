@@ -1,25 +1,21 @@
 -- A step of a call of the driver leads to what is noted, and writes only what it may.
 use Rattle.std.proofs.Common.{◌≡◌, ◌⊎◌, inl, inr, ℕ, suc, ◌+◌, ◌*◌, ◌/◌, ◌%◌, ◌<◌, ◌≤◌, Bool, true}
-use Rattle.std.proofs.Common.{false, refl, sym, ap}
-use Rattle.std.proofs.Common.{◌∙◌, subst, arith, eq-eqb, leb-true, le-leb, Some}
-use Rattle.std.proofs.lemmas.Bool.{ne_eqb}
+use Rattle.std.proofs.Common.{false, refl, sym, ap, ◌∙◌, subst, arith, eq-eqb, leb-true, le-leb, Some}
+use Rattle.std.proofs.lemmas.Bool.{and_from, ne_eqb}
 use Rattle.std.specs.Prelude.{nat_eq, nat_lt, nat_le, ◌&&◌, ◌||◌, not, if◌then◌else◌}
 use Rattle.dvg_calls_6502.specs.Processor.{Cpu, at_return, decoded, does, opcodes, put, stack_place, step}
 use Rattle.dvg_calls_6502.specs.Processor.{target, turn, word_at}
 use Rattle.dvg_calls_6502.specs.Amid.{is_code}
 use Rattle.dvg_game_rules.proofs.Facts.{both_true}
 use Rattle.dvg_game_6502.specs.Stays.{is_written}
-use Rattle.dvg_game_6502.proofs.Claims.{AreHard, Also, Claim, Did, Holds, HoldsIn, MeansIn, Nothing}
-use Rattle.dvg_game_6502.proofs.Claims.{Ready}
+use Rattle.dvg_game_6502.proofs.Claims.{AreHard, Also, Claim, Did, Holds, HoldsIn, MeansIn, Nothing, Ready}
 use Rattle.dvg_game_6502.proofs.Claims.{is_known, is_touched, length_of}
 use Rattle.dvg_game_6502.proofs.Rules.{kept, straight_known}
 use Rattle.dvg_game_6502.proofs.Known.{known}
 use Rattle.dvg_game_6502.proofs.Forks.{Forked, dropped, fork_known, forked, weakened, weaker_known}
 use Rattle.dvg_game_6502.proofs.Notes.{noted, outer}
-use Rattle.dvg_game_6502.proofs.Rows.{Row, Serves, alone, byte_at, calls, forks, goes_on, jumps, returns}
-use Rattle.dvg_game_6502.proofs.Rows.{row_of, to}
-use Rattle.dvg_game_6502.proofs.Staying.{Good, Level, all_rows, apart, below, code_untouched, home}
-use Rattle.dvg_game_6502.proofs.Staying.{noted_is_code}
+use Rattle.dvg_game_6502.proofs.Rows.{Row, Serves, alone, byte_at, calls, forks, goes_on, jumps, returns, row_of, to}
+use Rattle.dvg_game_6502.proofs.Staying.{Good, Level, all_rows, apart, below, code_untouched, home, noted_is_code}
 use Rattle.dvg_game_6502.proofs.Staying.{stack_untouched}
 
 -- what a step leaves
@@ -58,13 +54,9 @@ module _ (awake : Bool) (s : ℕ) (few : s < 256) (cpu : Cpu) (good : Good awake
   next_code : (k : ℕ) → k ≤ 2 → nat_lt (here + 2) 0x6A87 ≡ true
       → cpu.mem (here + k) ≡ byte_at (here + k)
   next_code k small room = good.coded (here + k)
-      (both_so (nat_le 0x6800 (here + k)) (nat_lt (here + k) 0x6A87) (le-leb 0x6800 (here + k) low)
+      (and_from (nat_le 0x6800 (here + k)) (nat_lt (here + k) 0x6A87) (le-leb 0x6800 (here + k) low)
       (le-leb (suc (here + k)) 0x6A87 high))
     where
-      both_so : (t u : Bool) → t ≡ true → u ≡ true → (t && u) ≡ true
-      both_so true u a b = b
-      both_so false u a b = absurd (cc)
-
       low : 0x6800 ≤ here + k
       low = let two = both_true (nat_le 0x6800 here) (nat_lt here 0x6A87) is_in in let e =
           leb-true 0x6800 here two.0 in omega arith

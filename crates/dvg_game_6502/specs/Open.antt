@@ -14,8 +14,7 @@ abbrev pub InRom : ℕ → Type 0
 InRom b = (0x4800 ≤ b) × (b < 0x8000)
 
 -- the processor is in this call, which began with this S, and has accessed this. Its memory is what the call's next
--- step
--- finds: as its last one left it, or as an NMI did since
+-- step finds: as its last one left it, or as an NMI did since
 pub record IsIn (R : List ℕ) (routine : Routine) (s : ℕ) (calls : List Call) (cpu : Cpu) (log : List Access)
     (flags : ℕ → ℕ) : Type 0 where
   pub call : Call

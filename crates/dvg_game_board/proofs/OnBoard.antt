@@ -1,7 +1,5 @@
 -- A board's clocks bear the calls of a game: the machine of dvg_calls_board has come as far with them.
-use Rattle.std.proofs.Common.{◌≡◌, inl, inr, ℕ, suc, ◌+◌, ◌<◌, true, false, List, [], ◌∷◌, ◌++◌, refl, sym}
-use Rattle.std.proofs.Common.{ap, ◌∙◌, arith, le-leb}
-use Rattle.std.specs.Prelude.{◌&&◌, nat_lt}
+use Rattle.std.proofs.Common.{◌≡◌, inl, inr, ℕ, ◌+◌, ◌<◌, true, false, List, [], ◌∷◌, ◌++◌, refl, sym, ◌∙◌}
 use Rattle.std.proofs.lemmas.Bool.{or_right}
 use Rattle.dvg_log.specs.Log.{Log}
 use Rattle.dvg_calls_6502.specs.Processor.{Cpu, Access, at_return}
@@ -9,6 +7,7 @@ use Rattle.dvg_calls_6502.specs.Amid.{is_code}
 use Rattle.dvg_calls_6502.specs.Board.{is_own, is_ram, seen}
 use Rattle.dvg_calls_6502.specs.Calls as calls_of
 use Rattle.dvg_calls_6502.specs.Calls.{Routine, Call, is_table}
+use Rattle.dvg_calls_board.proofs.Ram.{in_ram}
 use Rattle.dvg_cells_board.specs.Board.{Bus}
 use Rattle.dvg_cells_board.specs.Clocks as clocked
 use Rattle.dvg_calls_board.specs.Hindsight.{IsCheckedTable, IsProgram}
@@ -25,11 +24,6 @@ use Rattle.dvg_game_board.proofs.Quiet.{quiet}
 use Rattle.dvg_game_board.proofs.Sharing.{Laws, shared}
 use Rattle.dvg_game_board.proofs.Single.{AreFew, few}
 use Rattle.dvg_game_board.proofs.Standing.{Last, stand_ends}
-
--- a place of the vector RAM
-pub in_ram : (a : ℕ) → a < 2048 → is_ram (0x4000 + a) ≡ true
-in_ram a few = ap (λ t. t && nat_lt (0x4000 + a) 0x4800) (le-leb 0x4000 (0x4000 + a) (omega arith))
-    ∙ le-leb (suc (0x4000 + a)) 0x4800 (omega (arith, few))
 
 -- what is offered is checked
 pub by_check : (R : List ℕ) (r : Routine) → IsChecked R r → IsCheckedTable R r

@@ -1,13 +1,11 @@
 -- A call of the driver that a processor on the board is in: step by step, over an NMI, and its end.
-use Rattle.std.proofs.Common.{◌≡◌, ℕ, ◌<◌, ◌≤◌, Bool, true, false, List, [], ◌∷◌, ◌++◌, sym}
-use Rattle.std.proofs.Common.{ap, ◌∙◌}
+use Rattle.std.proofs.Common.{◌≡◌, ℕ, ◌<◌, ◌≤◌, Bool, true, false, List, [], ◌∷◌, ◌++◌, sym, ap, ◌∙◌}
 use Rattle.dvg_log.specs.Log.{Log}
 use Rattle.dvg_calls_6502.specs.Processor.{Cpu, Access, at_return, decoded, opcodes, step}
 use Rattle.dvg_calls_6502.specs.Amid.{changed, guards, is_code, is_kept}
 use Rattle.dvg_calls_6502.specs.Board.{seen}
 use Rattle.dvg_calls_6502.specs.Calls as calls_of
-use Rattle.dvg_calls_6502.specs.Calls.{Routine, Call, bounds, entry, frame_of, has_returned, is_offered}
-use Rattle.dvg_calls_6502.specs.Calls.{UnlessReset}
+use Rattle.dvg_calls_6502.specs.Calls.{Routine, Call, bounds, entry, frame_of, has_returned, is_offered, UnlessReset}
 use Rattle.dvg_calls_6502.specs.Programs.{Tells}
 use Rattle.dvg_calls_6502.specs.Routines.{Enters}
 use Rattle.dvg_calls_6502.proofs.Growing.{seen_append}

@@ -3,8 +3,8 @@ use Rattle.std.proofs.Common.{◌≡◌, ◌⊎◌, inl, inr, ℕ, ◌+◌, ◌*
 use Rattle.std.proofs.Common.{ap, ◌∙◌, subst, arith, eqb-true}
 use Rattle.std.specs.Prelude.{◌&&◌, ◌||◌, nat_eq, nat_le, nat_lt, if◌then◌else◌}
 use Rattle.dvg_calls_6502.specs.Processor
-use Rattle.dvg_calls_6502.specs.Processor.{Cpu, Access, Reads, Writes, Instr, Mode, Register, A, X, Y, put, stack_place}
-use Rattle.dvg_calls_6502.specs.Processor.{reading, setting, next, writing, flagging, flags_byte, with_flags}
+use Rattle.dvg_calls_6502.specs.Processor.{Cpu, Access, Writes, Instr, Mode, Register, A, X, Y, stack_place}
+use Rattle.dvg_calls_6502.specs.Processor.{reading, setting, next, writing, flagging, flags_byte}
 use Rattle.dvg_calls_6502.specs.Board.{is_ram, strobe_place}
 use Rattle.dvg_game_rules.specs.Kinds.{kind, storing}
 use Rattle.dvg_game_rules.specs.Kinds as kinds

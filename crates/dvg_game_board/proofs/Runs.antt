@@ -18,7 +18,7 @@ use Rattle.dvg_game_6502.specs.Play
 use Rattle.dvg_game_6502.specs.Play.{IsPlay, done, made}
 use Rattle.dvg_game_6502.specs.Open.{InRom, IsIn}
 use Rattle.dvg_game_6502.proofs.Bearers.{Bearer}
-use Rattle.dvg_game_6502.proofs.GameSteps.{game_begins, nowhere}
+use Rattle.dvg_game_6502.proofs.GameSteps.{game_begins}
 use Rattle.dvg_game_6502.proofs.GameSteps as stepping
 use Rattle.dvg_game_6502.proofs.NmiSteps as nmis
 use Rattle.dvg_game_6502.proofs.Outside.{stage_turns, stage_waits}
@@ -26,9 +26,8 @@ use Rattle.dvg_game_6502.proofs.Plays.{Brought, by_bytes, by_content, stage_does
 use Rattle.dvg_game_6502.proofs.Returns.{covers}
 use Rattle.dvg_game_6502.proofs.Stages.{InDriver, IsAccepted, Stage}
 use Rattle.dvg_game_board.specs.Cabinet.{IsCabinet, powers, waits, reads, resets, tests, begins, does, nmi, touched}
-use Rattle.dvg_game_board.specs.Cabinet.{turns, written}
+use Rattle.dvg_game_board.specs.Cabinet.{turns, written, AreAlike, AreMade, no_more, one_more}
 use Rattle.dvg_game_board.specs.Cabinet as cabinet
-use Rattle.dvg_game_board.specs.Cabinet.{AreAlike, AreMade, no_more, one_more}
 use Rattle.dvg_game_board.specs.Keeps.{GamesKeep, GamesLeaveBoard, Keeps, VectorsKeep}
 use Rattle.dvg_game_board.proofs.Alike.{Same, itself, joins, read_elsewhere, same_clock, same_idle, same_makes, same_served}
 use Rattle.dvg_game_board.proofs.Idle.{ram_stays}

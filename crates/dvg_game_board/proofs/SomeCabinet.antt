@@ -1,7 +1,7 @@
 -- A run of a game on its board: the driver boots, and reads byte 001 in a clock.
 use Rattle.std.proofs.Common.{◌≡◌, ℕ, zero, suc, ◌+◌, ◌-◌, ◌/◌, ◌%◌, ◌<◌, ◌==◌, Bool, not, [], refl}
 use Rattle.std.proofs.Common.{sym, ap, arith, inl, le-leb, lit<}
-use Rattle.std.specs.Prelude.{◌&&◌, nat_eq, nat_lt, if◌then◌else◌, replicate, slice_index}
+use Rattle.std.specs.Prelude.{nat_lt, if◌then◌else◌, replicate, slice_index}
 use Rattle.std.proofs.lemmas.List.{length-replicate}
 use Rattle.std.proofs.lemmas.List.Elements.{All-replicate}
 use Rattle.dvg_mem.specs.Memory.{IsImage, IsRom}

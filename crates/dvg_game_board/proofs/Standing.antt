@@ -8,8 +8,8 @@ use Rattle.dvg_calls_6502.specs.Processor.{Cpu, Access, at_return, decoded, does
 use Rattle.dvg_calls_6502.specs.Amid.{AreHarmless, changed, guards, is_code, is_kept, is_work}
 use Rattle.dvg_calls_6502.specs.Board.{is_own, seen}
 use Rattle.dvg_calls_6502.specs.Calls
-use Rattle.dvg_calls_6502.specs.Calls.{Call, Routine, after, answer, finds_busy, frame_of, has_returned, is_leaving, is_over}
-use Rattle.dvg_calls_6502.specs.Calls.{is_refused, is_table, is_taken, IsSessionBy}
+use Rattle.dvg_calls_6502.specs.Calls.{Call, Routine, after, answer, finds_busy, has_returned, is_leaving, is_over}
+use Rattle.dvg_calls_6502.specs.Calls.{is_refused, is_table, IsSessionBy}
 use Rattle.dvg_calls_6502.specs.Programs.{Tells}
 use Rattle.dvg_calls_6502.specs.Routines.{Labs}
 use Rattle.dvg_calls_6502.proofs.Decided.{clears}
@@ -19,7 +19,7 @@ use Rattle.dvg_cells_board.specs.Clocks.{IsBus, IsServed, changes}
 use Rattle.dvg_cells_board.specs.Logs.{answered, did}
 use Rattle.dvg_calls_board.specs.Hindsight.{IsCheckedTable, IsProgram}
 use Rattle.dvg_calls_board.specs.Machine as machine
-use Rattle.dvg_calls_board.specs.Machine.{IsIdle, Makes, SharesRam, accesses_of, begun, calls_after, told, with_reset}
+use Rattle.dvg_calls_board.specs.Machine.{IsIdle, Makes, SharesRam, accesses_of, begun, told, with_reset}
 use Rattle.dvg_game_rules.proofs.Facts.{both_true}
 use Rattle.dvg_game_rules.proofs.Memory.{either}
 use Rattle.dvg_game_6502.proofs.Bearers.{Ended}

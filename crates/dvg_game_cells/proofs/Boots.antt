@@ -19,6 +19,7 @@ use Rattle.dvg_game_rules.proofs.Early.{early_time, early_turns}
 use Rattle.dvg_game_rules.proofs.Standing.{Handles, Runs}
 use Rattle.dvg_game_rules.proofs.Safety.{IsBeside, beside_of}
 use Rattle.dvg_game_rules.proofs.Starting.{boot_safe, steps_on}
+use Rattle.dvg_game_rules.proofs.Turning.{rom_inside}
 use Rattle.dvg_calls_cells.specs.Cycles.{Two, IsQuiet, AreQuiet, cycles_of}
 use Rattle.dvg_calls_cells.specs.Steps.{instr_of}
 use Rattle.dvg_calls_cells.specs.Played.{at_rest, older_after, cells_after}
@@ -30,7 +31,7 @@ use Rattle.dvg_game_6502.proofs.GameSteps.{bytes_pushed}
 use Rattle.dvg_game_6502.proofs.Stages.{IsAccepted}
 use Rattle.dvg_game_board.specs.Cabinet.{IsCabinet, begins}
 use Rattle.dvg_game_board.proofs.Quiet.{quiet_by}
-use Rattle.dvg_game_cells.specs.Keeps.{IsBoot, by_nmi, by_step, by_turn}
+use Rattle.dvg_game_cells.specs.Keeps.{IsBoot, by_nmi, by_return, by_step, by_turn}
 use Rattle.dvg_game_cells.proofs.Answering.{InRom, is_direct, tame_fetched}
 use Rattle.dvg_game_cells.proofs.Claims.{tame_writes}
 use Rattle.dvg_game_cells.proofs.Doing.{AtTxs, Boots, Doing, Shares, Task, calms, works, stands, starts, handles}
@@ -41,7 +42,7 @@ use Rattle.dvg_game_cells.proofs.Plays.{written_quiet}
 use Rattle.dvg_game_cells.proofs.Snoc.{counts}
 use Rattle.dvg_game_cells.proofs.Timing.{Timed, at_least, at_most, timely}
 use Rattle.dvg_game_cells.proofs.Turned
-use Rattle.dvg_game_cells.proofs.Turned.{code_inside, made_both}
+use Rattle.dvg_game_cells.proofs.Turned.{made_both}
 use Rattle.dvg_game_cells.proofs.Vectors.{all_quiet, doing_next, entered, half_quiet, nmi_done, nmi_half, nmi_time, nmi_unread, vectors_in}
 use Rattle.dvg_game_cells.proofs.Vectors.{vectors_turn, with_vectors}
 
@@ -195,8 +196,8 @@ module _ (R image : List ℕ) (held rom : ℕ → ℕ) (start : ℕ) (cpu : Cpu)
         (went list claim (suc n) (omega (arith, less))) some
 
     -- one of a 6502 that boots
-    boots_then : IsBoot rom start cpu → nat_eq cpu.pc start ≡ false → (list : List Two) (claim : Claim list)
-        → IsBoot rom start (last list claim)
+    boots_then : {amid : Option ℕ} → IsBoot rom start amid cpu → nat_eq cpu.pc start ≡ false → (list : List Two)
+        (claim : Claim list) → IsBoot rom start amid (last list claim)
     boots_then boot before list claim = by_step claim.flags (by_turn claim.mem boot claim.bytes claim.turned) before claim.small
 
     half_of : (spot : Option (Cpu × ℕ)) → On spot older → (list : List Two) (two : Two) → length list < cycles (instr_of cpu)
@@ -287,7 +288,7 @@ module _ (R image : List ℕ) (held rom : ℕ → ℕ) (start : ℕ) (cpu : Cpu)
       new = last it list claim
 
       loaded_so : (b : ℕ) → 0x4800 ≤ b → b < 0x8000 → claim.mem b ≡ rom b
-      loaded_so b low high = claim.turned b (code_inside b low high) ∙ old b low high
+      loaded_so b low high = claim.turned b (rom_inside b low high) ∙ old b low high
 
       opcode_so : now.mem now.pc ≡ rom cpu.pc
       opcode_so = let low = in_rom.low in let high = in_rom.high in loaded_so cpu.pc low (omega (arith, high))
@@ -304,7 +305,7 @@ module _ (R image : List ℕ) (held rom : ℕ → ℕ) (start : ℕ) (cpu : Cpu)
           by (txs at) = subst AreQuiet (sym (ap (λ o. (does (decoded opcodes o) now).log) (opcode_so ∙ at.opcode))) tt
 
       module _ (g : Went it list claim 0) (doing : Does list) (spot : Option (Cpu × ℕ)) (on : On spot older)
-          (boot : IsBoot rom start cpu) (count : length list ≡ cycles (instr_of cpu)) where
+          (boot : IsBoot rom start None cpu) (count : length list ≡ cycles (instr_of cpu)) where
         close_then : (cells_after held older cells list).due ≡ 1 → calms cells (cycled list) calm ≤ 12
         close_then some = by (timed it list claim g doing count).0
           where
@@ -360,7 +361,7 @@ module _ (R image : List ℕ) (held rom : ℕ → ℕ) (start : ℕ) (cpu : Cpu)
                 (rests_then it list claim g doing) doing_new (λ none. inl (omega arith)) (λ some. (omega arith, close_then some))
 
   module _ (spot : Option (Cpu × ℕ)) (left : ℕ) (on : On spot older) (so : Boots R image held rom start left cpu)
-      (boot : IsBoot rom start cpu) where
+      (boot : IsBoot rom start None cpu) where
     -- an instruction up to the TXS
     module _ (free : cells.due ≡ 0) where
       pub starts_unread : (list : List Two) → 0 < length list → length list < cycles (instr_of cpu) → Does list
@@ -407,7 +408,7 @@ module _ (R image : List ℕ) (held rom : ℕ → ℕ) (start : ℕ) (cpu : Cpu)
           let time = nmi_time R image held rom start cpu older cells work calm there bytes rests due close list count doing in
           let old : AreBytes (changed mem cpu) = record { a = bytes.a; x = bytes.x; y = bytes.y; s = bytes.s; mem = small } in
           let early = early_begins rom start game.notes (both_true (accepts_game rom start game.notes) _ game.yes).0 cpu mem
-          (λ b low top. turned b (code_inside b low top) ∙ doing.shares.loaded b low top) bytes.s in
+          (λ b low top. turned b (rom_inside b low top) ∙ doing.shares.loaded b low top) bytes.s in
           let bound = time.1 in
           let new = entered R image held rom start cpu older cells work calm in
           stands new (older_after held older cells list) (cells_after held older cells list) (works cells (cycled list) work)
@@ -421,8 +422,8 @@ module _ (R image : List ℕ) (held rom : ℕ → ℕ) (start : ℕ) (cpu : Cpu)
 
   -- an instruction of its routine
   module _ (spot : Option (Cpu × ℕ)) (left : ℕ) (on : On spot older) (back : Cpu) (since : ℕ)
-      (so : Boots R image held rom start left back) (early : Early rom start back since cpu) (boot : IsBoot rom start cpu)
-      (free : cells.due ≡ 0)
+      (so : Boots R image held rom start left back) (early : Early rom start back since cpu)
+      (boot : IsBoot rom start (Some back.pc) cpu) (free : cells.due ≡ 0)
       (close : calm ≤ 12 * since + 26) where
     nmi_ready : AreBytes cpu → Ready
     nmi_ready bytes = let place = early_place early in record {
@@ -513,4 +514,4 @@ module _ (R image : List ℕ) (held rom : ℕ → ℕ) (start : ℕ) (cpu : Cpu)
         goes (inl more) = let bound = time.1 in let six = time.2 in next (early_loaded more)
             (handles spot left on_new (rests_then it list claim g doing) back (suc since) so more (boots_then it boot nmi_apart list claim) none_due (omega (arith, bound, six, close)))
         goes (inr is) = next is.loaded (starts spot left on_new (rests_then it list claim g doing) (comes_back new is)
-            (boots_then it boot nmi_apart list claim) none_due)
+            (by_return (boots_then it boot nmi_apart list claim) is.pc) none_due)

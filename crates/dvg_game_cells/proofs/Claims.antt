@@ -3,7 +3,7 @@ use Rattle.std.proofs.Common.{◌≡◌, ℕ, suc, ◌<◌, ◌≤◌, Bool, tru
 use Rattle.std.proofs.Common.{subst, arith, inl, inr, eqb-true, le-leb}
 use Rattle.std.specs.Prelude.{nat_eq, nat_le, nat_lt, ◌&&◌, if◌then◌else◌}
 use Rattle.std.proofs.lemmas.Bool.{ne_eqb}
-use Rattle.dvg_calls_6502.specs.Processor.{Cpu, Access, Reads, Writes, Instr, found, does}
+use Rattle.dvg_calls_6502.specs.Processor.{Cpu, Access, Reads, Writes, found}
 use Rattle.dvg_cells_core.specs.Cells.{bit, mux, part, either, eq}
 use Rattle.dvg_cells_board.specs.Board.{Bus, q}
 use Rattle.dvg_cells_cpu.specs.Cpu.{Cpu as Cells, at, write, dout, clock}
@@ -12,10 +12,10 @@ use Rattle.dvg_calls_cells.specs.Cycles.{Two, next, first_bus, second_bus, cycle
 use Rattle.dvg_calls_cells.specs.Played.{AreGiven, at_rest}
 use Rattle.dvg_calls_cells.proofs.Fits.{AllFit, cycle_fits}
 use Rattle.dvg_calls_cells.proofs.Quiet.{made_more}
+use Rattle.dvg_calls_cells.proofs.Stepping.{on_board}
 use Rattle.dvg_game_cells.specs.Whole.{Finds}
 use Rattle.dvg_game_cells.proofs.Answering.{AreTame, IsTame, tame_end, tame_front}
 use Rattle.dvg_game_cells.proofs.Doing.{AreAsked, calm_in, wrote}
-use Rattle.dvg_game_cells.proofs.Walks.{on_board}
 
 -- the board doesn't answer there
 pub off_board : (a : ℕ) → IsTame a → on_board a ≡ 0
@@ -33,7 +33,7 @@ no_flag : (a : ℕ) → IsTame a → nat_eq a 0x2002 ≡ false
 no_flag a (inl low) = ne_eqb a 0x2002 (λ e. omega (arith, e, low))
 no_flag a (inr code) = let low = code.0 in ne_eqb a 0x2002 (λ e. omega (arith, e, low))
 
-where_so : {P : Type 0} (t : Bool) → t ≡ true → Where t P → P
+pub where_so : {P : Type 0} (t : Bool) → t ≡ true → Where t P → P
 where_so true e p = p
 where_so false e p = absurd (cc)
 

@@ -1,6 +1,6 @@
 -- What the processor's cells are doing: an instruction, an NMI, or the reads of a reset, with the cycles of it so far.
-use Rattle.std.proofs.Common.{◌≡◌, ℕ, suc, ◌+◌, ◌*◌, ◌<◌, ◌≤◌, true, false, List, [], ◌∷◌, length}
-use Rattle.std.specs.Prelude.{◌⊎◌, nat_eq, nat_lt, ◌&&◌, if◌then◌else◌, Option, Some}
+use Rattle.std.proofs.Common.{◌≡◌, ℕ, suc, ◌+◌, ◌*◌, ◌<◌, ◌≤◌, true, List, [], ◌∷◌, length}
+use Rattle.std.specs.Prelude.{◌⊎◌, nat_eq, nat_lt, ◌&&◌, if◌then◌else◌, Option, None, Some}
 use Rattle.dvg_mem.specs.Memory.{IsRom}
 use Rattle.dvg_calls_6502.specs.Processor.{Cpu, put}
 use Rattle.dvg_cells_board.specs.Board.{Bus}
@@ -40,7 +40,6 @@ module _ (rom : ℕ → ℕ) where
   -- what is asked of a cycle, beside its pins' widths and what the board is served
   pub record Asked (cells : Cells) (work : ℕ → ℕ) (calm : ℕ) (nmi m : ℕ) : Type 0 where
     pub finds : write cells ≡ 0 → Finds rom work (at cells) m
-    pub no_strobe : write cells ≡ 0 → nat_eq (at cells) 0x3000 ≡ false
     pub apart : (nat_eq nmi 1 && nat_eq cells.was 0) ≡ true → 10400 ≤ suc (suc calm)
 
   abbrev pub AreAsked : (ℕ → ℕ) → ℕ → Machine → List Two → Type 0
@@ -90,14 +89,14 @@ module _ (R image : List ℕ) (held rom : ℕ → ℕ) (start : ℕ) where
         → cells.due ≡ 0 → Task cpu older cells calm 2
     -- an instruction up to the TXS
     starts : (spot : Option (Cpu × ℕ)) (left : ℕ) → IsCabinet R image held rom start spot older → Rests cells cpu
-        → Boots left cpu → IsBoot rom start cpu → cells.due ≡ 0 → Task cpu older cells calm (cycles (instr_of cpu))
+        → Boots left cpu → IsBoot rom start None cpu → cells.due ≡ 0 → Task cpu older cells calm (cycles (instr_of cpu))
     -- an NMI before the TXS
     breaks : (spot : Option (Cpu × ℕ)) (left : ℕ) → IsCabinet R image held rom start spot older → Rests cells cpu
-        → Boots left cpu → IsBoot rom start cpu → cells.due ≡ 1 → calm ≤ 12 → Task cpu older cells calm 5
+        → Boots left cpu → IsBoot rom start None cpu → cells.due ≡ 1 → calm ≤ 12 → Task cpu older cells calm 5
     -- an instruction of its routine, which leads back to there
     handles : (spot : Option (Cpu × ℕ)) (left : ℕ) → IsCabinet R image held rom start spot older → Rests cells cpu
-        → (back : Cpu) (since : ℕ) → Boots left back → Early rom start back since cpu → IsBoot rom start cpu → cells.due ≡ 0
-        → calm ≤ 12 * since + 26 → Task cpu older cells calm (cycles (instr_of cpu))
+        → (back : Cpu) (since : ℕ) → Boots left back → Early rom start back since cpu
+        → IsBoot rom start (Some back.pc) cpu → cells.due ≡ 0 → calm ≤ 12 * since + 26 → Task cpu older cells calm (cycles (instr_of cpu))
     -- one of the game or of the driver
     plays : (since : ℕ) → IsCabinet R image held rom start (Some (cpu, since)) older → Rests cells cpu → cells.due ≡ 0
         → IsTime since calm → Task cpu older cells calm (cycles (instr_of cpu))

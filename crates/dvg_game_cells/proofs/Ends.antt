@@ -1,6 +1,6 @@
 -- What each task comes to, halfway and at its end.
 use Rattle.std.proofs.Common.{◌≡◌, ℕ, zero, suc, ◌<◌, ◌≤◌, Bool, true, false, List, [], ◌∷◌, ◌++◌, refl, ap, arith, inl, inr}
-use Rattle.std.specs.Prelude.{◌⊎◌, nat_eq, nat_lt, ◌&&◌, if◌then◌else◌, Option, Some}
+use Rattle.std.specs.Prelude.{◌⊎◌, nat_eq, nat_lt, ◌&&◌, if◌then◌else◌, Option, None, Some}
 use Rattle.dvg_calls_6502.specs.Processor.{Cpu, put}
 use Rattle.dvg_cells_board.specs.Board.{Bus}
 use Rattle.dvg_cells_cpu.specs.Cpu.{Cpu as Cells, at, write, dout}
@@ -14,6 +14,7 @@ use Rattle.dvg_calls_cells.proofs.Fits.{AllFit, served_of}
 use Rattle.dvg_game_board.specs.Cabinet.{IsCabinet}
 use Rattle.dvg_game_cells.specs.Keeps.{IsBoot}
 use Rattle.dvg_game_cells.proofs.Doing.{Boots, Doing, IsTime, Stand, calms, works, wrote, stands, starts, breaks, plays, hears}
+use Rattle.dvg_game_cells.proofs.Fresh.{choose}
 use Rattle.dvg_game_cells.proofs.Snoc.{then_at}
 use Rattle.dvg_game_cells.proofs.Timing.{at_least}
 
@@ -50,12 +51,8 @@ module _ (R image : List ℕ) (held rom : ℕ → ℕ) (start : ℕ) where
       (served_of R held (two ∷ []) older cells f (given.0, tt)).1 given.1
       (λ a. one (nat_eq (write cells) 1 && nat_lt (at cells) 0x200) a)
     where
-      put_in : (t : Bool) (x y : ℕ) → x < 256 → y < 256 → (if t then x else y) < 256
-      put_in true x y p q = p
-      put_in false x y p q = q
-
       one : (t : Bool) (a : ℕ) → (if t then put (at cells) (dout cells) work else work) a < 256
-      one true a = put_in (nat_eq a (at cells)) (dout cells) (work a) (fits.2 cells f.of_cells).2 (less a)
+      one true a = choose (nat_eq a (at cells)) (dout cells) (work a) (fits.2 cells f.of_cells).2 (less a)
       one false a = less a
 
   -- what is served in cycles, and in one more
@@ -85,7 +82,7 @@ module _ (R image : List ℕ) (held rom : ℕ → ℕ) (start : ℕ) where
   -- the same before the TXS
   pub settle_boot : (cpu : Cpu) (spot : Option (Cpu × ℕ)) (left : ℕ) (older : List Bus) (cells : Cells) (work : ℕ → ℕ) (calm : ℕ)
       → IsCabinet R image held rom start spot older → Rests cells cpu → Boots R image held rom start left cpu
-      → IsBoot rom start cpu → Doing R image held rom start cpu older cells work calm [] → (cells.due ≡ 1 → calm ≤ 12)
+      → IsBoot rom start None cpu → Doing R image held rom start cpu older cells work calm [] → (cells.due ≡ 1 → calm ≤ 12)
       → Stand R image held rom start cells work calm older
   settle_boot cpu spot left older cells work calm on rests boots boot doing close = by cells.due doing.fits.of_cells.due refl
     where

@@ -2,9 +2,9 @@
 -- of the driver or of a game that the checker accepts.
 use Rattle.std.proofs.Common.{◌≡◌, inl, inr, ℕ, true, List, refl, arith, leb-true}
 use Rattle.std.specs.Prelude.{nat_le, Some}
-use Rattle.dvg_calls_6502.specs.Processor.{Cpu, Mode, ZeroPage, ZeroPageX, ZeroPageY, Immediate, Absolute, AbsoluteX, AbsoluteY}
-use Rattle.dvg_calls_6502.specs.Processor.{IndexedIndirect, IndirectIndexed, Instr, JumpAt, Change, ShiftAt}
+use Rattle.dvg_calls_6502.specs.Processor.{Cpu, Instr, JumpAt}
 use Rattle.dvg_calls_6502.specs.Amid.{is_code}
+use Rattle.dvg_calls_6502.specs.Single.{is_single}
 use Rattle.dvg_cells_board.specs.Board.{Bus}
 use Rattle.dvg_game_rules.specs.Kinds.{kind}
 use Rattle.dvg_game_rules.specs.Machine.{IsLoaded, State}
@@ -12,7 +12,7 @@ use Rattle.dvg_game_rules.specs.Safe.{IsSafe, IsSafeBy}
 use Rattle.dvg_game_rules.specs.Alike.{of_cpu}
 use Rattle.dvg_game_rules.proofs.Facts.{both_true, inside}
 use Rattle.dvg_game_rules.proofs.Memory.{between}
-use Rattle.dvg_calls_cells.specs.Steps.{instr_of, is_low, is_single}
+use Rattle.dvg_calls_cells.specs.Steps.{instr_of}
 use Rattle.dvg_game_6502.specs.Play.{AreBytes}
 use Rattle.dvg_game_board.specs.Cabinet.{IsCabinet}
 use Rattle.dvg_game_6502.proofs.Plays.{Brought}
@@ -33,23 +33,6 @@ pub record Known (rom : ℕ → ℕ) (cpu : Cpu) : Type 0 where
 pub safe_direct : (i : Instr) (st : State) → IsSafeBy (kind i) st → is_direct i ≡ true
 safe_direct JumpAt st safe = absurd safe
 safe_direct i st safe = refl
-
-same_low : (mode : Mode) → its.is_low mode ≡ true → is_low mode ≡ true
-same_low ZeroPage is = refl
-same_low ZeroPageX is = refl
-same_low ZeroPageY is = refl
-same_low Immediate is = is
-same_low Absolute is = is
-same_low AbsoluteX is = is
-same_low AbsoluteY is = is
-same_low IndexedIndirect is = is
-same_low IndirectIndexed is = is
-
-same_single : (i : Instr) → its.is_single i ≡ true → is_single i ≡ true
-same_single (Change mode by) is = same_low mode is
-same_single (ShiftAt shift mode) is = same_low mode is
-same_single JumpAt is = is
-same_single i is = refl
 
 single_direct : (i : Instr) → is_single i ≡ true → is_direct i ≡ true
 single_direct JumpAt is = is
@@ -75,8 +58,7 @@ module _ (laws : Laws) (R image : List ℕ) (held rom : ℕ → ℕ) (start : �
       let place = between 0x6800 0x6A87 cpu.pc d.place in
       let low = place.0 in
       let high = place.1 in
-      let one = same_single (instr_of cpu)
-      (its.single cpu (λ n. 0) d.bytes R d.routine d.s d.calls d.mine (λ n. 0) (d.doing (λ n. 0)).0 d.place) in record {
+      let one = its.single cpu (λ n. 0) d.bytes R d.routine d.s d.calls d.mine (λ n. 0) (d.doing (λ n. 0)).0 d.place in record {
         in_rom = record { low = omega (arith, low); high = omega (arith, high); bytes = d.bytes.mem };
         bytes = d.bytes;
         loaded = d.rom_kept;

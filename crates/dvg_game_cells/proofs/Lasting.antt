@@ -1,24 +1,21 @@
 -- A run can go on.
-use Rattle.std.proofs.Common.{◌≡◌, ℕ, suc, ◌-◌, ◌<◌, Bool, true, false, List, refl, ap, subst, sym}
-use Rattle.std.proofs.Common.{arith, lit<, leb-true}
-use Rattle.std.specs.Prelude.{nat_eq, nat_le, nat_lt, ◌&&◌, if◌then◌else◌}
-use Rattle.std.proofs.lemmas.Bool.{lt-leb}
+use Rattle.std.proofs.Common.{ℕ, ◌<◌, Bool, true, false, List, refl, subst, sym, lit<}
+use Rattle.std.specs.Prelude.{nat_eq, if◌then◌else◌}
 use Rattle.std.proofs.lemmas.List.Elements.{recursion_from_All}
 use Rattle.dvg_mem.specs.Memory.{IsRom}
 use Rattle.dvg_calls_6502.specs.Processor.{put}
 use Rattle.dvg_cells_core.specs.Cells.{either, eq, part}
 use Rattle.dvg_cells_board.specs.Board.{Bus, q}
 use Rattle.dvg_cells_cpu.specs.Cpu.{at, dout}
-use Rattle.dvg_cells_cpu.specs.Refines.{Where}
 use Rattle.dvg_cells_cpu.specs.Widths.{Fits}
 use Rattle.dvg_cells_cpu.proofs.Bounds.{mux_in}
 use Rattle.dvg_cells_cpu.proofs.Fitting.{fits}
-use Rattle.dvg_game_rules.proofs.Facts.{both_true}
 use Rattle.dvg_calls_cells.specs.Machine.{Machine, drives_board, drives_cpu}
 use Rattle.dvg_calls_cells.proofs.Fits.{BoardFits, board_fits, q_in}
 use Rattle.dvg_calls_board.proofs.Waiting.{below}
 use Rattle.dvg_game_cells.specs.Whole.{Finds, IsWhole, powers, takes, ticks}
 use Rattle.dvg_game_cells.specs.GoesOn.{RunsGoOn, answer, pins_for}
+use Rattle.dvg_game_cells.proofs.Fresh.{answer_finds, answer_small, choose}
 
 -- what fits in each run
 record AllFit (R : List ℕ) (rom : ℕ → ℕ) (machine : Machine) (work : ℕ → ℕ) : Type 0 where
@@ -27,10 +24,6 @@ record AllFit (R : List ℕ) (rom : ℕ → ℕ) (machine : Machine) (work : ℕ
   board : BoardFits machine.board
   work_in : (a : ℕ) → work a < 256
   rom_in : (a : ℕ) → rom a < 256
-
-choose : (t : Bool) (x y : ℕ) → x < 256 → y < 256 → (if t then x else y) < 256
-choose true x y p r = p
-choose false x y p r = r
 
 all_fit : {R image : List ℕ} {held rom : ℕ → ℕ} {machine : Machine} {work : ℕ → ℕ} {calm : ℕ} {clocks : List Bus}
     → IsWhole R image held rom machine work calm clocks → AllFit R rom machine work
@@ -59,57 +52,19 @@ all_fit (ticks {machine} {work} {calm} {clocks} pins on asks) =
     by true a old small = choose (nat_eq a (at machine.cpu)) (dout machine.cpu) (work a) small (old a)
     by false a old small = old a
 
-module _ (rom work : ℕ → ℕ) (free a : ℕ) where
-  abbrev by_place : (low code high : Bool) → ℕ
-  by_place low code high = if low then work a else if code then rom a else if high then rom (a - 0x8000) else free
-
-  answer_in : free < 256 → ((a : ℕ) → work a < 256) → ((a : ℕ) → rom a < 256) → (low code high : Bool) → by_place low code high < 256
-  answer_in small work_in rom_in true code high = work_in a
-  answer_in small work_in rom_in false true high = rom_in a
-  answer_in small work_in rom_in false false true = rom_in (a - 0x8000)
-  answer_in small work_in rom_in false false false = small
-
-  -- no address is of two of these
-  finds_by : (low code high : Bool) → (low ≡ true → code ≡ false) → (low ≡ true → high ≡ false) → (code ≡ true → high ≡ false)
-      → Where low (by_place low code high ≡ work a) × Where code (by_place low code high ≡ rom a)
-      × Where high (by_place low code high ≡ rom (a - 0x8000))
-  finds_by true true high p q r = absurd (let x = p refl in cc)
-  finds_by true false true p q r = absurd (let x = q refl in cc)
-  finds_by true false false p q r = (refl, tt, tt)
-  finds_by false true true p q r = absurd (let x = r refl in cc)
-  finds_by false true false p q r = (tt, refl, tt)
-  finds_by false false true p q r = (tt, tt, refl)
-  finds_by false false false p q r = (tt, tt, tt)
-
-  low_code : nat_lt a 0x200 ≡ true → (nat_le 0x4800 a && nat_lt a 0x8000) ≡ false
-  low_code e = let small = leb-true (suc a) 0x200 e in ap (λ t. t && nat_lt a 0x8000) (lt-leb 0x4800 a (omega (arith, small)))
-
-  low_high : nat_lt a 0x200 ≡ true → nat_le 0xFFFA a ≡ false
-  low_high e = let small = leb-true (suc a) 0x200 e in lt-leb 0xFFFA a (omega (arith, small))
-
-  code_high : (nat_le 0x4800 a && nat_lt a 0x8000) ≡ true → nat_le 0xFFFA a ≡ false
-  code_high e = let small = leb-true (suc a) 0x8000 (both_true (nat_le 0x4800 a) (nat_lt a 0x8000) e).1 in
-      lt-leb 0xFFFA a (omega (arith, small))
-
-  pub finds : Finds rom work a (answer rom work free a)
-  finds = let f = finds_by (nat_lt a 0x200) (nat_le 0x4800 a && nat_lt a 0x8000) (nat_le 0xFFFA a) low_code low_high code_high in
-      record { in_work = f.0; in_rom = f.1; vectors = f.2 }
-
 pub runs_go_on : RunsGoOn
-runs_go_on R image held rom machine work calm clocks on reset nmi hold free reset_in nmi_in free_in strobe apart =
+runs_go_on R image held rom machine work calm clocks on reset nmi hold free reset_in nmi_in free_in apart =
     let all = all_fit on in
     ticks (pins_for R rom machine work reset nmi hold free) on (record {
       reset = reset_in;
       nmi = nmi_in;
       vector_rom = below R (recursion_from_All (λ byte. byte < 256) R all.is_rom.bytes) _;
       m = choose (nat_eq machine.answers 1) (answer rom work free (at machine.cpu)) free
-          (answer_in rom work free (at machine.cpu) free_in all.work_in all.rom_in (nat_lt (at machine.cpu) 0x200)
-          (nat_le 0x4800 (at machine.cpu) && nat_lt (at machine.cpu) 0x8000) (nat_le 0xFFFA (at machine.cpu))) free_in;
+          (answer_small rom work free (at machine.cpu) free_in all.work_in all.rom_in) free_in;
       big = refl;
       from_rom = λ takes from to. refl;
       answers = λ second reading. subst (λ n. Finds rom work (at machine.cpu)
           (if nat_eq n 1 then answer rom work free (at machine.cpu) else free)) (sym second)
-          (finds rom work free (at machine.cpu));
-      no_strobe = strobe;
+          (answer_finds rom work free (at machine.cpu));
       apart = apart;
     })

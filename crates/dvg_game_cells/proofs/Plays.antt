@@ -13,14 +13,17 @@ use Rattle.dvg_game_rules.specs.Machine.{IsLoaded, reset_vector, restarting, wor
 use Rattle.dvg_game_rules.specs.Checker.{accepts_game, boots, boot_most, stand_at}
 use Rattle.dvg_game_rules.specs.Alike.{idle}
 use Rattle.dvg_game_rules.proofs.Facts.{both_true}
+use Rattle.dvg_game_rules.proofs.Turning.{rom_inside}
 use Rattle.dvg_calls_6502.specs.Code.{code}
+use Rattle.dvg_calls_6502.specs.Single.{is_single}
+use Rattle.dvg_calls_6502.proofs.Few.{AreFew, few}
 use Rattle.dvg_calls_cells.specs.Cycles.{Two, IsQuiet, AreQuiet, cycles_of, cycle_of, first_bus}
-use Rattle.dvg_calls_cells.specs.Steps.{AreServed, instr_of, is_single}
+use Rattle.dvg_calls_cells.specs.Steps.{AreServed, instr_of}
 use Rattle.dvg_calls_cells.specs.Played.{at_rest, older_after, cells_after}
 use Rattle.dvg_calls_cells.proofs.Fits.{AllFit, served_of}
-use Rattle.dvg_calls_cells.proofs.Few.{AreFew, few}
 use Rattle.dvg_calls_cells.proofs.Quiet.{made_more, write_append, write_both}
 use Rattle.dvg_calls_cells.proofs.Seen.{IsSeen, either_way, fetched_quiet, low_unseen, seen_one, unseen, unseen_quiet}
+use Rattle.dvg_calls_cells.proofs.Stepping.{head_is}
 use Rattle.dvg_game_6502.proofs.Plays.{Brought}
 use Rattle.dvg_game_6502.proofs.Stages.{IsAccepted}
 use Rattle.dvg_game_board.proofs.OnBoard.{on_board}
@@ -31,15 +34,16 @@ use Rattle.dvg_game_board.proofs.Sharing.{Laws}
 use Rattle.dvg_game_cells.specs.Keeps.{from_vector}
 use Rattle.dvg_game_cells.proofs.Answering.{tame_fetched, InRom}
 use Rattle.dvg_game_cells.proofs.Claims.{tame_writes}
-use Rattle.dvg_game_cells.proofs.Doing.{Doing, IsTime, Shares, calms, works}
-use Rattle.dvg_game_cells.proofs.Ends.{Done, Half, settle, settle_boot, split_served, unsnoc, works_in}
+use Rattle.dvg_game_cells.proofs.Doing.{Doing, IsTime, calms, works}
+use Rattle.dvg_game_cells.proofs.Ends.{Done, Half, settle, settle_boot, split_served, unsnoc}
 use Rattle.dvg_game_cells.proofs.Jumps.{jump_is}
 use Rattle.dvg_game_cells.proofs.Known.{Known, known}
-use Rattle.dvg_game_cells.proofs.Memory.{low_after, ram_after, writes_both}
+use Rattle.dvg_game_cells.proofs.Memory.{writes_both}
 use Rattle.dvg_game_cells.proofs.Snoc.{counts, more_older, then_at}
 use Rattle.dvg_game_cells.proofs.Timing.{Timed, at_least, at_most, timely}
 use Rattle.dvg_game_cells.proofs.Turned
-use Rattle.dvg_game_cells.proofs.Turned.{made_both, more_cycles, code_inside, low_inside, ram_inside}
+use Rattle.dvg_game_cells.proofs.Turned.{made_both, more_cycles}
+use Rattle.dvg_game_cells.proofs.Vectors.{doing_next}
 use Rattle.dvg_game_cells.proofs.Walks.{loud_half, quiet_half, quietly, second_half}
 
 -- where nothing is written to the board, the accesses leave it alone
@@ -56,23 +60,11 @@ written_quiet (Writes a byte ∷ log) none =
     by again false true er es none = absurd (cc)
     by again false false er es none = ((er, es), again none)
 
--- the parts of equal lists
-cons_is : (a b : Access) (l r : List Access) → a ∷ l ≡ b ∷ r → (a ≡ b) × (l ≡ r)
-cons_is a b l r e = (ap (λ l. first l) e, ap (λ l. others l) e)
-  where
-    first : List Access → Access
-    first [] = a
-    first (access ∷ rest) = access
-
-    others : List Access → List Access
-    others [] = []
-    others (access ∷ rest) = rest
-
 -- what is older than the newest of these
 older_quiet : (more : List Access) (acc its : Access) (l r : List Access) → more ++ (acc ∷ l) ≡ its ∷ r → AreQuiet r → AreQuiet l
-older_quiet [] acc its l r e quiet = subst AreQuiet (sym (cons_is acc its l r e).1) quiet
+older_quiet [] acc its l r e quiet = subst AreQuiet (sym (head_is acc its l r e).1) quiet
 older_quiet (one ∷ more) acc its l r e quiet =
-    let rest = (cons_is one its (more ++ (acc ∷ l)) r e).1 in
+    let rest = (head_is one its (more ++ (acc ∷ l)) r e).1 in
     let both = write_both IsQuiet more (acc ∷ l) (subst AreQuiet (sym rest) quiet) in
     (write_both IsQuiet (acc ∷ []) l both.1).1
 
@@ -225,7 +217,7 @@ module _ (laws : Laws) (R image : List ℕ) (held rom : ℕ → ℕ) (start : �
           let all : access then_cells din ∷ made cells (cycled list) [] ≡ loud.0 ∷ fetched (instr_of (as_turned more claim)) (as_turned more claim) =
           sym made_is ∙ ap (λ l. made cells l []) (sym (append-nil (cycled more))) ∙ g.bus
           ∙ ap (λ l. l ++ fetched (instr_of (as_turned more claim)) (as_turned more claim)) loud.1 in
-          let parts = cons_is _ _ _ _ all in
+          let parts = head_is _ _ _ _ all in
           loud_half R image held rom start then_older then_cells two served.1 (turned more claim) since claim.flags
           (quietly R image held rom start (Some (turned more claim, since)) list older cells (on_turned more claim) served.0
           (subst AreQuiet (sym parts.1) (fetched_quiet IsQuiet (instr_of (as_turned more claim)) (as_turned more claim))))
@@ -293,32 +285,13 @@ module _ (laws : Laws) (R image : List ℕ) (held rom : ℕ → ℕ) (start : �
           g.memory ∙ sym (ap (λ l. after_writes l claim.mem) made_news ∙ writes_both g.news (fetched (instr_of k) k) claim.mem
           ∙ ap (after_writes g.news) (tame_writes (fetched (instr_of k) k) claim.mem (tame_fetched k mine (instr_of k))))
 
-      shares_then : IsLoaded rom last.mem → AreBytes last → Shares R image held rom start last then_work end_older
-      shares_then loaded bytes = record {
-        low = λ b less. ap (λ (m : ℕ → ℕ). m b) mem_is
-            ∙ low_after R held list older cells work claim.mem doing.fits doing.given
-            (λ b less. claim.turned b (low_inside b less) ∙ doing.shares.low b less) b less;
-        ram = λ a less. ap (λ (m : ℕ → ℕ). m (0x4000 + a)) mem_is
-            ∙ ram_after R held list older cells claim.mem doing.fits doing.given
-            (λ a less. claim.turned (0x4000 + a) (ram_inside a less) ∙ doing.shares.ram a less) a less;
-        loaded = loaded;
-        bytes = bytes;
-      }
-
       all_served : AreServed R (at_rest held older cells) list × AllFit R held end_older end_cells
       all_served = served_of R held list older cells doing.fits doing.given
 
       doing_then : IsLoaded rom last.mem → AreBytes last
           → Doing R image held rom start last end_older end_cells then_work then_calm []
-      doing_then loaded bytes = record {
-        is_rom = doing.is_rom;
-        fits = all_served.1;
-        shares = shares_then loaded bytes;
-        work_in = works_in R image held rom start list older cells work doing.fits doing.given doing.work_in;
-        rom_in = doing.rom_in;
-        given = tt;
-        asked = tt;
-      }
+      doing_then loaded bytes =
+          doing_next R image held rom start cpu older cells work calm list doing last claim.mem claim.turned mem_is loaded bytes
 
       rests_then : Rests end_cells last
       rests_then = subst (λ l. Rests (ends cells l) last) (append-nil (cycled list)) g.rests
@@ -418,7 +391,7 @@ module _ (laws : Laws) (R image : List ℕ) (held rom : ℕ → ℕ) (start : �
       ]
         where
           loaded_so : (b : ℕ) → 0x4800 ≤ b → b < 0x8000 → claim.mem b ≡ rom b
-          loaded_so b low high = claim.turned b (code_inside b low high) ∙ it.loaded b low high
+          loaded_so b low high = claim.turned b (rom_inside b low high) ∙ it.loaded b low high
 
       pub plays_done : Done R image held rom start cpu older cells work calm list
       plays_done = by (restarts (turned list claim)) refl

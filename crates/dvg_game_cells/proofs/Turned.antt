@@ -2,11 +2,11 @@
 use Rattle.std.proofs.Common.{◌≡◌, ℕ, zero, suc, ◌+◌, ◌-◌, ◌/◌, ◌<◌, ◌≤◌, Bool, true, false, not, List, [], ◌∷◌, ◌++◌, length, refl, sym, ap, ◌∙◌}
 use Rattle.std.proofs.Common.{subst, arith, inl, inr, append_assoc, append-nil, eqb-true, eq-eqb, leb-true, le-leb}
 use Rattle.std.specs.Prelude.{◌⊎◌, nat_eq, nat_le, nat_lt, ◌&&◌, ◌||◌, if◌then◌else◌}
-use Rattle.std.proofs.lemmas.Bool.{ne_eqb, lt-leb, cases_lt}
+use Rattle.std.proofs.lemmas.Bool.{ne_eqb, cases_lt, or_left}
 use Rattle.std.proofs.lemmas.Bool.Decides.{eqb_tells}
 use Rattle.dvg_calls_6502.specs.Processor.{Cpu, Access, Reads, Writes, found, does, decoded, opcodes, put}
 use Rattle.dvg_calls_6502.specs.Amid.{changed}
-use Rattle.dvg_calls_6502.specs.Board.{is_hardware, is_ram}
+use Rattle.dvg_calls_6502.specs.Board.{is_ram, is_readable}
 use Rattle.dvg_cells_core.specs.Cells.{mux}
 use Rattle.dvg_cells_board.specs.Board.{Bus, q}
 use Rattle.dvg_cells_board.specs.Clocks.{after}
@@ -18,20 +18,22 @@ use Rattle.dvg_cells_cpu.proofs.Bounds.{mux_in}
 use Rattle.dvg_game_rules.specs.Machine.{is_outside, IsTurned}
 use Rattle.dvg_game_rules.proofs.Facts.{both_true}
 use Rattle.dvg_game_rules.proofs.Memory.{between as in_page}
+use Rattle.dvg_game_rules.proofs.Turning.{low_inside, readable_inside, rom_inside}
 use Rattle.dvg_calls_cells.specs.Cycles.{Two, first_bus, second_bus, cycles_of, cycle_of, between}
 use Rattle.dvg_calls_cells.specs.Steps.{instr_of}
 use Rattle.dvg_calls_cells.specs.Played.{AreGiven, IsGiven, at_rest, older_after, cells_after, in_board}
 use Rattle.dvg_calls_cells.proofs.Fits.{AllFit, board_fits, served_of, first_is, q_in}
 use Rattle.dvg_calls_cells.proofs.Found.{answered_of}
 use Rattle.dvg_calls_cells.proofs.Quiet.{made_more}
+use Rattle.dvg_calls_cells.proofs.Stepping.{on_board}
 use Rattle.dvg_calls_board.proofs.Ram.{in_ram as ram_place}
 use Rattle.dvg_game_6502.specs.Play.{AreBytes, fresh}
 use Rattle.dvg_game_cells.proofs.Answering.{AreFine, AreTame, InRom, IsTame, fine, fine_end, is_direct}
-use Rattle.dvg_game_cells.proofs.Claims.{off_board, tame_answered, tame_byte, tame_writes}
+use Rattle.dvg_game_cells.proofs.Claims.{off_board, tame_answered, tame_byte, tame_writes, where_so}
 use Rattle.dvg_game_cells.proofs.Doing.{Asked, AreAsked, Doing, calm_in, calms, works, wrote}
+use Rattle.dvg_game_cells.proofs.Fresh.{choose}
 use Rattle.dvg_game_cells.proofs.Memory.{low_after, ram_after}
 use Rattle.dvg_game_cells.proofs.Snoc.{then_at}
-use Rattle.dvg_game_cells.proofs.Walks.{on_board}
 
 -- behind cycles of which all but the first read no opcode, and none does that is still to come
 amid_cycles : (list : List Cycle) (cells : Cells) (cycle : Cycle) (later : List Cycle) → AreAmid cells (list ++ cycle ∷ later)
@@ -80,33 +82,9 @@ pub length_both : {A : Type 0} (one two : List A) → length (one ++ two) ≡ le
 length_both [] two = omega arith
 length_both (x ∷ one) two = let e = length_both one two in omega (arith, e)
 
-where_so : {P : Type 0} (t : Bool) → t ≡ true → Where t P → P
-where_so true e p = p
-where_so false e p = absurd (cc)
-
 -- what doesn't stand outside
 pub ram_inside : (a : ℕ) → a < 2048 → is_outside (0x4000 + a) ≡ false
-ram_inside a less = ap (λ t. nat_le 0x200 (0x4000 + a) && not ((t || (nat_eq (0x4000 + a) 0x2002 || nat_eq (0x4000 + a) 0x3000))
-    || (nat_le 0x4800 (0x4000 + a) && nat_lt (0x4000 + a) 0x8000))) (ram_place a less) ∙ and_no (nat_le 0x200 (0x4000 + a))
-  where
-    and_no : (t : Bool) → (t && false) ≡ false
-    and_no true = refl
-    and_no false = refl
-
-pub low_inside : (b : ℕ) → b < 0x200 → is_outside b ≡ false
-low_inside b less = ap (λ t. t && not (is_hardware b || (nat_le 0x4800 b && nat_lt b 0x8000))) (lt-leb 0x200 b less)
-
-no_of : (h l : Bool) → (l && not (h || true)) ≡ false
-no_of true true = refl
-no_of true false = refl
-no_of false true = refl
-no_of false false = refl
-
-pub code_inside : (b : ℕ) → 0x4800 ≤ b → b < 0x8000 → is_outside b ≡ false
-code_inside b low high =
-    ap (λ t. nat_le 0x200 b && not (is_hardware b || (t && nat_lt b 0x8000))) (le-leb 0x4800 b low)
-    ∙ ap (λ t. nat_le 0x200 b && not (is_hardware b || t)) (le-leb (suc b) 0x8000 high)
-    ∙ no_of (is_hardware b) (nat_le 0x200 b)
+ram_inside a less = readable_inside (0x4000 + a) (or_left (is_ram (0x4000 + a)) _ (ram_place a less))
 
 module _ (R image : List ℕ) (held rom : ℕ → ℕ) (start : ℕ) where
   abbrev onward : List Bus → Cells → Two → List Bus
@@ -208,12 +186,10 @@ module _ (R image : List ℕ) (held rom : ℕ → ℕ) (start : ℕ) where
           by_code beside high true e = let two = both_true (nat_le 0x4800 place) (nat_lt place 0x8000) e in
               in_tame (inr (leb-true 0x4800 place two.0, leb-true (suc place) 0x8000 two.1))
           by_code beside high false e =
-              let strobe = asked.no_strobe (eqb-true (write then_cells) 0 reading) in
-              let out : is_outside place ≡ true = ap (λ t. t && not (is_hardware place || (nat_le 0x4800 place && nat_lt place 0x8000)))
+              let out : is_outside place ≡ true = ap (λ t. t && not (is_readable place || (nat_le 0x4800 place && nat_lt place 0x8000)))
               (le-leb 0x200 place high)
-              ∙ ap (λ t. not ((t || (nat_eq place 0x2002 || nat_eq place 0x3000)) || (nat_le 0x4800 place && nat_lt place 0x8000))) beside
-              ∙ ap (λ t. not ((t || nat_eq place 0x3000) || (nat_le 0x4800 place && nat_lt place 0x8000))) other
-              ∙ ap (λ t. not (t || (nat_le 0x4800 place && nat_lt place 0x8000))) strobe
+              ∙ ap (λ t. not ((t || nat_eq place 0x2002) || (nat_le 0x4800 place && nat_lt place 0x8000))) beside
+              ∙ ap (λ t. not (t || (nat_le 0x4800 place && nat_lt place 0x8000))) other
               ∙ ap not e in
               absurd (let x = sym is ∙ out in cc)
 
@@ -251,10 +227,6 @@ module _ (R image : List ℕ) (held rom : ℕ → ℕ) (start : ℕ) where
       turned_in : (f : Bool) (b : ℕ) → (if f then cpu.mem b else put place din cpu.mem b) < 256
       turned_in true b = doing.shares.bytes.mem b
       turned_in false b = choose (nat_eq b place) din (cpu.mem b) din_in (doing.shares.bytes.mem b)
-        where
-          choose : (t : Bool) (x y : ℕ) → x < 256 → y < 256 → (if t then x else y) < 256
-          choose true x y p r = p
-          choose false x y p r = r
 
       found_so : (f : Bool) → din ≡ (if f then din else (if f then cpu.mem place else put place din cpu.mem place))
       found_so true = refl
@@ -269,7 +241,7 @@ module _ (R image : List ℕ) (held rom : ℕ → ℕ) (start : ℕ) where
           (tame_answered R held rom list older cells work calm turned_cpu doing.fits given.0
           (split_asked two list older cells work calm doing.asked).0
           (λ b less. turned_so (nat_eq place 0x2002) refl b (low_inside b less) ∙ doing.shares.low b less)
-          (λ b low high. turned_so (nat_eq place 0x2002) refl b (code_inside b low high) ∙ doing.shares.loaded b low high) tame)
+          (λ b low high. turned_so (nat_eq place 0x2002) refl b (rom_inside b low high) ∙ doing.shares.loaded b low high) tame)
           (where_is (nat_eq (write then_cells) 0) (found_so (nat_eq place 0x2002)), tt))
 
     -- with this memory and this flag the reads so far find what the processor has
@@ -289,7 +261,7 @@ module _ (R image : List ℕ) (held rom : ℕ → ℕ) (start : ℕ) where
 
         pub same_instr : instr_of as_turned ≡ instr_of cpu
         same_instr = let high = in_rom.high in
-            ap (decoded opcodes) (claim.turned cpu.pc (code_inside cpu.pc in_rom.low (omega (arith, high))))
+            ap (decoded opcodes) (claim.turned cpu.pc (rom_inside cpu.pc in_rom.low (omega (arith, high))))
 
         plain : (b : ℕ) → 0x4800 ≤ b → found b as_turned ≡ claim.mem b
         plain b low = ap (λ t. if t then claim.flags 0 else claim.mem b) (ne_eqb b 0x2002 (λ e. omega (arith, e, low)))

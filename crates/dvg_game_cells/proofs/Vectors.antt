@@ -16,11 +16,13 @@ use Rattle.dvg_cells_cpu.proofs.Resting.{held as stands_so, in_state}
 use Rattle.dvg_game_rules.specs.Machine.{IsLoaded, is_outside, IsTurned, reset_vector, word_at}
 use Rattle.dvg_game_rules.specs.Checker.{accepts_game, boot_most, stand_at}
 use Rattle.dvg_game_rules.proofs.Facts.{both_true}
+use Rattle.dvg_game_rules.proofs.Turning.{low_inside, rom_inside}
 use Rattle.dvg_calls_cells.specs.Cycles.{Two, IsQuiet, AreQuiet, next, first_bus, second_bus, cycles_of, cycle_of, between}
 use Rattle.dvg_calls_cells.specs.Played.{AreGiven, at_rest, older_after, cells_after}
 use Rattle.dvg_calls_cells.proofs.Fits.{AllFit, cycle_fits, first_is, served_of}
 use Rattle.dvg_calls_cells.proofs.Quiet.{made_more, write_both}
 use Rattle.dvg_calls_cells.proofs.Seen.{no_ram}
+use Rattle.dvg_calls_cells.proofs.Stepping.{on_board}
 use Rattle.dvg_game_6502.proofs.Plays.{Brought}
 use Rattle.dvg_game_6502.proofs.Stages.{IsAccepted}
 use Rattle.dvg_game_board.proofs.OnBoard as bearing
@@ -30,14 +32,15 @@ use Rattle.dvg_game_board.specs.Cabinet.{IsCabinet, nmi, turns}
 use Rattle.dvg_game_board.proofs.Sharing.{Laws}
 use Rattle.dvg_game_cells.specs.Keeps.{from_vector}
 use Rattle.dvg_game_cells.proofs.Answering.{InRom}
+use Rattle.dvg_game_cells.proofs.Claims.{where_so}
 use Rattle.dvg_game_cells.proofs.Doing.{Asked, AreAsked, Doing, calm_in, calms, works, wrote}
 use Rattle.dvg_game_cells.proofs.Ends.{Done, Half, settle, settle_boot, split_served, works_in}
 use Rattle.dvg_game_cells.proofs.Known.{Known, known}
 use Rattle.dvg_game_cells.proofs.Memory.{low_after, ram_after}
 use Rattle.dvg_game_cells.proofs.Snoc.{counts, then_at}
 use Rattle.dvg_game_cells.proofs.Timing.{Timed, Timely, timely}
-use Rattle.dvg_game_cells.proofs.Turned.{code_inside, count_of, low_inside, made_both, more_cycles, ram_inside}
-use Rattle.dvg_game_cells.proofs.Walks.{on_board, quiet_half, quietly}
+use Rattle.dvg_game_cells.proofs.Turned.{count_of, made_both, more_cycles, ram_inside}
+use Rattle.dvg_game_cells.proofs.Walks.{quiet_half, quietly}
 
 -- each of these reads is at the top of memory
 abbrev AreHigh : List Access → Type 0
@@ -61,12 +64,11 @@ last_false false = refl
 -- what is there stands outside
 high_outside : (b : ℕ) → 0xFFFA ≤ b → is_outside b ≡ true
 high_outside b high =
-    ap (λ t. nat_le 0x200 b && not (((nat_le 0x4000 b && t) || (nat_eq b 0x2002 || nat_eq b 0x3000)) || (nat_le 0x4800 b && nat_lt b 0x8000)))
+    ap (λ t. nat_le 0x200 b && not (((nat_le 0x4000 b && t) || nat_eq b 0x2002) || (nat_le 0x4800 b && nat_lt b 0x8000)))
     (lt-leb (suc b) 0x4800 (omega (arith, high)))
-    ∙ ap (λ t. nat_le 0x200 b && not ((t || (nat_eq b 0x2002 || nat_eq b 0x3000)) || (nat_le 0x4800 b && nat_lt b 0x8000)))
+    ∙ ap (λ t. nat_le 0x200 b && not ((t || nat_eq b 0x2002) || (nat_le 0x4800 b && nat_lt b 0x8000)))
     (last_false (nat_le 0x4000 b))
-    ∙ ap (λ t. nat_le 0x200 b && not ((t || nat_eq b 0x3000) || (nat_le 0x4800 b && nat_lt b 0x8000))) (ne_eqb b 0x2002 (λ e. omega (arith, e, high)))
-    ∙ ap (λ t. nat_le 0x200 b && not (t || (nat_le 0x4800 b && nat_lt b 0x8000))) (ne_eqb b 0x3000 (λ e. omega (arith, e, high)))
+    ∙ ap (λ t. nat_le 0x200 b && not (t || (nat_le 0x4800 b && nat_lt b 0x8000))) (ne_eqb b 0x2002 (λ e. omega (arith, e, high)))
     ∙ ap (λ t. nat_le 0x200 b && not (false || (nat_le 0x4800 b && t))) (lt-leb (suc b) 0x8000 (omega (arith, high)))
     ∙ ap (λ t. nat_le 0x200 b && not (false || t)) (last_false (nat_le 0x4800 b))
     ∙ no_of (nat_le 0x200 b) (le-leb 0x200 b (omega (arith, high)))
@@ -76,10 +78,6 @@ off_high a high small =
     ap (λ t. either (either (bit t) (eq a 8194)) (eq a 12288)) (ne_eqb (part 11 5 a) 8 (λ e. omega (arith, e, high, small)))
     ∙ ap (λ t. either (either 0 (bit t)) (eq a 12288)) (ne_eqb a 8194 (λ e. omega (arith, e, high)))
     ∙ ap (λ t. either 0 (bit t)) (ne_eqb a 12288 (λ e. omega (arith, e, high)))
-
-where_so : {P : Type 0} (t : Bool) → t ≡ true → Where t P → P
-where_so true e p = p
-where_so false e p = absurd (cc)
 
 -- a place of the stack is neither of the vector RAM nor the strobe's
 low_quiet : (a : ℕ) → a < 0x200 → (is_ram a ≡ false) × (nat_eq a 0x3000 ≡ false)
@@ -295,7 +293,7 @@ module _ (R image : List ℕ) (held rom : ℕ → ℕ) (start : ℕ) where
           (high_answered list older cells work calm k doing.fits doing.given doing.asked vectors_are so.1) in
           let pc_is : (restarted k).pc ≡ word_at rom reset_vector = refl in
           let loaded : IsLoaded rom (restarted k).mem =
-          λ b low high. vectors_turn b (code_inside b low high) ∙ doing.shares.loaded b low high in
+          λ b low high. vectors_turn b (rom_inside b low high) ∙ doing.shares.loaded b low high in
           let old = doing.shares.bytes in
           let bytes : AreBytes (restarted k) =
           record { a = old.a; x = old.x; y = old.y; s = lit< tt; mem = vectors_in old.mem doing.rom_in } in

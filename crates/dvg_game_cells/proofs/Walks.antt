@@ -1,105 +1,22 @@
 -- Cycles of the cells in a cabinet: those that leave the board alone, and one that makes an instruction's access.
-use Rattle.std.proofs.Common.{◌≡◌, ℕ, suc, ◌/◌, ◌<◌, Bool, true, false, not, List, [], ◌∷◌, refl, sym, ap, ◌∙◌, subst, eqb-true}
-use Rattle.std.proofs.Common.{arith, inl, inr, le-leb, eq-eqb}
-use Rattle.std.specs.Prelude.{◌%◌, nat_eq, nat_le, nat_lt, ◌&&◌, ◌||◌, if◌then◌else◌, Option, Some, None}
-use Rattle.std.proofs.lemmas.Bool.{or_right as or_more}
-use Rattle.std.proofs.lemmas.Bool.Decides.{eqb_tells, leb_tells}
-use Rattle.dvg_driver.specs.declared.action.Action.TheVariants.{Peek, Wrote, Read, Sent}
+use Rattle.std.proofs.Common.{◌≡◌, ℕ, suc, ◌<◌, Bool, true, false, List, [], ◌∷◌, refl, sym, ap, ◌∙◌, subst, eqb-true}
+use Rattle.std.specs.Prelude.{nat_eq, if◌then◌else◌, Option, Some}
 use Rattle.dvg_calls_6502.specs.Processor.{Cpu, Access, Reads, Writes}
-use Rattle.dvg_calls_6502.specs.Board.{is_hardware, is_ram}
-use Rattle.dvg_cells_core.specs.Core.{halted}
-use Rattle.dvg_cells_core.specs.Cells.{bit, eq, either, mux, part}
-use Rattle.dvg_cells_board.specs.Board.{Board, Bus, q}
+use Rattle.dvg_cells_core.specs.Cells.{mux}
+use Rattle.dvg_cells_board.specs.Board.{Bus, q}
 use Rattle.dvg_cells_board.specs.Board as pin
-use Rattle.dvg_cells_board.specs.Clocks.{IsBus, IsServed, after, sends, writes}
-use Rattle.dvg_cells_board.specs.Clocks as clocked
-use Rattle.dvg_calls_board.specs.Machine.{IsIdle, Makes}
+use Rattle.dvg_cells_board.specs.Clocks.{after}
+use Rattle.dvg_calls_board.specs.Machine.{Makes}
 use Rattle.dvg_cells_cpu.specs.Cpu.{Cpu as Cells, at, write, dout, clock}
 use Rattle.dvg_cells_cpu.specs.Refines.{pins_of, access, made}
 use Rattle.dvg_calls_cells.specs.Cycles.{Two, first_bus, second_bus, next, cycles_of, cycle_of, IsQuiet, AreQuiet}
 use Rattle.dvg_calls_cells.specs.Steps.{AreServed}
 use Rattle.dvg_calls_cells.specs.Played.{at_rest, older_after}
-use Rattle.dvg_calls_cells.proofs.Quiet.{write_first}
+use Rattle.dvg_calls_cells.proofs.Quiet.{idle_write, write_first}
 use Rattle.dvg_calls_cells.proofs.Seen.{IsSeen}
+use Rattle.dvg_calls_cells.proofs.Stepping.{answered_there, on_board, one_of}
 use Rattle.dvg_game_6502.specs.Play.{done, restarts}
 use Rattle.dvg_game_board.specs.Cabinet.{IsCabinet, AreMade, no_more, one_more, waits, reads, does, touched}
-
--- a write beside the vector RAM and the strobe leaves the board alone
-and_no : (b : Bool) → (b && false) ≡ false
-and_no true = refl
-and_no false = refl
-
-second_no : (x y : Bool) → (x && (false && y)) ≡ false
-second_no true y = refl
-second_no false y = refl
-
-last_no : (x y : Bool) → (x && (y && false)) ≡ false
-last_no true true = refl
-last_no true false = refl
-last_no false y = refl
-
-other_page : (a : ℕ) → is_ram a ≡ false → nat_eq (a / 0x800) 8 ≡ false
-other_page a e = elim (eqb_tells (a / 0x800) 8) [
-  | inl t ↦
-      let page = t.1 in
-      let low : nat_le 0x4000 a ≡ true = le-leb 0x4000 a (omega arith) in
-      let high : nat_lt a 0x4800 ≡ true = le-leb (suc a) 0x4800 (omega arith) in
-      absurd (let is : is_ram a ≡ true = ap (λ t. t && nat_lt a 0x4800) low ∙ high in cc)
-  | inr t ↦ t.0
-]
-
-idle_write : (board : Board) (bus : Bus) → nat_eq bus.write 0 ≡ false → is_ram bus.a ≡ false → nat_eq bus.a 0x3000 ≡ false
-    → IsIdle board bus
-idle_write board bus writing ram strobe = (
-  ap (λ (t : Bool). if t then Some (Read (nat_eq (halted board.core) 1)) else if clocked.reads bus 0x4001 then Some Peek else None)
-      (no_read 0x2002) ∙ ap (λ (t : Bool). if t then Some Peek else None) (no_read 0x4001),
-  ap (λ (t : Bool). if t then Some (Wrote (bus.a % 0x800) bus.d) else if sends bus then Some Sent else None)
-      (no_write (nat_eq (bus.a / 0x800) 8) (other_page bus.a ram))
-      ∙ ap (λ (t : Bool). if t then Some Sent else None) (no_write (nat_eq bus.a 0x3000) strobe),
-)
-  where
-    no_read : (a : ℕ) → clocked.reads bus a ≡ false
-    no_read a = ap (λ t. not (nat_eq bus.access 0) && (t && nat_eq bus.a a)) writing
-        ∙ second_no (not (nat_eq bus.access 0)) (nat_eq bus.a a)
-
-    no_write : (t : Bool) → t ≡ false → (not (nat_eq bus.access 0) && (not (nat_eq bus.write 0) && t)) ≡ false
-    no_write t e = ap (λ t. not (nat_eq bus.access 0) && (not (nat_eq bus.write 0) && t)) e
-        ∙ last_no (not (nat_eq bus.access 0)) (not (nat_eq bus.write 0))
-
--- the board answers where the hardware is read
-ram_bit : (a : ℕ) → a < 65536 → is_ram a ≡ true → nat_eq (part 11 5 a) 8 ≡ true
-ram_bit a less e = elim (leb_tells 0x4000 a) [
-  | inl t ↦ elim (leb_tells (suc a) 0x4800) [
-    | inl u ↦ eq-eqb (part 11 5 a) 8 (let from = t.1 in let to = u.1 in omega arith)
-    | inr u ↦ absurd (
-        let no : (nat_le 0x4000 a && nat_lt a 0x4800) ≡ false = ap (λ k. nat_le 0x4000 a && k) u.0 ∙ and_no (nat_le 0x4000 a) in cc)
-  ]
-  | inr t ↦ absurd (let no : (nat_le 0x4000 a && nat_lt a 0x4800) ≡ false = ap (λ k. k && nat_lt a 0x4800) t.0 in cc)
-]
-
-abbrev pub on_board : ℕ → ℕ
-on_board a = either (either (eq (part 11 5 a) 8) (eq a 8194)) (eq a 12288)
-
-three_bits : (r f s : Bool) → (r || (f || s)) ≡ true → either (either (bit r) (bit f)) (bit s) ≡ 1
-three_bits true f s e = refl
-three_bits false true s e = refl
-three_bits false false true e = refl
-three_bits false false false e = absurd (cc)
-
-pub answered_there : (a : ℕ) → a < 65536 → is_hardware a ≡ true → on_board a ≡ 1
-answered_there a less e = by (is_ram a) refl
-  where
-    by : (b : Bool) → is_ram a ≡ b → on_board a ≡ 1
-    by true is = ap (λ t. either (either (bit t) (eq a 8194)) (eq a 12288)) (ram_bit a less is)
-    by false is = three_bits (nat_eq (part 11 5 a) 8) (nat_eq a 8194) (nat_eq a 12288)
-        (or_more (nat_eq (part 11 5 a) 8) (nat_eq a 8194 || nat_eq a 12288)
-        (sym (ap (λ t. t || (nat_eq a 8194 || nat_eq a 12288)) is) ∙ e))
-
-one_of : (s t : Bool) → nat_eq (if s then (if t then 0 else 1) else 1) 0 ≡ false
-    → ◌≡◌ {A = ℕ} (if s then (if t then 0 else 1) else 1) 1
-one_of true true e = absurd (cc)
-one_of true false e = refl
-one_of false t e = refl
 
 module _ (R image : List ℕ) (held rom : ℕ → ℕ) (start : ℕ) where
   abbrev On : Option (Cpu × ℕ) → List Bus → Type 0

@@ -1,8 +1,8 @@
 -- Each run of cells stands somewhere, and so it is a run of a cabinet, whose log keeps the headline.
-use Rattle.std.proofs.Common.{◌≡◌, ℕ, zero, suc, ◌-◌, ◌<◌, ◌≤◌, Bool, true, false, List, [], ◌∷◌, ◌++◌, length, refl, sym, ap, ◌∙◌}
-use Rattle.std.proofs.Common.{subst, arith, inl, inr, lit<, eqb-true, leb-true}
-use Rattle.std.specs.Prelude.{◌⊎◌, nat_eq, nat_le, nat_lt, ◌&&◌, if◌then◌else◌, Option, Some, None}
-use Rattle.std.proofs.lemmas.Bool.{cases_lt, lt-leb}
+use Rattle.std.proofs.Common.{◌≡◌, ℕ, zero, suc, ◌<◌, ◌≤◌, Bool, true, false, List, [], ◌∷◌, ◌++◌, length, refl, sym, ap, ◌∙◌}
+use Rattle.std.proofs.Common.{subst, arith, inl, inr, lit<, eqb-true}
+use Rattle.std.specs.Prelude.{◌⊎◌, nat_eq, nat_lt, ◌&&◌, if◌then◌else◌, Option, Some, None}
+use Rattle.std.proofs.lemmas.Bool.{cases_lt}
 use Rattle.std.proofs.lemmas.List.Elements.{recursion_from_All}
 use Rattle.dvg_mem.specs.Memory.{IsRom}
 use Rattle.dvg_calls_6502.specs.Processor.{Cpu, put}
@@ -11,9 +11,8 @@ use Rattle.dvg_cells_board.specs.Clocks.{IsServed, after}
 use Rattle.dvg_cells_board.specs.Logs.{HoldsRam}
 use Rattle.dvg_cells_cpu.specs.Cpu.{Cpu as Cells, at, dout, sync, write, zeros}
 use Rattle.dvg_cells_cpu.specs.Cpu as cpus
-use Rattle.dvg_cells_cpu.specs.Refines.{Where, pins_of}
+use Rattle.dvg_cells_cpu.specs.Refines.{pins_of}
 use Rattle.dvg_cells_cpu.proofs.Fitting.{fits}
-use Rattle.dvg_game_rules.proofs.Facts.{both_true}
 use Rattle.dvg_calls_cells.specs.Machine.{Machine, Bus as Pins, clock, drives_board}
 use Rattle.dvg_calls_cells.specs.Cycles.{Drive, Two, with_reset, driven, resetting, first_bus, second_bus, cycle_of}
 use Rattle.dvg_calls_cells.specs.Cycles.{cycles_of}
@@ -32,10 +31,11 @@ use Rattle.dvg_game_board.proofs.Sharing.{Laws}
 use Rattle.dvg_game_cells.specs.Whole.{IsDriven, IsWhole, Finds, calm_after, work_after}
 use Rattle.dvg_game_cells.specs.Whole as whole
 use Rattle.dvg_game_cells.specs.Keeps.{AreBooting, CellsKeep, GamesOnCellsKeep, StandAt, VectorsOnCellsKeep}
+use Rattle.dvg_game_cells.specs.GoesOn.{answer}
 use Rattle.dvg_game_cells.proofs.Walks.{second_half}
 use Rattle.dvg_game_cells.proofs.Doing.{Asked, Doing, Shares, Stand, Task, calm_in, calms, works, wrote, stands, wakes, starts, breaks, handles}
 use Rattle.dvg_game_cells.proofs.Doing.{plays, hears}
-use Rattle.dvg_game_cells.proofs.Fresh.{fresh_cpu, fresh_holds, fresh_shares}
+use Rattle.dvg_game_cells.proofs.Fresh.{answer_finds, answer_small, fresh_cpu, fresh_holds, fresh_shares}
 use Rattle.dvg_game_cells.proofs.Boots as booting
 use Rattle.dvg_game_cells.proofs.Plays as playing
 use Rattle.dvg_game_cells.proofs.Vectors as vectors
@@ -136,12 +136,12 @@ module _ (laws : Laws) (R image : List ℕ) (held rom : ℕ → ℕ) (start : �
       absurd (not_both (sync cells) high
       (vectors.wakes_amid R image held rom start cpu older cells work calm holds begin free [] (omega arith)))
   at_task cpu older cells work calm (starts spot left on rests boots boot free) shares high =
-      (spot, on, inr (cpu, boot, rests.holds))
+      (spot, on, inr (None, cpu, boot, rests.holds))
   at_task cpu older cells work calm (breaks spot left on rests boots boot due close) shares high =
       absurd (not_both (sync cells) high (booting.breaks_unread R image held rom start cpu older cells work calm rests spot left on
       boots boot due close [] (omega arith) shares))
   at_task cpu older cells work calm (handles spot left on rests back since boots early boot free close) shares high =
-      (spot, on, inr (cpu, boot, rests.holds))
+      (spot, on, inr (Some back.pc, cpu, boot, rests.holds))
   at_task cpu older cells work calm (plays since on rests free time) shares high = (Some (cpu, since), on, inl rests.holds)
   at_task cpu older cells work calm (hears since on rests due late calm_is) shares high =
       absurd (not_both (sync cells) high (vectors.hears_amid R image held rom start cpu older cells work calm laws game brought
@@ -358,7 +358,6 @@ module _ (laws : Laws) (R image : List ℕ) (held rom : ℕ → ℕ) (start : �
           → Asked rom cells work calm second.nmi second.m
       asked_by reset second more = record {
         finds = λ is. subst (λ k. Finds rom k (at cells) second.m) (same_work is) (more.answers refl is);
-        no_strobe = asks.no_strobe;
         apart = more.apart;
       }
 
@@ -388,34 +387,10 @@ module _ (laws : Laws) (R image : List ℕ) (held rom : ℕ → ℕ) (start : �
   -- a cycle can be ended
   module _ {cells : Cells} {work : ℕ → ℕ} {calm : ℕ} {clocks : List Bus} (s : Standing cells work calm clocks) (first : Drive)
       (asks : Asks (at_rest held clocks cells) work calm (driven first)) where
-    abbrev by_place : (low code high : Bool) → ℕ → ℕ
-    by_place low code high a = if low then work a else if code then rom a else if high then rom (a - 0x8000) else 0
-
-    abbrev answer : ℕ → ℕ
-    answer a = by_place (nat_lt a 0x200) (nat_le 0x4800 a && nat_lt a 0x8000) (nat_le 0xFFFA a) a
-
-    answer_in : (low code high : Bool) (a : ℕ) → by_place low code high a < 256
-    answer_in true code high a = (holding s).work_in a
-    answer_in false true high a = (holding s).rom_in a
-    answer_in false false true a = (holding s).rom_in (a - 0x8000)
-    answer_in false false false a = lit< tt
-
-    -- no address is of two of these
-    finds_by : (low code high : Bool) (a : ℕ) → (low ≡ true → code ≡ false) → (low ≡ true → high ≡ false)
-        → (code ≡ true → high ≡ false) → (byte : ℕ) → byte ≡ by_place low code high a
-        → Where low (byte ≡ work a) × Where code (byte ≡ rom a) × Where high (byte ≡ rom (a - 0x8000))
-    finds_by true true high a p q r byte e = absurd (let x = p refl in cc)
-    finds_by true false true a p q r byte e = absurd (let x = q refl in cc)
-    finds_by true false false a p q r byte e = (e, tt, tt)
-    finds_by false true true a p q r byte e = absurd (let x = r refl in cc)
-    finds_by false true false a p q r byte e = (tt, e, tt)
-    finds_by false false true a p q r byte e = (tt, tt, e)
-    finds_by false false false a p q r byte e = (tt, tt, tt)
-
     abbrev ending : Two
     ending = record {
       first = first;
-      second = drive_for R (clock (at_rest held clocks cells) (driven first)).board cells.was 0 (answer (at cells));
+      second = drive_for R (clock (at_rest held clocks cells) (driven first)).board cells.was 0 (answer rom work 0 (at cells));
     }
 
     ends_given : IsGiven R (at_rest held clocks cells) ending
@@ -423,7 +398,7 @@ module _ (laws : Laws) (R image : List ℕ) (held rom : ℕ → ℕ) (start : �
       nmi = (holding s).fitting.of_cells.was;
       first_rom = asks.vector_rom;
       second_rom = below R (recursion_from_All (λ byte. byte < 256) R (holding s).is_rom.bytes) _;
-      m = answer_in (nat_lt (at cells) 0x200) (nat_le 0x4800 (at cells) && nat_lt (at cells) 0x8000) (nat_le 0xFFFA (at cells)) (at cells);
+      m = answer_small rom work 0 (at cells) (lit< tt) (holding s).work_in (holding s).rom_in;
       first = served_by asks;
       second = record { big = refl; rom = λ takes from to. refl };
     }
@@ -433,23 +408,9 @@ module _ (laws : Laws) (R image : List ℕ) (held rom : ℕ → ℕ) (start : �
     never (suc zero) less e = cc
     never (suc (suc n)) less e = absurd (omega (arith, less))
 
-    low_code : (a : ℕ) → nat_lt a 0x200 ≡ true → (nat_le 0x4800 a && nat_lt a 0x8000) ≡ false
-    low_code a e = let small = leb-true (suc a) 0x200 e in
-        ap (λ t. t && nat_lt a 0x8000) (lt-leb 0x4800 a (omega (arith, small)))
-
-    low_high : (a : ℕ) → nat_lt a 0x200 ≡ true → nat_le 0xFFFA a ≡ false
-    low_high a e = let small = leb-true (suc a) 0x200 e in lt-leb 0xFFFA a (omega (arith, small))
-
-    code_high : (a : ℕ) → (nat_le 0x4800 a && nat_lt a 0x8000) ≡ true → nat_le 0xFFFA a ≡ false
-    code_high a e = let small = leb-true (suc a) 0x8000 (both_true (nat_le 0x4800 a) (nat_lt a 0x8000) e).1 in
-        lt-leb 0xFFFA a (omega (arith, small))
-
-    ends_asked : Asked rom cells work calm cells.was (answer (at cells))
+    ends_asked : Asked rom cells work calm cells.was (answer rom work 0 (at cells))
     ends_asked = record {
-      finds = λ is. let f = finds_by (nat_lt (at cells) 0x200) (nat_le 0x4800 (at cells) && nat_lt (at cells) 0x8000)
-          (nat_le 0xFFFA (at cells)) (at cells) (low_code (at cells)) (low_high (at cells)) (code_high (at cells)) (answer (at cells)) refl in
-          record { in_work = f.0; in_rom = f.1; vectors = f.2 };
-      no_strobe = asks.no_strobe;
+      finds = λ is. answer_finds rom work 0 (at cells);
       apart = λ rise. absurd (never cells.was (holding s).fitting.of_cells.was rise);
     }
 

@@ -1,12 +1,12 @@
 -- A run of cells can always go on, and there is one.
-use Rattle.std.specs.Prelude.{◌≡◌, ℕ, suc, ◌+◌, ◌-◌, ◌*◌, ◌<◌, ◌≤◌, ◌==◌, ◌&&◌, true, false, not, nat_eq, nat_le, nat_lt}
+use Rattle.std.specs.Prelude.{◌≡◌, ℕ, suc, ◌+◌, ◌-◌, ◌*◌, ◌<◌, ◌≤◌, ◌==◌, ◌&&◌, true, not, nat_eq, nat_le, nat_lt}
 use Rattle.std.specs.Prelude.{if◌then◌else◌, List, ◌∷◌, length, slice_index}
 use Rattle.dvg_mem.specs.Memory.{first_word}
 use Rattle.dvg_cells_core.specs.Cells.{bit}
 use Rattle.dvg_cells_board.specs.Board as pin
 use Rattle.dvg_cells_board.specs.Board.{Bus}
 use Rattle.dvg_cells_board.specs.Example.{zeros}
-use Rattle.dvg_cells_cpu.specs.Cpu.{at, write}
+use Rattle.dvg_cells_cpu.specs.Cpu.{at}
 use Rattle.dvg_calls_cells.specs.Machine.{Machine, Bus as Pins, clock, drives_board}
 use Rattle.dvg_game_6502.specs.SomeGame as game
 use Rattle.dvg_game_board.specs.Example.{nothing}
@@ -29,13 +29,13 @@ pins_for R rom machine work reset nmi hold free = record {
   undefined = 0;
 }
 
--- each run can have a clock more, whatever `reset`, `nmi`, `hold` and the free byte are in it: but for a read of the strobe, and an NMI
--- that rises too soon
+-- each run can have a clock more in which memory and the generator's ROM answer, whatever `reset`, `nmi`, `hold` and the free
+-- byte are in it, unless an NMI rises too soon
 abbrev pub RunsGoOn : Type 0
 RunsGoOn = (R image : List ℕ) (held rom : ℕ → ℕ) (machine : Machine) (work : ℕ → ℕ) (calm : ℕ) (clocks : List Bus)
     → IsWhole R image held rom machine work calm clocks → (reset nmi hold free : ℕ) → reset < 2 → nmi < 2 → free < 256
     → let pins = pins_for R rom machine work reset nmi hold free in
-    (write machine.cpu ≡ 0 → nat_eq (at machine.cpu) 0x3000 ≡ false) → (rises machine pins ≡ true → 10400 ≤ suc calm)
+    (rises machine pins ≡ true → 10400 ≤ suc calm)
     → IsWhole R image held rom (clock machine pins) (work_after machine pins work) (calm_after machine pins calm)
     (drives_board machine pins ∷ clocks)
 

@@ -19,14 +19,16 @@ use Rattle.dvg_game_cells.specs.Whole.{IsWhole}
 
 -- a 6502 by its definition with this ROM, between a reset and the program's start: where the reset's vector leads, with any
 -- registers and any memory but in the ROM; an instruction on, but not from the start; at an NMI; and where switches, coins and
--- all else outside turn to any bytes
-pub data IsBoot (rom : ℕ → ℕ) (start : ℕ) : Cpu → Type 0 where
-  from_vector : (cpu : Cpu) → IsLoaded rom cpu.mem → cpu.pc ≡ word_at rom reset_vector → AreBytes cpu → IsBoot rom start cpu
-  by_step : {cpu : Cpu} (flags : ℕ → ℕ) → IsBoot rom start cpu → nat_eq cpu.pc start ≡ false → flags 0 < 256
-      → IsBoot rom start (done flags cpu)
-  by_nmi : {cpu : Cpu} → IsBoot rom start cpu → IsBoot rom start (interrupted cpu)
-  by_turn : {cpu : Cpu} (mem : ℕ → ℕ) → IsBoot rom start cpu → ((b : ℕ) → mem b < 256) → IsTurned cpu.mem mem
-      → IsBoot rom start (changed mem cpu)
+-- all else outside turn to any bytes. Amid an NMI it says where its routine is to come back, and no other NMI comes till then
+pub data IsBoot (rom : ℕ → ℕ) (start : ℕ) : (amid : Option ℕ) → Cpu → Type 0 where
+  from_vector : (cpu : Cpu) → IsLoaded rom cpu.mem → cpu.pc ≡ word_at rom reset_vector → AreBytes cpu
+      → IsBoot rom start None cpu
+  by_step : {amid : Option ℕ} {cpu : Cpu} (flags : ℕ → ℕ) → IsBoot rom start amid cpu → nat_eq cpu.pc start ≡ false
+      → flags 0 < 256 → IsBoot rom start amid (done flags cpu)
+  by_nmi : {cpu : Cpu} → IsBoot rom start None cpu → IsBoot rom start (Some cpu.pc) (interrupted cpu)
+  by_return : {back : ℕ} {cpu : Cpu} → IsBoot rom start (Some back) cpu → cpu.pc ≡ back → IsBoot rom start None cpu
+  by_turn : {amid : Option ℕ} {cpu : Cpu} (mem : ℕ → ℕ) → IsBoot rom start amid cpu → ((b : ℕ) → mem b < 256)
+      → IsTurned cpu.mem mem → IsBoot rom start amid (changed mem cpu)
 
 -- the cells have the registers of the processor that stands here, or of one that boots
 abbrev pub StandAt : Cells → Option (Cpu × ℕ) → Type 0
@@ -34,7 +36,7 @@ StandAt cells None = ⊥
 StandAt cells (Some spot) = Holds cells spot.0
 
 abbrev pub AreBooting : (rom : ℕ → ℕ) → (start : ℕ) → Cells → Type 0
-AreBooting rom start cells = (cpu : Cpu) × IsBoot rom start cpu × Holds cells cpu
+AreBooting rom start cells = (amid : Option ℕ) × (cpu : Cpu) × IsBoot rom start amid cpu × Holds cells cpu
 
 -- the cells did what a 6502 by its definition does with this ROM: their clocks of the board are those of a run of it; and in
 -- the first clock of a cycle that reads an opcode they have its registers, or those of one that boots. There is a log that

@@ -1,5 +1,5 @@
 -- Cells of a processor and a board on one clock, with memory outside that has a game's ROM: all that may come.
-use Rattle.std.specs.Prelude.{◌≡◌, ℕ, suc, ◌+◌, ◌-◌, ◌*◌, ◌<◌, ◌≤◌, ◌==◌, ◌&&◌, Bool, true, false, not, nat_eq, nat_le}
+use Rattle.std.specs.Prelude.{◌≡◌, ℕ, suc, ◌+◌, ◌-◌, ◌*◌, ◌<◌, ◌≤◌, ◌==◌, ◌&&◌, Bool, true, not, nat_eq, nat_le}
 use Rattle.std.specs.Prelude.{nat_lt, if◌then◌else◌, List, [], ◌∷◌, length, slice_index}
 use Rattle.dvg_mem.specs.Memory.{IsImage, IsRom, first_word}
 use Rattle.dvg_calls_6502.specs.Processor.{put}
@@ -27,8 +27,8 @@ abbrev pub work_after : Machine → Pins → (ℕ → ℕ) → ℕ → ℕ
 work_after machine pins work =
     if takes machine pins then put (pin.a machine) (pin.d machine) work else work
 
--- what a read of the memory outside finds: in the zero page and the stack what was written, in the ROM its byte, and its
--- vectors also at the top, as A15 isn't decoded there. All else finds any byte
+-- what a read of the memory outside finds: in the zero page and the stack what was written; from 4800 to 7FFF always the
+-- same byte, the ROM's where there is one; and its vectors also at the top, as A15 isn't decoded there. All else finds any byte
 pub record Finds (rom work : ℕ → ℕ) (a byte : ℕ) : Type 0 where
   pub in_work : Where (nat_lt a 0x200) (byte ≡ work a)
   pub in_rom : Where (nat_le 0x4800 a && nat_lt a 0x8000) (byte ≡ rom a)
@@ -47,8 +47,6 @@ pub record IsDriven (R : List ℕ) (rom : ℕ → ℕ) (machine : Machine) (work
       → pins.rom ≡ slice_index R (2 * (pin.at machine - first_word R) + pin.high machine)
   -- in the second clock of a cycle that reads, the memory outside answers
   pub answers : machine.answers ≡ 1 → pin.write machine ≡ 0 → Finds rom work (pin.a machine) pins.m
-  -- the strobe is only written
-  pub no_strobe : pin.write machine ≡ 0 → nat_eq (pin.a machine) 0x3000 ≡ false
   -- an NMI rises 10,400 clocks after the one before, which are 5,200 cycles
   pub apart : rises machine pins ≡ true → 10400 ≤ suc calm
 

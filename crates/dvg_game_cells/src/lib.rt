@@ -30,8 +30,9 @@ pub fn vectors_on_cells_keep()
     machine_keeps();
 }
 
-/// A run can always go on by a clock, whatever its reset, NMI, hold and free byte are, where these
-/// are asked no more than the law asks.
+/// A run can go on by a clock in which memory and the generator's ROM answer, whatever `reset` and
+/// `hold` are, and the byte where memory is asked nothing; and whatever `nmi` is, unless it rises
+/// less than 10,400 clocks after it rose before.
 pub fn runs_go_on()
     ensures { RunsGoOn }
 {}

@@ -105,9 +105,6 @@ module _ (rom : ℕ → ℕ) (cpu : Cpu) (flags : ℕ → ℕ) (loaded : IsLoade
   operand : cpu.mem (cpu.pc + 1) ≡ rom (cpu.pc + 1)
   operand = first_there rom cpu.mem cpu.pc loaded inside
 
-  base : ℕ
-  base = word_at rom (cpu.pc + 1)
-
   -- what an instruction makes of it, where its opcode is known
   of_opcode : (op : ℕ) (f : Fact) → rom cpu.pc ≡ op → HoldsAt f (Processor.does (decoded opcodes op) from)
       → HoldsAt f (done flags cpu)

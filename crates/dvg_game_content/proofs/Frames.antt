@@ -5,8 +5,7 @@ use Rattle.std.specs.Prelude.{◌&&◌, not, nat_eq, nat_le, nat_lt, if◌then�
 use Rattle.std.specs.Prelude.{ℤ, pos, negsuc}
 use Rattle.dvg_code.specs.declared.instr.Instr.{Instr}
 use Rattle.dvg_code.specs.declared.instr.Instr.TheVariants.{Labs, Vctr, Svec}
-use Rattle.dvg_code.specs.Spelling.{IsSignOf, vctr, labs as labs_word, halt, jsrl, rtsl, jmpl, svec}
-use Rattle.dvg_code.specs.Spelling.{word_count}
+use Rattle.dvg_code.specs.Spelling.{IsSignOf, vctr, labs as labs_word, halt, jsrl, rtsl, jmpl, svec, word_count}
 use Rattle.dvg_code.specs.Words.{word_in}
 use Rattle.dvg_code.specs.Acts.{Act, act_by, Moves, Jumps, Calls, Returns, Halts}
 use Rattle.dvg_mem.specs.Memory.{first_word, rom_word}

@@ -1,15 +1,15 @@
 -- Along a play of the processor what is known of A, X and Y holds, also where an NMI comes between.
-use Rattle.std.proofs.Common.{◌≡◌, ℕ, suc, ◌+◌, ◌/◌, ◌%◌, ◌<◌, ◌≤◌, Bool, true, false, refl, sym, ap}
-use Rattle.std.proofs.Common.{◌∙◌, subst, arith, eqb-true, List, eq-eqb}
+use Rattle.std.proofs.Common.{◌≡◌, ℕ, suc, ◌+◌, ◌≤◌, Bool, true, false, refl, sym, ap}
+use Rattle.std.proofs.Common.{◌∙◌, subst, eqb-true, List, eq-eqb}
 use Rattle.std.specs.Prelude.{◌||◌, nat_eq, if◌then◌else◌, Option, None, Some}
 use Rattle.dvg_frame.specs.declared.op.OpKind.{OpKind}
 use Rattle.dvg_calls_6502.specs.Amid.{changed}
 use Rattle.dvg_calls_6502.specs.Processor
-use Rattle.dvg_calls_6502.specs.Processor.{Access, Cpu, at_return, bit_of, decoded, flags_byte, has_bit, is_so, opcodes, stack_place, target}
+use Rattle.dvg_calls_6502.specs.Processor.{Access, Cpu, at_return, decoded, flags_byte, has_bit, opcodes, target}
 use Rattle.dvg_game_rules.specs.Kinds.{Kind, Quiet, Reads, Transfer, Stores, Push, PushFlags, Pull, PullFlags}
 use Rattle.dvg_game_rules.specs.Kinds.{Branch, Jump, Call, Return, Finish, Wild, kind_of, size}
-use Rattle.dvg_game_rules.specs.Machine.{Came, State, Choice, IsLoaded, IsRun, IsTurned, begins, nmi, turns, word_at, does, goes_home}
-use Rattle.dvg_game_rules.specs.Machine.{back_of, called, calling, is_driver, reset_vector, restarting, restarts, resumed_at, step}
+use Rattle.dvg_game_rules.specs.Machine.{Came, State, Choice, IsRun, IsTurned, nmi, turns, word_at, does, goes_home}
+use Rattle.dvg_game_rules.specs.Machine.{called, calling, is_driver, restarting, restarts, step}
 use Rattle.dvg_game_rules.specs.Machine as machine
 use Rattle.dvg_game_rules.specs.Checker.{Notes, accepts}
 use Rattle.dvg_game_rules.specs.Safe.{IsSafe, IsSafeBy}
@@ -21,8 +21,9 @@ use Rattle.dvg_game_rules.proofs.Whole.{checked_is_safe}
 use Rattle.dvg_game_6502.specs.Play
 use Rattle.dvg_game_6502.specs.Play.{AreBytes, Begins, done, fresh, interrupted}
 use Rattle.dvg_game_6502.proofs.Along.{Followed, along, amid_stays, follow, homeless, is_finish, restarts_same}
-use Rattle.dvg_game_6502.proofs.GameSteps.{pushing}
+use Rattle.dvg_game_6502.proofs.GameSteps.{pushing, run_begins}
 use Rattle.dvg_game_6502.proofs.Leaps.{finishing, resume_is}
+use Rattle.dvg_game_6502.proofs.NmiSteps.{flags_back}
 use Rattle.dvg_game_6502.proofs.OnLog.{on_log}
 use Rattle.dvg_game_6502.proofs.Returns as returning
 use Rattle.dvg_game_6502.proofs.Stages.{InDriver, IsAccepted}
@@ -30,26 +31,6 @@ use Rattle.dvg_game_content.specs.Brings.{Ways, brings, fact, flows, is_free, ne
 use Rattle.dvg_game_content.proofs.Advancing.{Holds, HoldsAt, advances, by_opcode}
 use Rattle.dvg_game_content.proofs.Landing.{Lands, Noted, Plain, Returned, driver_back, flow_there, free_lands, goes_on, kind_there}
 use Rattle.dvg_game_content.proofs.Landing.{noted_run, plain, start_free, word_there}
-
--- the carry in the flags that an NMI pushes
-bit_small : (b : Bool) → bit_of b < 2
-bit_small true = omega arith
-bit_small false = omega arith
-
-is_bit : (b : Bool) → nat_eq (bit_of b) 1 ≡ b
-is_bit true = refl
-is_bit false = refl
-
-carry_back : (cpu : Cpu) → has_bit 1 (flags_byte false cpu) ≡ cpu.c
-carry_back cpu =
-    let n = bit_small cpu.n in
-    let v = bit_small cpu.v in
-    let d = bit_small cpu.d in
-    let i = bit_small cpu.i in
-    let z = bit_small cpu.z in
-    let c = bit_small cpu.c in
-    let e : flags_byte false cpu / 1 % 2 ≡ bit_of cpu.c = omega (arith, n, v, d, i, z, c) in
-    ap (λ b. nat_eq b 1) e ∙ is_bit cpu.c
 
 abbrev is_branch : Kind → Bool
 is_branch Branch = true
@@ -77,15 +58,7 @@ module _ (R : List ℕ) (rom : ℕ → ℕ) (start : ℕ) (notes : Notes) (ways 
   pub mine_begins : (cpu : Cpu) (since : ℕ) → Begins rom start cpu → Mine cpu since
   mine_begins cpu since is = record {
     st = record (idle cpu) { since = since };
-    run = begins (record (idle cpu) { since = since }) (record {
-      loaded = is.loaded;
-      entry = is.entry;
-      stack = is.stack;
-      calls = refl;
-      amid = refl;
-      home = refl;
-      blank = refl;
-    });
+    run = run_begins rom start cpu since is;
     homeless = refl;
     time = refl;
     told = free_lands ways rom cpu
@@ -254,7 +227,7 @@ module _ (R : List ℕ) (rom : ℕ → ℕ) (start : ℕ) (notes : Notes) (ways 
       run = nmi (pushing (flags_byte false cpu)) m.run later;
       homeless = m.homeless;
       time = refl;
-      told = λ k. subst (λ c. Holds (fact ways rom k cpu.pc) cpu.a cpu.x cpu.y c) (sym (carry_back cpu)) (told k);
+      told = λ k. subst (λ c. Holds (fact ways rom k cpu.pc) cpu.a cpu.x cpu.y c) (sym (flags_back cpu).c) (told k);
     }
       where
         later : 860 ≤ m.st.since

@@ -7,8 +7,7 @@ use Rattle.dvg_calls_6502.specs.Amid.{changed}
 use Rattle.dvg_calls_6502.specs.Processor.{Cpu, Access, at_return}
 use Rattle.dvg_calls_6502.specs.Board.{seen}
 use Rattle.dvg_calls_6502.specs.Code.{dvg_offer, dvg_pair, dvg_put}
-use Rattle.dvg_game_rules.specs.Kinds.{Kind, Jump}
-use Rattle.dvg_game_rules.specs.Kinds.{Call, kind_of}
+use Rattle.dvg_game_rules.specs.Kinds.{Kind, Jump, Call, kind_of}
 use Rattle.dvg_game_rules.specs.Machine.{calling, restarts, word_at}
 use Rattle.dvg_game_rules.specs.Checker.{Notes, accepts}
 use Rattle.dvg_game_rules.specs.Safe.{IsCalled}

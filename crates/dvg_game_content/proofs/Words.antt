@@ -1,7 +1,7 @@
 -- What the tests of words and tables say.
-use Rattle.std.proofs.Common.{◌≡◌, ◌⊎◌, inl, inr, ℕ, zero, suc, ◌+◌, ◌-◌, ◌*◌, ◌/◌, ◌%◌, ◌<◌, ◌≤◌, Bool, true, false, refl, sym, ap}
+use Rattle.std.proofs.Common.{◌≡◌, ◌⊎◌, inl, inr, ℕ, zero, suc, ◌+◌, ◌-◌, ◌*◌, ◌/◌, ◌%◌, ◌<◌, ◌≤◌, true, refl, sym, ap}
 use Rattle.std.proofs.Common.{◌∙◌, arith, eqb-true, leb-true, List, [], ◌∷◌}
-use Rattle.std.specs.Prelude.{◌&&◌, ◌||◌, nat_eq, nat_le, nat_lt, length, slice_index, All, unsigned_abs}
+use Rattle.std.specs.Prelude.{◌&&◌, nat_eq, nat_le, nat_lt, length, slice_index, All, unsigned_abs}
 use Rattle.std.proofs.lemmas.List.Elements.{All-cons}
 use Rattle.dvg_code.specs.declared.instr.Instr.{Instr}
 use Rattle.dvg_code.specs.declared.instr.Instr.TheVariants.{Vctr, Labs, Svec, Halt, Jsrl, Rtsl, Jmpl}
@@ -13,10 +13,9 @@ use Rattle.dvg_frame.specs.declared.op.OpKind.TheVariants.{Draw, CallRom, JumpRo
 use Rattle.dvg_frame.specs.declared.draft.TheConstants.{MAX_OPS}
 use Rattle.dvg_frame.specs.Ops.{IsDraft, IsOp}
 use Rattle.dvg_frame.specs.Faults.{Accepts}
-use Rattle.dvg_calls_6502.specs.Board.{is_hardware, is_ram, strobe_place}
 use Rattle.dvg_calls_6502.specs.Build.{IsPut, calls_one}
-use Rattle.dvg_calls_6502.specs.Processor.{flag_place}
 use Rattle.dvg_calls_6502.specs.Tables.{AreExpressible, HasTable, IsExpressible, table_of}
+use Rattle.dvg_calls_6502.proofs.Few.{high_plain}
 use Rattle.dvg_game_rules.specs.Checker.{stand_at}
 use Rattle.dvg_game_rules.specs.Machine.{word_at}
 use Rattle.dvg_game_rules.proofs.Facts.{both_true}
@@ -158,26 +157,6 @@ stands (byte ∷ bytes) rom at is (suc k) less =
     let e : at + suc k ≡ suc at + k = omega arith in
     ap rom e ∙ stands bytes rom (suc at) (both_true (nat_eq (rom at) byte) _ is).1 k (omega (arith, less))
 
--- the ROM is no hardware
-soft : (b : ℕ) → 0x4800 ≤ b → is_hardware b ≡ false
-soft b low = by (is_hardware b) refl
-  where
-    places : (nat_eq b flag_place || nat_eq b strobe_place) ≡ true → ⊥
-    places is = one (either (nat_eq b flag_place) (nat_eq b strobe_place) is)
-      where
-        one : (nat_eq b flag_place ≡ true) ⊎ (nat_eq b strobe_place ≡ true) → ⊥
-        one (inl e) = let same = eqb-true b flag_place e in omega (arith, same, low)
-        one (inr e) = let same = eqb-true b strobe_place e in omega (arith, same, low)
-
-    hard : (is_ram b ≡ true) ⊎ ((nat_eq b flag_place || nat_eq b strobe_place) ≡ true) → ⊥
-    hard (inl ram) = let less = leb-true (suc b) 0x4800 (both_true (nat_le 0x4000 b) (nat_lt b 0x4800) ram).1 in
-        omega (arith, less, low)
-    hard (inr place) = places place
-
-    by : (t : Bool) → is_hardware b ≡ t → t ≡ false
-    by false is = refl
-    by true is = absurd (hard (either (is_ram b) _ is))
-
 -- a table
 pub record Offered (R : List ℕ) (rom : ℕ → ℕ) (t : ℕ) (F : List OpKind) : Type 0 where
   pub table : HasTable rom t F
@@ -205,8 +184,8 @@ offered R rom t F table lay =
         fits = leb-true (length (table_of F)) 1022 d.1;
         count = eqb-true (2 * word_at rom t) (length (table_of F)) e.0;
         table = stands (table_of F) rom (t + 2) e.1;
-        head = (soft t low, soft (t + 1) (omega (arith, low)));
-        far = λ k less. soft (t + 2 + k) (omega (arith, low));
+        head = (high_plain t low, high_plain (t + 1) (omega (arith, low)));
+        far = λ k less. high_plain (t + 2 + k) (omega (arith, low));
         low = omega (arith, low);
         ends = omega (arith, high);
       };

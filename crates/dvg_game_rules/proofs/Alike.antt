@@ -271,8 +271,7 @@ calls cpu st go = (left_as cpu 0 0 false, by (is_driver (word_at cpu.mem (cpu.pc
 
     by : (t : Bool) → t ≡ false
         → AreAlike (if t then record (driven (word_at cpu.mem (cpu.pc + 1)) (left_as cpu 0 0 false) one) {
-          pc =
-              cpu.pc + 3;
+          pc = cpu.pc + 3;
         }
         else called (word_at cpu.mem (cpu.pc + 1)) one) (Processor.does Processor.Call cpu)
     by true is = absurd (cc)
@@ -290,8 +289,7 @@ resumes cpu st out = (left_as cpu 0 0 false, by st.home out)
           pc = resumed_at one;
           s = (one.s + 3) % 256;
           amid = None;
-          home =
-              None;
+          home = None;
         }))
         (Processor.does Processor.Resume cpu)
     by None is = record { a = refl; x = refl; y = refl; pc = refl; s = refl; mem = λ b. refl }

@@ -83,7 +83,7 @@ asleep true true is = refl
 asleep false true is = refl
 asleep t false is = absurd (cc)
 
-home_mem : (o : Option (ℕ × ℕ)) (st : State) (b : ℕ) → (goes_home o st).mem b ≡ st.mem b
+pub home_mem : (o : Option (ℕ × ℕ)) (st : State) (b : ℕ) → (goes_home o st).mem b ≡ st.mem b
 home_mem None st b = refl
 home_mem (Some place) st b = refl
 

@@ -203,8 +203,7 @@ blank_more to u v up is = by (nat_eq to dvg_open) (nat_eq to dvg_labs || is_rese
 pub driver_call : (notes : Notes) (st : State) (to : ℕ) (choice : Choice) (runs : Runs notes st)
     → leads notes (st.pc + 3) (record runs.stands.now {
       awake = is_reset to || runs.stands.now.awake;
-      blank =
-          blank_after to runs.stands.now.blank;
+      blank = blank_after to runs.stands.now.blank;
     }) ≡ true
     → Runs notes (record (driven to choice st) { pc = st.pc + 3 })
 unfolding drives
@@ -212,8 +211,7 @@ driver_call notes st to choice runs goes_on =
     let now = runs.stands.now in
     let back = leading notes (st.pc + 3) (record now {
       awake = is_reset to || now.awake;
-      blank =
-          blank_after to now.blank;
+      blank = blank_after to now.blank;
     }) goes_on in
     let done = drives notes st to choice runs.stands in
     let less = back.room in
@@ -262,34 +260,16 @@ finishes notes st h none = by h.home
     }
 
     by : (((st.home ≡ None) × (h.came.pc ≡ h.pc) × (h.came.s ≡ h.s)) ⊎ (st.home ≡ Some (h.pc, h.s)))
-        → Runs notes (goes_home st.home (record st {
-          pc = resumed_at st;
-          s = (st.s + 3) % 256;
-          amid = None;
-          home =
-              None;
-        }))
+        → Runs notes (goes_home st.home (record st { pc = resumed_at st; s = (st.s + 3) % 256; amid = None; home = None }))
     by (inl is) =
         let place = h.place in
         let near = h.near in
         let same = is.2 in
         let high = low notes st.awake st.mem h.stands.now.level (h.s + h.stands.now.depth) st.calls h.stands.below in
-        subst (λ o. Runs notes (goes_home o (record st {
-          pc = resumed_at st;
-          s = (st.s + 3) % 256;
-          amid =
-              None;
-          home = None;
-        })))
+        subst (λ o. Runs notes (goes_home o (record st { pc = resumed_at st; s = (st.s + 3) % 256; amid = None; home = None })))
         (sym is.0) (there (resumed_at st) ((st.s + 3) % 256) (sym is.1 ∙ pc) (omega (arith, place, none, high, same)))
     by (inr is) =
-        subst (λ o. Runs notes (goes_home o (record st {
-          pc = resumed_at st;
-          s = (st.s + 3) % 256;
-          amid =
-              None;
-          home = None;
-        })))
+        subst (λ o. Runs notes (goes_home o (record st { pc = resumed_at st; s = (st.s + 3) % 256; amid = None; home = None })))
         (sym is) (there h.pc h.s refl refl)
 
 -- the note of the NMI's first instruction

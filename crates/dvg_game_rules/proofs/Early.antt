@@ -10,7 +10,7 @@ use Rattle.dvg_calls_6502.specs.Processor.{Cpu, Register, A, X, Y, flags_byte, p
 use Rattle.dvg_game_rules.specs.Kinds.{Kind, Sets, Nothing, Only, Quiet, Reads, Transfer, Stores, Push, PushFlags, Pull, PullFlags}
 use Rattle.dvg_game_rules.specs.Kinds.{AbsoluteIndexed, Branch, Jump, Call, Return, Finish, Wild, Place, kind_of, size}
 use Rattle.dvg_game_rules.specs.Machine.{Begins, Came, Choice, IsLoaded, IsTurned, State, address, begins, does, interrupted, is_driver}
-use Rattle.dvg_game_rules.specs.Machine.{nmi_vector, of_register, pushed, reset_vector, restarting, resumed_at, setting, word_at}
+use Rattle.dvg_game_rules.specs.Machine.{nmi_vector, of_register, pushed, reset_vector, restarting, setting, word_at}
 use Rattle.dvg_game_rules.specs.Checker.{Notes, accepts_game, fine_by, interrupts, may_write, noted, of_reached, same_level, starts, Sub}
 use Rattle.dvg_game_rules.specs.Safe.{ComesBack, InCase, IsCalled, IsSafeBy}
 use Rattle.dvg_game_rules.specs.Alike.{AreAlike, IsOwn, idle}
@@ -269,7 +269,7 @@ as_cpu gap rom came since one st cpu is r = record {
   since = r.since;
 }
 
-same_came : (one two : Came) → Some one ≡ Some two → one ≡ two
+pub same_came : (one two : Came) → Some one ≡ Some two → one ≡ two
 same_came one two is = cc
 
 module _ {rom : ℕ → ℕ} {start : ℕ} {back : Cpu} {since : ℕ} {cpu : Cpu} (e : Early rom start back since cpu) where

@@ -1,17 +1,14 @@
 -- Each step of the NMI leaves what held.
-use Rattle.std.proofs.Common.{suc, ◌≡◌, ℕ, ◌+◌, ◌%◌, ◌≤◌, inl, inr, Bool, true, false, refl, sym}
-use Rattle.std.proofs.Common.{◌∙◌}
+use Rattle.std.proofs.Common.{suc, ◌≡◌, ℕ, ◌+◌, ◌%◌, ◌≤◌, inl, inr, Bool, true, false, refl, sym, ◌∙◌}
 use Rattle.std.proofs.Common.{subst, arith, eqb-true}
 use Rattle.std.specs.Prelude.{nat_eq, nat_le, ◌&&◌, ◌||◌, not, if◌then◌else◌, Option, None, Some}
 use Rattle.dvg_game_rules.specs.Kinds.{Transfer, PushFlags, PullFlags, Kind, Quiet, Reads, Stores, Push, Pull, Branch, Jump}
 use Rattle.dvg_game_rules.specs.Kinds.{Call, Return, Finish, Wild}
 use Rattle.dvg_game_rules.specs.Machine.{IsLoaded, reset_vector, goes_home}
-use Rattle.dvg_game_rules.specs.Machine.{blank_after, restarting, State, Choice, does}
-use Rattle.dvg_game_rules.specs.Machine.{word_at, is_driver, is_reset}
+use Rattle.dvg_game_rules.specs.Machine.{blank_after, restarting, State, Choice, does, word_at, is_driver, is_reset}
 use Rattle.dvg_game_rules.specs.Machine.{driven, returned, resumed_at}
 use Rattle.dvg_game_rules.specs.Checker.{implies, ends_of, Level, Main, Sub}
-use Rattle.dvg_game_rules.specs.Checker.{Nmi, Note, Notes, noted, leads, begun, same_level}
-use Rattle.dvg_game_rules.specs.Checker.{fine_by, enters, is_entry}
+use Rattle.dvg_game_rules.specs.Checker.{Nmi, Note, Notes, noted, leads, begun, same_level, fine_by, enters, is_entry}
 use Rattle.dvg_game_rules.proofs.Facts.{IsInside, placed, else_true, both_true}
 use Rattle.dvg_game_rules.proofs.Standing.{Runs, Handles, Good, low}
 use Rattle.dvg_game_rules.proofs.Moving.{Moves, handles_on}
@@ -19,7 +16,7 @@ use Rattle.dvg_game_rules.proofs.Local.{transfer_moves, push_flags_moves, pull_f
 use Rattle.dvg_game_rules.proofs.Local.{quiet_moves, stores_moves, push_moves, pull_moves, branch_moves, jump_moves}
 use Rattle.dvg_game_rules.proofs.Local.{same_word}
 use Rattle.dvg_game_rules.proofs.Calling.{finishes}
-use Rattle.dvg_game_rules.proofs.Stepping.{vector}
+use Rattle.dvg_game_rules.proofs.Stepping.{later, vector}
 
 -- the levels of two tests are one
 pub two_levels : (l : Level) → l ≡ Nmi → same_level l Sub ≡ true → ⊥
@@ -50,22 +47,6 @@ pub second_there : (rom mem : ℕ → ℕ) (pc : ℕ) → IsLoaded rom mem → I
 second_there rom mem pc loaded at = let low = at.0 in let high = at.1 in
     loaded (pc + 1 + 1) (omega (arith, low)) (omega (arith, high))
 
--- what holds doesn't rest on when the last NMI was
-later : (notes : Notes) (st : State) (since : ℕ) → Runs notes st → Runs notes (record st { since = since })
-later notes st since runs = record {
-  stands = record {
-    now = runs.stands.now;
-    is = runs.stands.is;
-    below = runs.stands.below;
-    fresh = runs.stands.fresh;
-    room = runs.stands.room;
-    awake = runs.stands.awake;
-  };
-  outside = runs.outside;
-  homeless = runs.homeless;
-  blank = runs.blank;
-}
-
 module _ (rom : ℕ → ℕ) (notes : Notes) (st : State) (loaded : IsLoaded rom st.mem)
     (h : Handles notes st) where
   nmi_rom : IsInside st.pc
@@ -88,8 +69,7 @@ module _ (rom : ℕ → ℕ) (notes : Notes) (st : State) (loaded : IsLoaded rom
     y = 0;
     index = 0;
     byte = 0;
-    taken =
-        true;
+    taken = true;
     left = st.mem;
     since = 0;
   } in

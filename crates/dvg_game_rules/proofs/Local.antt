@@ -1,7 +1,6 @@
 -- The instructions that go on within their level, kind by kind.
 use Rattle.std.proofs.Common.{◌%◌, ◌≡◌, ℕ, suc, ◌+◌, ◌*◌, ◌<◌, ◌≤◌, ◌⊎◌, inl, inr, Bool, true, false, refl, sym, ap}
-use Rattle.std.proofs.Common.{◌∙◌}
-use Rattle.std.proofs.Common.{subst, arith, leb-true}
+use Rattle.std.proofs.Common.{◌∙◌, subst, arith, leb-true}
 use Rattle.std.specs.Prelude.{nat_le, nat_lt, ◌&&◌, ◌||◌, not, if◌then◌else◌}
 use Rattle.dvg_calls_6502.specs.Processor.{A, Register, X, Y, put, stack_place, target}
 use Rattle.dvg_game_rules.specs.Kinds.{Sets, Nothing, Only, Quiet, Reads, Transfer, Stores, Push, PushFlags, Pull}
@@ -199,8 +198,7 @@ module _ (notes : Notes) (rom : ℕ → ℕ) (choice : Choice) (st : State) (now
       → Moves notes now st (record (ticked st) {
         pc = st.pc + 1;
         s = (st.s + 255) % 256;
-        mem =
-            put (stack_place st.s) byte st.mem;
+        mem = put (stack_place st.s) byte st.mem;
       })
   pushes slot byte fits fine = record {
     then = pushing slot now;

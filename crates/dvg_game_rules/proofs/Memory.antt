@@ -1,7 +1,6 @@
 -- Bytes that are written, and what they leave.
 use Rattle.std.proofs.Common.{◌≡◌, ℕ, suc, ◌+◌, ◌*◌, ◌/◌, ◌%◌, ◌<◌, ◌≤◌, ◌⊎◌, inl, inr, Bool, true, false, refl, sym}
-use Rattle.std.proofs.Common.{ap, ◌∙◌}
-use Rattle.std.proofs.Common.{subst, arith, eqb-true, leb-true, eq-eqb, le-leb}
+use Rattle.std.proofs.Common.{ap, ◌∙◌, subst, arith, eqb-true, leb-true, eq-eqb, le-leb}
 use Rattle.std.specs.Prelude.{nat_eq, nat_le, nat_lt, ◌&&◌, ◌||◌, if◌then◌else◌}
 use Rattle.dvg_calls_6502.specs.Processor.{put, stack_place}
 use Rattle.dvg_game_rules.specs.Machine.{pushed, word_at, is_own, is_operand, left_by, address}

@@ -1,16 +1,12 @@
 -- What comes next where all holds is safe.
-use Rattle.std.proofs.Common.{◌≡◌, ℕ, ◌+◌, ◌*◌, ◌%◌, ◌≤◌, ◌⊎◌, inl, inr, Bool, true, false, refl, sym, ap}
-use Rattle.std.proofs.Common.{◌∙◌}
+use Rattle.std.proofs.Common.{◌≡◌, ℕ, ◌+◌, ◌*◌, ◌%◌, ◌≤◌, ◌⊎◌, inl, inr, Bool, true, false, refl, sym, ap, ◌∙◌}
 use Rattle.std.proofs.Common.{List, [], ◌∷◌, subst, arith, eqb-true, leb-true}
 use Rattle.std.specs.Prelude.{nat_eq, nat_le, ◌&&◌, ◌||◌, not, if◌then◌else◌, None, Some}
 use Rattle.dvg_calls_6502.specs.Processor.{stack_place}
 use Rattle.dvg_game_rules.specs.Kinds.{Transfer, PushFlags, PullFlags, Kind, Quiet, Reads, Stores, Push, Pull, Branch, Jump}
 use Rattle.dvg_game_rules.specs.Kinds.{Call, Return, Finish, Wild}
-use Rattle.dvg_game_rules.specs.Machine.{IsLoaded, reset_vector}
-use Rattle.dvg_game_rules.specs.Machine.{blank_after, Came, State}
-use Rattle.dvg_game_rules.specs.Machine.{word_at, is_driver, is_reset, is_own, is_operand}
-use Rattle.dvg_game_rules.specs.Machine.{resumed_at}
-use Rattle.dvg_game_rules.specs.Machine.{address}
+use Rattle.dvg_game_rules.specs.Machine.{IsLoaded, reset_vector, blank_after, Came, State}
+use Rattle.dvg_game_rules.specs.Machine.{word_at, is_driver, is_reset, is_own, is_operand, resumed_at, address}
 use Rattle.dvg_game_rules.specs.Checker.{implies, ends_of, goes_on, unchanged, Level, Main, Sub}
 use Rattle.dvg_game_rules.specs.Checker.{Nmi, Note, Notes, noted, leads, begun, spare, same_level}
 use Rattle.dvg_game_rules.specs.Checker.{fine_by, enters, is_entry, is_free, is_strobe, may_write, of_reached}
@@ -192,8 +188,7 @@ module _ (rom : ℕ → ℕ) (notes : Notes) (st : State) (loaded : IsLoaded rom
       of_driver w = enters w runs.stands.now
           && leads notes (st.pc + 3) (record runs.stands.now {
             awake = is_reset w || runs.stands.now.awake;
-            blank =
-                blank_after w runs.stands.now.blank;
+            blank = blank_after w runs.stands.now.blank;
           })
 
       of_game : ℕ → Bool

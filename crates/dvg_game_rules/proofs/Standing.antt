@@ -1,6 +1,5 @@
 -- What holds all along a run: the notes are right, and the stack is as the open calls left it.
-use Rattle.std.proofs.Common.{◌≡◌, ℕ, ◌+◌, ◌*◌, ◌<◌, ◌≤◌, ◌⊎◌, Bool, true, refl, ap, ◌∙◌, arith}
-use Rattle.std.proofs.Common.{List, [], ◌∷◌}
+use Rattle.std.proofs.Common.{◌≡◌, ℕ, ◌+◌, ◌*◌, ◌<◌, ◌≤◌, ◌⊎◌, Bool, true, refl, ap, ◌∙◌, arith, List, [], ◌∷◌}
 use Rattle.std.specs.Prelude.{None, Some}
 use Rattle.dvg_calls_6502.specs.Processor.{stack_place}
 use Rattle.dvg_game_rules.specs.Machine.{State, IsLoaded, Came}

@@ -1,15 +1,13 @@
 -- From a reset the processor comes to where a run begins.
 use Rattle.std.proofs.Common.{◌≡◌, ◌⊎◌, inl, inr, ℕ, zero, suc, ◌+◌, ◌<◌, Bool, true, false, refl, sym, ap, ◌∙◌}
-use Rattle.std.proofs.Common.{subst, arith}
-use Rattle.std.proofs.Common.{eqb-true}
+use Rattle.std.proofs.Common.{subst, arith, eqb-true}
 use Rattle.std.specs.Prelude.{if◌then◌else◌, nat_eq, ◌&&◌, ◌||◌, not}
 use Rattle.dvg_calls_6502.specs.Code.{code}
 use Rattle.dvg_calls_6502.specs.Processor
 use Rattle.dvg_calls_6502.specs.Processor.{Cpu, A, X, Y, decoded, opcodes}
 use Rattle.dvg_game_rules.specs.Kinds.{Sets, Nothing, Only, Place, ZeroPage, ZeroPageIndexed, Absolute, AbsoluteIndexed, size}
 use Rattle.dvg_game_rules.specs.Kinds.{Kind, Quiet, Reads, Transfer, Stores, Push, PushFlags, Pull, PullFlags, Branch, Jump}
-use Rattle.dvg_game_rules.specs.Kinds.{Call}
-use Rattle.dvg_game_rules.specs.Kinds.{Return, Finish, Wild, kind_of}
+use Rattle.dvg_game_rules.specs.Kinds.{Call, Return, Finish, Wild, kind_of}
 use Rattle.dvg_game_rules.specs.Machine.{State, Choice, IsLoaded, Begins, does, address, is_operand, is_own}
 use Rattle.dvg_game_rules.specs.Checker.{Main, accepts_game, boots, boot_most, may_boot, bytes_of, may_write, is_code}
 use Rattle.dvg_game_rules.specs.Checker.{stand_at, stack_setting, of_reached, is_strobe, is_free}

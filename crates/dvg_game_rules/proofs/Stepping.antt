@@ -1,15 +1,13 @@
 -- Each step of a run that the checker accepts_game, kind by kind, and that it is safe.
-use Rattle.std.proofs.Common.{ap, ◌∙◌, ◌*◌, ◌-◌, ◌≡◌, ℕ, ◌+◌, ◌≤◌, inl, inr, Bool, true, false, sym, ◌∙◌}
+use Rattle.std.proofs.Common.{ap, ◌∙◌, ◌*◌, ◌-◌, ◌≡◌, ℕ, suc, ◌+◌, ◌≤◌, inl, inr, Bool, true, false, sym}
 use Rattle.std.proofs.Common.{subst, arith, eqb-true, leb-true}
 use Rattle.std.specs.Prelude.{nat_eq, nat_le, ◌&&◌, ◌||◌, not, if◌then◌else◌, Some}
 use Rattle.dvg_game_rules.specs.Kinds.{Transfer, PushFlags, PullFlags, Kind, Quiet, Reads, Stores, Push, Pull, Branch, Jump}
 use Rattle.dvg_game_rules.specs.Kinds.{Call, Return, Finish, Wild, kind_of}
 use Rattle.dvg_game_rules.specs.Machine.{IsLoaded, nmi_vector, reset_vector, blank_after, restarting, State, Choice, does}
-use Rattle.dvg_game_rules.specs.Machine.{word_at, is_driver, is_reset}
-use Rattle.dvg_game_rules.specs.Machine.{driven, returned, called}
+use Rattle.dvg_game_rules.specs.Machine.{word_at, is_driver, is_reset, driven, returned, called}
 use Rattle.dvg_game_rules.specs.Checker.{implies, ends_of, Sub, Nmi, Note, Notes, noted, leads, begun, interrupts, starts}
-use Rattle.dvg_game_rules.specs.Checker.{same_level, first, places}
-use Rattle.dvg_game_rules.specs.Checker.{fine_by, fine_at, accepts_game, enters}
+use Rattle.dvg_game_rules.specs.Checker.{same_level, first, places, fine_by, fine_at, accepts_game, enters}
 use Rattle.dvg_game_rules.proofs.Facts.{within, placed, IsInside, implied, else_true, both_true, same, under}
 use Rattle.dvg_game_rules.proofs.Standing.{Below, Runs, Good, low}
 use Rattle.dvg_game_rules.proofs.Moving.{Moves, runs_on}
@@ -33,6 +31,22 @@ checked rom start notes at now accepted is =
     (subst (λ at. fine_at notes rom at (noted notes at) ≡ true) back
     (under places (λ i. fine_at notes rom (first + i) (noted notes (first + i))) two.1 (at - first) (omega
     (arith, low, high))))
+
+-- what holds doesn't rest on when the last NMI was
+pub later : (notes : Notes) (st : State) (since : ℕ) → Runs notes st → Runs notes (record st { since = since })
+later notes st since runs = record {
+  stands = record {
+    now = runs.stands.now;
+    is = runs.stands.is;
+    below = runs.stands.below;
+    fresh = runs.stands.fresh;
+    room = runs.stands.room;
+    awake = runs.stands.awake;
+  };
+  outside = runs.outside;
+  homeless = runs.homeless;
+  blank = runs.blank;
+}
 
 -- facts of the program's place
 module _ (rom : ℕ → ℕ) (notes : Notes) (st : State) (loaded : IsLoaded rom st.mem) where
@@ -64,19 +78,7 @@ module _ (rom : ℕ → ℕ) (notes : Notes) (st : State) (loaded : IsLoaded rom
 
   -- an instruction was counted
   counted : Runs notes st → Runs notes (ticked st)
-  counted runs = record {
-    stands = record {
-      now = runs.stands.now;
-      is = runs.stands.is;
-      below = runs.stands.below;
-      fresh = runs.stands.fresh;
-      room = runs.stands.room;
-      awake = runs.stands.awake;
-    };
-    outside = runs.outside;
-    homeless = runs.homeless;
-    blank = runs.blank;
-  }
+  counted = later notes st (suc st.since)
 
   -- the reset's vector
   pub vector : word_at st.mem reset_vector ≡ word_at rom reset_vector
@@ -86,7 +88,7 @@ module _ (rom : ℕ → ℕ) (notes : Notes) (st : State) (loaded : IsLoaded rom
   pub run_step : (kind : Kind) (choice : Choice) (runs : Runs notes st)
       → fine_by kind notes rom st.pc runs.stands.now ≡ true
       → restarting kind st ≡ false → Good rom notes (does kind choice (ticked st))
-  unfolding counted drives
+  unfolding counted drives later
   run_step (Quiet sets bytes) choice runs fine go = moved runs _
       (quiet_moves notes rom choice st runs.stands.now loaded (at_rom runs) (is_low runs)
       (has_room runs) sets bytes fine)
@@ -158,8 +160,7 @@ module _ (rom : ℕ → ℕ) (notes : Notes) (st : State) (loaded : IsLoaded rom
       of_driver : ℕ → Bool
       of_driver w = enters w now && leads notes (st.pc + 3) (record now {
         awake = is_reset w || now.awake;
-        blank =
-            blank_after w now.blank;
+        blank = blank_after w now.blank;
       })
 
       of_game : ℕ → Bool

@@ -2,7 +2,7 @@
 use Rattle.std.proofs.Common.{◌≡◌, ◌⊎◌, inl, inr, ℕ, ◌+◌, ◌*◌, ◌<◌, ◌≤◌, suc, Bool, true, false, refl, ap, ◌∙◌, arith}
 use Rattle.std.proofs.Common.{leb-true, le-leb}
 use Rattle.std.specs.Prelude.{nat_le, nat_lt, ◌&&◌, ◌||◌, not}
-use Rattle.dvg_calls_6502.specs.Board.{is_hardware}
+use Rattle.dvg_calls_6502.specs.Board.{is_readable}
 use Rattle.dvg_calls_6502.specs.Processor.{stack_place}
 use Rattle.dvg_game_rules.specs.Machine.{State, IsTurned, is_outside}
 use Rattle.dvg_game_rules.specs.Checker.{Notes}
@@ -11,7 +11,7 @@ use Rattle.dvg_game_rules.proofs.Standing.{Stands, Runs, Handles, Good, keeps}
 
 -- the zero page and the stack are the program's own
 pub low_inside : (b : ℕ) → b < 0x200 → is_outside b ≡ false
-low_inside b less = ap (λ t. t && not (is_hardware b || (nat_le 0x4800 b && nat_lt b 0x8000))) (by (nat_le 0x200 b) refl)
+low_inside b less = ap (λ t. t && not (is_readable b || (nat_le 0x4800 b && nat_lt b 0x8000))) (by (nat_le 0x200 b) refl)
   where
     by : (t : Bool) → nat_le 0x200 b ≡ t → t ≡ false
     by false is = refl
@@ -19,7 +19,7 @@ low_inside b less = ap (λ t. t && not (is_hardware b || (nat_le 0x4800 b && nat
 
 -- and so is the ROM
 pub rom_inside : (b : ℕ) → 0x4800 ≤ b → b < 0x8000 → is_outside b ≡ false
-rom_inside b low high = by (nat_le 0x200 b) (is_hardware b) (nat_le 0x4800 b) (nat_lt b 0x8000) (le-leb 0x4800 b low)
+rom_inside b low high = by (nat_le 0x200 b) (is_readable b) (nat_le 0x4800 b) (nat_lt b 0x8000) (le-leb 0x4800 b low)
     (le-leb (suc b) 0x8000 high)
   where
     by : (t h u v : Bool) → u ≡ true → v ≡ true → (t && not (h || (u && v))) ≡ false
@@ -29,9 +29,9 @@ rom_inside b low high = by (nat_le 0x200 b) (is_hardware b) (nat_le 0x4800 b) (n
     by true false false v one two = absurd (cc)
     by true false true false one two = absurd (cc)
 
--- and so is the driver's hardware
-pub hardware_inside : (b : ℕ) → is_hardware b ≡ true → is_outside b ≡ false
-hardware_inside b is = by (nat_le 0x200 b) (is_hardware b) (nat_le 0x4800 b && nat_lt b 0x8000) is
+-- and so is what the driver reads of its hardware
+pub readable_inside : (b : ℕ) → is_readable b ≡ true → is_outside b ≡ false
+readable_inside b is = by (nat_le 0x200 b) (is_readable b) (nat_le 0x4800 b && nat_lt b 0x8000) is
   where
     by : (t h u : Bool) → h ≡ true → (t && not (h || u)) ≡ false
     by false h u is = refl

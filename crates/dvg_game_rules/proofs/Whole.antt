@@ -1,6 +1,5 @@
 -- Whole runs, and that they are safe.
-use Rattle.std.proofs.Common.{suc, ◌-◌, ◌≡◌, ℕ, ◌+◌, ◌*◌, ◌≤◌, ◌⊎◌, inl, inr, Bool, true, false, refl, sym, ap}
-use Rattle.std.proofs.Common.{◌∙◌}
+use Rattle.std.proofs.Common.{suc, ◌-◌, ◌≡◌, ℕ, ◌+◌, ◌*◌, ◌≤◌, ◌⊎◌, inl, inr, Bool, true, false, refl, sym, ap, ◌∙◌}
 use Rattle.std.proofs.Common.{List, [], ◌∷◌, subst, arith, eqb-true, leb-true}
 use Rattle.std.specs.Prelude.{length, nat_eq, nat_le, ◌&&◌, ◌||◌, not, if◌then◌else◌, Option, None, Some}
 use Rattle.dvg_calls_6502.specs.Code.{code}
@@ -10,8 +9,7 @@ use Rattle.dvg_game_rules.specs.Kinds.{Call, Return, Finish, Wild, kind_of}
 use Rattle.dvg_game_rules.specs.Machine.{IsLoaded, nmi_vector, reset_vector, within, calling, calls_driver}
 use Rattle.dvg_game_rules.specs.Machine.{nmi_within, blank_after, restarting, restarts, anew, State, Choice}
 use Rattle.dvg_game_rules.specs.Machine.{step, word_at, is_driver, is_reset}
-use Rattle.dvg_game_rules.specs.Machine.{pushed, interrupted, Begins, IsRun, begins, steps}
-use Rattle.dvg_game_rules.specs.Machine.{nmi, turns}
+use Rattle.dvg_game_rules.specs.Machine.{pushed, interrupted, Begins, IsRun, begins, steps, nmi, turns}
 use Rattle.dvg_game_rules.specs.Checker.{boots, boot_most, stand_at, implies, ends_of, Main, Sub}
 use Rattle.dvg_game_rules.specs.Checker.{Nmi, Note, Notes, noted, leads, begun, spare, interrupts, starts, same_level}
 use Rattle.dvg_game_rules.specs.Checker.{fine_by, accepts_game, enters, is_entry}
@@ -21,8 +19,7 @@ use Rattle.dvg_game_rules.proofs.Standing.{Fresh, Below, Runs, Handles, Good, lo
 use Rattle.dvg_game_rules.proofs.Memory.{left_rom, other, above_pushed}
 use Rattle.dvg_game_rules.proofs.Calling.{comes_within, Enters, entering, comes}
 use Rattle.dvg_game_rules.proofs.Stepping.{vector, checked, run_step}
-use Rattle.dvg_game_rules.proofs.Handling.{opcode_there, first_there}
-use Rattle.dvg_game_rules.proofs.Handling.{second_there, nmi_step}
+use Rattle.dvg_game_rules.proofs.Handling.{opcode_there, first_there, second_there, nmi_step}
 use Rattle.dvg_game_rules.proofs.Safety.{run_safe, nmi_safe}
 use Rattle.dvg_game_rules.proofs.Turning.{good_turns}
 

@@ -21,8 +21,7 @@ pub record AreAlike (st : State) (cpu : Cpu) : Type 0 where
   pub mem : (b : ℕ) → st.mem b ≡ cpu.mem b
 
 -- what is asked of an instruction: none calls the driver, which is one step here, and no RTI leads back into it; and
--- where
--- X or Y goes to the address of a store, it is a byte
+-- where X or Y goes to the address of a store, it is a byte
 abbrev pub IsOwn : Kind → Cpu → State → Type 0
 IsOwn Jump cpu st = is_driver (word_at cpu.mem (cpu.pc + 1)) ≡ false
 IsOwn Call cpu st = is_driver (word_at cpu.mem (cpu.pc + 1)) ≡ false
@@ -63,9 +62,8 @@ idle cpu = record {
   blank = false;
 }
 
--- from a reset, with any memory but the ROM, the processor comes to where a run begins; each instruction up to its
--- TXS is
--- safe, if no NMI comes before
+-- from a reset, with any memory but the ROM, the processor comes to where a run begins; each instruction up to its TXS
+-- is safe, if no NMI comes before
 pub record Starts (rom : ℕ → ℕ) (start : ℕ) (cpu : Cpu) : Type 0 where
   pub steps : ℕ
   pub ready : Begins rom start (idle (after steps cpu))

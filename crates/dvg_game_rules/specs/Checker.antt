@@ -155,8 +155,7 @@ abbrev pub is_strobe : ℕ → Bool
 is_strobe a = nat_le 0x3000 (a % 0x8000) && nat_lt (a % 0x8000) 0x3200
 
 -- what code may write: the program also dvg_y and dvg_x, and where no subroutine is open the driver's bytes, after
--- which
--- dvg_reset must be called
+-- which dvg_reset must be called
 abbrev pub may_write : Level → ℕ → Bool
 may_write Main a = is_free a || (is_operand a || is_own a)
 may_write Sub a = is_free a || is_operand a
@@ -180,8 +179,7 @@ abbrev pub goes_on : ℕ → Bool
 goes_on a = nat_eq a dvg_put || (nat_eq a dvg_pair || (nat_eq a dvg_vector || nat_eq a dvg_close))
 
 -- the driver may be called: at an entry, with room for two return addresses, not by the NMI, dvg_reset first, and
--- dvg_labs
--- first in a frame
+-- dvg_labs first in a frame
 abbrev pub enters : ℕ → Note → Bool
 enters to now = is_entry to && (nat_le 4 now.room && (not (same_level now.level Nmi) && ((is_reset to || now.awake)
     && implies (goes_on to) (not now.blank))))

@@ -1,6 +1,5 @@
 -- The kinds of a 6502's instructions: what each does to PC, S, A, X, Y and memory, whatever it computes and reads.
--- Those that
--- may go anywhere, or write anywhere, are Wild.
+-- Those that may go anywhere, or write anywhere, are Wild.
 use Rattle.std.specs.Prelude.{ℕ}
 use Rattle.dvg_calls_6502.specs.Processor
 use Rattle.dvg_calls_6502.specs.Processor.{Instr, Register, A, X, Y, decoded, opcodes}

@@ -1,6 +1,5 @@
 -- A 6502 that runs a game: where it goes, where it writes, and which registers it saves. Whatever it computes, reads
--- and
--- decides may be anything.
+-- and decides may be anything.
 --
 -- A15 isn't decoded on the board, so an address from 8000 on is one below: the ROM's vectors stand at 7FFA to 7FFD.
 use Rattle.std.specs.Prelude.{false, true, ◌≡◌, ℕ, suc, ◌+◌, ◌-◌, ◌*◌, ◌/◌, ◌%◌, ◌≤◌, ◌<◌, ◌&&◌, ◌||◌, Bool, not}
@@ -8,7 +7,7 @@ use Rattle.std.specs.Prelude.{nat_eq}
 use Rattle.std.specs.Prelude.{nat_le}
 use Rattle.std.specs.Prelude.{nat_lt, if◌then◌else◌, Option, None, Some, List, [], ◌∷◌}
 use Rattle.dvg_calls_6502.specs.Code.{dvg_reset, dvg_open, dvg_labs}
-use Rattle.dvg_calls_6502.specs.Board.{is_hardware}
+use Rattle.dvg_calls_6502.specs.Board.{is_readable}
 use Rattle.dvg_calls_6502.specs.Processor.{Register, A, X, Y, put, stack_place, target}
 use Rattle.dvg_game_rules.specs.Kinds.{Sets, Nothing, Only, Kind, Quiet, Reads, Transfer, Stores, Push}
 use Rattle.dvg_game_rules.specs.Kinds.{PushFlags, Pull, PullFlags, Branch, Jump, Call, Return, Finish, Wild, kind_of}
@@ -56,9 +55,8 @@ pub record State : Type 0 where
   -- since dvg_open no dvg_labs was called
   pub blank : Bool
 
--- what is left open: what an instruction computes or reads into a register, what X or Y hold at a store, what is
--- stored or
--- pushed, whether a branch is taken, what the driver and NMIs amid it leave of registers and memory, and when the
+-- what is left open: what an instruction computes or reads into a register, what X or Y hold at a store, what is stored
+-- or pushed, whether a branch is taken, what the driver and NMIs amid it leave of registers and memory, and when the
 -- last came
 pub record Choice : Type 0 where
   pub a : ℕ
@@ -238,10 +236,10 @@ within choice st = record st {
   home = Some (st.pc, st.s);
 }
 
--- switches, coins, sounds, RAM that is exchanged: what a pin answers, and nothing keeps. It is all but the zero page, the
--- stack, the driver's hardware and the ROM
+-- switches, coins, sounds, RAM that is exchanged, the strobe's place: what a pin answers, and nothing keeps. It is all but
+-- the zero page, the stack, the vector RAM, the flag and the ROM
 abbrev pub is_outside : ℕ → Bool
-is_outside b = nat_le 0x200 b && not (is_hardware b || (nat_le 0x4800 b && nat_lt b 0x8000))
+is_outside b = nat_le 0x200 b && not (is_readable b || (nat_le 0x4800 b && nat_lt b 0x8000))
 
 -- between two memories that alone may have changed
 abbrev pub IsTurned : (old new : ℕ → ℕ) → Type 0
@@ -257,9 +255,8 @@ pub record Begins (rom : ℕ → ℕ) (start : ℕ) (st : State) : Type 0 where
   pub home : st.home ≡ None
   pub blank : st.blank ≡ false
 
--- the runs of a ROM since a reset: any choices, any answers from outside, and an NMI wherever at least 860 instructions came since the last
--- one. An
--- NMI comes each 6,144 cycles, and no instruction has more than 7.
+-- the runs of a ROM since a reset: any choices, any answers from outside, and an NMI wherever at least 860 instructions
+-- came since the last one. An NMI comes each 6,144 cycles, and no instruction has more than 7.
 pub data IsRun (rom : ℕ → ℕ) (start : ℕ) : State → Type 0 where
   begins : (st : State) → Begins rom start st → IsRun rom start st
   steps : {st : State} (choice : Choice) → IsRun rom start st → restarts st ≡ false → IsRun rom start (step choice st)

@@ -10,8 +10,7 @@ use Rattle.dvg_game_rules.specs.Machine.{resumed_at, reset_vector, IsRun}
 use Rattle.dvg_game_rules.specs.Checker.{goes_on, Notes, is_free, is_strobe, is_entry, is_code, accepts}
 
 -- a byte that a game may write: amid an NMI one of its own; else also dvg_y or dvg_x, or one of the driver's, after
--- which
--- it is asleep; and these where no call is open
+-- which it is asleep; and these where no call is open
 abbrev pub MayWrite : State → ℕ → Type 0
 MayWrite st a = (is_free a ≡ true) ⊎ ((st.amid ≡ None) × ((is_operand a ≡ true)
     ⊎ ((is_own a ≡ true) × (st.calls ≡ []))))

@@ -29,8 +29,7 @@ unfoldable pub notes_of : List (List (ℕ × Note)) → Notes
 notes_of rows at = found (of_list [] rows ((at - first) / 64)) at
 
 -- a note of the program's code, by its level, bytes on the stack, room, whether dvg_reset was called, and whether a
--- frame
--- may be blank, here and where it returns
+-- frame may be blank, here and where it returns
 unfoldable pub note : Level → (depth room : ℕ) → (awake blank ends : Bool) → Note
 note level depth room awake blank ends = record {
   level = level;
