@@ -199,7 +199,7 @@ opened between new Opened can answers = (refl, answers.2)
 opened between new NoState can answers = absurd (answers.0 can)
 opened between new _ can answers = absurd answers
 
-restored_stands : (machine : Machine) → CanStand machine → CanStand (restored machine)
+pub restored_stands : (machine : Machine) → CanStand machine → CanStand (restored machine)
 restored_stands machine can = record { kept = can.kept; waits = can.waits; beam = can.beam }
 
 -- a generator that is resumed after all parts of a machine's state stands as that machine

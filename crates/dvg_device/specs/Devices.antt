@@ -141,7 +141,7 @@ PartAnswers Nothing asked old new answer = (new ≡ old) × (answer ≡ unopened
 PartAnswers (World world) asked old new answer = (later : State) × (new ≡ record old { open_part = World later })
     × WorldAnswers old.draft old.staged asked world later answer
 PartAnswers (Driver driven) asked old new answer = (later : Driven) × (new ≡ record old { open_part = Driver later })
-    × (later.rom ≡ driven.rom) × DriverAnswers driven.rom old.draft asked driven.stage later.stage answer
+    × (later.rom ≡ driven.rom) × DriverAnswers driven.rom old.draft asked driven.driver later.driver answer
 PartAnswers (Generator machine) asked old new answer = (later : Machine)
     × (new ≡ record old { open_part = Generator later }) × GeneratorAnswers asked machine later answer
 PartAnswers (Wrapping wrapped) asked old new answer = (later : Wrapped)

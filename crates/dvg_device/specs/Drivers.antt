@@ -2,7 +2,7 @@
 use Rattle.std.specs.Prelude.{◌≡◌, ℕ, List, []}
 use Rattle.dvg_frame.specs.declared.op.OpKind.{OpKind}
 use Rattle.dvg_driver.specs.declared.action.Action.{Action}
-use Rattle.dvg_driver.specs.Stands.{Stage, StandsAfter}
+use Rattle.dvg_driver.specs.Stands.{Driving, StandsAfter}
 use Rattle.dvg_log.specs.declared.entry.Entry.{Entry}
 use Rattle.dvg_log.specs.declared.entry.Entry.TheVariants.{Acted, Cleared}
 use Rattle.dvg_world.specs.Desks.{OfferAnswers, RedrawAnswers, TickAnswers}
@@ -22,10 +22,10 @@ OfAction P (Came (Acted action)) = P action
 OfAction P reply = ⊥
 
 -- what a driver over this ROM, with this draft, comes to by a request
-abbrev pub DriverAnswers : List ℕ → List OpKind → Request → Stage → Stage → Reply → Type 0
-DriverAnswers R F Offer stage later reply = OfEntry (OfferAnswers R F stage later) reply
-DriverAnswers R F Redraw stage later reply = OfEntry (RedrawAnswers stage later) reply
-DriverAnswers R F (Tick halted byte1) stage later reply = OfAction (TickAnswers halted byte1 stage later) reply
-DriverAnswers R F ResetProcessor stage later reply = ((peeked : ℕ) → StandsAfter later peeked [])
+abbrev pub DriverAnswers : List ℕ → List OpKind → Request → Driving → Driving → Reply → Type 0
+DriverAnswers R F Offer driver later reply = OfEntry (OfferAnswers R F driver later) reply
+DriverAnswers R F Redraw driver later reply = OfEntry (RedrawAnswers driver later) reply
+DriverAnswers R F (Tick halted byte1) driver later reply = OfAction (TickAnswers halted byte1 driver later) reply
+DriverAnswers R F ResetProcessor driver later reply = ((peeked : ℕ) → StandsAfter later.stage peeked [])
     × (reply ≡ Came Cleared)
-DriverAnswers R F request stage later reply = (later ≡ stage) × (reply ≡ Unknown)
+DriverAnswers R F request driver later reply = (later ≡ driver) × (reply ≡ Unknown)

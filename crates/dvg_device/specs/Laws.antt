@@ -1,6 +1,6 @@
 -- Laws of the numbers of replies, and of saved states.
 use Rattle.std.specs.Prelude.{◌≡◌, ◌<◌, ◌+◌, ◌*◌, ◌/◌, ◌%◌, ◌^◌, ℕ, Bool, List, [], ◌∷◌, length, map, All, Option}
-use Rattle.std.specs.Prelude.{Some, IfSome}
+use Rattle.std.specs.Prelude.{Some, IfSome, ◌⊎◌, slice_get}
 use Rattle.dvg_gen.specs.Machine.{Machine, HasTaken}
 use Rattle.dvg_gen.specs.Told.{Told}
 use Rattle.dvg_gen.specs.Wrapping.{Wrapped, HasWrapped}
@@ -8,7 +8,10 @@ use Rattle.dvg_gen.specs.declared.TheConstants.{STACK_DEPTH}
 use Rattle.dvg_driver.specs.Saved.{stage_in}
 use Rattle.dvg_world.specs.Standing.{KeepsLogs, State}
 use Rattle.dvg_log.specs.declared.entry.Entry.TheVariants.{Cleared}
+use Rattle.dvg_mem.specs.Memory.{IsImage}
+use Rattle.dvg_frame.specs.declared.op.OpKind.{OpKind}
 use Rattle.dvg_device.specs.Devices.{Answered, Generator, Held, World, Wrapping}
+use Rattle.dvg_device.specs.Worlds.{TellsOperation, TellsWorld}
 use Rattle.dvg_device.specs.Resuming.{state_of}
 use Rattle.dvg_device.specs.Wrappings.{saved_of}
 use Rattle.dvg_device.specs.declared.driver.DriverFields.{DriverFields}
@@ -19,7 +22,8 @@ use Rattle.dvg_device.specs.Requests.{request_of}
 use Rattle.dvg_device.specs.States.{CanBeSaved, Suits, drawn_so_far, part_in, parts_of, told, unbegun, word_of}
 use Rattle.dvg_device.specs.declared.reply.Reply.{Reply}
 use Rattle.dvg_device.specs.declared.reply.Reply.TheVariants as replies
-use Rattle.dvg_device.specs.declared.reply.Reply.TheVariants.{Came, Opened}
+use Rattle.dvg_device.specs.declared.reply.Reply.TheVariants.{Came, NoMemory, Opened}
+use Rattle.dvg_device.specs.declared.request.Question.TheVariants as questions
 use Rattle.dvg_device.specs.declared.request.Request.TheVariants.{Push, Resume, ResumeWorld, ResumeWrapping, TellState}
 use Rattle.dvg_device.specs.declared.state.StatePart.{StatePart}
 use Rattle.dvg_device.specs.declared.state.StatePart.TheVariants.{Fields, ReturnAddress, Place, Line}
@@ -116,7 +120,25 @@ OperationsArePassedOn = (o : Operation) → o.kind < 0x100 → o.scale < 0x100 �
 -- Where the world goes on, it stands after each log after which the saved one stands
 abbrev pub IsWorldResumed : Type 0
 IsWorldResumed = (saved world : State) (fields : DriverFields) (old between new : Held) → CanBeSaved saved.machine
-    → world.rom ≡ saved.rom → old.staged ≡ saved.ram → stage_in (state_of fields old.draft) ≡ saved.stage
+    → world.rom ≡ saved.rom → old.staged ≡ saved.ram → stage_in (state_of fields old.draft) ≡ saved.driver.stage
     → fields.strobe_sent ≡ saved.sent → old.open_part ≡ World world
     → ToldInTurn (map word_of (parts_of saved.machine)) old between → Answered (ResumeWorld fields) between new Opened
     → (later : State) × (new.open_part ≡ World later) × KeepsLogs saved later
+
+-- a world tells this draft as the frame that its driver writes: of each number it can be answered which operation of
+-- the draft that is, or that there is none
+abbrev pub TellsDraft : State → List OpKind → Type 0
+TellsDraft world F = (n : ℕ) → (reply : Reply) × TellsWorld (questions.Operation n) world reply
+    × TellsOperation (slice_get F n) reply
+
+-- a device with a world over a saved world's ROM was told all that the saved one tells: its RAM is staged, these fields
+-- and the draft are told of its driver, and the parts of its generator were told in turn.
+-- If there is memory, the world goes on, and stands after each log after which the saved one stands
+abbrev pub IsWorldTaken : Type 0
+IsWorldTaken = (saved world : State) (fields : DriverFields) (old between new : Held) (reply : Reply)
+    → CanBeSaved saved.machine → IsImage saved.ram → world.rom ≡ saved.rom → old.staged ≡ saved.ram
+    → TellsWorld questions.Driver saved (replies.Driver fields) → TellsDraft saved old.draft
+    → old.open_part ≡ World world → ToldInTurn (map word_of (parts_of saved.machine)) old between
+    → Answered (ResumeWorld fields) between new reply
+    → (reply ≡ NoMemory)
+    ⊎ ((reply ≡ Opened) × (later : State) × (new.open_part ≡ World later) × KeepsLogs saved later)

@@ -3,7 +3,7 @@ use Rattle.std.specs.Prelude.{◌≡◌, ◌⊎◌, ◌==◌, ℕ, List, [], len
 use Rattle.dvg_mem.specs.declared.TheConstants.{MEMORY_BYTES}
 use Rattle.dvg_frame.specs.declared.op.OpKind.{OpKind}
 use Rattle.dvg_driver.specs.declared.state.DriverState.{DriverState}
-use Rattle.dvg_driver.specs.Saved.{IsState, stage_in}
+use Rattle.dvg_driver.specs.Saved.{IsState, driving_in}
 use Rattle.dvg_log.specs.declared.entry.Entry.{Entry}
 use Rattle.dvg_log.specs.Entries.{drew_in}
 use Rattle.dvg_log.specs.declared.event.Event.TheVariants as events
@@ -78,9 +78,9 @@ abbrev pub told_byte : ℕ → Option ℕ → Reply
 told_byte address None = Nothing
 told_byte address (Some byte) = Byte address byte
 
--- this holds of a state that the driver of a world is in
+-- this holds of a state that the driver of a world is in, and that one over its ROM takes
 abbrev pub OfDriver : State → (DriverState → Type 0) → Type 0
-OfDriver world P = (state : DriverState) × (world.stage ≡ stage_in state) × P state
+OfDriver world P = (state : DriverState) × (world.driver ≡ driving_in state) × IsState world.rom state × P state
 
 -- what is told of an operation
 abbrev pub TellsOperation : Option OpKind → Reply → Type 0
@@ -108,7 +108,7 @@ world_with ram machine fields F world = record {
   rom = world.rom;
   ram = ram;
   machine = record machine { picture = world.machine.picture };
-  stage = stage_in (state_of fields F);
+  driver = driving_in (state_of fields F);
   sent = fields.strobe_sent;
 }
 

@@ -15,7 +15,7 @@ use dvg_world::Desk;
 #[inline(always)]
 pub(crate) fn tick_driver(desk: &mut Desk, halted: bool, byte1: u8) -> Reply
     ensures rom { desk.new.rom ≡ desk.old.rom }
-    ensures answers { OfAction (TickAnswers halted byte1 desk.old.stage desk.new.stage) result }
+    ensures answers { OfAction (TickAnswers halted byte1 desk.old.driver desk.new.driver) result }
 {
     Reply::Came(Entry::Acted(desk.tick(halted, byte1)))
 }
@@ -24,7 +24,7 @@ pub(crate) fn tick_driver(desk: &mut Desk, halted: bool, byte1: u8) -> Reply
 #[inline(always)]
 pub(crate) fn ask_driver(desk: &mut Desk, request: Request, draft: &Draft) -> Reply
     ensures rom { desk.new.rom ≡ desk.old.rom }
-    ensures answers { DriverAnswers desk.old.rom draft.now request desk.old.stage desk.new.stage
+    ensures answers { DriverAnswers desk.old.rom draft.now request desk.old.driver desk.new.driver
         result }
 {
     match request {

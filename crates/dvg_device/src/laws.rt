@@ -1,7 +1,7 @@
 //! Laws of the definitions alone. Each is the contract of a function that does nothing.
 ghost use Rattle.dvg_device.specs.Laws.{AllFit, DriversArePassedOn, GoesOn, IsNeverRefused};
 ghost use Rattle.dvg_device.specs.Laws.{IsPassedOn, IsReadAgain, IsRestored, IsWorldResumed};
-ghost use Rattle.dvg_device.specs.Laws.{IsWrappingRestored, OnwardTakenApart};
+ghost use Rattle.dvg_device.specs.Laws.{IsWorldTaken, IsWrappingRestored, OnwardTakenApart};
 ghost use Rattle.dvg_device.specs.Laws.{OperationsArePassedOn, TakenApart};
 
 /// The number of a reply that has a kind, and isn't `Onward`, gives back the kind by its lowest
@@ -38,18 +38,12 @@ pub fn state_is_restored()
 
 /// What a world tells of its driver, and each operation of the frame that is being written, is told
 /// by a number that is the request by which another world goes on with it. A device has a world
-/// over the same ROM, and was told all that a world tells. Where it goes on with that, it has a
-/// world that stands after each log after which the saved one stands: so it goes on as that does.
-/// Two premises are in this that no answer of a world gives:
-///
-/// - The fields and the operations that were told make the stage of the saved world's driver
-///   (`stage_in`). But each question is answered of some state in which this driver may be, and no
-///   law says that several are answered of the same one.
-/// - The request by which it goes on is answered `Opened`. No law says that what a world tells is
-///   never refused, as one says of a generator. `Driver::state` is known to return no empty frame
-///   where one is being written (`begins`); that the check accepts that frame is tested alone.
+/// over the same ROM, and was told all that a world tells. If there is memory, it goes on with
+/// that: what was told isn't refused, and its world stands after each log after which the saved one
+/// stands.
 pub fn world_is_resumed()
     ensures driver { DriversArePassedOn }
     ensures operations { OperationsArePassedOn }
     ensures resumed { IsWorldResumed }
+    ensures taken { IsWorldTaken }
 {}

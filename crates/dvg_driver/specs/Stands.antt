@@ -1,18 +1,29 @@
 -- After which lives a driver stands. A driver is specified by all that it has done since its reset,
 -- not by its state.
-use Rattle.std.specs.Prelude.{ℕ, Bool, not, List, [], ◌∷◌, ◌≡◌, ◌<◌, ◌≤◌, Some, length, nat_eq, if◌then◌else◌}
+use Rattle.std.specs.Prelude.{ℕ, Bool, not, List, [], ◌∷◌, ◌≡◌, ◌<◌, ◌≤◌, Option, Some, IfSome, length, nat_eq}
+use Rattle.std.specs.Prelude.{if◌then◌else◌}
 use Rattle.dvg_mem.specs.declared.half.Half.{Half}
 use Rattle.dvg_mem.specs.Areas.{half_of_high, other}
+use Rattle.dvg_frame.specs.declared.op.OpKind.{OpKind}
 use Rattle.dvg_driver.specs.declared.action.Action.{Action}
 use Rattle.dvg_driver.specs.declared.action.Action.TheVariants.{Peek, Wrote, Read}
 use Rattle.dvg_driver.specs.Script.{Item, Did, has_flip, word_zero}
 use Rattle.dvg_driver.specs.Place.{Place, Start, Writing, place_of_life, with_left}
 
--- what contracts see of a driver: its place in the script, the current half, and whether it has flipped since its reset
+-- the stage of a driver: its place in the script, the current half, and whether it has flipped since its reset
 pub record Stage : Type 0 where
   pub place : Place
   pub half : Half
   pub flipped : Bool
+
+-- what contracts see of a driver: its stage, and the frame that it keeps while it writes it
+pub record Driving : Type 0 where
+  pub stage : Stage
+  pub frame : Option (List OpKind)
+
+-- a frame that is kept was kept before
+abbrev pub KeepsNoOther : (old new : Driving) → Type 0
+KeepsNoOther old new = IfSome new.frame (λ F. old.frame ≡ Some F)
 
 -- byte 001, as the life gives it: what its last flip wrote, or else what was handed in at its peek
 abbrev pub byte1_of : ℕ → List Item → ℕ

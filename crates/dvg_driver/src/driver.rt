@@ -1,19 +1,21 @@
 //! The driver.
-ghost use Rattle.std.specs.Prelude.{◌≡◌, ◌↔◌, ℕ, ◌*◌, true, false, not, All, List, [], ◌∷◌, IfErr};
-ghost use Rattle.std.specs.Prelude.{IfNone, IfSome, IsOk, IsSome, IsSomeAnd, IsTrue, OnErr, OnOk};
+ghost use Rattle.std.specs.Prelude.{◌≡◌, ◌↔◌, ◌≤◌, ℕ, ◌*◌, true, false, not, All, List, [], ◌∷◌};
+ghost use Rattle.std.specs.Prelude.{IfErr, IfNone, IfSome, IsOk, IsSome, IsSomeAnd, IsTrue, None};
+ghost use Rattle.std.specs.Prelude.{OnErr, OnOk, Some, option_map};
 ghost use Rattle.dvg_frame.specs.Bytes.{IsBehindWordZero, addressed, bytes};
-ghost use Rattle.dvg_frame.specs.Layout.{laid};
-ghost use Rattle.dvg_frame.specs.Left.{last_items};
+ghost use Rattle.dvg_frame.specs.Layout.{laid, size};
+ghost use Rattle.dvg_frame.specs.Left.{IsOf, after_item, items_in};
 ghost use Rattle.dvg_frame.specs.Steps.{Begins};
 ghost use Rattle.dvg_driver.specs.declared.state.Phase.TheVariants as phase;
 ghost use Rattle.dvg_mem.specs.Areas.{base, half_of_high, high, other};
 ghost use Rattle.dvg_driver.specs.Phases.{items_of};
 ghost use Rattle.dvg_driver.specs.Place.{Waiting, Writing};
-ghost use Rattle.dvg_driver.specs.Saved.{IsState, IsWritable, stage_in};
+ghost use Rattle.dvg_driver.specs.Saved.{IsState, IsWritable, KeepsAccepted, cursor_in};
+ghost use Rattle.dvg_driver.specs.Saved.{driving_in};
 ghost use Rattle.dvg_driver.specs.Script.{Item, Offered, Asked, Did, IsLife, IsWhole, has_flip};
 ghost use Rattle.dvg_driver.specs.Script.{word_zero};
-ghost use Rattle.dvg_driver.specs.Stands.{IsInRam, StandsAfter, Tells, WritesNext, WritesNoByte};
-ghost use Rattle.dvg_driver.specs.Stands.{WritesWordZero, byte1_of, peeked_after};
+ghost use Rattle.dvg_driver.specs.Stands.{IsInRam, KeepsNoOther, StandsAfter, Tells, WritesNext};
+ghost use Rattle.dvg_driver.specs.Stands.{WritesNoByte, WritesWordZero, byte1_of, peeked_after};
 
 use crate::action::Action;
 use crate::fault::DriverFault;
@@ -36,15 +38,16 @@ pub struct Driver {
     flipped: bool,
 }
 
-/// Contracts see how far the driver is in its script, the current half, and whether it has flipped.
+/// Contracts see how far the driver is in its script, the current half, whether it has flipped, and
+/// the frame that it keeps while it writes it.
 impl Model for Driver {
-    ghost use Rattle.dvg_driver.specs.Stands.{Stage};
+    ghost use Rattle.dvg_driver.specs.Stands.{Driving};
 
-    ghost Value = { Stage };
+    ghost Value = { Driving };
 
-    ghost use Rattle.dvg_driver.specs.Phases.{IsSound, stage_of};
+    ghost use Rattle.dvg_driver.specs.Phases.{IsSound, driving_of};
 
-    ghost view = { stage_of };
+    ghost view = { driving_of };
 
     ghost invariant = { IsSound };
 }
@@ -52,7 +55,8 @@ impl Model for Driver {
 impl Driver {
     /// Returns a driver that was just reset.
     pub fn new() -> Driver
-        ensures { (peeked : ℕ) → StandsAfter result peeked [] }
+        ensures stands { (peeked : ℕ) → StandsAfter result.stage peeked [] }
+        ensures frame { result.frame ≡ None }
     {
         Driver {
             phase: Phase::Start,
@@ -64,7 +68,8 @@ impl Driver {
 
     /// Resets the driver: it forgets everything, even a frame that is being written.
     pub fn reset(&mut self)
-        ensures { (peeked : ℕ) → StandsAfter self.new peeked [] }
+        ensures stands { (peeked : ℕ) → StandsAfter self.new.stage peeked [] }
+        ensures frame { self.new.frame ≡ None }
     {
         // The half and the cursor no longer count: the peek and the next frame set them.
         self.phase = Phase::Start;
@@ -73,7 +78,7 @@ impl Driver {
 
     /// Returns whether the driver is idle, and so would take a frame.
     pub fn is_idle(&self) -> bool
-        ensures { (peeked : ℕ) (life : List Item) → StandsAfter self.now peeked life
+        ensures { (peeked : ℕ) (life : List Item) → StandsAfter self.now.stage peeked life
             → (IsTrue result ↔ IsWhole life) }
     {
         match self.phase {
@@ -85,12 +90,13 @@ impl Driver {
     /// Takes `frame`, as `offer_checked` takes a checked draft; either way it is dropped. Returns
     /// `Busy` exactly where the driver isn't idle, and then nothing else has changed.
     pub fn offer(&mut self, frame: Frame) -> Result<(), DriverFault>
-        ensures accepted { (peeked : ℕ) (life : List Item) → StandsAfter self.old peeked life
+        ensures accepted { (peeked : ℕ) (life : List Item) → StandsAfter self.old.stage peeked life
             → (IsOk result ↔ IsWhole life) }
         ensures busy { IfErr result (λ fault. fault ≡ DriverFault.Busy) }
-        ensures stands { (peeked : ℕ) (life : List Item) → StandsAfter self.old peeked life →
-            OnOk result (StandsAfter self.new peeked
+        ensures stands { (peeked : ℕ) (life : List Item) → StandsAfter self.old.stage peeked life →
+            OnOk result (StandsAfter self.new.stage peeked
             (Offered (other (half_of_high (byte1_of peeked life))) frame.operations ∷ life)) }
+        ensures frame { OnOk result (self.new.frame ≡ Some frame.operations) }
         ensures refused { OnErr result (self.new ≡ self.old) }
     {
         self.offer_checked(&frame.as_checked())
@@ -100,12 +106,13 @@ impl Driver {
     /// are copied only where it is taken, into the memory that the driver has. Returns `Busy`
     /// exactly where the driver isn't idle, and then nothing has changed.
     pub fn offer_checked(&mut self, checked: &Checked) -> Result<(), DriverFault>
-        ensures accepted { (peeked : ℕ) (life : List Item) → StandsAfter self.old peeked life
+        ensures accepted { (peeked : ℕ) (life : List Item) → StandsAfter self.old.stage peeked life
             → (IsOk result ↔ IsWhole life) }
         ensures busy { IfErr result (λ fault. fault ≡ DriverFault.Busy) }
-        ensures stands { (peeked : ℕ) (life : List Item) → StandsAfter self.old peeked life →
-            OnOk result (StandsAfter self.new peeked
+        ensures stands { (peeked : ℕ) (life : List Item) → StandsAfter self.old.stage peeked life →
+            OnOk result (StandsAfter self.new.stage peeked
             (Offered (other (half_of_high (byte1_of peeked life))) checked.now.operations ∷ life)) }
+        ensures frame { OnOk result (self.new.frame ≡ Some checked.now.operations) }
         ensures refused { OnErr result (self.new ≡ self.old) }
     {
         match self.phase {
@@ -122,12 +129,13 @@ impl Driver {
     /// hasn't flipped since its reset, otherwise `Busy` exactly where it isn't idle. After an error
     /// nothing has changed.
     pub fn redraw(&mut self) -> Result<(), DriverFault>
-        ensures accepted { (peeked : ℕ) (life : List Item) → StandsAfter self.old peeked life →
-            (IsOk result ↔ ((has_flip life ≡ true) × IsWhole life)) }
-        ensures nothing { (peeked : ℕ) (life : List Item) → StandsAfter self.old peeked life →
+        ensures accepted { (peeked : ℕ) (life : List Item) → StandsAfter self.old.stage peeked life
+            → (IsOk result ↔ ((has_flip life ≡ true) × IsWhole life)) }
+        ensures nothing { (peeked : ℕ) (life : List Item) → StandsAfter self.old.stage peeked life →
             ((result ≡ Err DriverFault.NothingPublished) ↔ (has_flip life ≡ false)) }
-        ensures stands { (peeked : ℕ) (life : List Item) → StandsAfter self.old peeked life →
-            OnOk result (StandsAfter self.new peeked (Asked ∷ life)) }
+        ensures stands { (peeked : ℕ) (life : List Item) → StandsAfter self.old.stage peeked life →
+            OnOk result (StandsAfter self.new.stage peeked (Asked ∷ life)) }
+        ensures frame { OnOk result (self.new.frame ≡ None) }
         ensures refused { OnErr result (self.new ≡ self.old) }
     {
         if !self.flipped {
@@ -147,12 +155,13 @@ impl Driver {
     /// `Wrote`, and sends the strobe of a `Sent`.
     #[inline(always)]
     pub fn tick(&mut self, halted: bool, byte1: u8) -> Action
-        ensures stands { (peeked : ℕ) (life : List Item) → StandsAfter self.old peeked life →
-            StandsAfter self.new (peeked_after result byte1 peeked) (Did result ∷ life) }
-        ensures scripted { (peeked : ℕ) (life : List Item) → StandsAfter self.old peeked life
+        ensures stands { (peeked : ℕ) (life : List Item) → StandsAfter self.old.stage peeked life →
+            StandsAfter self.new.stage (peeked_after result byte1 peeked) (Did result ∷ life) }
+        ensures scripted { (peeked : ℕ) (life : List Item) → StandsAfter self.old.stage peeked life
             → IsLife (Did result ∷ life) }
         ensures told { Tells result halted }
         ensures in_ram { IsInRam result }
+        ensures frame { KeepsNoOther self.old self.new }
         ensures idle { result ≡ Action.Idle → self.new ≡ self.old }
     {
         match self.next_byte() {
@@ -161,11 +170,12 @@ impl Driver {
         }
     }
 
-    /// Returns all that the driver keeps, as a value that `resume` takes. The frame that is being
-    /// written is copied.
+    /// Returns all that the driver keeps, as a value that `resume` takes over each ROM over which
+    /// the check accepts the frame that is being written. That is copied.
     pub fn state(&self) -> DriverState
-        ensures stage { self.now ≡ stage_in result }
+        ensures driver { self.now ≡ driving_in result }
         ensures begins { result.phase ≡ phase.Writing → Begins result.frame }
+        ensures taken { (R : List ℕ) → KeepsAccepted R self.now → IsState R result }
     {
         let written = match (self.phase, &self.cursor) {
             (Phase::Writing, Some(cursor)) => written_by(cursor),
@@ -192,7 +202,7 @@ impl Driver {
         rom: &Rom<A>,
     ) -> bool
         ensures taken { IsTrue result ↔ IsState rom.now state.now }
-        ensures stage { IsTrue result → self.new ≡ stage_in state.now }
+        ensures driver { IsTrue result → self.new ≡ driving_in state.now }
         ensures refused { (IsTrue result → ⊥) → self.new ≡ self.old }
     {
         match state.phase {
@@ -215,9 +225,10 @@ impl Driver {
     // changed.
     #[inline(always)]
     fn next_byte(&mut self) -> Option<(u16, u8)>
-        ensures given { IfSome result (WritesNext self.old self.new) }
+        ensures given { IfSome result (WritesNext self.old.stage self.new.stage) }
         ensures in_ram { IfSome result IsBehindWordZero }
-        ensures none { IfNone result ((self.new ≡ self.old) × WritesNoByte self.old) }
+        ensures frame { self.new.frame ≡ self.old.frame }
+        ensures none { IfNone result ((self.new ≡ self.old) × WritesNoByte self.old.stage) }
     {
         match self.phase {
             Phase::Writing => next_of(&mut self.cursor),
@@ -229,11 +240,12 @@ impl Driver {
     // `byte1` are those of `tick`. It isn't inlined, as most ticks write such a byte.
     #[inline(never)]
     fn act(&mut self, halted: bool, byte1: u8) -> Action
-        requires { WritesNoByte self.old }
-        ensures stands { (peeked : ℕ) (life : List Item) → StandsAfter self.old peeked life →
-            StandsAfter self.new (peeked_after result byte1 peeked) (Did result ∷ life) }
+        requires { WritesNoByte self.old.stage }
+        ensures stands { (peeked : ℕ) (life : List Item) → StandsAfter self.old.stage peeked life →
+            StandsAfter self.new.stage (peeked_after result byte1 peeked) (Did result ∷ life) }
         ensures told { Tells result halted }
         ensures in_ram { IsInRam result }
+        ensures frame { self.new.frame ≡ None }
         ensures idle { result ≡ Action.Idle → self.new ≡ self.old }
     {
         match self.phase {
@@ -267,10 +279,11 @@ impl Driver {
     // Goes on after the last byte of a frame, and returns what it did: it writes byte 000 where it
     // hasn't flipped since its reset, and otherwise it flips.
     fn end_frame(&mut self) -> Action
-        requires { self.old.place
-            ≡ Writing (word_zero (other self.old.half) (not self.old.flipped)) }
-        ensures stands { (peeked : ℕ) (life : List Item) → StandsAfter self.old peeked life →
-            StandsAfter self.new peeked (Did result ∷ life) }
+        requires { self.old.stage.place
+            ≡ Writing (word_zero (other self.old.stage.half) (not self.old.stage.flipped)) }
+        ensures stands { (peeked : ℕ) (life : List Item) → StandsAfter self.old.stage peeked life →
+            StandsAfter self.new.stage peeked (Did result ∷ life) }
+        ensures frame { self.new.frame ≡ None }
         ensures wrote { WritesWordZero result }
     {
         if self.flipped {
@@ -282,10 +295,12 @@ impl Driver {
 
     // Publishes the frame in the free half, which is the current one from now on.
     fn flip(&mut self) -> Action
-        requires { self.old.place ≡ Writing (word_zero (other self.old.half) false) }
-        ensures action { result ≡ Action.Wrote 1 (high (other self.old.half)) }
-        ensures flipped { self.new ≡ record
-            { place = Waiting false; half = other self.old.half; flipped = true } }
+        requires { self.old.stage.place
+            ≡ Writing (word_zero (other self.old.stage.half) false) }
+        ensures action { result ≡ Action.Wrote 1 (high (other self.old.stage.half)) }
+        ensures flipped { self.new.stage ≡ record
+            { place = Waiting false; half = other self.old.stage.half; flipped = true } }
+        ensures frame { self.new.frame ≡ None }
     {
         self.half = self.half.other();
         self.flipped = true;
@@ -297,7 +312,8 @@ impl Driver {
 // Returns the draft whose bytes `cursor` gives, the half that it is laid out for, and how many of
 // them are still to come.
 fn written_by(cursor: &Cursor) -> (Draft, Half, u16)
-    ensures items { cursor.now ≡ last_items result.1 result.0 result.2 }
+    ensures source { cursor.now ≡ record { draft = result.0; half = result.1; left = result.2 } }
+    ensures left { result.2 ≤ 2 * size result.0 }
     ensures begins { Begins result.0 }
 {
     let source = cursor.source();
@@ -313,9 +329,8 @@ fn cursor_of<A: Allocator>(
     rom: &Rom<A>,
 ) -> Option<Cursor>
     ensures taken { IsSome result ↔ IsWritable rom.now state.now }
-    ensures items { IfSome result (λ cursor. cursor
-        ≡ last_items state.now.frame_half state.now.frame state.now.left) }
-    ensures in_ram { IfSome result (All IsBehindWordZero) }
+    ensures cursor { IfSome result (λ cursor. cursor ≡ cursor_in state.now) }
+    ensures in_ram { IfSome result (λ cursor. All IsBehindWordZero (items_in cursor)) }
 {
     let checked = checker.check(state.frame.ops(), rom).ok()?;
     if state.frame_half != state.half.other() || state.left > 2 * checked.len_words() {
@@ -328,7 +343,8 @@ fn cursor_of<A: Allocator>(
 fn begin(cursor: &mut Option<Cursor>, checked: &Checked, half: Half)
     ensures items { items_of cursor.new
         ≡ addressed (2 * base half) (bytes (laid half checked.now.operations)) }
-    ensures in_ram { IsSomeAnd cursor.new (All IsBehindWordZero) }
+    ensures cursor { IsSomeAnd cursor.new (λ new. All IsBehindWordZero (items_in new)
+        × IsOf new checked.now.operations half) }
 {
     match cursor {
         Some(cursor) => cursor.restart(checked, half),
@@ -342,7 +358,8 @@ fn begin(cursor: &mut Option<Cursor>, checked: &Checked, half: Half)
 fn begin_first(cursor: &mut Option<Cursor>, checked: &Checked, half: Half)
     ensures items { items_of cursor.new
         ≡ addressed (2 * base half) (bytes (laid half checked.now.operations)) }
-    ensures in_ram { IsSomeAnd cursor.new (All IsBehindWordZero) }
+    ensures cursor { IsSomeAnd cursor.new (λ new. All IsBehindWordZero (items_in new)
+        × IsOf new checked.now.operations half) }
 {
     *cursor = Some(Cursor::of(checked, half));
 }
@@ -354,7 +371,7 @@ fn next_of(cursor: &mut Option<Cursor>) -> Option<(u16, u8)>
     requires { IsSome cursor.old }
     ensures given { IfSome result (λ item. items_of cursor.old ≡ item ∷ items_of cursor.new) }
     ensures ended { IfNone result ((items_of cursor.old ≡ []) × (items_of cursor.new ≡ [])) }
-    ensures kept { IsSome cursor.new }
+    ensures kept { cursor.new ≡ option_map after_item cursor.old }
 {
     match cursor {
         Some(cursor) => cursor.next(),

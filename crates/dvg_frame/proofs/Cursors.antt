@@ -1,7 +1,6 @@
 -- What a cursor has still to give, as it goes on.
-use Rattle.std.proofs.Common.{◌≡◌, ◌≢◌, ℕ, zero, suc, ◌+◌, ◌-◌, ◌*◌, ◌≤◌, ◌<◌, List, [], ◌∷◌, ◌++◌, drop, length, Option, Some, None, refl, sym, ap, ◌∙◌, subst, inl, inr, add-one, arith}
+use Rattle.std.proofs.Common.{◌≡◌, ◌≢◌, ℕ, zero, suc, ◌+◌, ◌-◌, ◌*◌, ◌≤◌, ◌<◌, List, [], ◌∷◌, ◌++◌, drop, length, Some, refl, sym, ap, ◌∙◌, subst, inl, inr, add-one, arith}
 use Rattle.std.specs.Prelude.{All, slice_get}
-use Rattle.std.specs.Iterator.{YieldsFirst}
 use Rattle.std.proofs.lemmas.Option.{slice_get_cases}
 use Rattle.std.proofs.Math.ListN.{drop_of_length-le, length-drop}
 use Rattle.dvg_code.specs.Spelling.{canon}
@@ -9,7 +8,7 @@ use Rattle.dvg_mem.specs.declared.half.Half.{Half}
 use Rattle.dvg_mem.specs.Areas.{base}
 use Rattle.dvg_frame.specs.declared.op.OpKind.{OpKind}
 use Rattle.dvg_frame.specs.Bytes.{IsBehindWordZero, addressed, bytes}
-use Rattle.dvg_frame.specs.Left.{last_items}
+use Rattle.dvg_frame.specs.Left.{CursorState, last_items}
 use Rattle.dvg_frame.specs.Layout.{op_code, laid, size}
 use Rattle.dvg_frame.specs.Steps.{Begins}
 use Rattle.dvg_frame.specs.declared.cursor.Cursor.TheInside.{Inside}
@@ -186,16 +185,10 @@ begun cursor F a count draft_is begins_so counted none op_is a_is end_is left_is
       end = omega arith;
     }
 
--- an item more is passed over, or none was left
-pub passes : (all old new : List (ℕ × ℕ)) (k : ℕ) (item : Option (ℕ × ℕ)) → old ≡ drop k all → YieldsFirst (λ (items : List (ℕ × ℕ)). items) old item new → new ≡ drop (k + 1) all
-passes all old new k None old_is none = rw add-one (none.1 ∙ sym (rests all k (sym old_is ∙ none.0)))
-  where
-    rests : (all : List (ℕ × ℕ)) (k : ℕ) → drop k all ≡ [] → drop (suc k) all ≡ []
-    rests [] zero is = refl
-    rests [] (suc k) is = refl
-    rests (item ∷ all) zero is = absurd (cc)
-    rests (item ∷ all) (suc k) is = rests all k is
-passes all old new k (Some item) old_is first = rw add-one (drop_rest all k item new (sym old_is ∙ first))
+-- cursors of the same draft and half, with as many bytes still to come, are the same
+pub same_cursor : {F G : List OpKind} {half other : Half} {left few : ℕ} → F ≡ G → half ≡ other → left ≡ few
+    → ◌≡◌ {A = CursorState} (record { draft = F; half = half; left = left }) (record { draft = G; half = other; left = few })
+same_cursor F half left = cc
 
 -- a cursor has as many items as it says
 pub items_count : (cursor : Inside) (items : List (ℕ × ℕ)) → items_left cursor ≡ items → IsCursor cursor → length items ≡ cursor.left

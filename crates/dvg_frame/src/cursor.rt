@@ -36,15 +36,20 @@ pub struct Cursor {
     left: u16,
 }
 
-/// Contracts see the list of the items that are still to come: pairs of a byte address and a byte.
+/// Contracts see the draft, the half, and how many bytes are still to come: `items_in` makes of
+/// them the items, pairs of a byte address and a byte.
 impl Model for Cursor {
-    ghost use Rattle.std.specs.Prelude.{ℕ, List};
+    ghost use Rattle.dvg_frame.specs.Left.{CursorState};
 
-    ghost Value = { List (ℕ × ℕ) };
+    ghost Value = { CursorState };
 
-    ghost use Rattle.dvg_frame.specs.Cursors.{IsCursor, items_left};
+    ghost use Rattle.dvg_frame.specs.Cursors.{IsCursor};
 
-    ghost view = { items_left };
+    ghost view = { λ cursor. record {
+      draft = cursor.draft;
+      half = cursor.half;
+      left = cursor.left;
+    } };
 
     ghost invariant = { IsCursor };
 }
@@ -54,13 +59,15 @@ impl Cursor {
     ghost use Rattle.dvg_mem.specs.Areas.{base};
     ghost use Rattle.dvg_frame.specs.Bytes.{IsBehindWordZero, addressed, bytes};
     ghost use Rattle.dvg_frame.specs.Layout.{laid, size};
-    ghost use Rattle.dvg_frame.specs.Left.{last_items};
+    ghost use Rattle.dvg_frame.specs.Left.{IsOf, items_in};
     ghost use Rattle.dvg_frame.specs.Steps.{Begins};
 
     /// Returns a cursor over the bytes of `frame`, laid out for `half`.
     pub fn new(frame: Frame, half: Half) -> Cursor
-        ensures items { result ≡ addressed (2 * base half) (bytes (laid half frame.operations)) }
-        ensures in_ram { All IsBehindWordZero result }
+        ensures items { items_in result
+            ≡ addressed (2 * base half) (bytes (laid half frame.operations)) }
+        ensures in_ram { All IsBehindWordZero (items_in result) }
+        ensures source { IsOf result frame.operations half }
     {
         Cursor::of(&frame.as_checked(), half)
     }
@@ -68,9 +75,10 @@ impl Cursor {
     /// Returns a cursor over the bytes of `checked`, laid out for `half`. The operations are
     /// copied: so a draft that is checked where it lies is copied once, into its cursor.
     pub fn of(checked: &Checked, half: Half) -> Cursor
-        ensures items { result
+        ensures items { items_in result
             ≡ addressed (2 * base half) (bytes (laid half checked.now.operations)) }
-        ensures in_ram { All IsBehindWordZero result }
+        ensures in_ram { All IsBehindWordZero (items_in result) }
+        ensures source { IsOf result checked.now.operations half }
     {
         let left = 2 * checked.len_words();
         Cursor {
@@ -89,8 +97,9 @@ impl Cursor {
     /// words. The time is linear in the bytes that are passed over.
     pub fn with_left(checked: &Checked, half: Half, left: u16) -> Cursor
         requires { left ≤ 2 * size checked.now.operations }
-        ensures items { result ≡ last_items half checked.now.operations left }
-        ensures in_ram { All IsBehindWordZero result }
+        ensures cursor { result
+            ≡ record { draft = checked.now.operations; half = half; left = left } }
+        ensures in_ram { All IsBehindWordZero (items_in result) }
     {
         let mut cursor = Cursor::of(checked, half);
         for _ in 0..cursor.left() - left {
@@ -102,9 +111,10 @@ impl Cursor {
     /// Begins anew, with the bytes of `checked`, laid out for `half`. The operations are copied
     /// into the memory that the cursor has: the time is linear in them, and in those that it kept.
     pub fn restart(&mut self, checked: &Checked, half: Half)
-        ensures items { self.new ≡ addressed (2 * base half)
+        ensures items { items_in self.new ≡ addressed (2 * base half)
             (bytes (laid half checked.now.operations)) }
-        ensures in_ram { All IsBehindWordZero self.new }
+        ensures in_ram { All IsBehindWordZero (items_in self.new) }
+        ensures source { IsOf self.new checked.now.operations half }
     {
         self.draft.clear();
         self.draft.try_extend_from_slice(checked.ops()).unwrap();
@@ -118,8 +128,8 @@ impl Cursor {
 
     /// Returns the draft whose bytes the cursor gives, and the half that it is laid out for.
     pub fn source(&self) -> (&Draft, Half)
-        ensures items { self.now ≡ last_items result.1 result.0.now (length self.now) }
-        ensures left { length self.now ≤ 2 * size result.0.now }
+        ensures source { IsOf self.now result.0.now result.1 }
+        ensures left { self.now.left ≤ 2 * size result.0.now }
         ensures begins { Begins result.0.now }
     {
         (&self.draft, self.half)
@@ -127,20 +137,22 @@ impl Cursor {
 
     /// Returns the number of items that are still to come.
     pub fn left(&self) -> u16
-        ensures { result ≡ length self.now }
+        ensures value { result ≡ self.now.left }
+        ensures items { result ≡ length (items_in self.now) }
     {
         self.left
     }
 }
 
 impl Iterator for Cursor {
-    ghost use Rattle.std.specs.Iterator.{YieldsFirst, item_count};
+    ghost use Rattle.std.specs.Iterator.{item_count};
+    ghost use Rattle.dvg_frame.specs.Left.{GivesItem, items_in};
 
     type Item = (u16, u8);
 
-    ghost next_gives = { YieldsFirst (λ items. items) };
+    ghost next_gives = { GivesItem };
 
-    ghost remaining = { item_count (λ items. items) };
+    ghost remaining = { item_count items_in };
 
     #[inline(always)]
     fn next(&mut self) -> Option<(u16, u8)> {

@@ -1,6 +1,6 @@
 -- What contracts see of a generator, and after which histories it stands.
-use Rattle.std.specs.Prelude.{◌≡◌, ℕ, ◌+◌, ◌<◌, List, [], ◌∷◌, length, slice_index, Option, Some, None, Bool, true, All}
-use Rattle.std.specs.Prelude.{IfSome, IsSome}
+use Rattle.std.specs.Prelude.{◌≡◌, ℕ, ◌+◌, ◌<◌, List, [], ◌∷◌, length, slice_index, Option, Some, None, Bool, true}
+use Rattle.std.specs.Prelude.{false, All, IfSome, IsSome}
 use Rattle.dvg_code.specs.Spelling.{IsFirst}
 use Rattle.dvg_gen.specs.declared.beam.Beam.{Beam}
 use Rattle.dvg_gen.specs.declared.stroke.Stroke.{Stroke}
@@ -30,6 +30,11 @@ pub record IsKept (at : ℕ) (held : Option ℕ) (stack : List ℕ) : Type 0 whe
   pub at_is_address : at < 4096
   pub held_is_first : IfSome held IsFirst
   pub stack_is_addresses : All (λ address. address < 4096) stack
+
+-- a low byte waits in an open run alone
+abbrev pub WaitsInRun : (has_low is_open : Bool) → Type 0
+WaitsInRun true is_open = is_open ≡ true
+WaitsInRun false is_open = Unit {0}
 
 -- a machine is in an open run: it is at the run's next word, and its stack has the address past each call that is still
 -- open

@@ -61,7 +61,7 @@ pub struct Generator<A: Allocator = Global> {
 /// Contracts see a `Machine`.
 impl<A: Allocator> Model for Generator<A> {
     ghost use Rattle.std.specs.Prelude.{Some, None, if◌then◌else◌, reverse};
-    ghost use Rattle.dvg_gen.specs.Machine.{IsKept, Machine};
+    ghost use Rattle.dvg_gen.specs.Machine.{IsKept, Machine, WaitsInRun};
 
     ghost Value = { Machine };
 
@@ -76,7 +76,8 @@ impl<A: Allocator> Model for Generator<A> {
       is_open = generator.is_open;
     } };
 
-    ghost invariant = { λ generator. IsKept generator.at generator.held generator.stack.items };
+    ghost invariant = { λ generator. IsKept generator.at generator.held generator.stack.items
+        × WaitsInRun generator.has_low generator.is_open };
 }
 
 impl<A: Allocator + Copy> Generator<A> {
@@ -321,8 +322,7 @@ impl<A: Allocator + Copy> Generator<A> {
     /// Returns all that the generator keeps but its strokes and its picture.
     pub fn state(&self) -> GeneratorState
         ensures machine { self.now ≡ machine_of result self.now.strokes self.now.picture }
-        ensures valid { (history : List Told) (low : Option ℕ) → HasTaken self.now history low
-            → IsState result }
+        ensures valid { IsState result }
     {
         let Beam { x, y, scale } = self.beam;
         GeneratorState {

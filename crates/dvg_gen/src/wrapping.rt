@@ -123,8 +123,7 @@ impl<A: Allocator + Copy> WrappingGenerator<A> {
     pub fn state(&self) -> GeneratorState
         ensures machine { self.now
             ≡ wrapped_of result self.now.machine.strokes self.now.machine.picture }
-        ensures valid { (history : List Told) (low : Option ℕ) → HasWrapped self.now history low
-            → IsWrappedState result }
+        ensures valid { IsWrappedState result }
     {
         let mut state = self.generator.state();
         state.return_addresses = oldest_first(&self.registers);

@@ -32,17 +32,17 @@ passes_refused world F fault draft refuses =
     record { entry = Refused fault; line = offer_refused draft refuses; undrawn = refl }
 
 passes_busy : (world : State) (F : List OpKind) → IsDraft F → Accepts F world.rom
-    → OfLives world.stage (λ peeked items. ¬ IsWhole items) → Passes world F
+    → OfLives world.driver (λ peeked items. ¬ IsWhole items) → Passes world F
 passes_busy world F draft accepts busy =
     record { entry = Busy; line = offer_busy draft accepts refl busy; undrawn = refl }
 
 -- where the driver isn't idle, no offer changes anything: it is refused, or the driver is busy
 passes : (R image : List ℕ) (log : Log) (world : State) (F : List OpKind) (idle : Bool)
-    → IsDraft F → OfLives world.stage (λ peeked items. IsTrue idle ↔ IsWhole items) → idle ≡ false
+    → IsDraft F → OfLives world.driver (λ peeked items. IsTrue idle ↔ IsWhole items) → idle ≡ false
     → WorldAfter R image log world → Passes world F
 passes R image log world F idle draft idle_is not_idle after =
     let rom : IsRom world.rom = subst IsRom (sym after.stands.rom) (rom_of R image log after.legal) in
-    let busy : OfLives world.stage (λ peeked items. ¬ IsWhole items) =
+    let busy : OfLives world.driver (λ peeked items. ¬ IsWhole items) =
     λ peeked items stands whole. let is : idle ≡ true = (idle_is peeked items stands).1 whole in cc in
     ⊎_elim (λ accepts. passes_busy world F draft accepts busy)
     (λ refused. passes_refused world F refused.0 draft refused.1)
@@ -51,7 +51,7 @@ passes R image log world F idle draft idle_is not_idle after =
 -- so as many lines as are left are passed over
 pub keeps_over : {old world : State} {IsKept Before : Log → Type 0} {number done times : ℕ} (event : Seen) (idle : Bool)
     → BringsDraft event → IsPassedOver Before (seen_as event)
-    → OfLives world.stage (λ peeked items. IsTrue idle ↔ IsWhole items) → idle ≡ false → done ≤ times
+    → OfLives world.driver (λ peeked items. IsTrue idle ↔ IsWhole items) → idle ≡ false → done ≤ times
     → KeepsRun old IsKept number (seen_as event) done world Before
     → KeepsRun old IsKept number (seen_as event) times world Before
 keeps_over {world = world} {times = times} (Offer ops) idle draft over idle_is not_idle le so_far =

@@ -25,7 +25,7 @@ use Rattle.dvg_driver.specs.declared.action.Action.TheVariants.{Peek, Wrote, Rea
 use Rattle.dvg_driver.specs.Script as script
 use Rattle.dvg_driver.specs.Script.{Item, Did, IsWhole, IsLife, has_flip}
 use Rattle.dvg_driver.specs.Stands as driver
-use Rattle.dvg_driver.specs.Stands.{Stage, Tells, byte1_of, peeked_after}
+use Rattle.dvg_driver.specs.Stands.{Driving, Tells, byte1_of, peeked_after}
 use Rattle.dvg_log.specs.Events.{Happening}
 use Rattle.dvg_log.specs.declared.event.Event.TheVariants.{Offer, Redraw, Tick, Strobe, Fetch, ResetGen, ResetCpu, ResetAll}
 use Rattle.dvg_log.specs.Entries.{Shown, entry_by, map_entry}
@@ -40,8 +40,8 @@ use Rattle.dvg_theorem.proofs.Headline.{headline}
 use Rattle.dvg_theorem.proofs.Linked.{opened}
 
 -- a world of these parts
-abbrev pub world_of : List ℕ → List ℕ → Machine → Stage → Bool → State
-world_of rom bytes machine stage sent = record { rom = rom; ram = bytes; machine = machine; stage = stage; sent = sent }
+abbrev pub world_of : List ℕ → List ℕ → Machine → Driving → Bool → State
+world_of rom bytes machine driving sent = record { rom = rom; ram = bytes; machine = machine; driver = driving; sent = sent }
 
 -- what is known of a world by equations
 pub adds_between : {old old' new new' : State} (event : Happening) (entry : Shown) → old' ≡ old → new ≡ new' → AddsLine old' event entry new' → AddsLine old event entry new
@@ -62,81 +62,81 @@ then_keeps {event = event} {entry = entry} adds keeps R image log after = keeps 
 
 -- the same, where the ROM is known by an equation
 pub same_rom : {old : State} {event : Happening} {entry : Shown} {rom rom' bytes : List ℕ} {machine : Machine}
-    {stage : Stage} {sent : Bool} → rom' ≡ rom → AddsLine old event entry (world_of rom bytes machine stage sent)
-    → AddsLine old event entry (world_of rom' bytes machine stage sent)
-same_rom {old} {event} {entry} {bytes = bytes} {machine} {stage} {sent} same adds =
-    subst (λ rom. AddsLine old event entry (world_of rom bytes machine stage sent)) (sym same) adds
+    {driving : Driving} {sent : Bool} → rom' ≡ rom → AddsLine old event entry (world_of rom bytes machine driving sent)
+    → AddsLine old event entry (world_of rom' bytes machine driving sent)
+same_rom {old} {event} {entry} {bytes = bytes} {machine} {driving} {sent} same adds =
+    subst (λ rom. AddsLine old event entry (world_of rom bytes machine driving sent)) (sym same) adds
 
 pub new_world : (rom image bytes : List ℕ) (machine : Machine) (driven : Driven) → IsRom rom → IsImage bytes → bytes ≡ image → generator.HasTaken machine [] None
-    → IsFresh rom driven → WorldAfter rom image [] (world_of driven.rom bytes machine driven.stage false)
+    → IsFresh rom driven → WorldAfter rom image [] (world_of driven.rom bytes machine driven.driver false)
 new_world rom image bytes machine driven r b same g fresh = record {
   legal = (r, subst IsImage same b);
   stands = record { rom = fresh.0; ram = same; machine = g; peeked = slice_index image 1; stage = fresh.1 (slice_index image 1); byte1 = refl; sent = refl };
 }
 
-module _ {rom bytes R ram : List ℕ} {machine : Machine} {stage : Stage} {sent strobe : Bool} {told : List Told} {low : Option ℕ} {items : List Item} (stands : StandsAt (world_of rom bytes machine stage sent) R ram told low items strobe) where
-  with_machine : {machine' : Machine} {told' : List Told} {low' : Option ℕ} → generator.HasTaken machine' told' low' → StandsAt (world_of rom bytes machine' stage sent) R ram told' low' items strobe
+module _ {rom bytes R ram : List ℕ} {machine : Machine} {driving : Driving} {sent strobe : Bool} {told : List Told} {low : Option ℕ} {items : List Item} (stands : StandsAt (world_of rom bytes machine driving sent) R ram told low items strobe) where
+  with_machine : {machine' : Machine} {told' : List Told} {low' : Option ℕ} → generator.HasTaken machine' told' low' → StandsAt (world_of rom bytes machine' driving sent) R ram told' low' items strobe
   with_machine after = record { rom = stands.rom; ram = stands.ram; machine = after; peeked = stands.peeked; stage = stands.stage; byte1 = stands.byte1; sent = stands.sent }
 
-  with_stage : {stage' : Stage} {items' : List Item} (peeked : ℕ) → driver.StandsAfter stage' peeked items' → byte1_of peeked items' ≡ slice_index ram 1
-      → StandsAt (world_of rom bytes machine stage' sent) R ram told low items' strobe
+  with_stage : {driving' : Driving} {items' : List Item} (peeked : ℕ) → driver.StandsAfter driving'.stage peeked items' → byte1_of peeked items' ≡ slice_index ram 1
+      → StandsAt (world_of rom bytes machine driving' sent) R ram told low items' strobe
   with_stage peeked after byte1 = record { rom = stands.rom; ram = stands.ram; machine = stands.machine; peeked = peeked; stage = after; byte1 = byte1; sent = stands.sent }
 
-  same_stage : {stage' : Stage} → stage' ≡ stage → StandsAt (world_of rom bytes machine stage' sent) R ram told low items strobe
-  same_stage same = with_stage stands.peeked (subst (λ s. driver.StandsAfter s stands.peeked items) (sym same) stands.stage) stands.byte1
+  same_stage : {driving' : Driving} → driving' ≡ driving → StandsAt (world_of rom bytes machine driving' sent) R ram told low items strobe
+  same_stage same = with_stage stands.peeked (subst (λ (s : Driving). driver.StandsAfter s.stage stands.peeked items) (sym same) stands.stage) stands.byte1
 
 -- a run is open in the generator exactly where one is open in the log
 open_is : {R image : List ℕ} {log : Log} {world : State} → WorldAfter R image log world → world.machine.is_open ≡ is_some (open_run log)
 open_is {R} {image} {log} w = w.stands.machine.stands.is_open ∙ opened R image log w.legal w.stands.machine.leaves
 
-module _ {rom bytes : List ℕ} {machine : Machine} {stage : Stage} {sent : Bool} where
+module _ {rom bytes : List ℕ} {machine : Machine} {driving : Driving} {sent : Bool} where
   pub offer_refused : {F : List OpKind} {fault : FrameFault} → IsDraft F → Refuses F rom fault
-      → AddsLine (world_of rom bytes machine stage sent) (Offer F) (Refused fault) (world_of rom bytes machine stage sent)
+      → AddsLine (world_of rom bytes machine driving sent) (Offer F) (Refused fault) (world_of rom bytes machine driving sent)
   offer_refused {F} {fault} draft refuses R image log w = record { legal = (subst (λ x. Refuses F x fault) w.stands.rom refuses, draft, w.legal); stands = w.stands }
 
-  pub offer_busy : {F : List OpKind} {stage' : Stage} → IsDraft F → Accepts F rom → stage' ≡ stage → ((peeked : ℕ) (items : List Item) → driver.StandsAfter stage peeked items → ¬ IsWhole items)
-      → AddsLine (world_of rom bytes machine stage sent) (Offer F) Busy (world_of rom bytes machine stage' sent)
+  pub offer_busy : {F : List OpKind} {driving' : Driving} → IsDraft F → Accepts F rom → driving' ≡ driving → ((peeked : ℕ) (items : List Item) → driver.StandsAfter driving.stage peeked items → ¬ IsWhole items)
+      → AddsLine (world_of rom bytes machine driving sent) (Offer F) Busy (world_of rom bytes machine driving' sent)
   offer_busy {F} draft accepts same busy R image log w = record {
     legal = ((subst (λ x. Accepts F x) w.stands.rom accepts, busy w.stands.peeked (life image log) w.stands.stage), draft, w.legal);
     stands = same_stage w.stands same;
   }
 
-  pub offer_taken : {F : List OpKind} {frame : List OpKind} {stage' : Stage} → IsDraft F → Accepts F rom → frame ≡ F → ((peeked : ℕ) (items : List Item) → driver.StandsAfter stage peeked items → IsWhole items)
-      → ((peeked : ℕ) (items : List Item) → driver.StandsAfter stage peeked items → driver.StandsAfter stage' peeked (script.Offered (other (half_of_high (byte1_of peeked items))) frame ∷ items))
-      → AddsLine (world_of rom bytes machine stage sent) (Offer F) Offered (world_of rom bytes machine stage' sent)
-  offer_taken {F} {frame} {stage'} draft accepts same whole taken R image log w =
+  pub offer_taken : {F : List OpKind} {frame : List OpKind} {driving' : Driving} → IsDraft F → Accepts F rom → frame ≡ F → ((peeked : ℕ) (items : List Item) → driver.StandsAfter driving.stage peeked items → IsWhole items)
+      → ((peeked : ℕ) (items : List Item) → driver.StandsAfter driving.stage peeked items → driver.StandsAfter driving'.stage peeked (script.Offered (other (half_of_high (byte1_of peeked items))) frame ∷ items))
+      → AddsLine (world_of rom bytes machine driving sent) (Offer F) Offered (world_of rom bytes machine driving' sent)
+  offer_taken {F} {frame} {driving'} draft accepts same whole taken R image log w =
       let peeked = w.stands.peeked in
       let items = life image log in
       let after = taken peeked items w.stands.stage in
-      let of_draft = subst (λ f. driver.StandsAfter stage' peeked (script.Offered (other (half_of_high (byte1_of peeked items))) f ∷ items)) same after in
-      let to_free = subst (λ byte. driver.StandsAfter stage' peeked (script.Offered (other (half_of_high byte)) F ∷ items)) w.stands.byte1 of_draft in
+      let of_draft = subst (λ f. driver.StandsAfter driving'.stage peeked (script.Offered (other (half_of_high (byte1_of peeked items))) f ∷ items)) same after in
+      let to_free = subst (λ byte. driver.StandsAfter driving'.stage peeked (script.Offered (other (half_of_high byte)) F ∷ items)) w.stands.byte1 of_draft in
       record {
         legal = ((subst (λ x. Accepts F x) w.stands.rom accepts, whole peeked items w.stands.stage), draft, w.legal);
         stands = with_stage w.stands peeked to_free w.stands.byte1;
       }
 
-  pub redraw_nothing : {stage' : Stage} → stage' ≡ stage → ((peeked : ℕ) (items : List Item) → driver.StandsAfter stage peeked items → has_flip items ≡ false)
-      → AddsLine (world_of rom bytes machine stage sent) Redraw NothingPublished (world_of rom bytes machine stage' sent)
+  pub redraw_nothing : {driving' : Driving} → driving' ≡ driving → ((peeked : ℕ) (items : List Item) → driver.StandsAfter driving.stage peeked items → has_flip items ≡ false)
+      → AddsLine (world_of rom bytes machine driving sent) Redraw NothingPublished (world_of rom bytes machine driving' sent)
   redraw_nothing same nothing R image log w = record { legal = (nothing w.stands.peeked (life image log) w.stands.stage, tt, w.legal); stands = same_stage w.stands same }
 
-  pub redraw_busy : {stage' : Stage} → stage' ≡ stage → ((peeked : ℕ) (items : List Item) → driver.StandsAfter stage peeked items → (has_flip items ≡ true) × ¬ IsWhole items)
-      → AddsLine (world_of rom bytes machine stage sent) Redraw Busy (world_of rom bytes machine stage' sent)
+  pub redraw_busy : {driving' : Driving} → driving' ≡ driving → ((peeked : ℕ) (items : List Item) → driver.StandsAfter driving.stage peeked items → (has_flip items ≡ true) × ¬ IsWhole items)
+      → AddsLine (world_of rom bytes machine driving sent) Redraw Busy (world_of rom bytes machine driving' sent)
   redraw_busy same busy R image log w = record { legal = (busy w.stands.peeked (life image log) w.stands.stage, tt, w.legal); stands = same_stage w.stands same }
 
-  pub redraw_taken : {stage' : Stage} → ((peeked : ℕ) (items : List Item) → driver.StandsAfter stage peeked items → (has_flip items ≡ true) × IsWhole items)
-      → ((peeked : ℕ) (items : List Item) → driver.StandsAfter stage peeked items → driver.StandsAfter stage' peeked (script.Asked ∷ items))
-      → AddsLine (world_of rom bytes machine stage sent) Redraw Asked (world_of rom bytes machine stage' sent)
+  pub redraw_taken : {driving' : Driving} → ((peeked : ℕ) (items : List Item) → driver.StandsAfter driving.stage peeked items → (has_flip items ≡ true) × IsWhole items)
+      → ((peeked : ℕ) (items : List Item) → driver.StandsAfter driving.stage peeked items → driver.StandsAfter driving'.stage peeked (script.Asked ∷ items))
+      → AddsLine (world_of rom bytes machine driving sent) Redraw Asked (world_of rom bytes machine driving' sent)
   redraw_taken can taken R image log w = record {
     legal = (can w.stands.peeked (life image log) w.stands.stage, tt, w.legal);
     stands = with_stage w.stands w.stands.peeked (taken w.stands.peeked (life image log) w.stands.stage) w.stands.byte1;
   }
 
 -- an offer or a redraw, by what the driver answers at its desk
-pub offers : {rom bytes : List ℕ} {F : List OpKind} {machine : Machine} {stage stage' : Stage} {sent : Bool} (picture : List Stroke)
-    (entry : Entry (Unit {0})) → IsDraft F → OfferAnswers rom F stage stage' entry
-    → AddsLine (world_of rom bytes machine stage sent) (Offer F) (map_entry (λ _. picture) entry) (world_of rom bytes machine stage' sent)
-offers {rom = rom} {bytes} {F} {machine} {stage} {sent = sent} picture (Refused fault) draft answers =
-    subst (λ s. AddsLine (world_of rom bytes machine stage sent) (Offer F) (Refused fault) (world_of rom bytes machine s sent))
+pub offers : {rom bytes : List ℕ} {F : List OpKind} {machine : Machine} {driving driving' : Driving} {sent : Bool} (picture : List Stroke)
+    (entry : Entry (Unit {0})) → IsDraft F → OfferAnswers rom F driving driving' entry
+    → AddsLine (world_of rom bytes machine driving sent) (Offer F) (map_entry (λ _. picture) entry) (world_of rom bytes machine driving' sent)
+offers {rom = rom} {bytes} {F} {machine} {driving} {sent = sent} picture (Refused fault) draft answers =
+    subst (λ s. AddsLine (world_of rom bytes machine driving sent) (Offer F) (Refused fault) (world_of rom bytes machine s sent))
     (sym answers.1) (offer_refused draft answers.0)
 offers picture Busy draft answers = offer_busy draft answers.0 answers.1 answers.2
 offers picture Offered draft answers =
@@ -144,9 +144,9 @@ offers picture Offered draft answers =
     (λ peeked life after. (answers.1 peeked life after).1)
 offers picture entry draft answers = absurd answers
 
-pub redraws : {rom bytes : List ℕ} {machine : Machine} {stage stage' : Stage} {sent : Bool} (picture : List Stroke)
-    (entry : Entry (Unit {0})) → RedrawAnswers stage stage' entry
-    → AddsLine (world_of rom bytes machine stage sent) Redraw (map_entry (λ _. picture) entry) (world_of rom bytes machine stage' sent)
+pub redraws : {rom bytes : List ℕ} {machine : Machine} {driving driving' : Driving} {sent : Bool} (picture : List Stroke)
+    (entry : Entry (Unit {0})) → RedrawAnswers driving driving' entry
+    → AddsLine (world_of rom bytes machine driving sent) Redraw (map_entry (λ _. picture) entry) (world_of rom bytes machine driving' sent)
 redraws picture NothingPublished answers = redraw_nothing answers.0 answers.1
 redraws picture Busy answers = redraw_busy answers.0 answers.1
 redraws picture Asked answers =
@@ -155,25 +155,25 @@ redraws picture Asked answers =
 redraws picture entry answers = absurd answers
 
 -- where they change nothing, the driver stays
-pub offer_same : (R : List ℕ) (F : List OpKind) (stage later : Stage) (entry : Entry (Unit {0})) → ChangesNothing entry
-    → OfferAnswers R F stage later entry → later ≡ stage
-offer_same R F stage later (Refused fault) nothing answers = answers.1
-offer_same R F stage later Busy nothing answers = answers.1
-offer_same R F stage later Offered nothing answers = absurd nothing
-offer_same R F stage later _ nothing answers = absurd answers
+pub offer_same : (R : List ℕ) (F : List OpKind) (driving later : Driving) (entry : Entry (Unit {0})) → ChangesNothing entry
+    → OfferAnswers R F driving later entry → later ≡ driving
+offer_same R F driving later (Refused fault) nothing answers = answers.1
+offer_same R F driving later Busy nothing answers = answers.1
+offer_same R F driving later Offered nothing answers = absurd nothing
+offer_same R F driving later _ nothing answers = absurd answers
 
-pub redraw_same : (stage later : Stage) (entry : Entry (Unit {0})) → ChangesNothing entry
-    → RedrawAnswers stage later entry → later ≡ stage
-redraw_same stage later NothingPublished nothing answers = answers.0
-redraw_same stage later Busy nothing answers = answers.0
-redraw_same stage later Asked nothing answers = absurd nothing
-redraw_same stage later _ nothing answers = absurd answers
+pub redraw_same : (driving later : Driving) (entry : Entry (Unit {0})) → ChangesNothing entry
+    → RedrawAnswers driving later entry → later ≡ driving
+redraw_same driving later NothingPublished nothing answers = answers.0
+redraw_same driving later Busy nothing answers = answers.0
+redraw_same driving later Asked nothing answers = absurd nothing
+redraw_same driving later _ nothing answers = absurd answers
 
-pub same_parts : {rom rom' bytes : List ℕ} {machine : Machine} {stage stage' : Stage} {sent : Bool} → rom' ≡ rom
-    → stage' ≡ stage → world_of rom' bytes machine stage' sent ≡ world_of rom bytes machine stage sent
-same_parts {rom} {bytes = bytes} {machine} {stage' = stage'} {sent} same_rom same_stage =
-    ap (λ rom. world_of rom bytes machine stage' sent) same_rom
-    ∙ ap (λ stage. world_of rom bytes machine stage sent) same_stage
+pub same_parts : {rom rom' bytes : List ℕ} {machine : Machine} {driving driving' : Driving} {sent : Bool} → rom' ≡ rom
+    → driving' ≡ driving → world_of rom' bytes machine driving' sent ≡ world_of rom bytes machine driving sent
+same_parts {rom} {bytes = bytes} {machine} {driving' = driving'} {sent} same_rom same_stage =
+    ap (λ rom. world_of rom bytes machine driving' sent) same_rom
+    ∙ ap (λ driving. world_of rom bytes machine driving sent) same_stage
 
 -- of the actions only an idle one changes nothing
 pub acts_idle : (action : Action) → ChangesNothing (Acted action) → action ≡ Idle
@@ -225,12 +225,12 @@ byte1_acted (Read halted) bytes byte1 peeked items inside read known = known
 byte1_acted Sent bytes byte1 peeked items inside read known = known
 byte1_acted Idle bytes byte1 peeked items inside read known = known
 
-pub ticks : {rom bytes : List ℕ} {machine : Machine} {stage stage' : Stage} {sent halted : Bool} {action : Action} {byte1 : ℕ} → IsImage bytes → byte1 ≡ slice_index bytes 1
+pub ticks : {rom bytes : List ℕ} {machine : Machine} {driving driving' : Driving} {sent halted : Bool} {action : Action} {byte1 : ℕ} → IsImage bytes → byte1 ≡ slice_index bytes 1
     → (IsTrue halted ↔ (machine.is_open ≡ false)) → Tells action halted
-    → ((peeked : ℕ) (items : List Item) → driver.StandsAfter stage peeked items → IsLife (Did action ∷ items))
-    → ((peeked : ℕ) (items : List Item) → driver.StandsAfter stage peeked items → driver.StandsAfter stage' (peeked_after action byte1 peeked) (Did action ∷ items))
-    → AddsLine (world_of rom bytes machine stage sent) Tick (Acted action) (world_of rom (ram_by action bytes) machine stage' (sent_by action sent))
-ticks {rom} {bytes} {machine} {stage} {stage'} {sent} {halted} {action} {byte1} content read flag tells scripted stands R image log w =
+    → ((peeked : ℕ) (items : List Item) → driver.StandsAfter driving.stage peeked items → IsLife (Did action ∷ items))
+    → ((peeked : ℕ) (items : List Item) → driver.StandsAfter driving.stage peeked items → driver.StandsAfter driving'.stage (peeked_after action byte1 peeked) (Did action ∷ items))
+    → AddsLine (world_of rom bytes machine driving sent) Tick (Acted action) (world_of rom (ram_by action bytes) machine driving' (sent_by action sent))
+ticks {rom} {bytes} {machine} {driving} {driving'} {sent} {halted} {action} {byte1} content read flag tells scripted stands R image log w =
     let s = w.stands in
     let inside : 1 < length (ram image log) = subst (λ b. 1 < length b) s.ram (rw content.count (lit< tt)) in
     let same_byte = read ∙ ap (λ b. slice_index b 1) s.ram in
@@ -247,28 +247,28 @@ ticks {rom} {bytes} {machine} {stage} {stage'} {sent} {halted} {action} {byte1} 
       };
     }
 
-module _ {rom bytes : List ℕ} {machine : Machine} {stage : Stage} {sent : Bool} where
-  pub strobe_lost : sent ≡ false → AddsLine (world_of rom bytes machine stage sent) Strobe NoStrobe (world_of rom bytes machine stage sent)
+module _ {rom bytes : List ℕ} {machine : Machine} {driving : Driving} {sent : Bool} where
+  pub strobe_lost : sent ≡ false → AddsLine (world_of rom bytes machine driving sent) Strobe NoStrobe (world_of rom bytes machine driving sent)
   strobe_lost none R image log w = record { legal = (sym w.stands.sent ∙ none, tt, w.legal); stands = w.stands }
 
   pub strobe_starts : {machine' : Machine} → sent ≡ true → ((told : List Told) (low : Option ℕ) → generator.HasTaken machine told low → generator.HasTaken machine' (Start ∷ told) None)
-      → AddsLine (world_of rom bytes machine stage sent) Strobe Started (world_of rom bytes machine' stage sent)
+      → AddsLine (world_of rom bytes machine driving sent) Strobe Started (world_of rom bytes machine' driving sent)
   strobe_starts some starts R image log w = record {
     legal = (sym w.stands.sent ∙ some, tt, w.legal);
     stands = with_machine w.stands (starts (history R image log) (low_byte log) w.stands.machine);
   }
 
   pub reset_gen : {machine' : Machine} → ((told : List Told) (low : Option ℕ) → generator.HasTaken machine told low → generator.HasTaken machine' (Reset ∷ told) None)
-      → AddsLine (world_of rom bytes machine stage sent) ResetGen Cleared (world_of rom bytes machine' stage sent)
+      → AddsLine (world_of rom bytes machine driving sent) ResetGen Cleared (world_of rom bytes machine' driving sent)
   reset_gen resets R image log w = record { legal = (tt, tt, w.legal); stands = with_machine w.stands (resets (history R image log) (low_byte log) w.stands.machine) }
 
-  pub reset_cpu : {stage' : Stage} → ((peeked : ℕ) → driver.StandsAfter stage' peeked []) → AddsLine (world_of rom bytes machine stage sent) ResetCpu Cleared (world_of rom bytes machine stage' sent)
+  pub reset_cpu : {driving' : Driving} → ((peeked : ℕ) → driver.StandsAfter driving'.stage peeked []) → AddsLine (world_of rom bytes machine driving sent) ResetCpu Cleared (world_of rom bytes machine driving' sent)
   reset_cpu resets R image log w =
       let peeked = slice_index (ram image log) 1 in
       record { legal = (tt, tt, w.legal); stands = with_stage w.stands peeked (resets peeked) refl }
 
-  pub reset_all : {machine' : Machine} {stage' : Stage} {all bytes' : List ℕ} → IsImage bytes' → bytes' ≡ all → ((told : List Told) (low : Option ℕ) → generator.HasTaken machine told low → generator.HasTaken machine' (Reset ∷ told) None)
-      → ((peeked : ℕ) → driver.StandsAfter stage' peeked []) → AddsLine (world_of rom bytes machine stage sent) (ResetAll all) Cleared (world_of rom bytes' machine' stage' false)
+  pub reset_all : {machine' : Machine} {driving' : Driving} {all bytes' : List ℕ} → IsImage bytes' → bytes' ≡ all → ((told : List Told) (low : Option ℕ) → generator.HasTaken machine told low → generator.HasTaken machine' (Reset ∷ told) None)
+      → ((peeked : ℕ) → driver.StandsAfter driving'.stage peeked []) → AddsLine (world_of rom bytes machine driving sent) (ResetAll all) Cleared (world_of rom bytes' machine' driving' false)
   reset_all {all = all} content same resets again R image log w = record {
     legal = (tt, subst IsImage same content, w.legal);
     stands = record {
@@ -286,17 +286,17 @@ none_open : (run : Option (List (ℕ × ℕ))) → is_some run ≡ false → run
 none_open None none = refl
 none_open (Some met) none = absurd (cc)
 
-module _ {rom bytes : List ℕ} {machine : Machine} {stage : Stage} {sent : Bool} where
-  pub fetch_still : machine.is_open ≡ false → AddsLine (world_of rom bytes machine stage sent) Fetch Still (world_of rom bytes machine stage sent)
+module _ {rom bytes : List ℕ} {machine : Machine} {driving : Driving} {sent : Bool} where
+  pub fetch_still : machine.is_open ≡ false → AddsLine (world_of rom bytes machine driving sent) Fetch Still (world_of rom bytes machine driving sent)
   fetch_still shut R image log w = record { legal = (none_open (open_run log) (sym (open_is w) ∙ shut), tt, w.legal); stands = w.stands }
 
   -- the line of a fetch, by what it met
   line_of_fetch : {machine' : Machine} (R image : List ℕ) (log : Log) (address : ℕ) (found : Met) (answer : Step)
       (picture : List Stroke)
-      → (w : WorldAfter R image log (world_of rom bytes machine stage sent)) → wants w.stands.machine.run ≡ Some address → meets R image log address ≡ found
+      → (w : WorldAfter R image log (world_of rom bytes machine driving sent)) → wants w.stands.machine.run ≡ Some address → meets R image log address ≡ found
       → Answers (history R image log) found machine' (answer_by answer picture)
       → WorldAfter R image ((Fetch ⟼ entry_by address found answer picture) ∷ log)
-      (world_of rom bytes machine' stage sent)
+      (world_of rom bytes machine' driving sent)
   line_of_fetch R image log address (Waits byte) answer picture w wanted met x =
       let m = w.stands.machine in
       record { legal = ((met, record { run = m.run; leaves = m.leaves; wanted = wanted }), tt, w.legal); stands = with_machine w.stands x.0 }
@@ -327,7 +327,7 @@ module _ {rom bytes : List ℕ} {machine : Machine} {stage : Stage} {sent : Bool
       }
 
   -- what a fetch meets is what the log says
-  met_in : {R image : List ℕ} {log : Log} (address : ℕ) (low byte : Option ℕ) (high : Bool) → WorldAfter R image log (world_of rom bytes machine stage sent) → low ≡ machine.low → high ≡ is_some low → byte ≡ fetched_byte bytes rom address high
+  met_in : {R image : List ℕ} {log : Log} (address : ℕ) (low byte : Option ℕ) (high : Bool) → WorldAfter R image log (world_of rom bytes machine driving sent) → low ≡ machine.low → high ≡ is_some low → byte ≡ fetched_byte bytes rom address high
       → (low ≡ low_byte log) × (meets R image log address ≡ met (low_byte log) byte)
   met_in {R} {image} {log} address low byte high w kept second found =
       let same = kept ∙ w.stands.machine.low in
@@ -340,25 +340,34 @@ module _ {rom bytes : List ℕ} {machine : Machine} {stage : Stage} {sent : Bool
       → ((told : List Told) (l : Option ℕ) (after : generator.HasTaken machine told l) → Some address ≡ wants after.run) → low ≡ machine.low → high ≡ is_some low → rom' ≡ rom → byte ≡ fetched_byte bytes rom' address high
       → ((told : List Told) (l : Option ℕ) → generator.HasTaken machine told l
       → Answers told (met l byte) machine' (answer_by answer picture))
-      → AddsLine (world_of rom bytes machine stage sent) Fetch (entry_by address (met low byte) answer picture)
-      (world_of rom bytes machine' stage sent)
+      → AddsLine (world_of rom bytes machine driving sent) Fetch (entry_by address (met low byte) answer picture)
+      (world_of rom bytes machine' driving sent)
   fetch_takes {machine'} address low byte high answer picture wanted kept second of_rom read answers R image log w =
       let m = w.stands.machine in
       let found = subst (λ rom. byte ≡ fetched_byte bytes rom address high) of_rom read in
       let there = met_in address low byte high w kept second found in
       let told = history R image log in
       let here = ap (λ l. entry_by address (met l byte) answer picture) (sym there.0) in
-      subst (λ e. WorldAfter R image ((Fetch ⟼ e) ∷ log) (world_of rom bytes machine' stage sent)) here
+      subst (λ e. WorldAfter R image ((Fetch ⟼ e) ∷ log) (world_of rom bytes machine' driving sent)) here
       (line_of_fetch R image log address (met (low_byte log) byte) answer picture w (sym (wanted told (low_byte log) m))
       there.1 (answers told (low_byte log) m))
 
   -- a world whose generator stands after the same
   pub keeps_machine : {machine' : Machine} → ((told : List Told) (low : Option ℕ) → generator.HasTaken machine told low → generator.HasTaken machine' told low)
-      → KeepsLogs (world_of rom bytes machine stage sent) (world_of rom bytes machine' stage sent)
+      → KeepsLogs (world_of rom bytes machine driving sent) (world_of rom bytes machine' driving sent)
   keeps_machine keeps R image log w = record { legal = w.legal; stands = with_machine w.stands (keeps (history R image log) (low_byte log) w.stands.machine) }
 
+  -- a world whose driver is at the same stage
+  pub keeps_stage : {driving' : Driving} → driving'.stage ≡ driving.stage
+      → KeepsLogs (world_of rom bytes machine driving sent) (world_of rom bytes machine driving' sent)
+  keeps_stage same R image log w = record {
+    legal = w.legal;
+    stands = with_stage w.stands w.stands.peeked
+        (subst (λ stage. driver.StandsAfter stage w.stands.peeked (life image log)) (sym same) w.stands.stage) w.stands.byte1;
+  }
+
   pub draws_now : {rom' : List ℕ} (address : ℕ) (low byte : Option ℕ) (high : Bool) → machine.is_open ≡ true → ((told : List Told) (l : Option ℕ) (after : generator.HasTaken machine told l) → Some address ≡ wants after.run)
-      → low ≡ machine.low → high ≡ is_some low → rom' ≡ rom → byte ≡ fetched_byte bytes rom' address high → ¬ DrawsNothing machine.held (met machine.low byte) → DrawsNow (world_of rom bytes machine stage sent)
+      → low ≡ machine.low → high ≡ is_some low → rom' ≡ rom → byte ≡ fetched_byte bytes rom' address high → ¬ DrawsNothing machine.held (met machine.low byte) → DrawsNow (world_of rom bytes machine driving sent)
   draws_now address low byte high is_open wanted kept second of_rom read draws R image log w =
       let m = w.stands.machine in
       let found = subst (λ rom. byte ≡ fetched_byte bytes rom address high) of_rom read in

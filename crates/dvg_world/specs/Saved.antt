@@ -4,7 +4,7 @@ use Rattle.dvg_gen.specs.declared.stroke.Stroke.{Stroke}
 use Rattle.dvg_gen.specs.Saved as generator
 use Rattle.dvg_gen.specs.Saved.{machine_of}
 use Rattle.dvg_driver.specs.Saved as driver
-use Rattle.dvg_driver.specs.Saved.{stage_in}
+use Rattle.dvg_driver.specs.Saved.{driving_in}
 use Rattle.dvg_world.specs.declared.state.WorldState.{WorldState}
 use Rattle.dvg_world.specs.Standing.{KeepsLogs, State}
 
@@ -18,7 +18,7 @@ world_in R state picture = record {
   rom = R;
   ram = state.ram;
   machine = machine_of state.generator state.strokes.items picture;
-  stage = stage_in state.driver;
+  driver = driving_in state.driver;
   sent = state.strobe_sent;
 }
 

@@ -10,7 +10,7 @@ use Rattle.dvg_gen.specs.Told.{Told}
 use Rattle.dvg_driver.specs.declared.action.Action.TheVariants.{Idle}
 use Rattle.dvg_driver.specs.Script.{Item}
 use Rattle.dvg_driver.specs.Stands as driver
-use Rattle.dvg_driver.specs.Stands.{Stage, byte1_of}
+use Rattle.dvg_driver.specs.Stands.{Driving, byte1_of}
 use Rattle.dvg_log.specs.Events.{Happening}
 use Rattle.dvg_log.specs.declared.entry.Entry.{Entry}
 use Rattle.dvg_log.specs.declared.entry.Entry.TheVariants.{Refused, Busy, NothingPublished, Acted, NoStrobe, Done, Still}
@@ -25,7 +25,7 @@ pub record State : Type 0 where
   pub rom : List ℕ
   pub ram : List ℕ
   pub machine : Machine
-  pub stage : Stage
+  pub driver : Driving
   pub sent : Bool
 
 -- an entry of a world, with the picture that it keeps as what the run drew, if it finished one
@@ -55,7 +55,7 @@ pub record StandsAt (world : State) (R bytes : List ℕ) (told : List Told) (low
   pub ram : world.ram ≡ bytes
   pub machine : generator.HasTaken world.machine told low
   pub peeked : ℕ
-  pub stage : driver.StandsAfter world.stage peeked items
+  pub stage : driver.StandsAfter world.driver.stage peeked items
   pub byte1 : byte1_of peeked items ≡ slice_index bytes 1
   pub sent : world.sent ≡ strobe
 

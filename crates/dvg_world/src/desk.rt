@@ -2,7 +2,7 @@
 ghost use Rattle.std.specs.Prelude.{◌≡◌, ◌≢◌, ◌↔◌, length, IfOk, IsErrOf, IsOk, IsTrue, OnErr};
 ghost use Rattle.std.specs.Prelude.{OnOk};
 ghost use Rattle.dvg_mem.specs.declared.TheConstants.{LARGE_ROM_BYTES, MEMORY_BYTES};
-ghost use Rattle.dvg_driver.specs.Saved.{IsState, stage_in};
+ghost use Rattle.dvg_driver.specs.Saved.{IsState, driving_in};
 ghost use Rattle.dvg_driver.specs.Script.{IsWhole};
 ghost use Rattle.dvg_world.specs.Desks.{IsFresh, OfferAnswers, OfLives, RedrawAnswers, TickAnswers};
 
@@ -23,13 +23,16 @@ pub struct Desk<A: Allocator = Global> {
     checker: Box<Checker, A>,
 }
 
-/// Contracts see the ROM and the driver's stage.
+/// Contracts see the ROM and the driver. The check accepts the frame that is being written.
 impl<A: Allocator> Model for Desk<A> {
+    ghost use Rattle.dvg_driver.specs.Saved.{KeepsAccepted};
     ghost use Rattle.dvg_world.specs.Desks.{Driven};
 
     ghost Value = { Driven };
 
-    ghost view = { λ desk. record { rom = desk.rom; stage = desk.driver } };
+    ghost view = { λ desk. record { rom = desk.rom; driver = desk.driver } };
+
+    ghost invariant = { λ desk. KeepsAccepted desk.rom desk.driver };
 }
 
 impl<A: Allocator> Desk<A> {
@@ -73,7 +76,7 @@ impl<A: Allocator> Desk<A> {
 
     /// Returns whether the driver is idle, and so would take a draft that the check accepts.
     pub(crate) fn is_idle(&self) -> bool
-        ensures { OfLives self.now.stage (λ peeked life. IsTrue result ↔ IsWhole life) }
+        ensures { OfLives self.now.driver (λ peeked life. IsTrue result ↔ IsWhole life) }
     {
         self.driver.is_idle()
     }
@@ -82,7 +85,7 @@ impl<A: Allocator> Desk<A> {
     /// Returns the entry.
     pub fn offer(&mut self, ops: &[Op]) -> Entry<()>
         ensures rom { self.new.rom ≡ self.old.rom }
-        ensures answers { OfferAnswers self.old.rom ops.now self.old.stage self.new.stage result }
+        ensures answers { OfferAnswers self.old.rom ops.now self.old.driver self.new.driver result }
     {
         let checked = match self.checker.check(ops, &self.rom) {
             Ok(checked) => checked,
@@ -97,7 +100,7 @@ impl<A: Allocator> Desk<A> {
     /// Asks the driver to have the published frame drawn again. Returns the entry.
     pub fn redraw(&mut self) -> Entry<()>
         ensures rom { self.new.rom ≡ self.old.rom }
-        ensures answers { RedrawAnswers self.old.stage self.new.stage result }
+        ensures answers { RedrawAnswers self.old.driver self.new.driver result }
     {
         match self.driver.redraw() {
             Ok(()) => Entry::Asked,
@@ -111,15 +114,16 @@ impl<A: Allocator> Desk<A> {
     #[inline(always)]
     pub fn tick(&mut self, halted: bool, byte1: u8) -> Action
         ensures rom { self.new.rom ≡ self.old.rom }
-        ensures answers { TickAnswers halted byte1 self.old.stage self.new.stage result }
+        ensures answers { TickAnswers halted byte1 self.old.driver self.new.driver result }
         ensures idle { result ≡ Action.Idle → self.new ≡ self.old }
     {
         self.driver.tick(halted, byte1)
     }
 
-    /// Returns all that the driver keeps.
+    /// Returns all that the driver keeps, as a value that `resume` takes over the same ROM.
     pub fn state(&self) -> DriverState
-        ensures { self.now.stage ≡ stage_in result }
+        ensures driver { self.now.driver ≡ driving_in result }
+        ensures taken { IsState self.now.rom result }
     {
         self.driver.state()
     }
@@ -129,8 +133,8 @@ impl<A: Allocator> Desk<A> {
     /// then nothing has changed.
     pub fn resume(&mut self, state: &DriverState) -> bool
         ensures taken { IsTrue result ↔ IsState self.old.rom state.now }
-        ensures stage { IsTrue result
-            → self.new ≡ record { rom = self.old.rom; stage = stage_in state.now } }
+        ensures driver { IsTrue result
+            → self.new ≡ record { rom = self.old.rom; driver = driving_in state.now } }
         ensures refused { (IsTrue result → ⊥) → self.new ≡ self.old }
     {
         self.driver.resume(state, &mut self.checker, &self.rom)

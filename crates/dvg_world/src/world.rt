@@ -6,7 +6,7 @@ ghost use Rattle.std.specs.Prelude.{IsErrOf, IsOk, IsSome, IsTrue, None, OnErr, 
 ghost use Rattle.dvg_mem.specs.Memory.{IsImage};
 ghost use Rattle.dvg_mem.specs.declared.TheConstants.{LARGE_ROM_BYTES, MEMORY_BYTES};
 ghost use Rattle.dvg_gen.specs.Machine.{HasTaken};
-ghost use Rattle.dvg_driver.specs.Saved.{stage_in};
+ghost use Rattle.dvg_driver.specs.Saved.{IsState as IsDriverState, driving_in};
 ghost use Rattle.dvg_driver.specs.Script.{IsWhole};
 ghost use Rattle.dvg_driver.specs.Stands.{IsInRam};
 ghost use Rattle.dvg_frame.specs.Ops.{IsDraft};
@@ -67,7 +67,7 @@ impl<S: Store> Model for World<S> {
       rom = world.desk.rom;
       ram = S.content world.store;
       machine = world.generator;
-      stage = world.desk.stage;
+      driver = world.desk.driver;
       sent = world.strobe_sent;
     } };
 }
@@ -210,7 +210,7 @@ impl<S: Store> World<S> {
 
     // Returns whether the driver is idle, and so would take a draft that the check accepts.
     pub(crate) fn is_idle(&self) -> bool
-        ensures { OfLives self.now.stage (λ peeked life. IsTrue result ↔ IsWhole life) }
+        ensures { OfLives self.now.driver (λ peeked life. IsTrue result ↔ IsWhole life) }
     {
         self.desk.is_idle()
     }
@@ -377,9 +377,10 @@ impl<S: Store> World<S> {
         &self.generator
     }
 
-    /// Returns all that the driver keeps.
+    /// Returns all that the driver keeps, as a driver over the same ROM takes it.
     pub fn driver(&self) -> DriverState
-        ensures { self.now.stage ≡ stage_in result }
+        ensures driver { self.now.driver ≡ driving_in result }
+        ensures taken { IsDriverState self.now.rom result }
     {
         self.desk.state()
     }
@@ -424,12 +425,13 @@ impl<S: Store> World<S> {
         }
     }
 
-    /// Returns all that the world keeps but its ROM and its picture, as a value that `resume`
-    /// takes. It is copied into memory of the world's allocator. Returns `OutOfMemory` where an
-    /// allocation fails.
+    /// Returns all that the world keeps but its ROM and its picture, as a value that `resume` takes
+    /// over the same ROM (`taken`). It is copied into memory of the world's allocator. Returns
+    /// `OutOfMemory` where an allocation fails.
     pub fn state(&self) -> Result<WorldState<S::Alloc>, OutOfMemory>
-        ensures { IfOk result (λ state. self.now
+        ensures state { IfOk result (λ state. self.now
             ≡ world_in self.now.rom state self.now.machine.picture) }
+        ensures taken { IfOk result (λ state. IsState self.now.rom state) }
     {
         let mut strokes = Vec::new(self.alloc);
         strokes.extend_from_slice(self.generator.strokes())?;
@@ -455,9 +457,8 @@ impl<S: Store> World<S> {
     /// Brings the world into `state`, and returns `true`: it goes on as each world over this ROM
     /// that was in `state` (`stands`). The ROM stays, and so does the picture. Returns `false`
     /// exactly where the generator's state isn't valid or the parts of the driver's don't fit
-    /// together, and then nothing has changed. Of parts that fit, and that no world had at once,
-    /// nothing is said. That a state of a world over the same ROM is always taken is tested, not
-    /// proved.
+    /// together, and then nothing has changed: so never where `state` returned it over this ROM. Of
+    /// parts that fit, and that no world had at once, nothing is said.
     pub fn resume(&mut self, state: WorldState<S::Alloc>) -> bool
         ensures taken { IsTrue result ↔ IsState self.old.rom state }
         ensures state { IsTrue result

@@ -9,7 +9,7 @@ use Rattle.dvg_driver.specs.declared.fault.DriverFault.{DriverFault}
 use Rattle.dvg_driver.specs.declared.fault.DriverFault.TheVariants.{Busy, NothingPublished}
 use Rattle.dvg_driver.specs.Script.{Item, Asked, Did, Offered, IsLife, IsWhole, has_flip}
 use Rattle.dvg_driver.specs.Place.{Place, Resting, place_of_life}
-use Rattle.dvg_driver.specs.Stands.{Stage, StandsAfter, Tells, peeked_after}
+use Rattle.dvg_driver.specs.Stands.{Driving, Stage, StandsAfter, Tells, peeked_after}
 use Rattle.dvg_driver.proofs.Shapes.{place_life}
 use Rattle.dvg_driver.proofs.Places.{whole_rests}
 use Rattle.test_facts.specs.Facts.{vector_frame}
@@ -20,6 +20,12 @@ pub not_whole_at : (life : List Item) (place : Place) → place_of_life life ≡
     → ((first : Bool) → Some place ≡ Some (Resting first) → ⊥) → ¬ IsWhole life
 not_whole_at life place is other whole =
     let rests = whole_rests life whole in other rests.0 (sym is ∙ rests.1)
+
+-- what is refused leaves the stage
+pub same_stage : (s t : Driving) (answer : Result Unit DriverFault) → OnErr answer (t ≡ s)
+    → OnErr answer (t.stage ≡ s.stage)
+same_stage s t (Ok u) same = tt
+same_stage s t (Err fault) same = ap (λ (driving : Driving). driving.stage) same
 
 module _ {s t : Stage} (peeked : ℕ) (life : List Item) (stands : StandsAfter s peeked life) where
   -- a tick does what comes next in the life

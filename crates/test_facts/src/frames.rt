@@ -2,6 +2,7 @@
 ghost use Rattle.std.specs.Prelude.{◌≡◌, ◌*◌, ◌<◌, ◌∷◌, [], Err, Some, length, slice_get, true};
 ghost use Rattle.dvg_mem.specs.Areas.{base};
 ghost use Rattle.dvg_frame.specs.Bytes.{addressed};
+ghost use Rattle.dvg_frame.specs.Left.{items_in};
 ghost use Rattle.dvg_frame.specs.Steps.{BeginsWithLabs};
 ghost use Rattle.test_facts.specs.Facts.{blank_frame, jump_bytes, jump_frame};
 
@@ -63,7 +64,7 @@ pub fn byte_of_a_jump(frame: &Frame, half: Half, k: u16) -> u8
 /// A cursor over that `frame` in `half` gives all its bytes, each with its address.
 pub fn bytes_of_a_jump(frame: Frame, half: Half) -> Cursor
     requires { frame.operations ≡ jump_frame }
-    ensures { result ≡ addressed (2 * base half) (jump_bytes half) }
+    ensures { items_in result ≡ addressed (2 * base half) (jump_bytes half) }
 {
     Cursor::new(frame, half)
 }

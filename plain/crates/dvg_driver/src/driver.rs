@@ -92,8 +92,8 @@ impl Driver {
         }
     }
 
-    /// Returns all that the driver keeps, as a value that `resume` takes. The frame that is being
-    /// written is copied.
+    /// Returns all that the driver keeps, as a value that `resume` takes over each ROM over which
+    /// the check accepts the frame that is being written. That is copied.
     pub fn state(&self) -> DriverState {
         let written = match (self.phase, &self.cursor) {
             (Phase::Writing, Some(cursor)) => written_by(cursor),

@@ -80,7 +80,7 @@ impl<A: Allocator> Desk<A> {
         self.driver.tick(halted, byte1)
     }
 
-    /// Returns all that the driver keeps.
+    /// Returns all that the driver keeps, as a value that `resume` takes over the same ROM.
     pub fn state(&self) -> DriverState {
         self.driver.state()
     }

@@ -237,7 +237,7 @@ impl<S: Store> World<S> {
         &self.generator
     }
 
-    /// Returns all that the driver keeps.
+    /// Returns all that the driver keeps, as a driver over the same ROM takes it.
     pub fn driver(&self) -> DriverState {
         self.desk.state()
     }
@@ -269,9 +269,9 @@ impl<S: Store> World<S> {
         }
     }
 
-    /// Returns all that the world keeps but its ROM and its picture, as a value that `resume`
-    /// takes. It is copied into memory of the world's allocator. Returns `OutOfMemory` where an
-    /// allocation fails.
+    /// Returns all that the world keeps but its ROM and its picture, as a value that `resume` takes
+    /// over the same ROM (`taken`). It is copied into memory of the world's allocator. Returns
+    /// `OutOfMemory` where an allocation fails.
     pub fn state(&self) -> Result<WorldState<S::Alloc>, OutOfMemory> {
         let mut strokes = Vec::new(self.alloc);
         strokes.extend_from_slice(self.generator.strokes())?;
@@ -295,9 +295,8 @@ impl<S: Store> World<S> {
     /// Brings the world into `state`, and returns `true`: it goes on as each world over this ROM
     /// that was in `state` (`stands`). The ROM stays, and so does the picture. Returns `false`
     /// exactly where the generator's state isn't valid or the parts of the driver's don't fit
-    /// together, and then nothing has changed. Of parts that fit, and that no world had at once,
-    /// nothing is said. That a state of a world over the same ROM is always taken is tested, not
-    /// proved.
+    /// together, and then nothing has changed: so never where `state` returned it over this ROM. Of
+    /// parts that fit, and that no world had at once, nothing is said.
     pub fn resume(&mut self, state: WorldState<S::Alloc>) -> bool {
         let WorldState {
             ram,

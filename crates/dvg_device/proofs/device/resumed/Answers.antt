@@ -1,7 +1,7 @@
 use Rattle.std.proofs.Common.{◌≡◌, [], ap, subst, sym, true, ◌∙◌}
 use Rattle.std.proofs.lemmas.Bool.{false≢true}
 use Rattle.dvg_gen.specs.Saved.{machine_of}
-use Rattle.dvg_driver.specs.Saved.{IsState, stage_in}
+use Rattle.dvg_driver.specs.Saved.{IsState, driving_in}
 use Rattle.dvg_device.specs.Resuming.{state_of}
 use Rattle.dvg_device.specs.Worlds.{world_with}
 use Rattle.dvg_device.proofs.Parted.{can_stand, is_state}
@@ -16,8 +16,8 @@ returns-then-resume c =
     let taken = c.resume.ensures.taken.0 c.if-resume.true in (
       (can_stand generator strokes [] taken.0, subst (IsState c.args.world.now.rom) driver_is taken.1),
       c.resume.ensures.state c.if-resume.true
-          ∙ ap (λ stage. record (world_with c.args.ram (machine_of generator strokes []) c.args.fields F c.args.world.now)
-          { stage = stage }) (ap stage_in driver_is),
+          ∙ ap (λ driver. record (world_with c.args.ram (machine_of generator strokes []) c.args.fields F c.args.world.now)
+          { driver = driver }) (ap driving_in driver_is),
     )
 
 pub returns-else-resume : goal.returns-else-resume

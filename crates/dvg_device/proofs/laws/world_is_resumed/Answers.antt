@@ -1,4 +1,4 @@
-use Rattle.dvg_device.proofs.Resumed.{driver_passed, operation_passed, world_resumed}
+use Rattle.dvg_device.proofs.Resumed.{driver_passed, operation_passed, world_resumed, world_taken}
 use Rattle.dvg_device.proofs.laws.world_is_resumed.Goals as goal
 
 pub returns-clause-driver : goal.returns-clause-driver
@@ -9,3 +9,6 @@ returns-clause-operations c = operation_passed
 
 pub returns-clause-resumed : goal.returns-clause-resumed
 returns-clause-resumed c = world_resumed
+
+pub returns-clause-taken : goal.returns-clause-taken
+returns-clause-taken c = world_taken

@@ -5,4 +5,4 @@ pub returns-clause-saved : goal.returns-clause-saved
 returns-clause-saved c = λ history low after.
     let state = c.state-state in
     can_be_saved c.args.generator.now state.result history low state.ensures.machine
-    (state.ensures.valid history low after) c.is_saved.ensures.four c.is_saved.ensures.byte after
+    state.ensures.valid c.is_saved.ensures.four c.is_saved.ensures.byte after

@@ -7,4 +7,4 @@ pub returns-clause-saved : goal.returns-clause-saved
 returns-clause-saved c = λ history low after.
     let state = c.state-state in
     can_be_saved_wrapped c.args.generator.now state.result history low (ap saved_of state.ensures.machine)
-    (state.ensures.valid history low after).plain c.is_saved.ensures.four c.is_saved.ensures.byte after
+    state.ensures.valid.plain c.is_saved.ensures.four c.is_saved.ensures.byte after

@@ -6,7 +6,7 @@ use Rattle.test_facts.proofs.driver.first_ticks.Goals as goal
 
 pub returns : goal.returns
 returns c =
-    let begun = c.new-driver.ensures 0 in
+    let begun = c.new-driver.ensures.stands 0 in
     let first : c.tick-first.result ≡ Peek = one_next [] false _ Peek (c.tick-first.ensures.scripted 0 [] begun) peek_first c.tick-first.ensures.told tt in
     let life = c.tick-second.ensures.scripted _ (Did c.tick-first.result ∷ []) (c.tick-first.ensures.stands 0 [] begun) in
     let second : c.tick-second.result ≡ Read true = one_next (Did Peek ∷ []) true _ (Read true) (subst (λ a. IsLife (Did c.tick-second.result ∷ Did a ∷ [])) first life) read_second c.tick-second.ensures.told refl in

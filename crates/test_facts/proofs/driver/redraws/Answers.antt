@@ -6,7 +6,7 @@ use Rattle.dvg_driver.specs.Script.{Asked, Offered}
 use Rattle.dvg_driver.specs.Stands.{StandsAfter}
 use Rattle.dvg_driver.proofs.Shapes.{rests_whole}
 use Rattle.test_facts.specs.Facts.{vector_frame}
-use Rattle.test_facts.proofs.Redraws.{ticked, taken, not_whole_at}
+use Rattle.test_facts.proofs.Redraws.{ticked, taken, not_whole_at, same_stage}
 use Rattle.test_facts.proofs.Redraws.{offer_busy, redraw_busy, redraw_nothing}
 use Rattle.test_facts.proofs.Redraws.{life0, life1, life2, life3, life4, life5, life6, life7}
 use Rattle.test_facts.proofs.Redraws.{life8, life9, life10, life11, life12, life13, life14}
@@ -16,12 +16,12 @@ use Rattle.test_facts.proofs.driver.redraws.Goals as goal
 pub returns : goal.returns
 returns c =
     let s1 =
-    redraw_nothing 0 life0 (c.new-driver.ensures 0) c.redraw.result
-    (c.redraw.ensures.nothing 0 life0 (c.new-driver.ensures 0)) c.redraw.ensures.refused refl in
+    redraw_nothing 0 life0 (c.new-driver.ensures.stands 0) c.redraw.result
+    (c.redraw.ensures.nothing 0 life0 (c.new-driver.ensures.stands 0)) (same_stage c.new-driver.result c.redraw.new.self c.redraw.result c.redraw.ensures.refused) refl in
     let s2 =
     offer_busy 0 life0 s1.1 c.offer_checked.result
     (c.offer_checked.ensures.accepted 0 life0 s1.1) c.offer_checked.ensures.busy
-    c.offer_checked.ensures.refused (not_whole_at life0 _ refl (λ first e. cc)) in
+    (same_stage c.redraw.new.self c.offer_checked.new.self c.offer_checked.result c.offer_checked.ensures.refused) (not_whole_at life0 _ refl (λ first e. cc)) in
     let s3 =
     ticked 0 life0 s2.1 0xFF false Peek _ refl tt (c.tick.ensures.stands 0 life0)
     (c.tick.ensures.scripted 0 life0) c.tick.ensures.told in
@@ -41,7 +41,7 @@ returns c =
     ((c.offer_checked-2.ensures.accepted 0xFF life4 s6.1).1 (rests_whole life4 true refl))
     (subst
     (λ F. OnOk c.offer_checked-2.result
-    (StandsAfter c.offer_checked-2.new.self 0xFF (Offered H0 F ∷ life4)))
+    (StandsAfter c.offer_checked-2.new.self.stage 0xFF (Offered H0 F ∷ life4)))
     c.requires (c.offer_checked-2.ensures.stands 0xFF life4 s6.1)) in
     let s8 =
     ticked 0xFF life5 s7.1 0xFF true (Wrote 0x002 0x90) _ refl tt
@@ -85,7 +85,7 @@ returns c =
     c.tick-14.ensures.told in
     let s18 =
     redraw_nothing 0xFF life15 s17.1 c.redraw-2.result
-    (c.redraw-2.ensures.nothing 0xFF life15 s17.1) c.redraw-2.ensures.refused refl in
+    (c.redraw-2.ensures.nothing 0xFF life15 s17.1) (same_stage c.tick-14.new.self c.redraw-2.new.self c.redraw-2.result c.redraw-2.ensures.refused) refl in
     let s19 =
     ticked 0xFF life15 s18.1 0xFF true (Wrote 0x000 0x01) _ refl tt
     (c.tick-15.ensures.stands 0xFF life15) (c.tick-15.ensures.scripted 0xFF life15)
@@ -97,7 +97,7 @@ returns c =
     let s21 =
     redraw_busy 0xFF life17 s20.1 c.redraw-3.result
     (c.redraw-3.ensures.accepted 0xFF life17 s20.1)
-    (c.redraw-3.ensures.nothing 0xFF life17 s20.1) c.redraw-3.ensures.refused refl
+    (c.redraw-3.ensures.nothing 0xFF life17 s20.1) (same_stage c.tick-16.new.self c.redraw-3.new.self c.redraw-3.result c.redraw-3.ensures.refused) refl
     (not_whole_at life17 _ refl (λ first e. cc)) in
     let s22 =
     ticked 0xFF life17 s21.1 0xE0 true (Read true) _ refl refl

@@ -14,4 +14,4 @@ eight H1 = refl
 pub returns : goal.returns
 returns c =
     let half = c.args.half in
-    c.left.ensures ∙ ap length (c.of.ensures.items ∙ ap (addressed (2 * base half)) (bytes_are half c.args.frame.now.operations c.requires)) ∙ eight half
+    c.left.ensures.items ∙ ap length (c.of.ensures.items ∙ ap (addressed (2 * base half)) (bytes_are half c.args.frame.now.operations c.requires)) ∙ eight half

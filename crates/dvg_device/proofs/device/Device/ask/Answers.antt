@@ -23,7 +23,7 @@ returns c =
             w.ask_driver.new.desk,
             refl,
             w.ask_driver.ensures.rom ∙ ap (λ d. d.rom) driven,
-            subst (λ d. DriverAnswers d.rom draft request d.stage w.ask_driver.new.desk.stage w.ask_driver.result) driven w.ask_driver.ensures.answers,
+            subst (λ d. DriverAnswers d.rom draft request d.driver w.ask_driver.new.desk.driver w.ask_driver.result) driven w.ask_driver.ensures.answers,
           ))
       | in-Generator w ↦ rw (w.result-is, w.self-inside-is, sym c.self.view_is, w.in-Generator.is)
           (w.ask_generator.new.generator, refl, w.ask_generator.ensures)

@@ -30,7 +30,7 @@ returns c = elim c.match-self.branch [
           later,
           refl,
           w.tick_driver.ensures.rom ∙ ap (λ d. d.rom) driven,
-          subst (λ d. OfAction (TickAnswers c.args.halted c.args.byte1 d.stage later.stage) w.tick_driver.result) driven
+          subst (λ d. OfAction (TickAnswers c.args.halted c.args.byte1 d.driver later.driver) w.tick_driver.result) driven
               w.tick_driver.ensures.answers,
         ),
         w.number-in-Driver.ensures,

@@ -19,6 +19,10 @@ returns-clause-items c =
     all_left c.args.half c.args.checked.now.operations c.try_extend_from_slice.new.self c.len_words.result same
     (c.len_words.ensures.laid c.args.half)
 
+pub returns-clause-source : goal.returns-clause-source
+returns-clause-source c =
+    let same : c.try_extend_from_slice.new.self ≡ c.args.checked.now.operations = search rules in (same, refl)
+
 pub returns-clause-in_ram : goal.returns-clause-in_ram
 returns-clause-in_ram c =
     subst (All IsBehindWordZero) (sym (returns-clause-items c))

@@ -1,14 +1,18 @@
 use Rattle.std.proofs.Common.{◌≡◌, ◌≢◌, ◌<◌, ◌-◌, [], length, refl, sym, ap, ◌∙◌, subst, arith}
 use Rattle.dvg_frame.specs.declared.cursor.Cursor.TheInside.{Inside}
 use Rattle.dvg_frame.specs.Cursors.{IsCursor, bytes_from}
-use Rattle.dvg_frame.proofs.Cursors.{left_is, none_left, one_more, turns, GoesOn, IsNext, next_items, next_kept}
+use Rattle.dvg_frame.specs.Left.{CursorState, after_item, items_in}
+use Rattle.dvg_frame.proofs.Cursors.{left_is, none_left, one_more, same_cursor, turns, GoesOn, IsNext, next_items, next_kept}
 use Rattle.dvg_frame.proofs.cursor.CursorIterator.next.Goals as goal
 use Rattle.dvg_frame.proofs.cursor.CursorIterator.next.Goals.{Joined-is_empty, After-take, then-is_empty, else-is_empty}
 
 pub returns-then-self-eq0-clause-steps : goal.returns-then-self-eq0-clause-steps
 returns-then-self-eq0-clause-steps c =
-    let none = none_left c.self.inside _ c.self.view_is c.self.invariant c.if-self-eq0.true in
-    (none, none)
+    let none = none_left c.self.inside (items_in c.args.self.now) (ap items_in c.self.view_is) c.self.invariant
+    c.if-self-eq0.true in
+    let left = ap (λ (cursor : CursorState). cursor.left) c.self.view_is in
+    let zero = c.if-self-eq0.true in
+    record { first = (none, none); rest = same_cursor refl refl (omega arith) }
 
 -- there is one more operation
 within : (S : Inside) → IsCursor S → S.left ≢ 0 → S.at_hand ≡ [] → S.op < length S.draft
@@ -66,9 +70,14 @@ invariant_of-self c =
 pub returns-clause-steps : goal.returns-clause-steps
 returns-clause-steps c =
     let at = goal.at.returns-clause-steps c in
-    next_items _ _ _ _ _ c.self.view_is c.self.invariant (gave at.After-take (ready at.Joined-is_empty))
+    let next = gave at.After-take (ready at.Joined-is_empty) in
+    let is = c.self.view_is in
+    record {
+      first = next_items c.self.inside _ (items_in c.args.self.now) _ _ (ap items_in is) c.self.invariant next;
+      rest = same_cursor next.draft next.half (let left = next.left in omega arith) ∙ ap after_item is;
+    }
 
 pub returns-clause-goes : goal.returns-clause-goes
 returns-clause-goes c =
-    let less = ap length (returns-clause-steps c) in
+    let less = ap length (returns-clause-steps c).first in
     record { on = λ finite. (tt, tt, omega arith); keeps = tt; rests = λ finite. tt }

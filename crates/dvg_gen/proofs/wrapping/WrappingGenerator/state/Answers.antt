@@ -2,7 +2,6 @@ use Rattle.std.proofs.Common.{ap, sym, ◌∙◌, subst, length, reverse, ℕ, L
 use Rattle.std.proofs.lemmas.List.{length-reverse}
 use Rattle.std.proofs.lemmas.Grind.{elements}
 use Rattle.std.specs.Prelude.{All, ◌<◌}
-use Rattle.dvg_gen.specs.Machine.{HasTaken}
 use Rattle.dvg_gen.proofs.wrapping.WrappingGenerator.state.Goals as goal
 
 in_range : (registers : List ℕ) → All (λ address. address < 4096) registers
@@ -10,9 +9,8 @@ in_range : (registers : List ℕ) → All (λ address. address < 4096) registers
 in_range registers addresses = grind (arith, elements)
 
 pub returns-clause-valid : goal.returns-clause-valid
-returns-clause-valid g c = λ history low stands.
-    let after = subst (λ m. HasTaken m stands.told low) (ap (λ w. w.machine) (sym c.self.view_is)) stands.after in
-    let inner = c.state-state.ensures.valid stands.told low after in
+returns-clause-valid g c =
+    let inner = c.state-state.ensures.valid in
     let kept = c.self.invariant.1 in
     let registers = sym c.oldest_first-state.ensures in
     record {
