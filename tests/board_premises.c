@@ -95,6 +95,8 @@ static int table_from, table_to;        /* the table that is being written */
 static int tables, tables_low, tables_high, shapes[1024], shape_count;
 static char shape_names[1024][32];
 static int instruction;                 /* where it stands that runs, or that comes next */
+static int program_from;                /* where the program's ROM begins */
+static int last_in_rom;                 /* the last instruction there */
 static int begins_anew;                 /* it went to its reset vector, and calls dvg_reset next */
 static long calls, nmis, nested, frames_built, frames_offered;
 static uint64_t seed;
@@ -513,6 +515,12 @@ static int comes(uint64_t *next, int *was_interrupted)
 /* The 6502 of board_cpu.h has neither BRK nor a decimal mode. */
 static void check_opcode(int opcode)
 {
+    if (processor.pc % MEMORY >= program_from) last_in_rom = processor.pc;
+    else if (opcode_index[opcode] < 0) {
+        instruction = last_in_rom;
+        fail("the program is left, and %04X has no opcode: did an RTS take what was pushed?",
+            processor.pc);
+    }
     if (opcode == 0x00) fail("a BRK");
     if (opcode == 0xF8) fail("a SED, and D has to stay clear");
     if (opcode == TXS_OPCODE && is_nmi())
@@ -690,7 +698,8 @@ int main(int count, char **words)
     if (count < 7 || count > 10) return 64;
     ready_opcodes();
     size = read_file(words[2], program, sizeof program);
-    memcpy(memory + MEMORY - size, program, size);
+    program_from = MEMORY - (int)size;
+    memcpy(memory + program_from, program, size);
     read_labels(words[3]);
     if (count > 7 && *words[7]) read_presses(words[7]);
     read_shapes(words[4]);
