@@ -65,7 +65,9 @@ def listed(bound):
     return edit(CODE, lists + CODE) + drawn(text)
 
 
-# Of each what it is, the edits, the tool that is the first to name it, or None, and its words.
+# Of each what it is, the edits, the tool that is the first to name it, or None, and its words. Two
+# seconds have 492 NMIs, so 62 pictures begin. Seven letters of 36 units come before the line, which
+# begins at 672; a letter is 24 wide and 36 high.
 MISTAKES = [
     # Of a trial by somebody who wrote none of the tools
     ('no watchdog in the loop', edit('rest:   sta WATCHDOG', 'rest:'), 'judge',
@@ -84,11 +86,12 @@ MISTAKES = [
     ('a shape without return', edit(BALL, 'ball: vctr 4 384 0 9\nbox: 0,0 12,0\n', SHAPES), 'make',
      '^warning: ball has no return, and goes on into box'),
     ('the scale 9 for 5', line('$99'), 'premises',
-     "^warning: a part isn't seen of what ...., line, from .*, picture .* from 672, 780 to 1184,"),
+     "^warning: a part isn't seen of what ...., line, from .*, picture .* puts, in each of 62 pict"
+     'ures: it goes from 672, 780 to 1184, 780, and the tube shows 0, 117 to 1023, 905$'),
     ('no scale', line('9'), 'premises',
      '^warning: all is of scale 0 of what ...., line, .*: at most 1.0 units; A is 16 times'),
     ('no intensity', line('$50'), 'premises',
-     '^warning: nothing is seen of what ...., line, .* all is dark'),
+     '^warning: nothing is seen of what ...., line, .* puts, in 62 pictures: all is dark$'),
     ('a text above the tube', edit('line_at 420, 780', 'line_at 420, 950'), 'premises',
      '^warning: nothing is seen of what .*, from .*draw.* it goes from 420, 950 to 588, 986, and'),
     ('a letter without a shape', edit('"SCORE "', '"SCORE* "'), 'make',
@@ -163,7 +166,8 @@ MISTAKES = [
     ('a coin counter that stays on', each_picture(' lda #OUT_COIN_LEFT\n sta OUTPUTS'), 'sound',
      '^on at the end: OUT_COIN_LEFT, since 0.0'),
     ('presses in milliseconds', edit('0.20 left down\n0.50 left up', '200 left down\n500 left up',
-                                     BUTTONS), 'judge', '^[0-9] of 2 presses'),
+                                     BUTTONS), 'judge',
+     '^warning: 0 of 2 presses of the file of buttons came: its times are seconds$'),
     ('a text beyond the right edge', edit('line_at 420, 780', 'line_at 960, 780'), 'premises',
      "^warning: a part isn't seen of .* it goes from 960, 780 to 1128, 816, and the tube"),
     ('two shapes of one name', edit(BALL, BALL + 'bat: 1,2\n', SHAPES), 'make',

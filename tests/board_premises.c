@@ -19,7 +19,7 @@
  * written, and of an input whose wrong bits decide; and where no frame was made at all. With a ROM
  * it names in the board's run the places where in each picture nothing is seen of what they put, or
  * a part isn't. With a MAP it ends with the labels of the segment CODE at which nothing ran or was
- * read. */
+ * read, and with what follows a branch that was always taken. */
 #include <stdarg.h>
 #include <stdio.h>
 #include <stdlib.h>
@@ -85,7 +85,7 @@ static const vain *const warnings[] = {
     &refused_opens, &vain_puts, &left_out, &lost_scales, &old_places, &misread
 };
 static vain blind_reads[RAM_END];       /* of each byte, before anything had written it */
-static uint8_t was_written[RAM_END], was_counted[RAM_END], was_used[MEMORY];
+static uint8_t was_written[RAM_END], was_counted[RAM_END], was_used[MEMORY], was_run[MEMORY];
 static uint8_t memory[MEMORY];
 static cpu processor;
 static context contexts[3], *now = contexts;
@@ -95,6 +95,8 @@ static int table_from, table_to;        /* the table that is being written */
 static int tables, tables_low, tables_high, shapes[1024], shape_count;
 static char shape_names[1024][32];
 static int instruction;                 /* where it stands that runs, or that comes next */
+static int program_from;                /* where the program's ROM begins */
+static int last_in_rom;                 /* the last instruction there */
 static int begins_anew;                 /* it went to its reset vector, and calls dvg_reset next */
 static long calls, nmis, nested, frames_built, frames_offered;
 static uint64_t seed;
@@ -112,21 +114,26 @@ static int is_drivers(int i) { return !strncmp(labels[i].name, "dvg_", 4); }
 /* Whether a label is the program's own: one local to a macro has a name that ca65 made. */
 static int is_own(int i) { return !is_drivers(i) && !strchr(labels[i].name, '-'); }
 
-/* As `6AF8, picture + 23`: the label before it, in the driver one of its routines. */
-static void print_place(int at)
+/* The last label up to an address, in the driver one of its routines; -1 where there is none. */
+static int label_before(int at)
 {
-    const char *name = 0;
-    int from = 0;
+    int best = -1;
     for (int i = 0; i < label_count; i++) {
         const int found = labels[i].at;
-        if (found < ROM || found > at || (name && found <= from)) continue;
+        if (found < ROM || found > at || (best >= 0 && found <= labels[best].at)) continue;
         if (is_driver(at) ? !is_drivers(i) : is_driver(found) || !is_own(i)) continue;
-        name = labels[i].name;
-        from = found;
+        best = i;
     }
+    return best;
+}
+
+/* As `6AF8, picture + 23`. */
+static void print_place(int at)
+{
+    const int i = label_before(at);
     printf("%04X", at);
-    if (name) printf(", %s", name);
-    if (name && at > from && !is_driver(at)) printf(" + %d", at - from);
+    if (i >= 0) printf(", %s", labels[i].name);
+    if (i >= 0 && at > labels[i].at && !is_driver(at)) printf(" + %d", at - labels[i].at);
 }
 
 /* The JSR whose return address stands on the stack above s, or 0. */
@@ -508,6 +515,12 @@ static int comes(uint64_t *next, int *was_interrupted)
 /* The 6502 of board_cpu.h has neither BRK nor a decimal mode. */
 static void check_opcode(int opcode)
 {
+    if (processor.pc % MEMORY >= program_from) last_in_rom = processor.pc;
+    else if (opcode_index[opcode] < 0) {
+        instruction = last_in_rom;
+        fail("the program is left, and %04X has no opcode: did an RTS take what was pushed?",
+            processor.pc);
+    }
     if (opcode == 0x00) fail("a BRK");
     if (opcode == 0xF8) fail("a SED, and D has to stay clear");
     if (opcode == TXS_OPCODE && is_nmi())
@@ -531,7 +544,7 @@ static void run_one(void)
 {
     int inside = is_driver(processor.pc);
     instruction = processor.pc;
-    was_used[instruction % MEMORY] = 1;
+    was_used[instruction % MEMORY] = was_run[instruction % MEMORY] = 1;
     if (!is_nmi() && processor.pc == word_at(MEMORY - 4)) begins_anew = 1;
     press_buttons();
     if (inside && !now->in_driver) begin_call();
@@ -662,21 +675,18 @@ static int data_of(const char *path)
     return (int)from;
 }
 
-static int compare_labels(const void *one, const void *other)
-{
-    return ((const typeof(labels[0]) *)one)->at - ((const typeof(labels[0]) *)other)->at;
-}
+static int is_branch(int opcode) { return (opcode & 0x1F) == 0x10; }
 
-/* The labels of the program's code where nothing ran, in their order. */
+/* Where nothing of the program's code ran, in its order: its labels, and what follows a branch that
+ * was always taken. */
 static void tell_unused(int data)
 {
-    int count = 0, last = 0;
-    qsort(labels, (size_t)label_count, sizeof labels[0], compare_labels);
-    for (int i = 0; i < label_count; i++) {
-        const int at = labels[i].at;
-        if (at < code_end || at >= data || at == last || was_used[at] || !is_own(i)) continue;
+    int count = 0;
+    for (int at = code_end; at < data; at++) {
+        const int i = label_before(at), is_behind = was_run[at - 2] && is_branch(memory[at - 2]);
+        if (was_used[at] || i < 0 || (at > labels[i].at && !is_behind)) continue;
         printf("%s%s", count++ ? " " : "never run: ", labels[i].name);
-        last = at;
+        if (at > labels[i].at) printf("+%d", at - labels[i].at);
     }
     if (count) printf("\n");
 }
@@ -688,7 +698,8 @@ int main(int count, char **words)
     if (count < 7 || count > 10) return 64;
     ready_opcodes();
     size = read_file(words[2], program, sizeof program);
-    memcpy(memory + MEMORY - size, program, size);
+    program_from = MEMORY - (int)size;
+    memcpy(memory + program_from, program, size);
     read_labels(words[3]);
     if (count > 7 && *words[7]) read_presses(words[7]);
     read_shapes(words[4]);

@@ -396,6 +396,17 @@ def judge_pictures(out, log, rom, rate):
         print('%d pictures are good, of which %d differ' % (pictures.count, len(pictures.known)))
 
 
+def tell_presses(pressed):
+    """How many presses came, and how many there are, if there is a file of buttons."""
+    if not pressed:
+        return
+    told = '%d of %d presses of the file of buttons came' % pressed
+    if pressed[0] or not pressed[1]:
+        print(told)
+    else:
+        warn(told + ': its times are seconds')
+
+
 def tell_banks(log):
     if log.banks:
         time, where = log.banks
@@ -447,8 +458,7 @@ def judge(out, rom_path, rate):
     judge_rate(log, rate)
     judge_pictures(out, log, rom, rate)
     tell_banks(log)
-    if log.pressed:
-        print('%d of %d presses of the file of buttons came' % log.pressed)
+    tell_presses(log.pressed)
     for text in log.watched:
         print('watched: ' + text)
     told = ', with %d warning%s' % (warnings, 's'[warnings == 1:]) if warnings and not bad else ''
