@@ -1212,6 +1212,53 @@ static inline dvg_stroke dvg_stroke_at(dvg *device, uint64_t number)
     return stroke;
 }
 
+/* What the calls below call for each stroke, in the order drawn. `context` is what was handed to
+ * them. It must not use the device. */
+typedef void (*dvg_stroke_function)(void *context, dvg_stroke stroke);
+
+/* The stroke of which these two parts of a state tell where it begins and ends. */
+static inline dvg_stroke dvg_stroke_of(uint64_t begin, uint64_t end)
+{
+    dvg_stroke stroke;
+    stroke.x0 = (uint32_t)(begin >> 16 & 0x3FFFFF);
+    stroke.y0 = (uint32_t)(begin >> 38 & 0x3FFFFF);
+    stroke.x1 = (uint32_t)(end >> 16 & 0x3FFFFF);
+    stroke.y1 = (uint32_t)(end >> 38 & 0x3FFFFF);
+    stroke.z = (uint8_t)(end >> 60);
+    return stroke;
+}
+
+/* Of a generator alone: takes away what its open run drew so far, and hands each stroke to
+ * `on_stroke`, unless that is null. The run goes on: where it comes to a HALT, dvg_strokes has what
+ * was drawn since. So a run without an end takes no more memory than its strokes between two such
+ * calls. The strokes of the newest finished run go, too, and what was told of a state. Returns how
+ * many strokes it took. Where they are none, as where no run is open, nothing changes. */
+static inline uint64_t dvg_take_strokes(dvg *device, dvg_stroke_function on_stroke, void *context)
+{
+    bool is_world = dvg_ask(device, DVG_REQUEST_DRIVER).kind == DVG_DRIVER;
+    bool wraps = (dvg_ask(device, DVG_REQUEST_HOLDS).value & 0x40) != 0;
+    uint64_t part = is_world ? (uint64_t)DVG_NOTHING : dvg_turn(device, DVG_REQUEST_STATE);
+    uint64_t number, taken = 0;
+    for (number = 1; (part & 0xFF) == DVG_STATE; number++) {
+        uint64_t after = dvg_turn(device, DVG_REQUEST_STATE | number << 8);
+        if ((after & 0xFFFF) == (DVG_STATE | 3 << 8)) {
+            if (on_stroke != NULL) {
+                on_stroke(context, dvg_stroke_of(part, after));
+            }
+            taken++;
+            number++;
+            after = dvg_turn(device, DVG_REQUEST_STATE | number << 8);
+        } else {
+            dvg_ask(device, part);
+        }
+        part = after;
+    }
+    dvg_ask(device, taken == 0 ? DVG_REQUEST_TELL_STATE
+                    : wraps    ? DVG_REQUEST_RESUME_WRAPPING
+                               : DVG_REQUEST_RESUME);
+    return taken;
+}
+
 /* --- A memory, drawn once --- */
 
 /* Of a generator: it is handed the byte at `next`, as an answer tells that, of a RAM of 2,048 bytes
@@ -1258,10 +1305,6 @@ typedef struct dvg_drawn {
                                    one that broke the run */
     uint64_t strokes;           /* how many strokes were drawn; 0 where there was no HALT */
 } dvg_drawn;
-
-/* What dvg_draw calls for each stroke, in the order drawn. `context` is what was handed to
- * dvg_draw. It must not use the device. */
-typedef void (*dvg_stroke_function)(void *context, dvg_stroke stroke);
 
 /* Starts a generator once over a RAM of 2,048 bytes and a ROM of 2,048 or 4,096, from the beam at
  * 0, 0 and scale 0, and lets it run until it halts, at most `most_words` words: what `dvg picture`

@@ -647,6 +647,11 @@ def _saved_parts(saved: bytes, wraps: bool) -> "array[int]":
     return numbers
 
 
+def _place(part: int) -> "tuple[int, int]":
+    """The place that a part of a state tells."""
+    return part >> 16 & 0x3FFFFF, part >> 38 & 0x3FFFFF
+
+
 def _saved_world(saved: bytes) -> "tuple[bytes, array[int], array[int], int]":
     """Of a saved world its RAM, its generator's parts, its operations and its driver. BadState.
 
@@ -1271,6 +1276,25 @@ class Generator(_Device):
             # What was told is forgotten.
             self._turn(_Request.TELL_STATE)
             raise
+
+    @_alone
+    def take_strokes(self) -> "list[Stroke]":
+        """Takes away what its open run drew so far, and returns it, in the order drawn.
+
+        The run goes on: after its DONE `strokes` has what was drawn since. So a run without an end
+        takes no more memory than what it draws between two such calls. The strokes of a finished
+        run go, too. Where there is none to take, nothing changes.
+        """
+        parts = self._answers(_Request.STATE, int(Kind.STATE))
+        taken = [
+            Stroke(*_place(begin), *_place(end), end >> 60)
+            for begin, end in zip(parts, parts[1:]) if end >> 8 & 0xFF == 3
+        ]
+        if taken:
+            kept = array("Q", (part for part in parts if part >> 8 & 0xFF < 2))
+            self._tell_saved(kept + parts[-1:])
+            self._ask(_Request.RESUME_WRAPPING if self._wraps else _Request.RESUME)
+        return taken
 
     def copy(self) -> "Generator":
         """Another one that goes on as this one does, without strokes of a finished run.

@@ -178,6 +178,28 @@ static void test_strokes(size_t bound)
     expect(living == 0, "nothing is left of the strokes");
 }
 
+/* A run without an end, whose strokes are taken each time that there are a thousand. */
+static void test_endless(size_t bound)
+{
+    static const uint8_t vector[] = {0x64, 0x90, 0x64, 0x74};
+    enum { STROKES = 1000, TIMES = 200 };
+    dvg *device = NULL;
+    uint64_t taken = 0;
+    bool done = dvg_new(&device) == 0 && dvg_open_generator(device).kind == DVG_OPENED;
+    most = living;
+    dvg_strobe(device);
+    for (int time = 0; time < TIMES; time++) {
+        for (int i = 0; i < 4 * STROKES; i++) {
+            dvg_generator_fetch(device, vector[i % 4]);
+        }
+        taken += dvg_take_strokes(device, NULL, NULL);
+    }
+    expect(done && taken == STROKES * TIMES, "each stroke is taken");
+    expect(most <= bound + (size_t)100 * STROKES, "a run without an end takes no more memory");
+    dvg_free(device);
+    expect(living == 0, "nothing is left of it");
+}
+
 /* Each request that takes no memory is made while all memory is refused. */
 #define TAKES_NONE(call, wanted)                                                                   \
     do {                                                                                           \
@@ -296,6 +318,7 @@ int main(int count, char **words)
     rom[sizeof rom - 1] = 0xB0;
     test_bound(kilobytes * 1024);
     test_strokes(kilobytes * 1024);
+    test_endless(kilobytes * 1024);
     if (dvg_new(&device) != 0) {
         return 2;
     }

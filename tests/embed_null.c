@@ -77,6 +77,7 @@
     CALL(dvg_judge_reset(NULL)) \
     CALL(dvg_strokes(NULL)) \
     CALL(dvg_stroke_at(NULL, 0)) \
+    CALL(dvg_take_strokes(NULL, NULL, NULL)) \
     CALL(dvg_hand_from(NULL, 0, bytes, bytes, DVG_ROM_BYTES)) \
     CALL(dvg_generator_fetch_from(NULL, bytes, bytes, DVG_ROM_BYTES)) \
     CALL(dvg_draw(NULL, bytes, bytes, DVG_ROM_BYTES, 9, NULL, NULL))

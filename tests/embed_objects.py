@@ -16,6 +16,7 @@ import asyncio
 import collections
 import copy
 import gc
+import itertools
 import os
 import pickle
 import random
@@ -142,6 +143,7 @@ CALLS = {
     Generator: {
         "strobe": (), "fetch": (0,), "hole": (), "fetch_from": (RAM,), "draw": (RAM,),
         "reset": (), "move_by": (0,), "save": (), "restore": (SAVED,), "copy": (),
+        "take_strokes": (),
         "wanted": None, "halted": None, "beam": None, "first_word": None,
         "return_addresses": None, "strokes": None, "stroke_table": None, "__enter__": (),
         "__copy__": (),
@@ -456,6 +458,29 @@ def test_counts():
     expect_raises(g.Endless, lambda: Generator().draw(RAM, most_words=0), "no words")
     expect("<svg" in g.svg([], 1) and "<svg" in g.svg([], 4096), "the ends of the range")
     expect_none_left("counts")
+
+
+def test_taken_strokes():
+    """Strokes that are taken of a run, and those that it draws after that, are all of them."""
+    with World() as world, Generator() as whole, Generator(wraps=True) as parts:
+        frame = Draft().labs(100, 200)
+        for z in range(1, 16):
+            frame.vctr(9, 10 * z, -20 * z, z)
+        world.draw(frame.halt())
+        memory, taken = world.ram, []
+        wanted = whole.draw(memory).strokes
+        parts.strobe()
+        for number in itertools.count():
+            entry = parts.fetch_from(memory)
+            if number % 9 == 0 and entry.kind is not Kind.DONE:
+                taken.append(parts.take_strokes())
+            if entry.kind is Kind.DONE:
+                break
+        expect(sum(map(bool, taken)) > 3, "strokes are taken in pieces")
+        expect(sum(taken, []) + parts.strokes == wanted == world.strokes, "which are all of them")
+        expect(parts.take_strokes() == [] and parts.strokes, "after a run there are none to take")
+        expect(parts.wraps and len(parts.return_addresses) == 4, "and it is of the same kind")
+    expect_none_left("strokes that are taken")
 
 
 # --- Forks, threads, signals ---
@@ -784,7 +809,7 @@ for test in (
     test_calls, test_copies, test_copies_of_generators, test_copies_of_drafts,
     test_copies_of_values, test_with, test_subclasses, test_cycles, test_failing, test_forks,
     test_ended_threads, test_in_use, test_signals, test_fetching, test_types, test_answers,
-    test_counts,
+    test_counts, test_taken_strokes,
 ):
     test()
 if len(sys.argv) > 1:

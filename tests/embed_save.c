@@ -247,6 +247,54 @@ static void test_generator(dvg *one, dvg *other)
     free(copy);
 }
 
+/* --- Strokes that are taken --- */
+
+/* The strokes that were taken of a run, in order, and of how many finished runs any were. */
+static dvg_stroke taken[MOST_AFTER];
+static uint64_t taken_count = 0;
+static unsigned long runs_taken_of = 0;
+
+static void take(void *context, dvg_stroke stroke)
+{
+    expect(context == taken && taken_count < MOST_AFTER, "strokes are handed out");
+    taken[taken_count++ % MOST_AFTER] = stroke;
+}
+
+/* Whether what was taken of one and what it drew since is what the other drew. */
+static bool drew_alike(dvg *one, dvg *other)
+{
+    bool same = taken_count + dvg_strokes(one) == dvg_strokes(other);
+    for (uint64_t i = 0; i < dvg_strokes(other) && same; i++) {
+        same = same_stroke(i < taken_count ? taken[i] : dvg_stroke_at(one, i - taken_count),
+                           dvg_stroke_at(other, i));
+    }
+    runs_taken_of += taken_count > 0;
+    return same;
+}
+
+/* Two generators go on alike, of which one has its strokes taken now and then. */
+static void test_taken(dvg *one, dvg *other)
+{
+    bool same = true;
+    fill_memory();
+    seed % 3 == 0 ? dvg_open_wrapping(one) : dvg_open_generator(one);
+    seed % 3 == 0 ? dvg_open_wrapping(other) : dvg_open_generator(other);
+    for (int left = MOST_AFTER; left > 0 && same; left--) {
+        bool hole = below(200) == 0;
+        uint64_t before = taken_count;
+        dvg_kind kind = go_on(one, hole).kind;
+        same = go_on(other, hole).kind == kind && stand_alike(one, other, memory[below(8192)]);
+        if (kind == DVG_STARTED) {
+            before = taken_count = 0;
+        }
+        same = same && (kind != DVG_DONE || drew_alike(one, other));
+        if (below(9) == 0) {
+            same = dvg_take_strokes(one, take, taken) == taken_count - before && same;
+        }
+    }
+    expect(same, "a run goes on whose strokes are taken, and draws the same");
+}
+
 /* What is no generator has no state, and a restored one takes the place of what was open. */
 static void test_others(dvg *one, dvg *other)
 {
@@ -265,6 +313,7 @@ static void test_others(dvg *one, dvg *other)
     bytes[2] = 'R';
     dvg_saved_put(bytes, 40, 0, dvg_saved_head(DVG_SAVED_WRAPPING, 4));
     expect(dvg_restore(one, bytes, 40).kind == DVG_NO_STATE, "three registers are too few");
+    expect(dvg_take_strokes(other, NULL, NULL) == 0, "without a run there are no strokes to take");
     dvg_open_generator(other);
     expect(dvg_save(other, bytes, sizeof bytes) == 24, "a new generator has 24 bytes");
     expect(dvg_restore(one, bytes, 24).kind == DVG_OPENED, "they are restored where a world is");
@@ -299,7 +348,9 @@ int main(int count, char **words)
     seed = strtoull(words[2], NULL, 10);
     for (unsigned long left = strtoul(words[1], NULL, 10); left > 0; left--, seed++) {
         test_generator(one, other);
+        test_taken(one, other);
     }
+    expect(runs_taken_of > 0, "strokes are taken of some run that comes to a HALT");
     dvg_free(one);
     dvg_free(other);
     printf("%lu passed, %lu failed\n", passed, failed);
