@@ -2,7 +2,6 @@
 // and examples/frames. The script is the modules of src/, each after those that it imports, without
 // their imports and exports; so no two of them may give one name twice. The content security policy
 // names the style and the script by their digests, and lets nothing else in.
-import { execFileSync } from 'node:child_process';
 import { createHash } from 'node:crypto';
 import { readFileSync, readdirSync } from 'node:fs';
 import { packedGames } from './games.mjs';
@@ -25,14 +24,10 @@ function framesOfExamples() {
     .map(([name, text]) => [name.replace('.sketch', ''), text]));
 }
 
-// The sketches of examples/; where one has shapes by their outlines, as board/outline.awk writes
-// them.
+// The sketches of examples/.
 function sketches() {
-  const texts = Object.assign({}, ...['.', 'board', 'first']
+  return Object.assign({}, ...['.', 'board', 'first']
     .map((folder) => textsOf(folder, /\.sketch$/)));
-  const awk = ['-f', `${page}../board/outline.awk`];
-  return Object.fromEntries(Object.entries(texts)
-    .map(([name, input]) => [name, execFileSync('awk', awk, { input, encoding: 'utf8' })]));
 }
 
 // What the page needs beside its sources: dvg.wasm, the games, the opening, and the examples.
@@ -62,10 +57,11 @@ function digestOf(text) {
   return `sha256-${createHash('sha256').update(text).digest('base64')}`;
 }
 
-// The names that a module gives to all others.
+// The names that a module gives to all others, with more constants of one line.
 function namesOf(text) {
-  const form = /^(?:async )?(?:const|let|class|function) (\w+)/gm;
-  return [...text.matchAll(form)].map(([, name]) => name);
+  const form = /^(?:async )?(?:const|let|class|function) (\w+)(.*)/gm;
+  return [...text.matchAll(form)].flatMap(([, name, more]) => (
+    [name, ...[...more.matchAll(/, ([A-Z][A-Z0-9_]+) = /g)].map(([, other]) => other)]));
 }
 
 const modules = new Map();

@@ -324,7 +324,7 @@ async function testExamples() {
     if (!name.endsWith('.sketch')) continue;
     const frames = runStatus([RENDER, '--check'], readFileSync(place)) === 0;
     expect(`${name}: its ROM is there`, /^[24][0-9]+ bytes/, await tab.text('rom-said'));
-    expect(`${name}: what becomes of it`, frames ? /^It stands in editor A/ : /^The ROM was loaded/,
+    expect(`${name}: what becomes of it`, frames ? /^Its first frame is drawn/ : /^The ROM was loaded/,
       await tab.text('file-text'));
     expect(`${name}: nothing is at fault`, /^ok /, await tab.text('saidA'));
   }
@@ -757,12 +757,17 @@ async function testFiles() {
 const DROPS = [
   ['game.s', '; a game\n        lda #0\n', /^This is neither a dump, /, true],
   ['a.png', Buffer.from('89504E470D0A1A0A0000000D49484452', 'hex'), /^This is neither/, true],
-  ['shapes.sketch', readFileSync(`${top}examples/board/shapes.sketch`),
-    /^Its shapes .* board\/outline\.awk makes a sketch/, true],
+  ['shapes.sketch', readFileSync(`${top}examples/board/shapes.sketch`), /^The ROM was loaded, /,
+    false],
+  ['bad_outline.sketch', 'house: 60,0 60,x\n', /^Of its outlines, .*: no point: '60,x'$/, true],
+  ['judge.log', 'reset 0.1\npicture 0.2 0.1 0 6C71\n', /^This is what make judge saw /, true],
+  ['bus.log', 'read halted\nwrote 001 E0\nsent\n', /^This is what a driver did, /, true],
+  ['pictures', new Uint8Array(5 * 2048), /^This is the vector RAM of each picture /, true],
   ['some.rom', Buffer.alloc(2048, 0xD0), /^The ROM was loaded, /, false],
   ['a.trace', 'tick 3\n', /^3 events happened\.$/, false],
   ['bad.trace', 'tick 3\ntick x\n', /^The trace is refused: dvg: syntax at line 2$/, true],
-  ['a.sketch', 'labs 1 2 3\nhalt\n', /^It stands in editor A, below\.$/, false],
+  ['a.sketch', 'labs 1 2 3\nhalt\n', /^Its first frame is drawn\. It stands in editor A, below\.$/,
+    false],
   ['bad.sketch', 'labs 1 2 3\nvctr\n', /^It stands in editor A, below, and has a fault: syntax /,
     true],
 ];

@@ -12,6 +12,7 @@ import { VERDICT, judgeProgram } from '../page/src/checker.mjs';
 import { Engine, KIND } from '../page/src/engine.mjs';
 import { builtGame, gameOf, isOfGame, unzipped } from '../page/src/eproms.mjs';
 import { hex } from '../page/src/hex.mjs';
+import { withoutOutlines } from '../page/src/outlines.mjs';
 import { OPCODES, Processor } from '../page/src/processor.mjs';
 import { Program, labelsOf } from '../page/src/programs.mjs';
 import { linesOfListing } from '../page/src/twin.mjs';
@@ -66,13 +67,8 @@ const TRIES = isShort ? 100000 : 1000000;
 // Steps of the page's 6502 from random states, as page_cpu.c has them: a line after each 10,000.
 function digestsOfSteps() {
   const memory = new Uint8Array(0x10000), lines = [];
-  let digest = 0, state = 12345, steps = 0;
-  const drawn = () => {
-    state = (state ^ state << 13) >>> 0;
-    state = (state ^ state >>> 17) >>> 0;
-    state = (state ^ state << 5) >>> 0;
-    return state;
-  };
+  const drawn = numbersFrom(12345);
+  let digest = 0, steps = 0;
   const mix = (value) => { digest = (Math.imul(digest, 31) + value) >>> 0; };
   const cpu = new Processor({
     read: (at) => memory[at],
@@ -370,6 +366,42 @@ async function testGameFiles() {
   }
 }
 
+// Sketches with outlines, those of the repository and random ones, become what board/outline.awk
+// makes of them, or both refuse them.
+function testOutlines() {
+  const kept = ['board/letters.sketch', 'examples/board/shapes.sketch',
+    'examples/asteroid_game/shapes.sketch', 'examples/bat/shapes.sketch',
+    'examples/first/garden.sketch'].map((name) => readFileSync(`${top}${name}`, 'utf8'));
+  const drawn = numbersFrom(7), below = (most) => drawn() % most;
+  const words = [() => `${below(2000) - 1000},${below(2000) - 1000}`, () => `@${below(99)},-3`,
+    () => `${below(90)}.5,${below(90)}.25`, () => '# a remark', () => '\n', () => '\nhalt\n',
+    () => '\nship:', () => '\n  ', () => '\nvctr 9 1 2 3\n', () => '\r\n', () => '\t',
+    () => '\nrock: ', () => (below(40) === 0 ? '1,' : '3,4'), () => '\n\n'];
+  const made = Array.from({ length: isShort ? 20 : 150 }, () => `${Array.from({ length: 12 },
+    () => words[below(words.length)]()).join(' ')}\n`);
+  let refused = 0;
+  for (const input of [...kept, ...made]) {
+    const { status, stdout } = spawnSync('awk', ['-f', `${top}board/outline.awk`], { input });
+    const { text, fault } = withoutOutlines(input);
+    expect(`whether ${JSON.stringify(input)} is refused`, status !== 0, fault !== '');
+    if (status === 0) expect(`the vectors of ${input}`, stdout.toString(), text);
+    else refused++;
+  }
+  const count = kept.length + made.length;
+  console.log(`outlines beside outline.awk: ${count} sketches, ${refused} refused`);
+}
+
+// Numbers by a seed, each below 2 to the power of 32.
+function numbersFrom(seed) {
+  let state = seed;
+  return () => {
+    state = (state ^ state << 13) >>> 0;
+    state = (state ^ state >>> 17) >>> 0;
+    state = (state ^ state << 5) >>> 0;
+    return state;
+  };
+}
+
 // Two zips of files: packed, and as they are.
 function zipsOf(files) {
   const folder = `${work}/zipped`;
@@ -388,7 +420,7 @@ function zipsOf(files) {
 
 const TESTS = [
   testSteps, testBuilt, testChecker, testJudges, testMendedBoard, testRate, testBoard, testNmi,
-  testGameFiles,
+  testGameFiles, testOutlines,
 ];
 for (const test of TESTS) if (named.length === 0 || named.includes(test.name)) await test();
 end();

@@ -3,14 +3,23 @@
 import { COMMAND, OPTION } from './engine.mjs';
 import { logOfBus } from './buses.mjs';
 import { firstLines, kindOf } from './files.mjs';
+import { withoutOutlines } from './outlines.mjs';
 import { Recording, boardOfDump } from './recordings.mjs';
 import { readSketch } from './sketches.mjs';
 import { counted } from './words.mjs';
 
 const REFUSED = 'This is neither a dump, a log, a table of a bus, a ROM, a trace nor a sketch, so '
   + 'it was not opened.';
-const OUTLINES = 'Its shapes are told by the points of their outlines, which the page doesn\'t '
-  + 'read. board/outline.awk makes a sketch of them.';
+/* What is told of files that the page doesn't show. */
+const TOLD = {
+  judged: 'This is what make judge saw of a run. The page doesn\'t show it, but the log of the '
+    + 'same run beside it, torn.log.',
+  driven: 'This is what a driver did, without what the generator fetched: nothing of it can be '
+    + 'judged here. make torn writes a log that can.',
+  pictures: 'This is the vector RAM of each picture that make judge saw, without the vector ROM: '
+    + 'make film draws them.',
+  unknown: REFUSED,
+};
 
 export class Drops {
   /* `stage` does on the page what a file asks for: `tell` a text in the panel, `record` what
@@ -30,10 +39,11 @@ export class Drops {
       romtext: () => this.openRomText(name, text()),
       trace: () => this.openTrace(name, text()),
       draft: () => this.openDraft(name, text()),
-      outline: () => this.stage.tell(name, OUTLINES, true),
-      unknown: () => this.stage.tell(name, REFUSED, true),
+      outline: () => this.openOutlines(name, text()),
     };
-    open[kind ?? kindOf(bytes)]();
+    const of = kind ?? kindOf(bytes);
+    if (of in TOLD) this.stage.tell(name, TOLD[of], true);
+    else open[of]();
   }
 
   /* Shows the run over a dump, word by word, as `dvg picture --all` tells it. */
@@ -78,11 +88,18 @@ export class Drops {
       : `The trace is refused: ${fault}`, fault !== '');
   }
 
+  /* Opens a sketch with shapes by their outlines. */
+  openOutlines(name, text) {
+    const { text: sketch, fault } = withoutOutlines(text);
+    if (fault === '') this.openDraft(name, sketch);
+    else this.stage.tell(name, `Of its outlines, this can't be read: ${fault}`, true);
+  }
+
   openDraft(name, text) {
     const { frames, rom, said } = readSketch(this.engine, text);
     if (rom !== '' && frames.length === 0) return this.openRomText(name, rom);
-    this.stage.useDraft(text);
-    return this.stage.tell(name, frames.length > 0 ? 'It stands in editor A, below.'
+    const isDrawn = this.stage.useDraft(text), drawn = isDrawn ? 'Its first frame is drawn. ' : '';
+    return this.stage.tell(name, frames.length > 0 ? `${drawn}It stands in editor A, below.`
       : `It stands in editor A, below, and has a fault: ${said}`, frames.length === 0);
   }
 }

@@ -7,6 +7,11 @@ const ROM_BYTES = 2048;
 /* A table of a bus has an access within so many lines. */
 const MOST_HEADER = 20;
 
+/* Lines that make judge writes of a run, and those of a driver alone. */
+const JUDGED = /^(picture|room|reset|banks|watchdog|amid|ended) [0-9.]+( |$)/;
+const DRIVEN = /^(sent|peek [0-9A-F]+ [0-9A-F]+|read (halted|running))$/;
+/* So many bytes of vector RAM make judge keeps of each picture. */
+const PICTURE_BYTES = 2048;
 const ENTRY = /^(started$|low |fetched |halted$|reset$|wrote )/;
 const EVENT = /^(offer|redraw|tick|strobe|fetch|resetgen|resetcpu|resetall)( |$)/;
 const OUTLINE = /^([A-Za-z_]\w*:)?\s*@?-?\d+,-?\d+(\s|$)/;
@@ -18,12 +23,15 @@ const OPERATION_OR_NAME =
 export function kindOf(bytes) {
   if (bytes.includes(0) || bytes.some((byte) => byte > 0x7E)) {
     if (DUMP_BYTES.includes(bytes.length)) return 'dump';
-    return bytes.length === ROM_BYTES ? 'rom' : 'unknown';
+    if (bytes.length === ROM_BYTES) return 'rom';
+    return bytes.length % PICTURE_BYTES === 0 ? 'pictures' : 'unknown';
   }
   const lines = new TextDecoder().decode(bytes).split('\n').map((line) => line.trim());
   const unpassed = lines.filter((line) => line !== '' && !/^(#|map |rom )/.test(line));
   const first = unpassed[0] ?? '';
   if (lines.slice(0, MOST_HEADER).some(isAccess)) return 'bus';
+  if (lines.some((line) => JUDGED.test(line))) return 'judged';
+  if (lines.some((line) => DRIVEN.test(line))) return 'driven';
   if (ENTRY.test(first)) return 'log';
   if (EVENT.test(first)) return 'trace';
   if (lines.some((line) => OUTLINE.test(line))) return 'outline';

@@ -920,7 +920,13 @@ const DROP_STAGE = {
     rows.showAll(board.length);
     return { fault, count: board.length };
   },
-  useDraft: (text) => useDraft(editorA, text),
+  useDraft: (text) => {
+    useDraft(editorA, text);
+    if (!editorA.offerable || !editorB.offerable) return false;
+    beginAgain();
+    runOnePicture();
+    return board.pictures.length > 0;
+  },
 };
 
 /* Puts a draft into an editor, and the ROM that it brings, if it does, into its own. */

@@ -1,0 +1,67 @@
+/* Shapes by the points of their outlines, made into operations: what board/outline.awk does, which
+ * tells how they are written. */
+
+const OUTLINE_POINT = /^@?-?\d+(\.\d+)?,-?\d+(\.\d+)?$/;
+/* How bright a stroke is; units of the screen in steps of a beam; the longest move of a vector. */
+const OUTLINE_BRIGHT = 9, UNIT_STEPS = 512, LONGEST_MOVE = 1023;
+
+const isPoint = (word = '') => /,|^@/.test(word);
+const roundedStep = (number) => (number < 0 ? -Math.trunc(0.5 - number)
+  : Math.trunc(number + 0.5));
+
+/* Reads the lines of a sketch: `lines` has those that it writes, and `fault` the first point that
+ * can't be read, or ''. */
+class Outlines {
+  constructor() {
+    Object.assign(this, { lines: [], fault: '', isOpen: false, x: 0, y: 0 });
+  }
+
+  end() {
+    if (this.isOpen) this.lines.push('  return');
+    Object.assign(this, { isOpen: false, x: 0, y: 0 });
+  }
+
+  read(whole) {
+    let words = whole.replace(/\r$/, '').replace(/#.*/, '').split(/[ \t]+/).filter(Boolean);
+    if (words.length > 0 && /:$/.test(words[0]) && isPoint(words[1])) {
+      this.end();
+      this.lines.push(words[0]);
+      words = words.slice(1);
+    }
+    if (words.length > 0 && isPoint(words[0])) {
+      this.isOpen = true;
+      for (const word of words) this.goTo(word);
+      return;
+    }
+    if (words.length > 0) this.end();
+    this.lines.push(whole);
+  }
+
+  /* Goes to a point, without drawing where an @ stands before it. */
+  goTo(word) {
+    if (!OUTLINE_POINT.test(word)) return this.refuse(`no point: '${word}'`);
+    const [x, y] = word.replace('@', '').split(',').map((part) => Number(part) * UNIT_STEPS);
+    const far = Math.max(Math.abs(x - this.x), Math.abs(y - this.y));
+    let scale = 1;
+    while (scale < 9 && far / 2 ** scale > LONGEST_MOVE) scale++;
+    const step = 2 ** scale, dx = roundedStep((x - this.x) / step);
+    const dy = roundedStep((y - this.y) / step);
+    if (Math.max(Math.abs(dx), Math.abs(dy)) > LONGEST_MOVE) {
+      return this.refuse('a move of more than 1,023 units');
+    }
+    this.x += dx * step;
+    this.y += dy * step;
+    const z = word.startsWith('@') ? 0 : OUTLINE_BRIGHT;
+    return this.lines.push(`  vctr ${scale} ${dx} ${dy} ${z}`);
+  }
+
+  refuse(why) { this.fault ||= why; }
+}
+
+/* A sketch without outlines, of one that may have some; and what can't be read, or ''. */
+export function withoutOutlines(text) {
+  const outlines = new Outlines();
+  for (const line of text.replace(/\n$/, '').split('\n')) outlines.read(line);
+  outlines.end();
+  return { text: outlines.lines.map((line) => `${line}\n`).join(''), fault: outlines.fault };
+}
