@@ -5,7 +5,7 @@ const OUTLINE_POINT = /^@?-?\d+(\.\d+)?,-?\d+(\.\d+)?$/;
 /* How bright a stroke is; units of the screen in steps of a beam; the longest move of a vector. */
 const OUTLINE_BRIGHT = 9, UNIT_STEPS = 512, LONGEST_MOVE = 1023;
 
-const isPoint = (word = '') => /,|^@/.test(word);
+const isPoint = (word = '') => /,|^@|=/.test(word);
 const roundedStep = (number) => (number < 0 ? -Math.trunc(0.5 - number)
   : Math.trunc(number + 0.5));
 
@@ -13,18 +13,21 @@ const roundedStep = (number) => (number < 0 ? -Math.trunc(0.5 - number)
  * can't be read, or ''. */
 class Outlines {
   constructor() {
-    Object.assign(this, { lines: [], fault: '', isOpen: false, x: 0, y: 0 });
+    Object.assign(this, { lines: [], fault: '', inRom: false });
+    this.end();
   }
 
-  end() {
-    if (this.isOpen) this.lines.push('  return');
-    Object.assign(this, { isOpen: false, x: 0, y: 0 });
+  /* At a line, by its first word, that isn't of the last outline. */
+  end(first = '') {
+    if (this.isOpen && (this.isNamed || this.inRom)) this.lines.push('  return');
+    Object.assign(this, { isOpen: false, isNamed: first.endsWith(':'), bright: OUTLINE_BRIGHT,
+      x: 0, y: 0 });
   }
 
   read(whole) {
     let words = whole.replace(/\r$/, '').replace(/#.*/, '').split(/[ \t]+/).filter(Boolean);
     if (words.length > 0 && /:$/.test(words[0]) && isPoint(words[1])) {
-      this.end();
+      this.end(words[0]);
       this.lines.push(words[0]);
       words = words.slice(1);
     }
@@ -33,12 +36,19 @@ class Outlines {
       for (const word of words) this.goTo(word);
       return;
     }
-    if (words.length > 0) this.end();
+    if (words.length > 0) this.end(words[0]);
+    if (words.length > 0 && words[0].startsWith('.')) this.inRom = words[0] === '.rom';
+    if (words.length > 1) this.isNamed = false;
     this.lines.push(whole);
   }
 
-  /* Goes to a point, without drawing where an @ stands before it. */
+  /* Goes to a point, without drawing where an @ stands before it; or takes an intensity. */
   goTo(word) {
+    const [, bright] = /^intensity=(\d|1[0-5])$/.exec(word) || [];
+    if (bright) {
+      this.bright = Number(bright);
+      return undefined;
+    }
     if (!OUTLINE_POINT.test(word)) return this.refuse(`no point: '${word}'`);
     const [x, y] = word.replace('@', '').split(',').map((part) => Number(part) * UNIT_STEPS);
     const far = Math.max(Math.abs(x - this.x), Math.abs(y - this.y));
@@ -51,7 +61,7 @@ class Outlines {
     }
     this.x += dx * step;
     this.y += dy * step;
-    const z = word.startsWith('@') ? 0 : OUTLINE_BRIGHT;
+    const z = word.startsWith('@') ? 0 : this.bright;
     return this.lines.push(`  vctr ${scale} ${dx} ${dy} ${z}`);
   }
 
