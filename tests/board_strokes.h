@@ -97,11 +97,12 @@ static long signed_of(int word) { return word & 0x400 ? -(word & 0x3FF) : word &
 
 static long moved_of(int step) { return 256 * (step & 4 ? -(step & 3) : step & 3); }
 
-/* A position beyond the middle of the 4,096 is one at the left, or below. */
-static long position_of(int word)
+/* A place of the beam, which begins again behind 4,095: from the middle on it is at the left, or
+ * below. */
+static long wrapped(long at)
 {
-    const long at = word & 0xFFF;
-    return (at < POSITIONS / 2 ? at : at - POSITIONS) * UNIT;
+    const long all = (long)POSITIONS * UNIT, rest = (at % all + all) % all;
+    return rest < all / 2 ? rest : rest - all;
 }
 
 /* A run of the generator: where it is, by which instruction of the frame, the first one since the
@@ -127,8 +128,9 @@ static void draw_vector(generator *r, int word)
     const int local = is_short ? 2 + (word >> 11 & 1) + (word >> 2 & 2) : word >> 12;
     const int scale = (local + r->beam.scale) % 16;
     const int is_bright = is_short ? (word & 0xF0) != 0 : second >> 12 != 0;
-    const beam from = r->beam;
+    const beam from = { { wrapped(r->beam.at[0]), wrapped(r->beam.at[1]) }, r->beam.scale };
     place_seen *place = &places_seen[put_by[r->put]];
+    r->beam = from;
     if (scale < 10) {
         r->beam.at[0] += dx * (1 << scale);
         r->beam.at[1] += dy * (1 << scale);
@@ -150,7 +152,8 @@ static int draw_one(generator *r)
     if (opcode < 10 || opcode == 15) draw_vector(r, word);
     if (opcode == 10) {
         const int second = next_word(r);
-        r->beam = (beam){ { position_of(second), position_of(word) }, second >> 12 };
+        r->beam = (beam){ { (long)(second & 0xFFF) * UNIT, (long)(word & 0xFFF) * UNIT },
+            second >> 12 };
         r->since = r->put;
     }
     if (opcode == 11 || (opcode == 12 && r->depth == DEEPEST) || (opcode == 13 && !r->depth))
