@@ -1547,6 +1547,8 @@ async function testGame() {
   await expectSoon('its pace', /^6[01]\.[0-9] pictures a second, [3-9]/,
     () => tab.text('run-counts'));
   writeFileSync(`${work}/page_game.png`, await tab.screenshot());
+  expect('no mistake is offered that Rocks can\'t have', false,
+    await tab.value('document.getElementById("mistake").checkVisibility()'));
   await tab.click('pause');
   expect('strokes are seen', true, (await tab.value(LIT)).found.length > 300);
   const words = (await tab.value('document.getElementById("play").innerText'));
@@ -1636,7 +1638,7 @@ async function testWhatIf() {
   await expectSoon('it goes dark', /^You said: it tears\. It goes dark: each strobe /,
     () => tab.text('what-text'));
   expect('runs are abandoned', /^Abandoned: [0-9]+ runs, /, await tab.text('run-left'));
-  expect('the tube is dark', 0, (await tab.value(LIT)).found.length);
+  await expectSoon('the tube is dark', 0, async () => (await tab.value(LIT)).found.length);
   expect('what is said of each run is of a whole wire', true,
     await tab.value('document.getElementById("wire-note").checkVisibility()'));
   await tab.choose('beam', '4');
@@ -1675,6 +1677,9 @@ async function testGameDrops() {
     () => tab.text('run-moments'));
   expect('it is accepted', /^Accepted: /, await tab.text('every'));
   expect('and told', 'game.program, rom.', await tab.text('game-said'));
+  await tab.click('mistake');
+  await expectSoon('with its mistake it is refused', /^Refused: 3 instructions /,
+    () => tab.text('every'));
   const at = 0x6C8F, stores = [[at, 0x8D], [at + 1, 0x04], [at + 2, 0x40]];
   await tab.drop('tube', filesOfGame(1, stores));
   await expectSoon('one with a fault is refused', /^Refused: 1 instruction may tear it/,
