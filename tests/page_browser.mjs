@@ -324,8 +324,8 @@ async function testExamples() {
     if (!name.endsWith('.sketch')) continue;
     const frames = runStatus([RENDER, '--check'], readFileSync(place)) === 0;
     expect(`${name}: its ROM is there`, /^[24][0-9]+ bytes/, await tab.text('rom-said'));
-    expect(`${name}: what becomes of it`, frames ? /^Its first frame is drawn/ : /^The ROM was loaded/,
-      await tab.text('file-text'));
+    expect(`${name}: what becomes of it`,
+      frames ? /^Its first frame is drawn/ : /^The ROM was loaded/, await tab.text('file-text'));
     expect(`${name}: nothing is at fault`, /^ok /, await tab.text('saidA'));
   }
   for (const name of ['attract', 'digits', 'rocks', 'rom_shapes', 'score', 'ship']) {
@@ -1684,7 +1684,7 @@ async function testGameDrops() {
   await tab.drop('tube', filesOfGame(1, stores));
   await expectSoon('one with a fault is refused', /^Refused: 1 instruction may tear it/,
     () => tab.text('every'));
-  expect('it is told why', '6C8F: sta $4004: it writes 4004, the vector RAM',
+  expect('it is told why', /^6C8F: sta \$4004: it writes 4004, the vector RAM: /,
     await tab.text('every-lines'));
   await expectSoon('bytes come early', /^Early: [0-9]+ bytes, the first by 6C8F: sta \$4004, /,
     () => tab.text('run-halves'));
