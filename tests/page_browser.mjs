@@ -324,8 +324,8 @@ async function testExamples() {
     if (!name.endsWith('.sketch')) continue;
     const frames = runStatus([RENDER, '--check'], readFileSync(place)) === 0;
     expect(`${name}: its ROM is there`, /^[24][0-9]+ bytes/, await tab.text('rom-said'));
-    expect(`${name}: what becomes of it`, frames ? /^Its first frame is drawn/ : /^The ROM was loaded/,
-      await tab.text('file-text'));
+    expect(`${name}: what becomes of it`,
+      frames ? /^Its first frame is drawn/ : /^The ROM was loaded/, await tab.text('file-text'));
     expect(`${name}: nothing is at fault`, /^ok /, await tab.text('saidA'));
   }
   for (const name of ['attract', 'digits', 'rocks', 'rom_shapes', 'score', 'ship']) {
@@ -1547,6 +1547,8 @@ async function testGame() {
   await expectSoon('its pace', /^6[01]\.[0-9] pictures a second, [3-9]/,
     () => tab.text('run-counts'));
   writeFileSync(`${work}/page_game.png`, await tab.screenshot());
+  expect('no mistake is offered that Rocks can\'t have', false,
+    await tab.value('document.getElementById("mistake").checkVisibility()'));
   await tab.click('pause');
   expect('strokes are seen', true, (await tab.value(LIT)).found.length > 300);
   const words = (await tab.value('document.getElementById("play").innerText'));
@@ -1636,7 +1638,7 @@ async function testWhatIf() {
   await expectSoon('it goes dark', /^You said: it tears\. It goes dark: each strobe /,
     () => tab.text('what-text'));
   expect('runs are abandoned', /^Abandoned: [0-9]+ runs, /, await tab.text('run-left'));
-  expect('the tube is dark', 0, (await tab.value(LIT)).found.length);
+  await expectSoon('the tube is dark', 0, async () => (await tab.value(LIT)).found.length);
   expect('what is said of each run is of a whole wire', true,
     await tab.value('document.getElementById("wire-note").checkVisibility()'));
   await tab.choose('beam', '4');
@@ -1675,11 +1677,14 @@ async function testGameDrops() {
     () => tab.text('run-moments'));
   expect('it is accepted', /^Accepted: /, await tab.text('every'));
   expect('and told', 'game.program, rom.', await tab.text('game-said'));
+  await tab.click('mistake');
+  await expectSoon('with its mistake it is refused', /^Refused: 3 instructions /,
+    () => tab.text('every'));
   const at = 0x6C8F, stores = [[at, 0x8D], [at + 1, 0x04], [at + 2, 0x40]];
   await tab.drop('tube', filesOfGame(1, stores));
   await expectSoon('one with a fault is refused', /^Refused: 1 instruction may tear it/,
     () => tab.text('every'));
-  expect('it is told why', '6C8F: sta $4004: it writes 4004, the vector RAM',
+  expect('it is told why', /^6C8F: sta \$4004: it writes 4004, the vector RAM: /,
     await tab.text('every-lines'));
   await expectSoon('bytes come early', /^Early: [0-9]+ bytes, the first by 6C8F: sta \$4004, /,
     () => tab.text('run-halves'));

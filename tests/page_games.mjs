@@ -376,7 +376,7 @@ function testOutlines() {
   const words = [() => `${below(2000) - 1000},${below(2000) - 1000}`, () => `@${below(99)},-3`,
     () => `${below(90)}.5,${below(90)}.25`, () => '# a remark', () => '\n', () => '\nhalt\n',
     () => '\nship:', () => '\n  ', () => '\nvctr 9 1 2 3\n', () => '\r\n', () => '\t',
-    () => '\n.rom\n', () => '\n.frame\n', () => `intensity=${below(17)}`, () => '\nrock: ',
+    () => '\nrock: ', () => '\n.rom\n', () => '\n.frame\n', () => `intensity=${below(17)}`,
     () => (below(40) === 0 ? '1,' : '3,4'), () => '\n\n'];
   const made = Array.from({ length: isShort ? 20 : 150 }, () => `${Array.from({ length: 12 },
     () => words[below(words.length)]()).join(' ')}\n`);

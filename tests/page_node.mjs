@@ -666,6 +666,7 @@ function testFiles() {
   is('unknown', text('; a game\n  lda #0\n'));
   is('outline', readFileSync(`${top}examples/board/shapes.sketch`));
   is('outline', text('house: 60,0 60,40 @20,0\n'));
+  is('outline', text('.frame\nlabs 1 2 3\nintensity=12 @0.5,-3 20,20\nhalt\n'));
   is('judged', text('reset 0.1 6C71\nwrote 001 E0 0.2 6C71\n'));
   is('driven', text('read halted\nwrote 001 E0\nsent\n'));
   is('pictures', new Uint8Array(5 * 2048));

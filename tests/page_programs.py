@@ -69,7 +69,8 @@ def by_bytes(program, notes, start, found, bad):
         return 0, [prove.UNTORN, *told]
     others = [f'brought at {program.where(at)}' for at, _ in bad]
     unseen = ', '.join(dict.fromkeys(found.unseen or others))
-    return 3, [f"keeps to the rules, but what is {unseen} isn't seen: it may tear a picture", *told]
+    return 3, [f"keeps to the rules, but what is {unseen} isn't seen: it may tear a picture",
+               content.CURE, *told]
 
 
 def sources_of(work):

@@ -1,9 +1,9 @@
 /* Says of a program's bytes whether a run of them may tear a picture: what board/prove does by its
  * script, but for the names of tables and shapes, which aren't in the bytes. Tested, not proved. */
-import { Contents } from './contents.mjs';
+import { CURE, Contents } from './contents.mjs';
 import { emptyOnes, makeNotes, waysOn } from './notes.mjs';
 import { NMI_VECTOR, START, isCode } from './programs.mjs';
-import { EMPTY, TOO_EARLY, refusalOf, refusalsOf, startOf } from './rules.mjs';
+import { EMPTY, ORDER, TOO_EARLY, refusalOf, refusalsOf, startOf } from './rules.mjs';
 
 const UNTORN = 'no run of these bytes tears a picture';
 
@@ -68,6 +68,11 @@ function examined(program, driver) {
     const line = `${program.where(why.at)}: ${program.at(why.at)}: ${why.message}`;
     return { notes: new Map(), start, lines: [line] };
   }
+  if (refusalOf(() => startOf(program, NMI_VECTOR)) === null) {
+    const line = `${program.where(program.word(NMI_VECTOR))}: the NMI's vector leads there, where `
+      + `S is set as a reset does: ${ORDER}`;
+    return { notes: new Map(), start, lines: [line] };
+  }
   const notes = makeNotes(program, start), lines = refusalsOf(program, notes, start, driver);
   const early = lines.filter((line) => line.endsWith(TOO_EARLY));
   const others = lines.filter((line) => !line.endsWith(TOO_EARLY))
@@ -100,5 +105,5 @@ export function judgeProgram(program, rom, driver) {
   const unseen = contents.unseen.length > 0 ? contents.unseen : others;
   const first = `keeps to the rules, but what is ${[...new Set(unseen)].join(', ')} isn't seen: it `
     + 'may tear a picture';
-  return { verdict: VERDICT.UNSEEN, lines: [first, ...told] };
+  return { verdict: VERDICT.UNSEEN, lines: [first, CURE, ...told] };
 }

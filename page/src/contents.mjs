@@ -254,6 +254,9 @@ class Shapes {
 
 /* --- What a program offers and puts --- */
 
+/* Where what is put is seen. */
+export const CURE = 'it is seen where lda LIST,y and ldx LIST,y stand right before the call, and '
+  + 'before these cpy #LENGTH and bcs, or and #MASK and tay; or where lda # and ldx # do';
 const WHAT = { dvg_offer: 'offered', dvg_put: 'put', dvg_pair: 'put by dvg_pair' };
 
 export class Contents {

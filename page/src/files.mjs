@@ -14,7 +14,8 @@ const DRIVEN = /^(sent|peek [0-9A-F]+ [0-9A-F]+|read (halted|running))$/;
 const PICTURE_BYTES = 2048;
 const ENTRY = /^(started$|low |fetched |halted$|reset$|wrote )/;
 const EVENT = /^(offer|redraw|tick|strobe|fetch|resetgen|resetcpu|resetall)( |$)/;
-const OUTLINE = /^([A-Za-z_]\w*:)?\s*@?-?\d+,-?\d+(\s|$)/;
+const OUTLINE =
+  /^([A-Za-z_]\w*:)?\s*(intensity=\d+\s+)?@?-?\d+(\.\d+)?,-?\d+(\.\d+)?(\s|$)/;
 const OPERATION_OR_NAME =
   /^(\.(frame|rom)\b|[A-Za-z_]\w*:|(labs|vctr|svec|call|jump|callrom|jumprom|return|halt)( |$))/i;
 

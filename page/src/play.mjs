@@ -202,7 +202,7 @@ export class Play {
     setText(byId('what-text'), this.whatText);
     byId('guesses').hidden = !this.isOther || this.guess !== null
       || arcade.seconds >= ANSWER_AFTER;
-    byId('wire-note').hidden = !this.isOther;
+    byId('wire-note').hidden = !arcade.wireCut;
   }
 
   showPictures({ pictures, torn }) {

@@ -50,7 +50,7 @@ export function labelsOf(text) {
   const labels = new Map();
   for (const [, word, label] of text.matchAll(/^al (\w+) \.(\S+)$/gm)) {
     const at = parseInt(word, 16);
-    if (at < START || at >= PROGRAM_END || isDriver(at) || /^(__|dvg_)/.test(label)) continue;
+    if (at < START || at >= PROGRAM_END || isDriver(at) || /^(__|dvg_)|-/.test(label)) continue;
     if (!labels.has(at)) labels.set(at, label);
   }
   return labels;

@@ -22,13 +22,17 @@ const ASLEEP = 'dvg_reset may not have been called, or a byte of 10 to 20 was st
 const LOOPS = 'the NMI may loop, or lasts too long: write each round of a loop for itself';
 const SHARED = 'the NMI leads there, too: it ends with RTI, and shares no instruction with the '
   + 'program';
+const DEEP = 'it needs more of the stack than there is: does a subroutine call itself, or a loop '
+  + 'push? Let it keep in RAM what it would push';
+export const ORDER = 'VECTORS has .word nmi, reset, irq, in this order';
 /* What an instruction elsewhere is mostly the cause of. */
-const FOLLOWS = [TOO_EARLY, ASLEEP, LOOPS, EMPTY];
+const FOLLOWS = [TOO_EARLY, ASLEEP, LOOPS, EMPTY, DEEP];
 const GOES_ON = ['dvg_put', 'dvg_pair', 'dvg_vector', 'dvg_close'];
 /* Why instructions are refused that no program may have. */
 const NEVER = {
-  brk: 'it goes where an IRQ does', sed: 'decimal sums are not proved',
-  txs: 'S is set at a reset alone: LDX #$FF, TXS, before any call',
+  brk: 'it goes where an IRQ does',
+  sed: 'decimal sums are not proved: parts/score.inc counts by digits',
+  txs: 'S is set at a reset alone: LDX #$FF, TXS behind one another, before any call',
 };
 const BY_TABLE = 'a jump by a table leads nobody knows where: compare, and JMP';
 
@@ -57,20 +61,33 @@ function mayWrite(level, at) {
   return isFree(at) || (level !== 'nmi' && isOperand(at)) || (level === 'main' && isOwn(at));
 }
 
+/* What to write in the place of a store into an address, or ''. */
+function cureOf(at) {
+  const cures = [
+    [0x100, 0x200, 'push it, or keep it in page 2'],
+    [0x3200, 0x4000, 'an output is written by its name, as WATCHDOG, without an index'],
+    [0x4000, 0x4800, 'the driver alone writes there, so leave out a test of it'],
+    [0x4800, 0x8000, 'what changes stands in RAM (.segment "BSS")'],
+    [0x8000, 0x10000, 'write that one, by its name'],
+  ];
+  return cures.find(([low, high]) => at >= low && at < high)?.[2] ?? '';
+}
+
 function checkStore(one, level) {
   const { reached } = one;
   if (reached === null) {
-    refuse('it stores through a pointer, which may lead anywhere: store by an index');
+    refuse('it stores through a pointer, which may lead anywhere: store by an index, into an array '
+      + 'for each field (sta FIELD,x)');
   }
-  const at = reached.find((place) => !mayWrite(level, place));
+  const at = reached.find((place) => !mayWrite(level, place)), isIndexed = reached.length > 1;
   if (at === undefined) return;
-  if (reached.length > 1) {
-    const cure = one.operand < 0x400
-      ? 'let the array stand from 0200 on, and begin at 0300 or before (.segment "BSS")'
-      : 'an index is for arrays in RAM alone';
-    refuse(`by its index it may reach ${hex(at, 4)}, ${placeText(at)}: ${cure}`);
+  const does = isIndexed ? 'by its index it may reach' : 'it writes';
+  const what = `${does} ${hex(at, 4)}, ${placeText(at)}`, cure = cureOf(at);
+  if (isIndexed && one.operand < 0x400) {
+    refuse(`${what}: let the array stand from 0200 on, and begin at 0300 or before (.segment `
+      + '"BSS")');
   }
-  refuse(`it writes ${hex(at, 4)}, ${placeText(at)}${level === 'nmi' ? ', in the NMI' : ''}`);
+  refuse(`${what}${level === 'nmi' ? ', in the NMI' : ''}${cure === '' ? '' : `: ${cure}`}`);
 }
 
 function checkRead(one) {
@@ -93,10 +110,7 @@ function checkNext(program, notes, now, to) {
     refuse(`${counted(now.depth, 'byte')} on the stack, and at ${where} ${next.depth}: push and `
       + 'pull as much on each way');
   }
-  if (next.room > now.room) {
-    refuse('it needs more of the stack than there is: does a subroutine call itself, or a loop '
-      + 'push?');
-  }
+  if (next.room > now.room) refuse(DEEP);
   if (now.level === 'nmi' && next.fuel >= now.fuel) refuse(LOOPS);
   checkKept(next, now);
 }
@@ -128,8 +142,9 @@ function checkReturn(now, isBlank) {
   if (now.level === 'nmi') refuse('it returns from level nmi: the NMI ends with RTI');
   if (now.level !== 'sub') refuse(`it returns from level ${now.level}, where no call is open`);
   if (now.depth > 0) {
+    const byTable = now.depth === 2 ? '; in place of a jump by two bytes, compare, and JMP' : '';
     refuse(`it returns with ${counted(now.depth, 'byte')} more on the stack: pull what was `
-      + 'pushed, on each way');
+      + `pushed, on each way${byTable}`);
   }
   if (isBlank && !now.ends) refuse('it returns with an empty frame');
 }
@@ -184,8 +199,8 @@ function after(one, now) {
 function checkAlone(one, now) {
   const { name } = one;
   if (name === 'none') {
-    refuse(`${hex(one.opcode, 2)} is no opcode: does the program run on into data, or is a branch `
-      + 'before it always taken? Write JMP there');
+    refuse(`${hex(one.opcode, 2)} is no opcode: does the program run on into data? Write JMP for a `
+      + 'branch that is always taken, and keep text away from behind a JSR');
   }
   if (name in NEVER || one.goesByTable) refuse(NEVER[name] ?? BY_TABLE);
   if (one.writes) checkStore(one, now.level);
@@ -194,7 +209,8 @@ function checkAlone(one, now) {
     refuse('the stack has no room for it');
   }
   if ((name === 'pla' || name === 'plp') && now.depth < 1) {
-    refuse('it takes what was not pushed here: a subroutine ends by RTS alone');
+    refuse('it takes what was not pushed here: a subroutine ends by RTS alone, and gets the '
+      + 'address of a text in A and X');
   }
 }
 
@@ -212,10 +228,13 @@ function checkOne(program, notes, at) {
 }
 
 /* Where a program starts, after its reset's LDX #$FF, TXS. Refused tells the address, too. */
-export function startOf(program) {
-  let at = program.word(RESET_VECTOR);
+export function startOf(program, vector = RESET_VECTOR) {
+  let at = program.word(vector);
   for (let k = 0; k < BOOT_INSTRUCTIONS; k++) {
-    if (!isCode(at)) throw new Refused('the reset leads out of the game', at);
+    if (!isCode(at)) {
+      const low = at - 0x8000, mirror = isCode(low) ? `: let its vector be ${hex(low, 4)}` : '';
+      throw new Refused(`the reset leads out of the game${mirror}`, at);
+    }
     if (SETS_STACK.every((byte, step) => program.byte(at + step) === byte)) return at + 3;
     const one = program.at(at), why = refusalOf(() => checkBoot(one));
     if (why !== null) throw new Refused(why.message, at);
@@ -230,7 +249,8 @@ function checkBoot(one) {
   const leads = ['jmp', 'jsr', 'rts', 'rti', 'pla', 'plp'].includes(one.name)
     || one.name in BRANCHES || one.name in TRANSFERS;
   if (leads || (one.writes && one.size === 3 && one.mode.includes(','))) {
-    refuse('a reset begins with LDX #$FF, TXS; before it come loads and stores alone');
+    refuse('a reset begins with LDX #$FF, TXS; before it come loads and stores alone: '
+      + `${one.name === 'rti' ? ORDER : 'let this follow it'}`);
   }
 }
 
@@ -254,6 +274,11 @@ function checkBegin(program, notes, start) {
   }
 }
 
+/* Whether another instruction is mostly the cause of this refusal. */
+function isElsewhere(why, now) {
+  return FOLLOWS.some((end) => why.endsWith(end)) && !(why === DEEP && now.level === 'sub');
+}
+
 /* Whether an instruction may lead back: in a loop there is one that does. */
 function isBack(one) {
   return (one.branches || one.name === 'jmp') && one.operand <= one.at;
@@ -268,7 +293,7 @@ export function refusalsOf(program, notes, start, driver) {
   for (const at of [...notes.keys()].sort((a, b) => a - b)) {
     const why = refusalOf(() => checkOne(program, notes, at))?.message, one = program.at(at);
     if (why === undefined || (why === LOOPS && !isBack(one))) continue;
-    const list = FOLLOWS.some((end) => why.endsWith(end)) ? others : causes;
+    const list = isElsewhere(why, notes.get(at)) ? others : causes;
     list.push(`${program.where(at)}: ${one}: ${why}`);
   }
   const why = refusalOf(() => checkBegin(program, notes, start));
