@@ -148,8 +148,8 @@ abbrev pub is_table : Call → List Call → ℕ → Bool
 is_table call calls b =
     (nat_le (bounds calls).0 b && nat_lt b (bounds calls).1) || is_offered call.routine call.from b
 
--- those who interrupt a call leave the driver's bytes, its code, the hardware, these tables, and within its call of
--- dvg_tick the return address as they are
+-- those who interrupt a call leave the driver's bytes, its code, the vector RAM and the flag, these tables, and within its
+-- call of dvg_tick the return address as they are
 abbrev pub IsLeftAlone : Call → List Call → Type 0
 IsLeftAlone call calls =
     AreHarmless (guards (is_kept (is_table call calls)) call.from.s) call.from.s call.others call.steps call.from

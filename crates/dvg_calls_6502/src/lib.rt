@@ -60,11 +60,11 @@ pub fn redraw()
 {}
 
 /// Over all calls since a reset, with any memory at first, also interrupted ones, where nobody else
-/// writes the driver's bytes, its code, the hardware or a table that is being written: the accesses
-/// of the hardware, in their order, with the frames and redraws that were taken, are a life of the
-/// script. A frame that the program builds counts as taken at `dvg_open`. The next call may begin
-/// as soon as the answer of the one before is decided, so the ticks of an NMI are calls like the
-/// others.
+/// writes the driver's bytes, its code, the vector RAM or a table that is being written: the
+/// accesses of the hardware, in their order, with the frames and redraws that were taken, are a
+/// life of the script. A frame that the program builds counts as taken at `dvg_open`. The next call
+/// may begin as soon as the answer of the one before is decided, so the ticks of an NMI are calls
+/// like the others.
 pub fn calls_live()
     ensures { CallsLive }
 {}

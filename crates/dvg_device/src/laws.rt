@@ -38,9 +38,9 @@ pub fn state_is_restored()
 
 /// What a world tells of its driver, and each operation of the frame that is being written, is told
 /// by a number that is the request by which another world goes on with it. A device has a world
-/// over the same ROM, and was told all that a world tells. If there is memory, it goes on with
-/// that: what was told isn't refused, and its world stands after each log after which the saved one
-/// stands.
+/// over the same ROM, and was told all that a world tells that stands after a log: so its state can
+/// be saved, and its RAM is an image. If there is memory, it goes on with that: what was told isn't
+/// refused, and its world stands after each log after which the saved one stands.
 pub fn world_is_resumed()
     ensures driver { DriversArePassedOn }
     ensures operations { OperationsArePassedOn }

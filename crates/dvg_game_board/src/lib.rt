@@ -35,8 +35,8 @@ pub fn vectors_keep()
     machine_keeps();
 }
 
-/// The laws aren't empty: a run of a game that the checker accepts, up to where the driver has
-/// booted and reads byte 001.
+/// The laws aren't empty: a run of a game that the checker accepts, up to the driver's read of byte
+/// 001, the first of its boot.
 pub fn some_cabinet()
     ensures { SomeCabinet }
 {}

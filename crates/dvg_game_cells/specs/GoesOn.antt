@@ -40,7 +40,7 @@ RunsGoOn = (R image : List ℕ) (held rom : ℕ → ℕ) (machine : Machine) (wo
     (drives_board machine pins ∷ clocks)
 
 -- over RAMs and a vector ROM of zeros dvg_game_6502's example of a game, which the checker accepts, runs on the cells from power-up
--- on: the driver boots, and in the 113th clock it reads byte 001
+-- on: the driver begins its boot, and in the 113th clock it reads byte 001
 abbrev pub SomeWhole : Type 0
 SomeWhole = (machine : Machine) × (work : ℕ → ℕ) × (calm : ℕ) × (bus : Bus) × (clocks : List Bus)
     × IsWhole zeros zeros nothing (game.rom nothing) machine work calm (bus ∷ clocks) × (length clocks ≡ 112)
