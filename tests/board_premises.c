@@ -67,6 +67,8 @@ typedef struct {
 } vain;
 
 static vain refused_opens = { .what = "calls of dvg_open were refused, as the driver was busy" };
+static vain refused_offers = { .what = "calls of dvg_offer were refused, as the driver was busy" };
+static vain refused_redraws = { .what = "calls of dvg_redraw were refused, as the driver was busy" };
 static vain vain_puts = { .what = "instructions were put outside of a frame" };
 static vain left_out = {
     .what = "instructions were left out, as there is no such vector, or no room"
@@ -82,7 +84,7 @@ static vain misread = {
         "counts, and AND #SWITCHES_MASK leaves two"
 };
 static const vain *const warnings[] = {
-    &refused_opens, &vain_puts, &left_out, &lost_scales, &old_places, &misread
+    &refused_opens, &refused_offers, &refused_redraws, &vain_puts, &left_out, &lost_scales, &old_places, &misread
 };
 static vain blind_reads[RAM_END];       /* of each byte, before anything had written it */
 static uint8_t was_written[RAM_END], was_counted[RAM_END], was_used[MEMORY], was_run[MEMORY];
@@ -454,6 +456,8 @@ static void end_call(void)
     }
     if (now->routine == OPEN && is_taken) instructions = put_count = 0;
     if (now->routine == OPEN && !is_taken) note(&refused_opens);
+    if (now->routine == OFFER && !is_taken) note(&refused_offers);
+    if (now->routine == REDRAW && !is_taken) note(&refused_redraws);
     if (does_put(now->routine) && !is_taken && is_building()) note(&left_out);
     if (does_put(now->routine) && is_taken)
         note_put((uint16_t)(now->back - 3), call_above(processor.s));
