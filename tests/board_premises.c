@@ -68,7 +68,9 @@ typedef struct {
 
 static vain refused_opens = { .what = "calls of dvg_open were refused, as the driver was busy" };
 static vain refused_offers = { .what = "calls of dvg_offer were refused, as the driver was busy" };
-static vain refused_redraws = { .what = "calls of dvg_redraw were refused, as the driver was busy" };
+static vain refused_redraws = {
+    .what = "calls of dvg_redraw were refused, as the driver was busy"
+};
 static vain vain_puts = { .what = "instructions were put outside of a frame" };
 static vain left_out = {
     .what = "instructions were left out, as there is no such vector, or no room"
@@ -84,7 +86,8 @@ static vain misread = {
         "counts, and AND #SWITCHES_MASK leaves two"
 };
 static const vain *const warnings[] = {
-    &refused_opens, &refused_offers, &refused_redraws, &vain_puts, &left_out, &lost_scales, &old_places, &misread
+    &refused_opens, &refused_offers, &refused_redraws, &vain_puts, &left_out, &lost_scales,
+    &old_places, &misread
 };
 static vain blind_reads[RAM_END];       /* of each byte, before anything had written it */
 static uint8_t was_written[RAM_END], was_counted[RAM_END], was_used[MEMORY], was_run[MEMORY];
