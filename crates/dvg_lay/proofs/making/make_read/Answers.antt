@@ -1,7 +1,7 @@
 use Rattle.std.proofs.Common.{All, subst, sym}
 use Rattle.dvg_named.specs.ReadSketches.{IsSketchOf}
 use Rattle.dvg_blame.specs.Refusals.{IsLent}
-use Rattle.dvg_lay.proofs.SketchesLaid.{all_lent}
+use Rattle.dvg_blame.proofs.LentFrames.{all_lent}
 use Rattle.dvg_lay.proofs.making.make_read.Goals as goal
 
 pub make-requires : goal.make-requires
