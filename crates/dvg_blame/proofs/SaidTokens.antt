@@ -1,28 +1,17 @@
 -- What a line says, by its tokens.
-use Rattle.std.proofs.Common.{◌≡◌, ◌∙◌, ◌-◌, ◌<◌, ◌≤◌, ℕ, List, [], ◌∷◌, ◌++◌, ap, arith, cond, drop, flat_map, get_or, length, subst, sym, take}
+use Rattle.std.proofs.Common.{◌≡◌, ◌∙◌, ◌-◌, ◌≤◌, ℕ, List, [], ◌∷◌, ◌++◌, ap, arith, drop, flat_map, get_or, length, sym, take}
 use Rattle.std.proofs.Math.Seq.{take-length}
-use Rattle.std.proofs.lemmas.Bool.{le-leb, lt-leb}
 use Rattle.std.proofs.lemmas.List.{append-nil}
 use Rattle.std.specs.Borrow.{Bor}
 use Rattle.std.specs.List.{join_with_byte}
 use Rattle.dvg_read.specs.LineParts.{bytes_of}
 use Rattle.dvg_rows.specs.PlainLines.{tokens}
-use Rattle.dvg_blame.specs.Said.{after_name, said}
 use Rattle.dvg_blame.proofs.Lists.{grew}
 
 -- the first token, and a space before each other one
 pub joined : (first : Bor (List ℕ)) (rest : List (Bor (List ℕ))) → join_with_byte 32 (bytes_of (first ∷ rest)) ≡ first.now ++ flat_map (λ token. 32 ∷ token.now) rest
 joined first [] = sym (append-nil first.now)
 joined first (token ∷ rest) = ap (λ l. first.now ++ 32 ∷ l) (joined token rest)
-
-pub said_few : (line : List ℕ) (ws : List (List ℕ)) → ws ≡ tokens line → length ws ≤ 10 → said line ≡ join_with_byte 32 (after_name ws)
-said_few line ws is few =
-    let low : length (tokens line) ≤ 10 = subst (λ l. length l ≤ 10) is few in
-    ap (λ b. join_with_byte 32 (cond b (after_name (tokens line)) [])) (le-leb (length (tokens line)) 10 low)
-    ∙ ap (λ l. join_with_byte 32 (after_name l)) (sym is)
-
-pub said_none : (line : List ℕ) → 10 < length (tokens line) → said line ≡ []
-said_none line many = ap (λ b. join_with_byte 32 (cond b (after_name (tokens line)) [])) (lt-leb (length (tokens line)) 10 many)
 
 -- the first token, and the others as the code cuts them off
 pub joined_at : (tokens : List (Bor (List ℕ))) (d : Bor (List ℕ)) → 1 ≤ length tokens

@@ -423,10 +423,6 @@ abbrev pub late_of : List Bus → List Bus → ℕ
 late_of older [] = 0
 late_of older (b ∷ later) = late_of older later + mux (hold (after (later ++ older)).pace) 0 b.tick
 
-served_older : (later older : List Bus) → AreServed (later ++ older) → AreServed older
-served_older [] older are = are
-served_older (b ∷ later) older are = served_older later older are.1
-
 pub progress : (older : List Bus) (b : Bus) (later : List Bus) → AreServed (later ++ b ∷ older) → b.pins.reset ≡ 0 → b.pins.start ≡ 1 → AtRest (after older)
     → GoOn (b ∷ older) later → Progress (later ++ b ∷ older) (ticks_of later) (late_of (b ∷ older) later)
 progress older b [] are reset start rest goes = begun older b are reset start rest

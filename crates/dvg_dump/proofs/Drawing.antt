@@ -1,5 +1,5 @@
 -- The one stroke of an instruction.
-use Rattle.std.proofs.Common.{◌≡◌, ℕ, zero, suc, List, [], ◌∷◌, ◌++◌, Option, Some, None, refl, sym, ap, ◌∙◌, flat_map, append-nil}
+use Rattle.std.proofs.Common.{◌≡◌, ℕ, zero, suc, List, [], ◌∷◌, ◌++◌, Option, refl, sym, ap, ◌∙◌, flat_map, append-nil}
 use Rattle.std.proofs.lemmas.Grind.{flat_map-append}
 use Rattle.std.specs.Prelude.{option_to_list, slice_get}
 use Rattle.dvg_code.specs.declared.instr.Instr.{Instr}
@@ -12,11 +12,6 @@ use Rattle.dvg_gen.specs.Told.{nothing}
 use Rattle.dvg_dump.specs.declared.ran.Ran.{Ran}
 use Rattle.dvg_dump.specs.Ends.{drawn_by}
 use Rattle.dvg_dump.specs.Traces.{ran_of, trace}
-
--- a stroke that is drawn, or none, is the first of those that are drawn
-pub first_drawn : (stroke : Option Stroke) (strokes : List Stroke) → option_to_list stroke ≡ strokes → stroke ≡ slice_get strokes 0
-first_drawn None strokes e = ap (λ l. slice_get l 0) e
-first_drawn (Some stroke) strokes e = ap (λ l. slice_get l 0) e
 
 one_line : (from to : Beam) (z : ℕ) → option_to_list (slice_get (line from to z) 0) ≡ line from to z
 one_line from to zero = refl

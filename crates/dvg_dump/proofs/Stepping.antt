@@ -167,10 +167,6 @@ followed_first memory machine trail after begins_fresh = record {
     no_word : {A : Type 0} {w : ℕ} → ◌≡◌ {A = Option ℕ} None (Some w) → A
     no_word e = absurd (cc)
 
--- a generator that follows a run is open
-pub followed_open : {traces : Bool} {memory : ℕ → Option ℕ} {words : ℕ} {machine : Machine} {trail : Trail} → Followed traces memory words machine trail → machine.is_open ≡ true
-followed_open f = f.follows.after.stands.is_open ∙ ap (λ run. run.is_open) f.follows.run
-
 -- what a step answers of a run that is followed
 pub next_step : {traces : Bool} {memory : ℕ → Option ℕ} {words address : ℕ} {old : Machine} {before : Trail} (new : Machine) (trail : Trail) (answer : Option Reply) (f : Followed traces memory words old before)
     → words < 65536 → Some address ≡ wants f.follows.after.run → Steps memory address old before new trail answer → Stepped memory traces words address new trail answer

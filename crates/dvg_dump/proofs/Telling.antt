@@ -107,17 +107,6 @@ module _ (found : Option Spelled) (address word : ℕ) (old new : Trail)
       clash : {A : Type 0} → true ≡ false → A
       clash e = absurd (cc)
 
--- nothing is recorded where nothing is asked for
-pub traces_nothing : (address word : ℕ) (old : Trail) → old.traces ≡ false → TracesWord address (Some word) old old
-traces_nothing address word old silent = λ traces memory visits visits' held held' f t. record {
-  flag = t.flag;
-  beside = λ on. clash (sym on ∙ sym t.flag ∙ silent);
-  silent = t.silent;
-}
-  where
-    clash : {A : Type 0} → true ≡ false → A
-    clash e = absurd (cc)
-
 -- what words that were decoded are read as
 pub read_as : {E : Type 0} (words written : List ℕ) (found : Instr × ℕ) (equal : Bool) → ((instr : Instr) (count : ℕ) → Fronts words instr count → ◌≡◌ {A = Result (Instr × ℕ) E} (Ok found) (Ok (instr, count)))
     → written ≡ canon found.0 → equal ≡ pointwise nat_eq written words → (code : Instr) → Fronts words code (length words)

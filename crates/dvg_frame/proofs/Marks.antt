@@ -1,8 +1,8 @@
 -- A list that grows at its end, and the table of what it holds.
-use Rattle.std.proofs.Common.{◌≡◌, ℕ, zero, suc, ◌+◌, ◌<◌, ◌≤◌, ◌⊎◌, inl, inr, ⊎_elim, List, [], ◌∷◌, ◌++◌, length, get_or, get_or-set_same, set, replicate, Some, refl, sym, ap, ◌∙◌, subst, arith, append-nil, append_assoc, length-append, length-set, get_or-set_other, Bool, true, false, cond}
+use Rattle.std.proofs.Common.{◌≡◌, ℕ, zero, suc, ◌+◌, ◌<◌, ◌≤◌, ◌⊎◌, inl, inr, ⊎_elim, List, [], ◌∷◌, ◌++◌, length, get_or, set, replicate, refl, sym, ap, ◌∙◌, subst, arith, append-nil, append_assoc, length-append, length-set, get_or-set_other, Bool, true, false, cond}
 use Rattle.std.specs.List.{Contains, All, count_by}
 use Rattle.std.proofs.lemmas.List.{length-replicate, get_or-replicate}
-use Rattle.std.proofs.lemmas.List.Elements.{All-nil, All-pop, All-push, Contains-append_left, Contains-push, Contains-push_cases}
+use Rattle.std.proofs.lemmas.List.Elements.{All-nil, All-push, Contains-append_left, Contains-push, Contains-push_cases}
 use Rattle.std.proofs.lemmas.List.Sums.{sum_by-set, sum_by-cons, count_by-le-length}
 use Rattle.std.proofs.lemmas.Bool.{cases_lt, cases_eq}
 use Rattle.std.proofs.Math.ListN.{get_or-eq_default}
@@ -129,27 +129,6 @@ module _ (marks : List Bool) (items : List Pair) (marked : AreMarked marks items
           valid = subst (All IsPair) (sym new_is) (All-push IsPair items pair marked.listed.valid valid);
         };
         counted = omega arith;
-      }
-
--- the last pair is taken out, and its mark is taken back
-module _ (marks : List Bool) (items rest : List Pair) (pair : Pair) (listed : AreListed marks items) (is : items ≡ rest ++ pair ∷ []) where
-  pub last_pair : IsPair pair
-  last_pair = (All-pop IsPair items rest (Some pair) is listed.valid).1
-
-  pub pop_listed : (i : ℕ) → i ≡ index pair → i < PAIRS → AreListed (set marks i false) rest
-  pop_listed i i_is low =
-      let size = listed.size in
-      let within : i < length marks = omega arith in
-      record {
-        size = length-set marks i false ∙ size;
-        held = λ other valid is_set.
-            ⊎_elim
-            (λ same. let never : false ≡ true = sym (get_or-set_same marks i false false within) ∙ ap (λ k. get_or (set marks i false) k false) (sym same) ∙ is_set in absurd (cc))
-            (λ differ.
-            let before = listed.held other valid (sym (get_or-set_other marks i (index other) false false differ) ∙ is_set) in
-            ⊎_elim (λ held. held) (λ last. absurd (differ (ap index (sym last) ∙ sym i_is))) (Contains-push_cases rest pair other (subst (λ xs. Contains xs other) is before)))
-            (cases_eq (index other) i);
-        valid = (All-pop IsPair items rest (Some pair) is listed.valid).0;
       }
 
 -- with no item left, no mark is set

@@ -1,5 +1,5 @@
 -- What the table says of the whole draft, once it has operation 0.
-use Rattle.std.proofs.Common.{◌≡◌, ℕ, suc, ◌+◌, ◌<◌, ◌≤◌, ◌^◌, List, Option, Some, refl, sym, ◌∙◌, subst, arith, true}
+use Rattle.std.proofs.Common.{◌≡◌, ℕ, suc, ◌+◌, ◌<◌, ◌≤◌, ◌^◌, List, Option, Some, refl, subst, arith, true}
 use Rattle.dvg_mem.specs.Memory.{IsRom}
 use Rattle.dvg_gen.specs.declared.beam.Beam.{Beam}
 use Rattle.dvg_frame.specs.declared.op.OpKind.{OpKind}
@@ -12,14 +12,10 @@ use Rattle.dvg_frame.specs.Loops.{HasLoop}
 use Rattle.dvg_frame.specs.own.Pairs.{IsPlace}
 use Rattle.dvg_frame.specs.Picture.{AtHalt, Draws, IsBound}
 use Rattle.dvg_frame.specs.Steps.{Reached, begin, step, Closed, Begins}
-use Rattle.dvg_frame.specs.own.Tables.{IsRefused, known_at, HasNone, FitsAt, GoesTo, IsKnown, IsTable, end_of}
+use Rattle.dvg_frame.specs.own.Tables.{IsRefused, known_at, FitsAt, GoesTo, IsKnown, IsTable, end_of}
 use Rattle.dvg_frame.proofs.Firsts.{closed_by}
 use Rattle.dvg_frame.proofs.Bounded.{at_depth_0, bound_low}
 use Rattle.dvg_frame.proofs.Turns.{walks_few}
-
--- a table that has nothing is right
-pub none_right : (F : List OpKind) (R : List ℕ) (table : List (Option Drawn)) → HasNone table → IsTable F R table
-none_right F R table none p drawn inside is = let never : ◌≡◌ {A = Option Drawn} _ (Some drawn) = sym (none p inside) ∙ is in absurd cc
 
 module _ (F : List OpKind) (R : List ℕ) (begins : Begins F) (table : List (Option Drawn)) (entries : IsTable F R table) (first : Drawn) (inside : IsPlace (InFrame 0)) (is : known_at table (InFrame 0) ≡ Some first) where
   known : IsKnown F R table (InFrame 0) first

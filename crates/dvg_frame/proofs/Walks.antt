@@ -1,5 +1,5 @@
 -- At one depth a place leads to one place at most.
-use Rattle.std.proofs.Common.{◌≡◌, ℕ, zero, suc, ◌+◌, List, refl, sym, ◌∙◌, subst, arith}
+use Rattle.std.proofs.Common.{◌≡◌, ℕ, zero, suc, List, refl, sym, ◌∙◌, subst, arith}
 use Rattle.dvg_code.specs.Acts.{Act, Moves, Jumps, Calls, Returns, Halts}
 use Rattle.dvg_frame.specs.declared.op.OpKind.{OpKind}
 use Rattle.dvg_frame.specs.declared.place.Place.{Place}
@@ -43,26 +43,6 @@ module _ (F : List OpKind) (R : List ℕ) where
 
   pub leads_once : {p q r : Place} {d : ℕ} → Leads F R p d q d → Leads F R p d r d → q ≡ r
   leads_once {p} {q} {r} one other = goes_once p q r (goes_from one) (goes_from other)
-
-  -- walks of one length from one place end at one place
-  walks_same : {d n m : ℕ} {p o q r : Place} → Walks F R d p n q → m ≡ n → o ≡ p → Walks F R d o m r → q ≡ r
-  walks_same none count start none = sym start
-  walks_same none count start (more leads walk) = absurd (omega arith)
-  walks_same (more leads walk) count start none = absurd (omega arith)
-  walks_same {d} (more {p = p} {q = next} leads walk) count start (more {q = other} leads' walk') =
-      let from : Leads F R p d other d = subst (λ x. Leads F R x d other d) start leads' in
-      walks_same walk (omega arith) (leads_once from leads) walk'
-
-  pub walks_once : {d n : ℕ} {p q r : Place} → Walks F R d p n q → Walks F R d p n r → q ≡ r
-  walks_once one other = walks_same one refl refl other
-
-  -- one walk after another
-  pub walks_on : {d m n : ℕ} {p q r : Place} → Walks F R d p m q → Walks F R d q n r → Walks F R d p (m + n) r
-  walks_on {d} {m} {n} {p} {q} {r} none next = subst (λ k. Walks F R d p k r) (omega arith) next
-  walks_on {d} {m} {n} {p} {q} {r} (more {n = k} leads walk) next =
-      let both : Walks F R d _ (k + n) r = walks_on walk next in
-      let count : suc (k + n) ≡ suc k + n = omega arith in
-      subst (λ k. Walks F R d p k r) count (more leads both)
 
   -- a place that comes back to itself begins walks of any length
   pub turns_from : (d n : ℕ) {j k : ℕ} {p q : Place} → Walks F R d p (suc k) p → Walks F R d q j p → (end : Place) × Walks F R d q n end

@@ -1,12 +1,8 @@
 -- Known bytes over several reads and writes.
-use Rattle.std.proofs.Common.{◌≡◌, ℕ, ◌+◌, ◌-◌, ◌≤◌, List, [], ◌++◌, Option, None, Some, length, take, drop, sym, ap, ◌∙◌, append_assoc, append-nil, take-append-drop, length-append, arith, refl}
+use Rattle.std.proofs.Common.{◌≡◌, ℕ, ◌+◌, ◌-◌, ◌≤◌, List, [], ◌++◌, Option, None, Some, length, take, drop, sym, ap, ◌∙◌, append_assoc, append-nil, take-append-drop, length-append, arith}
 use Rattle.std.proofs.lemmas.List.{take_rest}
 use Rattle.std.specs.Io.KnownBytes.{Appends, Consumes, Keeps}
 use Rattle.dvg_io.specs.Watching.{TakesAtMost}
-
-pub Keeps-refl : (known : Option (List ℕ)) → Keeps known known
-Keeps-refl None = tt
-Keeps-refl (Some xs) = refl
 
 pub Appends-nil : (known : Option (List ℕ)) → Appends known known []
 Appends-nil None = tt

@@ -1,5 +1,5 @@
 -- How far a text has gone out.
-use Rattle.std.proofs.Common.{◌≡◌, ℕ, List, [], ◌++◌, Option, OnErr, Result, Ok, Err}
+use Rattle.std.proofs.Common.{◌≡◌, ℕ, List, [], ◌++◌, Option, Result, Ok, Err}
 use Rattle.std.proofs.Common.{refl, sym, ap, ◌∙◌, subst, append_assoc, append-nil}
 use Rattle.std.specs.Io.KnownBytes.{Appends}
 use Rattle.dvg_io.specs.declared.watched.Watched.{Watched}
@@ -52,13 +52,6 @@ pub second_begun : (first second : List ℕ) {old now new : Option (List ℕ)} �
 second_begun first second {old = old} wrote begun =
     let went = piece_more first second (nothing (first ++ second) old) refl wrote in
     piece_begun second [] went (sym (append-nil second)) begun
-
--- or only what an error says
-pub or_second_begun : {V E : Type 0} (first second : List ℕ) (old now new : Option (List ℕ)) (answer : Result V E)
-    → Appends old now first → OnErr answer (BeginsToWrite second now new)
-    → OnErr answer (BeginsToWrite (first ++ second) old new)
-or_second_begun first second old now new (Ok done) wrote begun = tt
-or_second_begun first second old now new (Err fault) wrote begun = second_begun first second wrote begun
 
 -- a text that went out whole, and nothing failed
 abbrev pub Wrote : {W : Type 0} → (contents : W → Option (List ℕ)) → (text : List ℕ) → (old new : Watched W) → Type 0

@@ -118,9 +118,6 @@ module _ (R : List ℕ) (F : List OpKind) (rom : IsRom R) (draft : IsDraft F) (n
   ops : ReadsOps F (draft_lines F) []
   ops = subst (λ text. ReadsOps F text []) (append-nil (draft_lines F)) (draft_read F [] draft.ops numbered)
 
-  ops_end : (ls : List (List ℕ)) → ls ++ lines [] ≡ ls
-  ops_end ls = append-nil ls
-
   short : (text front : List ℕ) → text ≡ front ++ (given_lines (first_word R) (words_of R) ++ draft_lines F) → length front ≤ 9 → length (words_of R) ≤ 2048 → length text ≤ MOST_TEXT_BYTES
   short text front is few count =
       let rows = rows_length (first_word R) (words_of R) in

@@ -1,5 +1,5 @@
 -- How many runs of a log drew a half.
-use Rattle.std.proofs.Common.{◌≡◌, ◌≤◌, ◌+◌, ℕ, suc, Bool, true, false, ◌&&◌, not, cond, [], ◌∷◌, length, ap, ◌∙◌, arith, refl, sym}
+use Rattle.std.proofs.Common.{◌≡◌, ◌≤◌, ◌+◌, ℕ, suc, Bool, true, false, ◌&&◌, not, cond, [], ◌∷◌, length, ap, ◌∙◌, arith, refl}
 use Rattle.dvg_log.specs.Log.{Line, Log, open_run}
 use Rattle.dvg_world.specs.Judging.{draws_half}
 use Rattle.dvg_print.specs.declared.log_verdict.LogCounts.{LogCounts}
@@ -30,9 +30,6 @@ pub drew_same : (line : Line) (log : Log) → draws_from line log ≡ false → 
 drew_same line log draws =
     let same : drew_of (line ∷ log) ≡ 0 + drew_of log = ap (λ b. cond b 1 0 + drew_of log) draws in
     omega (arith, same)
-
-pub drew_told : (line : Line) (log : Log) (draws : Bool) → draws ≡ draws_from line log → drew_of (line ∷ log) ≡ cond draws 1 0 + drew_of log
-drew_told line log draws is = ap (λ b. cond b 1 0 + drew_of log) (sym is)
 
 abbrev with_drew : LogCounts → ℕ → LogCounts
 with_drew counts n = record counts { drew = n }

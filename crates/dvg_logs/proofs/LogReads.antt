@@ -1,5 +1,5 @@
 -- How a log's text is read, line by line.
-use Rattle.std.proofs.Common.{◌≡◌, ◌<◌, ◌≤◌, ◌+◌, ℕ, List, [], ◌∷◌, ◌++◌, Option, reverse, length, refl, sym, ap, ◌∙◌, subst, arith, eqb, false, append_assoc, append-nil, length-append, Bool, Result, Ok, Err, IfErr, OnOk, true, true≢false, ⊎_elim, None, Some, take}
+use Rattle.std.proofs.Common.{◌≡◌, ◌<◌, ◌≤◌, ◌+◌, ℕ, List, [], ◌∷◌, ◌++◌, Option, reverse, length, refl, sym, ap, ◌∙◌, subst, arith, eqb, false, append_assoc, append-nil, length-append, Bool, Result, Ok, Err, IfErr, true, true≢false, ⊎_elim, None, Some, take}
 use Rattle.std.specs.List.{AllZip, onto_first}
 use Rattle.std.proofs.lemmas.List.{reverse-append, length-reverse}
 use Rattle.std.proofs.lemmas.List.Elements.{All-head, All-tail, All-append}
@@ -175,11 +175,6 @@ if_err_weaker (Err e) f p = f e p
 
 pub begun : {J : Type 0} {base : Option ℕ} {Stands : J → Log → Type 0} {Passes : Log → Type 0} (judged : JudgedLines J) → Stands judged.judge [] → Passes [] → judged.base ≡ base → judged.count ≡ 0 → HasJudged base Stands Passes judged []
 begun judged stands passes based none = record { log = []; fine = record { tells = tt; holds = passes }; stands = stands; based = based; count = none; fits = omega arith }
-
--- what is said of each, where it is done
-pub on_ok_all : {T E X : Type 0} (H Q : X → Type 0) (answer : Result T E) → ((x : X) → H x → OnOk answer (Q x)) → OnOk answer ((x : X) → H x → Q x)
-on_ok_all H Q (Ok done) f = f
-on_ok_all H Q (Err e) f = tt
 
 -- no byte is left, or some are
 pub none_left : (bytes : List ℕ) → eqb (length bytes) 0 ≡ true → bytes ≡ []

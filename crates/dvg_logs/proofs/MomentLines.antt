@@ -14,7 +14,7 @@ use Rattle.dvg_logs.specs.declared.log_line.LogLine.TheVariants as code
 use Rattle.dvg_log.specs.Log.{◌⟼◌, Line, Log, open_run}
 use Rattle.dvg_moment.specs.Judging.{IsTorn}
 use Rattle.dvg_moment.specs.Moment.{OfOneMoment, reads, told}
-use Rattle.dvg_moment.proofs.Latest.{past_on, still_of_one, torn_on}
+use Rattle.dvg_moment.proofs.Latest.{past_on, torn_on}
 use Rattle.dvg_print.specs.declared.moment_verdict.Reading.{Reading}
 use Rattle.dvg_print.specs.declared.moment_verdict.Reading.TheVariants as of
 use Rattle.dvg_logs.specs.MomentLogs.{AreDecided, IsSound, TornSince, judged_log, halted_of, halts_run, is_past_zero, judged_of, reading_entry}
@@ -48,10 +48,6 @@ module _ (log : Log) (event : Happening) (entry : Shown) (goes : entry ≢ Start
   pub silent_tears : (tear : Option Tear) → ((a : ℕ) → reads log entry a ≡ None) → (open_run log ≡ open_run ((event ⟼ entry) ∷ log)) → TearsSo tear log → TearsSo tear ((event ⟼ entry) ∷ log)
   silent_tears None none same whole = λ torn. whole ((λ e. torn.0 (sym same ∙ e)), λ one. torn.1 (keeps none one))
   silent_tears (Some tear) none same since = since_on tear.line (Fetch ⟼ reading_entry tear.reading) (λ opened e. opened (same ∙ e)) since
-
--- a run that begins isn't torn, and none is open that ended
-pub start_tears : (log : Log) → ¬ IsTorn ((Strobe ⟼ Started) ∷ log)
-start_tears log torn = torn.1 (still_of_one told ((Strobe ⟼ Started) ∷ log) tt)
 
 -- a line that reads may leave no moment
 open_on : (reading : Reading) (log : Log) → open_run log ≢ None → open_run ((Fetch ⟼ reading_entry reading) ∷ log) ≢ None

@@ -1,5 +1,5 @@
 -- Lines that tell numbers, at the head of a text.
-use Rattle.std.proofs.Common.{◌≡◌, ◌<◌, ◌≤◌, ◌+◌, ◌*◌, ◌-◌, ℕ, List, [], ◌∷◌, ◌++◌, length, get_or, take, drop, min, refl, sym, ap, ◌∙◌, subst, arith, eqb, false, append_assoc, append-nil, length-append, bit_or, codes, zero, suc, Option, None}
+use Rattle.std.proofs.Common.{◌≡◌, ◌<◌, ◌≤◌, ◌+◌, ◌*◌, ◌-◌, ℕ, List, [], ◌∷◌, ◌++◌, length, get_or, take, drop, min, refl, sym, ap, ◌∙◌, subst, arith, eqb, false, append_assoc, length-append, bit_or, codes, zero, suc, Option, None}
 use Rattle.std.specs.Prelude.{⊤}
 use Rattle.std.specs.Char.{digit_value, to_ascii_lowercase}
 use Rattle.std.specs.Str.Lines.{strip_carriage_return}
@@ -183,15 +183,6 @@ module _ {J V : Type 0} {Stands : J → Log → Type 0} {Passes : List V → Log
     split = head.split;
     unended = head.unended;
     judged = λ base said before judged. takes base said before head.line judged (head.tells base (holds base judged.based));
-  }
-
-  pub none_taken : (judged : JudgedLines J) (text : List ℕ) → TakesLines Stands Passes judged judged text text
-  none_taken judged text = record {
-    front = [];
-    split = refl;
-    read = λ base said before read. subst (IsRead base Stands (Passes said) judged []) (sym (append-nil before)) read;
-    farther = omega arith;
-    some = λ some. absurd (omega (arith, some));
   }
 
   pub one_taken : {old between new : JudgedLines J} {text rest after : List ℕ} → TakesLines Stands Passes old between text rest → TakesLine Stands Passes between new rest after → new.count ≡ between.count + 1 → TakesLines Stands Passes old new text after

@@ -36,11 +36,6 @@ rom_there R a low high =
     ap (λ b. if b && nat_lt a 0xC00 then Some (word_in R (a - first_word R)) else None) (le-leb (first_word R) a low)
     ∙ ap (λ b. if b then Some (word_in R (a - first_word R)) else None) (lt-ltb a 0xC00 high)
 
-pub small_there : (R : List ℕ) (a : ℕ) → length R ≡ 2048 → 0x800 ≤ a → a < 0xC00 → rom_word R a ≡ Some (word_in R (a - 0x800))
-small_there R a size low high =
-    let first = small_first R size in
-    rom_there R a (omega arith) high ∙ ap (λ f. Some (word_in R (a - f))) first
-
 byte_fits : (R : List ℕ) (j : ℕ) → IsRom R → j < length R → slice_index R j < 256
 byte_fits R j rom within = All-get_or (λ byte. byte < 256) R j 0 within rom.bytes
 

@@ -1,6 +1,6 @@
 -- What lines read.
-use Rattle.std.proofs.Common.{◌≡◌, ◌≢◌, ℕ, ◌+◌, ◌*◌, ◌/◌, ◌%◌, inl, inr, refl, sym, ◌∙◌, Option, Some, None, Bool, true, false, arith}
-use Rattle.std.specs.Prelude.{◌==◌, ◌&&◌, if◌then◌else◌}
+use Rattle.std.proofs.Common.{◌≡◌, ◌≢◌, ℕ, ◌+◌, ◌*◌, ◌/◌, inl, inr, refl, sym, ◌∙◌, Option, Some, None, Bool, true, arith}
+use Rattle.std.specs.Prelude.{◌==◌}
 use Rattle.std.proofs.lemmas.Bool.Decides.{eqb_tells}
 use Rattle.std.proofs.lemmas.Option.{none-some}
 use Rattle.dvg_log.specs.declared.entry.Entry.TheVariants.{Low}
@@ -32,14 +32,3 @@ word_at waits x w a r = elim (eqb_tells a (2 * x + 1)) [
     | inr u ↦ absurd (r (rw (t.0, u.0) refl))
   ])
 ]
-
--- where the low byte waits, the high one alone is read
-pub high_alone : (x w a : ℕ) → word_reads true x w a ≢ None → a ≡ 2 * x + 1
-high_alone x w a r = elim (eqb_tells a (2 * x + 1)) [
-  | inl t ↦ t.1
-  | inr t ↦ absurd (r (rw t.0 (last (a == 2 * x))))
-]
-  where
-    last : (t : Bool) → (if t && false then Some (w % 256) else None) ≡ None
-    last true = refl
-    last false = refl

@@ -9,7 +9,7 @@ use Rattle.std.proofs.lemmas.Option.{none-some, same_Some}
 use Rattle.dvg_gen.specs.declared.stroke.Stroke.{Stroke}
 use Rattle.dvg_driver.specs.declared.action.Action.TheVariants.{Wrote, Idle}
 use Rattle.dvg_log.specs.Events.{Happening}
-use Rattle.dvg_log.specs.declared.event.Event.TheVariants.{Tick, Strobe, Fetch, ResetGen, ResetAll}
+use Rattle.dvg_log.specs.declared.event.Event.TheVariants.{Tick, Strobe, Fetch, ResetAll}
 use Rattle.dvg_log.specs.Entries.{Shown}
 use Rattle.dvg_log.specs.declared.entry.Entry.TheVariants.{Acted, Started, Low, Fetched, Done, Cleared}
 use Rattle.dvg_log.specs.Log.{Line, ◌⟼◌, Log, waiting, open_run}
@@ -204,10 +204,6 @@ module _ (judge : MomentJudge) (log : Log) (address word : ℕ) (strokes : List 
 -- nothing is read
 
 module _ (judge : MomentJudge) (log : Log) (s : StandsAfter judge log) where
-  pub ended_stands : StandsAfter (after_end judge) ((ResetGen ⟼ Cleared) ∷ log)
-  ended_stands =
-      ends log ResetGen Cleared (λ e. cc) (λ a c. c) (λ a. refl) (λ a. ((λ h. h), λ h. h)) judge judge (none_read judge (λ a. None) s.sizes (λ a l. refl)) s refl refl
-
   pub passed_stands : StandsAfter judge ((Tick ⟼ Acted Idle) ∷ log)
   passed_stands =
       goes_on log Tick (Acted Idle) (λ e. cc) (λ a c. c) (λ a. refl) (λ a. ((λ h. h), λ h. h)) judge judge (none_read judge (λ a. None) s.sizes (λ a l. refl)) s judge.low ((λ o. o), λ o. o) s.waits

@@ -1,7 +1,6 @@
 -- Where the operations of frames stand in one list, with a frame more.
-use Rattle.std.proofs.Common.{◌≡◌, ◌≤◌, ◌-◌, ◌+◌, ℕ, List, [], ◌∷◌, ◌++◌, length, take, drop, refl, sym, ap, subst, ◌∙◌, arith, suc, zero, length-append}
+use Rattle.std.proofs.Common.{◌≡◌, ◌≤◌, ◌-◌, ◌+◌, ℕ, List, [], ◌∷◌, ◌++◌, length, take, drop, refl, sym, ap, subst, arith, suc, zero, length-append}
 use Rattle.std.specs.List.{AllZip}
-use Rattle.std.proofs.lemmas.List.{take_all}
 use Rattle.dvg_frame.specs.declared.op.OpKind.{OpKind}
 use Rattle.dvg_named.specs.declared.joining.FrameSpan.{FrameSpan}
 use Rattle.dvg_named.specs.declared.frame_rows.FrameRows as held
@@ -10,7 +9,6 @@ use Rattle.dvg_rows.specs.HeldRows.{rows_of}
 use Rattle.dvg_named.specs.Meanings.{IsDrafted}
 use Rattle.dvg_named.specs.Places.{Laid}
 use Rattle.dvg_rows.specs.RowPlaces.{doings}
-use Rattle.dvg_rows.specs.RowValues.{name_of}
 
 pub drop_front : {X : Type 0} (xs ys : List X) → drop (length xs) (xs ++ ys) ≡ ys
 drop_front [] ys = refl
@@ -55,25 +53,3 @@ pub spans_grown : (laid : List Laid) (old new more : List OpKind) (frames : List
     → new ≡ old ++ more → AllZip (IsSpanOf laid old) frames spans → AllZip (IsSpanOf laid new) frames spans
 spans_grown laid old new more frames spans e h =
     subst (λ ops. AllZip (IsSpanOf laid ops) frames spans) (sym e) (spans_more laid old more frames spans h)
-
--- the operations of a frame, after others
-pub span_here : (laid : List Laid) (old new draft : List OpKind) (frame : held.FrameRows) (span : FrameSpan)
-    → new ≡ old ++ draft → span.start ≡ length old → span.end ≡ length new → span.name ≡ frame.name
-    → span.begin ≡ frame.begin
-    → AllZip (IsDrafted laid (rows_of frame.rows.now)) (doings (rows_of frame.rows.now)) draft → IsSpanOf laid new frame span
-span_here laid old new draft frame span grown start end name begin drafted =
-    let size = ap length grown in
-    let is : take (span.end - span.start) (drop span.start new) ≡ draft =
-    ap (λ s. take (span.end - span.start) (drop s new)) start
-    ∙ ap (λ ops. take (span.end - span.start) (drop (length old) ops)) grown
-    ∙ ap (take (span.end - span.start)) (drop_front old draft)
-    ∙ take_all (span.end - span.start) draft (omega (arith, size, start, end, length-append old draft)) in
-    record {
-      from = omega (arith, size, start, end, length-append old draft);
-      to = omega (arith, end);
-      begin = begin;
-      is = record {
-        name = ap name_of name;
-        draft = subst (AllZip (IsDrafted laid (rows_of frame.rows.now)) (doings (rows_of frame.rows.now))) (sym is) drafted;
-      };
-    }

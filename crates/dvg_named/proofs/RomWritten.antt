@@ -35,15 +35,6 @@ use Rattle.dvg_rows.proofs.RowSizes.{size_front}
 
 -- ---- words that are put after others
 
-pub no_words_put : (place : ℕ) (old : List ℕ) → ((i : ℕ) → get_or old i 0 < 256) → ArePut place [] old old
-no_words_put place old fits = record {
-  count = refl;
-  inside = λ j low. absurd (omega arith);
-  before = λ j low. refl;
-  after = λ j high. refl;
-  fits = fits;
-}
-
 module _ (place : ℕ) (words more old mid new : List ℕ) (first : ArePut place words old mid)
     (second : ArePut (place + length words) more mid new) where
   by_place : (j : ℕ) → j < length (words ++ more) → (j < length words) ⊎ (length words ≤ j)
@@ -139,15 +130,6 @@ pub record Written (laid : List Laid) (ds : List Doing) (place : ℕ) (old now :
   pub encoded : AllZip (IsEncoded laid) ds instrs
   pub put : ArePut place (words_of instrs) old now
   pub next_is : next ≡ place + length (words_of instrs)
-
-pub nothing_written : (laid : List Laid) (place : ℕ) (old : List ℕ) → ((i : ℕ) → get_or old i 0 < 256)
-    → Written laid [] place old old place
-nothing_written laid place old fits = record {
-  instrs = [];
-  encoded = tt;
-  put = no_words_put place old fits;
-  next_is = omega arith;
-}
 
 pub written_more : (laid : List Laid) (ds all : List Doing) (place next after : ℕ) (old mid new : List ℕ) (doing : Doing)
     (instr : Instr) → Written laid ds place old mid next → IsEncoded laid doing instr

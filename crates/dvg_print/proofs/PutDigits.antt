@@ -1,13 +1,11 @@
 -- Digits that are put into a line from its end to its front.
 use Rattle.std.proofs.Common.{◌≡◌, ℕ, zero, suc, ◌+◌, ◌-◌, ◌*◌, ◌/◌, ◌%◌, ◌^◌, ◌<◌, ◌≤◌, Bool, true, ◌&&◌, T, eqb, List}
 use Rattle.std.proofs.Common.{[], ◌∷◌, ◌++◌, length, set, get_or, drop, ap, ◌∙◌, sym, inl, inr, arith, eq-zero-or-pos}
-use Rattle.std.proofs.Common.{eqb→eq, append-nil, append_assoc, length-append, length-set, decimal}
+use Rattle.std.proofs.Common.{eqb→eq, length-set, decimal}
 use Rattle.std.proofs.lemmas.Fmt.{length-decimal-le}
 use Rattle.std.proofs.lemmas.List.{drop-append-le, drop-drop, drop-set, set_comm}
 use lib.Ieee.Fits.{and_l, and_r}
-use Rattle.dvg_print.specs.Lines.{spaced}
 use Rattle.dvg_print.specs.Numbering.{padded}
-use Rattle.dvg_print.specs.Shows.{position_text}
 use Rattle.dvg_print.specs.declared.digits.TheConstants.{PAIRS}
 use Rattle.dvg_print.proofs.EightDigits.{length_padded, padded_text}
 
@@ -47,19 +45,6 @@ two_put bytes end tens ones some inside =
     ∙ drop-set (set bytes (end - 1) ones) (end - 2) tens (omega (arith, length-set bytes (end - 1) ones))
     ∙ ap (λ k. tens ∷ drop k (set bytes (end - 1) ones)) next
     ∙ ap (λ rest. tens ∷ rest) (one_put bytes end ones (omega arith) inside)
-
--- a part of a line
-pub one_part : (text : List ℕ) → spaced (text ∷ []) ≡ 32 ∷ text
-one_part text = ap (λ rest. 32 ∷ rest) (append-nil text)
-
--- a position, by its two numbers
-pub position_put : (x y : ℕ) (rest last all : List ℕ) → last ≡ spaced (decimal y ∷ []) ++ rest
-    → all ≡ decimal x ++ last → all ≡ position_text x y ++ rest
-position_put x y rest last all second first = first ∙ ap (λ l. decimal x ++ l) second
-    ∙ sym (append_assoc (decimal x) (spaced (decimal y ∷ [])) rest)
-
-pub position_length : (x y : ℕ) → length (position_text x y) ≡ length (decimal x) + length (spaced (decimal y ∷ []))
-position_length x y = length-append (decimal x) (spaced (decimal y ∷ []))
 
 -- a number of at most k digits, by its last k digits with zeros before it
 pub digits_put : (k n end : ℕ) (all rest : List ℕ) → n < 2 ^ 64 → length (decimal n) ≤ k → k ≤ end

@@ -1,5 +1,5 @@
 -- The words that a line gives, and the bytes of a ROM.
-use Rattle.std.proofs.Common.{◌≡◌, ◌≢◌, ◌+◌, ◌-◌, ◌<◌, ◌≤◌, ℕ, List, [], ◌∷◌, ◌++◌, length, zero, suc, set, get_or, take, drop, codes, refl, sym, ap, subst, ◌∙◌, arith, below_more, true, false, nat_le, nat_lt, slice_index, ◌⊎◌, inl, inr}
+use Rattle.std.proofs.Common.{◌≡◌, ◌+◌, ◌-◌, ◌<◌, ◌≤◌, ℕ, List, [], ◌∷◌, ◌++◌, length, zero, suc, set, get_or, take, drop, codes, sym, ap, subst, ◌∙◌, arith, true, false, nat_le, nat_lt, slice_index, ◌⊎◌, inl, inr}
 use Rattle.std.specs.Borrow.{Bor}
 use Rattle.std.proofs.lemmas.Bool.{cases_lt, le-leb, le-ltb, lt-leb, lt-ltb}
 use Rattle.std.proofs.lemmas.List.{get_or-map, length-map, length-take-le, map_more, take_all}
@@ -30,17 +30,6 @@ pub record PutTo (first k : ℕ) (words old now : List ℕ) : Type 0 where
   pub inside : (j : ℕ) → j < k → word_in now (first + j) ≡ slice_index words j
   pub before : (j : ℕ) → j < first → word_in now j ≡ word_in old j
   pub behind : (j : ℕ) → first + k ≤ j → word_in now j ≡ word_in old j
-
-pub none_put : (first : ℕ) (words R : List ℕ) → PutTo first 0 words R R
-none_put first words R = record { inside = λ j h. absurd (omega arith); before = λ j h. refl; behind = λ j h. refl }
-
-pub word_put : (first k word : ℕ) (words old now new : List ℕ) → PutTo first k words old now → word ≡ slice_index words k → word_in new (first + k) ≡ word
-    → ((j : ℕ) → j ≢ first + k → word_in new j ≡ word_in now j) → PutTo first (k + 1) words old new
-word_put first k word words old now new p is put others = record {
-  inside = below_more _ _ (λ j h. others (first + j) (omega arith) ∙ p.inside j h) (put ∙ is);
-  before = λ j h. others j (omega arith) ∙ p.before j h;
-  behind = λ j h. others j (omega arith) ∙ p.behind j (omega arith);
-}
 
 -- which word stands at an address after a line
 word_inside : (address : ℕ) (words : List ℕ) (a word : ℕ) → address ≤ a → a < address + length words → word_after_line (record { address = address; words = words }) a word ≡ slice_index words (a - address)

@@ -146,9 +146,6 @@ leads_to s ls p =
 parts_offer : parts (codes "offer") ≡ codes "offer" ∷ []
 parts_offer = refl
 
-parts_end : parts (codes "end") ≡ codes "end" ∷ []
-parts_end = refl
-
 map_is_no_offer : (rest : List (List ℕ)) → codes "map" ∷ rest ≡ codes "offer" ∷ [] → ⊥
 map_is_no_offer rest e = absurd cc
 

@@ -1,6 +1,6 @@
 -- Two lists of the same length, place by place.
-use Rattle.std.proofs.Common.{◌≡◌, ◌<◌, ℕ, zero, suc, List, [], ◌∷◌, ◌++◌, length, get_or, refl, ap, subst, arith}
-use Rattle.std.specs.List.{AllZip, Contains}
+use Rattle.std.proofs.Common.{◌≡◌, ◌<◌, ℕ, zero, suc, List, [], ◌∷◌, ◌++◌, length, get_or, refl, ap, arith}
+use Rattle.std.specs.List.{AllZip}
 
 module _ {A B : Type 0} (R : A → B → Type 0) where
   pub zip_push : (xs : List A) (ys : List B) (x : A) (y : B) → AllZip R xs ys → R x y → AllZip R (xs ++ x ∷ []) (ys ++ y ∷ [])
@@ -22,10 +22,6 @@ module _ {A B : Type 0} (R : A → B → Type 0) where
   zip_at (a ∷ xs) [] k d h l = absurd h
   zip_at (a ∷ xs) (b ∷ ys) zero d h l = (a, h.0)
   zip_at (a ∷ xs) (b ∷ ys) (suc k) d h l = zip_at xs ys k d h.1 (omega arith)
-
-  -- what goes with an item
-  pub zip_in : (xs : List A) (ys : List B) (y : B) → AllZip R xs ys → Contains ys y → (x : A) × R x y
-  zip_in xs ys y h c = let found = zip_at xs ys c.0 y h c.1 in (found.0, subst (R found.0) c.2 found.1)
 
   -- the items go with one list only, where each goes with one item only
   pub zip_same : ((x y : A) (z : B) → R x z → R y z → x ≡ y) → (xs ys : List A) (zs : List B) → AllZip R xs zs → AllZip R ys zs → xs ≡ ys

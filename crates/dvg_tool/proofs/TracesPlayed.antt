@@ -1,5 +1,5 @@
 -- From what was read of a trace to what the reader had.
-use Rattle.std.proofs.Common.{◌≡◌, ◌+◌, ℕ, List, [], inl, inr, ⊎_elim, Bool, true, false, Option, Result, Ok, Err, length, take, length-take, ap, subst, sym, arith}
+use Rattle.std.proofs.Common.{◌≡◌, ◌+◌, ℕ, List, [], inl, inr, ⊎_elim, Bool, true, false, Option, Result, Err, length, take, length-take, ap, subst, sym, arith}
 use Rattle.std.specs.Io.KnownBytes.{Appends}
 use Rattle.dvg_read.specs.declared.fault.TextFault.{TextFault}
 use Rattle.dvg_read.specs.declared.fault.TextFault.TheVariants.{TooLong, Syntax, Full, Many, Unended}
@@ -15,7 +15,7 @@ use Rattle.dvg_io.specs.Serving.{Answers, IsFinding, OfInput}
 use Rattle.dvg_io.specs.Watching.{BeginsToWrite, stream_of}
 use Rattle.dvg_io.proofs.Inputs.{whole}
 use Rattle.dvg_io.proofs.Known.{Appends-nil}
-use Rattle.dvg_tool.specs.Plays.{IsPlayed, IsShown, Plays, StopsBeforeShowing, log_text}
+use Rattle.dvg_tool.specs.Plays.{IsShown, Plays, StopsBeforeShowing, log_text}
 use Rattle.dvg_read.specs.declared.draft_text.TheConstants.{MOST_TEXT_BYTES}
 
 -- the fault of what was read is that of the input
@@ -37,11 +37,6 @@ pub misread : {F : Type 0} (Finds : List ℕ → F → Type 0) (answer : Result 
     → StopsReading stop read → OfInput MOST_TEXT_BYTES read (λ input. IsFinding (Finds input) (HasTraceFault input) answer)
 misread Finds answer stop read is h =
     subst (λ answer. OfInput MOST_TEXT_BYTES read (λ input. IsFinding (Finds input) (HasTraceFault input) answer)) (sym is) (misread_by Finds stop read h)
-
--- a log is played whole, and what is shown of it went out
-pub plays_whole : {T : Type 0} (all : Bool) (shown : List ℕ) (done : T) (old new : Option (List ℕ)) (input : List ℕ)
-    → IsShown all true input shown × Appends old new shown → Plays all (Ok done) input old new
-plays_whole all shown done old new input h = (h.0.log, subst (λ later. IsPlayed input h.0.log later) h.0.ends h.0.played, subst (Appends old new) h.0.holds h.1)
 
 -- or up to where it stopped
 pub plays_part : (T : Type 0) (all : Bool) (shown : List ℕ) (old new : Option (List ℕ)) (input : List ℕ)

@@ -105,11 +105,6 @@ not_within Nothing not run draws =
 not_within Begun not run draws = ap draws_half draws
 not_within (Within half) not run draws = absurd (not half refl)
 
--- what a log's open run draws
-pub drawn_as : (log : Log) (half : Half) → IsRunIn (open_run log) half → IsBeingDrawn log half
-drawn_as log half within =
-    record { later = within.later; target = within.target; fetches = within.fetches; in_half = within.in_half }
-
 pub as_drawn : (log : Log) (half : Half) → IsBeingDrawn log half → IsRunIn (open_run log) half
 as_drawn log half drawn =
     record { later = drawn.later; target = drawn.target; fetches = drawn.fetches; in_half = drawn.in_half }

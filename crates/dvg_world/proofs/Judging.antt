@@ -126,10 +126,6 @@ pub record IsJudged {A : Type 0} (events : List Happening) (entries : List (OwnE
   pub whole : Throughout IsUntorn (log_of events (take n entries))
   pub count : length (log_of events (take n entries)) ≡ n
 
--- nothing is drawn before the first line
-pub nothing_open : FitsRun Nothing None
-nothing_open = (λ e. cc, λ half within. let e = within.fetches in absurd (cc))
-
 pub none_judged : {A : Type 0} (events : List Happening) (entries : List (OwnEntry A)) (judge : Judge) → StandsAfter judge [] → IsJudged events entries 0 judge
 none_judged {A} events entries judge stands = record {
   stands = subst (StandsAfter judge) (sym (log_of-none A events)) stands;

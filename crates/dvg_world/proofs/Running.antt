@@ -99,9 +99,3 @@ module _ {old world : State} {IsKept Before : Log → Type 0} {number done : ℕ
 pub keeps_begin : {world : State} {IsKept : Log → Type 0} (number : ℕ) (event : Happening)
     → KeepsRun world IsKept number event 0 world IsKept
 keeps_begin number event = λ R image log after kept count. adds_none event after kept
-
--- as many lines as there are
-pub keeps_all : {old new : State} {IsKept Later : Log → Type 0} (number : ℕ) (event : Happening) {done times : ℕ} → done ≡ times
-    → KeepsRun old IsKept number event done new Later → KeepsRun old IsKept number event times new Later
-keeps_all {old} {new} {IsKept} {Later} number event is kept =
-    subst (λ n. KeepsRun old IsKept number event n new Later) is kept

@@ -3,7 +3,7 @@ use Rattle.std.proofs.Common.{◌≡◌, ℕ, ◌<◌, Bool, true, false, List, 
 use Rattle.std.proofs.lemmas.Bool.{eqb-true, eqb-false}
 use Rattle.std.proofs.lemmas.Option.{none-some, same_Some}
 use Rattle.std.proofs.lemmas.List.{get_or-set_other, get_or-set_same}
-use Rattle.std.specs.Prelude.{◌↔◌, IsTrue, IsNone, IsOk, OnErr, Result, Ok, Err, is_ok, is_some, is_none, slice_index, slice_set, nat_eq, if◌then◌else◌}
+use Rattle.std.specs.Prelude.{◌↔◌, IsTrue, IsNone, OnErr, Result, Ok, Err, is_some, is_none, slice_index, slice_set, nat_eq, if◌then◌else◌}
 use Rattle.dvg_mem.specs.Areas.{half_of_high, other}
 use Rattle.dvg_mem.specs.Memory.{fetched_byte, IsImage, IsRom}
 use Rattle.dvg_gen.specs.Bytes.{Met, met, Waits, Whole, word_of}
@@ -32,7 +32,6 @@ use Rattle.dvg_log.specs.Entries.{Shown, entry_by, map_entry}
 use Rattle.dvg_log.specs.declared.entry.Entry.{Entry}
 use Rattle.dvg_log.specs.declared.entry.Entry.TheVariants.{Offered, Refused, Busy, Asked, NothingPublished, Acted, Started, NoStrobe, Still, Cleared}
 use Rattle.dvg_log.specs.Log.{◌⟼◌, Log, ram, low_byte, meets, history, open_run, life, strobed}
-use Rattle.dvg_log.specs.Legal.{Fits}
 use Rattle.dvg_world.specs.Desks.{Driven, IsFresh, OfferAnswers, RedrawAnswers}
 use Rattle.dvg_world.specs.Standing.{State, StandsAt, WorldAfter, AddsLine, ChangesNothing, KeepsHeadlineAfter, KeepsLogs, DrawsNow}
 use Rattle.dvg_world.specs.own.Stepping.{ram_by, sent_by}
@@ -392,17 +391,9 @@ pub open_of : (wanted : Option ℕ) (address : ℕ) (is_open : Bool) → wanted 
 open_of wanted address true is halted = refl
 open_of wanted address false is halted = let none = halted.1 refl in absurd (cc)
 
--- an error is no success
-pub not_ok : {T E : Type 0} {result : Result T E} {error : E} → result ≡ Err error → ¬ (IsOk result)
-not_ok same ok = absurd (cc (ap is_ok same))
-
 pub on_err : {T E P : Type 0} (result : Result T E) → P → OnErr result P
 on_err (Ok value) p = tt
 on_err (Err error) p = p
-
--- the line that an event adds is the one that the event gets
-pub fits_line : {old new : State} {event : Happening} {entry : Shown} → AddsLine old event entry new → (R image : List ℕ) (log : Log) → WorldAfter R image log old → Fits R image log event entry
-fits_line adds R image log after = (adds R image log after).legal.0
 
 -- and keeps the headline, as every legal log does
 pub keeps_headline : {old new : State} (event : Happening) (entry : Shown) → AddsLine old event entry new → KeepsHeadlineAfter old event entry
