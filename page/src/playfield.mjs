@@ -80,12 +80,14 @@ function shapeLines() {
   return [...rocks, ...digits];
 }
 
+/* What each frame ends with: the saucer and all shapes. */
+export const FRAME_END = [...linesOfPath(SAUCER, 9, 1, 14), 'halt', ...shapeLines()].join('\n');
+
 /* One frame of the playfield, by its time. */
 function frameLines(time) {
   return [
     ...shipLines(time), 'labs 60 925 1', ...SCORE.map((digit) => `call ${digit}`),
-    ...rockLines(time), `labs ${300 + 12 * time} 745 0`, ...linesOfPath(SAUCER, 9, 1, 14), 'halt',
-    ...shapeLines(),
+    ...rockLines(time), `labs ${300 + 12 * time} 745 0`, FRAME_END,
   ];
 }
 
