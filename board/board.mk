@@ -23,8 +23,9 @@
 #: make emulator  runs it without a screen, and compares what it does with the proved driver, and
 #:                what it shows with its frames
 #: make torn      runs it without a screen, and has it judged by dvg torn
-#: make play      runs it with a screen
-#: make record    the same, and records what is pressed there as BUTTONS
+#: make play      runs it with a screen; where MAME isn't there, it is make page
+#: make record    runs it with a screen, and records what is pressed there as BUTTONS
+#: make page      writes build/page.html, on which it plays alone: for a browser, a friend, any host
 #: make watch     draws frames and shapes of the sketches again whenever one of their files changes:
 #:                open build/watch.html in a browser
 #: make eproms    writes what is burned into build/eproms; make test-rom does so for a test ROM
@@ -37,6 +38,7 @@
 #: FILM     the seconds of the film, the first and the last one [3 12]
 #: WATCH    labels whose bytes judge prints at the end, as: lives score:4
 #: BUTTONS  the file of presses that all but play and torn play [buttons.txt, if it is there]
+#: TITLE    what the page calls the game [the name of the folder]
 #: WATCHED  how many rounds watch goes on: in each it looks at the files, draws, and rests a second
 
 # Relative where the makefile includes this file so: make takes no path with a blank in it.
@@ -52,6 +54,8 @@ JUDGED ?= 20
 RATE ?= 30
 FILM ?= 3 12
 BUTTONS ?= buttons.txt
+TITLE ?= $(notdir $(CURDIR))
+MAME ?= $(or $(shell command -v mame),$(wildcard /usr/games/mame))
 $(shell mkdir -p build)
 .DEFAULT_GOAL := roms
 
@@ -197,11 +201,16 @@ help:
 
 find_screen = @[ "$$(uname)" != Linux ] || [ -n "$$DISPLAY$$WAYLAND_DISPLAY" ] || { \
     echo '$@: no screen is here; make emulator takes pictures, make judge plays' >&2 && exit 1; }
-mame = $$(command -v mame || echo /usr/games/mame) $(MACHINE) -rompath roms -skip_gameinfo
+mame = $(or $(MAME),mame) $(MACHINE) -rompath roms -skip_gameinfo
 
-play: build/roms/$(MACHINE)
+play: $(if $(MAME),build/roms/$(MACHINE),page)
+ifneq ($(MAME),)
 	$(find_screen)
 	cd build && $(mame)
+endif
+
+page: build/$(PROGRAM).program build/rom
+	@$(BOARD)../page/game $^ '$(subst ','\'',$(TITLE))' build/page.html
 
 record: build/roms/$(MACHINE)
 	$(find_screen)
@@ -220,5 +229,6 @@ clean:
 
 .SECONDARY:
 .DELETE_ON_ERROR:
-.PHONY: help emulator torn premises proof judge sound film play record watch eproms test-rom clean
+.PHONY: help emulator torn premises proof judge sound film
+.PHONY: help play record page watch eproms test-rom clean
 .PHONY: roms good_buttons

@@ -6,6 +6,7 @@
 // FOLDER is for what is thrown away. Where tests are named, they alone are run, up to the first
 // failure. The last line is 'N passed, M failed'.
 import { spawnSync } from 'node:child_process';
+import { createHash } from 'node:crypto';
 import { existsSync, mkdirSync, readFileSync, writeFileSync } from 'node:fs';
 import { Arcade, HERTZ } from '../page/src/arcade.mjs';
 import { VERDICT, judgeProgram } from '../page/src/checker.mjs';
@@ -17,6 +18,7 @@ import { OPCODES, Processor } from '../page/src/processor.mjs';
 import { Program, labelsOf } from '../page/src/programs.mjs';
 import { linesOfListing } from '../page/src/twin.mjs';
 import { packedGames } from '../page/games.mjs';
+import { runPage, scriptOf } from './page_stage.mjs';
 
 const [program, work] = process.argv.slice(2, 4), events = Number(process.argv[5]),
   named = process.argv.slice(6);
@@ -335,6 +337,87 @@ function testNmi() {
   }
 }
 
+// --- A page of a game alone ---
+
+// The page that page/game makes of a game.
+function pageOf(folder, title) {
+  const { program: bytes, shapes } = GAMES.get(folder), out = `${work}/${folder}.html`;
+  const files = [[`${work}/${folder}.program`, bytes], [`${work}/${folder}.rom`, shapes]];
+  for (const [name, data] of files) writeFileSync(name, data);
+  const { status, stdout, stderr } = spawnSync(`${top}page/game`,
+    [...files.map(([name]) => name), title, out]);
+  if (status !== 0) throw new Error(`page/game: ${stderr}`);
+  const html = readFileSync(out, 'utf8');
+  expect(`${folder}: its size is told`, true,
+    stdout.toString().includes(`: ${Buffer.byteLength(html)} bytes: `));
+  return html;
+}
+
+// The page of a game alone holds its bytes, and modules as they are; its policy lets in its own
+// script and style. It draws what the board draws, and takes keys and touches.
+async function testGamePage() {
+  for (const folder of ['bat', 'first']) {
+    const html = pageOf(folder, `${folder} <&> more`), script = scriptOf(html);
+    const { program: bytes, shapes } = GAMES.get(folder);
+    expect('its title', true, html.includes(`<title>${folder} &lt;&amp;&gt; more</title>`));
+    for (const text of [script, /<style>([^]*)<\/style>/.exec(html)[1]]) {
+      const digest = createHash('sha256').update(text).digest('base64');
+      expect('its policy names it', true, html.includes(`'sha256-${digest}'`));
+    }
+    const [program64, shapes64] = [bytes, shapes].map((data) => Buffer.from(data).toString(
+      'base64'));
+    expect('its bytes', true,
+      script.includes(`const GAME = {"program": "${program64}", "shapes": "${shapes64}"};`));
+    for (const name of ['processor', 'arcade', 'screen']) {
+      const text = readFileSync(`${top}page/src/${name}.mjs`, 'utf8').split(/^import .*\n/m).at(-1);
+      expect(`${name} is that of the page`, true,
+        script.includes(text.replace(/^export /gm, '').trim()));
+    }
+    await playPage(folder, html);
+  }
+}
+
+// `make page` makes that page.
+function testMakePage() {
+  if (!hasTools) return console.log('skipped: make page: ca65 is not here');
+  programs();
+  for (const folder of ['bat', 'first']) {
+    const place = `${work}/made/${folder}`;
+    const asked = ['-s', '-C', place, 'page', `TITLE=the ${folder}'s`];
+    const { status, stderr } = spawnSync('make', asked, { env: { ...process.env, DVG: program } });
+    expect(`make page of ${folder}: ${stderr}`, 0, status);
+    expect(`the page of ${folder}`, true,
+      readFileSync(`${place}/build/page.html`, 'utf8') === pageOf(folder, `the ${folder}'s`));
+  }
+  return null;
+}
+
+// Plays a page, beside a board with the same game and the same presses.
+async function playPage(folder, html) {
+  const page = await runPage(html), arcade = boardOf(folder, {});
+  const pass = (count) => {
+    page.pass(count);
+    for (let k = 0; k < count; k++) arcade.run(Math.round(page.frame * HERTZ / 1000));
+    const begun = arcade.picture.strokes.map(([x, y]) => [x, y]);
+    expect(`${folder}: where the strokes of the newest picture begin`, begun,
+      page.begun.slice(-begun.length));
+  };
+  pass(100);
+  expect(`${folder}: strokes are seen`, true, arcade.picture.strokes.length > 3);
+  for (const [type, isDown] of [['keydown', true], ['keyup', false]]) {
+    page.keys.happen(type, { key: '1' });
+    page.inputs.left.happen(isDown ? 'pointerdown' : 'pointerup');
+    for (const name of ['start1', 'left']) arcade.press(name, isDown);
+    pass(60);
+  }
+  page.parts.pause.happen('click');
+  const before = page.begun.length;
+  page.pass(100);
+  expect(`${folder}: it pauses`, before, page.begun.length);
+  expect(`${folder}: no fault is told`, '', page.parts['game-said'].textContent);
+  arcade.free();
+}
+
 // --- Files ---
 
 // What a game is dropped as, by names and by bytes.
@@ -421,7 +504,7 @@ function zipsOf(files) {
 
 const TESTS = [
   testSteps, testBuilt, testChecker, testJudges, testMendedBoard, testRate, testBoard, testNmi,
-  testGameFiles, testOutlines,
+  testGamePage, testMakePage, testGameFiles, testOutlines,
 ];
 for (const test of TESTS) if (named.length === 0 || named.includes(test.name)) await test();
 end();

@@ -1,6 +1,7 @@
 /* The page: what its buttons do, and what it shows. */
 import { COMMAND, Engine } from './engine.mjs';
 import { Board, MOST_EVENTS } from './board.mjs';
+import { bytesOfBase64 } from './hex.mjs';
 import { byId, setText, tellBoth } from './parts.mjs';
 import { AREA, SIGN, areaOf } from './signs.mjs';
 import { playSteps, replay, stepsOf, traceOf } from './traces.mjs';
@@ -1049,13 +1050,6 @@ function makeEditors() {
     editor.addPicks('Example', names, (name) => useDraft(editor, EXAMPLES[name]));
     editor.addPicks('Save as', Object.keys(SAVES), (name) => saveAs(editor, name));
   }
-}
-
-function bytesOfBase64(text) {
-  if (Uint8Array.fromBase64) return Uint8Array.fromBase64(text);
-  const characters = atob(text), bytes = new Uint8Array(characters.length);
-  for (let at = 0; at < bytes.length; at++) bytes[at] = characters.charCodeAt(at);
-  return bytes;
 }
 
 async function begin() {

@@ -1,24 +1,16 @@
-/* A game on the page: it runs at its own pace, and is judged meanwhile. Tested, not proved. */
-import { Arcade, HERTZ } from './arcade.mjs';
+/* A game on the page: it is judged while it runs. Tested, not proved. */
+import { HERTZ } from './arcade.mjs';
 import { VERDICT, judgeProgram } from './checker.mjs';
 import { gameOf, unzipped } from './eproms.mjs';
 import { byId, setText } from './parts.mjs';
+import { Player, listenToPlayer } from './player.mjs';
 import { Program, isDriver } from './programs.mjs';
-import { Screen } from './screen.mjs';
 import { counted } from './words.mjs';
 
-/* What a frame of the animation makes up for at most, in milliseconds. */
-const MOST_LATE = 100;
-/* How often the texts are shown, and how long a picture stays on the tube that is the last one, in
- * milliseconds and in seconds of the board. */
-const TEXTS_AFTER = 200, GLOW = 0.5;
+/* How often the texts are shown, in milliseconds. */
+const TEXTS_AFTER = 200;
 /* How many seconds of the board go by until what comes of a change is told. */
 const ANSWER_AFTER = 3;
-/* Which key is which button. */
-const GAME_KEYS = {
-  ArrowLeft: 'left', ArrowRight: 'right', ArrowUp: 'thrust', ' ': 'fire', Shift: 'hyperspace',
-  5: 'coin', 1: 'start1', 2: 'start2',
-};
 /* What a beginning presses by itself: the button, from which second on, and until which. */
 const OPENING = [['coin', 0.4, 0.6], ['start1', 1, 1.3]];
 /* The mistake that a game may have: the first stores into the vector RAM in place of a put. */
@@ -56,13 +48,11 @@ const OUTCOMES = {
   on: 'it goes on as before',
 };
 
-export class Play {
+export class Play extends Player {
   /* `games` are those that are built in, and `driver` the driver's bytes. */
   constructor(engine, games, driver) {
-    Object.assign(this, { engine, games, driver, arcade: null, program: null, isShown: false });
-    Object.assign(this, { isPaused: false, textsAt: 0, drawn: null, guess: null, script: [] });
-    this.screen = new Screen(byId('tube'));
-    this.frame = this.frame.bind(this);
+    super(engine);
+    Object.assign(this, { games, driver, program: null, textsAt: 0, guess: null });
   }
 
   /* --- Games --- */
@@ -108,10 +98,8 @@ export class Play {
   restart() {
     const { program, shapes, labels } = this.game;
     const bytes = byId('mistake').checked ? withMistake(program) : program;
-    this.arcade?.free();
-    this.arcade = new Arcade(this.engine, bytes, shapes);
+    this.insert(bytes, shapes);
     this.program = new Program(bytes, labels);
-    this.bytes = bytes;
     this.changeBoard();
     this.judge();
     this.setPaused(false);
@@ -228,82 +216,17 @@ export class Play {
     return `${rate} pictures a second, ${seconds.toFixed(1)} s: ${others.join(', ')}.`;
   }
 
-  /* --- Time --- */
-
-  setShown(isShown) {
-    const begins = isShown && !this.isShown;
-    this.isShown = isShown;
-    if (begins) this.go();
+  tell(now) {
+    if (now - this.textsAt <= TEXTS_AFTER) return;
+    this.textsAt = now;
+    this.showTexts();
   }
-
-  setPaused(isPaused) {
-    this.isPaused = isPaused;
-    setText(byId('pause'), isPaused ? 'Play' : 'Pause');
-    this.go();
-  }
-
-  go() {
-    this.last = performance.now();
-    if (this.isRunning || this.isPaused || !this.isShown) return;
-    this.isRunning = true;
-    requestAnimationFrame(this.frame);
-  }
-
-  /* A frame of the animation: so much of the board's time as has gone by. */
-  frame() {
-    this.isRunning = this.isShown && !this.isPaused;
-    if (!this.isRunning) return;
-    const now = performance.now(), passed = Math.min(MOST_LATE, now - this.last);
-    this.last = now;
-    this.run(passed / 1000);
-    this.draw();
-    if (now - this.textsAt > TEXTS_AFTER) {
-      this.textsAt = now;
-      this.showTexts();
-    }
-    requestAnimationFrame(this.frame);
-  }
-
-  /* Lets seconds of the board pass. */
-  run(seconds) {
-    const { arcade } = this, before = arcade.number;
-    const now = arcade.processor.cycles / HERTZ;
-    for (const [button, from, to] of this.script) arcade.press(button, now >= from && now < to);
-    arcade.run(Math.round(seconds * HERTZ));
-    if (arcade.number > before) this.seenAt = arcade.processor.cycles;
-  }
-
-  /* The same, on a canvas that is empty. */
-  drawAnew() {
-    this.screen.key = '';
-    if (this.arcade !== null) this.draw();
-  }
-
-  /* The newest picture; none where none was finished for long. A torn one is red. */
-  draw() {
-    const { arcade } = this, { picture } = arcade;
-    const isLit = picture !== null && arcade.processor.cycles - this.seenAt < GLOW * HERTZ;
-    const seen = isLit ? picture : null;
-    const tear = seen?.torn ? { wanted: [], next: [], wrong: seen.strokes } : null;
-    this.screen.draw(seen, null, false, tear);
-    byId('tube').dataset.strokes = seen?.strokes.length ?? 0;
-  }
-
-  /* --- Hands --- */
-
-  press(name, isDown) {
-    this.script = [];
-    this.arcade.press(name, isDown);
-  }
-
-  releaseAll() { this.arcade?.inputs.clear(); }
 }
 
-/* Keys, touches and buttons of the game. */
+/* Keys, touches and buttons of the game, and those of its board. */
 export function listenToPlay(play) {
   const on = (id, name, act) => byId(id).addEventListener(name, act);
-  listenToGameKeys(play);
-  for (const button of document.querySelectorAll('[data-input]')) listenToTouch(play, button);
+  listenToPlayer(play);
   on('game-wire', 'click', () => {
     const isCut = byId('game-wire').getAttribute('aria-pressed') === 'true';
     byId('game-wire').setAttribute('aria-pressed', String(!isCut));
@@ -312,39 +235,7 @@ export function listenToPlay(play) {
   on('beam', 'change', () => play.changeBoard());
   on('strobes-ignored', 'change', () => play.changeBoard());
   on('mistake', 'change', () => play.restart());
-  on('restart', 'click', () => play.restart());
-  on('pause', 'click', () => play.setPaused(!play.isPaused));
   for (const button of document.querySelectorAll('[data-guess]')) {
     button.addEventListener('click', () => play.takeGuess(button.dataset.guess));
   }
-  addEventListener('blur', () => play.releaseAll());
-}
-
-/* The keys are the game's, but where something has the focus that takes keys itself. */
-function listenToGameKeys(play) {
-  for (const [type, isDown] of [['keydown', true], ['keyup', false]]) {
-    document.addEventListener(type, (event) => {
-      const name = GAME_KEYS[event.key];
-      const isTaken = event.target.closest?.('button, select, input, textarea, a, summary, pre');
-      if (!play.isShown || name === undefined || isTaken || event.ctrlKey || event.metaKey) return;
-      play.press(name, isDown);
-      event.preventDefault();
-    });
-  }
-}
-
-/* A button is pressed as long as a finger or a key is on it. */
-function listenToTouch(play, button) {
-  const set = (isDown) => (event) => {
-    play.press(button.dataset.input, isDown);
-    button.classList.toggle('down', isDown);
-    event.preventDefault();
-  };
-  button.addEventListener('pointerdown', set(true));
-  for (const type of ['pointerup', 'pointercancel', 'pointerleave', 'blur']) {
-    button.addEventListener(type, set(false));
-  }
-  const isPress = (event) => event.key === 'Enter' || event.key === ' ';
-  button.addEventListener('keydown', (event) => { if (isPress(event)) set(true)(event); });
-  button.addEventListener('keyup', (event) => { if (isPress(event)) set(false)(event); });
 }

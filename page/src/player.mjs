@@ -1,0 +1,138 @@
+/* A game on its tube: it runs at its own pace, and takes keys and touches. Tested, not proved. */
+import { Arcade, HERTZ } from './arcade.mjs';
+import { byId, setText } from './parts.mjs';
+import { Screen } from './screen.mjs';
+
+/* What a frame of the animation makes up for at most, in milliseconds. */
+const MOST_LATE = 100;
+/* How long a picture stays on the tube that is the last one, in seconds of the board. */
+const GLOW = 0.5;
+/* Which key is which button. */
+const GAME_KEYS = {
+  ArrowLeft: 'left', ArrowRight: 'right', ArrowUp: 'thrust', ' ': 'fire', Shift: 'hyperspace',
+  5: 'coin', 1: 'start1', 2: 'start2',
+};
+
+export class Player {
+  constructor(engine) {
+    Object.assign(this, { engine, arcade: null, isShown: false, isPaused: false, script: [] });
+    this.screen = new Screen(byId('tube'));
+    this.frame = this.frame.bind(this);
+  }
+
+  /* Puts a program and its vector ROM into a board, which begins. */
+  insert(program, shapes) {
+    this.arcade?.free();
+    this.arcade = new Arcade(this.engine, program, shapes);
+  }
+
+  /* --- Time --- */
+
+  setShown(isShown) {
+    const begins = isShown && !this.isShown;
+    this.isShown = isShown;
+    if (begins) this.go();
+  }
+
+  setPaused(isPaused) {
+    this.isPaused = isPaused;
+    setText(byId('pause'), isPaused ? 'Play' : 'Pause');
+    this.go();
+  }
+
+  go() {
+    this.last = performance.now();
+    if (this.isRunning || this.isPaused || !this.isShown) return;
+    this.isRunning = true;
+    requestAnimationFrame(this.frame);
+  }
+
+  /* A frame of the animation: so much of the board's time as has gone by. */
+  frame() {
+    this.isRunning = this.isShown && !this.isPaused;
+    if (!this.isRunning) return;
+    const now = performance.now(), passed = Math.min(MOST_LATE, now - this.last);
+    this.last = now;
+    this.run(passed / 1000);
+    this.draw();
+    this.tell(now);
+    requestAnimationFrame(this.frame);
+  }
+
+  /* Shows texts after a frame, where there are some. */
+  tell() {}
+
+  /* Lets seconds of the board pass. */
+  run(seconds) {
+    const { arcade } = this, before = arcade.number;
+    const now = arcade.processor.cycles / HERTZ;
+    for (const [button, from, to] of this.script) arcade.press(button, now >= from && now < to);
+    arcade.run(Math.round(seconds * HERTZ));
+    if (arcade.number > before) this.seenAt = arcade.processor.cycles;
+  }
+
+  /* The same, on a canvas that is empty. */
+  drawAnew() {
+    this.screen.key = '';
+    if (this.arcade !== null) this.draw();
+  }
+
+  /* The newest picture; none where none was finished for long. A torn one is red. */
+  draw() {
+    const { arcade } = this, { picture } = arcade;
+    const isLit = picture !== null && arcade.processor.cycles - this.seenAt < GLOW * HERTZ;
+    const seen = isLit ? picture : null;
+    const tear = seen?.torn ? { wanted: [], next: [], wrong: seen.strokes } : null;
+    this.screen.draw(seen, null, false, tear);
+    byId('tube').dataset.strokes = seen?.strokes.length ?? 0;
+  }
+
+  /* --- Hands --- */
+
+  press(name, isDown) {
+    this.script = [];
+    this.arcade.press(name, isDown);
+  }
+
+  releaseAll() { this.arcade?.inputs.clear(); }
+}
+
+/* Keys, touches and buttons of a game; `player` has restart(), too. */
+export function listenToPlayer(player) {
+  const on = (id, act) => byId(id).addEventListener('click', act);
+  listenToGameKeys(player);
+  for (const button of document.querySelectorAll('[data-input]')) listenToTouch(player, button);
+  on('restart', () => player.restart());
+  on('pause', () => player.setPaused(!player.isPaused));
+  addEventListener('blur', () => player.releaseAll());
+}
+
+/* The keys are the game's, but where something has the focus that takes keys itself. */
+function listenToGameKeys(player) {
+  for (const [type, isDown] of [['keydown', true], ['keyup', false]]) {
+    document.addEventListener(type, (event) => {
+      const name = GAME_KEYS[event.key];
+      const isTaken = event.target.closest?.('button, select, input, textarea, a, summary, pre');
+      if (!player.isShown || name === undefined || isTaken) return;
+      if (event.ctrlKey || event.metaKey) return;
+      player.press(name, isDown);
+      event.preventDefault();
+    });
+  }
+}
+
+/* A button is pressed as long as a finger or a key is on it. */
+function listenToTouch(player, button) {
+  const set = (isDown) => (event) => {
+    player.press(button.dataset.input, isDown);
+    button.classList.toggle('down', isDown);
+    event.preventDefault();
+  };
+  button.addEventListener('pointerdown', set(true));
+  for (const type of ['pointerup', 'pointercancel', 'pointerleave', 'blur']) {
+    button.addEventListener(type, set(false));
+  }
+  const isPress = (event) => event.key === 'Enter' || event.key === ' ';
+  button.addEventListener('keydown', (event) => { if (isPress(event)) set(true)(event); });
+  button.addEventListener('keyup', (event) => { if (isPress(event)) set(false)(event); });
+}

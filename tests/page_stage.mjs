@@ -1,0 +1,69 @@
+// A page's script under node, without a browser: its parts hold what they are given, nothing is
+// painted but kept where strokes begin, and time passes as it is told.
+import { createContext, runInContext } from 'node:vm';
+
+// How long a frame of the animation takes, in milliseconds.
+const FRAME = 1000 / 64;
+
+// A part of a page, which is called what its id or its data-input is.
+class Part {
+  constructor(name) {
+    Object.assign(this, { dataset: { input: name }, listeners: {}, attributes: {}, style: {} });
+    Object.assign(this, { textContent: '', clientWidth: 400, clientHeight: 400, width: 0 });
+    this.classList = { add() {}, remove() {}, toggle() {} };
+  }
+
+  addEventListener(type, act) { (this.listeners[type] ??= []).push(act); }
+
+  setAttribute(name, value) { this.attributes[name] = value; }
+
+  getAttribute(name) { return this.attributes[name] ?? null; }
+
+  focus() {}
+
+  getContext() { return new Proxy({ canvas: this }, { get: (held, name) => held[name] ?? none }); }
+
+  // Lets something happen to it.
+  happen(type, event = {}) {
+    const told = { target: this, preventDefault() {}, ...event };
+    for (const act of this.listeners[type] ?? []) act(told);
+  }
+}
+
+function none() {}
+
+// The script of a page.
+export function scriptOf(html) {
+  return /<script type="module">([^]*)<\/script>/.exec(html)[1];
+}
+
+// Runs a page; `more` are other names that its script finds. Returns its parts by their ids, and by
+// names of what they press; `keys`, which takes keys; `pass`, by which frames pass; and `begun`:
+// where each stroke began that was painted.
+export async function runPage(html, more = {}) {
+  const named = (form) => [...html.matchAll(form)].map(([, name]) => [name, new Part(name)]);
+  const parts = Object.fromEntries(named(/ id="([^"]+)"/g));
+  const inputs = Object.fromEntries(named(/data-input="(\w+)"/g));
+  const keys = new Part(''), body = new Part('');
+  const frames = [], begun = [];
+  let now = 0;
+  const global = {
+    document: Object.assign(keys, {
+      body, getElementById: (id) => parts[id], querySelectorAll: () => Object.values(inputs),
+    }),
+    performance: { now: () => now }, requestAnimationFrame: (frame) => frames.push(frame),
+    Path2D: class { moveTo(...place) { begun.push(place); } lineTo() {} }, ResizeObserver: class { observe() {} },
+    addEventListener: (...words) => body.addEventListener(...words),
+    matchMedia: () => ({ matches: false }), devicePixelRatio: 1, navigator: {}, WebAssembly, atob,
+    ...more,
+  };
+  runInContext(scriptOf(html), createContext(global));
+  while (body.dataset.ready === undefined) await new Promise((done) => { setImmediate(done); });
+  const pass = (count) => {
+    for (let k = 0; k < count; k++) {
+      now += FRAME;
+      for (const frame of frames.splice(0)) frame();
+    }
+  };
+  return { parts, inputs, keys, body, pass, begun, frame: FRAME };
+}
