@@ -12,6 +12,7 @@ import { Arcade, HERTZ } from '../page/src/arcade.mjs';
 import { VERDICT, judgeProgram } from '../page/src/checker.mjs';
 import { Engine, KIND } from '../page/src/engine.mjs';
 import { builtGame, gameOf, isOfGame, unzipped } from '../page/src/eproms.mjs';
+import { heldBy } from '../page/src/gamepads.mjs';
 import { hex } from '../page/src/hex.mjs';
 import { withoutOutlines } from '../page/src/outlines.mjs';
 import { OPCODES, Processor } from '../page/src/processor.mjs';
@@ -337,6 +338,32 @@ function testNmi() {
   }
 }
 
+// --- A gamepad ---
+
+// A gamepad with these numbers of buttons down, and its stick there.
+function padOf(down, axes = [0, 0]) {
+  const buttons = Array.from({ length: 17 }, (_, k) => ({ pressed: down.includes(k) }));
+  return { connected: true, buttons, axes };
+}
+
+// What a gamepad holds, by the numbers of the standard mapping of the Gamepad API: 0 to 3 are the
+// lower, right, left and upper button, 8 and 9 the middle ones, 12 to 15 the cross, up first.
+function testGamepads() {
+  for (const [down, axes, wanted] of [[[], [0, 0], []], [[0], [0, 0], ['fire']],
+    [[1], [0, 0], ['thrust']], [[2], [0, 0], ['hyperspace']], [[3], [0, 0], ['hyperspace']],
+    [[8], [0, 0], ['coin']], [[9], [0, 0], ['start1']], [[12], [0, 0], ['thrust']],
+    [[13], [0, 0], []], [[14], [0, 0], ['left']], [[15], [0, 0], ['right']], [[], [-1, 0], ['left']],
+    [[], [0.9, 0], ['right']], [[], [0.1, -0.2], []], [[], [0, -1], ['thrust']], [[], [0, 1], []],
+    [[0, 12], [-0.7, -0.7], ['fire', 'left', 'thrust']]]) {
+    expect(`a gamepad with ${down} down, at ${axes}`, wanted,
+      [...heldBy([padOf(down, axes)])].sort());
+  }
+  expect('two gamepads, and one that is gone', ['fire', 'left'],
+    [...heldBy([padOf([0]), null, padOf([14]), { connected: false }])].sort());
+  expect('one with fewer buttons', ['fire'],
+    [...heldBy([{ connected: true, buttons: [{ pressed: true }], axes: [] }])]);
+}
+
 // --- A page of a game alone ---
 
 // The page that page/game makes of a game.
@@ -394,7 +421,8 @@ function testMakePage() {
 
 // Plays a page, beside a board with the same game and the same presses.
 async function playPage(folder, html) {
-  const page = await runPage(html), arcade = boardOf(folder, {});
+  const pads = [null], navigator = { getGamepads: () => pads };
+  const page = await runPage(html, { navigator }), arcade = boardOf(folder, {});
   const pass = (count) => {
     page.pass(count);
     for (let k = 0; k < count; k++) arcade.run(Math.round(page.frame * HERTZ / 1000));
@@ -409,6 +437,13 @@ async function playPage(folder, html) {
     page.inputs.left.happen(isDown ? 'pointerdown' : 'pointerup');
     for (const name of ['start1', 'left']) arcade.press(name, isDown);
     pass(60);
+  }
+  for (const down of [[9, 14], [14], [], [15]]) {
+    pads[0] = padOf(down);
+    for (const [number, name] of [[9, 'start1'], [14, 'left'], [15, 'right']]) {
+      arcade.press(name, down.includes(number));
+    }
+    pass(30);
   }
   page.parts.pause.happen('click');
   const before = page.begun.length;
@@ -504,7 +539,7 @@ function zipsOf(files) {
 
 const TESTS = [
   testSteps, testBuilt, testChecker, testJudges, testMendedBoard, testRate, testBoard, testNmi,
-  testGamePage, testMakePage, testGameFiles, testOutlines,
+  testGamepads, testGamePage, testMakePage, testGameFiles, testOutlines,
 ];
 for (const test of TESTS) if (named.length === 0 || named.includes(test.name)) await test();
 end();

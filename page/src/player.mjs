@@ -1,5 +1,7 @@
-/* A game on its tube: it runs at its own pace, and takes keys and touches. Tested, not proved. */
+/* A game on its tube: it runs at its own pace, and takes keys, touches and gamepads. Tested, not
+ * proved. */
 import { Arcade, HERTZ } from './arcade.mjs';
+import { heldBy, padsNow } from './gamepads.mjs';
 import { byId, setText } from './parts.mjs';
 import { Screen } from './screen.mjs';
 
@@ -16,6 +18,7 @@ const GAME_KEYS = {
 export class Player {
   constructor(engine) {
     Object.assign(this, { engine, arcade: null, isShown: false, isPaused: false, script: [] });
+    this.held = new Set();
     this.screen = new Screen(byId('tube'));
     this.frame = this.frame.bind(this);
   }
@@ -24,6 +27,7 @@ export class Player {
   insert(program, shapes) {
     this.arcade?.free();
     this.arcade = new Arcade(this.engine, program, shapes);
+    this.held.clear();
   }
 
   /* --- Time --- */
@@ -53,6 +57,7 @@ export class Player {
     if (!this.isRunning) return;
     const now = performance.now(), passed = Math.min(MOST_LATE, now - this.last);
     this.last = now;
+    this.takePads();
     this.run(passed / 1000);
     this.draw();
     this.tell(now);
@@ -94,7 +99,18 @@ export class Player {
     this.arcade.press(name, isDown);
   }
 
-  releaseAll() { this.arcade?.inputs.clear(); }
+  /* Presses what gamepads hold since the frame before, and releases what they let go. */
+  takePads() {
+    const held = heldBy(padsNow());
+    for (const name of held) if (!this.held.has(name)) this.press(name, true);
+    for (const name of this.held) if (!held.has(name)) this.press(name, false);
+    this.held = held;
+  }
+
+  releaseAll() {
+    this.arcade?.inputs.clear();
+    this.held.clear();
+  }
 }
 
 /* Keys, touches and buttons of a game; `player` has restart(), too. */
