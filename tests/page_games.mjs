@@ -17,9 +17,10 @@ import { hex } from '../page/src/hex.mjs';
 import { withoutOutlines } from '../page/src/outlines.mjs';
 import { OPCODES, Processor } from '../page/src/processor.mjs';
 import { Program, labelsOf } from '../page/src/programs.mjs';
+import { Latches, SOUND, Speaker } from '../page/src/sounds.mjs';
 import { linesOfListing } from '../page/src/twin.mjs';
 import { packedGames } from '../page/games.mjs';
-import { runPage, scriptOf } from './page_stage.mjs';
+import { Audio, runPage, scriptOf } from './page_stage.mjs';
 
 const [program, work] = process.argv.slice(2, 4), events = Number(process.argv[5]),
   named = process.argv.slice(6);
@@ -352,8 +353,8 @@ function testGamepads() {
   for (const [down, axes, wanted] of [[[], [0, 0], []], [[0], [0, 0], ['fire']],
     [[1], [0, 0], ['thrust']], [[2], [0, 0], ['hyperspace']], [[3], [0, 0], ['hyperspace']],
     [[8], [0, 0], ['coin']], [[9], [0, 0], ['start1']], [[12], [0, 0], ['thrust']],
-    [[13], [0, 0], []], [[14], [0, 0], ['left']], [[15], [0, 0], ['right']], [[], [-1, 0], ['left']],
-    [[], [0.9, 0], ['right']], [[], [0.1, -0.2], []], [[], [0, -1], ['thrust']], [[], [0, 1], []],
+    [[13], [0, 0], []], [[14], [0, 0], ['left']], [[15], [0, 0], ['right']],
+    [[], [-1, 0], ['left']], [[], [0.9, 0], ['right']], [[], [0.1, -0.2], []], [[], [0, -1], ['thrust']], [[], [0, 1], []],
     [[0, 12], [-0.7, -0.7], ['fire', 'left', 'thrust']]]) {
     expect(`a gamepad with ${down} down, at ${axes}`, wanted,
       [...heldBy([padOf(down, axes)])].sort());
@@ -362,6 +363,141 @@ function testGamepads() {
     [...heldBy([padOf([0]), null, padOf([14]), { connected: false }])].sort());
   expect('one with fewer buttons', ['fire'],
     [...heldBy([{ connected: true, buttons: [{ pressed: true }], axes: [] }])]);
+}
+
+// --- Sounds ---
+
+// The sounds by their addresses, with their names and the bits that have them on: as
+// board/emulator/sounds.lua takes them from board/asteroids.inc for `make sound`.
+function soundsOfBoard() {
+  const text = readFileSync(`${top}board/asteroids.inc`, 'utf8');
+  const bits = { THUMP: 0x10, EXPLOSION: 0x3C };
+  return new Map([...text.matchAll(/^([A-Z_]+) *= *\$(3[0-9A-F]{3})/gm)]
+    .filter(([, name]) => name in bits || name.startsWith('SOUND_'))
+    .map(([, name, at]) => [parseInt(at, 16), { name, bits: bits[name] ?? 0x80 }]));
+}
+
+// Writes of a game: where, and which byte.
+function soundWrites(count, seed) {
+  const drawn = numbersFrom(seed), places = [...soundsOfBoard().keys()];
+  return Array.from({ length: count }, () => {
+    const at = drawn() % 8 === 0 ? 0x3600 + drawn() % 0x900 : places[drawn() % places.length];
+    return [at, drawn() % 2 === 0 ? 0 : drawn() & 0xFF];
+  });
+}
+
+// Which sounds are on after a write, and since when, is what `make sound` says of these.
+function testSoundLatches() {
+  const sounds = soundsOfBoard(), arcade = boardOfBytes(...STAY), since = new Map();
+  expect('the sounds', [...sounds.keys()].sort(), Object.values(SOUND).sort());
+  for (const [at, byte] of soundWrites(isShort ? 2000 : 20000, 5)) {
+    arcade.run(100);
+    arcade.write(0x3400, 0);
+    arcade.write(at, byte);
+    const bits = sounds.get(at)?.bits ?? 0;
+    if (sounds.has(at) && (byte & bits) === 0) since.delete(at);
+    else if (sounds.has(at) && !since.has(at)) since.set(at, arcade.processor.cycles / HERTZ);
+    expect(`after ${hex(at, 4)} ${hex(byte, 2)}`, [...since].sort(),
+      [...arcade.latches.since].sort());
+  }
+  arcade.run(131072 + 1000);
+  expect('a reset by the watchdog ends all', [true, 1, 0],
+    [since.size > 0, arcade.counts.resets, arcade.latches.since.size]);
+  arcade.free();
+}
+
+// The program that writes so, a tenth of a second apart: a wait of 66 times 256 times 9 cycles.
+function programOfWrites(writes) {
+  const wait = [0xA2, 66, 0xA0, 0, 0x8D, 0x00, 0x34, 0x88, 0xD0, 0xFA, 0xCA, 0xD0, 0xF5, 0x60];
+  const stores = writes.flatMap(([at, byte]) => [0xA9, byte, 0x8D, at & 0xFF, at >> 8,
+    0x20, 0x00, 0x70]);
+  const image = new Uint8Array(6144).fill(0x40), end = 0x6803 + stores.length;
+  image.set([0xA2, 0xFF, 0x9A, ...stores, 0x8D, 0x00, 0x34, 0x4C, end & 0xFF, end >> 8]);
+  image.set(wait, 0x7000 - 0x6800);
+  image.set([0xF0, 0x7F, 0x00, 0x68], 6144 - 6);
+  return image;
+}
+
+// What `make sound` says is on at the end, of a program in the arcade emulator: each sound and
+// since which second. Null where the emulator isn't here.
+function soundingInEmulator(image, seconds) {
+  const folder = `${work}/sounding`, board = `${top}board/emulator`;
+  mkdirSync(`${folder}/roms`, { recursive: true });
+  writeFileSync(`${folder}/program`, image);
+  writeFileSync(`${folder}/rom`, new Uint8Array(2048));
+  spawnSync('python3', [`${board}/prom.py`, `${folder}/prom`]);
+  spawnSync(`${board}/roms`, ['program', 'rom', 'prom', 'roms/asteroid'], { cwd: folder });
+  const { status } = spawnSync(`${board}/run`, [`${folder}/roms`, `${folder}/out`, seconds,
+    `${board}/press.lua`], { env: { ...process.env, DVG_BUTTONS: '' } });
+  if (status !== 0) return null;
+  const text = readFileSync(`${folder}/out/sounding`, 'utf8');
+  return new Map([...text.matchAll(/^(\w+), since ([0-9.]+) s$/gm)].map(([, name, time]) => (
+    [name, Number(time)])));
+}
+
+// Of a program that writes for some seconds, what is on at the end is what the emulator says.
+function testSounding() {
+  const image = programOfWrites(soundWrites(25, 11)), sounds = soundsOfBoard();
+  const wanted = soundingInEmulator(image, '4');
+  if (wanted === null) return console.log('skipped: sounds beside the emulator: it isn\'t here');
+  const arcade = new Arcade(engine, image, new Uint8Array(2048));
+  arcade.run(4 * HERTZ);
+  const found = [...arcade.latches.since].map(([at, time]) => [sounds.get(at).name, time]);
+  expect('what is on at the end', [...wanted.keys()].sort(), found.map(([name]) => name).sort());
+  for (const [name, time] of found) {
+    expect(`${name}: since ${wanted.get(name)}, here ${time}`, true,
+      Math.abs(time - wanted.get(name)) < 0.15);
+  }
+  expect('some are on', true, wanted.size > 1);
+  arcade.free();
+  return console.log(`sounds beside the emulator: ${found.length} on at the end`);
+}
+
+// A speaker is loud where a sound is on, and silent where none is, in the order of the writes.
+function testSpeaker() {
+  globalThis.AudioContext = Audio;
+  const speaker = new Speaker(), latches = new Latches(), drawn = numbersFrom(3);
+  const level = (at) => speaker.voices.get(at).level.last;
+  const asked = [];
+  for (const [k, [at, byte]] of soundWrites(2000, 9).entries()) {
+    latches.write(at, byte, k);
+    speaker.context.currentTime += (drawn() % 100) / 10000;
+    for (const one of latches.changes.splice(0)) speaker.take(one.at, one.byte, drawn() % 3 / 50);
+    const on = [...speaker.voices.keys()].filter((place) => level(place) > 0);
+    expect(`loud after ${hex(at, 4)} ${hex(byte, 2)}`, [...latches.since.keys()]
+      .filter((place) => place !== SOUND.SAUCER_LARGE).sort(), on.sort());
+    asked.push(speaker.last);
+  }
+  expect('none is heard before one that was written before', asked,
+    [...asked].sort((a, b) => a - b));
+  for (const [byte, wanted] of [[0x04, 1 / 15], [0x3C, 1], [0xC3, 0]]) {
+    speaker.take(SOUND.EXPLOSION, byte, 0);
+    expect(`how loud an explosion of ${hex(byte, 2)} is`, wanted, level(SOUND.EXPLOSION));
+  }
+  speaker.follow(new Latches(), true);
+  expect('with nothing written it is silent', [],
+    [...speaker.voices.keys()].filter((place) => level(place) > 0));
+}
+
+// A page has no sound until somebody asks for it; it stops and goes on with the game.
+async function testSoundButton() {
+  Audio.made.length = 0;
+  const page = await runPage(pageOf('asteroid_game', 'Rocks'), { AudioContext: Audio });
+  const press = (name) => page.parts[name].happen('click');
+  page.pass(30);
+  expect('no sound at first', [0, undefined], [Audio.made.length,
+    page.parts.sound.attributes['aria-pressed']]);
+  press('sound');
+  page.pass(2);
+  expect('it sounds', [1, 'running', 'true'], [Audio.made.length, Audio.made[0].state,
+    page.parts.sound.attributes['aria-pressed']]);
+  for (const [name, wanted] of [['pause', 'suspended'], ['pause', 'running'],
+    ['sound', 'suspended'], ['restart', 'suspended'], ['sound', 'running']]) {
+    press(name);
+    page.pass(2);
+    expect(`after ${name}`, wanted, Audio.made[0].state);
+  }
+  expect('one speaker is enough', 1, Audio.made.length);
 }
 
 // --- A page of a game alone ---
@@ -539,7 +675,8 @@ function zipsOf(files) {
 
 const TESTS = [
   testSteps, testBuilt, testChecker, testJudges, testMendedBoard, testRate, testBoard, testNmi,
-  testGamepads, testGamePage, testMakePage, testGameFiles, testOutlines,
+  testGamepads, testSoundLatches, testSounding, testSpeaker, testSoundButton, testGamePage,
+  testMakePage, testGameFiles, testOutlines,
 ];
 for (const test of TESTS) if (named.length === 0 || named.includes(test.name)) await test();
 end();

@@ -52,7 +52,8 @@ export async function runPage(html, more = {}) {
       body, getElementById: (id) => parts[id], querySelectorAll: () => Object.values(inputs),
     }),
     performance: { now: () => now }, requestAnimationFrame: (frame) => frames.push(frame),
-    Path2D: class { moveTo(...place) { begun.push(place); } lineTo() {} }, ResizeObserver: class { observe() {} },
+    Path2D: class { moveTo(...place) { begun.push(place); } lineTo() {} },
+    ResizeObserver: class { observe() {} },
     addEventListener: (...words) => body.addEventListener(...words),
     matchMedia: () => ({ matches: false }), devicePixelRatio: 1, navigator: {}, WebAssembly, atob,
     ...more,
@@ -66,4 +67,49 @@ export async function runPage(html, more = {}) {
     }
   };
   return { parts, inputs, keys, body, pass, begun, frame: FRAME };
+}
+
+// A number that changes over time: what was asked of it, each with a time.
+class Param {
+  constructor() { Object.assign(this, { value: 0, asked: [] }); }
+
+  setValueAtTime(value, time) { this.asked.push({ value, time }); }
+
+  setTargetAtTime(value, time) { this.asked.push({ value, time }); }
+
+  exponentialRampToValueAtTime(value, time) { this.asked.push({ value, time }); }
+
+  cancelScheduledValues(time) { this.asked = this.asked.filter((one) => one.time < time); }
+
+  // What it comes to.
+  get last() { return [...this.asked].sort((a, b) => a.time - b.time).at(-1)?.value ?? this.value; }
+}
+
+// What makes sounds in a browser: it is silent, and says what was asked of it. `made` are all.
+export class Audio {
+  static made = [];
+
+  constructor() {
+    Object.assign(this, { state: 'running', currentTime: 0, destination: {} });
+    Audio.made.push(this);
+  }
+
+  node(...params) {
+    return Object.assign({ connect() {}, start() {} },
+      ...params.map((name) => ({ [name]: new Param() })));
+  }
+
+  createGain() { return this.node('gain'); }
+
+  createOscillator() { return this.node('frequency'); }
+
+  createBufferSource() { return this.node('playbackRate'); }
+
+  createBiquadFilter() { return this.node('frequency'); }
+
+  createBuffer(channels, length) { return { getChannelData: () => new Float32Array(length) }; }
+
+  suspend() { this.state = 'suspended'; }
+
+  resume() { this.state = 'running'; }
 }

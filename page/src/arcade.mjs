@@ -5,6 +5,7 @@ import { WordTimes } from './chance.mjs';
 import { KIND } from './engine.mjs';
 import { Processor } from './processor.mjs';
 import { AREA } from './signs.mjs';
+import { Latches } from './sounds.mjs';
 
 /* The processor's cycles in a second, from one NMI to the next, and until the watchdog resets. */
 export const HERTZ = 1512000;
@@ -52,6 +53,7 @@ export class Arcade {
     this.judge.openJudge();
     this.halves = engine.halves();
     this.inputs = new Set();
+    this.latches = new Latches();
     Object.assign(this, { wireCut: false, slow: 1, ignored: false });
     Object.assign(this, { running: false, isMixed: false, swapped: 0, at: 0, fault: '' });
     Object.assign(this, { picture: null, number: 0, isOld: false });
@@ -74,8 +76,10 @@ export class Arcade {
     this.isOld = this.running;
   }
 
-  /* How many seconds of the board's time are counted. */
-  get seconds() { return (this.processor.cycles - this.counts.from) / HERTZ; }
+  /* How many seconds of the board's time are counted, and how many have gone by in all. */
+  get seconds() { return this.time - this.counts.from / HERTZ; }
+
+  get time() { return this.processor.cycles / HERTZ; }
 
   /* Opens or closes a switch, by its name in INPUTS. */
   press(name, isDown) {
@@ -111,6 +115,7 @@ export class Arcade {
     else if (at >= AT.STROBE && at < AT.OUTPUTS) this.strobe();
     else if (at === AT.OUTPUTS) this.swapped = byte & OUT_BANKS ? BANK_BYTES : 0;
     else if (at >= AT.WATCHDOG && at < AT.WATCHDOG_END) this.watchedAt = this.processor.cycles;
+    else if (at >= AT.WATCHDOG_END && at < AT.VECTORS) this.latches.write(at, byte, this.time);
   }
 
   /* A byte comes into the vector RAM, after all that the generator has read by now. */
@@ -209,6 +214,7 @@ export class Arcade {
   resetByWatchdog() {
     this.counts.resets++;
     this.watchedAt = this.processor.cycles;
+    this.latches.reset(this.time);
     this.processor.reset();
   }
 }

@@ -4,6 +4,7 @@ import { Arcade, HERTZ } from './arcade.mjs';
 import { heldBy, padsNow } from './gamepads.mjs';
 import { byId, setText } from './parts.mjs';
 import { Screen } from './screen.mjs';
+import { Speaker } from './sounds.mjs';
 
 /* What a frame of the animation makes up for at most, in milliseconds. */
 const MOST_LATE = 100;
@@ -18,7 +19,7 @@ const GAME_KEYS = {
 export class Player {
   constructor(engine) {
     Object.assign(this, { engine, arcade: null, isShown: false, isPaused: false, script: [] });
-    this.held = new Set();
+    Object.assign(this, { held: new Set(), speaker: null, isLoud: false });
     this.screen = new Screen(byId('tube'));
     this.frame = this.frame.bind(this);
   }
@@ -36,12 +37,14 @@ export class Player {
     const begins = isShown && !this.isShown;
     this.isShown = isShown;
     if (begins) this.go();
+    this.hush();
   }
 
   setPaused(isPaused) {
     this.isPaused = isPaused;
     setText(byId('pause'), isPaused ? 'Play' : 'Pause');
     this.go();
+    this.hush();
   }
 
   go() {
@@ -69,12 +72,39 @@ export class Player {
 
   /* Lets seconds of the board pass. */
   run(seconds) {
-    const { arcade } = this, before = arcade.number;
-    const now = arcade.processor.cycles / HERTZ;
+    const { arcade } = this, before = arcade.number, now = arcade.time;
     for (const [button, from, to] of this.script) arcade.press(button, now >= from && now < to);
     arcade.run(Math.round(seconds * HERTZ));
     if (arcade.number > before) this.seenAt = arcade.processor.cycles;
+    this.sound();
   }
+
+  /* --- Sounds --- */
+
+  /* They are off until somebody asks for them. */
+  setLoud(isLoud) {
+    this.isLoud = isLoud;
+    byId('sound').setAttribute('aria-pressed', String(isLoud));
+    if (isLoud) this.speaker ??= new Speaker();
+    this.hush();
+  }
+
+  /* They are heard only while the game runs, and is in view. */
+  hush() {
+    const { arcade } = this, isSeen = this.isShown && !this.isPaused && !document.hidden;
+    this.speaker?.follow(arcade.latches, this.isLoud && isSeen && arcade.fault === '');
+  }
+
+  /* Hands on what was written since the frame before. */
+  sound() {
+    const { latches, time: now, fault } = this.arcade;
+    const changes = latches.changes.splice(0);
+    if (!this.speaker?.isOn) return;
+    for (const { at, byte, time } of changes) this.speaker.take(at, byte, now - time);
+    if (fault !== '') this.hush();
+  }
+
+  /* --- The picture --- */
 
   /* The same, on a canvas that is empty. */
   drawAnew() {
@@ -115,11 +145,17 @@ export class Player {
 
 /* Keys, touches and buttons of a game; `player` has restart(), too. */
 export function listenToPlayer(player) {
-  const on = (id, act) => byId(id).addEventListener('click', act);
+  // Who clicks goes on by the keys of the game; who presses a button by a key stays there.
+  const on = (id, act) => byId(id).addEventListener('click', ({ detail }) => {
+    act();
+    if (detail > 0) byId('tube').focus({ preventScroll: true });
+  });
   listenToGameKeys(player);
   for (const button of document.querySelectorAll('[data-input]')) listenToTouch(player, button);
   on('restart', () => player.restart());
   on('pause', () => player.setPaused(!player.isPaused));
+  on('sound', () => player.setLoud(!player.isLoud));
+  document.addEventListener('visibilitychange', () => player.hush());
   addEventListener('blur', () => player.releaseAll());
 }
 
