@@ -1627,6 +1627,97 @@ async function testHands() {
   const during = await shown();
   await tab.hold('ArrowLeft', 37, false);
   expect('the test ROM shows that a key is down', true, before !== during);
+  await tab.value(`{
+    const pad = { connected: true, axes: [-1, 0], buttons: [] };
+    navigator.getGamepads = () => [pad];
+  }`);
+  expect('and a stick that is pushed', during, await shown());
+  await tab.value('navigator.getGamepads = () => [null]');
+  expect('and no longer', before, await shown());
+}
+
+// Keeps what is heard of each AudioContext that is made from now on: the gain that all goes by.
+const KEEP_SOUND = `{
+  window.made = [];
+  window.AudioContext = class extends AudioContext {
+    createGain() {
+      const gain = super.createGain();
+      if (!made.includes(this)) {
+        made.push(this);
+        this.heard = this.createAnalyser();
+        gain.connect(this.heard);
+      }
+      return gain;
+    }
+  };
+}`;
+const LOUDEST = `(() => {
+  const values = new Float32Array(made[0].heard.fftSize);
+  made[0].heard.getFloatTimeDomainData(values);
+  return Math.max(...values);
+})()`;
+
+// The test ROM's saucer is heard once somebody asks for sound, as long as its button is down; and
+// nothing is heard of a game that rests.
+async function testSound() {
+  await openGame(5);
+  await tab.value(KEEP_SOUND);
+  expect('no sound at first', 0, await tab.value('made.length'));
+  await tab.click('sound');
+  await tab.hold('ArrowLeft', 37, true);
+  expect('it is heard', true, await tab.until(`${LOUDEST} > 0.02`));
+  await tab.hold('ArrowLeft', 37, false);
+  expect('and no longer', true, await tab.until(`${LOUDEST} < 0.001`));
+  await tab.click('pause');
+  await expectSoon('a game that rests is silent', 'suspended', () => tab.value('made[0].state'));
+  await tab.click('pause');
+  await expectSoon('and sounds as it goes on', 'running', () => tab.value('made[0].state'));
+}
+
+// The address of a game says which it is, and what is asked of its board; a link holds one that was
+// dropped, too.
+async function testGameLink() {
+  await openGame(5);
+  await tab.click('game-wire');
+  await tab.choose('beam', '4');
+  expect('its address', '#game=The+test+ROM&wire=cut&beam=4', await tab.value('location.hash'));
+  const link = await tab.value('location.href');
+  await tab.open(front);
+  await tab.open(link);
+  expect('it is cut', 'true', await tab.value(
+    'document.getElementById("game-wire").getAttribute("aria-pressed")'));
+  await expectSoon('and goes dark', /^Abandoned: /, () => tab.text('run-left'));
+  await tab.drop('tube', filesOfGame(1));
+  await tab.click('game-wire');
+  await tab.choose('beam', '1');
+  await tab.click('game-link');
+  await expectSoon('a link is told', /^The link, [0-9]+ characters, stands in the address/,
+    () => tab.text('game-said'));
+  const long = await tab.value('location.href');
+  await tab.open(front);
+  await tab.open(long);
+  expect('the game that was dropped', 'game.program, rom, out of a link.',
+    await tab.text('game-said'));
+  await expectSoon('it runs', /^Whole: each of [0-9]{2,} pictures\.$/,
+    () => tab.text('run-moments'));
+}
+
+// A page of a game alone plays it, in view, and asks for nothing.
+async function testGamePage() {
+  const [bytes, rom] = filesOfGame(1), page = `${work}/alone.html`;
+  execFileSync(`${top}page/game`, [bytes, rom, 'Bat & ball', page]);
+  for (const [width, height] of [[400, 800], [1280, 900]]) {
+    await tab.size(width, height, width < 640);
+    await tab.open(`file://${page}`);
+    await expectSoon('strokes are seen', true,
+      async () => (await tab.value(LIT)).found.length > 99);
+    expect(`${width} by ${height}: in view`, '', await outOfView(['#tube', '.pads']));
+    expect(`${width}: it doesn't scroll sideways`, true,
+      await tab.value('document.documentElement.scrollWidth <= innerWidth'));
+    writeFileSync(`${work}/page_alone_${width}.png`, await tab.screenshot());
+  }
+  expect('its title', 'Bat & ball', await tab.value('document.title'));
+  await tab.size(1600, 1000, false);
 }
 
 // What comes of a board that is changed, after a guess: the test ROM goes dark with its wire cut,
@@ -1753,7 +1844,8 @@ const tests = {
   testHttp, testInView, testGrey, testCode, testTour, testMend,
     testWidths, testColors, testMotion, testKeys, testRows,
     testEdges,
-  testGame, testTube, testHands, testWhatIf, testGameDrops, testGameWidths,
+  testGame, testTube, testHands, testWhatIf, testSound, testGameDrops, testGameLink, testGamePage,
+    testGameWidths,
   testLive, testPlain, testLessonFrames, testEditorsStill, testReadAloud, testSpeed,
 };
 for (const [name, test] of Object.entries(tests)) {

@@ -14,13 +14,15 @@ import { Engine, KIND } from '../page/src/engine.mjs';
 import { builtGame, gameOf, isOfGame, unzipped } from '../page/src/eproms.mjs';
 import { heldBy } from '../page/src/gamepads.mjs';
 import { hex } from '../page/src/hex.mjs';
+import { fragmentOf, plainFragment, stateOf } from '../page/src/links.mjs';
 import { withoutOutlines } from '../page/src/outlines.mjs';
+import { Play } from '../page/src/play.mjs';
 import { OPCODES, Processor } from '../page/src/processor.mjs';
 import { Program, labelsOf } from '../page/src/programs.mjs';
 import { Latches, SOUND, Speaker } from '../page/src/sounds.mjs';
 import { linesOfListing } from '../page/src/twin.mjs';
 import { packedGames } from '../page/games.mjs';
-import { Audio, runPage, scriptOf } from './page_stage.mjs';
+import { Audio, partsOf, runPage, scriptOf } from './page_stage.mjs';
 
 const [program, work] = process.argv.slice(2, 4), events = Number(process.argv[5]),
   named = process.argv.slice(6);
@@ -354,7 +356,8 @@ function testGamepads() {
     [[1], [0, 0], ['thrust']], [[2], [0, 0], ['hyperspace']], [[3], [0, 0], ['hyperspace']],
     [[8], [0, 0], ['coin']], [[9], [0, 0], ['start1']], [[12], [0, 0], ['thrust']],
     [[13], [0, 0], []], [[14], [0, 0], ['left']], [[15], [0, 0], ['right']],
-    [[], [-1, 0], ['left']], [[], [0.9, 0], ['right']], [[], [0.1, -0.2], []], [[], [0, -1], ['thrust']], [[], [0, 1], []],
+    [[], [-1, 0], ['left']], [[], [0.9, 0], ['right']], [[], [0.1, -0.2], []],
+    [[], [0, -1], ['thrust']], [[], [0, 1], []],
     [[0, 12], [-0.7, -0.7], ['fire', 'left', 'thrust']]]) {
     expect(`a gamepad with ${down} down, at ${axes}`, wanted,
       [...heldBy([padOf(down, axes)])].sort());
@@ -589,6 +592,47 @@ async function playPage(folder, html) {
   arcade.free();
 }
 
+// --- Links ---
+
+// What a link may ask of a board, by its fields, and what that is on the board.
+const ASKED = [[{}, [false, 1, false]], [{ wire: 'cut' }, [true, 1, false]],
+  [{ beam: '4' }, [false, 4, false]], [{ beam: '3' }, [false, 1, false]],
+  [{ wire: 'cut', beam: '8', strobes: 'ignored' }, [true, 8, true]]];
+
+// A link to a game holds it and what is asked of its board: one that is built in by its name, one
+// that was dropped with its bytes and labels.
+async function testGameLinks() {
+  const { parts } = partsOf(['page', 'cabinet'].map((name) => (
+    readFileSync(`${top}page/src/${name}.html`, 'utf8'))).join(''));
+  globalThis.document = { getElementById: (id) => parts[id] };
+  const games = [...GAMES.entries()].map(([name, game]) => ({ name, ...game }));
+  const play = new Play(engine, games, driverOfPage());
+  for (const [asked, wanted] of ASKED) {
+    const fragment = plainFragment({ game: 'bat', ...asked });
+    play.openState(await stateOf(fragment));
+    const { wireCut, slow, ignored } = play.arcade;
+    expect(`the board of ${fragment}`, wanted, [wireCut, slow, ignored]);
+    expect(`the game of ${fragment}`, games[1].program, play.game.program);
+    if (asked.beam !== '3') expect('the same link', fragment, plainFragment(play.state));
+  }
+  play.openState({ game: 'bat', mistake: '1' });
+  expect('with its mistake', 1, Number(parts.every.dataset.verdict));
+  const labels = new Map([[0x6C71, 'draw'], [0x7000, 'a_b']]);
+  const { program: bytes, shapes } = games[2];
+  play.begin('mine, rom', { program: bytes, shapes, labels, missing: '' }, '');
+  const fragment = await fragmentOf(play.state), { length } = fragment;
+  console.log(`a link of a game that was dropped has ${length} characters`);
+  play.openState({ game: 'bat' });
+  play.openState(await stateOf(fragment));
+  expect('a game that was dropped', ['mine, rom', bytes, shapes, [...labels]],
+    [play.name, play.game.program, play.game.shapes, [...play.game.labels]]);
+  for (const state of [{ game: 'none' }, { game: 'x', program: 'AAAA', shapes: 'AAAA' }]) {
+    const told = await Promise.resolve(state).then((one) => play.openState(one))
+      .then(() => 'a game', () => 'an error');
+    expect(`a link to ${state.game}`, 'an error', told);
+  }
+}
+
 // --- Files ---
 
 // What a game is dropped as, by names and by bytes.
@@ -676,7 +720,7 @@ function zipsOf(files) {
 const TESTS = [
   testSteps, testBuilt, testChecker, testJudges, testMendedBoard, testRate, testBoard, testNmi,
   testGamepads, testSoundLatches, testSounding, testSpeaker, testSoundButton, testGamePage,
-  testMakePage, testGameFiles, testOutlines,
+  testMakePage, testGameLinks, testGameFiles, testOutlines,
 ];
 for (const test of TESTS) if (named.length === 0 || named.includes(test.name)) await test();
 end();

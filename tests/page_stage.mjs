@@ -13,6 +13,15 @@ class Part {
     this.classList = { add() {}, remove() {}, toggle() {} };
   }
 
+  // Parts around it and in it, of which nothing is asked.
+  get parentElement() { return (this.around ??= new Part('')); }
+
+  get firstElementChild() { return (this.first ??= new Part('')); }
+
+  get lastElementChild() { return (this.last ??= new Part('')); }
+
+  querySelectorAll() { return []; }
+
   addEventListener(type, act) { (this.listeners[type] ??= []).push(act); }
 
   setAttribute(name, value) { this.attributes[name] = value; }
@@ -32,6 +41,13 @@ class Part {
 
 function none() {}
 
+// The parts of a page that have an id, by that, and those that press a button of the game.
+export function partsOf(html) {
+  const named = (form) => [...html.matchAll(form)].map(([, name]) => [name, new Part(name)]);
+  return { parts: Object.fromEntries(named(/ id="([^"]+)"/g)),
+    inputs: Object.fromEntries(named(/data-input="(\w+)"/g)) };
+}
+
 // The script of a page.
 export function scriptOf(html) {
   return /<script type="module">([^]*)<\/script>/.exec(html)[1];
@@ -41,9 +57,7 @@ export function scriptOf(html) {
 // names of what they press; `keys`, which takes keys; `pass`, by which frames pass; and `begun`:
 // where each stroke began that was painted.
 export async function runPage(html, more = {}) {
-  const named = (form) => [...html.matchAll(form)].map(([, name]) => [name, new Part(name)]);
-  const parts = Object.fromEntries(named(/ id="([^"]+)"/g));
-  const inputs = Object.fromEntries(named(/data-input="(\w+)"/g));
+  const { parts, inputs } = partsOf(html);
   const keys = new Part(''), body = new Part('');
   const frames = [], begun = [];
   let now = 0;

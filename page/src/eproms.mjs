@@ -1,5 +1,6 @@
 /* What a game is dropped as: its program, its three sockets, its vector ROM, its labels, or a zip
  * of these; and the games that are built in. */
+import { bytesOfBase64 } from './hex.mjs';
 import { NMI_VECTOR, PROGRAM_END, RESET_VECTOR, START, labelsOf } from './programs.mjs';
 
 const SOCKET_BYTES = 2048, PROGRAM_BYTES = PROGRAM_END - START, NO_BYTE = 0xFF;
@@ -64,6 +65,15 @@ export function gameOf(files) {
   }
   const isGame = [...found].some((at) => at !== SHAPES);
   return isGame ? { program, shapes, labels, missing: missingText(found) } : null;
+}
+
+/* The game that a link holds, of the fields that Play writes. */
+export function gameOfFields({ program: bytes, shapes: rom, labels: text = '' }) {
+  const [program, shapes] = [bytes, rom].map(bytesOfBase64);
+  if (program.length !== PROGRAM_BYTES || shapes.length !== SOCKET_BYTES) {
+    throw new Error('a game of other sizes');
+  }
+  return { program, shapes, labels: labelsOf(text), missing: '' };
 }
 
 /* The files with the files of each zip among them in its place. */

@@ -1,5 +1,6 @@
 /* Links that hold the whole state: its fields as those of a query, in the link's fragment, which no
  * browser sends anywhere. A long one is deflated. */
+import { base64Of, bytesOfBase64 } from './hex.mjs';
 
 const MOST_CHARACTERS = 4000000;
 
@@ -13,18 +14,15 @@ export function plainFragment(state) {
 export async function fragmentOf(state) {
   const bytes = await through(new TextEncoder().encode(plainFragment(state).slice(1)),
     new CompressionStream('deflate-raw'));
-  let text = '';
-  for (const byte of bytes) text += String.fromCharCode(byte);
-  return `#z=${btoa(text).replace(/\+/g, '-').replace(/\//g, '_').replace(/=+$/, '')}`;
+  return `#z=${base64Of(bytes).replace(/\+/g, '-').replace(/\//g, '_').replace(/=+$/, '')}`;
 }
 
 /* The state of a fragment; an error where it is none. */
 export async function stateOf(fragment) {
   const text = fragment.replace(/^#/, '');
   if (!text.startsWith('z=')) return Object.fromEntries(new URLSearchParams(text));
-  const packed = atob(text.slice(2).replace(/-/g, '+').replace(/_/g, '/'));
-  const bytes = Uint8Array.from(packed, (c) => c.charCodeAt(0));
-  const plain = await through(bytes, new DecompressionStream('deflate-raw'));
+  const packed = bytesOfBase64(text.slice(2).replace(/-/g, '+').replace(/_/g, '/'));
+  const plain = await through(packed, new DecompressionStream('deflate-raw'));
   return Object.fromEntries(new URLSearchParams(new TextDecoder().decode(plain)));
 }
 

@@ -39,6 +39,8 @@ const FIRST = { a: FIRST_A, b: FIRST_B }, FIRST_EVENTS = 2600;
 
 /* What leads to the opening of the board, in the part of an address that no browser sends. */
 const OPENING_HASH = '#opening';
+/* The link of the first game. */
+const FIRST_GAME = plainFragment({ game: GAMES[0].name });
 const LOG_BEFORE = 12, LOG_AFTER = 4;
 /* Why what is grey is so: of a recording, and of a board with as many events as it holds. */
 const ELSEWHERE = 'This happened elsewhere: it can\'t be run, cut or added to.';
@@ -572,13 +574,15 @@ function nameOr(text) {
 
 /* Where the address leads: to a game, to the tour, or to a state of the board. */
 async function loadFragment() {
-  const isGame = location.hash.length <= 1;
-  showGame(isGame);
   try {
-    if (isGame) beginGame();
+    const state = await stateOf(location.hash);
+    const isGame = location.hash.length <= 1 || state.game !== undefined;
+    showGame(isGame);
+    if (isGame) beginGame(state);
     else if (location.hash === OPENING_HASH) showNewcomer();
-    else loadState(await stateOf(location.hash));
+    else loadState(state);
   } catch (fault) {
+    showGame(false);
     tell(`This link holds no state: ${fault.message}`, true);
     if (board === undefined) loadState(FIRST);
   }
@@ -592,11 +596,31 @@ function showGame(isShown) {
   fitSizes();
 }
 
-/* The first game, unless there is one; at rest for someone who wants less motion. */
-function beginGame() {
-  if (play.arcade !== null) return;
-  play.openBuilt(0, true);
+/* The game of a state, or the first one, unless there is one; at rest for someone who wants less
+ * motion. */
+function beginGame(state) {
+  if (state.game !== undefined) play.openState(state);
+  else if (play.arcade === null) play.openBuilt(0, true);
+  else return;
   if (wantsLessMotion()) play.setPaused(true);
+}
+
+/* The address tells of a game that is built in which one it is, and what is asked of its board. */
+function showAddress() {
+  if (!play.isShown || play.number < 0) return;
+  const fragment = plainFragment(play.state);
+  history.replaceState(null, '', fragment === FIRST_GAME ? '#' : fragment);
+}
+
+/* A link to the game; it holds one that was dropped, too. */
+async function makeGameLink() {
+  const { state } = play;
+  const fragment = play.number < 0 ? await fragmentOf(state) : plainFragment(state);
+  history.replaceState(null, '', fragment);
+  const isCopied = await navigator.clipboard?.writeText(location.href)
+    .then(() => true, () => false);
+  setText(byId('game-said'), `The link, ${fragment.length} characters, stands in the address`
+    + `${isCopied ? ', and was copied' : ''}.`);
 }
 
 /* Opens files: a game, or else the first of them on the board. */
@@ -1026,7 +1050,9 @@ function makePlay() {
     button.addEventListener('click', () => play.openBuilt(k));
     return button;
   }));
+  play.onChange = showAddress;
   listenToPlay(play);
+  byId('game-link').addEventListener('click', makeGameLink);
 }
 
 function makeEditors() {

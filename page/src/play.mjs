@@ -1,7 +1,8 @@
 /* A game on the page: it is judged while it runs. Tested, not proved. */
 import { HERTZ } from './arcade.mjs';
 import { VERDICT, judgeProgram } from './checker.mjs';
-import { gameOf, unzipped } from './eproms.mjs';
+import { gameOf, gameOfFields, unzipped } from './eproms.mjs';
+import { base64Of, hex } from './hex.mjs';
 import { byId, setText } from './parts.mjs';
 import { Player, listenToPlayer } from './player.mjs';
 import { Program, isDriver } from './programs.mjs';
@@ -53,6 +54,7 @@ export class Play extends Player {
   constructor(engine, games, driver) {
     super(engine);
     Object.assign(this, { games, driver, program: null, textsAt: 0, guess: null });
+    Object.assign(this, { number: -1, onChange: () => {} });
   }
 
   /* --- Games --- */
@@ -60,11 +62,8 @@ export class Play extends Player {
   /* Begins a game that is built in; `isOpening`: coin and start are pressed, too. */
   openBuilt(number, isOpening = false) {
     const { name, ...game } = this.games[number];
-    this.begin(name, game);
+    this.begin(name, game, '', number);
     if (isOpening) this.script = [...OPENING];
-    byId('games').querySelectorAll('button').forEach((button, k) => {
-      button.setAttribute('aria-pressed', String(k === number));
-    });
   }
 
   /* Begins the game that files are of: whether there is one among them. */
@@ -78,14 +77,15 @@ export class Play extends Player {
     const missing = game.missing.replace(/,? ?NP3$/, '');
     const sockets = missing === '' ? '' : ` ${missing} of its sockets aren't among them.`;
     this.begin(name, { ...game, shapes: rom }, `${name}.${sockets}${shapes}`);
-    byId('games').querySelectorAll('button').forEach((button) => {
-      button.setAttribute('aria-pressed', 'false');
-    });
     return true;
   }
 
-  begin(name, game, said = '') {
-    Object.assign(this, { name, game, script: [] });
+  /* `number` is that of a game that is built in. */
+  begin(name, game, said, number = -1) {
+    Object.assign(this, { name, game, number, script: [] });
+    byId('games').querySelectorAll('button').forEach((button, k) => {
+      button.setAttribute('aria-pressed', String(k === number));
+    });
     setText(byId('game-said'), said);
     byId('mistake').checked = false;
     const isSame = withMistake(game.program).every((byte, k) => byte === game.program[k]);
@@ -105,6 +105,37 @@ export class Play extends Player {
     this.setPaused(false);
   }
 
+  /* --- Links --- */
+
+  /* The game and what is asked of its board, as the fields of a link. One that is built in has its
+   * name alone. */
+  get state() {
+    const { wireCut, slow, ignored } = this.arcade, { program, shapes, labels } = this.game;
+    const asked = {
+      game: this.name, wire: wireCut ? 'cut' : '', beam: slow > 1 ? String(slow) : '',
+      strobes: ignored ? 'ignored' : '', mistake: byId('mistake').checked ? '1' : '',
+    };
+    if (this.number >= 0) return asked;
+    const lines = [...labels].map(([at, label]) => `al ${hex(at, 6)} .${label}`);
+    return { ...asked, program: base64Of(program), shapes: base64Of(shapes),
+      labels: lines.join('\n') };
+  }
+
+  /* Begins what a link holds. */
+  openState(state) {
+    const number = this.games.findIndex(({ name }) => name === state.game);
+    const game = state.program === undefined ? this.games[number] : gameOfFields(state);
+    if (game === undefined) throw new Error(`no game is called ${state.game}`);
+    byId('game-wire').setAttribute('aria-pressed', String(state.wire === 'cut'));
+    byId('beam').value = /^[248]$/.test(state.beam) ? state.beam : '1';
+    byId('strobes-ignored').checked = state.strobes === 'ignored';
+    if (state.program === undefined) this.openBuilt(number, true);
+    else this.begin(state.game, game, `${state.game}, out of a link.`);
+    if (state.mistake !== '1') return;
+    byId('mistake').checked = true;
+    this.restart();
+  }
+
   /* --- What if --- */
 
   /* Takes what the buttons ask of the board. From now on the verdicts are of what comes. */
@@ -117,6 +148,7 @@ export class Play extends Player {
     this.guess = null;
     setText(byId('game-wire'), arcade.wireCut ? 'Mend the HALT wire' : 'Cut the HALT wire');
     this.showTexts();
+    this.onChange();
   }
 
   /* Whether something is asked of the board that it isn't by itself. */
