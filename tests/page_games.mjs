@@ -85,8 +85,8 @@ function digestsOfSteps() {
     for (const name of ['a', 'x', 'y', 's', 'status']) cpu[name] = drawn() & 0xFF;
     Object.assign(cpu, { pc: drawn() & 0xFFFF, cycles: 0 });
     memory[cpu.pc] = drawn();
-    const name = OPCODES.get(memory[cpu.pc])?.name ?? 'brk';
-    if (name !== 'brk' && name !== 'sed') {
+    const name = OPCODES.get(memory[cpu.pc])?.name ?? 'brk', isSum = /adc|sbc/.test(name);
+    if (name !== 'brk' && name !== 'sed' && !(cpu.d === 1 && isSum)) {
       if (drawn() % 64 === 0) cpu.interrupt();
       else cpu.step();
       steps++;
@@ -97,8 +97,7 @@ function digestsOfSteps() {
   return lines;
 }
 
-// The opcodes are those of the definition in dvg_calls_6502, with BRK and SED, which it hasn't and
-// the page refuses. Registers, flags, cycles and writes of random steps, and of NMIs, are those of
+// The opcodes are those of the definition in dvg_calls_6502, with BRK and SED, which it hasn't. Registers, flags, cycles and writes of random steps, and of NMIs, are those of
 // board_cpu.h.
 function testSteps() {
   const definition = readFileSync(`${top}crates/dvg_calls_6502/specs/Processor.antt`, 'utf8');
@@ -113,6 +112,46 @@ function testSteps() {
   expect('steps of the 6502', stdout.toString().trim().split('\n'), lines);
   const [steps] = lines.at(-1).split(' ');
   return console.log(`the 6502 beside board_cpu.h: ${steps} steps, with cycles`);
+}
+
+// In decimal mode ADC and SBC are, of each A and each operand, with C clear and set, those of
+// page_decimal.py: what A is then, and N, V, Z and C.
+function testDecimal() {
+  const { stdout: wanted } = spawnSync('python3', [`${top}tests/page_decimal.py`],
+    { maxBuffer: 1 << 20 });
+  const memory = new Uint8Array(0x10000);
+  const cpu = new Processor({ read: (at) => memory[at], write: () => {} });
+  let at = 0;
+  for (const opcode of [0x69, 0xE9]) {
+    let differ = 0;
+    for (let k = 0; k < 0x20000; k++, at += 2) {
+      memory.set([opcode, k & 0xFF]);
+      Object.assign(cpu, { pc: 0, a: k >> 8 & 0xFF, status: k >> 16 | 0x08 });
+      cpu.step();
+      if (cpu.a !== wanted[at] || (cpu.status & 0xC3) !== wanted[at + 1]) differ++;
+    }
+    expect(`sums by ${hex(opcode, 2)} that differ`, 0, differ);
+  }
+  expect('all are compared', wanted.length, at);
+}
+
+// SED and CLD; and BRK, which goes where an IRQ does, and comes back behind the byte after it.
+function testBreak() {
+  const arcade = boardOfBytes(0xA2, 0xFF, 0x9A, 0xF8, 0x00, 0xEA, 0xE8, 0xD8, 0x4C, 0x08, 0x68);
+  arcade.memory.set([0xF0, 0x7F, 0x00, 0x68, 0x00, 0x70], 0x7FFA);
+  arcade.memory.set([0x40], 0x7000);
+  const { processor } = arcade, step = () => {
+    const before = processor.cycles;
+    processor.step();
+    return [processor.pc, processor.cycles - before, processor.d, processor.i];
+  };
+  processor.i = 0;
+  for (const [what, wanted] of [['LDX', [0x6802, 2, 0, 0]], ['TXS', [0x6803, 2, 0, 0]],
+    ['SED', [0x6804, 2, 1, 0]], ['BRK', [0x7000, 7, 1, 1]]]) expect(what, wanted, step());
+  expect('what BRK pushes', [0x68, 0x06, 0xB8], [...arcade.memory.slice(0x1FD, 0x200)].reverse());
+  for (const [what, wanted] of [['RTI', [0x6806, 6, 1, 0]], ['INX', [0x6807, 2, 1, 0]],
+    ['CLD', [0x6808, 2, 0, 0]]]) expect(what, wanted, step());
+  arcade.free();
 }
 
 // --- The checker ---
@@ -718,7 +757,7 @@ function zipsOf(files) {
 }
 
 const TESTS = [
-  testSteps, testBuilt, testChecker, testJudges, testMendedBoard, testRate, testBoard, testNmi,
+  testSteps, testDecimal, testBreak, testBuilt, testChecker, testJudges, testMendedBoard, testRate, testBoard, testNmi,
   testGamepads, testSoundLatches, testSounding, testSpeaker, testSoundButton, testGamePage,
   testMakePage, testGameLinks, testGameFiles, testOutlines,
 ];

@@ -1,6 +1,6 @@
-/* The 6502: its documented instructions but BRK and SED, and their cycles. A bus is told each byte
- * that it reads and writes, but for those that an indexed address reads at a wrong page. There is
- * no decimal mode. Tested, not proved. */
+/* The NMOS 6502: its documented instructions, and their cycles. A bus is told each byte that it
+ * reads and writes, but for those that an indexed address reads at a wrong page. Tested, not
+ * proved. */
 import { hex } from './hex.mjs';
 
 /* The instructions: a name, and its opcodes, each with how it finds its operand. */
@@ -93,7 +93,7 @@ const PLACES = {
 /* What is done with a byte that is read. */
 const READS = {
   adc: (cpu, byte) => cpu.add(byte),
-  sbc: (cpu, byte) => cpu.add(byte ^ 0xFF),
+  sbc: (cpu, byte) => cpu.subtract(byte),
   and: (cpu, byte) => { cpu.a = cpu.flag(cpu.a & byte); },
   ora: (cpu, byte) => { cpu.a = cpu.flag(cpu.a | byte); },
   eor: (cpu, byte) => { cpu.a = cpu.flag(cpu.a ^ byte); },
@@ -136,6 +136,7 @@ const OTHERS = {
   sei: (cpu) => { cpu.i = 1; },
   clv: (cpu) => { cpu.v = 0; },
   cld: (cpu) => { cpu.d = 0; },
+  sed: (cpu) => { cpu.d = 1; },
   nop: () => {},
   inx: (cpu) => { cpu.x = cpu.flag((cpu.x + 1) & 0xFF); },
   iny: (cpu) => { cpu.y = cpu.flag((cpu.y + 1) & 0xFF); },
@@ -154,9 +155,13 @@ const OTHERS = {
     cpu.pc = cpu.pullWord();
   },
   jmp: (cpu) => { cpu.pc = cpu.takeWord(); },
+  brk: (cpu) => {
+    cpu.skip();
+    cpu.interrupt(IRQ_AT, BREAK);
+  },
 };
 
-const BREAK = 0x10, UNUSED = 0x20, NMI_AT = 0xFFFA, RESET_AT = 0xFFFC;
+const BREAK = 0x10, UNUSED = 0x20, NMI_AT = 0xFFFA, RESET_AT = 0xFFFC, IRQ_AT = 0xFFFE;
 
 /* How many cycles an instruction takes that reads its operand: another page takes one more. */
 const CYCLES = {
@@ -164,8 +169,9 @@ const CYCLES = {
   '(zp,x)': 6, '(zp),y': 5,
 };
 const OTHER_CYCLES = {
-  pha: 3, php: 3, pla: 4, plp: 4, jsr: 6, rts: 6, rti: 6, jmp: 3,
+  pha: 3, php: 3, pla: 4, plp: 4, jsr: 6, rts: 6, rti: 6, jmp: 3, brk: 0,
 };
+/* So many take an NMI and a BRK. */
 const NMI_CYCLES = 7;
 
 function cyclesOf(name, mode) {
@@ -244,12 +250,12 @@ export class Processor {
     this.pc = this.word(RESET_AT);
   }
 
-  /* An NMI comes between two instructions. */
-  interrupt() {
+  /* An NMI comes between two instructions; or another vector is taken, with more flags pushed. */
+  interrupt(vector = NMI_AT, flags = 0) {
     this.pushWord(this.pc);
-    this.push(this.status);
+    this.push(this.status | flags);
     this.i = 1;
-    this.pc = this.word(NMI_AT);
+    this.pc = this.word(vector);
     this.cycles += NMI_CYCLES;
   }
 
@@ -341,6 +347,31 @@ export class Processor {
   }
 
   add(byte) {
+    if (this.d === 0) this.addBinary(byte);
+    else this.addDigits(byte);
+  }
+
+  /* N and V are those of the sum before its high digit is mended, and Z that of the binary one. */
+  addDigits(byte) {
+    const { a, c } = this, low = (a & 0xF) + (byte & 0xF) + c;
+    const sum = (a & 0xF0) + (byte & 0xF0) + (low > 9 ? ((low + 6) & 0xF) + 0x10 : low);
+    this.n = sum >> 7 & 1;
+    this.v = (~(a ^ byte) & (a ^ sum)) >> 7 & 1;
+    this.z = ((a + byte + c) & 0xFF) === 0 ? 1 : 0;
+    this.c = sum > 0x9F ? 1 : 0;
+    this.a = (this.c ? sum + 0x60 : sum) & 0xFF;
+  }
+
+  /* In decimal mode the digits are mended, and the flags stay those of the binary difference. */
+  subtract(byte) {
+    const { a, c, d } = this, low = (a & 0xF) - (byte & 0xF) + c - 1;
+    this.addBinary(byte ^ 0xFF);
+    if (d === 0) return;
+    const high = (a & 0xF0) - (byte & 0xF0) + (low < 0 ? ((low - 6) & 0xF) - 0x10 : low);
+    this.a = (high < 0 ? high - 0x60 : high) & 0xFF;
+  }
+
+  addBinary(byte) {
     const sum = this.a + byte + this.c;
     this.v = (~(this.a ^ byte) & (this.a ^ sum)) >> 7 & 1;
     this.c = sum >> 8;
