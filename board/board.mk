@@ -26,8 +26,8 @@
 #: make play      runs it with a screen; where MAME isn't there, it is make page
 #: make record    runs it with a screen, and records what is pressed there as BUTTONS
 #: make page      writes build/page.html, on which it plays alone: for a browser, a friend, any host
-#: make watch     draws frames and shapes of the sketches again whenever one of their files changes:
-#:                open build/watch.html in a browser
+#: make watch     draws frames and shapes of the sketches again whenever one of their files changes,
+#:                and makes the page anew, if it is there: open build/watch.html in a browser
 #: make eproms    writes what is burned into build/eproms; make test-rom does so for a test ROM
 #: make clean     takes build away
 #:
@@ -209,8 +209,15 @@ ifneq ($(MAME),)
 	cd build && $(mame)
 endif
 
+# `page` always writes it, as TITLE may be another one; the stamp tells build/watch.html of it.
+make_page = @$(BOARD)../page/game build/$(PROGRAM).program build/rom \
+    '$(subst ','\'',$(TITLE))' build/page.html && echo "play($$(date +%s))" >build/played.js
+
 page: build/$(PROGRAM).program build/rom
-	@$(BOARD)../page/game $^ '$(subst ','\'',$(TITLE))' build/page.html
+	$(make_page)
+
+build/page.html: build/$(PROGRAM).program build/rom
+	$(make_page)
 
 record: build/roms/$(MACHINE)
 	$(find_screen)

@@ -7,7 +7,7 @@
 // failure. The last line is 'N passed, M failed'.
 import { spawnSync } from 'node:child_process';
 import { createHash } from 'node:crypto';
-import { existsSync, mkdirSync, readFileSync, writeFileSync } from 'node:fs';
+import { appendFileSync, existsSync, mkdirSync, readFileSync, writeFileSync } from 'node:fs';
 import { Arcade, HERTZ } from '../page/src/arcade.mjs';
 import { VERDICT, judgeProgram } from '../page/src/checker.mjs';
 import { Engine, KIND } from '../page/src/engine.mjs';
@@ -97,8 +97,8 @@ function digestsOfSteps() {
   return lines;
 }
 
-// The opcodes are those of the definition in dvg_calls_6502, with BRK and SED, which it hasn't. Registers, flags, cycles and writes of random steps, and of NMIs, are those of
-// board_cpu.h.
+// The opcodes are those of the definition in dvg_calls_6502, with BRK and SED, which it hasn't.
+// Registers, flags, cycles and writes of random steps, and of NMIs, are those of board_cpu.h.
 function testSteps() {
   const definition = readFileSync(`${top}crates/dvg_calls_6502/specs/Processor.antt`, 'utf8');
   const codes = [...definition.matchAll(/\((0x[0-9A-F]{2}), [A-Za-z0-9 ]+\)/g)].map(([, code]) => (
@@ -553,6 +553,10 @@ function pageOf(folder, title) {
     [...files.map(([name]) => name), title, out]);
   if (status !== 0) throw new Error(`page/game: ${stderr}`);
   const html = readFileSync(out, 'utf8');
+  const { status: none, stderr: said } = spawnSync(`${top}page/game`,
+    [files[1][0], files[1][0], title, out]);
+  expect('another size is refused', [1, true],
+    [none, said.toString().includes('has 2048 bytes; the page plays games for Asteroids')]);
   expect(`${folder}: its size is told`, true,
     stdout.toString().includes(`: ${Buffer.byteLength(html)} bytes: `));
   return html;
@@ -582,17 +586,25 @@ async function testGamePage() {
   }
 }
 
-// `make page` makes that page.
+// `make page` makes that page, and `make watch` does so again once the game changes, not before.
 function testMakePage() {
   if (!hasTools) return console.log('skipped: make page: ca65 is not here');
   programs();
   for (const folder of ['bat', 'first']) {
-    const place = `${work}/made/${folder}`;
-    const asked = ['-s', '-C', place, 'page', `TITLE=the ${folder}'s`];
-    const { status, stderr } = spawnSync('make', asked, { env: { ...process.env, DVG: program } });
-    expect(`make page of ${folder}: ${stderr}`, 0, status);
+    const place = `${work}/made/${folder}`, name = folder === 'bat' ? 'game' : 'first';
+    const make = (...words) => {
+      const { status, stdout, stderr } = spawnSync('make', ['-s', '-C', place, ...words],
+        { env: { ...process.env, DVG: program } });
+      expect(`make ${words} of ${folder}: ${stderr}`, 0, status);
+      return stdout.toString().includes('build/page.html: ');
+    };
+    make('page', `TITLE=the ${folder}'s`);
     expect(`the page of ${folder}`, true,
       readFileSync(`${place}/build/page.html`, 'utf8') === pageOf(folder, `the ${folder}'s`));
+    expect('nothing has changed', false, make('watch', 'WATCHED=1'));
+    appendFileSync(`${place}/${name}.s`, '; a remark\n');
+    expect('it was changed', true, make('watch', 'WATCHED=1'));
+    expect('no longer', false, make('watch', 'WATCHED=1'));
   }
   return null;
 }
@@ -757,7 +769,8 @@ function zipsOf(files) {
 }
 
 const TESTS = [
-  testSteps, testDecimal, testBreak, testBuilt, testChecker, testJudges, testMendedBoard, testRate, testBoard, testNmi,
+  testSteps, testDecimal, testBreak, testBuilt, testChecker, testJudges, testMendedBoard, testRate,
+  testBoard, testNmi,
   testGamepads, testSoundLatches, testSounding, testSpeaker, testSoundButton, testGamePage,
   testMakePage, testGameLinks, testGameFiles, testOutlines,
 ];
