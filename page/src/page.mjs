@@ -608,8 +608,8 @@ function beginGame(state) {
 /* The address tells of a game that is built in which one it is, and what is asked of its board. */
 function showAddress() {
   if (!play.isShown || play.number < 0) return;
-  const fragment = plainFragment(play.state);
-  history.replaceState(null, '', fragment === FIRST_GAME ? '#' : fragment);
+  const fragment = plainFragment(play.state), wanted = fragment === FIRST_GAME ? '' : fragment;
+  if (location.hash !== wanted) history.replaceState(null, '', wanted || '#');
 }
 
 /* A link to the game; it holds one that was dropped, too. */

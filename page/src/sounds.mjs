@@ -39,7 +39,7 @@ const NOISE_VALUES = 16000, NOISE_HERTZ = 8000, NOISE_CLOCK = 12000, DIVIDERS = 
 /* The tones in Hertz: the saucers', by whether it is the large one; how far and how often they go
  * up and down; a shot's, from and to, within so many seconds; the thumps', and from one to the
  * next; a new ship's. */
-const SAUCERS = [900, 600], WAVES = 200, WAVES_HERTZ = 6, SHOT = [1000, 150, 0.3];
+const SAUCERS = [900, 600], WAVES = 200, WAVES_HERTZ = 6, SHOT = [820, 110, 0.28];
 const THUMPS = [45, 3], SHIP_HERTZ = 3000;
 
 export class Speaker {
