@@ -684,6 +684,11 @@ async function testLink() {
   expect('and the same log', new RegExp(`^the same: ${events} events`), await tab.text('compared'));
   await openPage(`${front}#z=AAAA`);
   expect('a broken link is told', /holds no state/, await tab.text('said'));
+  expect('in view, too', 'This link holds no state: it was cut off, or changed.',
+    await tab.text('file-text'));
+  await openPage(`${front}#lesson=6`);
+  expect('a lesson by its number alone', /^6\. /, await tab.text('lesson-title'));
+  expect('with what happens in it', VERDICTS.cut, await verdicts());
   await openPage(`${front}#trace=tick%20x`);
   expect('a broken trace is told', 'The trace is refused: dvg: syntax at line 1',
     await tab.text('said'));
@@ -1637,8 +1642,8 @@ async function testHands() {
 
 const meet = (some, others) => [...some].some((one) => others.has(one));
 
-// The pictures that are seen at some moments. The test ROM shows the board's clock, too, so they are
-// of two kinds.
+// The pictures that are seen at some moments. The test ROM shows the board's clock, too, so there
+// are two.
 async function picturesSeen() {
   const seen = new Set();
   for (let k = 0; k < 6; k++) {

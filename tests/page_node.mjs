@@ -28,7 +28,7 @@ import { eventText } from '../page/src/words.mjs';
 import { driverOf, driverText, generatorOf } from '../page/src/inside.mjs';
 import { Processor } from '../page/src/processor.mjs';
 import { Twin, bytesOfTable, linesOfListing } from '../page/src/twin.mjs';
-import { LESSONS, stateOfLesson } from '../page/src/lessons.mjs';
+import { LESSONS, stateOfLesson, withLesson } from '../page/src/lessons.mjs';
 
 const [program, work] = process.argv.slice(2, 4),
   [seeds, events] = process.argv.slice(4, 6).map(Number),
@@ -640,8 +640,10 @@ async function testLinks() {
   }
   const length = (await fragmentOf(state)).length;
   console.log(`a link of ${events} events has ${length} characters`);
-  const broken = await stateOf('#z=AAAA').then(() => 'a state', () => 'an error');
-  expect('a broken link is an error', 'an error', broken);
+  for (const fragment of ['#z=AAAA', '#z=%garbage']) {
+    const broken = await stateOf(fragment).then(() => 'a state', ({ message }) => message);
+    expect('a broken link is an error', 'it was cut off, or changed', broken);
+  }
   board.free();
 }
 
@@ -693,7 +695,13 @@ function testLessons() {
     for (const [, number] of sentences.join(' ').matchAll(/event ([0-9]+)/g)) testMention(title,
       Number(number), sentences.join(' '), board);
     board.free();
+    expect(`lesson ${title}: a link by its number alone`, plainFragment(state),
+      plainFragment(withLesson({ lesson: String(k + 1) })));
+    expect('which may say which event', '44', withLesson({ lesson: k + 1, at: '44' }).at);
   });
+  for (const state of [{ lesson: '9' }, {}, { lesson: '1', trace: 'tick' }]) {
+    expect('others stay as they are', plainFragment(state), plainFragment(withLesson(state)));
+  }
 }
 
 // With one half alone both rows have the colour of half 0, and what the driver writes is early from

@@ -122,6 +122,13 @@ export const LESSONS = [
   },
 ];
 
+/* A state that names a lesson and brings no trace is that lesson's, but for what it says itself. */
+export function withLesson(state) {
+  const number = Number(state.lesson) - 1;
+  if (state.trace !== undefined || LESSONS[number] === undefined) return state;
+  return { ...stateOfLesson(number), ...state };
+}
+
 /* The state of a lesson, for a link. */
 export function stateOfLesson(number) {
   const { at, steps } = LESSONS[number];

@@ -21,9 +21,13 @@ export async function fragmentOf(state) {
 export async function stateOf(fragment) {
   const text = fragment.replace(/^#/, '');
   if (!text.startsWith('z=')) return Object.fromEntries(new URLSearchParams(text));
-  const packed = bytesOfBase64(text.slice(2).replace(/-/g, '+').replace(/_/g, '/'));
-  const plain = await through(packed, new DecompressionStream('deflate-raw'));
+  const plain = await unpacked(text.slice(2).replace(/-/g, '+').replace(/_/g, '/'))
+    .catch(() => { throw new Error('it was cut off, or changed'); });
   return Object.fromEntries(new URLSearchParams(new TextDecoder().decode(plain)));
+}
+
+async function unpacked(text) {
+  return through(bytesOfBase64(text), new DecompressionStream('deflate-raw'));
 }
 
 async function through(bytes, transform) {

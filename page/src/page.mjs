@@ -12,7 +12,7 @@ import { Chance, Proportions, reelOf } from './chance.mjs';
 import { fragmentOf, plainFragment, stateOf } from './links.mjs';
 import { Code } from './code.mjs';
 import { Drops } from './drops.mjs';
-import { LESSONS, stateOfLesson } from './lessons.mjs';
+import { LESSONS, stateOfLesson, withLesson } from './lessons.mjs';
 import { TOUR_RATE, TOUR_STEPS, Tour } from './tour.mjs';
 import { Screen, drawSmall } from './screen.mjs';
 import { Rows } from './rows.mjs';
@@ -575,16 +575,18 @@ function nameOr(text) {
 /* Where the address leads: to a game, to the tour, or to a state of the board. */
 async function loadFragment() {
   try {
-    const state = await stateOf(location.hash);
+    const state = withLesson(await stateOf(location.hash));
     const isGame = location.hash.length <= 1 || state.game !== undefined;
     showGame(isGame);
     if (isGame) beginGame(state);
     else if (location.hash === OPENING_HASH) showNewcomer();
     else loadState(state);
   } catch (fault) {
+    const told = `This link holds no state: ${fault.message}.`;
     showGame(false);
-    tell(`This link holds no state: ${fault.message}`, true);
     if (board === undefined) loadState(FIRST);
+    tell(told, true);
+    tellFile('The link', told, true);
   }
 }
 
