@@ -833,6 +833,10 @@ async function testUnjudged() {
 async function testLogShown(name, log) {
   const said = runProgram(['torn'], log).trim().split('\n');
   expect(`${name}: as the command says`, said.join(', '), await tab.text('judged'));
+  if (name !== 'bad.log') {
+    expect(`${name}: in view, too`, `dvg torn says: ${said[0].split(':')[0]}.`,
+      (await tab.text('file-text')).replace(/^[0-9]+ events?[.] /, ''));
+  }
   const good = runStatus(['torn'], log) === 0;
   const color = said[0].startsWith('torn') ? 'early' : '';
   expect(`${name}: its colour`, good ? 'good' : color,
@@ -920,6 +924,21 @@ async function testWidths() {
     expect(`${width} pixels: compared`, /^the same/, await tab.text('compared'));
     await tab.value('scrollTo(0, 0)');
     writeFileSync(`${work}/page_${width}_whole.png`, await tab.screenshot(true));
+  }
+  await tab.size(1600, 1000);
+}
+
+// A frame in an article, and a window of 1,280 pixels at 400%.
+async function testSmall() {
+  for (const [width, height] of [[600, 420], [320, 256]]) {
+    await tab.size(width, height, false);
+    await openPage();
+    expect(`${width} by ${height}: it doesn't scroll sideways`, true,
+      await tab.value('document.documentElement.scrollWidth <= innerWidth'));
+    expect(`${width} by ${height}: nothing stays in the way`, 'static static', await tab.value(
+      `['.view', '.thumb'].map((one) => getComputedStyle(document.querySelector(one)).position)
+        .join(' ')`));
+    writeFileSync(`${work}/page_${width}.png`, await tab.screenshot());
   }
   await tab.size(1600, 1000);
 }
@@ -1860,7 +1879,7 @@ const tests = {
     testOneByOne, testSeeds, testCutWire, testRunning, testLessons, testLessonKeys,
     testOneHalf, testLink, testFiles, testDrops, testUnjudged, testLongLog,
   testHttp, testInView, testGrey, testCode, testTour, testMend,
-    testWidths, testColors, testMotion, testKeys, testRows,
+    testWidths, testSmall, testColors, testMotion, testKeys, testRows,
     testEdges,
   testGame, testTube, testHands, testWhatIf, testSound, testGameDrops, testGameLink, testGamePage,
     testGameWidths,
@@ -1874,7 +1893,7 @@ for (const [name, test] of Object.entries(tests)) {
 console.log(`browser: what is grey was looked at ${states} times, and ${greys} buttons said why`);
 expect('some were grey', true, chosen.length > 0 || greys > 100);
 const ALLOWED =
-  /^(file:.*dvg\.html|about:|blob:|data:|http:\/\/127\.0\.0\.1:[0-9]+\/(dvg\.html|other)$)/;
+  /^(file:.*(dvg|alone)\.html|about:|blob:|data:|http:\/\/127\.0\.0\.1:[0-9]+\/(dvg\.html|other)$)/;
 expect('nothing but the page was asked for', '',
   [...asked, ...tab.requests].filter((url) => !ALLOWED.test(url.replace(/#.*/, ''))).join());
 await browser.stop();

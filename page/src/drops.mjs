@@ -63,9 +63,9 @@ export class Drops {
     const fault = /line ([0-9]+)/.exec(got.error);
     const good = fault === null ? bytes : firstLines(bytes, Number(fault[1]) - 1);
     const recording = new Recording(name, good, this.drawer);
-    const count = counted(recording.length, 'event');
-    this.stage.record(recording, `The log ${name}`, fault === null ? `${count}.`
-      : `${got.error.trim()}. Before that: ${count}.`, []);
+    const count = counted(recording.length, 'event'), [said] = got.output.split(/:|\n/);
+    this.stage.record(recording, `The log ${name}`, fault === null
+      ? `${count}. dvg torn says: ${said}.` : `${got.error.trim()}. Before that: ${count}.`, []);
     const torn = recording.pictures.find((picture) => picture.torn);
     const event = torn?.tornAt ?? recording.runs.all.first;
     if (event >= 0) this.stage.showLine(event);

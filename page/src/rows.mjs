@@ -1,5 +1,5 @@
 /* Both rows over time: what the generator fetches, and what the driver does. */
-import { ROW, SIGN } from './signs.mjs';
+import { AREA, ROW, SIGN } from './signs.mjs';
 
 /* What stands above the rows, between them, and below. */
 const ABOVE = 25, BETWEEN = 14, BELOW = 20;
@@ -98,6 +98,9 @@ export class Rows {
     const [first, second] = this.tops, height = this.rowHeight;
     columns.forEach((column, row) => {
       this.fillSpans(column, this.tops[row], height, (area) => colors.areas[area]);
+      // Half 1 has a line through it, for who sees no colours.
+      const lined = column.map((area) => Number(area === AREA.HALF1));
+      this.fillSpans(lined, this.tops[row] + height / 2 - 1, 2, () => colors.field);
     });
     this.fillSpans(early, first - 6, second + height + 6 - first, (mark) => colors.glows[mark]);
     this.fillSpans(early, second, height, (mark) => (mark === 2 ? colors.torn : colors.early));
