@@ -910,7 +910,7 @@ function testTwin() {
     }
   }
   console.log(`the driver's code beside the board: ${ticks} ticks`);
-  for (const byte of [0x00, 0x02, 0xF8, 0xFF]) {
+  for (const byte of [0x02, 0x80, 0xFF]) {
     expect(`opcode ${byte} is refused`, 'no instruction that the page knows',
       refusal(byte).split(' at ')[0]);
   }
