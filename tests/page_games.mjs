@@ -461,7 +461,7 @@ function programOfWrites(writes) {
 }
 
 // What `make sound` says is on at the end, of a program in the arcade emulator: each sound and
-// since which second. Null where the emulator isn't here.
+// since which second.
 function soundingInEmulator(image, seconds) {
   const folder = `${work}/sounding`, board = `${top}board/emulator`;
   mkdirSync(`${folder}/roms`, { recursive: true });
@@ -471,7 +471,7 @@ function soundingInEmulator(image, seconds) {
   spawnSync(`${board}/roms`, ['program', 'rom', 'prom', 'roms/asteroid'], { cwd: folder });
   const { status } = spawnSync(`${board}/run`, [`${folder}/roms`, `${folder}/out`, seconds,
     `${board}/press.lua`], { env: { ...process.env, DVG_BUTTONS: '' } });
-  if (status !== 0) return null;
+  if (status !== 0) throw new Error(`the emulator: ${readFileSync(`${folder}/out/said`, 'utf8')}`);
   const text = readFileSync(`${folder}/out/sounding`, 'utf8');
   return new Map([...text.matchAll(/^(\w+), since ([0-9.]+) s$/gm)].map(([, name, time]) => (
     [name, Number(time)])));
@@ -479,9 +479,10 @@ function soundingInEmulator(image, seconds) {
 
 // Of a program that writes for some seconds, what is on at the end is what the emulator says.
 function testSounding() {
+  const isHere = spawnSync('sh', ['-c', 'command -v mame || test -x /usr/games/mame']).status === 0;
+  if (!isHere) return console.log('skipped: sounds beside the emulator: it isn\'t here');
   const image = programOfWrites(soundWrites(25, 11)), sounds = soundsOfBoard();
   const wanted = soundingInEmulator(image, '4');
-  if (wanted === null) return console.log('skipped: sounds beside the emulator: it isn\'t here');
   const arcade = new Arcade(engine, image, new Uint8Array(2048));
   arcade.run(4 * HERTZ);
   const found = [...arcade.latches.since].map(([at, time]) => [sounds.get(at).name, time]);

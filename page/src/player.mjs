@@ -106,7 +106,7 @@ export class Player {
 
   /* --- The picture --- */
 
-  /* The same, on a canvas that is empty. */
+  /* Draws it on a canvas that became empty. */
   drawAnew() {
     this.screen.key = '';
     if (this.arcade !== null) this.draw();
