@@ -943,6 +943,24 @@ async function testSmall() {
   await tab.size(1600, 1000);
 }
 
+// With embed=1 a link shows the picture, what one may do and what comes of it, all in view.
+async function testEmbed() {
+  for (const [width, height] of [[600, 420], [900, 500]]) {
+    await tab.size(width, height, false);
+    for (const [link, ...parts] of [
+      ['lesson=6', '#screen', '#rows', '#run', '#wire', '#verdicts', '#moment-text'],
+      ['game=Rocks', '#tube', '.pads', '#run-moments', '#run-left', '#game-wire', '#what-text']]) {
+      await tab.open(`${front}#${link}&embed=1`);
+      await expectSoon(`${link} at ${width} by ${height}: in view`, '', () => outOfView(parts));
+      expect(`${link}: it doesn't scroll`, true, await tab.value(
+        'document.documentElement.scrollWidth <= innerWidth'));
+      expect(`${link}: its address stays`, `#${link}&embed=1`, await tab.value('location.hash'));
+      writeFileSync(`${work}/page_embed_${link.slice(0, 4)}_${width}.png`, await tab.screenshot());
+    }
+  }
+  await tab.size(1600, 1000);
+}
+
 // Which of these parts aren't in view as a whole: out of the window, out of what scrolls around
 // them, or under something else.
 function outOfView(selectors) {
@@ -1879,7 +1897,7 @@ const tests = {
     testOneByOne, testSeeds, testCutWire, testRunning, testLessons, testLessonKeys,
     testOneHalf, testLink, testFiles, testDrops, testUnjudged, testLongLog,
   testHttp, testInView, testGrey, testCode, testTour, testMend,
-    testWidths, testSmall, testColors, testMotion, testKeys, testRows,
+    testWidths, testSmall, testEmbed, testColors, testMotion, testKeys, testRows,
     testEdges,
   testGame, testTube, testHands, testWhatIf, testSound, testGameDrops, testGameLink, testGamePage,
     testGameWidths,

@@ -577,6 +577,7 @@ async function loadFragment() {
   try {
     const state = withLesson(await stateOf(location.hash));
     const isGame = location.hash.length <= 1 || state.game !== undefined;
+    document.body.classList.toggle('embed', state.embed === '1');
     showGame(isGame);
     if (isGame) beginGame(state);
     else if (location.hash === OPENING_HASH) showNewcomer();
@@ -609,7 +610,7 @@ function beginGame(state) {
 
 /* The address tells of a game that is built in which one it is, and what is asked of its board. */
 function showAddress() {
-  if (!play.isShown || play.number < 0) return;
+  if (!play.isShown || play.number < 0 || document.body.classList.contains('embed')) return;
   const fragment = plainFragment(play.state), wanted = fragment === FIRST_GAME ? '' : fragment;
   if (location.hash !== wanted) history.replaceState(null, '', wanted || '#');
 }
