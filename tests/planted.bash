@@ -30,8 +30,8 @@ record_planted() {
     ) 9<"$tests"
 }
 
-# Whether planted mistakes are to be tried, by PLANTED: the arguments are the suite, as it is called,
-# and the files and folders that decide what comes of them. `end_planted` comes after them.
+# Whether planted mistakes are to be tried, by PLANTED: the arguments are the suite, as it is
+# called, and the files and folders that decide what comes of them. `end_planted` comes after them.
 wants_planted() {
     local is_recorded=
     planted_suite=$1 planted_before="$failed $skipped"
