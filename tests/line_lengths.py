@@ -17,7 +17,7 @@ EXEMPT = re.compile(
     r"\.antt$|^plain/crates/"
     r"|^page/(dvg\.html|dvg\.wasm\.made|driver\.listing)$"
     r"|^tests/(tool_)?cases/.*\.md$|^tests/compare_mistakes$"
-    r"|^crates/[^/]+/wrong-(bodies|laws)\.edits$|^tests/refused/")
+    r"|^crates/[^/]+/wrong-(bodies|laws)\.edits$|^tests/refused$")
 
 
 def too_long(path, text):
