@@ -30,11 +30,21 @@ record_planted() {
     ) 9<"$tests"
 }
 
+# What is skipped, and plants no mistake: as skip.
+skip_other() {
+    skip "$1"
+    skipped_other=$((skipped_other + 1))
+}
+skipped_other=0
+
+# How many checks failed, and how many were skipped otherwise.
+not_passed() { echo "$failed $((skipped - skipped_other))"; }
+
 # Whether planted mistakes are to be tried, by PLANTED: the arguments are the suite, as it is
 # called, and the files and folders that decide what comes of them. `end_planted` comes after them.
 wants_planted() {
     local is_recorded=
-    planted_suite=$1 planted_before="$failed $skipped"
+    planted_suite=$1 planted_before=$(not_passed)
     planted_sum=$(sum_of_files "${@:2}" tests/planted.bash) || planted_sum=unknown
     ! grep -qxF "$planted_sum $1" "$tests/planted.sums" || is_recorded=yes
     if [ "${PLANTED-}" = changed ] && [ -n "$is_recorded" ]; then
@@ -45,11 +55,12 @@ wants_planted() {
         echo "planted mistakes: what they read has changed; PLANTED=record $1 tries and records"
 }
 
-# Records them, where PLANTED says so, if nothing failed and nothing was skipped since then.
+# Records them, where PLANTED says so, if nothing failed and nothing but by skip_other was skipped
+# since then.
 end_planted() {
     if [ "${PLANTED-}" != record ]; then
         return
-    elif [ "$planted_sum" != unknown ] && [ "$planted_before" = "$failed $skipped" ]; then
+    elif [ "$planted_sum" != unknown ] && [ "$planted_before" = "$(not_passed)" ]; then
         record_planted "$planted_suite" "$planted_sum"
     else
         echo "planted mistakes: not recorded, as something failed or was skipped"
