@@ -25,6 +25,7 @@ GAME, SHAPES, BUTTONS, MAKEFILE = 'game.s', 'shapes.sketch', 'buttons.txt', 'mak
 PICTURE, CLOSE = 'picture:\n', '        jmp dvg_close\n'
 NMI, CODE = 'nmi:    inc beats', 'reset:  lda'
 FLIES, MISSED, SCORE = 'flies:  rts', 'missed: jmp serve', 'score:  .res SCORE_DIGITS'
+MOVES, LOOP, DRAW = '        jsr move_bat\n', '        jmp picture\n', 'draw:   jsr dvg_open'
 LEFT = '        bit IN_LEFT\n        bpl no_left\n'
 BALL = 'ball: 0,0 12,0 12,12 0,12 0,0\n'
 
@@ -97,7 +98,7 @@ MISTAKES = [
     ('a letter without a shape', edit('"SCORE "', '"SCORE* "'), 'make',
      'line_at has no letter 6 of this line: SCORE'),
     ('a subroutine that is left by JMP', edit(FLIES, 'flies:  jmp picture'), 'proof',
-     '^refused: .*which is main, not sub: is there an RTS or JMP too few'),
+     "^refused: .*which is main, not sub: a subroutine ends with RTS, and doesn't lead into"),
     ('NMI and reset exchanged', edit('.word nmi, reset, irq', '.word reset, nmi, irq'), 'proof',
      r'VECTORS has \.word nmi, reset, irq, in this order'),
     ('a vector of 1,024', line('$59', 1024), 'premises',
@@ -180,6 +181,14 @@ MISTAKES = [
      '^warning: .* branches by BEQ or BNE look at all bits of a switch.*, move_bat'),
     ('switches without their mask', each_picture(' lda SWITCHES_SHIPS\n bne four\n nop\nfour:'),
      'premises', '^warning: .*AND #SWITCHES_MASK leaves two, .*, picture'),
+    # Of a game that somebody wrote by the papers alone
+    ('a JMP for a JSR', edit(MOVES, MOVES.replace('jsr', 'jmp')), 'proof',
+     r'^refused: .*it returns from level main.*: is the JMP at .... \(picture\) one for a JSR'),
+    ('JMP and JSR to one subroutine',
+     each_picture(' jsr move_bat') + edit(MOVES, MOVES.replace('jsr', 'jmp')), 'proof',
+     r'^refused: .* jmp .*\(move_bat\), which is sub, not main: it is called at .... \(picture\),'),
+    ('a loop without its JMP', edit(LOOP, ''), 'proof',
+     r'^refused: .*it runs on into .... \(rest\), .*: is an RTS or JMP missing before it\?'),
     ('BMI for BPL', edit(LEFT, LEFT.replace('bpl', 'bmi')), None,
      'no tool knows which way a button should go'),
 ]
