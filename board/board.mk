@@ -34,6 +34,7 @@
 #: JUDGED   how many seconds premises, judge, film and sound run, of the board's time [20]
 #: SECONDS  the same of emulator and torn [5]; SHOTS: when pictures are taken [1.5 2.5 3.5 4.5]
 #: RATE     how many pictures a second judge wants [30]
+#: STILL    for how many seconds, up to the end, judge takes redraws alone [5]
 #: FILM     the seconds of the film, the first and the last one [3 12]
 #: WATCH    labels whose bytes judge prints at the end, as: lives score:4
 #: BUTTONS  the file of presses that all but play and torn play [buttons.txt, if it is there]
@@ -50,6 +51,7 @@ SECONDS ?= 5
 SHOTS ?= 1.5 2.5 3.5 4.5
 JUDGED ?= 20
 RATE ?= 30
+STILL ?= 5
 FILM ?= 3 12
 BUTTONS ?= buttons.txt
 $(shell mkdir -p build)
@@ -181,7 +183,7 @@ judge: good_buttons build/roms/$(MACHINE) build/premises build/driver.proved
 	    $(BOARD)emulator/run build/roms build/judge $(JUDGED) $(BOARD)emulator/judge.lua || { \
 	    echo 'BAD: the emulator failed: build/judge/said' && exit 1; }
 	@DVG_LABELS="$(labels)" DVG_EQUATES=build/shapes.equates \
-	    python3 $(BOARD)emulator/judge.py build/judge build/rom $(RATE)
+	    python3 $(BOARD)emulator/judge.py build/judge build/rom $(RATE) $(STILL)
 
 sound: good_buttons build/roms/$(MACHINE)
 	@DVG_BUTTONS="$(played)" DVG_WAV=sound.wav \

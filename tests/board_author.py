@@ -21,11 +21,13 @@ import sys
 TOOLS = {'make': 'roms', 'proof': 'proof', 'premises': 'premises', 'sound': 'sound',
          'judge': 'judge'}
 SECONDS = 2                         # of the board's time, which a run lasts
+STILL = 1                           # of these, for which redraws alone may come
 GAME, SHAPES, BUTTONS, MAKEFILE = 'game.s', 'shapes.sketch', 'buttons.txt', 'makefile'
 PICTURE, CLOSE = 'picture:\n', '        jmp dvg_close\n'
 NMI, CODE = 'nmi:    inc beats', 'reset:  lda'
 FLIES, MISSED, SCORE = 'flies:  rts', 'missed: jmp serve', 'score:  .res SCORE_DIGITS'
 MOVES, LOOP, DRAW = '        jsr move_bat\n', '        jmp picture\n', 'draw:   jsr dvg_open'
+SPARE = [(GAME, SCORE, SCORE + '\nspare:  .res 1')]
 LEFT = '        bit IN_LEFT\n        bpl no_left\n'
 BALL = 'ball: 0,0 12,0 12,12 0,12 0,0\n'
 
@@ -58,6 +60,25 @@ def line(a, length=512):
 line:   jsr dvg_vector''')
 
 
+def halting(count):
+    """After so many pictures the loop only redraws."""
+    begins = edit('        jsr serve\n', ' jsr serve\n lda #0\n sta spare\n')
+    return SPARE + begins + edit(LOOP, f'''
+        inc spare
+        lda spare
+        cmp #{count}
+        bcs frozen
+        jmp picture
+frozen: lda #0
+        sta beats
+        lda #4
+        jsr rest
+        jsr dvg_redraw
+        jsr dvg_run
+        jmp frozen
+''')
+
+
 def listed(bound):
     """A shape of a list of two, which this bounds."""
     lists = ('.segment "DATA"\n.define OWN $C000 | bat, $C000 | ball\nown_low:  .lobytes OWN\n'
@@ -67,8 +88,9 @@ def listed(bound):
 
 
 # Of each what it is, the edits, the tool that is the first to name it, or None, and its words. Two
-# seconds have 492 NMIs, so 62 pictures begin. Seven letters of 36 units come before the line, which
-# begins at 672; a letter is 24 wide and 36 high.
+# seconds have 492 NMIs, so 62 pictures begin. The tenth one is shown when 80 NMIs have come, after
+# 0.325 s. Seven letters of 36 units come before the line, which begins at 672; a letter is 24 wide
+# and 36 high.
 MISTAKES = [
     # Of a trial by somebody who wrote none of the tools
     ('no watchdog in the loop', edit('rest:   sta WATCHDOG', 'rest:'), 'judge',
@@ -182,6 +204,9 @@ MISTAKES = [
     ('switches without their mask', each_picture(' lda SWITCHES_SHIPS\n bne four\n nop\nfour:'),
      'premises', '^warning: .*AND #SWITCHES_MASK leaves two, .*, picture'),
     # Of a game that somebody wrote by the papers alone
+    ('a picture that stands still', halting(10), 'judge',
+     r'^BAD: no new picture for 1\.[67] seconds, from 0\.32[56] s on: redraws alone; after a second'
+     r' the program was in ...., rest( \+ [0-9])?, from ...., frozen \+ [0-9]*; no button and no'),
     ('a JMP for a JSR', edit(MOVES, MOVES.replace('jsr', 'jmp')), 'proof',
      r'^refused: .*it returns from level main.*: is the JMP at .... \(picture\) one for a JSR'),
     ('JMP and JSR to one subroutine',
@@ -211,8 +236,9 @@ def planted(game, number):
 def asked(folder, tool):
     """What a tool says of a folder, its status, and the seconds of a processor that it took."""
     before = resource.getrusage(resource.RUSAGE_CHILDREN)
-    done = subprocess.run(['make', '-s', TOOLS[tool], f'JUDGED={SECONDS}'], cwd=folder, text=True,
-                          stdout=subprocess.PIPE, stderr=subprocess.STDOUT, check=False)
+    done = subprocess.run(['make', '-s', TOOLS[tool], f'JUDGED={SECONDS}', f'STILL={STILL}'],
+                          cwd=folder, text=True, stdout=subprocess.PIPE, stderr=subprocess.STDOUT,
+                          check=False)
     after = resource.getrusage(resource.RUSAGE_CHILDREN)
     took = after.ru_utime + after.ru_stime - before.ru_utime - before.ru_stime
     return done.stdout, done.returncode, took
