@@ -124,7 +124,8 @@ MISTAKES = [
     ('NMI and reset exchanged', edit('.word nmi, reset, irq', '.word reset, nmi, irq'), 'proof',
      r'VECTORS has \.word nmi, reset, irq, in this order'),
     ('a vector of 1,024', line('$59', 1024), 'premises',
-     '^warning: [0-9]* instructions were left out, as there is no such vector.*, line, at'),
+     '^warning: 62 instructions were left out, as there is no such vector.*, line, from ...., pict'
+     r'ure \+ 6, at 0.0'),
     ('a variable that nothing sets', edit('serve:  lda #0\n        sta score\n', 'serve:\n'),
      'premises', '^warning: .* bytes that nothing had written, .* score$'),
     ('no LABS at first', edit('draw_at wall_x, wall_y, wall', 'dvg_call wall'), 'proof',
@@ -183,7 +184,7 @@ MISTAKES = [
     ('the low byte of dvg_x alone', edit(
         CLOSE, ' lda #40\n sta dvg_x\n lda #200\n sta dvg_y\n lda #1\n sta dvg_y + 1\n lda #0\n'
         'half:   jsr dvg_labs\n dvg_call ball\n' + CLOSE), 'premises',
-     '^warning: .* take bytes of dvg_x or dvg_y from before the last one, .*, half, at'),
+     '^warning: .* take bytes of dvg_x or dvg_y from before the last one, .*, half, from'),
     ('beats that are never set back', edit('        lda #0\n        sta beats\n', ''), 'judge',
      '^BAD: too many new pictures'),
     ('a coin counter that stays on', each_picture(' lda #OUT_COIN_LEFT\n sta OUTPUTS'), 'sound',
@@ -214,6 +215,12 @@ MISTAKES = [
      r'^refused: .* jmp .*\(move_bat\), which is sub, not main: it is called at .... \(picture\),'),
     ('a loop without its JMP', edit(LOOP, ''), 'proof',
      r'^refused: .*it runs on into .... \(rest\), .*: is an RTS or JMP missing before it\?'),
+    ('an RTS that is left out', SPARE + edit(DRAW, 'blink:  inc spare\n' + DRAW)
+     + each_picture(' jsr blink'), 'premises',
+     '^warning: 62 calls of dvg_open were refused, .*; ...., blink, runs on into draw: is an rts'),
+    ('a text behind the end of a frame', edit(CLOSE, ' jsr dvg_close\nafter:  say title\n rts\n'),
+     'premises', f'^warning: {62 * 7} instructions were put outside of a frame, the first by ....'
+     r', print \+ 28, from ...., after \+ 4, from ...., picture \+ 6, at'),
     ('BMI for BPL', edit(LEFT, LEFT.replace('bpl', 'bmi')), None,
      'no tool knows which way a button should go'),
 ]

@@ -26,6 +26,7 @@
 #include <string.h>
 #include "board_cpu.h"
 #include "board_labels.h"
+#include "board_misuse.h"
 #include "board_strokes.h"
 
 enum {
@@ -34,8 +35,9 @@ enum {
     BEGUN = 8, NMI_CYCLES = 6144, FRAME_CYCLES = 24576, NMI_MOST_CYCLES = 6048, NMI_MOST_TICKS = 53,
     CYCLES_A_SECOND = 1512000, LEAST_STACK = 0x60,
     INPUTS = 0x2000, CLOCK = 0x2001, TEST = 0x2007, SWITCHES = 0x2800, INPUTS_END = 0x3000,
-    ROM = 0x6000, JSR_OPCODE = 0x20, RTI_OPCODE = 0x40, RTS_OPCODE = 0x60, TXS_OPCODE = 0x9A,
-    BNE_OPCODE = 0xD0, BEQ_OPCODE = 0xF0, MOST_CALLS = 3, RAM_END = 0x400, VECTORS = 0x7FFA,
+    ROM = 0x6000, JSR_OPCODE = 0x20, RTI_OPCODE = 0x40, JMP_OPCODE = 0x4C, RTS_OPCODE = 0x60,
+    TXS_OPCODE = 0x9A, BNE_OPCODE = 0xD0, BEQ_OPCODE = 0xF0, MOST_CALLS = 3, RAM_END = 0x400,
+    VECTORS = 0x7FFA,
     FREE = 0x11, ALL_OPERANDS = 0xF, VECTOR_ROM_END = 0x5800, VECTOR_ROM = 0x1000
 };
 enum { IDLE = 2, BUILD = 7, WRITING = 0x80 };
@@ -46,7 +48,6 @@ static const char *const names[] = {
     "dvg_put", "dvg_pair", "dvg_labs", "dvg_vector", "dvg_copy", "dvg_close"
 };
 enum { ROUTINES = sizeof names / sizeof names[0] };
-
 /* Who runs: the program, its NMI, or an NMI amid that. */
 typedef struct {
     cpu before;                         /* of an NMI: the registers that it has to give back */
@@ -56,13 +57,15 @@ typedef struct {
     cpu at_entry;
     uint16_t back;                      /* its return address */
     int ticks;                          /* of this NMI */
+    int last;                           /* the program's last instruction */
 } context;
 
-/* Calls that did nothing: how many, and the first one's place and time. */
+/* What is seldom meant so, as calls that did nothing: how many, and of the first one the place, the
+ * calls that led there, the last one first, and the time. */
 typedef struct {
     const char *what;
     long count;
-    int at;
+    int at, calls[MOST_CALLS];
     uint64_t cycles;
 } vain;
 
@@ -90,6 +93,8 @@ static const vain *const warnings[] = {
     &old_places, &misread
 };
 static vain blind_reads[RAM_END];       /* of each byte, before anything had written it */
+static uint8_t is_called[MEMORY];       /* a JSR leads there */
+static uint16_t ran_from[MEMORY];       /* the instruction before that ran on into this one, or 0 */
 static uint8_t was_written[RAM_END], was_counted[RAM_END], was_used[MEMORY], was_run[MEMORY];
 static uint8_t memory[MEMORY];
 static cpu processor;
@@ -148,51 +153,100 @@ static int call_above(int s)
     return call < ROM || call >= MEMORY - 6 || memory[call] != JSR_OPCODE ? 0 : call;
 }
 
-/* Where the driver was called from, by the JSRs whose return addresses stand on the stack. */
-static void print_calls(void)
+/* The calls whose return addresses stand on the stack above s, but those of the driver's own; a 0
+ * ends them. */
+static void find_calls(int s, int *calls)
 {
-    int s = processor.s;
+    int count = 0;
+    memset(calls, 0, MOST_CALLS * sizeof *calls);
     for (int i = 0; i < MOST_CALLS; i++, s += 2) {
         const int call = call_above(s);
         if (!call) return;
-        if (is_driver(call)) continue;
-        printf(", from ");
-        print_place(call);
+        if (!is_driver(call)) calls[count++] = call;
     }
+}
+
+static void print_calls(const int *calls)
+{
+    for (int i = 0; i < MOST_CALLS && calls[i]; i++) {
+        printf(", from ");
+        print_place(calls[i]);
+    }
+}
+
+/* Where a subroutine is both called, and run into by the instruction before it, an RTS may be
+ * missing there. `entry` is its first instruction. */
+static int is_run_into(int entry) { return is_called[entry] && ran_from[entry]; }
+
+/* The subroutine of a place, or of one of the calls that led there, that is run into; or 0. */
+static int run_into(int at, const int *calls)
+{
+    const int i = label_before(at);
+    if (i >= 0 && is_run_into(labels[i].at)) return labels[i].at;
+    for (int k = 0; k < MOST_CALLS && calls[k]; k++)
+        if (is_run_into(word_at(calls[k] + 1) % MEMORY)) return word_at(calls[k] + 1) % MEMORY;
+    return 0;
+}
+
+static void print_run_into(int at, const int *calls)
+{
+    const int entry = run_into(at, calls), i = entry ? label_before(entry) : -1;
+    if (i < 0) return;
+    printf("; ");
+    print_place(ran_from[entry]);
+    printf(", runs on into %s: is an rts missing before it?", labels[i].name);
 }
 
 static void fail(const char *format, ...)
 {
     va_list list;
+    int calls[MOST_CALLS];
     va_start(list, format);
     vprintf(format, list);
     va_end(list);
     printf(", by ");
     print_place(instruction);
-    if (is_driver(instruction)) print_calls();
-    printf(", at %.3f s\n", (double)processor.cycles / CYCLES_A_SECOND);
+    find_calls(processor.s, calls);
+    if (is_driver(instruction)) print_calls(calls);
+    printf(", at %.3f s", (double)processor.cycles / CYCLES_A_SECOND);
+    print_run_into(instruction, calls);
+    printf("\n");
     exit(1);
 }
 
-static void note_at(vain *calls_in_vain, int at, uint64_t cycles)
+/* Counts what the instruction at a place does, which calls led to that left this S. */
+static void note_at(vain *found, int at, int s, uint64_t cycles)
 {
-    if (calls_in_vain->count++) return;
-    calls_in_vain->at = at;
-    calls_in_vain->cycles = cycles;
+    if (found->count++) return;
+    found->at = at;
+    find_calls(s, found->calls);
+    found->cycles = cycles;
 }
 
-/* Counts the call that is at hand. */
-static void note(vain *calls_in_vain)
+/* Counts what the instruction that runs does. */
+static void note_here(vain *found) { note_at(found, instruction, processor.s, processor.cycles); }
+
+/* Counts the call of the driver that is at hand. */
+static void note(vain *found)
 {
-    note_at(calls_in_vain, (uint16_t)(now->back - 3), now->at_entry.cycles);
+    note_at(found, (uint16_t)(now->back - 3), now->at_entry.s + 2, now->at_entry.cycles);
 }
 
-/* Without the end of its line. */
-static void warn(const vain *calls_in_vain)
+/* Of the first one: the place, and the calls that led there. */
+static void print_first(const vain *found)
 {
-    printf("warning: %ld %s, the first by ", calls_in_vain->count, calls_in_vain->what);
-    print_place(calls_in_vain->at);
-    printf(", at %.3f s", (double)calls_in_vain->cycles / CYCLES_A_SECOND);
+    printf(", the first by ");
+    print_place(found->at);
+    print_calls(found->calls);
+    printf(", at %.3f s", (double)found->cycles / CYCLES_A_SECOND);
+}
+
+static void warn(const vain *found)
+{
+    printf("warning: %ld %s", found->count, found->what);
+    print_first(found);
+    print_run_into(found->at, found->calls);
+    printf("\n");
 }
 
 static int below(int count)
@@ -285,7 +339,7 @@ static void check_read(int at)
 {
     was_used[at] = 1;
     if (at >= RAM_END || was_written[at] || now->in_driver || !was_reset) return;
-    note_at(&blind_reads[at], instruction, processor.cycles);
+    note_here(&blind_reads[at]);
 }
 
 /* Before the first call a program may test the vector RAM and look at the flag: no run is open. */
@@ -542,9 +596,38 @@ static void check_opcode(int opcode)
 /* Of a switch the other bits aren't known: bit 7 counts, or bits 1 and 0 of those on the board. */
 static void check_input(int opcode)
 {
-    if (input_read >= 0 && (opcode == BEQ_OPCODE || opcode == BNE_OPCODE))
-        note_at(&misread, instruction, processor.cycles);
+    if (input_read >= 0 && (opcode == BEQ_OPCODE || opcode == BNE_OPCODE)) note_here(&misread);
     input_read = -1;
+}
+
+/* The address that stands behind an opcode. */
+static int operand_of(int at) { return word_at((at + 1) % MEMORY) % MEMORY; }
+
+/* Whether an instruction ends a subroutine, as a JMP to the driver does. */
+static int returns(int at)
+{
+    return memory[at] == RTS_OPCODE || (memory[at] == JMP_OPCODE && is_driver(operand_of(at)));
+}
+
+/* How the instruction was come to, and where it leads by a call. What follows a call is come to
+ * from there. */
+static void note_way(int opcode)
+{
+    const int last = now->last, at = instruction, before = memory[last];
+    if (last && before != JMP_OPCODE && last + kinds[before].size == at)
+        ran_from[at] = (uint16_t)last;
+    else if (last && returns(last) && memory[at - 3] == JSR_OPCODE)
+        ran_from[at] = (uint16_t)(at - 3);
+    if (opcode == JSR_OPCODE) is_called[operand_of(at)] = 1;
+    now->last = at;
+}
+
+/* What the program's own instruction does that is seldom meant so. */
+static void check_misuse(int opcode)
+{
+    instruction %= MEMORY;
+    note_way(opcode);
+    check_input(opcode);
 }
 
 static void run_one(void)
@@ -560,7 +643,7 @@ static void run_one(void)
         fail("more than %d ticks in an NMI", NMI_MOST_TICKS);
     if (processor.s < LEAST_STACK && was_reset) fail("the stack grows down to %02X", processor.s);
     check_opcode(memory[processor.pc % MEMORY]);
-    check_input(memory[processor.pc % MEMORY]);
+    if (!now->in_driver) check_misuse(memory[processor.pc % MEMORY]);
     step(&processor);
 }
 
@@ -619,6 +702,18 @@ static void find_tables(void)
 
 /* --- What was seen --- */
 
+/* Adds what was counted at another place: the first one of all counts as first. */
+static void add(vain *all, const vain *more)
+{
+    const long count = all->count + more->count;
+    if (!all->count || more->cycles < all->cycles) {
+        const char *what = all->what;
+        *all = *more;
+        all->what = what;
+    }
+    all->count = count;
+}
+
 /* Of the byte that was read first. The last label of a byte is the program's own. */
 static void tell_blind_reads(void)
 {
@@ -626,19 +721,15 @@ static void tell_blind_reads(void)
     const char *name = 0;
     int byte = 0;
     for (int at = 0; at < RAM_END; at++) {
-        const vain *reads = &blind_reads[at];
-        if (was_counted[at] || !reads->count) continue;
-        if (!all.count || reads->cycles < all.cycles) {
-            byte = at;
-            all.at = reads->at;
-            all.cycles = reads->cycles;
-        }
-        all.count += reads->count;
+        if (was_counted[at] || !blind_reads[at].count) continue;
+        if (!all.count || blind_reads[at].cycles < all.cycles) byte = at;
+        add(&all, &blind_reads[at]);
     }
     if (!all.count) return;
     for (int i = 0; i < label_count; i++)
         if (labels[i].at == byte) name = labels[i].name;
-    warn(&all);
+    printf("warning: %ld %s", all.count, all.what);
+    print_first(&all);
     printf(", of %04X%s%s\n", byte, name ? ", " : "", name ? name : "");
 }
 
@@ -698,12 +789,22 @@ static void tell_unused(int data)
     if (count) printf("\n");
 }
 
+static void tell_warnings(void)
+{
+    for (unsigned i = 0; i < sizeof warnings / sizeof warnings[0]; i++)
+        if (warnings[i]->count) warn(warnings[i]);
+    tell_blind_reads();
+    if (!frames_built && !frames_offered) printf("warning: no frame was built or offered\n");
+    for (int i = 0; is_boards && i < place_count; i++) tell_place(&places_seen[i]);
+}
+
 int main(int count, char **words)
 {
     uint8_t driver[PROGRAM_BYTES], program[PROGRAM_BYTES];
     size_t size;
     if (count < 7 || count > 10) return 64;
     ready_opcodes();
+    ready_kinds();
     size = read_file(words[2], program, sizeof program);
     program_from = MEMORY - (int)size;
     memcpy(memory + program_from, program, size);
@@ -728,14 +829,7 @@ int main(int count, char **words)
     run(strtoull(words[5], 0, 10) * CYCLES_A_SECOND);
     printf("%ld calls, %ld NMIs, %ld of them amid an NMI, %ld frames offered and %ld built\n",
         calls, nmis, nested, frames_offered, frames_built);
-    for (unsigned i = 0; i < sizeof warnings / sizeof warnings[0]; i++) {
-        if (!warnings[i]->count) continue;
-        warn(warnings[i]);
-        printf("\n");
-    }
-    tell_blind_reads();
-    if (!frames_built && !frames_offered) printf("warning: no frame was built or offered\n");
-    for (int i = 0; is_boards && i < place_count; i++) tell_place(&places_seen[i]);
+    tell_warnings();
     if (count > 8) tell_unused(data_of(words[8]));
     return 0;
 }
