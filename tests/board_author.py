@@ -221,6 +221,10 @@ MISTAKES = [
     ('a text behind the end of a frame', edit(CLOSE, ' jsr dvg_close\nafter:  say title\n rts\n'),
      'premises', f'^warning: {62 * 7} instructions were put outside of a frame, the first by ....'
      r', print \+ 28, from ...., after \+ 4, from ...., picture \+ 6, at'),
+    ('a ROL of what nothing set', drawn(
+        ' lda #40\n sta dvg_x\n rol dvg_x + 1\n lda #200\n sta dvg_y\n lda #0\n sta dvg_y + 1\n'
+        'half:   jsr dvg_labs\n dvg_call ball'), 'premises',
+     '^warning: 62 calls .* take bytes of dvg_x or dvg_y from before the last one, .*, half, from'),
     ('BMI for BPL', edit(LEFT, LEFT.replace('bpl', 'bmi')), None,
      'no tool knows which way a button should go'),
 ]

@@ -367,7 +367,7 @@ static void check_write(int at)
         fail("%s writes %04X, of the table that is being written", whose(), at);
     if (is_nmi() && at >> 8 == 1 && (at & 0xFF) > now->before.s)
         fail("the NMI writes %04X, which stands on the stack above S", at);
-    if (is_operand) operands_set |= 1 << (at - OPERANDS);
+    if (is_operand && !kinds[memory[instruction]].is_change) operands_set |= 1 << (at - OPERANDS);
 }
 
 /* What an NMI counts by INC is a clock, which may begin anywhere. */
