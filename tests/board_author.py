@@ -225,6 +225,9 @@ MISTAKES = [
         ' lda #40\n sta dvg_x\n rol dvg_x + 1\n lda #200\n sta dvg_y\n lda #0\n sta dvg_y + 1\n'
         'half:   jsr dvg_labs\n dvg_call ball'), 'premises',
      '^warning: 62 calls .* take bytes of dvg_x or dvg_y from before the last one, .*, half, from'),
+    ('X after a call of the driver',
+     drawn(' ldx #3\neach:   dvg_call ball\nlost:   dex\n bpl each'), 'premises',
+     r'^warning: 62 uses of X come after a call .*, lost, from ...., picture \+ 6, at'),
     ('BMI for BPL', edit(LEFT, LEFT.replace('bpl', 'bmi')), None,
      'no tool knows which way a button should go'),
 ]

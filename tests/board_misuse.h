@@ -1,9 +1,14 @@
-/* What an instruction is, by its opcode. */
+/* What an instruction does with A, X and Y: for what is seldom meant so, a value in a register that
+ * nothing kept. */
 #include <stdint.h>
 
-/* Its bytes, and whether it makes the byte that it writes of the one that was there. */
+enum { IN_A = 1, IN_X = 2, IN_Y = 4, ALL_REGISTERS = 7, REGISTERS = 3 };
+/* What an instruction does, by its opcode: its bytes; the registers by which it counts in memory,
+ * whose values it takes, and which it sets; and whether it makes the byte that it writes of the one
+ * that was there. */
 static struct {
-    uint8_t size, is_change;
+    uint8_t size, index, taken, set, is_change;
+    enum mode mode;
 } kinds[256];
 
 static int size_of(enum mode mode)
@@ -12,6 +17,41 @@ static int size_of(enum mode mode)
     case NONE: case ACC: return 1;
     case ABS: case ABX: case ABY: case IND: return 3;
     default: return 2;
+    }
+}
+
+static int index_of(enum mode mode)
+{
+    switch (mode) {
+    case ZPX: case ABX: case IZX: return IN_X;
+    case ZPY: case ABY: case IZY: return IN_Y;
+    default: return 0;
+    }
+}
+
+/* A push keeps a register, and BIT is there for bits 7 and 6. */
+static int taken_by(enum operation operation, enum mode mode)
+{
+    const int index = index_of(mode);
+    switch (operation) {
+    case ADC: case SBC: case AND: case ORA: case EOR: case CMP: case STA: case TAX: case TAY:
+        return index | IN_A;
+    case ASL: case LSR: case ROL: case ROR: return mode == ACC ? IN_A : index;
+    case CPX: case STX: case INX: case DEX: case TXA: case TXS: return index | IN_X;
+    case CPY: case STY: case INY: case DEY: case TYA: return index | IN_Y;
+    default: return index;
+    }
+}
+
+static int set_by(enum operation operation, enum mode mode)
+{
+    switch (operation) {
+    case LDA: case ADC: case SBC: case AND: case ORA: case EOR: case PLA: case TXA: case TYA:
+        return IN_A;
+    case ASL: case LSR: case ROL: case ROR: return mode == ACC ? IN_A : 0;
+    case LDX: case INX: case DEX: case TAX: case TSX: return IN_X;
+    case LDY: case INY: case DEY: case TAY: return IN_Y;
+    default: return 0;
     }
 }
 
@@ -28,7 +68,11 @@ static void ready_kinds(void)
     for (unsigned i = 0; i < sizeof opcodes / sizeof opcodes[0]; i++) {
         const enum operation operation = (enum operation)opcodes[i].operation;
         const enum mode mode = (enum mode)opcodes[i].mode;
+        kinds[opcodes[i].opcode].mode = mode;
         kinds[opcodes[i].opcode].size = (uint8_t)size_of(mode);
+        kinds[opcodes[i].opcode].index = (uint8_t)index_of(mode);
+        kinds[opcodes[i].opcode].taken = (uint8_t)taken_by(operation, mode);
+        kinds[opcodes[i].opcode].set = (uint8_t)set_by(operation, mode);
         kinds[opcodes[i].opcode].is_change = (uint8_t)is_change(operation, mode);
     }
 }

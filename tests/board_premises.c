@@ -15,11 +15,12 @@
  * Prints how much was seen, or the first thing that is against a premise, and the place of the
  * instruction (status 1). Where nothing is, it also warns of calls that did nothing: a dvg_open
  * that was refused, and what was put outside of a frame, or was left out of it; of a scale that
- * dvg_labs doesn't take, and of a place that wasn't set anew; of reads of RAM that nothing had
- * written, and of an input whose wrong bits decide; and where no frame was made at all. With a ROM
- * it names in the board's run the places where in each picture nothing is seen of what they put, or
- * a part isn't. With a MAP it ends with the labels of the segment CODE at which nothing ran or was
- * read, and with what follows a branch that was always taken. */
+ * dvg_labs doesn't take, and of a place that wasn't set anew; of a value that a routine of the
+ * driver left in A, X or Y; of reads of RAM that nothing had written;
+ * of an input whose wrong bits decide; and where no frame was made at all. With a ROM it names in
+ * the board's run the places where in each picture nothing is seen of what they put, or a part
+ * isn't. With a MAP it ends with the labels of the segment CODE at which nothing ran or was read,
+ * and with what follows a branch that was always taken. */
 #include <stdarg.h>
 #include <stdio.h>
 #include <stdlib.h>
@@ -38,7 +39,8 @@ enum {
     ROM = 0x6000, JSR_OPCODE = 0x20, RTI_OPCODE = 0x40, JMP_OPCODE = 0x4C, RTS_OPCODE = 0x60,
     TXS_OPCODE = 0x9A, BNE_OPCODE = 0xD0, BEQ_OPCODE = 0xF0, MOST_CALLS = 3, RAM_END = 0x400,
     VECTORS = 0x7FFA,
-    FREE = 0x11, ALL_OPERANDS = 0xF, VECTOR_ROM_END = 0x5800, VECTOR_ROM = 0x1000
+    FREE = 0x11, ALL_OPERANDS = 0xF, VECTOR_ROM_END = 0x5800, VECTOR_ROM = 0x1000,
+    WATCHDOG = 0x3400, NOISE_RESET = 0x3E00
 };
 enum { IDLE = 2, BUILD = 7, WRITING = 0x80 };
 enum routine { RESET, RUN, TICKS, TICK, OFFER, REDRAW, OPEN, PUT, PAIR, SET, VECTOR, COPY, CLOSE };
@@ -48,6 +50,12 @@ static const char *const names[] = {
     "dvg_put", "dvg_pair", "dvg_labs", "dvg_vector", "dvg_copy", "dvg_close"
 };
 enum { ROUTINES = sizeof names / sizeof names[0] };
+/* The registers that each takes. */
+static const int takes[ROUTINES] = {
+    [TICKS] = IN_A, [OFFER] = IN_A | IN_X, [PUT] = IN_A | IN_X, [SET] = IN_A, [VECTOR] = IN_A,
+    [COPY] = ALL_REGISTERS
+};
+
 /* Who runs: the program, its NMI, or an NMI amid that. */
 typedef struct {
     cpu before;                         /* of an NMI: the registers that it has to give back */
@@ -57,6 +65,7 @@ typedef struct {
     cpu at_entry;
     uint16_t back;                      /* its return address */
     int ticks;                          /* of this NMI */
+    int lost;                           /* the registers that the driver left, and nothing set */
     int last;                           /* the program's last instruction */
 } context;
 
@@ -88,9 +97,14 @@ static vain misread = {
     .what = "branches by BEQ or BNE look at all bits of a switch: BMI and BPL look at the one that "
         "counts, and AND #SWITCHES_MASK leaves two"
 };
+static vain lost_registers[REGISTERS] = {
+    { .what = "uses of A come after a call of the driver, which keeps no register" },
+    { .what = "uses of X come after a call of the driver, which keeps no register" },
+    { .what = "uses of Y come after a call of the driver, which keeps no register" }
+};
 static const vain *const warnings[] = {
     &refused_opens, &refused_offers, &refused_redraws, &vain_puts, &left_out, &lost_scales,
-    &old_places, &misread
+    &old_places, &misread, &lost_registers[0], &lost_registers[1], &lost_registers[2]
 };
 static vain blind_reads[RAM_END];       /* of each byte, before anything had written it */
 static uint8_t is_called[MEMORY];       /* a JSR leads there */
@@ -482,6 +496,14 @@ static void check_call(enum routine routine)
     if (routine == CLOSE && !instructions) fail("a frame with nothing in it is closed");
 }
 
+/* Counts the registers of these that the driver left. */
+static void note_lost(int taken, void (*note_of)(vain *))
+{
+    for (int i = 0; i < REGISTERS; i++)
+        if (now->lost & taken & 1 << i) note_of(&lost_registers[i]);
+    now->lost &= ~taken;
+}
+
 static void begin_call(void)
 {
     int routine = 0;
@@ -494,6 +516,7 @@ static void begin_call(void)
     now->at_entry = processor;
     now->back = (uint16_t)(word_at(0x101 + processor.s) + 1);
     calls++;
+    note_lost(takes[routine], note);
     if (does_put(now->routine) && !is_building()) note(&vain_puts);
     if (now->routine == SET && processor.a & 0x0F) note(&lost_scales);
     if (!moves(now->routine)) return;
@@ -505,6 +528,7 @@ static void end_call(void)
 {
     int is_taken = !(processor.p & CARRY);
     now->in_driver = 0;
+    now->lost = ALL_REGISTERS;
     if (processor.s != (uint8_t)(now->at_entry.s + 2) || processor.pc != now->back)
         fail("%s doesn't return to where it was called", names[now->routine]);
     if (now->routine == RESET) {
@@ -603,6 +627,18 @@ static void check_input(int opcode)
 /* The address that stands behind an opcode. */
 static int operand_of(int at) { return word_at((at + 1) % MEMORY) % MEMORY; }
 
+/* An output that takes any byte. */
+static int takes_any(int at) { return at == WATCHDOG || at == NOISE_RESET; }
+
+/* No routine of the driver keeps a register: a program sets one anew before it takes its value. */
+static void check_registers(int opcode)
+{
+    if (now->lost & kinds[opcode].taken &&
+        !(kinds[opcode].mode == ABS && takes_any(operand_of(instruction))))
+        note_lost(kinds[opcode].taken, note_here);
+    now->lost &= ~kinds[opcode].set;
+}
+
 /* Whether an instruction ends a subroutine, as a JMP to the driver does. */
 static int returns(int at)
 {
@@ -628,6 +664,7 @@ static void check_misuse(int opcode)
     instruction %= MEMORY;
     note_way(opcode);
     check_input(opcode);
+    check_registers(opcode);
 }
 
 static void run_one(void)
