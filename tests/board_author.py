@@ -27,6 +27,7 @@ PICTURE, CLOSE = 'picture:\n', '        jmp dvg_close\n'
 NMI, CODE = 'nmi:    inc beats', 'reset:  lda'
 FLIES, MISSED, SCORE = 'flies:  rts', 'missed: jmp serve', 'score:  .res SCORE_DIGITS'
 MOVES, LOOP, DRAW = '        jsr move_bat\n', '        jmp picture\n', 'draw:   jsr dvg_open'
+TITLE = 'title:  line_at'
 SPARE = [(GAME, SCORE, SCORE + '\nspare:  .res 1')]
 LEFT = '        bit IN_LEFT\n        bpl no_left\n'
 BALL = 'ball: 0,0 12,0 12,12 0,12 0,0\n'
@@ -77,6 +78,27 @@ frozen: lda #0
         jsr dvg_run
         jmp frozen
 ''')
+
+
+def dots(list_x):
+    """A ball at each of four places, of which the list of X has these."""
+    lists = f'dots_x: .byte {list_x}\ndots_y: .byte 2, 4, 6, 8'
+    return SPARE + edit(TITLE, lists + '\n' + TITLE) + drawn('''
+        lda #3
+        sta spare
+dots:   ldy spare
+        lda dots_x,y
+        sta dvg_x
+        lda dots_y,y
+        sta dvg_y
+        lda #2
+        sta dvg_x + 1
+        sta dvg_y + 1
+        lda #0
+        jsr dvg_labs
+        dvg_call ball
+        dec spare
+        bpl dots''')
 
 
 def listed(bound):
@@ -228,6 +250,9 @@ MISTAKES = [
     ('X after a call of the driver',
      drawn(' ldx #3\neach:   dvg_call ball\nlost:   dex\n bpl each'), 'premises',
      r'^warning: 62 uses of X come after a call .*, lost, from ...., picture \+ 6, at'),
+    ('a list of places that is short by one', dots('1, 3, 5'), 'premises',
+     '^warning: 62 reads go beyond the end of dots_x, by up to 1 byte, into dots_y, the firs'
+     r't by ...., dots \+ 3, from ...., picture \+ 6, at 0.0'),
     ('BMI for BPL', edit(LEFT, LEFT.replace('bpl', 'bmi')), None,
      'no tool knows which way a button should go'),
 ]

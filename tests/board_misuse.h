@@ -1,13 +1,26 @@
-/* What an instruction does with A, X and Y: for what is seldom meant so, a value in a register that
- * nothing kept. */
+/* What an instruction does with A, X and Y, whether it reads a list by an index, and where segments
+ * end: for what is seldom meant so, a value in a register that nothing kept, and a list that is too
+ * short. */
 #include <stdint.h>
+#include <stdio.h>
+#include <string.h>
 
 enum { IN_A = 1, IN_X = 2, IN_Y = 4, ALL_REGISTERS = 7, REGISTERS = 3 };
-/* What an instruction does, by its opcode: its bytes; the registers by which it counts in memory,
- * whose values it takes, and which it sets; and whether it makes the byte that it writes of the one
- * that was there. */
+enum { MOST_SEGMENTS = 20 };
+
+/* The segments of a program, as the map of ld65 lists them. */
 static struct {
-    uint8_t size, index, taken, set, is_change;
+    char name[32];
+    unsigned from, last;
+} segments[MOST_SEGMENTS];
+static int segment_count;
+
+/* What an instruction does, by its opcode: its bytes; the registers by which it counts in memory,
+ * whose values it takes, and which it sets; whether it makes the byte that it writes of the one
+ * that was there; and whether it reads a byte of a list, at an absolute place and X or Y further.
+ */
+static struct {
+    uint8_t size, index, taken, set, is_change, reads_list;
     enum mode mode;
 } kinds[256];
 
@@ -63,6 +76,11 @@ static int is_change(enum operation operation, enum mode mode)
     }
 }
 
+static int reads_list(enum operation operation, enum mode mode)
+{
+    return (mode == ABX || mode == ABY) && operation != STA && !is_change(operation, mode);
+}
+
 static void ready_kinds(void)
 {
     for (unsigned i = 0; i < sizeof opcodes / sizeof opcodes[0]; i++) {
@@ -74,5 +92,23 @@ static void ready_kinds(void)
         kinds[opcodes[i].opcode].taken = (uint8_t)taken_by(operation, mode);
         kinds[opcodes[i].opcode].set = (uint8_t)set_by(operation, mode);
         kinds[opcodes[i].opcode].is_change = (uint8_t)is_change(operation, mode);
+        kinds[opcodes[i].opcode].reads_list = (uint8_t)reads_list(operation, mode);
     }
+}
+
+static int read_segments(const char *path)
+{
+    FILE *file = fopen(path, "r");
+    char line[200];
+    int is_listed = 0;
+    if (!file) return 0;
+    while (fgets(line, sizeof line, file)) {
+        if (!strncmp(line, "Segment list", 12)) is_listed = 1;
+        if (!strncmp(line, "Exports", 7)) break;
+        if (is_listed && segment_count < MOST_SEGMENTS)
+            segment_count += sscanf(line, "%31s %6x %6x", segments[segment_count].name,
+                &segments[segment_count].from, &segments[segment_count].last) == 3;
+    }
+    fclose(file);
+    return 1;
 }

@@ -16,7 +16,7 @@
  * instruction (status 1). Where nothing is, it also warns of calls that did nothing: a dvg_open
  * that was refused, and what was put outside of a frame, or was left out of it; of a scale that
  * dvg_labs doesn't take, and of a place that wasn't set anew; of a value that a routine of the
- * driver left in A, X or Y; of reads of RAM that nothing had written;
+ * driver left in A, X or Y; of reads of RAM that nothing had written, and beyond the end of a list;
  * of an input whose wrong bits decide; and where no frame was made at all. With a ROM it names in
  * the board's run the places where in each picture nothing is seen of what they put, or a part
  * isn't. With a MAP it ends with the labels of the segment CODE at which nothing ran or was read,
@@ -40,7 +40,7 @@ enum {
     TXS_OPCODE = 0x9A, BNE_OPCODE = 0xD0, BEQ_OPCODE = 0xF0, MOST_CALLS = 3, RAM_END = 0x400,
     VECTORS = 0x7FFA,
     FREE = 0x11, ALL_OPERANDS = 0xF, VECTOR_ROM_END = 0x5800, VECTOR_ROM = 0x1000,
-    WATCHDOG = 0x3400, NOISE_RESET = 0x3E00
+    LISTS = 0x201, WATCHDOG = 0x3400, NOISE_RESET = 0x3E00
 };
 enum { IDLE = 2, BUILD = 7, WRITING = 0x80 };
 enum routine { RESET, RUN, TICKS, TICK, OFFER, REDRAW, OPEN, PUT, PAIR, SET, VECTOR, COPY, CLOSE };
@@ -107,6 +107,10 @@ static const vain *const warnings[] = {
     &old_places, &misread, &lost_registers[0], &lost_registers[1], &lost_registers[2]
 };
 static vain blind_reads[RAM_END];       /* of each byte, before anything had written it */
+/* Of each instruction that reads a list by an index: whether it also read a byte of it, the reads
+ * beyond its end, and by how many bytes the furthest one. */
+static struct { int is_inside, most; vain reads; } lists[MEMORY];
+static int list_ends[MEMORY];           /* of each label: where its list ends; or 0 */
 static uint8_t is_called[MEMORY];       /* a JSR leads there */
 static uint16_t ran_from[MEMORY];       /* the instruction before that ran on into this one, or 0 */
 static uint8_t was_written[RAM_END], was_counted[RAM_END], was_used[MEMORY], was_run[MEMORY];
@@ -639,6 +643,18 @@ static void check_registers(int opcode)
     now->lost &= ~kinds[opcode].set;
 }
 
+/* A read by an index goes no further than the list that stands there. */
+static void check_list(int opcode)
+{
+    const int base = operand_of(instruction);
+    const int index = kinds[opcode].index == IN_X ? processor.x : processor.y;
+    const int beyond = base + index - list_ends[base] + 1;
+    if (!list_ends[base]) return;
+    if (beyond <= 0) lists[instruction].is_inside = 1;
+    else note_here(&lists[instruction].reads);
+    if (beyond > lists[instruction].most) lists[instruction].most = beyond;
+}
+
 /* Whether an instruction ends a subroutine, as a JMP to the driver does. */
 static int returns(int at)
 {
@@ -665,6 +681,7 @@ static void check_misuse(int opcode)
     note_way(opcode);
     check_input(opcode);
     check_registers(opcode);
+    if (kinds[opcode].reads_list) check_list(opcode);
 }
 
 static void run_one(void)
@@ -797,17 +814,77 @@ static void tell_place(const place_seen *place)
     else print_strokes(place);
 }
 
-/* Where the segment DATA begins, by the list of segments, or else the vectors. */
-static int data_of(const char *path)
+/* Where the segment DATA begins, or else the vectors. */
+static int data_from(void)
 {
-    FILE *file = fopen(path, "r");
-    char line[200];
-    unsigned from = VECTORS;
-    if (!file) exit(2);
-    while (fgets(line, sizeof line, file))
-        if (sscanf(line, "DATA %x", &from) == 1) break;
-    fclose(file);
-    return (int)from;
+    for (int i = 0; i < segment_count; i++)
+        if (!strcmp(segments[i].name, "DATA")) return (int)segments[i].from;
+    return VECTORS;
+}
+
+/* Whether a list may stand there: in the program's ROM, or in pages 2 and 3 of the RAM, but for
+ * their first byte, from which parts/score.inc counts to any place of page 2. */
+static int may_list(int at)
+{
+    return (at >= code_end && at < VECTORS) || (at >= LISTS && at < RAM_END);
+}
+
+/* Where the list at a label ends: at the next label, or with its segment. */
+static int find_list_end(int from)
+{
+    int end = from < RAM_END ? RAM_END : VECTORS;
+    for (int i = 0; i < label_count; i++)
+        if (is_own(i) && labels[i].at > from && labels[i].at < end) end = labels[i].at;
+    for (int i = 0; i < segment_count; i++) {
+        const int behind = (int)segments[i].last + 1;
+        if (behind > from && behind < end) end = behind;
+    }
+    return end;
+}
+
+static void find_list_ends(void)
+{
+    for (int i = 0; i < label_count; i++)
+        if (is_own(i) && may_list(labels[i].at))
+            list_ends[labels[i].at] = find_list_end(labels[i].at);
+}
+
+/* Whether an instruction reads the list at a label as if that had some bytes more. What goes on by
+ * more than half of the list takes it and what follows for one. */
+static int reads_more(int at, int base)
+{
+    return lists[at].reads.count && lists[at].is_inside && operand_of(at) == base &&
+        lists[at].most <= (list_ends[base] - base) / 2;
+}
+
+/* The program's own label of a place. */
+static const char *name_of(int at)
+{
+    for (int i = 0; i < label_count; i++)
+        if (labels[i].at == at && is_own(i)) return labels[i].name;
+    return "what follows";
+}
+
+static void tell_short_list(int base)
+{
+    vain all = { 0 };
+    int most = 0;
+    for (int at = code_end; at < VECTORS; at++) {
+        if (!reads_more(at, base)) continue;
+        add(&all, &lists[at].reads);
+        if (lists[at].most > most) most = lists[at].most;
+    }
+    if (!all.count) return;
+    printf("warning: %ld reads go beyond the end of %s, by up to %d byte%s, into %s", all.count,
+        name_of(base), most, most > 1 ? "s" : "", name_of(list_ends[base]));
+    print_first(&all);
+    printf("\n");
+}
+
+static void tell_short_lists(void)
+{
+    for (int base = LISTS; base < VECTORS; base++)
+        if (list_ends[base]) tell_short_list(base);
 }
 
 static int is_branch(int opcode) { return (opcode & 0x1F) == 0x10; }
@@ -831,6 +908,7 @@ static void tell_warnings(void)
     for (unsigned i = 0; i < sizeof warnings / sizeof warnings[0]; i++)
         if (warnings[i]->count) warn(warnings[i]);
     tell_blind_reads();
+    tell_short_lists();
     if (!frames_built && !frames_offered) printf("warning: no frame was built or offered\n");
     for (int i = 0; is_boards && i < place_count; i++) tell_place(&places_seen[i]);
 }
@@ -859,6 +937,8 @@ int main(int count, char **words)
     seed = seed * 0x9E3779B97F4A7C15u + 1;
     check_place(driver, read_file(words[1], driver, sizeof driver));
     find_tables();
+    if (count > 8 && !read_segments(words[8])) return 2;
+    find_list_ends();
     for (int i = 0; i < 0x400; i++) memory[i] = (uint8_t)below(256);
     processor.p = UNUSED | INTERRUPT;
     processor.s = 0xFD;
@@ -867,6 +947,6 @@ int main(int count, char **words)
     printf("%ld calls, %ld NMIs, %ld of them amid an NMI, %ld frames offered and %ld built\n",
         calls, nmis, nested, frames_offered, frames_built);
     tell_warnings();
-    if (count > 8) tell_unused(data_of(words[8]));
+    if (count > 8) tell_unused(data_from());
     return 0;
 }
