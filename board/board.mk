@@ -69,9 +69,12 @@ build/roms/$(MACHINE): build/$(PROGRAM).program build/rom build/prom
 	@touch $@
 	@echo made $@
 
-build/$(PROGRAM).program: build/$(PROGRAM).o build/driver.o $(CONFIG) build/options
-	ld65 -C $(CONFIG) -Ln build/$(PROGRAM).labels -m build/$(PROGRAM).map -o $@ \
-	    build/driver.o build/$(PROGRAM).o
+# What ld65 says has a line of what to do below it.
+build/$(PROGRAM).program: build/$(PROGRAM).o build/driver.o $(CONFIG) build/options \
+    $(BOARD)linked.awk
+	@ld65 -C $(CONFIG) -Ln build/$(PROGRAM).labels -m build/$(PROGRAM).map -o $@ \
+	    build/driver.o build/$(PROGRAM).o 2>build/linked || status=1; \
+	    awk -f $(BOARD)linked.awk build/linked >&2; exit $$status
 
 # Says where the assembler comes from, if it isn't there.
 find_ca65 = @command -v ca65 >/dev/null || { \

@@ -253,6 +253,10 @@ MISTAKES = [
     ('a list of places that is short by one', dots('1, 3, 5'), 'premises',
      '^warning: 62 reads go beyond the end of dots_x, by up to 1 byte, into dots_y, the firs'
      r't by ...., dots \+ 3, from ...., picture \+ 6, at 0.0'),
+    ('a variable with a value', edit('beats:  .res 1 ', 'beats:  .byte 8 '), 'make',
+     '^make: a variable has no value at first: .res reserves it'),
+    ('a segment that there is not', edit('"DATA"\n\nwall_x', '"RODATA"\n\nwall_x'), 'make',
+     '^make: the segments are ZEROPAGE and BSS for variables'),
     ('BMI for BPL', edit(LEFT, LEFT.replace('bpl', 'bmi')), None,
      'no tool knows which way a button should go'),
 ]
