@@ -98,9 +98,9 @@ static vain misread = {
         "counts, and AND #SWITCHES_MASK leaves two"
 };
 static vain lost_registers[REGISTERS] = {
-    { .what = "uses of A come after a call of the driver, which keeps no register" },
-    { .what = "uses of X come after a call of the driver, which keeps no register" },
-    { .what = "uses of Y come after a call of the driver, which keeps no register" }
+    { .what = "uses of A come after a call of the driver or its letters, which keep no register" },
+    { .what = "uses of X come after a call of the driver or its letters, which keep no register" },
+    { .what = "uses of Y come after a call of the driver or its letters, which keep no register" }
 };
 static const vain *const warnings[] = {
     &refused_opens, &refused_offers, &refused_redraws, &vain_puts, &left_out, &lost_scales,
@@ -110,6 +110,9 @@ static vain blind_reads[RAM_END];       /* of each byte, before anything had wri
 /* Of each instruction that reads a list by an index: whether it also read a byte of it, the reads
  * beyond its end, and by how many bytes the furthest one. */
 static struct { int is_inside, most; vain reads; } lists[MEMORY];
+static const char *const printer_names[] = { "print", "put_letter", "print_number" };
+enum { PRINTERS = sizeof printer_names / sizeof printer_names[0] };
+static int printers[PRINTERS];          /* where they stand, or 0 */
 static int list_ends[MEMORY];           /* of each label: where its list ends; or 0 */
 static uint8_t is_called[MEMORY];       /* a JSR leads there */
 static uint16_t ran_from[MEMORY];       /* the instruction before that ran on into this one, or 0 */
@@ -634,7 +637,8 @@ static int operand_of(int at) { return word_at((at + 1) % MEMORY) % MEMORY; }
 /* An output that takes any byte. */
 static int takes_any(int at) { return at == WATCHDOG || at == NOISE_RESET; }
 
-/* No routine of the driver keeps a register: a program sets one anew before it takes its value. */
+/* Neither the driver nor what prints letters keeps a register: a program sets one anew before it
+ * takes its value. */
 static void check_registers(int opcode)
 {
     if (now->lost & kinds[opcode].taken &&
@@ -661,6 +665,14 @@ static int returns(int at)
     return memory[at] == RTS_OPCODE || (memory[at] == JMP_OPCODE && is_driver(operand_of(at)));
 }
 
+/* Whether a call goes to what prints letters. */
+static int prints(int call)
+{
+    for (int i = 0; i < PRINTERS; i++)
+        if (printers[i] && printers[i] == operand_of(call)) return 1;
+    return 0;
+}
+
 /* How the instruction was come to, and where it leads by a call. What follows a call is come to
  * from there. */
 static void note_way(int opcode)
@@ -668,8 +680,10 @@ static void note_way(int opcode)
     const int last = now->last, at = instruction, before = memory[last];
     if (last && before != JMP_OPCODE && last + kinds[before].size == at)
         ran_from[at] = (uint16_t)last;
-    else if (last && returns(last) && memory[at - 3] == JSR_OPCODE)
+    else if (last && returns(last) && memory[at - 3] == JSR_OPCODE) {
         ran_from[at] = (uint16_t)(at - 3);
+        if (prints(at - 3)) now->lost = ALL_REGISTERS;
+    }
     if (opcode == JSR_OPCODE) is_called[operand_of(at)] = 1;
     now->last = at;
 }
@@ -742,6 +756,14 @@ static void check_place(const uint8_t *driver, size_t size)
     code_end = CODE + (int)size;
     if (word_at(VECTORS) == word_at(VECTORS + 2))
         fail("the NMI's vector leads to the reset: VECTORS has .word nmi, reset, irq");
+}
+
+/* The routines of letters.inc and of parts/score.inc that print, if the program has them. */
+static void find_printers(void)
+{
+    if (find_label("letters_low") < 0) return;
+    for (int i = 0; i < PRINTERS; i++)
+        if (find_label(printer_names[i]) >= 0) printers[i] = label(printer_names[i]);
 }
 
 /* The lists of tables, if the program has some. */
@@ -937,6 +959,7 @@ int main(int count, char **words)
     seed = seed * 0x9E3779B97F4A7C15u + 1;
     check_place(driver, read_file(words[1], driver, sizeof driver));
     find_tables();
+    find_printers();
     if (count > 8 && !read_segments(words[8])) return 2;
     find_list_ends();
     for (int i = 0; i < 0x400; i++) memory[i] = (uint8_t)below(256);
