@@ -233,8 +233,8 @@ MISTAKES = [
     ('a JMP for a JSR', edit(MOVES, MOVES.replace('jsr', 'jmp')), 'proof',
      r'^refused: .*it returns from level main.*: is the JMP at .... \(picture\) one for a JSR'),
     ('JMP and JSR to one subroutine',
-     each_picture(' jsr move_bat') + edit(MOVES, MOVES.replace('jsr', 'jmp')), 'proof',
-     r'^refused: .* jmp .*\(move_bat\), which is sub, not main: it is called at .... \(picture\),'),
+     each_picture(' bit IN_FIRE\n bpl calls\n jmp move_bat\ncalls:'), 'proof',
+     r'^refused: .* jmp .*\(move_bat\), which is sub, not main: it is called at .... \(calls\), and'),
     ('a loop without its JMP', edit(LOOP, ''), 'proof',
      r'^refused: .*it runs on into .... \(rest\), .*: is an RTS or JMP missing before it\?'),
     ('an RTS that is left out', SPARE + edit(DRAW, 'blink:  inc spare\n' + DRAW)
