@@ -25,8 +25,9 @@ class Flow:
         self.notes, self.owner, self.work = {}, {}, []
         first = Note('main', 0, ANYTHING, '', 0, 0, False, False, False)
         nmi = program.word(NMI_VECTOR)
+        # What comes last is gone over first.
         self.go(nmi, first._replace(level='nmi', held=UNCHANGED), nmi)
-        self.go(start, first, start)                # which is gone over first
+        self.go(start, first, start)
         while self.work:
             self.follow(self.work.pop())
         self.spread()

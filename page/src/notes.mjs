@@ -74,8 +74,9 @@ class Flow {
     Object.assign(this, { program, ends, subs, fills, work: [] });
     Object.assign(this, { notes: new Map(), owner: new Map() });
     const nmi = program.word(NMI_VECTOR);
+    /* What comes last is gone over first. */
     this.go(nmi, { ...FIRST_NOTE, level: 'nmi', held: UNCHANGED }, nmi);
-    this.go(start, FIRST_NOTE, start);  // which is gone over first
+    this.go(start, FIRST_NOTE, start);
     while (this.work.length > 0) this.follow(this.work.pop());
     this.spread();
   }
