@@ -31,10 +31,13 @@
 #: make eproms    writes what is burned into build/eproms; make test-rom does so for a test ROM
 #: make clean     takes build away
 #:
-#: PROVE    1: proof has the prover itself prove it, which needs rt
+#: PROVE    1: proof has the prover itself prove it, which needs rt: 41 to 47 seconds of a processor
+#:          for a game of 2,900 bytes, if the crates below were proved before (./test does so); else
+#:          it proves them first, by estimate in an hour. It waits while other proofs run here
 #: JUDGED   how many seconds premises, judge, film and sound run, of the board's time [20]
 #: SECONDS  the same of emulator and torn [5]; SHOTS: when pictures are taken [1.5 2.5 3.5 4.5]
 #: RATE     how many pictures a second judge wants [30]
+#: STILL    for how many seconds, up to the end, judge takes redraws alone [5]
 #: FILM     the seconds of the film, the first and the last one [3 12]
 #: WATCH    labels whose bytes judge prints at the end, as: lives score:4
 #: BUTTONS  the file of presses that all but play and torn play [buttons.txt, if it is there]
@@ -52,6 +55,7 @@ SECONDS ?= 5
 SHOTS ?= 1.5 2.5 3.5 4.5
 JUDGED ?= 20
 RATE ?= 30
+STILL ?= 5
 FILM ?= 3 12
 BUTTONS ?= buttons.txt
 TITLE ?= $(notdir $(CURDIR))
@@ -71,9 +75,12 @@ build/roms/$(MACHINE): build/$(PROGRAM).program build/rom build/prom
 	@touch $@
 	@echo made $@
 
-build/$(PROGRAM).program: build/$(PROGRAM).o build/driver.o $(CONFIG) build/options
-	ld65 -C $(CONFIG) -Ln build/$(PROGRAM).labels -m build/$(PROGRAM).map -o $@ \
-	    build/driver.o build/$(PROGRAM).o
+# What ld65 says has a line of what to do below it.
+build/$(PROGRAM).program: build/$(PROGRAM).o build/driver.o $(CONFIG) build/options \
+    $(BOARD)linked.awk
+	@ld65 -C $(CONFIG) -Ln build/$(PROGRAM).labels -m build/$(PROGRAM).map -o $@ \
+	    build/driver.o build/$(PROGRAM).o 2>build/linked || status=1; \
+	    awk -f $(BOARD)linked.awk build/linked >&2; exit $$status
 
 # Says where the assembler comes from, if it isn't there.
 find_ca65 = @command -v ca65 >/dev/null || { \
@@ -185,7 +192,7 @@ judge: good_buttons build/roms/$(MACHINE) build/premises build/driver.proved
 	    $(BOARD)emulator/run build/roms build/judge $(JUDGED) $(BOARD)emulator/judge.lua || { \
 	    echo 'BAD: the emulator failed: build/judge/said' && exit 1; }
 	@DVG_LABELS="$(labels)" DVG_EQUATES=build/shapes.equates \
-	    python3 $(BOARD)emulator/judge.py build/judge build/rom $(RATE)
+	    python3 $(BOARD)emulator/judge.py build/judge build/rom $(RATE) $(STILL)
 
 sound: good_buttons build/roms/$(MACHINE)
 	@DVG_BUTTONS="$(played)" DVG_WAV=sound.wav \

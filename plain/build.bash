@@ -185,7 +185,7 @@ archive_of_statements() {
 
 # The digest of all that the plain form is made of.
 digest_of_plain() {
-    digest_of_files 'crates/*/src' include plain/CRATES plain/Cargo.toml plain/Cargo.lock \
+    digest_of_files 'crates/*/src' include plain/Cargo.toml plain/Cargo.lock \
         plain/erase.rs 'plain/*.c' 'plain/crates/*/Cargo.toml' 'plain/crates/*/rust.rs' \
         plain/stand_in
 }

@@ -21,10 +21,14 @@ import sys
 TOOLS = {'make': 'roms', 'proof': 'proof', 'premises': 'premises', 'sound': 'sound',
          'judge': 'judge'}
 SECONDS = 2                         # of the board's time, which a run lasts
+STILL = 1                           # of these, for which redraws alone may come
 GAME, SHAPES, BUTTONS, MAKEFILE = 'game.s', 'shapes.sketch', 'buttons.txt', 'makefile'
 PICTURE, CLOSE = 'picture:\n', '        jmp dvg_close\n'
 NMI, CODE = 'nmi:    inc beats', 'reset:  lda'
 FLIES, MISSED, SCORE = 'flies:  rts', 'missed: jmp serve', 'score:  .res SCORE_DIGITS'
+MOVES, LOOP, DRAW = '        jsr move_bat\n', '        jmp picture\n', 'draw:   jsr dvg_open'
+TITLE = 'title:  line_at'
+SPARE = [(GAME, SCORE, SCORE + '\nspare:  .res 1')]
 LEFT = '        bit IN_LEFT\n        bpl no_left\n'
 BALL = 'ball: 0,0 12,0 12,12 0,12 0,0\n'
 
@@ -57,6 +61,46 @@ def line(a, length=512):
 line:   jsr dvg_vector''')
 
 
+def halting(count):
+    """After so many pictures the loop only redraws."""
+    begins = edit('        jsr serve\n', ' jsr serve\n lda #0\n sta spare\n')
+    return SPARE + begins + edit(LOOP, f'''
+        inc spare
+        lda spare
+        cmp #{count}
+        bcs frozen
+        jmp picture
+frozen: lda #0
+        sta beats
+        lda #4
+        jsr rest
+        jsr dvg_redraw
+        jsr dvg_run
+        jmp frozen
+''')
+
+
+def dots(list_x):
+    """A ball at each of four places, of which the list of X has these."""
+    lists = f'dots_x: .byte {list_x}\ndots_y: .byte 2, 4, 6, 8'
+    return SPARE + edit(TITLE, lists + '\n' + TITLE) + drawn('''
+        lda #3
+        sta spare
+dots:   ldy spare
+        lda dots_x,y
+        sta dvg_x
+        lda dots_y,y
+        sta dvg_y
+        lda #2
+        sta dvg_x + 1
+        sta dvg_y + 1
+        lda #0
+        jsr dvg_labs
+        dvg_call ball
+        dec spare
+        bpl dots''')
+
+
 def listed(bound):
     """A shape of a list of two, which this bounds."""
     lists = ('.segment "DATA"\n.define OWN $C000 | bat, $C000 | ball\nown_low:  .lobytes OWN\n'
@@ -66,8 +110,9 @@ def listed(bound):
 
 
 # Of each what it is, the edits, the tool that is the first to name it, or None, and its words. Two
-# seconds have 492 NMIs, so 62 pictures begin. Seven letters of 36 units come before the line, which
-# begins at 672; a letter is 24 wide and 36 high.
+# seconds have 492 NMIs, so 62 pictures begin. The tenth one is shown when 80 NMIs have come, after
+# 0.325 s. Seven letters of 36 units come before the line, which begins at 672; a letter is 24 wide
+# and 36 high.
 MISTAKES = [
     # Of a trial by somebody who wrote none of the tools
     ('no watchdog in the loop', edit('rest:   sta WATCHDOG', 'rest:'), 'judge',
@@ -97,11 +142,12 @@ MISTAKES = [
     ('a letter without a shape', edit('"SCORE "', '"SCORE* "'), 'make',
      'line_at has no letter 6 of this line: SCORE'),
     ('a subroutine that is left by JMP', edit(FLIES, 'flies:  jmp picture'), 'proof',
-     '^refused: .*which is main, not sub: is there an RTS or JMP too few'),
+     "^refused: .*which is main, not sub: a subroutine ends with RTS, and doesn't lead into"),
     ('NMI and reset exchanged', edit('.word nmi, reset, irq', '.word reset, nmi, irq'), 'proof',
      r'VECTORS has \.word nmi, reset, irq, in this order'),
     ('a vector of 1,024', line('$59', 1024), 'premises',
-     '^warning: [0-9]* instructions were left out, as there is no such vector.*, line, at'),
+     '^warning: 62 instructions were left out, as there is no such vector.*, line, from ...., pict'
+     r'ure \+ 6, at 0.0'),
     ('a variable that nothing sets', edit('serve:  lda #0\n        sta score\n', 'serve:\n'),
      'premises', '^warning: .* bytes that nothing had written, .* score$'),
     ('no LABS at first', edit('draw_at wall_x, wall_y, wall', 'dvg_call wall'), 'proof',
@@ -160,7 +206,7 @@ MISTAKES = [
     ('the low byte of dvg_x alone', edit(
         CLOSE, ' lda #40\n sta dvg_x\n lda #200\n sta dvg_y\n lda #1\n sta dvg_y + 1\n lda #0\n'
         'half:   jsr dvg_labs\n dvg_call ball\n' + CLOSE), 'premises',
-     '^warning: .* take bytes of dvg_x or dvg_y from before the last one, .*, half, at'),
+     '^warning: .* take bytes of dvg_x or dvg_y from before the last one, .*, half, from'),
     ('beats that are never set back', edit('        lda #0\n        sta beats\n', ''), 'judge',
      '^BAD: too many new pictures'),
     ('a coin counter that stays on', each_picture(' lda #OUT_COIN_LEFT\n sta OUTPUTS'), 'sound',
@@ -180,6 +226,37 @@ MISTAKES = [
      '^warning: .* branches by BEQ or BNE look at all bits of a switch.*, move_bat'),
     ('switches without their mask', each_picture(' lda SWITCHES_SHIPS\n bne four\n nop\nfour:'),
      'premises', '^warning: .*AND #SWITCHES_MASK leaves two, .*, picture'),
+    # Of a game that somebody wrote by the papers alone
+    ('a picture that stands still', halting(10), 'judge',
+     r'^BAD: no new picture for 1\.[67] seconds, from 0\.32[56] s on: redraws alone; after a second'
+     r' the program was in ...., rest( \+ [0-9])?, from ...., frozen \+ [0-9]*; no button and no'),
+    ('a JMP for a JSR', edit(MOVES, MOVES.replace('jsr', 'jmp')), 'proof',
+     r'^refused: .*it returns from level main.*: is the JMP at .... \(picture\) one for a JSR'),
+    ('JMP and JSR to one subroutine',
+     each_picture(' bit IN_FIRE\n bpl calls\n jmp move_bat\ncalls:'), 'proof',
+     r'^refused: .* jmp .*\(move_bat\), which is sub, not main: it is called at .... \(calls\), and'),
+    ('a loop without its JMP', edit(LOOP, ''), 'proof',
+     r'^refused: .*it runs on into .... \(rest\), .*: is an RTS or JMP missing before it\?'),
+    ('an RTS that is left out', SPARE + edit(DRAW, 'blink:  inc spare\n' + DRAW)
+     + each_picture(' jsr blink'), 'premises',
+     '^warning: 62 calls of dvg_open were refused, .*; ...., blink, runs on into draw: is an rts'),
+    ('a text behind the end of a frame', edit(CLOSE, ' jsr dvg_close\nafter:  say title\n rts\n'),
+     'premises', f'^warning: {62 * 7} instructions were put outside of a frame, the first by ....'
+     r', print \+ 28, from ...., after \+ 4, from ...., picture \+ 6, at'),
+    ('a ROL of what nothing set', drawn(
+        ' lda #40\n sta dvg_x\n rol dvg_x + 1\n lda #200\n sta dvg_y\n lda #0\n sta dvg_y + 1\n'
+        'half:   jsr dvg_labs\n dvg_call ball'), 'premises',
+     '^warning: 62 calls .* take bytes of dvg_x or dvg_y from before the last one, .*, half, from'),
+    ('X after a call of the driver',
+     drawn(' ldx #3\neach:   dvg_call ball\nlost:   dex\n bpl each'), 'premises',
+     r'^warning: 62 uses of X come after a call .*, lost, from ...., picture \+ 6, at'),
+    ('a list of places that is short by one', dots('1, 3, 5'), 'premises',
+     '^warning: 62 reads go beyond the end of dots_x, by up to 1 byte, into dots_y, the firs'
+     r't by ...., dots \+ 3, from ...., picture \+ 6, at 0.0'),
+    ('a variable with a value', edit('beats:  .res 1 ', 'beats:  .byte 8 '), 'make',
+     '^make: a variable has no value at first: .res reserves it'),
+    ('a segment that there is not', edit('"DATA"\n\nwall_x', '"RODATA"\n\nwall_x'), 'make',
+     '^make: the segments are ZEROPAGE and BSS for variables'),
     ('BMI for BPL', edit(LEFT, LEFT.replace('bpl', 'bmi')), None,
      'no tool knows which way a button should go'),
 ]
@@ -202,8 +279,9 @@ def planted(game, number):
 def asked(folder, tool):
     """What a tool says of a folder, its status, and the seconds of a processor that it took."""
     before = resource.getrusage(resource.RUSAGE_CHILDREN)
-    done = subprocess.run(['make', '-s', TOOLS[tool], f'JUDGED={SECONDS}'], cwd=folder, text=True,
-                          stdout=subprocess.PIPE, stderr=subprocess.STDOUT, check=False)
+    done = subprocess.run(['make', '-s', TOOLS[tool], f'JUDGED={SECONDS}', f'STILL={STILL}'],
+                          cwd=folder, text=True, stdout=subprocess.PIPE, stderr=subprocess.STDOUT,
+                          check=False)
     after = resource.getrusage(resource.RUSAGE_CHILDREN)
     took = after.ru_utime + after.ru_stime - before.ru_utime - before.ru_stime
     return done.stdout, done.returncode, took

@@ -19,7 +19,10 @@ count = int(sys.argv[4])
 BY_HAND = ['', '\n', 'picture\n', 'wrote FFF 00 1 \n', 'wrote 000 GG 1\n', 'ended\n',
            'watchdog 1\n', 'reset x\n', 'ended 1\n', 'picture 1 1 0\nended 1\n',
            'picture 1 1 0\npicture 1 1 0\nended 1\n', 'room 1\nended 1\n', 'unknown 1\nended 1\n',
-           'reset 1\nreset 2 6AF8\nended 3\n', 'wrote 001 E2 1 6AF8\npicture 1 1 1 6AF8\nended 2\n']
+           'reset 1\nreset 2 6AF8\nended 3\n', 'wrote 001 E2 1 6AF8\npicture 1 1 1 6AF8\nended 2\n',
+           'looked 2403\n', 'looked X 1 6AF8\nended 2\n',
+           'wrote 001 E2 1 6AF8\npicture 1 1 0 6AF8\npicture 2 1 0\nlooked 2403 1\npicture 9 1 0\n'
+           'ended 9\n']
 FILES = ['judge.log', 'torn.log', 'pictures', 'premises', 'rom']
 chance = random.Random(1979)
 

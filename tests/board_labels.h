@@ -23,10 +23,18 @@ static void read_labels(const char *path)
     fclose(file);
 }
 
-static int label(const char *name)
+/* The number of the first label of this name, or -1. */
+static int find_label(const char *name)
 {
     for (int i = 0; i < label_count; i++)
-        if (!strcmp(labels[i].name, name)) return labels[i].at;
+        if (!strcmp(labels[i].name, name)) return i;
+    return -1;
+}
+
+static int label(const char *name)
+{
+    const int i = find_label(name);
+    if (i >= 0) return labels[i].at;
     printf("no label %s\n", name);
     exit(1);
 }

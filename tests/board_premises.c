@@ -15,17 +15,19 @@
  * Prints how much was seen, or the first thing that is against a premise, and the place of the
  * instruction (status 1). Where nothing is, it also warns of calls that did nothing: a dvg_open
  * that was refused, and what was put outside of a frame, or was left out of it; of a scale that
- * dvg_labs doesn't take, and of a place that wasn't set anew; of reads of RAM that nothing had
- * written, and of an input whose wrong bits decide; and where no frame was made at all. With a ROM
- * it names in the board's run the places where in each picture nothing is seen of what they put, or
- * a part isn't. With a MAP it ends with the labels of the segment CODE at which nothing ran or was
- * read, and with what follows a branch that was always taken. */
+ * dvg_labs doesn't take, and of a place that wasn't set anew; of a value that a routine of the
+ * driver left in A, X or Y; of reads of RAM that nothing had written, and beyond the end of a list;
+ * of an input whose wrong bits decide; and where no frame was made at all. With a ROM it names in
+ * the board's run the places where in each picture nothing is seen of what they put, or a part
+ * isn't. With a MAP it ends with the labels of the segment CODE at which nothing ran or was read,
+ * and with what follows a branch that was always taken. */
 #include <stdarg.h>
 #include <stdio.h>
 #include <stdlib.h>
 #include <string.h>
 #include "board_cpu.h"
 #include "board_labels.h"
+#include "board_misuse.h"
 #include "board_strokes.h"
 
 enum {
@@ -34,9 +36,11 @@ enum {
     BEGUN = 8, NMI_CYCLES = 6144, FRAME_CYCLES = 24576, NMI_MOST_CYCLES = 6048, NMI_MOST_TICKS = 53,
     CYCLES_A_SECOND = 1512000, LEAST_STACK = 0x60,
     INPUTS = 0x2000, CLOCK = 0x2001, TEST = 0x2007, SWITCHES = 0x2800, INPUTS_END = 0x3000,
-    ROM = 0x6000, JSR_OPCODE = 0x20, RTI_OPCODE = 0x40, RTS_OPCODE = 0x60, TXS_OPCODE = 0x9A,
-    BNE_OPCODE = 0xD0, BEQ_OPCODE = 0xF0, MOST_CALLS = 3, RAM_END = 0x400, VECTORS = 0x7FFA,
-    FREE = 0x11, ALL_OPERANDS = 0xF, VECTOR_ROM_END = 0x5800, VECTOR_ROM = 0x1000
+    ROM = 0x6000, JSR_OPCODE = 0x20, RTI_OPCODE = 0x40, JMP_OPCODE = 0x4C, RTS_OPCODE = 0x60,
+    TXS_OPCODE = 0x9A, BNE_OPCODE = 0xD0, BEQ_OPCODE = 0xF0, MOST_CALLS = 3, RAM_END = 0x400,
+    VECTORS = 0x7FFA,
+    FREE = 0x11, ALL_OPERANDS = 0xF, VECTOR_ROM_END = 0x5800, VECTOR_ROM = 0x1000,
+    LISTS = 0x201, WATCHDOG = 0x3400, NOISE_RESET = 0x3E00
 };
 enum { IDLE = 2, BUILD = 7, WRITING = 0x80 };
 enum routine { RESET, RUN, TICKS, TICK, OFFER, REDRAW, OPEN, PUT, PAIR, SET, VECTOR, COPY, CLOSE };
@@ -46,6 +50,11 @@ static const char *const names[] = {
     "dvg_put", "dvg_pair", "dvg_labs", "dvg_vector", "dvg_copy", "dvg_close"
 };
 enum { ROUTINES = sizeof names / sizeof names[0] };
+/* The registers that each takes. */
+static const int takes[ROUTINES] = {
+    [TICKS] = IN_A, [OFFER] = IN_A | IN_X, [PUT] = IN_A | IN_X, [SET] = IN_A, [VECTOR] = IN_A,
+    [COPY] = ALL_REGISTERS
+};
 
 /* Who runs: the program, its NMI, or an NMI amid that. */
 typedef struct {
@@ -56,13 +65,16 @@ typedef struct {
     cpu at_entry;
     uint16_t back;                      /* its return address */
     int ticks;                          /* of this NMI */
+    int lost;                           /* the registers that the driver left, and nothing set */
+    int last;                           /* the program's last instruction */
 } context;
 
-/* Calls that did nothing: how many, and the first one's place and time. */
+/* What is seldom meant so, as calls that did nothing: how many, and of the first one the place, the
+ * calls that led there, the last one first, and the time. */
 typedef struct {
     const char *what;
     long count;
-    int at;
+    int at, calls[MOST_CALLS];
     uint64_t cycles;
 } vain;
 
@@ -85,11 +97,25 @@ static vain misread = {
     .what = "branches by BEQ or BNE look at all bits of a switch: BMI and BPL look at the one that "
         "counts, and AND #SWITCHES_MASK leaves two"
 };
+static vain lost_registers[REGISTERS] = {
+    { .what = "uses of A come after a call of the driver or its letters, which keep no register" },
+    { .what = "uses of X come after a call of the driver or its letters, which keep no register" },
+    { .what = "uses of Y come after a call of the driver or its letters, which keep no register" }
+};
 static const vain *const warnings[] = {
     &refused_opens, &refused_offers, &refused_redraws, &vain_puts, &left_out, &lost_scales,
-    &old_places, &misread
+    &old_places, &misread, &lost_registers[0], &lost_registers[1], &lost_registers[2]
 };
 static vain blind_reads[RAM_END];       /* of each byte, before anything had written it */
+/* Of each instruction that reads a list by an index: whether it also read a byte of it, the reads
+ * beyond its end, and by how many bytes the furthest one. */
+static struct { int is_inside, most; vain reads; } lists[MEMORY];
+static const char *const printer_names[] = { "print", "put_letter", "print_number" };
+enum { PRINTERS = sizeof printer_names / sizeof printer_names[0] };
+static int printers[PRINTERS];          /* where they stand, or 0 */
+static int list_ends[MEMORY];           /* of each label: where its list ends; or 0 */
+static uint8_t is_called[MEMORY];       /* a JSR leads there */
+static uint16_t ran_from[MEMORY];       /* the instruction before that ran on into this one, or 0 */
 static uint8_t was_written[RAM_END], was_counted[RAM_END], was_used[MEMORY], was_run[MEMORY];
 static uint8_t memory[MEMORY];
 static cpu processor;
@@ -148,51 +174,100 @@ static int call_above(int s)
     return call < ROM || call >= MEMORY - 6 || memory[call] != JSR_OPCODE ? 0 : call;
 }
 
-/* Where the driver was called from, by the JSRs whose return addresses stand on the stack. */
-static void print_calls(void)
+/* The calls whose return addresses stand on the stack above s, but those of the driver's own; a 0
+ * ends them. */
+static void find_calls(int s, int *calls)
 {
-    int s = processor.s;
+    int count = 0;
+    memset(calls, 0, MOST_CALLS * sizeof *calls);
     for (int i = 0; i < MOST_CALLS; i++, s += 2) {
         const int call = call_above(s);
         if (!call) return;
-        if (is_driver(call)) continue;
-        printf(", from ");
-        print_place(call);
+        if (!is_driver(call)) calls[count++] = call;
     }
+}
+
+static void print_calls(const int *calls)
+{
+    for (int i = 0; i < MOST_CALLS && calls[i]; i++) {
+        printf(", from ");
+        print_place(calls[i]);
+    }
+}
+
+/* Where a subroutine is both called, and run into by the instruction before it, an RTS may be
+ * missing there. `entry` is its first instruction. */
+static int is_run_into(int entry) { return is_called[entry] && ran_from[entry]; }
+
+/* The subroutine of a place, or of one of the calls that led there, that is run into; or 0. */
+static int run_into(int at, const int *calls)
+{
+    const int i = label_before(at);
+    if (i >= 0 && is_run_into(labels[i].at)) return labels[i].at;
+    for (int k = 0; k < MOST_CALLS && calls[k]; k++)
+        if (is_run_into(word_at(calls[k] + 1) % MEMORY)) return word_at(calls[k] + 1) % MEMORY;
+    return 0;
+}
+
+static void print_run_into(int at, const int *calls)
+{
+    const int entry = run_into(at, calls), i = entry ? label_before(entry) : -1;
+    if (i < 0) return;
+    printf("; ");
+    print_place(ran_from[entry]);
+    printf(", runs on into %s: is an rts missing before it?", labels[i].name);
 }
 
 static void fail(const char *format, ...)
 {
     va_list list;
+    int calls[MOST_CALLS];
     va_start(list, format);
     vprintf(format, list);
     va_end(list);
     printf(", by ");
     print_place(instruction);
-    if (is_driver(instruction)) print_calls();
-    printf(", at %.3f s\n", (double)processor.cycles / CYCLES_A_SECOND);
+    find_calls(processor.s, calls);
+    if (is_driver(instruction)) print_calls(calls);
+    printf(", at %.3f s", (double)processor.cycles / CYCLES_A_SECOND);
+    print_run_into(instruction, calls);
+    printf("\n");
     exit(1);
 }
 
-static void note_at(vain *calls_in_vain, int at, uint64_t cycles)
+/* Counts what the instruction at a place does, which calls led to that left this S. */
+static void note_at(vain *found, int at, int s, uint64_t cycles)
 {
-    if (calls_in_vain->count++) return;
-    calls_in_vain->at = at;
-    calls_in_vain->cycles = cycles;
+    if (found->count++) return;
+    found->at = at;
+    find_calls(s, found->calls);
+    found->cycles = cycles;
 }
 
-/* Counts the call that is at hand. */
-static void note(vain *calls_in_vain)
+/* Counts what the instruction that runs does. */
+static void note_here(vain *found) { note_at(found, instruction, processor.s, processor.cycles); }
+
+/* Counts the call of the driver that is at hand. */
+static void note(vain *found)
 {
-    note_at(calls_in_vain, (uint16_t)(now->back - 3), now->at_entry.cycles);
+    note_at(found, (uint16_t)(now->back - 3), now->at_entry.s + 2, now->at_entry.cycles);
 }
 
-/* Without the end of its line. */
-static void warn(const vain *calls_in_vain)
+/* Of the first one: the place, and the calls that led there. */
+static void print_first(const vain *found)
 {
-    printf("warning: %ld %s, the first by ", calls_in_vain->count, calls_in_vain->what);
-    print_place(calls_in_vain->at);
-    printf(", at %.3f s", (double)calls_in_vain->cycles / CYCLES_A_SECOND);
+    printf(", the first by ");
+    print_place(found->at);
+    print_calls(found->calls);
+    printf(", at %.3f s", (double)found->cycles / CYCLES_A_SECOND);
+}
+
+static void warn(const vain *found)
+{
+    printf("warning: %ld %s", found->count, found->what);
+    print_first(found);
+    print_run_into(found->at, found->calls);
+    printf("\n");
 }
 
 static int below(int count)
@@ -285,7 +360,7 @@ static void check_read(int at)
 {
     was_used[at] = 1;
     if (at >= RAM_END || was_written[at] || now->in_driver || !was_reset) return;
-    note_at(&blind_reads[at], instruction, processor.cycles);
+    note_here(&blind_reads[at]);
 }
 
 /* Before the first call a program may test the vector RAM and look at the flag: no run is open. */
@@ -313,7 +388,7 @@ static void check_write(int at)
         fail("%s writes %04X, of the table that is being written", whose(), at);
     if (is_nmi() && at >> 8 == 1 && (at & 0xFF) > now->before.s)
         fail("the NMI writes %04X, which stands on the stack above S", at);
-    if (is_operand) operands_set |= 1 << (at - OPERANDS);
+    if (is_operand && !kinds[memory[instruction]].is_change) operands_set |= 1 << (at - OPERANDS);
 }
 
 /* What an NMI counts by INC is a clock, which may begin anywhere. */
@@ -428,6 +503,14 @@ static void check_call(enum routine routine)
     if (routine == CLOSE && !instructions) fail("a frame with nothing in it is closed");
 }
 
+/* Counts the registers of these that the driver left. */
+static void note_lost(int taken, void (*note_of)(vain *))
+{
+    for (int i = 0; i < REGISTERS; i++)
+        if (now->lost & taken & 1 << i) note_of(&lost_registers[i]);
+    now->lost &= ~taken;
+}
+
 static void begin_call(void)
 {
     int routine = 0;
@@ -440,6 +523,7 @@ static void begin_call(void)
     now->at_entry = processor;
     now->back = (uint16_t)(word_at(0x101 + processor.s) + 1);
     calls++;
+    note_lost(takes[routine], note);
     if (does_put(now->routine) && !is_building()) note(&vain_puts);
     if (now->routine == SET && processor.a & 0x0F) note(&lost_scales);
     if (!moves(now->routine)) return;
@@ -451,6 +535,7 @@ static void end_call(void)
 {
     int is_taken = !(processor.p & CARRY);
     now->in_driver = 0;
+    now->lost = ALL_REGISTERS;
     if (processor.s != (uint8_t)(now->at_entry.s + 2) || processor.pc != now->back)
         fail("%s doesn't return to where it was called", names[now->routine]);
     if (now->routine == RESET) {
@@ -542,9 +627,75 @@ static void check_opcode(int opcode)
 /* Of a switch the other bits aren't known: bit 7 counts, or bits 1 and 0 of those on the board. */
 static void check_input(int opcode)
 {
-    if (input_read >= 0 && (opcode == BEQ_OPCODE || opcode == BNE_OPCODE))
-        note_at(&misread, instruction, processor.cycles);
+    if (input_read >= 0 && (opcode == BEQ_OPCODE || opcode == BNE_OPCODE)) note_here(&misread);
     input_read = -1;
+}
+
+/* The address that stands behind an opcode. */
+static int operand_of(int at) { return word_at((at + 1) % MEMORY) % MEMORY; }
+
+/* An output that takes any byte. */
+static int takes_any(int at) { return at == WATCHDOG || at == NOISE_RESET; }
+
+/* Neither the driver nor what prints letters keeps a register: a program sets one anew before it
+ * takes its value. */
+static void check_registers(int opcode)
+{
+    if (now->lost & kinds[opcode].taken &&
+        !(kinds[opcode].mode == ABS && takes_any(operand_of(instruction))))
+        note_lost(kinds[opcode].taken, note_here);
+    now->lost &= ~kinds[opcode].set;
+}
+
+/* A read by an index goes no further than the list that stands there. */
+static void check_list(int opcode)
+{
+    const int base = operand_of(instruction);
+    const int index = kinds[opcode].index == IN_X ? processor.x : processor.y;
+    const int beyond = base + index - list_ends[base] + 1;
+    if (!list_ends[base]) return;
+    if (beyond <= 0) lists[instruction].is_inside = 1;
+    else note_here(&lists[instruction].reads);
+    if (beyond > lists[instruction].most) lists[instruction].most = beyond;
+}
+
+/* Whether an instruction ends a subroutine, as a JMP to the driver does. */
+static int returns(int at)
+{
+    return memory[at] == RTS_OPCODE || (memory[at] == JMP_OPCODE && is_driver(operand_of(at)));
+}
+
+/* Whether a call goes to what prints letters. */
+static int prints(int call)
+{
+    for (int i = 0; i < PRINTERS; i++)
+        if (printers[i] && printers[i] == operand_of(call)) return 1;
+    return 0;
+}
+
+/* How the instruction was come to, and where it leads by a call. What follows a call is come to
+ * from there. */
+static void note_way(int opcode)
+{
+    const int last = now->last, at = instruction, before = memory[last];
+    if (last && before != JMP_OPCODE && last + kinds[before].size == at)
+        ran_from[at] = (uint16_t)last;
+    else if (last && returns(last) && memory[at - 3] == JSR_OPCODE) {
+        ran_from[at] = (uint16_t)(at - 3);
+        if (prints(at - 3)) now->lost = ALL_REGISTERS;
+    }
+    if (opcode == JSR_OPCODE) is_called[operand_of(at)] = 1;
+    now->last = at;
+}
+
+/* What the program's own instruction does that is seldom meant so. */
+static void check_misuse(int opcode)
+{
+    instruction %= MEMORY;
+    note_way(opcode);
+    check_input(opcode);
+    check_registers(opcode);
+    if (kinds[opcode].reads_list) check_list(opcode);
 }
 
 static void run_one(void)
@@ -560,7 +711,7 @@ static void run_one(void)
         fail("more than %d ticks in an NMI", NMI_MOST_TICKS);
     if (processor.s < LEAST_STACK && was_reset) fail("the stack grows down to %02X", processor.s);
     check_opcode(memory[processor.pc % MEMORY]);
-    check_input(memory[processor.pc % MEMORY]);
+    if (!now->in_driver) check_misuse(memory[processor.pc % MEMORY]);
     step(&processor);
 }
 
@@ -607,6 +758,14 @@ static void check_place(const uint8_t *driver, size_t size)
         fail("the NMI's vector leads to the reset: VECTORS has .word nmi, reset, irq");
 }
 
+/* The routines of letters.inc and of parts/score.inc that print, if the program has them. */
+static void find_printers(void)
+{
+    if (find_label("letters_low") < 0) return;
+    for (int i = 0; i < PRINTERS; i++)
+        if (find_label(printer_names[i]) >= 0) printers[i] = label(printer_names[i]);
+}
+
 /* The lists of tables, if the program has some. */
 static void find_tables(void)
 {
@@ -619,6 +778,18 @@ static void find_tables(void)
 
 /* --- What was seen --- */
 
+/* Adds what was counted at another place: the first one of all counts as first. */
+static void add(vain *all, const vain *more)
+{
+    const long count = all->count + more->count;
+    if (!all->count || more->cycles < all->cycles) {
+        const char *what = all->what;
+        *all = *more;
+        all->what = what;
+    }
+    all->count = count;
+}
+
 /* Of the byte that was read first. The last label of a byte is the program's own. */
 static void tell_blind_reads(void)
 {
@@ -626,19 +797,15 @@ static void tell_blind_reads(void)
     const char *name = 0;
     int byte = 0;
     for (int at = 0; at < RAM_END; at++) {
-        const vain *reads = &blind_reads[at];
-        if (was_counted[at] || !reads->count) continue;
-        if (!all.count || reads->cycles < all.cycles) {
-            byte = at;
-            all.at = reads->at;
-            all.cycles = reads->cycles;
-        }
-        all.count += reads->count;
+        if (was_counted[at] || !blind_reads[at].count) continue;
+        if (!all.count || blind_reads[at].cycles < all.cycles) byte = at;
+        add(&all, &blind_reads[at]);
     }
     if (!all.count) return;
     for (int i = 0; i < label_count; i++)
         if (labels[i].at == byte) name = labels[i].name;
-    warn(&all);
+    printf("warning: %ld %s", all.count, all.what);
+    print_first(&all);
     printf(", of %04X%s%s\n", byte, name ? ", " : "", name ? name : "");
 }
 
@@ -669,17 +836,77 @@ static void tell_place(const place_seen *place)
     else print_strokes(place);
 }
 
-/* Where the segment DATA begins, by the list of segments, or else the vectors. */
-static int data_of(const char *path)
+/* Where the segment DATA begins, or else the vectors. */
+static int data_from(void)
 {
-    FILE *file = fopen(path, "r");
-    char line[200];
-    unsigned from = VECTORS;
-    if (!file) exit(2);
-    while (fgets(line, sizeof line, file))
-        if (sscanf(line, "DATA %x", &from) == 1) break;
-    fclose(file);
-    return (int)from;
+    for (int i = 0; i < segment_count; i++)
+        if (!strcmp(segments[i].name, "DATA")) return (int)segments[i].from;
+    return VECTORS;
+}
+
+/* Whether a list may stand there: in the program's ROM, or in pages 2 and 3 of the RAM, but for
+ * their first byte, from which parts/score.inc counts to any place of page 2. */
+static int may_list(int at)
+{
+    return (at >= code_end && at < VECTORS) || (at >= LISTS && at < RAM_END);
+}
+
+/* Where the list at a label ends: at the next label, or with its segment. */
+static int find_list_end(int from)
+{
+    int end = from < RAM_END ? RAM_END : VECTORS;
+    for (int i = 0; i < label_count; i++)
+        if (is_own(i) && labels[i].at > from && labels[i].at < end) end = labels[i].at;
+    for (int i = 0; i < segment_count; i++) {
+        const int behind = (int)segments[i].last + 1;
+        if (behind > from && behind < end) end = behind;
+    }
+    return end;
+}
+
+static void find_list_ends(void)
+{
+    for (int i = 0; i < label_count; i++)
+        if (is_own(i) && may_list(labels[i].at))
+            list_ends[labels[i].at] = find_list_end(labels[i].at);
+}
+
+/* Whether an instruction reads the list at a label as if that had some bytes more. What goes on by
+ * more than half of the list takes it and what follows for one. */
+static int reads_more(int at, int base)
+{
+    return lists[at].reads.count && lists[at].is_inside && operand_of(at) == base &&
+        lists[at].most <= (list_ends[base] - base) / 2;
+}
+
+/* The program's own label of a place. */
+static const char *name_of(int at)
+{
+    for (int i = 0; i < label_count; i++)
+        if (labels[i].at == at && is_own(i)) return labels[i].name;
+    return "what follows";
+}
+
+static void tell_short_list(int base)
+{
+    vain all = { 0 };
+    int most = 0;
+    for (int at = code_end; at < VECTORS; at++) {
+        if (!reads_more(at, base)) continue;
+        add(&all, &lists[at].reads);
+        if (lists[at].most > most) most = lists[at].most;
+    }
+    if (!all.count) return;
+    printf("warning: %ld reads go beyond the end of %s, by up to %d byte%s, into %s", all.count,
+        name_of(base), most, most > 1 ? "s" : "", name_of(list_ends[base]));
+    print_first(&all);
+    printf("\n");
+}
+
+static void tell_short_lists(void)
+{
+    for (int base = LISTS; base < VECTORS; base++)
+        if (list_ends[base]) tell_short_list(base);
 }
 
 static int is_branch(int opcode) { return (opcode & 0x1F) == 0x10; }
@@ -698,12 +925,23 @@ static void tell_unused(int data)
     if (count) printf("\n");
 }
 
+static void tell_warnings(void)
+{
+    for (unsigned i = 0; i < sizeof warnings / sizeof warnings[0]; i++)
+        if (warnings[i]->count) warn(warnings[i]);
+    tell_blind_reads();
+    tell_short_lists();
+    if (!frames_built && !frames_offered) printf("warning: no frame was built or offered\n");
+    for (int i = 0; is_boards && i < place_count; i++) tell_place(&places_seen[i]);
+}
+
 int main(int count, char **words)
 {
     uint8_t driver[PROGRAM_BYTES], program[PROGRAM_BYTES];
     size_t size;
     if (count < 7 || count > 10) return 64;
     ready_opcodes();
+    ready_kinds();
     size = read_file(words[2], program, sizeof program);
     program_from = MEMORY - (int)size;
     memcpy(memory + program_from, program, size);
@@ -721,6 +959,9 @@ int main(int count, char **words)
     seed = seed * 0x9E3779B97F4A7C15u + 1;
     check_place(driver, read_file(words[1], driver, sizeof driver));
     find_tables();
+    find_printers();
+    if (count > 8 && !read_segments(words[8])) return 2;
+    find_list_ends();
     for (int i = 0; i < 0x400; i++) memory[i] = (uint8_t)below(256);
     processor.p = UNUSED | INTERRUPT;
     processor.s = 0xFD;
@@ -728,14 +969,7 @@ int main(int count, char **words)
     run(strtoull(words[5], 0, 10) * CYCLES_A_SECOND);
     printf("%ld calls, %ld NMIs, %ld of them amid an NMI, %ld frames offered and %ld built\n",
         calls, nmis, nested, frames_offered, frames_built);
-    for (unsigned i = 0; i < sizeof warnings / sizeof warnings[0]; i++) {
-        if (!warnings[i]->count) continue;
-        warn(warnings[i]);
-        printf("\n");
-    }
-    tell_blind_reads();
-    if (!frames_built && !frames_offered) printf("warning: no frame was built or offered\n");
-    for (int i = 0; is_boards && i < place_count; i++) tell_place(&places_seen[i]);
-    if (count > 8) tell_unused(data_of(words[8]));
+    tell_warnings();
+    if (count > 8) tell_unused(data_from());
     return 0;
 }

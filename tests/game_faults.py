@@ -7,6 +7,7 @@ GIVEN_BACK = 'pla\n        tay\n        pla\n        tax\n        pla\n'
 FLIES, DRAW, NMI, PICTURE = 'flies:  rts', 'draw:   jsr dvg_open', 'nmi:    inc beats', 'picture:\n'
 OPENS = DRAW + '\n        '
 MISSED = 'missed: jmp serve'
+MOVES = '        jsr move_bat\n'
 STACK = '        ldx #$FF\n        txs\n'
 
 
@@ -79,6 +80,16 @@ FAULTS = [
     ('a call amid the driver', 'jsr dvg_redraw', 'jsr dvg_redraw + 2', 'no routine that is proved'),
     ('a subroutine that runs on into the NMI', '        jmp dvg_close\n\nnmi',
      '        jsr dvg_close\n\nnmi', 'which is nmi, not sub'),
+    ('a JMP for a JSR',
+     MOVES, MOVES.replace('jsr', 'jmp'), '(picture) one for a JSR'),
+    ('JMP and JSR to one subroutine', MOVES,
+     ' bit IN_FIRE\n bpl calls\n jmp move_bat\ncalls:\n' + MOVES,
+     'jmp $6B87: it goes on at 6B87 (move_bat), which is sub, not main: it is called at 6B2C (calls)'),
+    ('JMP for JSR of the driver', '        jsr dvg_redraw\n', '        jmp dvg_redraw\n',
+     'is this a JMP for a JSR'),
+    ('a loop without its JMP', '        jmp picture\n', '', 'is an RTS or JMP missing before it'),
+    ('a loop that a subroutine calls', MISSED, 'missed: jsr picture\n        jmp serve',
+     "(picture), which is main, not sub: a subroutine ends with RTS, and doesn't lead into"),
     ('code that runs into data', MISSED, 'missed: jmp title', ''),
     ('an opcode that no manual has', *beyond('.byte $07, $20'), '07 is no opcode'),
     ('a BRK', *beyond('brk'), 'where an IRQ does'),

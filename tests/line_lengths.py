@@ -10,14 +10,14 @@ CODE, DOCUMENT = 100, 120
 # Data, whose lines are as long as what they hold: pictures, sketches, logs, what a run prints, and
 # lists of names.
 DATA = re.compile(
-    r"\.(svg|png|wasm|sketch|log|hex|run|words|list|output|lock|txt)$|/(args|stdin|stdout)$")
+    r"\.(svg|png|wasm|tar|sketch|log|hex|run|words|list|output|lock|txt)$|/(args|stdin|stdout)$")
 # What is written by a script, and what shows commands and outputs whose lines are what they are. A
 # planted mistake has each of its texts in one line. `rt fmt` lays out what is proved: *.antt.
 EXEMPT = re.compile(
     r"\.antt$|^plain/crates/"
     r"|^page/(dvg\.html|dvg\.wasm\.made|driver\.listing)$"
     r"|^tests/(tool_)?cases/.*\.md$|^tests/compare_mistakes$"
-    r"|^crates/[^/]+/wrong-(bodies|laws)\.edits$|^tests/refused/")
+    r"|^crates/[^/]+/wrong-(bodies|laws)\.edits$|^tests/refused$")
 
 
 def too_long(path, text):

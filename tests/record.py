@@ -1,15 +1,15 @@
-"""What the prover refused, as tests/refused keeps it for tests/wrong_bodies: a file a crate.
+"""What the prover refused, as tests/refused keeps it for tests/wrong_bodies: a part for each crate.
 
-Its first line is a checksum of all that decides what is said of the crate's texts: the texts, the
-crate, the crates that it stands on, the logic of the kit, and the suite. The second has the seconds
-of processors that they took, and then comes a line of each text. It proves nothing: it spares to
-try again what was tried of the same sources. So in each commit a quarter of the crates is tried all
-the same, another one each time. Each run leaves what it was told in build/refused, from where it is
-taken."""
+A part begins with `## CRATE`. Its next line is a checksum of all that decides what is said of the
+crate's texts: the texts, the crate, the crates that it stands on, the logic of the kit, and the
+suite. The second has the seconds of processors that they took, and then comes a line of each text.
+It proves nothing: it spares to try again what was tried of the same sources. So in each commit a
+quarter of the crates is tried all the same, another one each time. Each run leaves what it was told
+in build/refused, a file for each crate, from where it is taken."""
 
 import functools
 import hashlib
-import shutil
+import re
 import subprocess
 
 from rooms import ROOT, crates_below, lines_of_crates
@@ -54,13 +54,19 @@ def checksum(name):
     return digest.hexdigest()
 
 
+def parts():
+    """What is kept of each crate, as a text, by its name."""
+    text = KEPT.read_text(encoding="utf-8") if KEPT.exists() else ""
+    return dict(re.findall(r"^## (\w+)\n((?:(?!## ).+\n)*)", text, re.M))
+
+
 def read(name):
     """What is kept of a crate: a checksum, seconds, and the lines of its texts. Of a new one it is
     like nothing."""
-    file = KEPT / name
-    if not file.exists():
+    kept = parts().get(name)
+    if kept is None:
         return "", 0, []
-    digest, seconds, *lines = file.read_text(encoding="utf-8").splitlines()
+    digest, seconds, *lines = kept.splitlines()
     return digest, int(seconds.split()[0]), lines
 
 
@@ -86,8 +92,9 @@ def take(name):
     """Takes into tests/refused what a run left of a crate. Returns whether one did, of the sources
     that are there."""
     file = TOLD / name
-    if not file.exists() or file.read_text(encoding="utf-8").split("\n")[0] != checksum(name):
+    told = file.read_text(encoding="utf-8") if file.exists() else ""
+    if told.split("\n")[0] != checksum(name):
         return False
-    KEPT.mkdir(exist_ok=True)
-    shutil.copyfile(file, KEPT / name)
+    kept = sorted({**parts(), name: told}.items())
+    KEPT.write_text("\n".join(f"## {it}\n{text}" for it, text in kept), encoding="utf-8")
     return True

@@ -13,7 +13,11 @@
 --     watchdog GAP TIME PLACES
 --                            the longest time without a write of the watchdog, and when it began
 --     amid WHAT TIME PLACES  where the program was, by its first NMI after MOST seconds in which no
---                            `watchdog` was written or no `picture` came, since TIME
+--                            `watchdog` was written, no `picture` came, or none that was `new`,
+--                            since TIME
+--     looked SWITCH TIME PLACES
+--                            the first look at a switch of the game after that, since no picture
+--                            was new from TIME on; SWITCH is its address
 --     pressed CAME ALL       presses that came, of those of the file of buttons
 --     watched NAME BYTES     what stood there at the end
 --     ended TIME
@@ -29,9 +33,9 @@ if _G.dvg_loaded then return end
 _G.dvg_loaded = true
 
 local WAIT = 100 / 1512000
-local MOST = { watchdog = 0.087, picture = 0.25 }
+local MOST = { watchdog = 0.087, picture = 0.25, new = 1 }
 local MOST_CALLS = 4
-local JSR = 0x20
+local JSR, FLIP = 0x20, 0x4001
 local folder = debug.getinfo(1, "S").source:match("^@(.*/)")
 local out = os.getenv("DVG_OUT")
 local log = assert(io.open(out .. "/judge.log", "w"))
@@ -41,7 +45,7 @@ local space = cpu.spaces["program"]
 local pc_state, s_state, p_state = cpu.state["PC"], cpu.state["SP"], cpu.state["P"]
 local machine = manager.machine
 local waited, waits_since = 0, 0
-local written, gap, gap_since, shown = 0, 0, 0, 0
+local written, gap, gap_since, shown, flipped = 0, 0, 0, 0, 0
 local gap_places, written_places, interrupted = "", "", ""
 
 local function now() return machine.time:as_double() end
@@ -67,6 +71,14 @@ local function look_amid(what, since)
   if now() - since <= MOST[what] or told[what] == since then return end
   told[what] = since
   tell("amid %s %.6f %s", what, since, interrupted)
+end
+
+-- Tells of a look at a switch, once of each time in which no picture is new for too long.
+local has_looked = false
+local function note_look(switch)
+  if has_looked or now() - flipped <= MOST.new then return end
+  has_looked = true
+  tell("looked %04X %.6f %s", switch, flipped, places())
 end
 
 -- The watchdog is written some 76,000 times a second, mostly by one instruction. So the calls that
@@ -168,8 +180,12 @@ _G.dvg_judges = {
     tell("banks %.6f %s", now(), places())
   end),
   space:install_write_tap(0x4000, 0x47ff, "written", function(at, data)
-    tell("wrote %03X %02X %.6f %s", at - 0x4000, data, now(), places())
+    local time = now()
+    tell("wrote %03X %02X %.6f %s", at - 0x4000, data, time, places())
+    if at == FLIP then flipped, has_looked = time, false end
   end),
+  space:install_read_tap(0x2003, 0x2005, "buttons", note_look),
+  space:install_read_tap(0x2400, 0x2407, "coins and buttons", note_look),
   space:install_write_tap(0x3400, 0x35ff, "watchdog", function()
     local time = now()
     note_gap(time)
@@ -191,6 +207,7 @@ _G.dvg_judges = {
     interrupted = places_of(space:read_u16(s + 2), s + 3)
     look_amid("watchdog", written)
     look_amid("picture", shown)
+    look_amid("new", flipped)
   end),
   space:install_read_tap(0x7ffc, 0x7ffc, "reset vector", function()
     tell("reset %.6f %s", now(), interrupted)

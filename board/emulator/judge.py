@@ -1,9 +1,10 @@
 """Says whether a program is fit for the board, by what judge.lua wrote of a run of it:
 
-    judge.py OUT ROM RATE
+    judge.py OUT ROM RATE [STILL]
 
-OUT is the folder that judge.lua wrote into, ROM the bytes of the vector ROM, and RATE how many
-pictures a second are wanted. The program is ./dvg of this repository, or the one that DVG names.
+OUT is the folder that judge.lua wrote into, ROM the bytes of the vector ROM, RATE how many pictures
+a second are wanted, and STILL for how many seconds only redraws may come [5]. The program is ./dvg
+of this repository, or the one that DVG names.
 DVG_LABELS names ld65's list of the program's labels, and DVG_EQUATES the names of the vector ROM:
 by them places are told. OUT/premises is what `premises` of this folder said, if it was asked. Each
 line that begins with BAD is a reason for status 1.
@@ -12,9 +13,11 @@ Of each picture the words are those that stood in the vector RAM at its strobe. 
 them, and time.awk tells how long the generator of the arcade emulator takes. A frame is what was
 written from the flip before its own one on: a run reads no other word of the vector RAM.
 """
+import bisect
 import os
 import re
 import signal
+import statistics
 import subprocess
 import sys
 
@@ -27,6 +30,7 @@ HERTZ, WATCHDOG, LONGEST_WAIT, TOO_MANY = 1512000, 0.087, 0.25, 4 / 3
 RAM, HALF, HALF_WORDS, WORDS, LABS, HALT, FLIP = 2048, 1024, 512, 1024, 10, 11, 1
 BROKE = {'1': 'a call inside of four calls', '2': 'a return outside of any call',
          '3': 'no memory is there: does a call name a shape, and has the frame its HALT?'}
+STILL = '5'
 places = Places(read_labels(os.environ.get('DVG_LABELS', '')))
 shapes = read_shapes(os.environ.get('DVG_EQUATES', ''))
 bad = warnings = 0
@@ -55,12 +59,13 @@ class Log:
     """judge.log. Its events are `wrote`, `picture`, `room` and `reset`, in their order, each with
     its numbers and its places; `pictures` are triples of a time, how many seconds the program
     waited, and how many resets came before. `flips` are the times at which a new picture was
-    published, and `amid` has the places of a pause, by what didn't come and when it began."""
+    published. `amid` has the places of a pause, by what didn't come and when it began, and `looked`
+    the switch and the places of a look at it, by when the last new picture came before it."""
 
     def __init__(self, path):
         self.events, self.pictures, self.early, self.resets, self.room = [], [], [], [], []
         self.faults, self.watched, self.pressed = [], [], None
-        self.flips, self.amid, self.banks = [], {}, None
+        self.flips, self.amid, self.looked, self.banks = [], {}, {}, None
         self.gap, self.gap_since, self.gap_places, self.ended = 0.0, 0.0, [], None
         with open(path, errors='replace') as file:
             for number, line in enumerate(file, 1):
@@ -83,6 +88,8 @@ class Log:
             self.banks = float(rest[0]), [int(at, 16) for at in rest[1:]]
         elif kind == 'amid':
             self.amid[rest[0], float(rest[1])] = [int(at, 16) for at in rest[2:]]
+        elif kind == 'looked':
+            self.looked[float(rest[1])] = int(rest[0], 16), [int(at, 16) for at in rest[2:]]
         elif kind == 'watchdog':
             self.gap, self.gap_since = float(rest[0]), float(rest[1])
             self.gap_places = [int(at, 16) for at in rest[2:]]
@@ -188,7 +195,29 @@ def tell_pace(log, rate, each_second, pause, since):
             % (pause * 1000, since, amid_picture(log, since)))
 
 
-def judge_rate(log, rate):
+def tell_still(log, still):
+    """Only redraws came for more than this many seconds, up to the end. A game that rests looks at
+    a switch meanwhile, which ends its rest; one picture alone may be meant so. All else hangs."""
+    since = log.flips[-1] if log.flips else 0.0
+    stood = log.pictures[-1][0] - since
+    if not log.flips or stood <= still:
+        return
+    where = log.amid.get(('new', since))
+    told = 'no new picture for %.1f seconds, from %.3f s on: redraws alone' % (stood, since)
+    if where:
+        told += '; after a second the program was in ' + places.tell_way(where)
+    if since in log.looked:
+        switch, where = log.looked[since]
+        warn('%s; meanwhile the switch %04X was looked at%s: if the game rests, let the file of '
+             'buttons press it' % (told, switch, by(where)))
+    elif len(log.flips) == 1:
+        warn(told + '; no other one was published: does the program hang?')
+    else:
+        say(False, told + '; no button and no coin switch was looked at: does it hang? If it '
+            'rests, let STILL be more')
+
+
+def judge_rate(log, rate, still):
     times = [time for time, _, _ in log.pictures]
     if log.early:
         time, where = log.early[0]
@@ -205,6 +234,7 @@ def judge_rate(log, rate):
     if stands > max(pause, 0.1):
         pause, since = stands, times[-1]
     tell_pace(log, rate, (len(times) - 1) / (times[-1] - times[0]), pause, since)
+    tell_still(log, still)
     tell_left(log)
 
 
@@ -414,6 +444,14 @@ def tell_banks(log):
              'picture of a table turns upside down' % (by(where), time))
 
 
+def drawings_of(log):
+    """How often a new picture is drawn, as a rule: a rest doesn't count for more than one."""
+    times = [time for time, _, _ in log.pictures]
+    places = [bisect.bisect(times, flip) for flip in log.flips]
+    counts = [after - before for before, after in zip(places, places[1:])]
+    return max(statistics.median_low(counts), 1) if counts else 1
+
+
 def tell_longest(pictures, log, rate):
     """How long the generator took. A program that draws each new picture more than once has less
     time for it."""
@@ -424,8 +462,8 @@ def tell_longest(pictures, log, rate):
     (time, vectors, others), at = max(spent)
     say(time <= 1000000 / rate, 'the longest picture: %d microseconds, %d vectors, '
         '%d other instructions, at %.3f s' % (time, vectors, others, at))
-    drawings = round(len(log.pictures) / len(log.flips)) if log.flips else 1
-    most = 1000000 / rate / max(drawings, 1)
+    drawings = drawings_of(log)
+    most = 1000000 / rate / drawings
     if most < time <= 1000000 / rate:
         warn('that is longer than %.0f microseconds, as each new picture is drawn %d times, and '
              '%g new ones are wanted a second: they come later' % (most, drawings, rate))
@@ -445,7 +483,7 @@ def tell_fullest(pictures, log):
         % (words, HALF_WORDS - 1, -time, why))
 
 
-def judge(out, rom_path, rate):
+def judge(out, rom_path, rate, still):
     log = Log(os.path.join(out, 'judge.log'))
     if log.faults:
         say(False, log.faults[0])
@@ -455,7 +493,7 @@ def judge(out, rom_path, rate):
     judge_premises(out)
     judge_halves(out, log)
     judge_resets(log)
-    judge_rate(log, rate)
+    judge_rate(log, rate, still)
     judge_pictures(out, log, rom, rate)
     tell_banks(log)
     tell_presses(log.pressed)
@@ -467,11 +505,14 @@ def judge(out, rom_path, rate):
 
 def main():
     signal.signal(signal.SIGPIPE, signal.SIG_DFL)
-    if len(sys.argv) != 4 or not re.fullmatch(r'\d*\.?\d+', sys.argv[3]) or not float(sys.argv[3]):
-        print('judge: OUT ROM RATE, where RATE is pictures a second', file=sys.stderr)
+    words = sys.argv[1:] + [STILL] * (len(sys.argv) == 4)
+    numbers = [float(word) for word in words[2:] if re.fullmatch(r'\d*\.?\d+', word)]
+    if len(words) != 4 or len(numbers) != 2 or not all(numbers):
+        print('judge: OUT ROM RATE [STILL], where RATE is pictures a second, and STILL seconds',
+              file=sys.stderr)
         sys.exit(64)
     try:
-        judge(sys.argv[1], sys.argv[2], float(sys.argv[3]))
+        judge(*words[:2], *numbers)
     except OSError as fault:
         say(False, 'nothing was judged: %s' % fault)
     sys.exit(bad != 0)

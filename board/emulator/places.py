@@ -48,6 +48,12 @@ class Places:
     def routine(self, at):
         return [name for label, name in self.routines if label <= at][-1]
 
+    def tell_way(self, places):
+        """Where the program is, by the instruction and the calls that led there, all of them; of
+        the driver's own calls the routine alone."""
+        told = [self.routine(places[0])] if places and places[0] in self.driver else []
+        return ', from '.join(told + [self.name(at) for at in places if at not in self.driver])
+
     def tell(self, places):
         """Who did it, by the instruction and the calls that led there: the program's own place, or
         the driver's routine, from where it was called."""

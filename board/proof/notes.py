@@ -18,14 +18,16 @@ def join(old, new):
 class Flow:
     """Goes over all that is reached until nothing changes."""
 
-    def __init__(self, program, start, ends, fills=False):
+    def __init__(self, program, start, ends, subs=frozenset(), fills=False):
         self.program, self.ends = program, ends     # ends: subroutines that may leave a frame blank
+        self.subs = subs                            # what counts as a subroutine for all ways
         self.fills = fills                          # what follows a call is taken as not blank
         self.notes, self.owner, self.work = {}, {}, []
         first = Note('main', 0, ANYTHING, '', 0, 0, False, False, False)
         nmi = program.word(NMI_VECTOR)
-        self.go(start, first, start)
+        # What comes last is gone over first.
         self.go(nmi, first._replace(level='nmi', held=UNCHANGED), nmi)
+        self.go(start, first, start)
         while self.work:
             self.follow(self.work.pop())
         self.spread()
@@ -41,6 +43,8 @@ class Flow:
             changed = len(self.ends) > before
 
     def go(self, at, note, owner):
+        if at in self.subs and note.level != 'sub':
+            note, owner = note._replace(level='sub', depth=0, slots=''), at
         new = join(self.notes.get(at), note)
         if is_code(at) and new != self.notes.get(at):
             self.notes[at] = new
@@ -135,6 +139,28 @@ def room_of(i, then, room):
     return min(need, CAP)
 
 
+def ways_back(program, notes):
+    """From where each instruction is come to."""
+    before = {}
+    for at in sorted(notes):
+        for to, _ in ways(program, Instruction(program.rom, at)):
+            before.setdefault(to, []).append(at)
+    return before
+
+
+def jump_to(program, notes, at):
+    """The last JMP on the shortest way to an instruction, or None."""
+    before, found, work = ways_back(program, notes), {at}, [at]
+    while work:
+        new = [one for one in before.get(work.pop(0), ()) if one not in found]
+        jumps = [one for one in new if Instruction(program.rom, one).name == 'jmp']
+        if jumps:
+            return jumps[0]
+        found |= set(new)
+        work += new
+    return None
+
+
 def empty_ones(program, start):
     """The subroutines that are called with an empty frame, and may return with it."""
     flow = Flow(program, start, set(), fills=True)
@@ -142,12 +168,42 @@ def empty_ones(program, start):
     return sorted({i.operand for i in calls if i.name == 'jsr'} & flow.ends)
 
 
+def led_from(program, at):
+    """Where an instruction leads, but for what it calls."""
+    found, work = set(), [at]
+    while work:
+        at = work.pop()
+        if is_code(at) and at not in found:
+            found.add(at)
+            work += [to for to, _ in ways(program, Instruction(program.rom, at))]
+    return found
+
+
+def returns(program, at):
+    """Whether a way from an instruction on ends as a subroutine does."""
+    steps = (Instruction(program.rom, to) for to in led_from(program, at))
+    return any(i.name == 'rts' or i.name == 'jmp' and is_driver(i.operand) for i in steps)
+
+
+def subroutines(program, start):
+    """What a JSR leads to, and returns: a subroutine, however else it is come to. So what is
+    refused is the way that isn't a JSR."""
+    subs = set()
+    while True:
+        steps = [Instruction(program.rom, at) for at in Flow(program, start, set(), subs).notes]
+        new = {i.operand for i in steps if i.name == 'jsr' and is_code(i.operand)}
+        new = {at for at in new - subs - {start, program.word(NMI_VECTOR)} if returns(program, at)}
+        if not new:
+            return subs
+        subs |= new
+
+
 def make(program, start):
     """Notes of all instructions that are reached from the start and the NMI's vector."""
-    ends = set()
+    ends, subs = set(), subroutines(program, start)
     while True:
         before = len(ends)
-        flow = Flow(program, start, ends)
+        flow = Flow(program, start, ends, subs)
         if len(ends) == before:
             break
     room, fuel = counted(program, flow.notes)

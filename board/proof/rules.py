@@ -29,6 +29,7 @@ TOO_EARLY = 'comes before dvg_reset, or after a store of a byte of 10 to 20'
 ASLEEP = 'dvg_reset may not have been called, or a byte of 10 to 20 was stored since'
 LOOPS = 'the NMI may loop, or lasts too long: write each round of a loop for itself'
 SHARED = 'the NMI leads there, too: it ends with RTI, and shares no instruction with the program'
+UNCALLED = 'where no call is open'
 DEEP = ('it needs more of the stack than there is: does a subroutine call itself, or a loop push? '
         'Let it keep in RAM what it would push')
 ORDER = 'VECTORS has .word nmi, reset, irq, in this order'
@@ -88,15 +89,33 @@ def check_read(i):
             raise Refused(f'it may read {a:04X}, the strobe')
 
 
-def check_next(program, notes, now, to):
-    """What is to come is noted, and its note asks for no more than this one leaves."""
+def cure_of_way(program, notes, now, to, runs_on):
+    """What to do where a way leads to a place of another level."""
+    new = notes[to]
+    if runs_on and (new.level != 'nmi' or to == program.word(NMI_VECTOR)):
+        missing = 'RTI' if now.level == 'nmi' else 'RTS or JMP'
+        return f'is an {missing} missing before it?'
+    if 'nmi' in (new.level, now.level):
+        return SHARED
+    if new.level == 'main':
+        return "a subroutine ends with RTS, and doesn't lead into the program's loop"
+    steps = (Instruction(program.rom, at) for at in sorted(notes))
+    calls = [i.at for i in steps if i.name == 'jsr' and i.operand == to]
+    return (f'it is called at {program.where(calls[0])}, and ends with RTS: call it here, too'
+            if calls else 'it is in a subroutine, which is called by JSR')
+
+
+def check_next(program, notes, now, to, runs_on=False):
+    """What is to come is noted, and its note asks for no more than this one leaves. It runs on
+    where it comes to what stands behind it."""
     new = notes.get(to) if is_code(to) else None
     where = program.where(to)
     if new is None:
         raise Refused(f'it goes on at {to:04X}, where no instruction of the game is known')
     if new.level != now.level:
-        cure = SHARED if 'nmi' in (new.level, now.level) else 'is there an RTS or JMP too few?'
-        raise Refused(f'it goes on at {where}, which is {new.level}, not {now.level}: {cure}')
+        does = 'runs on into' if runs_on else 'goes on at'
+        raise Refused(f'it {does} {where}, which is {new.level}, not {now.level}: '
+                      + cure_of_way(program, notes, now, to, runs_on))
     if new.depth != now.depth:
         raise Refused(f'{bytes_of(now.depth)} on the stack, and at {where} {new.depth}: '
                       'push and pull as much on each way')
@@ -137,7 +156,7 @@ def check_return(now, blank):
     if now.level == 'nmi':
         raise Refused('it returns from level nmi: the NMI ends with RTI')
     if now.level != 'sub':
-        raise Refused(f'it returns from level {now.level}, where no call is open')
+        raise Refused(f'it returns from level {now.level}, {UNCALLED}')
     if now.depth:
         by_table = '; in place of a jump by two bytes, compare, and JMP' if now.depth == 2 else ''
         raise Refused(f'it returns with {bytes_of(now.depth)} more on the stack: '
@@ -159,7 +178,7 @@ def check_jump(program, notes, now, to):
 def check_call(program, notes, now, to, back):
     if is_driver(to):
         blank = check_driver(to, now)
-        return check_next(program, notes, now._replace(awake=True, blank=blank), back)
+        return check_next(program, notes, now._replace(awake=True, blank=blank), back, True)
     if now.level == 'nmi':
         raise Refused('the NMI calls a subroutine: write its instructions there')
     if now.room < 2:
@@ -168,7 +187,7 @@ def check_call(program, notes, now, to, back):
     ends = called is None or called.ends
     check_next(program, notes, now._replace(level='sub', depth=0, slots='', room=now.room - 2,
                                             ends=ends), to)
-    check_next(program, notes, now._replace(blank=ends), back)
+    check_next(program, notes, now._replace(blank=ends), back, True)
 
 
 def check_finish(now):
@@ -210,8 +229,9 @@ def after(i, now):
 def check_alone(i, now):
     """What is asked of an instruction by itself."""
     if i.name == 'none':
-        raise Refused(f'{i.opcode:02X} is no opcode: does the program run on into data? Write JMP '
-                      'for a branch that is always taken, and keep text away from behind a JSR')
+        raise Refused(f'{i.opcode:02X} is no opcode: does the program run on into data, as an RTS '
+                      'or JMP is missing before it? Write JMP for a branch that is always taken, '
+                      'and keep text away from behind a JSR')
     if i.name in ('brk', 'sed', 'txs') or i.mode == '(abs)':
         raise Refused({'brk': 'it goes where an IRQ does',
                        'sed': 'decimal sums are not proved: parts/score.inc counts by digits',
@@ -243,7 +263,7 @@ def check_one(program, notes, at):
     else:
         if i.name in BRANCHES:
             check_next(program, notes, now, i.operand)
-        check_next(program, notes, after(i, now), i.next)
+        check_next(program, notes, after(i, now), i.next, True)
 
 
 def boot(program, vector=RESET_VECTOR):

@@ -1,26 +1,14 @@
 /* Says of a program's bytes whether a run of them may tear a picture: what board/prove does by its
  * script, but for the names of tables and shapes, which aren't in the bytes. Tested, not proved. */
 import { CURE, Contents } from './contents.mjs';
-import { emptyOnes, makeNotes, waysOn } from './notes.mjs';
+import { emptyOnes, jumpTo, ledFrom, makeNotes, waysOn } from './notes.mjs';
 import { NMI_VECTOR, START, isCode } from './programs.mjs';
-import { EMPTY, ORDER, TOO_EARLY, refusalOf, refusalsOf, startOf } from './rules.mjs';
+import { EMPTY, ORDER, TOO_EARLY, UNCALLED, refusalOf, refusalsOf, startOf } from './rules.mjs';
 
 const UNTORN = 'no run of these bytes tears a picture';
 
 /* What a program is called by: its verdict is GOOD, UNSEEN or REFUSED. */
 export const VERDICT = { GOOD: 0, REFUSED: 1, UNSEEN: 3 };
-
-/* Where the NMI leads. */
-function ledByNmi(program, notes) {
-  const found = new Set(), work = [program.word(NMI_VECTOR)];
-  while (work.length > 0) {
-    const at = work.pop();
-    if (!notes.has(at) || found.has(at)) continue;
-    found.add(at);
-    work.push(...waysOn(program, program.at(at)).map(([to]) => to));
-  }
-  return found;
-}
 
 /* The stores of the driver's bytes that come where dvg_reset was called: they undo it. */
 function undoingStores(program, notes, start) {
@@ -39,11 +27,23 @@ function undoingStores(program, notes, start) {
   return [...found].sort((a, b) => a - b);
 }
 
+/* Where a JMP may stand for the JSR of what returns. */
+function uncalledHint(line, program, notes) {
+  const jump = jumpTo(program, notes, parseInt(line, 16));
+  const place = jump === undefined ? '' : program.where(jump);
+  if (line.includes(': jmp ')) {
+    return `: is this a JMP for a JSR${place && `, or the one at ${place}, which leads there`}?`;
+  }
+  return place && `: is the JMP at ${place} one for a JSR?`;
+}
+
 /* Where the cause of a refusal stands, if that isn't the instruction that is refused, or ''. */
-function hintOf(line, program, start) {
-  if (!line.endsWith(EMPTY)) return '';
-  return emptyOnes(program, start).map((at) => `; ${program.where(at)} is called between dvg_open `
-    + 'and dvg_labs: call it before dvg_open').join('');
+function hintOf(line, program, notes, start) {
+  if (line.endsWith(EMPTY)) {
+    return emptyOnes(program, start).map((at) => `; ${program.where(at)} is called between `
+      + 'dvg_open and dvg_labs: call it before dvg_open').join('');
+  }
+  return line.endsWith(UNCALLED) ? uncalledHint(line, program, notes) : '';
 }
 
 /* One line for all calls that come too early, of the store that is the cause, if there is. */
@@ -55,7 +55,8 @@ function earlyLine(lines, program, notes, start) {
     return `${program.where(undone)}: ${program.at(undone)}: it may store a byte of 10 to 20, `
       + `after which ${name} comes before dvg_reset, at ${place}${others}`;
   }
-  const isByNmi = ledByNmi(program, notes).has(parseInt(place.split(' ')[0], 16));
+  const led = ledFrom(program, program.word(NMI_VECTOR));
+  const isByNmi = led.has(parseInt(place.split(' ')[0], 16));
   const cause = isByNmi ? 'the NMI leads there' : 'which isn\'t called first on each way there';
   return `${place}: ${call}: ${name} comes before dvg_reset${others}; ${cause}`;
 }
@@ -76,7 +77,7 @@ function examined(program, driver) {
   const notes = makeNotes(program, start), lines = refusalsOf(program, notes, start, driver);
   const early = lines.filter((line) => line.endsWith(TOO_EARLY));
   const others = lines.filter((line) => !line.endsWith(TOO_EARLY))
-    .map((line) => line + hintOf(line, program, start));
+    .map((line) => line + hintOf(line, program, notes, start));
   const told = early.length > 0 ? [earlyLine(early, program, notes, start)] : [];
   return { notes, start, lines: [...others, ...told] };
 }

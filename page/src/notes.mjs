@@ -68,13 +68,15 @@ function beyond(one, note) {
 
 /* Goes over all that is reached until nothing changes. */
 class Flow {
-  /* `ends` has the subroutines that may leave a frame blank. With `fills` what follows a call is
-   * taken as not blank. */
-  constructor(program, start, ends, fills = false) {
-    Object.assign(this, { program, ends, fills, notes: new Map(), owner: new Map(), work: [] });
+  /* `ends` has the subroutines that may leave a frame blank, and `subs` what counts as one for all
+   * ways. With `fills` what follows a call is taken as not blank. */
+  constructor(program, start, ends, { subs = new Set(), fills = false } = {}) {
+    Object.assign(this, { program, ends, subs, fills, work: [] });
+    Object.assign(this, { notes: new Map(), owner: new Map() });
     const nmi = program.word(NMI_VECTOR);
-    this.go(start, FIRST_NOTE, start);
+    /* What comes last is gone over first. */
     this.go(nmi, { ...FIRST_NOTE, level: 'nmi', held: UNCHANGED }, nmi);
+    this.go(start, FIRST_NOTE, start);
     while (this.work.length > 0) this.follow(this.work.pop());
     this.spread();
   }
@@ -93,10 +95,12 @@ class Flow {
   }
 
   go(at, note, owner) {
-    const now = joined(this.notes.get(at), note);
+    const enters = this.subs.has(at) && note.level !== 'sub';
+    const come = enters ? { ...note, level: 'sub', depth: 0, slots: '' } : note;
+    const now = joined(this.notes.get(at), come);
     if (!isCode(at) || isSame(this.notes.get(at), now)) return;
     this.notes.set(at, now);
-    this.owner.set(at, owner);
+    this.owner.set(at, enters ? at : owner);
     this.work.push(at);
   }
 
@@ -152,9 +156,33 @@ function measured(program, notes) {
   return { room, fuel };
 }
 
+/* From where each instruction is come to. */
+function waysBack(program, notes) {
+  const before = new Map();
+  for (const at of [...notes.keys()].sort((a, b) => a - b)) {
+    for (const [to] of waysOn(program, program.at(at))) {
+      before.set(to, [...before.get(to) ?? [], at]);
+    }
+  }
+  return before;
+}
+
+/* The last JMP on the shortest way to an instruction, or undefined. */
+export function jumpTo(program, notes, to) {
+  const before = waysBack(program, notes), found = new Set([to]), work = [to];
+  while (work.length > 0) {
+    const next = (before.get(work.shift()) ?? []).filter((at) => !found.has(at));
+    const jump = next.find((at) => program.at(at).name === 'jmp');
+    if (jump !== undefined) return jump;
+    next.forEach((at) => found.add(at));
+    work.push(...next);
+  }
+  return undefined;
+}
+
 /* The subroutines that are called with an empty frame, and may return with it. */
 export function emptyOnes(program, start) {
-  const flow = new Flow(program, start, new Set(), true), found = new Set();
+  const flow = new Flow(program, start, new Set(), { fills: true }), found = new Set();
   for (const [at, note] of flow.notes) {
     const one = program.at(at);
     if (note.blank && one.name === 'jsr' && flow.ends.has(one.operand)) found.add(one.operand);
@@ -162,13 +190,46 @@ export function emptyOnes(program, start) {
   return [...found].sort((a, b) => a - b);
 }
 
+/* Where an instruction leads, but for what it calls. */
+export function ledFrom(program, from) {
+  const found = new Set(), work = [from];
+  while (work.length > 0) {
+    const at = work.pop();
+    if (!isCode(at) || found.has(at)) continue;
+    found.add(at);
+    work.push(...waysOn(program, program.at(at)).map(([to]) => to));
+  }
+  return found;
+}
+
+/* Whether a way from an instruction on ends as a subroutine does. */
+function returns(program, from) {
+  return [...ledFrom(program, from)].map((at) => program.at(at))
+    .some(({ name, operand }) => name === 'rts' || (name === 'jmp' && isDriver(operand)));
+}
+
+/* What a JSR leads to, and returns: a subroutine, however else it is come to. So what is refused is
+ * the way that isn't a JSR. */
+function subroutinesOf(program, start) {
+  const subs = new Set(), others = [start, program.word(NMI_VECTOR)];
+  for (let before = -1; before !== subs.size;) {
+    before = subs.size;
+    [...new Flow(program, start, new Set(), { subs }).notes.keys()].map((at) => program.at(at))
+      .filter(({ name, operand }) => name === 'jsr' && isCode(operand))
+      .map(({ operand }) => operand)
+      .filter((at) => !others.includes(at) && returns(program, at))
+      .forEach((at) => subs.add(at));
+  }
+  return subs;
+}
+
 /* Notes of all instructions that are reached from the start and the NMI's vector. */
 export function makeNotes(program, start) {
-  const ends = new Set();
+  const ends = new Set(), subs = subroutinesOf(program, start);
   let flow;
   for (let before = -1; before !== ends.size;) {
     before = ends.size;
-    flow = new Flow(program, start, ends);
+    flow = new Flow(program, start, ends, { subs });
   }
   const { room, fuel } = measured(program, flow.notes);
   return new Map([...flow.notes].map(([at, note]) => [at, {

@@ -22,6 +22,7 @@ const ASLEEP = 'dvg_reset may not have been called, or a byte of 10 to 20 was st
 const LOOPS = 'the NMI may loop, or lasts too long: write each round of a loop for itself';
 const SHARED = 'the NMI leads there, too: it ends with RTI, and shares no instruction with the '
   + 'program';
+export const UNCALLED = 'where no call is open';
 const DEEP = 'it needs more of the stack than there is: does a subroutine call itself, or a loop '
   + 'push? Let it keep in RAM what it would push';
 export const ORDER = 'VECTORS has .word nmi, reset, irq, in this order';
@@ -95,16 +96,33 @@ function checkRead(one) {
   if (at !== undefined) refuse(`it may read ${hex(at, 4)}, the strobe`);
 }
 
-/* What is to come is noted, and its note asks for no more than this one leaves. */
-function checkNext(program, notes, now, to) {
+/* What to do where a way leads to a place of another level. */
+function cureOfWay(program, notes, now, to, runsOn) {
+  const next = notes.get(to);
+  if (runsOn && (next.level !== 'nmi' || to === program.word(NMI_VECTOR))) {
+    return `is an ${now.level === 'nmi' ? 'RTI' : 'RTS or JMP'} missing before it?`;
+  }
+  if ([next.level, now.level].includes('nmi')) return SHARED;
+  if (next.level === 'main') {
+    return 'a subroutine ends with RTS, and doesn\'t lead into the program\'s loop';
+  }
+  const call = [...notes.keys()].sort((a, b) => a - b)
+    .find((at) => program.at(at).name === 'jsr' && program.at(at).operand === to);
+  return call === undefined ? 'it is in a subroutine, which is called by JSR'
+    : `it is called at ${program.where(call)}, and ends with RTS: call it here, too`;
+}
+
+/* What is to come is noted, and its note asks for no more than this one leaves. It runs on where it
+ * comes to what stands behind it. */
+function checkNext(program, notes, now, to, runsOn = false) {
   const next = isCode(to) ? notes.get(to) : undefined, where = program.where(to);
   if (next === undefined) {
     refuse(`it goes on at ${hex(to, 4)}, where no instruction of the game is known`);
   }
   if (next.level !== now.level) {
-    const cure = [next.level, now.level].includes('nmi') ? SHARED
-      : 'is there an RTS or JMP too few?';
-    refuse(`it goes on at ${where}, which is ${next.level}, not ${now.level}: ${cure}`);
+    const does = runsOn ? 'runs on into' : 'goes on at';
+    const cure = cureOfWay(program, notes, now, to, runsOn);
+    refuse(`it ${does} ${where}, which is ${next.level}, not ${now.level}: ${cure}`);
   }
   if (next.depth !== now.depth) {
     refuse(`${counted(now.depth, 'byte')} on the stack, and at ${where} ${next.depth}: push and `
@@ -140,7 +158,7 @@ function checkDriver(to, now) {
 
 function checkReturn(now, isBlank) {
   if (now.level === 'nmi') refuse('it returns from level nmi: the NMI ends with RTI');
-  if (now.level !== 'sub') refuse(`it returns from level ${now.level}, where no call is open`);
+  if (now.level !== 'sub') refuse(`it returns from level ${now.level}, ${UNCALLED}`);
   if (now.depth > 0) {
     const byTable = now.depth === 2 ? '; in place of a jump by two bytes, compare, and JMP' : '';
     refuse(`it returns with ${counted(now.depth, 'byte')} more on the stack: pull what was `
@@ -159,7 +177,7 @@ function checkJump(program, notes, now, to) {
 function checkCall(program, notes, now, { operand: to, next: back }) {
   if (isDriver(to)) {
     const blank = checkDriver(to, now);
-    checkNext(program, notes, { ...now, awake: true, blank }, back);
+    checkNext(program, notes, { ...now, awake: true, blank }, back, true);
     return;
   }
   if (now.level === 'nmi') refuse('the NMI calls a subroutine: write its instructions there');
@@ -167,7 +185,7 @@ function checkCall(program, notes, now, { operand: to, next: back }) {
   const called = isCode(to) ? notes.get(to) : undefined, ends = called?.ends ?? true;
   const inside = { level: 'sub', depth: 0, slots: '', room: now.room - 2, ends };
   checkNext(program, notes, { ...now, ...inside }, to);
-  checkNext(program, notes, { ...now, blank: ends }, back);
+  checkNext(program, notes, { ...now, blank: ends }, back, true);
 }
 
 function checkFinish(now) {
@@ -199,8 +217,9 @@ function after(one, now) {
 function checkAlone(one, now) {
   const { name } = one;
   if (name === 'none') {
-    refuse(`${hex(one.opcode, 2)} is no opcode: does the program run on into data? Write JMP for a `
-      + 'branch that is always taken, and keep text away from behind a JSR');
+    refuse(`${hex(one.opcode, 2)} is no opcode: does the program run on into data, as an RTS or `
+      + 'JMP is missing before it? Write JMP for a branch that is always taken, and keep text away '
+      + 'from behind a JSR');
   }
   if (name in NEVER || one.goesByTable) refuse(NEVER[name] ?? BY_TABLE);
   if (one.writes) checkStore(one, now.level);
@@ -223,7 +242,7 @@ function checkOne(program, notes, at) {
   else if (name === 'rti') checkFinish(now);
   else {
     if (one.branches) checkNext(program, notes, now, one.operand);
-    checkNext(program, notes, after(one, now), one.next);
+    checkNext(program, notes, after(one, now), one.next, true);
   }
 }
 
