@@ -697,7 +697,9 @@ async function testGameFiles() {
   const text = 'al 006C71 .draw\nal 006800 .dvg_reset';
   const labels = { name: 'game.labels', bytes: Buffer.from(text) };
   const zips = zipsOf(sockets);
+  const page = { name: 'page.html', bytes: new Uint8Array(Buffer.from(pageOf('bat', 'bat'))) };
   for (const [what, files] of [['a program', [whole, rom]], ['sockets', sockets],
+    ['a page', [page]],
     ['others', [rom, whole, labels]], ...zips]) {
     const game = gameOf(await unzipped(files));
     expect(`${what}: its program`, Buffer.from(bytes).toString('hex'),
@@ -710,7 +712,8 @@ async function testGameFiles() {
   expect('a socket alone', 'H2, J2, NP3', gameOf([sockets[0]]).missing);
   expect('a vector ROM alone', null, gameOf([rom]));
   for (const [what, file, wanted] of [['a program', bytes, true], ['EF2', sockets[0].bytes, true],
-    ['J2', sockets[2].bytes, true], ['a vector ROM', shapes, false],
+    ['J2', sockets[2].bytes, true], ['a page', page.bytes, true],
+    ['dvg.html', readFileSync(`${top}page/dvg.html`), false], ['a vector ROM', shapes, false],
     ['a dump', new Uint8Array(6144), false], ['a text', Buffer.from('labs 0 0 0'), false]]) {
     expect(`${what} is of a game`, wanted, isOfGame(file));
   }

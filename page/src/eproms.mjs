@@ -1,5 +1,5 @@
-/* What a game is dropped as: its program, its three sockets, its vector ROM, its labels, or a zip
- * of these; and the games that are built in. */
+/* What a game is dropped as: its program, its three sockets, its vector ROM, its labels, a zip of
+ * these, or the page that `make page` wrote; and the games that are built in. */
 import { bytesOfBase64 } from './hex.mjs';
 import { NMI_VECTOR, PROGRAM_END, RESET_VECTOR, START, labelsOf } from './programs.mjs';
 
@@ -24,9 +24,16 @@ function hasVectors(bytes) {
 const beginsDriver = (bytes) => DRIVER_BEGINS.every((byte, k) => bytes[k] === byte);
 const isZip = (bytes) => bytes[0] === 0x50 && bytes[1] === 0x4B && bytes[2] === 3;
 
-/* Whether a file is a program, or one of its sockets, by its bytes; or a zip. */
+/* The game on a page that `make page` wrote; null of another file. */
+function gameOfPage(bytes) {
+  if (bytes[0] !== 0x3C) return null;
+  const [, fields] = /^const GAME = (\{.*\});$/m.exec(new TextDecoder().decode(bytes)) ?? [];
+  return fields === undefined ? null : gameOfFields(JSON.parse(fields));
+}
+
+/* Whether a file is a program, or one of its sockets, by its bytes; or a zip, or a page. */
 export function isOfGame(bytes) {
-  if (isZip(bytes)) return true;
+  if (isZip(bytes) || gameOfPage(bytes) !== null) return true;
   if (bytes.length === PROGRAM_BYTES) return hasVectors(bytes);
   return bytes.length === SOCKET_BYTES && (hasVectors(bytes) || beginsDriver(bytes));
 }
@@ -51,7 +58,8 @@ export function gameOf(files) {
   const program = new Uint8Array(PROGRAM_BYTES).fill(NO_BYTE), found = new Set();
   let shapes = null, labels = new Map();
   for (const file of files) {
-    const { name, bytes } = file;
+    const { name, bytes } = file, onPage = gameOfPage(bytes);
+    if (onPage !== null) return onPage;
     if (/labels$/.test(name)) labels = labelsOf(new TextDecoder().decode(bytes));
     else if (bytes.length === PROGRAM_BYTES) {
       program.set(bytes);
