@@ -59,7 +59,7 @@ STILL ?= 5
 FILM ?= 3 12
 BUTTONS ?= buttons.txt
 TITLE ?= $(notdir $(CURDIR))
-MAME ?= $(or $(shell command -v mame),$(wildcard /usr/games/mame))
+MAME ?= $(shell command -v mame || ls /usr/games/mame 2>/dev/null)
 $(shell mkdir -p build)
 .DEFAULT_GOAL := roms
 
