@@ -25,12 +25,24 @@ from places import Places, read_labels, read_shapes
 
 HERE = os.path.dirname(os.path.realpath(__file__))
 TOP = os.path.dirname(os.path.dirname(HERE))
-DVG = os.environ.get('DVG') or os.path.join(TOP, 'dvg')
 HERTZ, WATCHDOG, LONGEST_WAIT, TOO_MANY = 1512000, 0.087, 0.25, 4 / 3
 RAM, HALF, HALF_WORDS, WORDS, LABS, HALT, FLIP = 2048, 1024, 512, 1024, 10, 11, 1
 BROKE = {'1': 'a call inside of four calls', '2': 'a return outside of any call',
          '3': 'no memory is there: does a call name a shape, and has the frame its HALT?'}
 STILL = '5'
+
+
+def program():
+    """The program that DVG names. ./dvg of this repository looks at all sources each time that it
+    runs, so it is asked only once what it would run."""
+    named = os.environ.get('DVG') or os.path.join(TOP, 'dvg')
+    if os.path.realpath(named) != os.path.join(TOP, 'dvg'):
+        return named
+    built = subprocess.run([os.path.join(TOP, 'tests', 'built')], stdout=subprocess.PIPE)
+    return built.stdout.decode().strip() or named
+
+
+DVG = program()
 places = Places(read_labels(os.environ.get('DVG_LABELS', '')))
 shapes = read_shapes(os.environ.get('DVG_EQUATES', ''))
 bad = warnings = 0
