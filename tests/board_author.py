@@ -234,7 +234,7 @@ MISTAKES = [
      r'^refused: .*it returns from level main.*: is the JMP at .... \(picture\) one for a JSR'),
     ('JMP and JSR to one subroutine',
      each_picture(' bit IN_FIRE\n bpl calls\n jmp move_bat\ncalls:'), 'proof',
-     r'^refused: .* jmp .*\(move_bat\), which is sub, not main: it is called at .... \(calls\), and'),
+     r'^refused: .* jmp .*\(move_bat\), which is sub, not main: it is called at .... \(calls\)'),
     ('a loop without its JMP', edit(LOOP, ''), 'proof',
      r'^refused: .*it runs on into .... \(rest\), .*: is an RTS or JMP missing before it\?'),
     ('an RTS that is left out', SPARE + edit(DRAW, 'blink:  inc spare\n' + DRAW)

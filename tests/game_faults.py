@@ -84,7 +84,7 @@ FAULTS = [
      MOVES, MOVES.replace('jsr', 'jmp'), '(picture) one for a JSR'),
     ('JMP and JSR to one subroutine', MOVES,
      ' bit IN_FIRE\n bpl calls\n jmp move_bat\ncalls:\n' + MOVES,
-     'jmp $6B87: it goes on at 6B87 (move_bat), which is sub, not main: it is called at 6B2C (calls)'),
+     'it goes on at 6B87 (move_bat), which is sub, not main: it is called at 6B2C (calls)'),
     ('JMP for JSR of the driver', '        jsr dvg_redraw\n', '        jmp dvg_redraw\n',
      'is this a JMP for a JSR'),
     ('a loop without its JMP', '        jmp picture\n', '', 'is an RTS or JMP missing before it'),
