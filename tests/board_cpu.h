@@ -78,6 +78,17 @@ static void ready_opcodes(void)
         opcode_index[opcodes[i].opcode] = (int)i;
 }
 
+/* Whether an opcode writes a byte back to memory: twice, and first as it was. */
+static inline int writes_back(uint8_t opcode)
+{
+    int index = opcode_index[opcode];
+    if (index < 0 || opcodes[index].mode == ACC) return 0;
+    switch (opcodes[index].operation) {
+    case ASL: case ROL: case LSR: case ROR: case INC: case DEC: return 1;
+    default: return 0;
+    }
+}
+
 static uint16_t fetch_word(cpu *c)
 {
     uint16_t low = bus_fetch(c->pc++);

@@ -47,6 +47,7 @@ module_of() {
     case $1 in
     fetches | wraps) echo dvg_core ;;
     board | events) echo dvg_board ;;
+    play) echo dvg_game ;;
     *) echo "dvg_$1" ;;
     esac
 }
@@ -59,12 +60,29 @@ files_of() {
     board) names='core board' ;;
     vectors) names='core board pace motion vectors' ;;
     machine) names='cpu core board machine' ;;
+    game) names='cpu core board pace motion vectors game' ;;
     esac
     printf "$2/dvg_%s.v\n" $names
 }
 
+# Prints the bytes in a file of crates/, between lines that a range of sed tells.
+bytes_of() {
+    sed -n "$2" "$top/crates/$1" | grep -oE '0x[0-9A-F]{2}'
+}
+
 # The driver's bytes, as numbers, which the bench of dvg_machine takes.
 write_driver() {
-    sed -n '/^code =/,$p' "$top/crates/dvg_calls_6502/specs/Code.antt" | grep -oE '0x[0-9A-F]{2}' \
-        >"$work/driver"
+    bytes_of dvg_calls_6502/specs/Code.antt '/^code =/,$p' >"$work/driver"
+}
+
+# Those of examples/asteroid_game, as its laws have them, for the bench of dvg_game: the vector ROM,
+# and then 6,144 bytes: the driver, the game, FF, and six of vectors.
+write_game() {
+    local game=dvg_game_rules/specs/Asteroid.antt
+    write_driver
+    {
+        bytes_of dvg_closed_board/specs/AsteroidContent.antt '/^shapes =/,/^$/p'
+        { cat "$work/driver" && bytes_of $game '/^bytes =/,/^$/p' && yes 0xFF; } | head -n 6138
+        bytes_of $game '/^vectors =/p'
+    } >"$work/game_bytes"
 }

@@ -6,12 +6,13 @@ refuses what it doesn't know.
     core_cells.py FOLDER --write       writes the clocks that the prover computes
 
 The cells are computed here, by the meaning that each kind has, over random clocks since power-up of
-dvg_core, also with DVG_WRAPS, of dvg_cpu, of dvg_board, of dvg_vectors, and of dvg_machine. The
-pins after each clock must be those that Icarus Verilog has, and those of Verilator. Some clocks of
-Icarus Verilog are given to the prover, too, which computes them by the definition of the cells:
-proofs/ClockVectors.antt of dvg_cells_core, dvg_cells_cpu and dvg_cells_board must be what is
-written here. A board whose pins are made of several wires is computed, too. Then texts are planted
-in the Verilog that core/cells must refuse, each by a line that says why. The last line is 'N
+dvg_core, also with DVG_WRAPS, of dvg_cpu, of dvg_board, of dvg_vectors, of dvg_machine, and of
+dvg_game with a random program in its ROM. The pins after each clock must be those that Icarus
+Verilog has, and those of Verilator. Some clocks of Icarus Verilog are given to the prover, too,
+which computes them by the definition of the cells: proofs/ClockVectors.antt of dvg_cells_core,
+dvg_cells_cpu and dvg_cells_board must be what is written here. A board whose pins are made of
+several wires is computed, too. Then texts are planted in the Verilog that core/cells must refuse,
+each by a line that says why. The last line is 'N
 passed, M failed'."""
 
 import glob
@@ -26,7 +27,7 @@ import texts
 
 CELLS = f"{texts.TOP}/core/cells"
 MODULES = ("dvg_core", "dvg_cpu", "dvg_board", "dvg_pace", "dvg_motion", "dvg_vectors",
-           "dvg_machine")
+           "dvg_machine", "dvg_game")
 SHOWS = "at high halted done fault stroke x0 y0 x y z".split()
 TELLS = "ends jsrl labs vec sum dx_sign dy_sign dx dy vec_z".split()
 
@@ -60,7 +61,7 @@ MEANING = {
 
 class Definition:
     """What core/cells writes of a module, as functions of Python. What a module holds is a dict by
-    names, in which a part of it is a dict, too, and the RAM a list. `parts` are the definitions of
+    names, in which a part of it is a dict, too, and a memory a list. `parts` are the definitions of
     its parts, by the name that they have in it."""
 
     def __init__(self, module, folder=f"{texts.TOP}/core", parts=None):
@@ -111,15 +112,15 @@ class Definition:
 
         return term()
 
-    def zeros(self, ram):
-        """What the module holds at power-up, with this RAM."""
+    def zeros(self, memories):
+        """What the module holds at power-up, with these memories, by their names."""
         record = re.search(r"(?m)^pub record \w+ : Type 0 where\n((?:  .*\n)+)", self.text)[1]
         held = {name: 0 for name in re.findall(r"pub (\w+) : ℕ$", record, re.M)}
-        if "pub ram :" in record:
-            held["ram"] = ram
+        for name in re.findall(r"pub (\w+) : ℕ → ℕ$", record, re.M):
+            held[name] = memories[name]
         for name in re.findall(r"pub (\w+) : [A-Z]\w*$", record, re.M):
             called = {"core": "cells"}.get(name, name)
-            held[name] = self.parts[called].zeros(ram)
+            held[name] = self.parts[called].zeros(memories)
         return held
 
     def value(self, pin, now, pins):
@@ -145,12 +146,24 @@ def number_of(pins, widths):
     return number
 
 
+def any_ram(size):
+    """What a RAM holds at power-up, here and in the other readers."""
+    return [(37 * a + 11) % 256 for a in range(size)]
+
+
 class Circuit:
     """A module by its cells, with the widths of the pins that are driven, and its outputs."""
 
     def __init__(self, definition):
         self.definition = definition
-        self.now = definition.zeros([(37 * a + 11) % 256 for a in range(2048)])
+        self.now = definition.zeros(self.memories())
+
+    def memories(self):
+        return {"ram": any_ram(2048)}
+
+    def words(self, folder):
+        """What the other readers are told of memories, by files in this folder."""
+        return []
 
     def play(self, pins):
         """A clock. Returns the outputs after it, with the same pins driven."""
@@ -250,6 +263,41 @@ class Machine(Circuit):
                 "big": int(once_in(2)), "rom": random.randrange(256), "m": m}
 
 
+class Game(Circuit):
+    """dvg_game, with dvg_cpu and dvg_vectors."""
+    WIDTHS = {"reset": 1, "tick": 1, "ready": 1, "held": 16, "switches": 8}
+    OUTPUTS = ("taken access write a d halted done fault x y lit z lamps bank counters explosion "
+               "thump sounds hushes").split()
+    PLACES = [0x0000, 0x0200, 0x0200, 0x2000, 0x2400, 0x2800, 0x3000, 0x3200, 0x3400, 0x3600,
+              0x3A00, 0x3C00, 0x3E00, 0x4000, 0x5000, 0x6800, 0xC000]
+
+    def memories(self):
+        shapes = [random.randrange(256) for _ in range(2048)]
+        return super().memories() | {"work": any_ram(1024), "shapes": shapes,
+                                     "code": shapes + self.program()}
+
+    def program(self):
+        """Loads and stores of all places, from 6800 on, again and again; so does an NMI."""
+        code = []
+        while len(code) < 1000:
+            place = random.choice(self.PLACES) + random.randrange(random.choice([8, 256, 512]))
+            code += [random.choice([0xAD, 0xAE, 0x8D, 0x8D, 0x8E, 0xEE, 0xBD]), place % 256,
+                     place // 256]
+            code += [random.choice([0xA9, 0xA2, 0x69]), random.randrange(256)]
+        code += [0x4C, 0x00, 0x68] + (6144 - 9 - len(code)) * [0xFF]
+        return code + 3 * [0x00, 0x68]
+
+    def words(self, folder):
+        for name in "code", "shapes":
+            with open(f"{folder}/{name}", "w", encoding="ascii") as file:
+                file.writelines(f"{byte:x}\n" for byte in self.now[name])
+        return [f"+{name}={folder}/{name}" for name in ("code", "shapes")]
+
+    def any_pins(self):
+        return {"reset": int(once_in(800)), "tick": int(once_in(3)), "ready": int(not once_in(4)),
+                "held": random.getrandbits(16), "switches": random.randrange(256)}
+
+
 def once_in(count):
     return random.randrange(count) == 0
 
@@ -275,14 +323,14 @@ def readers(folder, defines, files):
 
 def expect_clocks(suite, what, circuit, programs, folder, count):
     """The clocks of a circuit by its cells are those of the other readers."""
-    lines = []
+    lines, words = [], circuit.words(folder)
     with open(f"{folder}/pins", "w", encoding="ascii") as file:
         for _ in range(count):
             pins = circuit.any_pins()
             file.write(f"{number_of(pins, circuit.WIDTHS):x}\n")
             lines.append(" ".join(map(str, circuit.play(pins))))
     for name, program in programs:
-        _, said, _ = run(*program, f"+pins={folder}/pins", f"+count={count}")
+        _, said, _ = run(*program, *words, f"+pins={folder}/pins", f"+count={count}")
         found = [line for line in said.splitlines() if re.fullmatch(r"\d+( \d+)+", line)]
         differ = next((k for k in range(count) if found[k:k + 1] != lines[k:k + 1]), None)
         parts = ("none", "none")
@@ -396,12 +444,17 @@ REFUSED = [
     ("dvg_core", RESET, f"{RESET}\n    input  wire        mux,", "mux has another meaning"),
     ("dvg_core", RESET, f"{RESET}\n    input  wire        \\a+b ,", "a+b is no name"),
     # The memory
-    ("dvg_board", "reg [7:0] ram [0:2047];", "reg [7:0] ram [0:4095];", "the memory"),
+    ("dvg_board", "reg [7:0] ram [0:2047];", "reg [7:0] ram [0:4095];", "$memrd: widths"),
+    ("dvg_board", "reg [7:0] ram [0:2047];", "reg [7:0] ram [0:1999];", "the memory ram"),
     ("dvg_board", INITIAL, f"    initial ram[5] = 8'd7;\n{INITIAL}", "$meminit_v2: this kind"),
     ("dvg_board", WRITES, "if (writes) ram[place][3:0] <= d[3:0];", "an enable"),
     ("dvg_board", WRITES, "ram[place] <= d; if (writes) ran <= 1'b0;", "an enable"),
     ("dvg_board", WRITES, "if (writes) ram[a] <= d;", "$memwr_v2: widths"),
-    ("dvg_board", WRITES, "if (writes) ran <= 1'b0;", "memories: 1, and one is written"),
+    ("dvg_game", "code[code_place]", "code[a]", "$memrd: widths"),
+    ("dvg_game", "initial if (PROGRAM", "initial code[0] = 8'd1;\n    initial if (PROGRAM",
+     "$meminit_v2: this kind"),
+    ("dvg_game", "code_byte <=", "if (reset) code[code_place] <= d;\n        code_byte <=",
+     "there are 2"),
     ("dvg_board", WRITES, f"if (looks) ram[a[10:0]] <= 8'd0;\n        {WRITES}",
      "$memwr_v2: there are 2"),
     ("dvg_board", CLOCK, "always @(negedge clk)", "the other edge"),
@@ -520,12 +573,14 @@ def circuits():
     board = Definition("dvg_board", parts={"cells": core})
     vectors = Definition("dvg_vectors", parts={"board": board, "pace": pace, "motion": motion})
     machine = Definition("dvg_machine", parts={"cpu": cpu, "board": board})
+    game = Definition("dvg_game", parts={"cpu": cpu, "vectors": vectors})
     wraps = Definition("dvg_wraps")
     return [("dvg_core", [], lambda: Core(core)), ("dvg_cpu", ["-DCPU"], lambda: Processor(cpu)),
             ("dvg_wraps", ["-DDVG_WRAPS"], lambda: Core(wraps)),
             ("dvg_machine", ["-DMACHINE"], lambda: Machine(machine)),
             ("dvg_board", ["-DBOARD"], lambda: Board(board)),
-            ("dvg_vectors", ["-DVECTORS"], lambda: Vectors(vectors))]
+            ("dvg_vectors", ["-DVECTORS"], lambda: Vectors(vectors)),
+            ("dvg_game", ["-DGAME"], lambda: Game(game))]
 
 
 def main(folder, word="10000"):
@@ -535,7 +590,7 @@ def main(folder, word="10000"):
         place = f"{folder}/{name}"
         os.makedirs(place)
         programs = readers(place, defines, files)
-        if name not in ("dvg_wraps", "dvg_vectors", "dvg_machine"):
+        if name not in ("dvg_wraps", "dvg_vectors", "dvg_machine", "dvg_game"):
             text = vectors(name, circuit(), programs[0][1], place)
             if word == "--write":
                 with open(f"{texts.TOP}/{file_of_vectors(name)}", "w", encoding="utf-8") as file:

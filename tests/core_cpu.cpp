@@ -123,10 +123,7 @@ static void play_next()
         begin_nmi(&port);
         counts.nmis++;
     } else {
-        int index = opcode_index[ports[port.pc]];
-        int operation = index < 0 ? NOP : opcodes[index].operation;
-        changes = operation == ASL || operation == LSR || operation == ROL || operation == ROR
-            || operation == INC || operation == DEC;
+        changes = writes_back(ports[port.pc]);
         uint16_t here = port.pc;
         if (!step(&port)) {
             port.pc = here;                              /* it is read again */

@@ -4,8 +4,9 @@
     core_mistakes.py FOLDER
 
 Writes the Verilog of each into FOLDER/NUMBER, and prints a line for each mistake: its number, what
-must find it (fetches, wraps, board, events, motion, vectors, cpu, machine, bus, or else prover,
-none, nobody), and its name. Ends with status 1 where a text isn't in the file exactly once."""
+must find it (fetches, wraps, board, events, motion, vectors, cpu, machine, play, bus, or else
+prover, none, nobody), and its name. Ends with status 1 where a text isn't in the file exactly
+once."""
 
 import os
 import re
@@ -14,7 +15,7 @@ import sys
 TESTS = os.path.dirname(os.path.abspath(__file__))
 CORE = f"{os.path.dirname(TESTS)}/core"
 FILES = [f"dvg_{name}.v" for name in ("core", "cpu", "board", "bus", "motion", "pace", "vectors",
-                                      "machine")]
+                                      "machine", "game")]
 
 
 def read_edits(lines):

@@ -59,17 +59,101 @@ private:
     uint32_t to_x = 0, to_y = 0;
 };
 
-template <class Circuit> class Paced {
+/* The generator of a board with its motion: the port's, and its time. The circuit is halted at
+ * first, and its counters are those of the facts. */
+class Timed {
 public:
     uint64_t starts = 0, resets = 0, amid = 0, late = 0, halts = 0, breaks[4] = {};
 
-    /* The circuit is halted, and its counters are those of the facts. */
-    Paced(Circuit &circuit, Facts &facts, Words &words)
-        : circuit(circuit), facts(facts), words(words), pace(facts), port(new_device())
+    Timed(Facts &facts, Words &words) : facts(facts), words(words), pace(facts), port(new_device())
     {
         dvg_open_generator(port);
     }
-    ~Paced() { dvg_free(port); }
+    ~Timed() { dvg_free(port); }
+
+    bool is_halted() { return dvg_wants(port).kind == DVG_STILL; }
+    bool rests() const { return pace.rests(); }
+    uint32_t shown() const { return pace.shown(); }
+
+    /* A clock of the board with these pins, and perhaps a tick. */
+    template <class Circuit> void clock(const Circuit &circuit, bool tick)
+    {
+        bool starts_run = owed.starting && !circuit.reset, event = circuit.reset || owed.starting;
+        bool halted = is_halted(), hold = !pace.fetches(), takes = owed.pending && !event;
+        int begins = -1;
+        Words::Kind kind = Words::OTHER;
+        last = {DVG_IDLE, 0, 0, -1};
+        if (event) {
+            resets += circuit.reset;
+            starts += starts_run;
+            amid += !pace.rests();
+            circuit.reset ? dvg_reset_generator(port) : dvg_strobe(port);
+            words.begin();
+            begins = starts_run ? 1 : -1;
+        } else if (takes) {
+            late += tick;
+            last = dvg_generator_fetch_from(port, ram, rom, rom_bytes);
+            begins = take_byte(kind);
+        }
+        perform(circuit, halted, hold, event || takes);
+        pace.clock(tick, begins);
+        pace.take(kind, words);
+    }
+
+    /* The pins of a clock that tell of the generator and of the beam. */
+    template <class Circuit> void agree_on(const Circuit &circuit)
+    {
+        agree("done", circuit.done, last.kind == DVG_DONE);
+        agree("fault", circuit.fault, dvg_break_of(last));
+        agree("halted", circuit.halted, is_halted() && pace.rests());
+        agree("x", circuit.x, facts.x);
+        agree("y", circuit.y, facts.y);
+        agree("z", circuit.z, pace.shown());
+        agree("lit", circuit.lit, pace.shown() != 0);
+    }
+
+    /* The byte that is wanted. */
+    template <class Circuit> void agree_on_place(const Circuit &circuit)
+    {
+        dvg_answer wanted = dvg_wants(port);
+        if (wanted.kind == DVG_WANTED) {
+            agree("at", circuit.at, wanted.address);
+            agree("high", circuit.high, wanted.value);
+        }
+    }
+
+private:
+    Facts &facts;
+    Words &words;
+    Pace pace;
+    dvg *port;
+    dvg_answer last = {DVG_IDLE, 0, 0, -1};
+
+    /* Returns how many own ticks the byte leads to. A fifth call has those of a call, and a hole
+     * has none. */
+    int take_byte(Words::Kind &kind)
+    {
+        done_so_far++;
+        int broke = dvg_break_of(last);
+        breaks[broke]++;
+        halts += last.kind == DVG_DONE;
+        if (last.kind == DVG_BROKE) {
+            return broke == DVG_BREAK_STACK_OVER ? 2 : broke == DVG_BREAK_STACK_UNDER ? 1 : 0;
+        }
+        if (last.kind == DVG_LOW) {
+            return 0;
+        }
+        kind = words.take(last.value);
+        return own_ticks(kind);
+    }
+};
+
+template <class Circuit> class Paced : public Timed {
+public:
+    Paced(Circuit &circuit, Facts &facts, Words &words)
+        : Timed(facts, words), circuit(circuit), facts(facts)
+    {
+    }
 
     /* So many clocks over a new memory, and those until all is drawn. */
     void play(uint32_t count)
@@ -93,7 +177,7 @@ public:
         circuit.reset = 1;
         do {
             play_clock();
-        } while (!pace.rests() || left > 0);
+        } while (!rests() || left > 0);
         circuit.reset = circuit.tick = 0;
     }
 
@@ -101,13 +185,7 @@ private:
     static constexpr uint32_t OPCODES[12] = {0, 1, 2, 0xA, 0xC, 0xC, 0xC, 0xC, 0xD, 0xE, 0xF, 0xF};
     Circuit &circuit;
     Facts &facts;
-    Words &words;
-    Pace pace;
-    dvg *port;
     uint32_t shortest = 8, longest = 8, left = 0;
-    dvg_answer last = {DVG_IDLE, 0, 0, -1};
-
-    bool is_halted() { return dvg_wants(port).kind == DVG_STILL; }
 
     /* A new ROM and a new RAM, which the processor writes byte by byte amid a reset. */
     void fill()
@@ -132,66 +210,19 @@ private:
         left = left == 0 ? shortest - 1 + below(longest - shortest + 1) : left - 1;
         answer_rom(circuit);
         agree_before();
-        bool starts_run = owed.starting && !circuit.reset, event = circuit.reset || owed.starting;
-        bool halted = is_halted(), hold = !pace.fetches();
-        int begins = -1;
-        Words::Kind kind = Words::OTHER;
-        last = {DVG_IDLE, 0, 0, -1};
-        if (event) {
-            resets += circuit.reset;
-            starts += starts_run;
-            amid += !pace.rests();
-            circuit.reset ? dvg_reset_generator(port) : dvg_strobe(port);
-            words.begin();
-            begins = starts_run ? 1 : -1;
-        } else if (owed.pending) {
-            late += circuit.tick;
-            last = dvg_generator_fetch_from(port, ram, rom, rom_bytes);
-            begins = take_byte(kind);
-        }
-        perform(circuit, halted, hold, event || owed.pending);
-        pace.clock(circuit.tick, begins);
-        pace.take(kind, words);
+        clock(circuit, circuit.tick);
         edge(circuit);
-    }
-
-    /* Returns how many own ticks the byte leads to. A fifth call has those of a call, and a hole
-     * has none. */
-    int take_byte(Words::Kind &kind)
-    {
-        done_so_far++;
-        int broke = dvg_break_of(last);
-        breaks[broke]++;
-        halts += last.kind == DVG_DONE;
-        if (last.kind == DVG_BROKE) {
-            return broke == DVG_BREAK_STACK_OVER ? 2 : broke == DVG_BREAK_STACK_UNDER ? 1 : 0;
-        }
-        if (last.kind == DVG_LOW) {
-            return 0;
-        }
-        kind = words.take(last.value);
-        return own_ticks(kind);
     }
 
     /* All pins of a clock. */
     void agree_before()
     {
-        dvg_answer wanted = dvg_wants(port);
-        if (wanted.kind == DVG_WANTED) {
-            agree("at", circuit.at, wanted.address);
-            agree("high", circuit.high, wanted.value);
-        }
+        agree_on_place(circuit);
         agree_on_bus(circuit);
-        agree("done", circuit.done, last.kind == DVG_DONE);
-        agree("fault", circuit.fault, dvg_break_of(last));
-        agree("halted", circuit.halted, wanted.kind == DVG_STILL && pace.rests());
-        agree("x", circuit.x, facts.x);
-        agree("y", circuit.y, facts.y);
+        agree_on(circuit);
         agree("dac_x", circuit.dac_x, facts.x & 1023);
         agree("dac_y", circuit.dac_y, facts.y & 1023);
         agree("going", circuit.going, facts.going());
-        agree("z", circuit.z, pace.shown());
-        agree("lit", circuit.lit, pace.shown() != 0);
     }
 };
 

@@ -13,7 +13,8 @@ import subprocess
 import sys
 import tempfile
 
-TOPS = "dvg_named", "dvg_socket", "dvg_monitor", "dvg_raster", "dvg_enable", "dvg_machine"
+TOPS = ("dvg_named", "dvg_socket", "dvg_monitor", "dvg_raster", "dvg_enable", "dvg_machine",
+        "dvg_game")
 READER = """proc set_global_assignment {option kind path} { puts "$option $kind $path" }
 array set ::quartus {qip_path .}
 source dvg.qip
