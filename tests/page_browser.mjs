@@ -1559,7 +1559,16 @@ async function testReadAloud() {
 async function openGame(number) {
   await tab.open(front);
   await tab.click(`#games button:nth-child(${number})`);
+  await tab.until(STANDS);
 }
+
+// Whether the page stays as it is: what a game shows makes it longer at first.
+const STANDS = `(async () => {
+  const place = () => document.getElementById('game-wire').getBoundingClientRect().y + scrollY;
+  const before = place();
+  await new Promise((passed) => setTimeout(passed, 300));
+  return place() === before;
+})()`;
 
 // The bright pixels of the tube, by their places, how wide it is, and which of them are red.
 const LIT = `(() => {

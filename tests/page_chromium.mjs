@@ -167,19 +167,12 @@ class Tab {
     return this.value(`document.getElementById('${id}').textContent`);
   }
 
-  // Where the middle of an element is, once it is in sight, and in the same place in two frames:
-  // what is above it may still grow.
+  // Where the middle of an element is, once it is in sight.
   middle(id) {
-    return this.value(`(async () => {
+    return this.value(`(() => {
       const element = document.getElementById('${id}') ?? document.querySelector('${id}');
-      const place = () => element.getBoundingClientRect();
-      let before = null;
-      for (let k = 0; k < 100 && (before?.x !== place().x || before?.y !== place().y); k++) {
-        element.scrollIntoView({ block: 'center', behavior: 'instant' });
-        before = place();
-        await new Promise((shown) => requestAnimationFrame(() => requestAnimationFrame(shown)));
-      }
-      const { x, y, width, height } = place();
+      element.scrollIntoView({ block: 'center', behavior: 'instant' });
+      const { x, y, width, height } = element.getBoundingClientRect();
       return { x: x + width / 2, y: y + height / 2, left: x, top: y, width, height };
     })()`);
   }
