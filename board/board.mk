@@ -32,8 +32,8 @@
 #: make clean     takes build away
 #:
 #: PROVE    1: proof has the prover itself prove it, which needs rt: 41 to 47 seconds of a processor
-#:          for a game of 2,900 bytes, if the crates below were proved before (./test does so); else
-#:          it proves them first, by estimate in an hour. It waits while other proofs run here
+#:          for a game of 2,900 bytes, if ./prove dvg_closed_cells has proved the crates below here;
+#:          else it proves them first, by estimate in an hour. It waits while other proofs run here
 #: JUDGED   how many seconds premises, judge, film and sound run, of the board's time [20]
 #: SECONDS  the same of emulator and torn [5]; SHOTS: when pictures are taken [1.5 2.5 3.5 4.5]
 #: RATE     how many pictures a second judge wants [30]
