@@ -16,13 +16,14 @@
 //!    the signature of `Display::fmt`, and of functions that a `Formatter<W>` is handed to; `main`,
 //!    which gets its runtime by a line of its own; `to_ascii_lowercase` with an allocator, which
 //!    Rust's slices have without one, as `to_ascii_lowercase_in`; `clone`, which returns a `Result`
-//!    in the sources, as `try_clone`; and `step` as `_step`, where a loop's number has this name,
-//!    or any other, for its proof alone.
+//!    in the sources, as `try_clone`; `step` as `_step`, where a loop's number has this name, or
+//!    any other, for its proof alone; and the statements `UNLOOKED` with `let _ = ` before them.
 //! 3. It puts in: the lines of `HEAD` at the head of a crate; `PRELUDE` in a file that names one of
 //!    its words; a `use` of the `MACROS` that a file calls; `Clone` and `Debug` at each type of
 //!    `COPIED` that derives them not, as Rattle has no copy that takes memory without a refusal;
-//!    `Hash` where `Eq` is derived; what `KEPT` has of serde at each of its types; and `BESIDE` at
-//!    the end of a library that has a file `rust.rs`, by hand, beside its sources.
+//!    `Hash` where `Eq` is derived; what `KEPT` has of serde at each of its types; `must_use` at
+//!    each public function that may refuse by an `Option`, or by a `bool` and is one of `REFUSING`;
+//!    and `BESIDE` at the end of a library that has a file `rust.rs`, by hand, beside its sources.
 //!
 //! All else stays as it is, letter by letter, with its comments.
 use std::collections::BTreeSet;
@@ -134,6 +135,25 @@ const KEPT: [(&str, &str); 22] = [
     ("enum Place", "crate::rust::PlaceForm"),
     ("struct Stroke", "crate::rust::StrokeForm"),
 ];
+
+/// How public functions begin that refuse by `false`.
+const REFUSING: [&str; 4] = [
+    "fn resume(&mut self, ",
+    "fn resume<A: Allocator>(\n        &mut self,",
+    "fn take(&mut self, line: &[u8]) -> bool",
+    "fn take(&mut self, tokens: &[&[u8]]) -> bool",
+];
+
+/// How statements begin, each on a line of its own, that don't look at such a refusal: it is proved
+/// that none comes.
+const UNLOOKED: [&str; 3] = [
+    "self.generator.resume(&generator, strokes);",
+    "generator.resume(&state, strokes);",
+    "wrapping.resume(&state, strokes);",
+];
+
+/// What stands above a function whose refusal must be looked at.
+const MUST_USE: &str = "#[must_use]\n";
 
 /// What stands at the end of a library with a file `rust.rs` beside its sources.
 const BESIDE: &str = "\n#[path = \"../rust.rs\"]\nmod rust;\n";
@@ -577,6 +597,7 @@ impl<'a> Eraser<'a> {
     /// A function's head. Those of `Display::fmt`, of what it hands its `Formatter` to, and of
     /// `main` are written otherwise.
     fn function(&mut self, end: usize) -> Result<(), Refused> {
+        self.refusing();
         if self.takes_formatter() {
             self.formatting()
         } else if self.begins("fn main(") {
@@ -585,6 +606,30 @@ impl<'a> Eraser<'a> {
             self.copy_word(end);
             Ok(())
         }
+    }
+
+    /// Puts `MUST_USE` above a public function that may refuse.
+    fn refusing(&mut self) {
+        let start = self.out.iter().rposition(|byte| *byte == b'\n').map_or(0, |k| k + 1);
+        let line = String::from_utf8_lossy(&self.out[start..]).into_owned();
+        let visible = line.trim_start();
+        if visible == "pub " && self.may_refuse() {
+            let indent = &line[..line.len() - visible.len()];
+            self.out.splice(start..start, format!("{indent}{MUST_USE}").into_bytes());
+        }
+    }
+
+    /// Whether a function returns an `Option` without changing what it is called of, or is one of
+    /// `REFUSING`.
+    fn may_refuse(&self) -> bool {
+        if REFUSING.iter().any(|head| self.begins(head)) {
+            return true;
+        }
+        let rest = self.slice(self.at, self.text.len());
+        let ends = ["{", ";", "requires", "ensures", "decreases", "where"];
+        let end = ends.iter().filter_map(|end| rest.find(end)).min();
+        let head = &rest[..end.unwrap_or(rest.len())];
+        head.contains(") -> Option<") && !head.contains("&mut self")
     }
 
     /// Whether a function begins as `fn fmt<`, or as `fn write_text<W: fmt::Write>(`, where
@@ -644,6 +689,9 @@ impl<'a> Eraser<'a> {
     }
 
     fn word(&mut self, end: usize) -> Result<(), Refused> {
+        if self.is_line_begun() && UNLOOKED.iter().any(|begin| self.begins(begin)) {
+            self.out.extend_from_slice(b"let _ = ");
+        }
         match self.slice(self.at, end) {
             "ghost" => self.drop_ghost()?,
             "requires" | "ensures" => self.drop_clauses()?,
@@ -1295,6 +1343,21 @@ mod tests {
         let by = "serde(try_from = \"Instr\", into = \"Instr\")";
         let by = format!("#[cfg_attr(feature = \"serde\", {by})]\n");
         leaves("struct Code;\n", &format!("{SERDE}{by}struct Code;\n"));
+        leaves(
+            "/// A.\npub fn of(part: &[u8]) -> Option<u8>\n    ensures { part }\n{\n}\n",
+            "/// A.\n#[must_use]\npub fn of(part: &[u8]) -> Option<u8> {\n}\n",
+        );
+        leaves(
+            "    #[inline]\n    pub fn resume(&mut self, state: u8) -> bool {\n",
+            "    #[inline]\n    #[must_use]\n    pub fn resume(&mut self, state: u8) -> bool {\n",
+        );
+        stays("pub fn step(&mut self) -> Option<u8> {\n}\n");
+        stays("fn of(part: &[u8]) -> Option<u8> {\n}\npub fn is_of(part: u8) -> bool {\n}\n");
+        leaves(
+            "    generator.resume(&state, strokes);\n",
+            "    let _ = generator.resume(&state, strokes);\n",
+        );
+        stays("    if !generator.resume(&state, strokes) {\n    }\n");
         stays("#[derive(Eq, Hash)]\nstruct Codes;\n");
         stays("enum World {}\nstruct Worlds {}\n");
     }

@@ -11,7 +11,7 @@ use Rattle.dvg_calls_6502.specs.Processor.{setting, telling, carrying, next, siz
 use Rattle.dvg_calls_6502.specs.Processor.{flag_place, is_so, target, changing}
 use Rattle.dvg_calls_6502.specs.Processor.{ZeroPageY, AbsoluteX, AbsoluteY, IndexedIndirect, Add, Subtract, ShiftAt, ShiftA}
 use Rattle.dvg_calls_6502.specs.Processor.{Set, JumpAt, PushA, PushFlags, PullA, PullFlags, FromStack, ToStack, Resume}
-use Rattle.dvg_calls_6502.specs.Processor.{Pass, Shift, Decimal, Interrupt, adding, shifted, lost, with_flags}
+use Rattle.dvg_calls_6502.specs.Processor.{Pass, Shift, Decimal, Interrupt, summing, subtracting, shifted, lost, with_flags}
 use Rattle.dvg_calls_6502.specs.Processor.{flags_byte, beside}
 use Rattle.dvg_calls_6502.specs.Amid.{changed, naming, named, touches}
 
@@ -149,16 +149,19 @@ module _ (cpu : Cpu) (m : ℕ → ℕ) where
   xor_same mode e = quiet _ _ (set_same A _ _ (reading mode it) (reading mode cpu) (ap (bit_xor cpu.a) (operand_same mode e)) (reading_same mode e))
       (reading_kept mode)
 
-  add_as : (v w : ℕ) (k l : Cpu) → v ≡ w → k ≡ changed m l → adding v k ≡ changed m (adding w l)
-  add_as v w k l vs ks = ap (λ v. adding v k) vs ∙ ap (adding w) ks
+  sum_as : (v w : ℕ) (k l : Cpu) → v ≡ w → k ≡ changed m l → summing v k ≡ changed m (summing w l)
+  sum_as v w k l vs ks = ap (λ v. summing v k) vs ∙ ap (summing w) ks
 
   add_same : (mode : Mode) → Ok (Add mode)
-  add_same mode e = quiet _ _ (add_as _ _ _ (reading mode cpu) (operand_same mode e) (reading_same mode e))
+  add_same mode e = quiet _ _ (sum_as _ _ _ (reading mode cpu) (operand_same mode e) (reading_same mode e))
       (reading_kept mode)
+
+  difference_as : (v w : ℕ) (k l : Cpu) → v ≡ w → k ≡ changed m l → subtracting v k ≡ changed m (subtracting w l)
+  difference_as v w k l vs ks = ap (λ v. subtracting v k) vs ∙ ap (subtracting w) ks
 
   subtract_same : (mode : Mode) → Ok (Subtract mode)
   subtract_same mode e = quiet _ _
-      (add_as _ _ _ (reading mode cpu) (ap (λ o. 255 - o) (operand_same mode e)) (reading_same mode e))
+      (difference_as _ _ _ (reading mode cpu) (ap (λ o. 255 - o) (operand_same mode e)) (reading_same mode e))
       (reading_kept mode)
 
   -- with a byte and a register's byte the same, and the state that has read it

@@ -1,6 +1,6 @@
 -- The first picture of the cells: the driver boots and takes a table, and dvg_run writes and publishes its frame and sends a
 -- strobe; the core draws it while the program idles. The prover runs the cells, cycle by cycle.
-use Rattle.std.proofs.Common.{◌≡◌, ℕ, ◌<◌, Bool, true, false, List, [], ◌∷◌, drop, refl, sym, ◌∙◌, lit<}
+use Rattle.std.proofs.Common.{◌≡◌, ℕ, Bool, true, false, List, [], ◌∷◌, drop, refl, sym, ◌∙◌, lit<}
 use Rattle.std.specs.Prelude.{if◌then◌else◌}
 use Rattle.dvg_driver.specs.declared.action.Action.TheVariants.{Peek, Read}
 use Rattle.dvg_log.specs.declared.event.Event.TheVariants.{Offer, Tick}

@@ -13,9 +13,9 @@ use Rattle.dvg_cells_cpu.specs.Refines.{pins_of}
 use Rattle.dvg_cells_cpu.specs.Widths.{Fits}
 use Rattle.dvg_cells_cpu.proofs.Fitting.{fits}
 use Rattle.dvg_calls_cells.specs.Machine.{Machine, drives_cpu}
-use Rattle.dvg_calls_cells.specs.Cycles.{Drive, Two, resetting, first_bus, second_bus, cycle_of}
+use Rattle.dvg_calls_cells.specs.Cycles.{Drive, Two, Turn, acts, idles, resetting, first_bus, second_bus, wait_bus, cycle_of}
 use Rattle.dvg_calls_cells.specs.Steps.{AreServed}
-use Rattle.dvg_calls_cells.specs.Played.{AreGiven, IsGiven, at_rest, older_after, cells_after, reset_bus}
+use Rattle.dvg_calls_cells.specs.Played.{AreGiven, IsGiven, IsWaiting, at_rest, older_after, cells_after, reset_bus}
 use Rattle.dvg_cells_cpu.proofs.Bounds.{mux_in}
 
 -- bytes and bits of the board
@@ -85,15 +85,29 @@ module _ (R : List ℕ) (held : ℕ → ℕ) where
       of_board = board_fits (after held (one ∷ older)) other mid second_is.d;
     }
 
-  -- cycles
-  pub served_of : (list : List Two) (older : List Bus) (cells : Cells) → AllFit older cells → AreGiven R (at_rest held older cells) list
+  -- a clock in which the processor waits
+  module _ (older : List Bus) (cells : Cells) (drive : Drive) (f : AllFit older cells)
+      (given : IsWaiting R (at_rest held older cells) drive) where
+    pub wait_is : IsBus (wait_bus (at_rest held older cells) drive)
+    wait_is = let pins = fits.2 cells f.of_cells in record { reset = lit< tt; a = pins.0; d = pins.2; rom = given.rom }
+
+    pub wait_fits : AllFit (wait_bus (at_rest held older cells) drive ∷ older) cells
+    wait_fits = record {
+      of_cells = f.of_cells;
+      of_board = board_fits (after held older) (wait_bus (at_rest held older cells) drive) f.of_board wait_is.d;
+    }
+
+  pub served_of : (list : List Turn) (older : List Bus) (cells : Cells) → AllFit older cells → AreGiven R (at_rest held older cells) list
       → AreServed R (at_rest held older cells) list × AllFit (older_after held older cells list) (cells_after held older cells list)
   served_of [] older cells f given = (tt, f)
-  served_of (two ∷ later) older cells f given =
+  served_of (acts two ∷ later) older cells f given =
       let machine = at_rest held older cells in
       let rest = served_of later (second_bus machine two ∷ first_bus machine two ∷ older) (clock cells (pins_of (cycle_of machine two)))
       (cycle_fits older cells two f given.0) given.1 in
       ((first_is older cells two f given.0, (second_is older cells two f given.0, (given.0.first, (given.0.second, rest.0)))), rest.1)
+  served_of (idles drive ∷ later) older cells f given =
+      let rest = served_of later (wait_bus (at_rest held older cells) drive ∷ older) cells (wait_fits older cells drive f given.0) given.1 in
+      ((wait_is older cells drive f given.0, (given.0.served, rest.0)), rest.1)
 
   -- a reset
   module _ (older : List Bus) (cells : Cells) (drive : Drive) (f : AllFit older cells) (nmi : drive.nmi < 2)

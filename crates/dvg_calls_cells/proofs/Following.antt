@@ -21,7 +21,7 @@ use Rattle.dvg_calls_board.specs.Machine.{IsChecked, SharesRam, later}
 use Rattle.dvg_cells_cpu.specs.Cpu.{Cpu as Cells, at, write, dout}
 use Rattle.dvg_cells_cpu.specs.Refines.{Where, Rests, cycles, access}
 use Rattle.dvg_calls_cells.specs.Machine.{Machine}
-use Rattle.dvg_calls_cells.specs.Cycles.{Drive, Two, begins, between, next, ends, buses, cycle_of, AreQuiet}
+use Rattle.dvg_calls_cells.specs.Cycles.{Drive, Two, Turn, acts, begins, between, next, ends, buses, cycle_of, cycles_of, AreQuiet}
 use Rattle.dvg_calls_cells.specs.Steps.{now, instr_of}
 use Rattle.dvg_calls_cells.specs.Played.{IsPlayed, IsGiven, AreGiven, AreFound, IsPlaced, Does, at_rest, in_board, alone, begins_call}
 use Rattle.dvg_calls_cells.specs.Played.{inside}
@@ -35,9 +35,9 @@ abbrev pub two_of : ℕ → Two
 two_of m = record { first = drive 0; second = drive m }
 
 -- cycles in which memory answers as this processor has it
-abbrev pub twos_for : ℕ → Machine → Cpu → List Two
+abbrev pub twos_for : ℕ → Machine → Cpu → List Turn
 twos_for zero machine cpu = []
-twos_for (suc k) machine cpu = let two = two_of (found (at machine.cpu) cpu) in two ∷ twos_for k (next machine two) cpu
+twos_for (suc k) machine cpu = let turn = acts (two_of (found (at machine.cpu) cpu)) in turn ∷ twos_for k (next machine turn) cpu
 
 -- a byte is found, and the core is in the RAM
 abbrev is_given : Machine → ℕ → Bool
@@ -67,7 +67,7 @@ fits_for zero machine cpu fresh = true
 fits_for (suc k) machine cpu fresh =
     let byte = found (at machine.cpu) cpu in
     (is_given machine byte && finds machine cpu fresh byte)
-    && fits_for k (next machine (two_of byte)) cpu (fresh && nat_eq (write machine.cpu) 0)
+    && fits_for k (next machine (acts (two_of byte))) cpu (fresh && nat_eq (write machine.cpu) 0)
 
 pub all_given : (k : ℕ) (machine : Machine) (cpu : Cpu) (fresh : Bool) → fits_for k machine cpu fresh ≡ true
     → AreGiven zeros machine (twos_for k machine cpu)
@@ -76,7 +76,7 @@ all_given (suc k) machine cpu fresh is =
     let byte = found (at machine.cpu) cpu in
     let one = both_true (is_given machine byte && finds machine cpu fresh byte) _ is in (
       given_of machine byte (both_true (is_given machine byte) _ one.0).0,
-      all_given k (next machine (two_of byte)) cpu (fresh && nat_eq (write machine.cpu) 0) one.1,
+      all_given k (next machine (acts (two_of byte))) cpu (fresh && nat_eq (write machine.cpu) 0) one.1,
     )
 
 where_of : (w i t : Bool) (P : Type 0) → (not w || (i || t)) ≡ true → (t ≡ true → P) → Where w (Where (not i) P)
@@ -94,12 +94,12 @@ all_found (suc k) machine cpu fresh is =
       where_of (nat_eq (write machine.cpu) 0) (fresh && in_board (at machine.cpu)) (nat_eq (cycle_of machine (two_of byte)).din byte)
           ((cycle_of machine (two_of byte)).din ≡ byte) (both_true (is_given machine byte) _ one.0).1
           (λ e. eqb-true (cycle_of machine (two_of byte)).din byte e),
-      all_found k (next machine (two_of byte)) cpu (fresh && nat_eq (write machine.cpu) 0) one.1,
+      all_found k (next machine (acts (two_of byte))) cpu (fresh && nat_eq (write machine.cpu) 0) one.1,
     )
 
-pub count_of : (k : ℕ) (machine : Machine) (cpu : Cpu) → length (twos_for k machine cpu) ≡ k
+pub count_of : (k : ℕ) (machine : Machine) (cpu : Cpu) → length (cycles_of machine (twos_for k machine cpu)) ≡ k
 count_of zero machine cpu = refl
-count_of (suc k) machine cpu = ap suc (count_of k (next machine (two_of (found (at machine.cpu) cpu))) cpu)
+count_of (suc k) machine cpu = ap suc (count_of k (next machine (acts (two_of (found (at machine.cpu) cpu)))) cpu)
 
 -- the cells rest with these registers
 abbrev pub rests_by : Cells → Cpu → Bool
@@ -163,14 +163,14 @@ can_do s cpu cells board = not (at_return s cpu) && (rests_by cells cpu && (nat_
     && (is_single (instr_of cpu) && fits_for (cycles (instr_of cpu)) (begins cells board) cpu true))))
 
 -- after the instruction
-pub record Went (call : Call) (olds : List Call) (older : List Bus) (cells : Cells) (board : Board) (list : List Two) : Type 0 where
+pub record Went (call : Call) (olds : List Call) (older : List Bus) (cells : Cells) (board : Board) (list : List Turn) : Type 0 where
   pub on : IsPlayed zeros zeros held (later 1 call ∷ olds) (buses (begins cells board) list older) (ends (begins cells board) list).cpu
   pub is_board : after held (buses (begins cells board) list older) ≡ (ends (begins cells board) list).board
 
 module _ (call : Call) (olds : List Call) (older : List Bus) (cells : Cells) (cpu : Cpu) (is : now call ≡ cpu)
     (more : is_over call ≡ false) (bytes : (b : ℕ) → cpu.mem b < 256) (session : IsSession (later 1 call ∷ olds))
     (on : IsPlayed zeros zeros held (call ∷ olds) older cells) where
-  abbrev listed : Board → List Two
+  abbrev listed : Board → List Turn
   listed board = twos_for (cycles (instr_of cpu)) (begins cells board) cpu
 
   went_on : can_do call.from.s cpu cells (after held older) ≡ true → Went call olds older cells (after held older) (listed (after held older))
@@ -315,25 +315,25 @@ quiet_of cells din is = by (nat_eq (write cells) 0) is
     by false is = let two = both_true (not (is_ram (at cells))) _ is in
         ((not_true (is_ram (at cells)) two.0, not_true (nat_eq (at cells) strobe_place) two.1), tt)
 
-abbrev pub twos : List ℕ → List Two
+abbrev pub twos : List ℕ → List Turn
 twos [] = []
-twos (m ∷ ms) = two_of m ∷ twos ms
+twos (m ∷ ms) = acts (two_of m) ∷ twos ms
 
 abbrev pub are_quiet : List ℕ → Cells → Board → Bool
 are_quiet [] cells board = true
 are_quiet (m ∷ ms) cells board =
     let machine = begins cells board in
-    let last = next machine (two_of m) in
+    let last = next machine (acts (two_of m)) in
     (is_given machine m && is_quiet cells) && are_quiet ms last.cpu last.board
 
 abbrev pub are_given : List ℕ → Machine → Bool
 are_given [] machine = true
-are_given (m ∷ ms) machine = is_given machine m && are_given ms (next machine (two_of m))
+are_given (m ∷ ms) machine = is_given machine m && are_given ms (next machine (acts (two_of m)))
 
 pub list_given : (ms : List ℕ) (machine : Machine) → are_given ms machine ≡ true → AreGiven zeros machine (twos ms)
 list_given [] machine is = tt
 list_given (m ∷ ms) machine is = let both = both_true (is_given machine m) _ is in
-    (given_of machine m both.0, list_given ms (next machine (two_of m)) both.1)
+    (given_of machine m both.0, list_given ms (next machine (acts (two_of m))) both.1)
 
 pub record Alone (list : List Call) (older : List Bus) (cells : Cells) (board : Board) : Type 0 where
   pub on : IsPlayed zeros zeros held list older cells
@@ -341,12 +341,12 @@ pub record Alone (list : List Call) (older : List Bus) (cells : Cells) (board : 
 
 one_alone : (list : List Call) (older : List Bus) (cells : Cells) (board : Board) (m : ℕ) → Alone list older cells board
     → is_given (begins cells board) m ≡ true → is_quiet cells ≡ true
-    → Alone list (buses (begins cells board) (two_of m ∷ []) older) (next (begins cells board) (two_of m)).cpu
-    (next (begins cells board) (two_of m)).board
+    → Alone list (buses (begins cells board) (acts (two_of m) ∷ []) older) (next (begins cells board) (acts (two_of m))).cpu
+    (next (begins cells board) (acts (two_of m))).board
 one_alone list older cells board m is given q =
-    subst (λ b. Alone list (buses (begins cells b) (two_of m ∷ []) older) (next (begins cells b) (two_of m)).cpu
-    (next (begins cells b) (two_of m)).board) is.is_board (record {
-      on = alone (two_of m ∷ []) is.on
+    subst (λ b. Alone list (buses (begins cells b) (acts (two_of m) ∷ []) older) (next (begins cells b) (acts (two_of m))).cpu
+    (next (begins cells b) (acts (two_of m))).board) is.is_board (record {
+      on = alone (acts (two_of m) ∷ []) is.on
           (given_of (at_rest held older cells) m (subst (λ b. is_given (begins cells b) m ≡ true) (sym is.is_board) given), tt)
           (quiet_of cells (cycle_of (at_rest held older cells) (two_of m)).din q);
       is_board = refl;
@@ -359,10 +359,10 @@ pub plays_alone : (ms : List ℕ) (list : List Call) (older : List Bus) (cells :
 plays_alone [] list older cells board is q = is
 plays_alone (m ∷ ms) list older cells board is q =
     let machine = begins cells board in
-    let last = next machine (two_of m) in
+    let last = next machine (acts (two_of m)) in
     let both = both_true (is_given machine m && is_quiet cells) _ q in
     let here = both_true (is_given machine m) (is_quiet cells) both.0 in
-    plays_alone ms list (buses machine (two_of m ∷ []) older) last.cpu last.board (one_alone list older cells board m is here.0 here.1)
+    plays_alone ms list (buses machine (acts (two_of m) ∷ []) older) last.cpu last.board (one_alone list older cells board m is here.0 here.1)
     both.1
 
 -- the program goes on so

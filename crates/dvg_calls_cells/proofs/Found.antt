@@ -13,10 +13,10 @@ use Rattle.dvg_cells_board.specs.Clocks.{after}
 use Rattle.dvg_calls_board.specs.Machine.{HaveRam, later}
 use Rattle.dvg_cells_cpu.specs.Cpu.{Cpu as Cells, at, write, clock}
 use Rattle.dvg_cells_cpu.specs.Refines.{pins_of, AreAnswered, Where}
-use Rattle.dvg_calls_cells.specs.Cycles.{Two, first_bus, second_bus, cycle_of, cycles_of}
+use Rattle.dvg_calls_cells.specs.Cycles.{Two, Turn, acts, idles, first_bus, second_bus, wait_bus, cycle_of, cycles_of}
 use Rattle.dvg_calls_cells.specs.Steps.{now}
 use Rattle.dvg_calls_cells.specs.Played.{AreGiven, AreFound, in_board, at_rest}
-use Rattle.dvg_calls_cells.proofs.Fits.{AllFit, cycle_fits, first_is}
+use Rattle.dvg_calls_cells.proofs.Fits.{AllFit, cycle_fits, wait_fits, first_is}
 use Rattle.dvg_calls_cells.proofs.Quiet.{both_none}
 use Rattle.dvg_calls_board.proofs.Ram.{in_ram as ram_place}
 
@@ -64,11 +64,14 @@ module _ (R : List ℕ) (held : ℕ → ℕ) (cpu : Cpu) where
         ∙ is (part 0 11 (at cells)) less ∙ ap cpu.mem place
         ∙ sym (ap (λ t. if t then cpu.flags 0 else cpu.mem (at cells)) flag)
 
-  pub answered_of : (list : List Two) (older : List Bus) (cells : Cells) (fresh : Bool) → AllFit R held older cells
+  pub answered_of : (list : List Turn) (older : List Bus) (cells : Cells) (fresh : Bool) → AllFit R held older cells
       → AreGiven R (at_rest held older cells) list → (fresh ≡ true → RamIs older) → AreFound cpu fresh (at_rest held older cells) list
       → AreAnswered cpu cells (cycles_of (at_rest held older cells) list)
   answered_of [] older cells fresh f given is answers = tt
-  answered_of (two ∷ later) older cells fresh f given is answers =
+  answered_of (idles drive ∷ later) older cells fresh f given is answers =
+      answered_of later (wait_bus (at_rest held older cells) drive ∷ older) cells fresh (wait_fits R held older cells drive f given.0)
+      given.1 (λ e. is e) answers
+  answered_of (acts two ∷ later) older cells fresh f given is answers =
       let machine = at_rest held older cells in
       let bus = first_is R held older cells two f given.0 in (
         by (nat_eq (write cells) 0) fresh (in_board (at cells)) refl refl refl answers.0 bus.a,

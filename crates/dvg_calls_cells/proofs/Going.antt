@@ -1,5 +1,5 @@
--- A cycle more, and an instruction more.
-use Rattle.std.proofs.Common.{◌≡◌, ℕ, zero, suc, ◌-◌, ◌<◌, Bool, true, false, not, List, [], ◌∷◌, length, refl, ap}
+-- A cycle more, a clock more in which the processor waits, and an instruction more.
+use Rattle.std.proofs.Common.{◌≡◌, ℕ, zero, suc, ◌<◌, Bool, true, false, not, List, [], ◌∷◌, length, refl, ap, lit<}
 use Rattle.std.specs.Prelude.{nat_eq, ◌&&◌, ◌||◌, if◌then◌else◌, slice_index}
 use Rattle.std.proofs.lemmas.List.Elements.{recursion_from_All}
 use Rattle.dvg_mem.specs.Memory.{IsRom}
@@ -11,11 +11,12 @@ use Rattle.dvg_cells_board.specs.Clocks.{after}
 use Rattle.dvg_cells_cpu.specs.Cpu.{Cpu as Cells, at, write}
 use Rattle.dvg_cells_cpu.specs.Refines.{Where, cycles}
 use Rattle.dvg_calls_cells.specs.Machine.{Machine}
-use Rattle.dvg_calls_cells.specs.Cycles.{Two, begins, between, next, cycle_of, second_bus}
+use Rattle.dvg_calls_cells.specs.Cycles.{Two, acts, idles, begins, between, next, cycle_of, cycles_of, second_bus}
 use Rattle.dvg_calls_cells.specs.Steps.{now, instr_of}
 use Rattle.dvg_calls_cells.specs.Played.{IsPlayed, IsGiven, AreGiven, AreFound, at_rest, in_board, powers, alone, tests}
 use Rattle.dvg_calls_cells.specs.Played.{resets, begins_call, inside}
-use Rattle.dvg_calls_cells.specs.GoesOn.{cycle_for, cycles_for, answers_itself, BoardAnswers, CellsGoOn, CallGoesOn}
+use Rattle.dvg_calls_cells.specs.GoesOn.{drive_for, cycle_for, cycles_for, answers_itself, BoardAnswers, CellsGoOn}
+use Rattle.dvg_calls_cells.specs.GoesOn.{CellsWaitOn, CallGoesOn}
 use Rattle.dvg_calls_board.proofs.Waiting.{below}
 
 rom_of : {R image : List ℕ} {held : ℕ → ℕ} {calls : List Call} {older : List Bus} {cells : Cells}
@@ -54,13 +55,13 @@ module _ (R : List ℕ) (is_rom : IsRom R) (nmi hold : ℕ) (nmi_in : nmi < 2) w
     given_all (suc n) machine =
         let m = found (at machine.cpu) cpu in (
           given_for machine m (found_in (at machine.cpu)),
-          given_all n (next machine (cycle_for R machine nmi hold m)),
+          given_all n (next machine (acts (cycle_for R machine nmi hold m))),
         )
 
-    count : (n : ℕ) (machine : Machine) → length (cycles_for R machine nmi hold n cpu) ≡ n
+    count : (n : ℕ) (machine : Machine) → length (cycles_of machine (cycles_for R machine nmi hold n cpu)) ≡ n
     count zero machine = refl
     count (suc n) machine =
-        ap suc (count n (next machine (cycle_for R machine nmi hold (found (at machine.cpu) cpu))))
+        ap suc (count n (next machine (acts (cycle_for R machine nmi hold (found (at machine.cpu) cpu)))))
 
     -- what the board doesn't answer, memory does
     memory_answers : (r f s : Bool) (x m : ℕ) → (r || (f || s)) ≡ false → mux (either (either (bit r) (bit f)) (bit s)) x m ≡ m
@@ -96,7 +97,7 @@ module _ (R : List ℕ) (is_rom : IsRom R) (nmi hold : ℕ) (nmi_in : nmi < 2) w
         → AreFound cpu fresh (begins cells board) (cycles_for R (begins cells board) nmi hold n cpu)
     answered_all zero board cells fresh answers = tt
     answered_all (suc n) board cells fresh answers =
-        let later = next (begins cells board) (two board cells fresh) in (
+        let later = next (begins cells board) (acts (two board cells fresh)) in (
           answered_here board cells fresh answers.0,
           answered_all n later.board later.cpu (fresh && nat_eq (write cells) 0) answers.1,
         )
@@ -104,7 +105,12 @@ module _ (R : List ℕ) (is_rom : IsRom R) (nmi hold : ℕ) (nmi_in : nmi < 2) w
 pub cells_go_on : CellsGoOn
 cells_go_on R image held calls older cells nmi hold m on nmi_in small quiet =
     let machine = at_rest held older cells in
-    alone (cycle_for R machine nmi hold m ∷ []) on (given_for R (rom_of on) nmi hold nmi_in machine m small, tt) quiet
+    alone (acts (cycle_for R machine nmi hold m) ∷ []) on (given_for R (rom_of on) nmi hold nmi_in machine m small, tt) quiet
+
+pub cells_wait_on : CellsWaitOn
+cells_wait_on R image held calls older cells nmi hold m on =
+    let drive = drive_for R (at_rest held older cells).board nmi hold m in
+    alone (idles drive ∷ []) on (record { rom = rom_byte R (rom_of on) 0 0 (lit< tt) _; served = record { big = refl; rom = λ takes from to. refl } }, tt) tt
 
 pub call_goes_on : CallGoesOn
 call_goes_on R image held call calls older cells nmi hold on nmi_in unfinished goes rests free placed single answers =

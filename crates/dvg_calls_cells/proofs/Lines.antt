@@ -21,7 +21,7 @@ use Rattle.dvg_cells_board.proofs.Example.{held, served}
 use Rattle.dvg_calls_board.specs.Machine as system
 use Rattle.dvg_calls_board.specs.Machine.{IsMachine, IsIdle, Makes, accesses_of, calls_after, later}
 use Rattle.dvg_calls_cells.specs.Machine.{Machine}
-use Rattle.dvg_calls_cells.specs.Cycles.{Two, AreAlike, same, between, next, ends, buses, first_bus, second_bus}
+use Rattle.dvg_calls_cells.specs.Cycles.{Two, Turn, acts, idles, AreAlike, same, between, next, ends, buses, first_bus, second_bus, wait_bus}
 
 -- a machine whose clocks stand for these, with this board; and what its core drew since its newest start
 pub record Told (list : List Call) (older : List Bus) (board : Board) (drawn : List Stroke) (log : Log) : Type 0 where
@@ -174,21 +174,30 @@ abbrev pub after_cycle : Machine → Two → Line → Line
 after_cycle machine two line =
     after_clock (between machine two).board (second_bus machine two) (after_clock machine.board (first_bus machine two) line)
 
-abbrev pub lines : List Two → Machine → Line → Line
+abbrev pub lines : List Turn → Machine → Line → Line
 lines [] machine line = line
-lines (two ∷ later) machine line = lines later (next machine two) (after_cycle machine two line)
+lines (acts two ∷ later) machine line = lines later (next machine (acts two)) (after_cycle machine two line)
+lines (idles drive ∷ later) machine line =
+    lines later (next machine (idles drive)) (after_clock machine.board (wait_bus machine drive) line)
 
-abbrev pub are_idle : List Two → Machine → Bool
+abbrev pub are_idle : List Turn → Machine → Bool
 are_idle [] machine = true
-are_idle (two ∷ later) machine =
+are_idle (acts two ∷ later) machine =
     (is_idle machine.board (first_bus machine two) && is_idle (between machine two).board (second_bus machine two))
-    && are_idle later (next machine two)
+    && are_idle later (next machine (acts two))
+are_idle (idles drive ∷ later) machine =
+    is_idle machine.board (wait_bus machine drive) && are_idle later (next machine (idles drive))
 
-pub told_all : (list : List Two) (calls : List Call) (older : List Bus) (machine : Machine) (line : Line)
+pub told_all : (list : List Turn) (calls : List Call) (older : List Bus) (machine : Machine) (line : Line)
     → Told calls older machine.board line.drawn line.log → are_idle list machine ≡ true
     → Told calls (buses machine list older) (ends machine list).board (lines list machine line).drawn (lines list machine line).log
 told_all [] calls older machine line told idle = told
-told_all (two ∷ rest) calls older machine line told idle =
+told_all (idles drive ∷ rest) calls older machine line told idle =
+    let bus = wait_bus machine drive in
+    let both = both_true (is_idle machine.board bus) _ idle in
+    told_all rest calls (bus ∷ older) (next machine (idles drive)) (after_clock machine.board bus line)
+    (told_clock calls older machine.board line.drawn line.log bus told both.0) both.1
+told_all (acts two ∷ rest) calls older machine line told idle =
     let one = first_bus machine two in
     let last = second_bus machine two in
     let both = both_true (is_idle machine.board one && is_idle (between machine two).board last) _ idle in
@@ -196,4 +205,4 @@ told_all (two ∷ rest) calls older machine line told idle =
     let first = told_clock calls older machine.board line.drawn line.log one told here.0 in
     let second = told_clock calls (one ∷ older) (between machine two).board (drew_on machine.board one line.drawn)
     (line_on machine.board one line.drawn line.log) last first here.1 in
-    told_all rest calls (last ∷ one ∷ older) (next machine two) (after_cycle machine two line) second both.1
+    told_all rest calls (last ∷ one ∷ older) (next machine (acts two)) (after_cycle machine two line) second both.1

@@ -6,7 +6,6 @@ use Rattle.std.proofs.lemmas.List.{get_or-replicate}
 use Rattle.dvg_calls_6502.specs.Processor.{Cpu, put}
 use Rattle.dvg_calls_6502.specs.Calls as calls
 use Rattle.dvg_calls_6502.specs.Calls.{Call, IsSession}
-use Rattle.dvg_calls_6502.proofs.Running.{at}
 use Rattle.dvg_calls_6502.proofs.Memory.{laid, in_page, loaded, put_small, le_not, out_of_page}
 use Rattle.dvg_cells_board.proofs.Example.{held}
 use Rattle.dvg_calls_cells.proofs.ExampleCalls.{plain, reset_page, resets, resetting, small}

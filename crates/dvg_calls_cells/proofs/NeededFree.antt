@@ -17,7 +17,7 @@ use Rattle.dvg_calls_board.specs.Machine.{OfEachMachine, HaveRam, later}
 use Rattle.dvg_cells_cpu.specs.Cpu.{Cpu as Cells}
 use Rattle.dvg_cells_cpu.specs.Refines.{Rests, cycles}
 use Rattle.dvg_calls_cells.specs.Machine.{Machine}
-use Rattle.dvg_calls_cells.specs.Cycles.{Two, begins, between, ends, buses}
+use Rattle.dvg_calls_cells.specs.Cycles.{Two, Turn, acts, begins, between, ends, buses, cycles_of}
 use Rattle.dvg_calls_cells.specs.Steps.{instr_of}
 use Rattle.dvg_calls_cells.specs.Played.{IsPlayed, IsGiven, AreGiven, AreFound, IsPlaced, Does, Keeps, inside, older_after}
 use Rattle.dvg_calls_cells.specs.Needed.{DoesBy, all, NeedsFree}
@@ -32,9 +32,9 @@ abbrev can_begin : ℕ → Cpu → Cells → Bool
 can_begin s cpu cells = not (at_return s cpu) && (rests_by cells cpu && (placed_by cpu && is_single (instr_of cpu)))
 
 module _ (r : Routine) (from : Cpu) (olds : List Call) (session : (n : ℕ) → IsSession (quiet r n from ∷ olds)) (none : from.log ≡ [])
-    (load : IsLoaded from.mem) (at : Amid r from olds) (list : List Two) where
+    (load : IsLoaded from.mem) (at : Amid r from olds) (list : List Turn) where
   does_but : over r from at.n at.cpu ≡ false → fit (written at.cpu.log) ≡ true → can_begin from.s at.cpu at.cells ≡ true
-      → length list ≡ cycles (instr_of at.cpu) → AreFound at.cpu true (begins at.cells at.board) list
+      → length (cycles_of (begins at.cells at.board) list) ≡ cycles (instr_of at.cpu) → AreFound at.cpu true (begins at.cells at.board) list
       → AreGiven zeros (begins at.cells at.board) list
       → DoesBy (record all { free = false }) zeros held (quiet r at.n from) at.older at.cells list
   does_but more fits can count answered given =
@@ -49,7 +49,8 @@ module _ (r : Routine) (from : Cpu) (olds : List Call) (session : (n : ℕ) → 
         free = tt;
         placed = subst IsPlaced (sym is) (placed_of at.cpu placed.0 (loaded_after from.s at.n from at.cpu at.is none fits load).bytes);
         single = subst (λ c. is_single (instr_of c) ≡ true) (sym is) placed.1;
-        count = count ∙ ap (λ c. cycles (instr_of c)) (sym is);
+        count = subst (λ b. length (cycles_of (begins at.cells b) list) ≡ cycles (instr_of at.cpu)) (sym at.is_board) count
+            ∙ ap (λ c. cycles (instr_of c)) (sym is);
         answered = subst (λ c. AreFound c true (begins at.cells (after held at.older)) list) (sym is)
             (subst (λ b. AreFound at.cpu true (begins at.cells b) list) (sym at.is_board) answered);
         given = subst (λ b. AreGiven zeros (begins at.cells b) list) (sym at.is_board) given;
@@ -103,8 +104,8 @@ module _ (r : Routine) (from : Cpu) (olds : List Call) (session : (n : ℕ) → 
 abbrev before : Amid calls.Run run_from begun.list
 before = up_to calls.Run 0 begun refl tt tt tt (λ P is. is) 16
 
-abbrev hears : List Two
-hears = two_of 0xD0 ∷ record { first = drive 0; second = record (drive 0xE1) { nmi = 1 } } ∷ []
+abbrev hears : List Turn
+hears = acts (two_of 0xD0) ∷ acts (record { first = drive 0; second = record (drive 0xE1) { nmi = 1 } }) ∷ []
 
 given_by : (machine : Machine) (two : Two) → two.second.nmi < 2 → two.first.rom < 256 → two.second.rom < 256 → two.second.m < 256
     → two.first.big ≡ 0 → two.second.big ≡ 0 → machine.board.core.at < 0x400 → (between machine two).board.core.at < 0x400
@@ -130,7 +131,7 @@ abbrev heard : Amid calls.Run run_from begun.list
 heard = then_at calls.Run run_from begun.list run_session refl begun.loaded before hears does_hear
 
 -- the store is the call's next instruction, and has as many cycles as the NMI, which comes in its place
-abbrev comes : List Two
+abbrev comes : List Turn
 comes = twos_for 5 (begins heard.cells heard.board) heard.cpu
 
 fits_so : fits_for 5 (begins heard.cells heard.board) heard.cpu true ≡ true

@@ -1,10 +1,10 @@
 -- Runs of which one premise doesn't hold, and which have no log. The prover computes each cycle from the cells.
-use Rattle.std.proofs.Common.{◌≡◌, ℕ, ◌<◌, List, [], ◌∷◌, refl, lit<, arith}
+use Rattle.std.proofs.Common.{◌≡◌, ℕ, List, [], ◌∷◌, refl, lit<, arith}
 use Rattle.dvg_calls_6502.specs.Calls as calls
 use Rattle.dvg_cells_board.specs.Clocks.{after}
 use Rattle.dvg_cells_board.specs.Example.{zeros}
 use Rattle.dvg_calls_board.specs.Machine.{OfEachMachine, HaveRam}
-use Rattle.dvg_calls_cells.specs.Cycles.{Two}
+use Rattle.dvg_calls_cells.specs.Cycles.{Turn}
 use Rattle.dvg_calls_cells.specs.Played.{IsPlayed, alone, at_rest, begins_call, older_after, cells_after}
 use Rattle.dvg_calls_cells.specs.Needed.{held, NeedsNoStrobe, NeedsNoWrite, NeedsRests, NeedsCount, NeedsAnswers}
 use Rattle.dvg_calls_cells.proofs.Needed.{sent_by_none, has_ram}
@@ -72,7 +72,7 @@ module _ (shared : OfEachMachine (λ R image held list log clocks. HaveRam list 
   )
 
   -- amid dvg_reset the program jumps into its own STA 4000, whose last byte it reads where the code has 40
-  abbrev strayed : List Two
+  abbrev strayed : List Turn
   strayed = twos (0x4C ∷ 0x88 ∷ 0x68 ∷ 0xA9 ∷ 0x05 ∷ 0x8D ∷ 0x00 ∷ [])
 
   strayed_on : IsPlayed zeros zeros held (made.reset 0 ∷ []) (older_after held example.older3 example.cells3 strayed)
@@ -110,7 +110,7 @@ module _ (shared : OfEachMachine (λ R image held list log clocks. HaveRam list 
   abbrev boots : List ℕ
   boots = 0xA9 ∷ 0x00 ∷ 0x85 ∷ 0x10 ∷ 0x00 ∷ 0xA9 ∷ 0x03 ∷ 0x85 ∷ 0x12 ∷ 0x00 ∷ 0x60 ∷ 0x00 ∷ 0x00 ∷ 0x8D ∷ 0x00 ∷ 0x40 ∷ 0x00 ∷ []
 
-  abbrev booted : List Two
+  abbrev booted : List Turn
   booted = twos (0x00 ∷ 0x68 ∷ [])
 
   booted_on : IsPlayed zeros zeros held [] (older_after held [] example.cells0 booted) (cells_after held [] example.cells0 booted)

@@ -1,5 +1,5 @@
 -- What is proved of machines holds of those of cells.
-use Rattle.std.proofs.Common.{◌≡◌, ℕ, ◌<◌, true, List, [], ◌∷◌, refl, sym, ap, ◌∙◌, subst, lit<}
+use Rattle.std.proofs.Common.{◌≡◌, ℕ, zero, suc, ◌<◌, true, List, [], ◌∷◌, refl, sym, ap, ◌∙◌, subst, lit<, arith}
 use Rattle.dvg_calls_6502.specs.Processor.{Cpu}
 use Rattle.dvg_calls_6502.specs.Calls.{Call}
 use Rattle.dvg_log.specs.Log.{Log, Throughout}
@@ -19,7 +19,7 @@ use Rattle.dvg_calls_cells.specs.Machine.{Machine}
 use Rattle.dvg_calls_cells.specs.Cycles.{AreAlike, none, same}
 use Rattle.dvg_calls_cells.specs.Steps.{now}
 use Rattle.dvg_calls_cells.specs.Played.{IsPlayed, IsPlaced, powers, alone, tests, resets, begins_call, inside, reset_bus}
-use Rattle.dvg_calls_cells.specs.Played.{CellsKeep, ResetTakes, CycleEnds, ResetWaits}
+use Rattle.dvg_calls_cells.specs.Played.{CellsKeep, CpuWaits, ResetTakes, CycleEnds, ResetWaits}
 use Rattle.dvg_calls_cells.proofs.Fits.{AllFit, served_of, reset_is, reset_fits}
 use Rattle.dvg_calls_cells.proofs.Found.{answered_of, now_has}
 use Rattle.dvg_calls_cells.proofs.Quiet.{quietly, testing}
@@ -138,10 +138,18 @@ cells_keep legal headline memory shared R image held list older cells on =
     }
 
 pub reset_takes : ResetTakes
-reset_takes cells board drive = (refl, refl, refl, refl)
+reset_takes cells board drive = (refl, refl, refl, refl, refl, refl)
+
+pub cpu_waits : CpuWaits
+cpu_waits cells board drive = (refl, refl, refl)
 
 pub cycle_ends : CycleEnds
 cycle_ends cells board two = (refl, refl, refl, refl)
 
 pub reset_waits : ResetWaits
-reset_waits cells board drive = (refl, refl)
+reset_waits cells board drive zero zero less less_ready = (refl, refl)
+reset_waits cells board drive zero (suc zero) less less_ready = (refl, refl)
+reset_waits cells board drive (suc zero) zero less less_ready = (refl, refl)
+reset_waits cells board drive (suc zero) (suc zero) less less_ready = (refl, refl)
+reset_waits cells board drive (suc (suc n)) ready less less_ready = absurd (omega (arith, less))
+reset_waits cells board drive reset (suc (suc n)) less less_ready = absurd (omega (arith, less_ready))

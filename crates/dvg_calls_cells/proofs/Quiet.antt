@@ -19,8 +19,8 @@ use Rattle.dvg_calls_board.specs.Machine as system
 use Rattle.dvg_calls_board.specs.Machine.{IsMachine, IsIdle}
 use Rattle.dvg_cells_cpu.specs.Cpu.{Cpu as Cells, clock, write, dout, at}
 use Rattle.dvg_cells_cpu.specs.Refines.{Cycle, pins_of, access, made}
-use Rattle.dvg_calls_cells.specs.Cycles.{Drive, Two, begins, between, next, ends, first_bus, second_bus, buses, cycles_of, cycle_of}
-use Rattle.dvg_calls_cells.specs.Cycles.{WriteAt, IsQuiet, AreQuiet, IsSilent, SendNothing, AreAlike, same, elsewhere}
+use Rattle.dvg_calls_cells.specs.Cycles.{Drive, Two, Turn, acts, idles, begins, between, next, ends, first_bus, second_bus, wait_bus, buses}
+use Rattle.dvg_calls_cells.specs.Cycles.{cycles_of, cycle_of, WriteAt, IsQuiet, AreQuiet, IsSilent, SendNothing, AreAlike, same, elsewhere}
 use Rattle.dvg_calls_cells.specs.Steps.{AreServed}
 
 -- neither reads at the places that are looked at, nor writes that change something
@@ -226,12 +226,12 @@ module _ (board : Board) (first second : Drive) (d write_later a_later d_later :
 
 module _ (R image : List ℕ) (held : ℕ → ℕ) (calls : List Call) where
   -- a machine so far, after cycles from these cells on: of other clocks, which leave the board as it is
-  pub record Quietly (older : List Bus) (board : Board) (cells : Cells) (twos : List Two) : Type 0 where
+  pub record Quietly (older : List Bus) (board : Board) (cells : Cells) (turns : List Turn) : Type 0 where
     pub log : Log
     pub shown : List Bus
     pub on : IsMachine R image held calls log shown
-    pub alike : AreAlike (buses (begins cells board) twos older) shown
-    pub board_is : after held shown ≡ (ends (begins cells board) twos).board
+    pub alike : AreAlike (buses (begins cells board) turns older) shown
+    pub board_is : after held shown ≡ (ends (begins cells board) turns).board
 
   -- one cycle
   module _ (log : Log) (older shown : List Bus) (board : Board) (cells : Cells) (two : Two) (on : IsMachine R image held calls log shown)
@@ -249,8 +249,8 @@ module _ (R image : List ℕ) (held : ℕ → ℕ) (calls : List Call) where
 
     -- by a clock that stands for the first one
     quiet_by : (bus : Bus) → IsBus bus → IsServed R board bus → IsIdle board bus → IsServed R (pin.clock board bus) last
-        → AreAlike (one ∷ older) (bus ∷ shown) → pin.clock (pin.clock board bus) last ≡ (next (begins cells board) two).board
-        → nat_eq bus.reset 0 ≡ true → Quietly older board cells (two ∷ [])
+        → AreAlike (one ∷ older) (bus ∷ shown) → pin.clock (pin.clock board bus) last ≡ (next (begins cells board) (acts two)).board
+        → nat_eq bus.reset 0 ≡ true → Quietly older board cells (acts two ∷ [])
     quiet_by bus is_bus served idle later now after_is reset =
         let log1 = answered image held shown bus false log in
         let same_calls : system.calls_after bus false calls ≡ calls = ap (λ (t : Bool). if t then calls else calls) reset in
@@ -264,12 +264,12 @@ module _ (R image : List ℕ) (held : ℕ → ℕ) (calls : List Call) where
           board_is = ap (λ b. pin.clock (pin.clock b bus) last) is ∙ after_is;
         }
 
-    pub quiet_cycle : AreQuiet (access cells (cycle_of (begins cells board) two).din ∷ []) → Quietly older board cells (two ∷ [])
+    pub quiet_cycle : AreQuiet (access cells (cycle_of (begins cells board) two).din ∷ []) → Quietly older board cells (acts two ∷ [])
     quiet_cycle q = by (nat_eq (write cells) 0) refl q
       where
         by : (w : Bool) → nat_eq (write cells) 0 ≡ w
             → AreQuiet ((if w then Reads (at cells) (cycle_of (begins cells board) two).din else Writes (at cells) (dout cells)) ∷ [])
-            → Quietly older board cells (two ∷ [])
+            → Quietly older board cells (acts two ∷ [])
         by true e q =
             let none = eqb-true (write cells) 0 e in
             let found : Found (write cells) (at cells) = subst (λ w. Found w (at cells)) (sym none)
@@ -278,39 +278,66 @@ module _ (R image : List ℕ) (held : ℕ → ℕ) (calls : List Call) where
             (found.served served1) found.idle (found.later served2) (elsewhere one found.place none alike) found.after refl
         by false e q = quiet_by one is1 served1 (idle_write board one e q.0.0 q.0.1) served2 (same one alike) refl refl
 
-  pub quietly : (twos : List Two) (log : Log) (older shown : List Bus) (board : Board) (cells : Cells)
+  -- a clock in which the processor waits
+  pub quiet_wait : (log : Log) (older shown : List Bus) (board : Board) (cells : Cells) (drive : Drive)
       → IsMachine R image held calls log shown → AreAlike older shown → after held shown ≡ board
-      → AreServed R (begins cells board) twos
-      → AreQuiet (made cells (cycles_of (begins cells board) twos) []) → Quietly older board cells twos
+      → IsBus (wait_bus (begins cells board) drive) → IsServed R board (wait_bus (begins cells board) drive)
+      → Quietly older board cells (idles drive ∷ [])
+  quiet_wait log older shown board cells drive on alike is is_bus served =
+      let bus = wait_bus (begins cells board) drive in record {
+        log = answered image held shown bus false log;
+        shown = bus ∷ shown;
+        on = system.waits bus false on is_bus (subst (λ b. IsServed R b bus) (sym is) served) (refl, refl);
+        alike = same bus alike;
+        board_is = ap (λ b. pin.clock b bus) is;
+      }
+
+  pub quietly : (turns : List Turn) (log : Log) (older shown : List Bus) (board : Board) (cells : Cells)
+      → IsMachine R image held calls log shown → AreAlike older shown → after held shown ≡ board
+      → AreServed R (begins cells board) turns
+      → AreQuiet (made cells (cycles_of (begins cells board) turns) []) → Quietly older board cells turns
   quietly [] log older shown board cells on alike is served quiet =
       record { log = log; shown = shown; on = on; alike = alike; board_is = is }
-  quietly (two ∷ later) log older shown board cells on alike is served quiet =
+  quietly (acts two ∷ later) log older shown board cells on alike is served quiet =
       let machine = begins cells board in
       let cycle = cycle_of machine two in
-      let both = write_first IsQuiet cells cycle (cycles_of (next machine two) later) quiet in
+      let both = write_first IsQuiet cells cycle (cycles_of (next machine (acts two)) later) quiet in
       let done = quiet_cycle log older shown board cells two on alike is served.0 served.1.0 served.1.1.0 served.1.1.1.0 both.0 in
-      let rest = quietly later done.log (second_bus machine two ∷ first_bus machine two ∷ older) done.shown (next machine two).board
-      (clock cells (pins_of cycle)) done.on done.alike done.board_is served.1.1.1.1 both.1 in
+      let rest = quietly later done.log (second_bus machine two ∷ first_bus machine two ∷ older) done.shown
+      (next machine (acts two)).board (clock cells (pins_of cycle)) done.on done.alike done.board_is served.1.1.1.1 both.1 in
+      record { log = rest.log; shown = rest.shown; on = rest.on; alike = rest.alike; board_is = rest.board_is }
+  quietly (idles drive ∷ later) log older shown board cells on alike is served quiet =
+      let machine = begins cells board in
+      let done = quiet_wait log older shown board cells drive on alike is served.0 served.1.0 in
+      let rest = quietly later done.log (wait_bus machine drive ∷ older) done.shown (next machine (idles drive)).board cells
+      done.on done.alike done.board_is served.1.1 quiet in
       record { log = rest.log; shown = rest.shown; on = rest.on; alike = rest.alike; board_is = rest.board_is }
 
 -- the same before the first call, of cycles that send no strobe
 module _ (R image : List ℕ) (held : ℕ → ℕ) where
-  pub testing : (twos : List Two) (log : Log) (older shown : List Bus) (board : Board) (cells : Cells)
+  pub testing : (turns : List Turn) (log : Log) (older shown : List Bus) (board : Board) (cells : Cells)
       → IsMachine R image held [] log shown → AreAlike older shown → after held shown ≡ board
-      → AreServed R (begins cells board) twos
-      → SendNothing (made cells (cycles_of (begins cells board) twos) []) → Quietly R image held [] older board cells twos
+      → AreServed R (begins cells board) turns
+      → SendNothing (made cells (cycles_of (begins cells board) turns) []) → Quietly R image held [] older board cells turns
   testing [] log older shown board cells on alike is served quiet =
       record { log = log; shown = shown; on = on; alike = alike; board_is = is }
-  testing (two ∷ later) log older shown board cells on alike is served quiet =
+  testing (acts two ∷ later) log older shown board cells on alike is served quiet =
       let machine = begins cells board in
       let one = first_bus machine two in
       let last = second_bus machine two in
       let cycle = cycle_of machine two in
-      let both = write_first IsSilent cells cycle (cycles_of (next machine two) later) quiet in
+      let both = write_first IsSilent cells cycle (cycles_of (next machine (acts two)) later) quiet in
       let on1 = system.tests one on served.0 (subst (λ b. IsServed R b one) (sym is) served.1.1.0)
       (sends_nothing one cycle.din both.0) in
       let on2 = system.tests last on1 served.1.0 (subst (λ b. IsServed R (pin.clock b one) last) (sym is) served.1.1.1.0) refl in
-      let rest = testing later _ (last ∷ one ∷ older) (last ∷ one ∷ shown) (next machine two).board
+      let rest = testing later _ (last ∷ one ∷ older) (last ∷ one ∷ shown) (next machine (acts two)).board
       (clock cells (pins_of cycle)) on2 (same last (same one alike)) (ap (λ b. pin.clock (pin.clock b one) last) is)
       served.1.1.1.1 both.1 in
+      record { log = rest.log; shown = rest.shown; on = rest.on; alike = rest.alike; board_is = rest.board_is }
+  testing (idles drive ∷ later) log older shown board cells on alike is served quiet =
+      let machine = begins cells board in
+      let bus = wait_bus machine drive in
+      let on1 = system.tests bus on served.0 (subst (λ b. IsServed R b bus) (sym is) served.1.0) refl in
+      let rest = testing later _ (bus ∷ older) (bus ∷ shown) (next machine (idles drive)).board cells on1 (same bus alike)
+      (ap (λ b. pin.clock b bus) is) served.1.1 quiet in
       record { log = rest.log; shown = rest.shown; on = rest.on; alike = rest.alike; board_is = rest.board_is }

@@ -1,7 +1,7 @@
 -- An instruction of a call on the cells.
 use Rattle.std.proofs.Common.{◌≡◌, ℕ, zero, suc, ◌+◌, ◌<◌, Bool, true, false, List, [], ◌∷◌, ◌++◌, length, refl, sym, ap, ◌∙◌, subst}
 use Rattle.std.proofs.Common.{arith, inl, inr, eqb-true, eq-eqb}
-use Rattle.std.specs.Prelude.{nat_eq, nat_le, nat_lt, ◌&&◌, ◌||◌, if◌then◌else◌}
+use Rattle.std.specs.Prelude.{◌⊎◌, nat_eq, nat_le, nat_lt, ◌&&◌, ◌||◌, if◌then◌else◌}
 use Rattle.std.proofs.lemmas.Bool.Decides.{leb_tells}
 use Rattle.dvg_calls_6502.specs.Processor.{Cpu, Instr, Access, Reads, Writes, step, turn, does, at_return}
 use Rattle.dvg_calls_6502.specs.Amid.{amid, changed}
@@ -23,10 +23,11 @@ use Rattle.dvg_cells_cpu.specs.Refines as refined
 use Rattle.dvg_cells_cpu.specs.Refines.{Cycle, pins_of, access, made, AreAnswered, Rests, Goes, IsSound, cycles, fetched}
 use Rattle.dvg_cells_cpu.proofs.Whole.{refines}
 use Rattle.dvg_calls_cells.specs.Machine.{Machine}
-use Rattle.dvg_calls_cells.specs.Cycles.{Two, begins, first_bus, second_bus, next, buses, cycles_of, cycle_of, ends}
+use Rattle.dvg_calls_cells.specs.Cycles.{Two, Turn, acts, idles, begins, first_bus, second_bus, wait_bus, next, buses}
+use Rattle.dvg_calls_cells.specs.Cycles.{cycles_of, cycle_of, ends}
 use Rattle.dvg_calls_cells.specs.Cycles.{IsQuiet, AreQuiet, AreAlike, same}
 use Rattle.dvg_calls_cells.specs.Steps.{AreServed, now, instr_of, Steps, CellsStep}
-use Rattle.dvg_calls_cells.proofs.Quiet.{Quietly, write_both, write_append, made_more, quietly, quiet_cycle}
+use Rattle.dvg_calls_cells.proofs.Quiet.{Quietly, write_both, write_append, made_more, quietly, quiet_cycle, quiet_wait}
 use Rattle.dvg_calls_cells.proofs.Seen.{AreUnseen, IsSeen, either_way, fetched_quiet, low_unseen, seen_more, seen_one, unseen}
 use Rattle.dvg_calls_cells.proofs.Seen.{unseen_quiet}
 use Rattle.std.proofs.lemmas.Bool.{or_right as or_more}
@@ -101,6 +102,10 @@ some_made cells cycle (second ∷ list) =
           ∙ ap (λ l. l ++ (access cells cycle.din ∷ [])) more.2,
     )
 
+none_or_some : (list : List Cycle) → (list ≡ []) ⊎ ((first : Cycle) × (others : List Cycle) × (list ≡ first ∷ others))
+none_or_some [] = inl refl
+none_or_some (first ∷ others) = inr (first, others, refl)
+
 newest : (l : List Access) (first a : Access) (rest : List Access)
     → (top : Access) × (below : List Access) × (l ≡ top ∷ below) → l ++ (first ∷ []) ≡ a ∷ rest
     → (below : List Access) × (l ≡ a ∷ below) × (below ++ (first ∷ []) ≡ rest)
@@ -109,15 +114,15 @@ newest l first a rest some e =
     (some.1, some.2 ∙ ap (λ top. top ∷ some.1) parts.0, parts.1)
 
 module _ (R image : List ℕ) (held : ℕ → ℕ) (call : Call) (calls : List Call) where
-  abbrev Gone : List Bus → Board → Cells → List Two → Type 0
-  Gone older board cells twos = Quietly R image held (later 1 call ∷ calls) older board cells twos
+  abbrev Gone : List Bus → Board → Cells → List Turn → Type 0
+  Gone older board cells turns = Quietly R image held (later 1 call ∷ calls) older board cells turns
 
   -- a clock that makes an access of the call, and the next one
   seen_cycle : (log : Log) (older shown : List Bus) (board : Board) (cells : Cells) (two : Two)
       → IsMachine R image held (call ∷ calls) log shown → AreAlike older shown → after held shown ≡ board
-      → IsSession (later 1 call ∷ calls) → AreServed R (begins cells board) (two ∷ [])
+      → IsSession (later 1 call ∷ calls) → AreServed R (begins cells board) (acts two ∷ [])
       → (its : Access) → access cells (cycle_of (begins cells board) two).din ≡ its → IsSeen its
-      → accesses_of (later 1 call) ≡ its ∷ accesses_of call → Gone older board cells (two ∷ [])
+      → accesses_of (later 1 call) ≡ its ∷ accesses_of call → Gone older board cells (acts two ∷ [])
   seen_cycle log older shown board cells two on alike same_board session served its is it_is_seen more =
       let machine = begins cells board in
       let one = first_bus machine two in
@@ -157,62 +162,78 @@ module _ (R image : List ℕ) (held : ℕ → ℕ) (call : Call) (calls : List C
           subst (Makes board (first_bus (begins cells board) two)) written (refl, one_of _ _ w, refl, refl)
 
   -- the newest access alone is seen
-  loudly : (twos : List Two) (log : Log) (older shown : List Bus) (board : Board) (cells : Cells)
+  loudly : (turns : List Turn) (log : Log) (older shown : List Bus) (board : Board) (cells : Cells)
       → IsMachine R image held (call ∷ calls) log shown → AreAlike older shown → after held shown ≡ board
-      → IsSession (later 1 call ∷ calls) → AreServed R (begins cells board) twos
-      → (its : Access) (rest : List Access) → made cells (cycles_of (begins cells board) twos) [] ≡ its ∷ rest
-      → IsSeen its → AreQuiet rest → accesses_of (later 1 call) ≡ its ∷ accesses_of call → Gone older board cells twos
+      → IsSession (later 1 call ∷ calls) → AreServed R (begins cells board) turns
+      → (its : Access) (rest : List Access) → made cells (cycles_of (begins cells board) turns) [] ≡ its ∷ rest
+      → IsSeen its → AreQuiet rest → accesses_of (later 1 call) ≡ its ∷ accesses_of call → Gone older board cells turns
   loudly [] log older shown board cells on alike is session served a rest e it_is_seen quiet more = absurd (cc)
-  loudly (two ∷ []) log older shown board cells on alike is session served a rest e it_is_seen quiet more =
-      seen_cycle log older shown board cells two on alike is session served a (head_is _ _ _ _ e).0 it_is_seen more
-  loudly (two ∷ second ∷ later) log older shown board cells on alike is session served a rest e it_is_seen quiet more =
+  loudly (idles drive ∷ later) log older shown board cells on alike is session served a rest e it_is_seen quiet more =
+      let machine = begins cells board in
+      let done = quiet_wait R image held (call ∷ calls) log older shown board cells drive on alike is served.0 served.1.0 in
+      let gone = loudly later done.log (wait_bus machine drive ∷ older) done.shown (next machine (idles drive)).board cells
+      done.on done.alike done.board_is session served.1.1 a rest e it_is_seen quiet more in
+      record { log = gone.log; shown = gone.shown; on = gone.on; alike = gone.alike; board_is = gone.board_is }
+  loudly (acts two ∷ others) log older shown board cells on alike is session served a rest e it_is_seen quiet more =
       let machine = begins cells board in
       let then_cells = clock cells (pins_of (cycle_of machine two)) in
+      let then_board = (next machine (acts two)).board in
+      let its_clocks = second_bus machine two ∷ first_bus machine two ∷ older in
       let first = access cells (cycle_of machine two).din in
-      let parts : made then_cells (cycles_of (next machine two) (second ∷ later)) [] ++ (first ∷ []) ≡ a ∷ rest =
-      sym (made_more then_cells (cycles_of (next machine two) (second ∷ later)) (first ∷ [])) ∙ e in
-      let split = newest (made then_cells (cycles_of (next machine two) (second ∷ later)) []) first a rest
-      (some_made then_cells (cycle_of (next machine two) second) (cycles_of (next (next machine two) second) later))
-      parts in
-      let quiets = write_both IsQuiet split.0 (first ∷ []) (subst AreQuiet (sym split.2) quiet) in
-      let done = quiet_cycle R image held (call ∷ calls) log older shown board cells two on alike is served.0 served.1.0
-      served.1.1.0 served.1.1.1.0 quiets.1 in
-      let gone = loudly (second ∷ later) done.log (second_bus machine two ∷ first_bus machine two ∷ older) done.shown
-      (next machine two).board then_cells done.on done.alike done.board_is session served.1.1.1.1 a split.0 split.1
-      it_is_seen quiets.0 more in
-      record { log = gone.log; shown = gone.shown; on = gone.on; alike = gone.alike; board_is = gone.board_is }
+      let cycles_later = cycles_of (next machine (acts two)) others in
+      elim (none_or_some cycles_later) [
+        | inl none ↦
+            let newest : first ∷ [] ≡ a ∷ rest = ap (λ l. made then_cells l (first ∷ [])) (sym none) ∙ e in
+            let mine : AreServed R machine (acts two ∷ []) =
+            (served.0, (served.1.0, (served.1.1.0, (served.1.1.1.0, tt)))) in
+            let done = seen_cycle log older shown board cells two on alike is session mine a (head_is _ _ _ _ newest).0
+            it_is_seen more in
+            let gone = quietly R image held (later 1 call ∷ calls) others done.log its_clocks done.shown then_board then_cells
+            done.on done.alike done.board_is served.1.1.1.1 (subst (λ l. AreQuiet (made then_cells l [])) (sym none) tt) in
+            record { log = gone.log; shown = gone.shown; on = gone.on; alike = gone.alike; board_is = gone.board_is }
+        | inr some ↦
+            let made_later = made then_cells cycles_later [] in
+            let parts : made_later ++ (first ∷ []) ≡ a ∷ rest = sym (made_more then_cells cycles_later (first ∷ [])) ∙ e in
+            let split = newest made_later first a rest
+            (subst (λ l. (top : Access) × (below : List Access) × (made then_cells l [] ≡ top ∷ below)) (sym some.2)
+            (some_made then_cells some.0 some.1)) parts in
+            let quiets = write_both IsQuiet split.0 (first ∷ []) (subst AreQuiet (sym split.2) quiet) in
+            let done = quiet_cycle R image held (call ∷ calls) log older shown board cells two on alike is served.0 served.1.0
+            served.1.1.0 served.1.1.1.0 quiets.1 in
+            let gone = loudly others done.log its_clocks done.shown then_board then_cells done.on done.alike done.board_is session
+            served.1.1.1.1 a split.0 split.1 it_is_seen quiets.0 more in
+            record { log = gone.log; shown = gone.shown; on = gone.on; alike = gone.alike; board_is = gone.board_is }
+      ]
 
-lengths : (list : List Two) (board : Board) (cells : Cells) → length (cycles_of (begins cells board) list) ≡ length list
-lengths [] board cells = refl
-lengths (two ∷ later) board cells =
-    let machine = begins cells board in
-    ap suc (lengths later (next machine two).board (clock cells (pins_of (cycle_of machine two))))
-
--- the machine after cycles
-pub ends_are : (held : ℕ → ℕ) (list : List Two) (older : List Bus) (cells : Cells)
+-- the machine after some turns
+pub ends_are : (held : ℕ → ℕ) (list : List Turn) (older : List Bus) (cells : Cells)
     → ends (begins cells (after held older)) list
     ≡ begins (refined.ends cells (cycles_of (begins cells (after held older)) list))
     (after held (buses (begins cells (after held older)) list older))
 ends_are held [] older cells = refl
-ends_are held (two ∷ later) older cells =
+ends_are held (acts two ∷ later) older cells =
     let machine = begins cells (after held older) in
     ends_are held later (second_bus machine two ∷ first_bus machine two ∷ older) (clock cells (pins_of (cycle_of machine two)))
+ends_are held (idles drive ∷ later) older cells =
+    ends_are held later (wait_bus (begins cells (after held older)) drive ∷ older) cells
 
-pub ends_cells : (list : List Two) (board : Board) (cells : Cells)
+pub ends_cells : (list : List Turn) (board : Board) (cells : Cells)
     → (ends (begins cells board) list).cpu ≡ refined.ends cells (cycles_of (begins cells board) list)
 ends_cells [] board cells = refl
-ends_cells (two ∷ later) board cells =
+ends_cells (acts two ∷ later) board cells =
     let machine = begins cells board in
-    ends_cells later (next machine two).board (clock cells (pins_of (cycle_of machine two)))
+    ends_cells later (next machine (acts two)).board (clock cells (pins_of (cycle_of machine two)))
+ends_cells (idles drive ∷ later) board cells = ends_cells later (next (begins cells board) (idles drive)).board cells
 
-ends_answers : (list : List Two) (board : Board) (cells : Cells) → (ends (begins cells board) list).answers ≡ 0
+ends_answers : (list : List Turn) (board : Board) (cells : Cells) → (ends (begins cells board) list).answers ≡ 0
 ends_answers [] board cells = refl
-ends_answers (two ∷ later) board cells =
+ends_answers (acts two ∷ later) board cells =
     let machine = begins cells board in
-    ends_answers later (next machine two).board (clock cells (pins_of (cycle_of machine two)))
+    ends_answers later (next machine (acts two)).board (clock cells (pins_of (cycle_of machine two)))
+ends_answers (idles drive ∷ later) board cells = ends_answers later (next (begins cells board) (idles drive)).board cells
 
 module _ (R image : List ℕ) (held : ℕ → ℕ) (call : Call) (calls : List Call) (log : Log) (older shown : List Bus) (board : Board)
-    (cells : Cells) (list : List Two) (on : IsMachine R image held (call ∷ calls) log shown) (alike : AreAlike older shown)
+    (cells : Cells) (list : List Turn) (on : IsMachine R image held (call ∷ calls) log shown) (alike : AreAlike older shown)
     (same_board : after held shown ≡ board) (unfinished : is_over call ≡ false)
     (goes : at_return call.from.s (now call) ≡ false) (session : IsSession (later 1 call ∷ calls))
     (served : AreServed R (begins cells board) list) where
@@ -276,10 +297,10 @@ module _ (R image : List ℕ) (held : ℕ → ℕ) (call : Call) (calls : List C
 
   -- an instruction of the call
   pub step_on : Rests cells (now call) → cells.due ≡ 0 → IsSound (now call) → is_single instr ≡ true
-      → length list ≡ cycles instr → AreAnswered (now call) cells (cycles_of machine list)
+      → length (cycles_of machine list) ≡ cycles instr → AreAnswered (now call) cells (cycles_of machine list)
       → Steps R image held call calls older machine list
   step_on rests free sound single count answered =
-      let g = refines (now call) cells (cycles_of machine list) sound rests free (lengths list board cells ∙ count) answered in
+      let g = refines (now call) cells (cycles_of machine list) sound rests free count answered in
       by_news g g.news refl (few (now call) sound.bytes instr single g.news g.log)
 
 pub cells_step : CellsStep

@@ -17,7 +17,7 @@ use Rattle.dvg_calls_board.specs.Machine as system
 use Rattle.dvg_calls_board.specs.Machine.{Makes, accesses_of}
 use Rattle.dvg_cells_cpu.specs.Refines.{cycles}
 use Rattle.dvg_calls_cells.specs.Machine.{Machine}
-use Rattle.dvg_calls_cells.specs.Cycles.{Two, begins, between, ends, buses, first_bus, second_bus}
+use Rattle.dvg_calls_cells.specs.Cycles.{Two, Turn, acts, begins, between, ends, buses, first_bus, second_bus}
 use Rattle.dvg_calls_cells.specs.Steps.{instr_of}
 use Rattle.dvg_calls_cells.proofs.Following.{Amid, over, can_do, twos_for, further, is_new}
 use Rattle.dvg_calls_cells.proofs.Lines.{Told, Line, drew_on, line_on, lines, after_clock, are_idle, is_idle, is_driven, driven_of}
@@ -62,7 +62,7 @@ module _ (r : Routine) (from : Cpu) (olds : List Call) (session : (n : ℕ) → 
     abbrev machine : Machine
     machine = begins at.cells at.board
 
-    abbrev listed : List Two
+    abbrev listed : List Turn
     listed = twos_for (cycles (instr_of at.cpu)) machine at.cpu
 
     abbrev new : Amid r from olds
@@ -90,8 +90,8 @@ module _ (r : Routine) (from : Cpu) (olds : List Call) (session : (n : ℕ) → 
 
     -- it writes, in its fourth cycle
     module _ (t1 t2 t3 two : Two) (a byte : ℕ) where
-      abbrev reads : List Two
-      reads = t1 ∷ t2 ∷ t3 ∷ []
+      abbrev reads : List Turn
+      reads = acts t1 ∷ acts t2 ∷ acts t3 ∷ []
 
       abbrev then_machine : Machine
       then_machine = ends machine reads
@@ -121,7 +121,7 @@ module _ (r : Routine) (from : Cpu) (olds : List Call) (session : (n : ℕ) → 
           let z = both_true (nat_eq one.a a) (nat_eq one.d byte) y.1 in
           (eqb-true one.access 1 x.0, eqb-true one.write 1 y.0, eqb-true one.a a z.0, eqb-true one.d byte z.1)
 
-      pub told_write : listed ≡ t1 ∷ t2 ∷ t3 ∷ two ∷ [] → are_idle reads machine ≡ true
+      pub told_write : listed ≡ acts t1 ∷ acts t2 ∷ acts t3 ∷ acts two ∷ [] → are_idle reads machine ≡ true
           → (is_driven then_machine.board one && writes_by one a byte) ≡ true → is_idle mid.board last ≡ true
           → same_by (seen (turn from.s at.cpu).log) (Writes a byte ∷ seen at.cpu.log) ≡ true
           → Told (quiet r (at.n + 1) from ∷ olds) new.older new.board written_line.drawn written_line.log

@@ -6,7 +6,7 @@ use Rattle.dvg_cells_board.specs.Board as board
 use Rattle.dvg_cells_cpu.specs.Cpu.{Cpu}
 use Rattle.dvg_cells_cpu.specs.Cpu as cpu
 
--- Yosys 0.23, digest e334a10e25324c4b
+-- Yosys 0.23, digest 84ff4e240f3fc53b
 
 -- the registers, the board, and the cpu
 pub record Machine : Type 0 where
@@ -19,6 +19,8 @@ pub record Machine : Type 0 where
 pub record Bus : Type 0 where
   -- 1 bit
   pub reset : ℕ
+  -- 1 bit
+  pub ready : ℕ
   -- 1 bit
   pub nmi : ℕ
   -- 1 bit
@@ -44,11 +46,12 @@ powered ram =
 -- what drives the pins of the board
 abbrev pub drives_board : Machine → Bus → board.Bus
 drives_board machine bus =
-    let n4 : ℕ = none machine.answers in
-    let resets : ℕ = both bus.reset n4 in
     let n5 : ℕ = none machine.answers in
-    let n6 : ℕ = none bus.reset in
-    let access : ℕ = both n5 n6 in
+    let resets : ℕ = both bus.reset n5 in
+    let n6 : ℕ = none machine.answers in
+    let n7 : ℕ = none bus.reset in
+    let n4 : ℕ = both n6 n7 in
+    let access : ℕ = mux bus.ready n4 0 in
     record {
       reset = resets;
       hold = bus.hold;
@@ -67,10 +70,10 @@ drives_cpu machine bus =
     let n1 : ℕ = eq (part 11 5 (cpu.at machine.cpu)) 8 in
     let n2 : ℕ = eq (cpu.at machine.cpu) 8194 in
     let n3 : ℕ = eq (cpu.at machine.cpu) 12288 in
-    let n4 : ℕ = none machine.answers in
-    let resets : ℕ = both bus.reset n4 in
-    let n7 : ℕ = either n1 n2 in
-    let on_board : ℕ = either n7 n3 in
+    let n5 : ℕ = none machine.answers in
+    let resets : ℕ = both bus.reset n5 in
+    let n8 : ℕ = either n1 n2 in
+    let on_board : ℕ = either n8 n3 in
     let din : ℕ = mux on_board (board.q machine.board (drives_board machine bus)) bus.m in
     record {
       reset = resets;
@@ -82,9 +85,10 @@ drives_cpu machine bus =
 -- the pin `access`
 abbrev pub access : Machine → Bus → ℕ
 access machine bus =
-    let n5 : ℕ = none machine.answers in
-    let n6 : ℕ = none bus.reset in
-    both n5 n6
+    let n6 : ℕ = none machine.answers in
+    let n7 : ℕ = none bus.reset in
+    let n4 : ℕ = both n6 n7 in
+    mux bus.ready n4 0
 
 -- the pin `write`
 abbrev pub write : Machine → ℕ
@@ -169,9 +173,10 @@ z machine =
 -- the registers after a clock
 abbrev pub clock : Machine → Bus → Machine
 clock machine bus =
-    let n5 : ℕ = none machine.answers in
-    let n6 : ℕ = none bus.reset in
-    let access : ℕ = both n5 n6 in
+    let n6 : ℕ = none machine.answers in
+    let n7 : ℕ = none bus.reset in
+    let n4 : ℕ = both n6 n7 in
+    let access : ℕ = mux bus.ready n4 0 in
     record {
       answers = access;
       board = board.clock machine.board (drives_board machine bus);

@@ -13,7 +13,7 @@ use Rattle.dvg_cells_board.specs.Example.{zeros}
 use Rattle.dvg_calls_board.specs.Machine.{IsChecked, HaveRam, later}
 use Rattle.dvg_cells_cpu.specs.Cpu.{Cpu as Cells}
 use Rattle.dvg_cells_cpu.specs.Refines.{Where, Rests, cycles, made}
-use Rattle.dvg_calls_cells.specs.Cycles.{Two, cycles_of, WriteAt, IsSilent}
+use Rattle.dvg_calls_cells.specs.Cycles.{Turn, cycles_of, WriteAt, IsSilent}
 use Rattle.dvg_calls_cells.specs.Steps.{now, instr_of}
 use Rattle.dvg_calls_cells.specs.Played.{IsPlayed, IsPlaced, AreGiven, AreFound, Does, Keeps, at_rest, older_after}
 
@@ -27,7 +27,7 @@ NoLog calls clocks = Keeps zeros zeros held calls clocks → ⊥
 
 -- after a run there are cycles of the program that write only at places of this kind, with which it has no log
 abbrev pub Spoils : (ℕ → Type 0) → List Call → Type 0
-Spoils P calls = (older : List Bus) × (cells : Cells) × (list : List Two) × IsPlayed zeros zeros held calls older cells
+Spoils P calls = (older : List Bus) × (cells : Cells) × (list : List Turn) × IsPlayed zeros zeros held calls older cells
     × AreGiven zeros (at_rest held older cells) list
     × WriteAt P (made cells (cycles_of (at_rest held older cells) list) [])
     × NoLog calls (older_after held older cells list)
@@ -49,14 +49,15 @@ pub record Asked : Type 0 where
 
 -- `Does`, where some aren't asked
 pub record DoesBy (asked : Asked) (R : List ℕ) (held : ℕ → ℕ) (call : Call) (older : List Bus) (cells : Cells)
-    (list : List Two) : Type 0 where
+    (list : List Turn) : Type 0 where
   pub unfinished : is_over call ≡ false
   pub goes : at_return call.from.s (now call) ≡ false
   pub rests : Where asked.rests (Rests cells (now call))
   pub free : Where asked.free (cells.due ≡ 0)
   pub placed : IsPlaced (now call)
   pub single : is_single (instr_of (now call)) ≡ true
-  pub count : Where asked.count (length list ≡ cycles (instr_of (now call)))
+  pub count : Where asked.count
+      (length (cycles_of (at_rest held older cells) list) ≡ cycles (instr_of (now call)))
   pub answered : Where asked.answered (AreFound (now call) true (at_rest held older cells) list)
   pub given : AreGiven R (at_rest held older cells) list
 
@@ -65,12 +66,12 @@ abbrev pub all : Asked
 all = record { rests = true; free = true; count = true; answered = true }
 
 abbrev pub AllIsDoes : Type 0
-AllIsDoes = (R : List ℕ) (held : ℕ → ℕ) (call : Call) (older : List Bus) (cells : Cells) (list : List Two)
+AllIsDoes = (R : List ℕ) (held : ℕ → ℕ) (call : Call) (older : List Bus) (cells : Cells) (list : List Turn)
     → DoesBy all R held call older cells list → Does R held call older cells list
 
 -- after a run there are cycles that meet these premises of an instruction of its newest call, with which it has no log
 abbrev pub Misleads : Asked → Type 0
-Misleads asked = (call : Call) × (calls : List Call) × (older : List Bus) × (cells : Cells) × (list : List Two)
+Misleads asked = (call : Call) × (calls : List Call) × (older : List Bus) × (cells : Cells) × (list : List Turn)
     × IsPlayed zeros zeros held (call ∷ calls) older cells × IsSession (later 1 call ∷ calls)
     × DoesBy asked zeros held call older cells list
     × NoLog (later 1 call ∷ calls) (older_after held older cells list)

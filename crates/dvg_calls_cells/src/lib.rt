@@ -6,12 +6,13 @@
 #![tactic(auto)]
 
 ghost use Rattle.dvg_calls_cells.specs.Example.{SomeDrawn, SomePlayed};
-ghost use Rattle.dvg_calls_cells.specs.GoesOn.{CallGoesOn, CellsGoOn};
+ghost use Rattle.dvg_calls_cells.specs.GoesOn.{CallGoesOn, CellsGoOn, CellsWaitOn};
 ghost use Rattle.dvg_calls_cells.specs.Needed.{AllIsDoes, NeedsAnswers, NeedsCount, NeedsFree};
 ghost use Rattle.dvg_calls_cells.specs.Needed.{NeedsNoStrobe, NeedsNoWrite, NeedsRests};
 ghost use Rattle.dvg_calls_cells.specs.Needed.{PremisesFollow};
 ghost use Rattle.dvg_calls_cells.specs.Own.{NmiIsQuiet, OwnIsQuiet};
-ghost use Rattle.dvg_calls_cells.specs.Played.{CellsKeep, CycleEnds, ResetTakes, ResetWaits};
+ghost use Rattle.dvg_calls_cells.specs.Played.{CellsKeep, CpuWaits, CycleEnds};
+ghost use Rattle.dvg_calls_cells.specs.Played.{ResetTakes, ResetWaits};
 ghost use Rattle.dvg_calls_cells.specs.Shown.{ShowsParts};
 ghost use Rattle.dvg_calls_cells.specs.Steps.{CellsStep};
 
@@ -23,10 +24,10 @@ pub fn cells_step()
     ensures { CellsStep }
 {}
 
-/// For every run of the cells since power-up, whose processor calls the driver's routines, and
-/// else writes neither the vector RAM nor the strobe: there is a log that its clocks make; it is
-/// legal and keeps the headline, and the RAM holds what it says. What the program reads by itself
-/// isn't in it, and before the first call it may write the RAM.
+/// For every run of the cells since power-up, whose processor calls the driver's routines, waits
+/// wherever a cycle would begin, and else writes neither the vector RAM nor the strobe: there is a
+/// log that its clocks make; it is legal and keeps the headline, and the RAM holds what it says.
+/// What the program reads by itself isn't in it, and before the first call it may write the RAM.
 pub fn cells_keep()
     ensures { CellsKeep }
 {
@@ -59,18 +60,22 @@ pub fn own_is_quiet()
     ensures nmi { NmiIsQuiet }
 {}
 
-/// A reset is taken between two cycles: in the first clock of one it resets the processor and the
-/// board; in the second clock it does nothing.
+/// A reset is taken between two cycles: in the first clock of one, or where the processor waits, it
+/// resets processor and board; in the second clock neither a reset nor `ready` does anything. Where
+/// a cycle would begin and `ready` is low, the processor stays as it is, and the board goes on.
 pub fn reset_waits()
     ensures ends { CycleEnds }
     ensures takes { ResetTakes }
     ensures waits { ResetWaits }
+    ensures processor { CpuWaits }
 {}
 
-/// A run can always go on: by a cycle of the program, whatever its pins are, and by the next
-/// instruction of a call, if the board's answers are what the call has.
+/// A run can always go on: by a cycle of the program, whatever its pins are, by a clock in which
+/// the processor waits, and by the next instruction of a call, if the board's answers are what the
+/// call has.
 pub fn goes_on()
     ensures alone { CellsGoOn }
+    ensures waits { CellsWaitOn }
     ensures calls { CallGoesOn }
 {}
 

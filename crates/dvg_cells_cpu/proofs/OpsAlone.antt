@@ -87,6 +87,10 @@ pub obeys_D8 : Obeys1 0xD8 (Set Decimal false)
 obeys_D8 cpu ir low high back was sound is m0 e =
     (record { rests = record { holds = record { a = refl; x = refl; y = refl; s = refl; pc = pc1 cpu sound; n = refl; z = refl; c = refl; v = refl; d = refl; i = refl }; fetches = refl }; news = []; log = refl; bus = tail1 cpu sound 0xD8 is; memory = refl; opcode = (refl, tt) })
 
+pub obeys_F8 : Obeys1 0xF8 (Set Decimal true)
+obeys_F8 cpu ir low high back was sound is m0 e =
+    (record { rests = record { holds = record { a = refl; x = refl; y = refl; s = refl; pc = pc1 cpu sound; n = refl; z = refl; c = refl; v = refl; d = refl; i = refl }; fetches = refl }; news = []; log = refl; bus = tail1 cpu sound 0xF8 is; memory = refl; opcode = (refl, tt) })
+
 pub obeys_10 : Obeys2 0x10 (Branch Negative false)
 obeys_10 cpu ir low high back was sound is m0 m1 d1 e =
     by_first cpu sound (λ d1. Goes (Branch Negative false) cpu (resting cpu ir low high back was) (cy m0 0x10 ∷ cy m1 d1 ∷ []))

@@ -315,9 +315,6 @@ module _ (cpu : Cpu) (ir low high back was m : ℕ) where
   stays_F7 : Stays 0xF7
   stays_F7 = record { holds = record { a = refl; x = refl; y = refl; s = refl; pc = refl; n = refl; z = refl; c = refl; v = refl; d = refl; i = refl }; fetches = refl }
 
-  stays_F8 : Stays 0xF8
-  stays_F8 = record { holds = record { a = refl; x = refl; y = refl; s = refl; pc = refl; n = refl; z = refl; c = refl; v = refl; d = refl; i = refl }; fetches = refl }
-
   stays_FA : Stays 0xFA
   stays_FA = record { holds = record { a = refl; x = refl; y = refl; s = refl; pc = refl; n = refl; z = refl; c = refl; v = refl; d = refl; i = refl }; fetches = refl }
 
@@ -335,4 +332,4 @@ module _ (cpu : Cpu) (ir low high back was m : ℕ) where
   Below (suc n) = (decoded opcodes n ≡ Unknown → Stays n) × Below n
 
   pub all_stay : Below 256
-  all_stay = ((λ e. stays_FF), ((λ e. absurd (cc)), ((λ e. absurd (cc)), ((λ e. stays_FC), ((λ e. stays_FB), ((λ e. stays_FA), ((λ e. absurd (cc)), ((λ e. stays_F8), ((λ e. stays_F7), ((λ e. absurd (cc)), ((λ e. absurd (cc)), ((λ e. stays_F4), ((λ e. stays_F3), ((λ e. stays_F2), ((λ e. absurd (cc)), ((λ e. absurd (cc)), ((λ e. stays_EF), ((λ e. absurd (cc)), ((λ e. absurd (cc)), ((λ e. absurd (cc)), ((λ e. stays_EB), ((λ e. absurd (cc)), ((λ e. absurd (cc)), ((λ e. absurd (cc)), ((λ e. stays_E7), ((λ e. absurd (cc)), ((λ e. absurd (cc)), ((λ e. absurd (cc)), ((λ e. stays_E3), ((λ e. stays_E2), ((λ e. absurd (cc)), ((λ e. absurd (cc)), ((λ e. stays_DF), ((λ e. absurd (cc)), ((λ e. absurd (cc)), ((λ e. stays_DC), ((λ e. stays_DB), ((λ e. stays_DA), ((λ e. absurd (cc)), ((λ e. absurd (cc)), ((λ e. stays_D7), ((λ e. absurd (cc)), ((λ e. absurd (cc)), ((λ e. stays_D4), ((λ e. stays_D3), ((λ e. stays_D2), ((λ e. absurd (cc)), ((λ e. absurd (cc)), ((λ e. stays_CF), ((λ e. absurd (cc)), ((λ e. absurd (cc)), ((λ e. absurd (cc)), ((λ e. stays_CB), ((λ e. absurd (cc)), ((λ e. absurd (cc)), ((λ e. absurd (cc)), ((λ e. stays_C7), ((λ e. absurd (cc)), ((λ e. absurd (cc)), ((λ e. absurd (cc)), ((λ e. stays_C3), ((λ e. stays_C2), ((λ e. absurd (cc)), ((λ e. absurd (cc)), ((λ e. stays_BF), ((λ e. absurd (cc)), ((λ e. absurd (cc)), ((λ e. absurd (cc)), ((λ e. stays_BB), ((λ e. absurd (cc)), ((λ e. absurd (cc)), ((λ e. absurd (cc)), ((λ e. stays_B7), ((λ e. absurd (cc)), ((λ e. absurd (cc)), ((λ e. absurd (cc)), ((λ e. stays_B3), ((λ e. stays_B2), ((λ e. absurd (cc)), ((λ e. absurd (cc)), ((λ e. stays_AF), ((λ e. absurd (cc)), ((λ e. absurd (cc)), ((λ e. absurd (cc)), ((λ e. stays_AB), ((λ e. absurd (cc)), ((λ e. absurd (cc)), ((λ e. absurd (cc)), ((λ e. stays_A7), ((λ e. absurd (cc)), ((λ e. absurd (cc)), ((λ e. absurd (cc)), ((λ e. stays_A3), ((λ e. absurd (cc)), ((λ e. absurd (cc)), ((λ e. absurd (cc)), ((λ e. stays_9F), ((λ e. stays_9E), ((λ e. absurd (cc)), ((λ e. stays_9C), ((λ e. stays_9B), ((λ e. absurd (cc)), ((λ e. absurd (cc)), ((λ e. absurd (cc)), ((λ e. stays_97), ((λ e. absurd (cc)), ((λ e. absurd (cc)), ((λ e. absurd (cc)), ((λ e. stays_93), ((λ e. stays_92), ((λ e. absurd (cc)), ((λ e. absurd (cc)), ((λ e. stays_8F), ((λ e. absurd (cc)), ((λ e. absurd (cc)), ((λ e. absurd (cc)), ((λ e. stays_8B), ((λ e. absurd (cc)), ((λ e. stays_89), ((λ e. absurd (cc)), ((λ e. stays_87), ((λ e. absurd (cc)), ((λ e. absurd (cc)), ((λ e. absurd (cc)), ((λ e. stays_83), ((λ e. stays_82), ((λ e. absurd (cc)), ((λ e. stays_80), ((λ e. stays_7F), ((λ e. absurd (cc)), ((λ e. absurd (cc)), ((λ e. stays_7C), ((λ e. stays_7B), ((λ e. stays_7A), ((λ e. absurd (cc)), ((λ e. absurd (cc)), ((λ e. stays_77), ((λ e. absurd (cc)), ((λ e. absurd (cc)), ((λ e. stays_74), ((λ e. stays_73), ((λ e. stays_72), ((λ e. absurd (cc)), ((λ e. absurd (cc)), ((λ e. stays_6F), ((λ e. absurd (cc)), ((λ e. absurd (cc)), ((λ e. absurd (cc)), ((λ e. stays_6B), ((λ e. absurd (cc)), ((λ e. absurd (cc)), ((λ e. absurd (cc)), ((λ e. stays_67), ((λ e. absurd (cc)), ((λ e. absurd (cc)), ((λ e. stays_64), ((λ e. stays_63), ((λ e. stays_62), ((λ e. absurd (cc)), ((λ e. absurd (cc)), ((λ e. stays_5F), ((λ e. absurd (cc)), ((λ e. absurd (cc)), ((λ e. stays_5C), ((λ e. stays_5B), ((λ e. stays_5A), ((λ e. absurd (cc)), ((λ e. absurd (cc)), ((λ e. stays_57), ((λ e. absurd (cc)), ((λ e. absurd (cc)), ((λ e. stays_54), ((λ e. stays_53), ((λ e. stays_52), ((λ e. absurd (cc)), ((λ e. absurd (cc)), ((λ e. stays_4F), ((λ e. absurd (cc)), ((λ e. absurd (cc)), ((λ e. absurd (cc)), ((λ e. stays_4B), ((λ e. absurd (cc)), ((λ e. absurd (cc)), ((λ e. absurd (cc)), ((λ e. stays_47), ((λ e. absurd (cc)), ((λ e. absurd (cc)), ((λ e. stays_44), ((λ e. stays_43), ((λ e. stays_42), ((λ e. absurd (cc)), ((λ e. absurd (cc)), ((λ e. stays_3F), ((λ e. absurd (cc)), ((λ e. absurd (cc)), ((λ e. stays_3C), ((λ e. stays_3B), ((λ e. stays_3A), ((λ e. absurd (cc)), ((λ e. absurd (cc)), ((λ e. stays_37), ((λ e. absurd (cc)), ((λ e. absurd (cc)), ((λ e. stays_34), ((λ e. stays_33), ((λ e. stays_32), ((λ e. absurd (cc)), ((λ e. absurd (cc)), ((λ e. stays_2F), ((λ e. absurd (cc)), ((λ e. absurd (cc)), ((λ e. absurd (cc)), ((λ e. stays_2B), ((λ e. absurd (cc)), ((λ e. absurd (cc)), ((λ e. absurd (cc)), ((λ e. stays_27), ((λ e. absurd (cc)), ((λ e. absurd (cc)), ((λ e. absurd (cc)), ((λ e. stays_23), ((λ e. stays_22), ((λ e. absurd (cc)), ((λ e. absurd (cc)), ((λ e. stays_1F), ((λ e. absurd (cc)), ((λ e. absurd (cc)), ((λ e. stays_1C), ((λ e. stays_1B), ((λ e. stays_1A), ((λ e. absurd (cc)), ((λ e. absurd (cc)), ((λ e. stays_17), ((λ e. absurd (cc)), ((λ e. absurd (cc)), ((λ e. stays_14), ((λ e. stays_13), ((λ e. stays_12), ((λ e. absurd (cc)), ((λ e. absurd (cc)), ((λ e. stays_0F), ((λ e. absurd (cc)), ((λ e. absurd (cc)), ((λ e. stays_0C), ((λ e. stays_0B), ((λ e. absurd (cc)), ((λ e. absurd (cc)), ((λ e. absurd (cc)), ((λ e. stays_07), ((λ e. absurd (cc)), ((λ e. absurd (cc)), ((λ e. stays_04), ((λ e. stays_03), ((λ e. stays_02), ((λ e. absurd (cc)), ((λ e. stays_00), tt))))))))))))))))))))))))))))))))))))))))))))))))))))))))))))))))))))))))))))))))))))))))))))))))))))))))))))))))))))))))))))))))))))))))))))))))))))))))))))))))))))))))))))))))))))))))))))))))))))))))))))))))))))))))))))))))))))))))))))))))))))))))))))))))
+  all_stay = ((λ e. stays_FF), ((λ e. absurd (cc)), ((λ e. absurd (cc)), ((λ e. stays_FC), ((λ e. stays_FB), ((λ e. stays_FA), ((λ e. absurd (cc)), ((λ e. absurd (cc)), ((λ e. stays_F7), ((λ e. absurd (cc)), ((λ e. absurd (cc)), ((λ e. stays_F4), ((λ e. stays_F3), ((λ e. stays_F2), ((λ e. absurd (cc)), ((λ e. absurd (cc)), ((λ e. stays_EF), ((λ e. absurd (cc)), ((λ e. absurd (cc)), ((λ e. absurd (cc)), ((λ e. stays_EB), ((λ e. absurd (cc)), ((λ e. absurd (cc)), ((λ e. absurd (cc)), ((λ e. stays_E7), ((λ e. absurd (cc)), ((λ e. absurd (cc)), ((λ e. absurd (cc)), ((λ e. stays_E3), ((λ e. stays_E2), ((λ e. absurd (cc)), ((λ e. absurd (cc)), ((λ e. stays_DF), ((λ e. absurd (cc)), ((λ e. absurd (cc)), ((λ e. stays_DC), ((λ e. stays_DB), ((λ e. stays_DA), ((λ e. absurd (cc)), ((λ e. absurd (cc)), ((λ e. stays_D7), ((λ e. absurd (cc)), ((λ e. absurd (cc)), ((λ e. stays_D4), ((λ e. stays_D3), ((λ e. stays_D2), ((λ e. absurd (cc)), ((λ e. absurd (cc)), ((λ e. stays_CF), ((λ e. absurd (cc)), ((λ e. absurd (cc)), ((λ e. absurd (cc)), ((λ e. stays_CB), ((λ e. absurd (cc)), ((λ e. absurd (cc)), ((λ e. absurd (cc)), ((λ e. stays_C7), ((λ e. absurd (cc)), ((λ e. absurd (cc)), ((λ e. absurd (cc)), ((λ e. stays_C3), ((λ e. stays_C2), ((λ e. absurd (cc)), ((λ e. absurd (cc)), ((λ e. stays_BF), ((λ e. absurd (cc)), ((λ e. absurd (cc)), ((λ e. absurd (cc)), ((λ e. stays_BB), ((λ e. absurd (cc)), ((λ e. absurd (cc)), ((λ e. absurd (cc)), ((λ e. stays_B7), ((λ e. absurd (cc)), ((λ e. absurd (cc)), ((λ e. absurd (cc)), ((λ e. stays_B3), ((λ e. stays_B2), ((λ e. absurd (cc)), ((λ e. absurd (cc)), ((λ e. stays_AF), ((λ e. absurd (cc)), ((λ e. absurd (cc)), ((λ e. absurd (cc)), ((λ e. stays_AB), ((λ e. absurd (cc)), ((λ e. absurd (cc)), ((λ e. absurd (cc)), ((λ e. stays_A7), ((λ e. absurd (cc)), ((λ e. absurd (cc)), ((λ e. absurd (cc)), ((λ e. stays_A3), ((λ e. absurd (cc)), ((λ e. absurd (cc)), ((λ e. absurd (cc)), ((λ e. stays_9F), ((λ e. stays_9E), ((λ e. absurd (cc)), ((λ e. stays_9C), ((λ e. stays_9B), ((λ e. absurd (cc)), ((λ e. absurd (cc)), ((λ e. absurd (cc)), ((λ e. stays_97), ((λ e. absurd (cc)), ((λ e. absurd (cc)), ((λ e. absurd (cc)), ((λ e. stays_93), ((λ e. stays_92), ((λ e. absurd (cc)), ((λ e. absurd (cc)), ((λ e. stays_8F), ((λ e. absurd (cc)), ((λ e. absurd (cc)), ((λ e. absurd (cc)), ((λ e. stays_8B), ((λ e. absurd (cc)), ((λ e. stays_89), ((λ e. absurd (cc)), ((λ e. stays_87), ((λ e. absurd (cc)), ((λ e. absurd (cc)), ((λ e. absurd (cc)), ((λ e. stays_83), ((λ e. stays_82), ((λ e. absurd (cc)), ((λ e. stays_80), ((λ e. stays_7F), ((λ e. absurd (cc)), ((λ e. absurd (cc)), ((λ e. stays_7C), ((λ e. stays_7B), ((λ e. stays_7A), ((λ e. absurd (cc)), ((λ e. absurd (cc)), ((λ e. stays_77), ((λ e. absurd (cc)), ((λ e. absurd (cc)), ((λ e. stays_74), ((λ e. stays_73), ((λ e. stays_72), ((λ e. absurd (cc)), ((λ e. absurd (cc)), ((λ e. stays_6F), ((λ e. absurd (cc)), ((λ e. absurd (cc)), ((λ e. absurd (cc)), ((λ e. stays_6B), ((λ e. absurd (cc)), ((λ e. absurd (cc)), ((λ e. absurd (cc)), ((λ e. stays_67), ((λ e. absurd (cc)), ((λ e. absurd (cc)), ((λ e. stays_64), ((λ e. stays_63), ((λ e. stays_62), ((λ e. absurd (cc)), ((λ e. absurd (cc)), ((λ e. stays_5F), ((λ e. absurd (cc)), ((λ e. absurd (cc)), ((λ e. stays_5C), ((λ e. stays_5B), ((λ e. stays_5A), ((λ e. absurd (cc)), ((λ e. absurd (cc)), ((λ e. stays_57), ((λ e. absurd (cc)), ((λ e. absurd (cc)), ((λ e. stays_54), ((λ e. stays_53), ((λ e. stays_52), ((λ e. absurd (cc)), ((λ e. absurd (cc)), ((λ e. stays_4F), ((λ e. absurd (cc)), ((λ e. absurd (cc)), ((λ e. absurd (cc)), ((λ e. stays_4B), ((λ e. absurd (cc)), ((λ e. absurd (cc)), ((λ e. absurd (cc)), ((λ e. stays_47), ((λ e. absurd (cc)), ((λ e. absurd (cc)), ((λ e. stays_44), ((λ e. stays_43), ((λ e. stays_42), ((λ e. absurd (cc)), ((λ e. absurd (cc)), ((λ e. stays_3F), ((λ e. absurd (cc)), ((λ e. absurd (cc)), ((λ e. stays_3C), ((λ e. stays_3B), ((λ e. stays_3A), ((λ e. absurd (cc)), ((λ e. absurd (cc)), ((λ e. stays_37), ((λ e. absurd (cc)), ((λ e. absurd (cc)), ((λ e. stays_34), ((λ e. stays_33), ((λ e. stays_32), ((λ e. absurd (cc)), ((λ e. absurd (cc)), ((λ e. stays_2F), ((λ e. absurd (cc)), ((λ e. absurd (cc)), ((λ e. absurd (cc)), ((λ e. stays_2B), ((λ e. absurd (cc)), ((λ e. absurd (cc)), ((λ e. absurd (cc)), ((λ e. stays_27), ((λ e. absurd (cc)), ((λ e. absurd (cc)), ((λ e. absurd (cc)), ((λ e. stays_23), ((λ e. stays_22), ((λ e. absurd (cc)), ((λ e. absurd (cc)), ((λ e. stays_1F), ((λ e. absurd (cc)), ((λ e. absurd (cc)), ((λ e. stays_1C), ((λ e. stays_1B), ((λ e. stays_1A), ((λ e. absurd (cc)), ((λ e. absurd (cc)), ((λ e. stays_17), ((λ e. absurd (cc)), ((λ e. absurd (cc)), ((λ e. stays_14), ((λ e. stays_13), ((λ e. stays_12), ((λ e. absurd (cc)), ((λ e. absurd (cc)), ((λ e. stays_0F), ((λ e. absurd (cc)), ((λ e. absurd (cc)), ((λ e. stays_0C), ((λ e. stays_0B), ((λ e. absurd (cc)), ((λ e. absurd (cc)), ((λ e. absurd (cc)), ((λ e. stays_07), ((λ e. absurd (cc)), ((λ e. absurd (cc)), ((λ e. stays_04), ((λ e. stays_03), ((λ e. stays_02), ((λ e. absurd (cc)), ((λ e. stays_00), tt))))))))))))))))))))))))))))))))))))))))))))))))))))))))))))))))))))))))))))))))))))))))))))))))))))))))))))))))))))))))))))))))))))))))))))))))))))))))))))))))))))))))))))))))))))))))))))))))))))))))))))))))))))))))))))))))))))))))))))))))))))))))))))))))

@@ -1,5 +1,5 @@
 -- A vector of the motion, clock by clock.
-use Rattle.std.proofs.Common.{◌≡◌, ℕ, zero, suc, ◌+◌, ◌-◌, ◌*◌, ◌%◌, ◌^◌, ◌<◌, ◌≤◌, Bool, true, false, pos}
+use Rattle.std.proofs.Common.{◌≡◌, ℕ, zero, suc, ◌+◌, ◌*◌, ◌%◌, ◌^◌, ◌<◌, ◌≤◌, Bool, true, false, pos}
 use Rattle.std.proofs.Common.{◌*ℤ◌, neg_ℤ, List, [], ◌∷◌, refl, sym, ap, ◌∙◌, arith, cond, ltb, leb}
 use Rattle.std.specs.Prelude.{nat_eq, nat_le, All, not}
 use Rattle.std.proofs.lemmas.Bool.{agree_below_at, ltb-true, ltb-false, leb-true, eqb-true, ne_eqb, eq-eqb, lt-ltb, le-ltb}

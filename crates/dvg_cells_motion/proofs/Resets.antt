@@ -10,15 +10,15 @@ use Rattle.dvg_gen.specs.declared.counters.Counters.{Counters}
 use Rattle.dvg_cells_board.specs.Board as board
 use Rattle.dvg_cells_motion.specs.Motion.{going}
 use Rattle.dvg_cells_motion.specs.Pace.{hold}
-use Rattle.dvg_cells_motion.specs.Vectors.{Vectors, Bus, halted}
-use Rattle.dvg_cells_motion.specs.Machine.{IsBus, AreBytes, AreIdle, after, core_pins, own_ticks, ticks}
+use Rattle.dvg_cells_motion.specs.Vectors.{Vectors, Bus, drives_board, halted}
+use Rattle.dvg_cells_motion.specs.Machine.{IsBus, AreBytes, AreIdle, StartTakes, after, core_pins, own_ticks, ticks, vector_left}
 use Rattle.dvg_cells_motion.specs.Times.{left_ticks, StartsNone, ResetDraws}
 use Rattle.dvg_cells_motion.proofs.Machine.{Phase, rests, runs, waits, all_run, both_none, mux_same, unserved, stays, held_rests, none_is}
 use Rattle.dvg_cells_motion.proofs.Pictures.{both_is_zero, none_or}
 use Rattle.dvg_cells_motion.proofs.Tied as tied_clocks
 use Rattle.dvg_cells_motion.proofs.Tied.{Beside, driven, core_after, IsIdle}
 use Rattle.dvg_cells_motion.proofs.Timing.{Times, later_times, gone, gone_le, gone_ge, own_few, none_more, ne_more, ne_same, down, mux_more}
-use Rattle.dvg_cells_motion.proofs.Wiring.{tied, tied_later, tied_both, beside_of, beside_is, wired, all_older, ticks_same, idle_all}
+use Rattle.dvg_cells_motion.proofs.Wiring.{held_same, starts_in, tied, tied_later, tied_both, beside_of, beside_is, wired, all_older, ticks_same, idle_all}
 use Rattle.dvg_cells_board.proofs.Wires.{takes_none}
 
 -- a vector is over, or it goes, and no LABS waits
@@ -227,3 +227,32 @@ module _ (held : ℕ → ℕ) (bytes : AreBytes held) (clocks : List Bus) (bus :
 
 pub reset_draws_law : ResetDraws
 reset_draws_law held bytes clocks bus later all reset none_more = draws held bytes clocks bus reset later all none_more
+
+-- after a start, also amid a vector
+pub start_takes_law : StartTakes
+start_takes_law held bytes clocks bus later all starts idle =
+    let v = after held clocks in
+    let here = all_older held bytes later (bus ∷ clocks) all in
+    let before = wired held bytes clocks (All-tail IsBus bus clocks here) in
+    let begins = starts_in held bytes v.board (drives_board v bus) before.sound.starting starts in
+    let older = tied held bytes (bus ∷ clocks) in
+    let beside = tied_clocks.after older in
+    let own : beside.pace.left ≡ 1 = starts_left held bytes clocks bus begins.0 begins.1 in
+    let off : beside.pace.ready ≡ 0 = starts_off held bytes clocks bus begins.0 begins.1 in
+    let goes = by_phase _ _ _ (all_run older (wired held bytes (bus ∷ clocks) here).served).led.phase in
+    let times = later_times older _ _ _ (few older) (begun beside off goes) (tied_later held bytes (bus ∷ clocks) later)
+    (idle_all held bytes (bus ∷ clocks) later all idle) in
+    held_same held bytes later bus clocks ∙ times.ready
+    ∙ ap (λ n. bit (leb n (left_of beside))) (ticks_same held bytes later (bus ∷ clocks))
+    ∙ ap (λ n. bit (leb (ticks later) (n + vector_left beside.motion))) own
+    ∙ ap (λ (b : Beside). bit (leb (ticks later) (1 + vector_left b.motion))) (sym (beside_is held bytes (bus ∷ clocks)))
+  where
+    starts_left : (held : ℕ → ℕ) (bytes : AreBytes held) (clocks : List Bus) (bus : Bus)
+        → (core_pins (after held clocks) bus).reset ≡ 0 → (core_pins (after held clocks) bus).start ≡ 1
+        → (tied_clocks.after (tied held bytes (bus ∷ clocks))).pace.left ≡ 1
+    starts_left held bytes clocks bus reset start = rw reset (rw start refl)
+
+    starts_off : (held : ℕ → ℕ) (bytes : AreBytes held) (clocks : List Bus) (bus : Bus)
+        → (core_pins (after held clocks) bus).reset ≡ 0 → (core_pins (after held clocks) bus).start ≡ 1
+        → (tied_clocks.after (tied held bytes (bus ∷ clocks))).pace.ready ≡ 0
+    starts_off held bytes clocks bus reset start = rw reset (rw start refl)

@@ -18,7 +18,7 @@ use Rattle.dvg_cells_motion.specs.Pulses.{time}
 use Rattle.dvg_cells_motion.proofs.Tied.{Bus, Beside, paced, driven, cores, core_after, after, AtRest, AreServed, IsIdle, ticks_of, TakesTime}
 use Rattle.dvg_cells_motion.specs.Machine.{own_ticks, vector_ticks}
 use Rattle.dvg_cells_motion.proofs.Moves.{last_is, time_small}
-use Rattle.dvg_cells_motion.proofs.Machine.{unserved, in_start, both_none, mux_same, stays, held_rests}
+use Rattle.dvg_cells_motion.proofs.Machine.{unserved, both_none, mux_same, stays, held_rests}
 
 -- the count of a vector that began at this one, of which so many ticks are to come
 abbrev pub gone : ℕ → ℕ → ℕ
@@ -273,22 +273,3 @@ takes_time_tied clocks bus later are valid reset start idle =
     let own = own_ticks (jsrl (core_after clocks) bus.pins) (ends (core_after clocks) bus.pins) in
     (later_times (bus ∷ clocks) own (vector_ticks (vec (core_after clocks) bus.pins) (core.sum (core_after clocks) bus.pins)) begun.0
     (own_few (jsrl (core_after clocks) bus.pins) (ends (core_after clocks) bus.pins)) begun.1 later idle).ready
-
--- a start at rest
-pub start_takes_tied : (clocks : List Bus) (bus : Bus) (later : List Bus) → AreServed (bus ∷ clocks) → bus.pins.reset ≡ 0 → bus.pins.start ≡ 1
-    → AtRest (after clocks) → All IsIdle later → hold (after (later ++ bus ∷ clocks)).pace ≡ bit (nat_le (ticks_of later) 1)
-start_takes_tied clocks bus later are reset start rest idle =
-    let quiet = in_start (core_after clocks) bus.pins start in
-    let off = rest.1 in
-    let no_place : (driven (core_after clocks) (after clocks) bus).places ≡ 0 = rw off (both_none bus.tick) in
-    let same = stays (after clocks).motion (driven (core_after clocks) (after clocks) bus) no_place quiet.0 rest.0 in
-    let base_is : (after clocks).motion.last ≡ (after clocks).motion.last + 0 = omega arith in
-    let none_more_left : gone 0 (0 - 1) ≡ 0 = gone_ge 0 (0 - 1) (omega arith) in
-    let begun : Times (after (bus ∷ clocks)) 1 0 (after clocks).motion.last 0 = record {
-      left = rw reset (rw start refl);
-      ready = rw reset (rw start refl);
-      last = ap (λ m. m.last) same ∙ base_is;
-      count = ap (λ m. m.count) same ∙ rest.0 ∙ base_is ∙ ap (λ n. (after clocks).motion.last + n) (sym none_more_left);
-      kind = inl refl;
-    } in
-    (later_times (bus ∷ clocks) 1 0 (after clocks).motion.last (omega arith) begun later idle).ready

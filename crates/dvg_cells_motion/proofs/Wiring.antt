@@ -19,12 +19,12 @@ use Rattle.dvg_cells_motion.specs.Pace.{hold}
 use Rattle.dvg_cells_motion.specs.Pace as pace
 use Rattle.dvg_cells_motion.specs.Vectors.{Vectors, Bus, halted, drives_board}
 use Rattle.dvg_cells_motion.specs.Pulses.{counters_of}
-use Rattle.dvg_cells_motion.specs.Machine.{IsBus, AreBytes, AtRest, after, core_pins, cores, Follows, MachineFollows, HaltedTells, AreIdle, ticks, ticks_of_byte}
-use Rattle.dvg_cells_motion.specs.Machine.{own_ticks, vector_ticks, TakesTime, StartTakes}
+use Rattle.dvg_cells_motion.specs.Machine.{IsBus, AreBytes, after, core_pins, cores, Follows, MachineFollows, HaltedTells, AreIdle, ticks, ticks_of_byte}
+use Rattle.dvg_cells_motion.specs.Machine.{own_ticks, vector_ticks, TakesTime}
 use Rattle.dvg_cells_motion.proofs.Tied.{Beside, paced, driven, core_after, AreServed, IsServed, IsIdle, ticks_of}
 use Rattle.dvg_cells_motion.proofs.Tied as tied_clocks
-use Rattle.dvg_cells_motion.proofs.Machine.{both_none, both_small, going_of, over_of, held_rests, follows_tied, both_one}
-use Rattle.dvg_cells_motion.proofs.Timing.{mux_more, takes_time_tied, start_takes_tied, none_more as more_none}
+use Rattle.dvg_cells_motion.proofs.Machine.{both_none, both_small, going_of, held_rests, follows_tied, both_one}
+use Rattle.dvg_cells_motion.proofs.Timing.{mux_more, takes_time_tied, none_more as more_none}
 use Rattle.dvg_cells_motion.proofs.Machine.{zero_or}
 
 -- numbers of one bit
@@ -274,7 +274,7 @@ module _ (held : ℕ → ℕ) (bytes : AreBytes held) where
       (idle_all older later (All-tail IsBus bus (later ++ older) all) idle.3)
 
   -- what the tied clocks hold, the whole machine holds
-  held_same : (later : List Bus) (bus : Bus) (clocks : List Bus)
+  pub held_same : (later : List Bus) (bus : Bus) (clocks : List Bus)
       → hold (after held (later ++ bus ∷ clocks)).pace
       ≡ hold (tied_clocks.after (tied_later (bus ∷ clocks) later ++ tied_bus (after held clocks) bus ∷ tied clocks)).pace
   held_same later bus clocks =
@@ -313,21 +313,6 @@ module _ (held : ℕ → ℕ) (bytes : AreBytes held) where
       ∙ ap (λ c. bit (nat_le (ticks later) (own_ticks (core.jsrl c pins) (core.ends c pins) + vector_ticks (core.vec c pins) (core.sum c pins))))
       (sym (core_is clocks))
 
-  start_times : (clocks : List Bus) (bus : Bus) (later : List Bus) → All IsBus (later ++ bus ∷ clocks)
-      → board.starts (after held clocks).board (drives_board (after held clocks) bus) ≡ 1
-      → AtRest (after held clocks).pace (after held clocks).motion → AreIdle held (bus ∷ clocks) later
-      → hold (after held (later ++ bus ∷ clocks)).pace ≡ bit (nat_le (ticks later) 1)
-  start_times clocks bus later all starts rest idle =
-      let v = after held clocks in
-      let newer = all_older later (bus ∷ clocks) all in
-      let was = wired (bus ∷ clocks) newer in
-      let before = wired clocks (All-tail IsBus bus clocks newer) in
-      let started = starts_in v.board (drives_board v bus) before.sound.starting starts in
-      let tied_rest : tied_clocks.AtRest (tied_clocks.after (tied clocks)) = subst tied_clocks.AtRest (beside_is clocks) (over_of v.motion rest.0, rest.1) in
-      let is = start_takes_tied (tied clocks) (tied_bus v bus) (tied_later (bus ∷ clocks) later) was.served started.0 started.1 tied_rest
-      (idle_all (bus ∷ clocks) later all idle) in
-      held_same later bus clocks ∙ is ∙ ap (λ n. bit (nat_le n 1)) (ticks_same later (bus ∷ clocks))
-
   halts : (clocks : List Bus) → All IsBus clocks → halted (after held clocks) ≡ 1
       → (is : Follows (cores held clocks) (after held clocks).pace (after held clocks).motion)
       × (is.agrees.run.is_open ≡ false)
@@ -353,6 +338,3 @@ halted_tells_law held bytes clocks all high = halts held bytes clocks all high
 
 pub takes_time_law : TakesTime
 takes_time_law held bytes clocks bus later all takes idle = times held bytes clocks bus later all takes idle
-
-pub start_takes_law : StartTakes
-start_takes_law held bytes clocks bus later all starts rest idle = start_times held bytes clocks bus later all starts rest idle

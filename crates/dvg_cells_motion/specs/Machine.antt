@@ -1,5 +1,5 @@
 -- The whole machine of core/dvg_vectors.v: where its counters are, and how long its bytes take.
-use Rattle.std.specs.Prelude.{ℕ, ◌+◌, ◌≡◌, ◌<◌, ◌≤◌, ◌⊎◌, nat_eq, nat_le, if◌then◌else◌, false, All, List, [], ◌∷◌, ◌++◌}
+use Rattle.std.specs.Prelude.{ℕ, ◌+◌, ◌-◌, ◌≡◌, ◌<◌, ◌⊎◌, nat_eq, nat_le, if◌then◌else◌, false, All, List, [], ◌∷◌, ◌++◌}
 use Rattle.dvg_gen.specs.declared.counters.Counters.{Counters}
 use Rattle.dvg_gen.specs.Counting.{followed_all}
 use Rattle.dvg_cells_core.specs.Cells.{bit, mux}
@@ -110,9 +110,13 @@ TakesTime = (held : ℕ → ℕ) → AreBytes held → (clocks : List Bus) (bus 
     → hold (after held (later ++ bus ∷ clocks)).pace
     ≡ bit (nat_le (ticks later) (ticks_of_byte (after held clocks) bus))
 
--- and after a start at rest, until two ticks came: one is its own
+-- the ticks that a vector which goes has left
+abbrev pub vector_left : Motion → ℕ
+vector_left motion = motion.last - motion.count
+
+-- and after a start, also amid a vector, until two ticks came, and those that the vector had left: one is its own
 abbrev pub StartTakes : Type 0
 StartTakes = (held : ℕ → ℕ) → AreBytes held → (clocks : List Bus) (bus : Bus) (later : List Bus)
     → All IsBus (later ++ bus ∷ clocks) → board.starts (after held clocks).board (drives_board (after held clocks) bus) ≡ 1
-    → AtRest (after held clocks).pace (after held clocks).motion → AreIdle held (bus ∷ clocks) later
-    → hold (after held (later ++ bus ∷ clocks)).pace ≡ bit (nat_le (ticks later) 1)
+    → AreIdle held (bus ∷ clocks) later → hold (after held (later ++ bus ∷ clocks)).pace
+    ≡ bit (nat_le (ticks later) (1 + vector_left (after held (bus ∷ clocks)).motion))

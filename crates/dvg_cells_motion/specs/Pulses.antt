@@ -1,8 +1,7 @@
 -- The pulses of a rate multiplier, where they lead, and that the motion goes by them.
-use Rattle.std.specs.Prelude.{ℕ, zero, suc, ◌+◌, ◌-◌, ◌*◌, ◌/◌, ◌^◌, ◌%◌, ◌≡◌, ◌<◌, ◌≤◌, ℤ, pos, ◌*ℤ◌, List, [], ◌∷◌, Bool, true, false, All, nat_eq, nat_lt, if◌then◌else◌}
+use Rattle.std.specs.Prelude.{ℕ, zero, suc, ◌+◌, ◌-◌, ◌*◌, ◌/◌, ◌^◌, ◌%◌, ◌≡◌, ◌<◌, ◌≤◌, pos, ◌*ℤ◌, List, [], ◌∷◌, Bool, true, false, All, nat_eq, nat_lt, if◌then◌else◌}
 use Rattle.dvg_code.specs.Fields.{signed}
 use Rattle.dvg_code.specs.Ranges.{InRange}
-use Rattle.dvg_code.specs.declared.instr.Instr.{Instr}
 use Rattle.dvg_code.specs.declared.instr.Instr.TheVariants.{Vctr, Svec}
 use Rattle.dvg_gen.specs.declared.beam.Beam.{Beam}
 use Rattle.dvg_gen.specs.declared.counters.Counters.{Counters}

@@ -1,5 +1,5 @@
 -- How many ticks a picture takes: a sum over the instructions of its run.
-use Rattle.std.specs.Prelude.{nat_le, ◌-◌, ℕ, ◌+◌, ◌≡◌, ◌%◌, All, List, [], ◌∷◌, ◌++◌}
+use Rattle.std.specs.Prelude.{nat_le, ℕ, ◌+◌, ◌≡◌, ◌%◌, All, List, [], ◌∷◌, ◌++◌}
 use Rattle.dvg_code.specs.declared.instr.Instr.{Instr}
 use Rattle.dvg_code.specs.declared.instr.Instr.TheVariants.{Vctr, Labs, Jsrl, Svec}
 use Rattle.dvg_gen.specs.declared.beam.Beam.{Beam}
@@ -7,7 +7,7 @@ use Rattle.dvg_gen.specs.Run.{Visit, Finished, beam_after, fate}
 use Rattle.dvg_cells_core.specs.Cells.{bit, both, eq, mux, part}
 use Rattle.dvg_cells_core.specs.Refines.{Agrees}
 use Rattle.dvg_cells_board.specs.Board as board
-use Rattle.dvg_cells_motion.specs.Machine.{IsBus, AreBytes, after, cores, ticks}
+use Rattle.dvg_cells_motion.specs.Machine.{IsBus, AreBytes, after, cores, ticks, vector_left}
 use Rattle.dvg_cells_motion.specs.Pace.{hold}
 use Rattle.dvg_cells_motion.specs.Pulses.{time}
 use Rattle.dvg_cells_motion.specs.Vectors.{Vectors, Bus, halted, drives_board}
@@ -72,7 +72,7 @@ TakesPicture = (held : ℕ → ℕ) → AreBytes held → (clocks : List Bus) (b
 
 -- the own ticks that an instruction has left, and those of its vector
 abbrev pub left_ticks : Vectors → ℕ
-left_ticks vectors = vectors.pace.left + (vectors.motion.last - vectors.motion.count)
+left_ticks vectors = vectors.pace.left + vector_left vectors.motion
 
 -- in each of these later clocks there is no start and no reset
 abbrev pub StartsNone : (ℕ → ℕ) → List Bus → List Bus → Type 0

@@ -65,7 +65,7 @@ pub fn takes_time()
     ensures { TakesTime }
 {}
 
-/// A start at rest has one tick of its own.
+/// A start has one tick of its own; also amid a vector, whose ticks are still to come then.
 pub fn start_takes()
     ensures { StartTakes }
 {}

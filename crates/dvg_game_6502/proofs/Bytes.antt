@@ -8,7 +8,7 @@ use Rattle.dvg_calls_6502.specs.Processor.{Interrupt, Register, A, X, Y, Shift, 
 use Rattle.dvg_calls_6502.specs.Processor.{Load, Store, Transfer, And, Or, Xor, Add, Subtract, Compare, TestBits, Change, Step}
 use Rattle.dvg_calls_6502.specs.Processor.{ShiftAt, ShiftA, Set, Branch, Jump, JumpAt, Call, Return, PushA, PushFlags, PullA}
 use Rattle.dvg_calls_6502.specs.Processor.{PullFlags, FromStack, ToStack, Resume, Pass, Unknown, opcodes, decoded, Cpu}
-use Rattle.dvg_calls_6502.specs.Processor.{put, address, found, flag_place, operand, reading, next, setting, adding}
+use Rattle.dvg_calls_6502.specs.Processor.{put, address, found, flag_place, operand, reading, next, setting, summing, subtracting}
 use Rattle.dvg_calls_6502.specs.Processor.{of_register, flagging, shifted, changing, flags_byte, stack_place, does}
 use Rattle.dvg_calls_6502.proofs.Memory.{put_small}
 use Rattle.dvg_calls_6502.proofs.Resuming.{bit_small}
@@ -40,8 +40,11 @@ flag_bytes Overflow to cpu bytes = record { a = bytes.a; x = bytes.x; y = bytes.
 flag_bytes Decimal to cpu bytes = record { a = bytes.a; x = bytes.x; y = bytes.y; s = bytes.s; mem = bytes.mem }
 flag_bytes Interrupt to cpu bytes = record { a = bytes.a; x = bytes.x; y = bytes.y; s = bytes.s; mem = bytes.mem }
 
-add_bytes : (byte : ℕ) (cpu : Cpu) → AreBytes cpu → AreBytes (adding byte cpu)
-add_bytes byte cpu bytes = record { a = omega arith; x = bytes.x; y = bytes.y; s = bytes.s; mem = bytes.mem }
+sum_bytes : (byte : ℕ) (cpu : Cpu) → AreBytes cpu → AreBytes (summing byte cpu)
+sum_bytes byte cpu bytes = record { a = omega arith; x = bytes.x; y = bytes.y; s = bytes.s; mem = bytes.mem }
+
+difference_bytes : (byte : ℕ) (cpu : Cpu) → AreBytes cpu → AreBytes (subtracting byte cpu)
+difference_bytes byte cpu bytes = record { a = omega arith; x = bytes.x; y = bytes.y; s = bytes.s; mem = bytes.mem }
 
 module _ (cpu : Cpu) (bytes : AreBytes cpu) (flag : cpu.flags 0 < 256) where
   found_small : (a : ℕ) → found a cpu < 256
@@ -107,8 +110,8 @@ module _ (cpu : Cpu) (bytes : AreBytes cpu) (flag : cpu.flags 0 < 256) where
       (or_lt 8 cpu.a (operand mode cpu) bytes.a (operand_small mode)) (reading_bytes mode)
   does_bytes (Xor mode) low = set_bytes A (bit_xor cpu.a (operand mode cpu)) (reading mode cpu)
       (xor_lt 8 cpu.a (operand mode cpu) bytes.a (operand_small mode)) (reading_bytes mode)
-  does_bytes (Add mode) low = add_bytes (operand mode cpu) (reading mode cpu) (reading_bytes mode)
-  does_bytes (Subtract mode) low = add_bytes (255 - operand mode cpu) (reading mode cpu) (reading_bytes mode)
+  does_bytes (Add mode) low = sum_bytes (operand mode cpu) (reading mode cpu) (reading_bytes mode)
+  does_bytes (Subtract mode) low = difference_bytes (255 - operand mode cpu) (reading mode cpu) (reading_bytes mode)
   does_bytes (Compare r mode) low = let now = reading_bytes mode in
       record { a = now.a; x = now.x; y = now.y; s = now.s; mem = now.mem }
   does_bytes (TestBits mode) low = let now = reading_bytes mode in

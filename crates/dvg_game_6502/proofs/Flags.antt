@@ -8,7 +8,7 @@ use Rattle.dvg_calls_6502.specs.Processor.{Interrupt}
 use Rattle.dvg_calls_6502.specs.Processor.{Load, Store, Transfer, And, Or, Xor, Add, Subtract, Compare, TestBits, Change}
 use Rattle.dvg_calls_6502.specs.Processor.{Step}
 use Rattle.dvg_calls_6502.specs.Processor.{ShiftAt, ShiftA, Set, Branch, Jump, JumpAt, Call, Return, PushA, PushFlags, PullA}
-use Rattle.dvg_calls_6502.specs.Processor.{PullFlags, FromStack, ToStack, Resume, Pass, Unknown, adding, address, beside}
+use Rattle.dvg_calls_6502.specs.Processor.{PullFlags, FromStack, ToStack, Resume, Pass, Unknown, summing, subtracting, address, beside}
 use Rattle.dvg_calls_6502.specs.Processor.{carrying}
 use Rattle.dvg_calls_6502.specs.Processor.{flag_place, found, lost, next, of_register, operand, Reads, reading, reads}
 use Rattle.dvg_calls_6502.specs.Processor.{setting, shifted, size, telling, writing}
@@ -185,8 +185,8 @@ module _ (cpu : Cpu) (flags : ℕ → ℕ) where
   opens (And mode) = via mode (λ v k. setting A (bit_and cpu.a v) k) (λ v k. refl)
   opens (Or mode) = via mode (λ v k. setting A (bit_or cpu.a v) k) (λ v k. refl)
   opens (Xor mode) = via mode (λ v k. setting A (bit_xor cpu.a v) k) (λ v k. refl)
-  opens (Add mode) = via mode (λ v k. adding v k) (λ v k. refl)
-  opens (Subtract mode) = via mode (λ v k. adding (255 - v) k) (λ v k. refl)
+  opens (Add mode) = via mode (λ v k. summing v k) (λ v k. refl)
+  opens (Subtract mode) = via mode (λ v k. subtracting (255 - v) k) (λ v k. refl)
   opens (Compare r mode) = compared r mode
   opens (TestBits mode) = via mode
       (λ v k. record k { z = nat_eq (bit_and cpu.a v) 0; n = nat_le 128 v; v = nat_le 64 (v % 128) }) (λ v k. refl)

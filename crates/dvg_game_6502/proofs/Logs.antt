@@ -9,7 +9,7 @@ use Rattle.dvg_calls_6502.specs.Processor.{Interrupt}
 use Rattle.dvg_calls_6502.specs.Processor.{Load, Store, Transfer, And, Or, Xor, Add, Subtract, Compare, TestBits, Change}
 use Rattle.dvg_calls_6502.specs.Processor.{Step}
 use Rattle.dvg_calls_6502.specs.Processor.{ShiftAt, ShiftA, Set, Branch, Jump, JumpAt, Call, Return, PushA, PushFlags, PullA}
-use Rattle.dvg_calls_6502.specs.Processor.{PullFlags, FromStack, ToStack, Resume, Pass, Unknown, adding, address, carrying}
+use Rattle.dvg_calls_6502.specs.Processor.{PullFlags, FromStack, ToStack, Resume, Pass, Unknown, summing, subtracting, address, carrying}
 use Rattle.dvg_calls_6502.specs.Processor.{lost}
 use Rattle.dvg_calls_6502.specs.Processor.{next, of_register, operand, reading, setting, shifted, size, telling, writing}
 
@@ -116,8 +116,8 @@ module _ (cpu : Cpu) where
   passes (And mode) = via mode (λ v k. setting A (bit_and cpu.a v) k) (λ v k. refl)
   passes (Or mode) = via mode (λ v k. setting A (bit_or cpu.a v) k) (λ v k. refl)
   passes (Xor mode) = via mode (λ v k. setting A (bit_xor cpu.a v) k) (λ v k. refl)
-  passes (Add mode) = via mode (λ v k. adding v k) (λ v k. refl)
-  passes (Subtract mode) = via mode (λ v k. adding (255 - v) k) (λ v k. refl)
+  passes (Add mode) = via mode (λ v k. summing v k) (λ v k. refl)
+  passes (Subtract mode) = via mode (λ v k. subtracting (255 - v) k) (λ v k. refl)
   passes (Compare r mode) = compared r mode
   passes (TestBits mode) = via mode
       (λ v k. record k { z = nat_eq (bit_and cpu.a v) 0; n = nat_le 128 v; v = nat_le 64 (v % 128) }) (λ v k. refl)

@@ -1,5 +1,5 @@
 -- The instructions between a reset and the program's start, on the cells.
-use Rattle.std.proofs.Common.{◌≡◌, ℕ, zero, suc, ◌+◌, ◌-◌, ◌*◌, ◌<◌, ◌≤◌, Bool, true, false, List, [], ◌∷◌, ◌++◌, length, refl, sym, ap, ◌∙◌}
+use Rattle.std.proofs.Common.{◌≡◌, ℕ, zero, suc, ◌+◌, ◌-◌, ◌*◌, ◌<◌, ◌≤◌, Bool, true, false, List, [], ◌∷◌, ◌++◌, refl, sym, ap, ◌∙◌}
 use Rattle.std.proofs.Common.{subst, arith, inl, inr, append-nil, eqb-true, leb-true}
 use Rattle.std.specs.Prelude.{◌⊎◌, nat_eq, nat_le, nat_lt, ◌&&◌, if◌then◌else◌, Option, None, Some}
 use Rattle.std.proofs.lemmas.Bool.{ne_eqb}
@@ -20,7 +20,7 @@ use Rattle.dvg_game_rules.proofs.Standing.{Handles, Runs}
 use Rattle.dvg_game_rules.proofs.Safety.{IsBeside, beside_of}
 use Rattle.dvg_game_rules.proofs.Starting.{boot_safe, steps_on}
 use Rattle.dvg_game_rules.proofs.Turning.{rom_inside}
-use Rattle.dvg_calls_cells.specs.Cycles.{Two, IsQuiet, AreQuiet, cycles_of}
+use Rattle.dvg_calls_cells.specs.Cycles.{Two, Turn, acts, IsQuiet, AreQuiet, cycles_of}
 use Rattle.dvg_calls_cells.specs.Steps.{instr_of}
 use Rattle.dvg_calls_cells.specs.Played.{at_rest, older_after, cells_after}
 use Rattle.dvg_calls_cells.proofs.Quiet.{made_more, write_append, write_both}
@@ -34,7 +34,7 @@ use Rattle.dvg_game_board.proofs.Quiet.{quiet_by}
 use Rattle.dvg_game_cells.specs.Keeps.{IsBoot, by_nmi, by_return, by_step, by_turn}
 use Rattle.dvg_game_cells.proofs.Answering.{InRom, is_direct, tame_fetched}
 use Rattle.dvg_game_cells.proofs.Claims.{tame_writes}
-use Rattle.dvg_game_cells.proofs.Doing.{AtTxs, Boots, Doing, Shares, Task, calms, works, stands, starts, handles}
+use Rattle.dvg_game_cells.proofs.Doing.{AtTxs, Boots, Doing, Shares, Task, calms, counted, works, stands, starts, handles}
 use Rattle.dvg_game_cells.proofs.Ends.{Done, Half, settle, settle_boot}
 use Rattle.dvg_game_cells.proofs.Known.{safe_direct}
 use Rattle.dvg_game_cells.proofs.Memory.{writes_both}
@@ -89,16 +89,16 @@ apart pc start less = ne_eqb pc start (λ e. omega (arith, less, e))
 
 module _ (R image : List ℕ) (held rom : ℕ → ℕ) (start : ℕ) (cpu : Cpu) (older : List Bus) (cells : Cells) (work : ℕ → ℕ) (calm : ℕ)
     (rests : Rests cells cpu) where
-  abbrev Does : List Two → Type 0
+  abbrev Does : List Turn → Type 0
   Does list = Doing R image held rom start cpu older cells work calm list
 
-  abbrev cycled : List Two → List Cycle
+  abbrev cycled : List Turn → List Cycle
   cycled list = cycles_of (at_rest held older cells) list
 
   abbrev On : Option (Cpu × ℕ) → List Bus → Type 0
   On spot clocks = IsCabinet R image held rom start spot clocks
 
-  abbrev Claim : List Two → Type 0
+  abbrev Claim : List Turn → Type 0
   Claim list = Turned.Claim R image held rom start cpu older cells work calm list
 
   -- an instruction in the ROM, where no NMI is due
@@ -109,11 +109,11 @@ module _ (R image : List ℕ) (held rom : ℕ → ℕ) (start : ℕ) (cpu : Cpu)
     free : cells.due ≡ 0
 
   module _ (is : Ready) where
-    claim_of : (list : List Two) → Does list → length list ≤ cycles (instr_of cpu) → Claim list
+    claim_of : (list : List Turn) → Does list → counted list ≤ cycles (instr_of cpu) → Claim list
     claim_of list doing most =
         Turned.claim_all R image held rom start cpu older cells work calm rests is.free is.in_rom is.bytes is.direct list doing most
 
-    module _ (list : List Two) (claim : Claim list) where
+    module _ (list : List Turn) (claim : Claim list) where
       abbrev k : Cpu
       k = Turned.as_turned R image held rom start cpu older cells work calm rests is.free is.in_rom is.bytes is.direct list claim
 
@@ -124,7 +124,7 @@ module _ (R image : List ℕ) (held rom : ℕ → ℕ) (start : ℕ) (cpu : Cpu)
       Went n = Goes (instr_of k) k cells
           (Turned.whole R image held rom start cpu older cells work calm rests is.free is.in_rom is.bytes is.direct list claim n)
 
-      went : (n : ℕ) → length list + n ≡ cycles (instr_of cpu) → Went n
+      went : (n : ℕ) → counted list + n ≡ cycles (instr_of cpu) → Went n
       went n count =
           Turned.went R image held rom start cpu older cells work calm rests is.free is.in_rom is.bytes is.direct list claim n count
 
@@ -179,37 +179,37 @@ module _ (R image : List ℕ) (held rom : ℕ → ℕ) (start : ℕ) (cpu : Cpu)
         on_then quiet spot on =
             all_quiet R image held rom start cpu older cells work calm spot on list doing (so_far_quiet quiet 0 g)
 
-        timed : length list ≡ cycles (instr_of cpu)
-            → Timed R held rom (length list) calm end_calm end_cells.due × (end_calm ≤ calm + 2 * length list) × (length list ≤ 6)
+        timed : counted list ≡ cycles (instr_of cpu)
+            → Timed R held rom (counted list) calm end_calm end_cells.due × (end_calm ≤ calm + counted list) × (counted list ≤ 6)
         timed count =
             let t = timely R held rom list older cells work calm doing.fits doing.given doing.asked in
             let six = at_most (instr_of cpu) in
             (t.timed is.free, t.bound, omega (arith, six, count))
 
     -- amid it no opcode is read
-    unread : (list : List Two) → 0 < length list → length list < cycles (instr_of cpu) → Does list
+    unread : (list : List Turn) → 0 < counted list → counted list < cycles (instr_of cpu) → Does list
         → sync (cells_after held older cells list) ≡ 0
     unread list some less doing =
         let claim = claim_of list doing (omega (arith, less)) in
-        let n = cycles (instr_of cpu) - suc (length list) in
+        let n = cycles (instr_of cpu) - suc (counted list) in
         Turned.amid_so R image held rom start cpu older cells work calm rests is.free is.in_rom is.bytes is.direct list claim n
         (went list claim (suc n) (omega (arith, less))) some
 
     -- one of a 6502 that boots
-    boots_then : {amid : Option ℕ} → IsBoot rom start amid cpu → nat_eq cpu.pc start ≡ false → (list : List Two)
+    boots_then : {amid : Option ℕ} → IsBoot rom start amid cpu → nat_eq cpu.pc start ≡ false → (list : List Turn)
         (claim : Claim list) → IsBoot rom start amid (last list claim)
     boots_then boot before list claim = by_step claim.flags (by_turn claim.mem boot claim.bytes claim.turned) before claim.small
 
-    half_of : (spot : Option (Cpu × ℕ)) → On spot older → (list : List Two) (two : Two) → length list < cycles (instr_of cpu)
-        → Does (list ++ two ∷ [])
-        → ((claim : Claim (list ++ two ∷ [])) → AreQuiet (last (list ++ two ∷ []) claim).log)
+    half_of : (spot : Option (Cpu × ℕ)) → On spot older → (list : List Turn) (two : Two) → counted list < cycles (instr_of cpu)
+        → Does (list ++ acts two ∷ [])
+        → ((claim : Claim (list ++ acts two ∷ [])) → AreQuiet (last (list ++ acts two ∷ []) claim).log)
         → Half R image held rom start older cells list two
     half_of spot on list two less doing quiet =
         let count = counts list two in
-        let claim = claim_of (list ++ two ∷ []) doing (omega (arith, count, less)) in
-        let n = cycles (instr_of cpu) - length (list ++ two ∷ []) in
+        let claim = claim_of (list ++ acts two ∷ []) doing (omega (arith, count, less)) in
+        let n = cycles (instr_of cpu) - counted (list ++ acts two ∷ []) in
         half_quiet R image held rom start cpu older cells work calm spot on list two doing
-        (so_far_quiet (list ++ two ∷ []) claim (quiet claim) n (went (list ++ two ∷ []) claim n (omega (arith, count, less))))
+        (so_far_quiet (list ++ acts two ∷ []) claim (quiet claim) n (went (list ++ acts two ∷ []) claim n (omega (arith, count, less))))
 
   -- which instruction it is: LDX #$FF before TXS, TXS, or another one
   data Kinds : Type 0 where
@@ -277,7 +277,7 @@ module _ (R image : List ℕ) (held rom : ℕ → ℕ) (start : ℕ) (cpu : Cpu)
     ready : cells.due ≡ 0 → Ready
     ready free = record { in_rom = in_rom; bytes = bytes; direct = direct; free = free }
 
-    module _ (free : cells.due ≡ 0) (list : List Two) (claim : Claim list) where
+    module _ (free : cells.due ≡ 0) (list : List Turn) (claim : Claim list) where
       abbrev it : Ready
       it = ready free
 
@@ -305,12 +305,12 @@ module _ (R image : List ℕ) (held rom : ℕ → ℕ) (start : ℕ) (cpu : Cpu)
           by (txs at) = subst AreQuiet (sym (ap (λ o. (does (decoded opcodes o) now).log) (opcode_so ∙ at.opcode))) tt
 
       module _ (g : Went it list claim 0) (doing : Does list) (spot : Option (Cpu × ℕ)) (on : On spot older)
-          (boot : IsBoot rom start None cpu) (count : length list ≡ cycles (instr_of cpu)) where
-        close_then : (cells_after held older cells list).due ≡ 1 → calms cells (cycled list) calm ≤ 12
+          (boot : IsBoot rom start None cpu) (count : counted list ≡ cycles (instr_of cpu)) where
+        close_then : (cells_after held older cells list).due ≡ 1 → calms cells (cycled list) calm ≤ 6
         close_then some = by (timed it list claim g doing count).0
           where
-            by : Timed R held rom (length list) calm (calms cells (cycled list) calm) (cells_after held older cells list).due
-                → calms cells (cycled list) calm ≤ 12
+            by : Timed R held rom (counted list) calm (calms cells (cycled list) calm) (cells_after held older cells list).due
+                → calms cells (cycled list) calm ≤ 6
             by (inl none) = absurd (omega (arith, some, none))
             by (inr rose) = let long = rose.1 in let six = (timed it list claim g doing count).2 in omega (arith, long, six)
 
@@ -364,16 +364,16 @@ module _ (R image : List ℕ) (held rom : ℕ → ℕ) (start : ℕ) (cpu : Cpu)
       (boot : IsBoot rom start None cpu) where
     -- an instruction up to the TXS
     module _ (free : cells.due ≡ 0) where
-      pub starts_unread : (list : List Two) → 0 < length list → length list < cycles (instr_of cpu) → Does list
+      pub starts_unread : (list : List Turn) → 0 < counted list → counted list < cycles (instr_of cpu) → Does list
           → sync (cells_after held older cells list) ≡ 0
       starts_unread list some less doing = unread (ready doing.shares.loaded doing.shares.bytes (view left so) free) list some less doing
 
-      pub starts_half : (list : List Two) (two : Two) → length list < cycles (instr_of cpu)
-          → Does (list ++ two ∷ []) → Half R image held rom start older cells list two
+      pub starts_half : (list : List Turn) (two : Two) → counted list < cycles (instr_of cpu)
+          → Does (list ++ acts two ∷ []) → Half R image held rom start older cells list two
       starts_half list two less doing = half_of (ready doing.shares.loaded doing.shares.bytes (view left so) free) spot on list two less doing
-          (λ claim. boots_quiet doing.shares.loaded doing.shares.bytes (view left so) free (list ++ two ∷ []) claim)
+          (λ claim. boots_quiet doing.shares.loaded doing.shares.bytes (view left so) free (list ++ acts two ∷ []) claim)
 
-      pub starts_done : (list : List Two) → length list ≡ cycles (instr_of cpu)
+      pub starts_done : (list : List Turn) → counted list ≡ cycles (instr_of cpu)
           → Does list → Done R image held rom start cpu older cells work calm list
       starts_done list count doing =
           let old = doing.shares.loaded in
@@ -383,19 +383,19 @@ module _ (R image : List ℕ) (held rom : ℕ → ℕ) (start : ℕ) (cpu : Cpu)
           boots_on old bytes (view left so) free list claim (went it list claim 0 (omega (arith, count))) doing spot on boot count
 
     -- an NMI before it
-    module _ (due : cells.due ≡ 1) (close : calm ≤ 12) where
-      pub breaks_unread : (list : List Two) → length list < 5 → Shares R image held rom start cpu work older
+    module _ (due : cells.due ≡ 1) (close : calm ≤ 6) where
+      pub breaks_unread : (list : List Turn) → counted list < 5 → Shares R image held rom start cpu work older
           → sync (cells_after held older cells list) ≡ 0
       breaks_unread list less shares = nmi_unread R image held rom start cpu older cells work calm
           (in_rom shares.loaded shares.bytes (view left so)) shares.bytes rests due close list less
 
-      pub breaks_half : (list : List Two) (two : Two) → length list < 5 → Does (list ++ two ∷ [])
+      pub breaks_half : (list : List Turn) (two : Two) → counted list < 5 → Does (list ++ acts two ∷ [])
           → Half R image held rom start older cells list two
       breaks_half list two less doing =
           nmi_half R image held rom start cpu older cells work calm (in_rom doing.shares.loaded doing.shares.bytes (view left so))
           doing.shares.bytes rests due close spot on list two less doing
 
-      pub breaks_done : IsAccepted rom start → (list : List Two) → length list ≡ 5 → Does list
+      pub breaks_done : IsAccepted rom start → (list : List Turn) → counted list ≡ 5 → Does list
           → Done R image held rom start cpu older cells work calm list
       breaks_done game list count doing =
           let bytes = doing.shares.bytes in
@@ -418,13 +418,13 @@ module _ (R image : List ℕ) (held rom : ℕ → ℕ) (start : ℕ) (cpu : Cpu)
           (handles spot left (all_quiet R image held rom start cpu older cells work calm spot on list doing g.2) g.0 cpu 0 so early
           (by_nmi (by_turn mem boot small turned)) time.0
           (omega (arith, bound)))
-          (at_least (instr_of new))
+          (at_least (instr_of new)) (spot, all_quiet R image held rom start cpu older cells work calm spot on list doing g.2)
 
   -- an instruction of its routine
   module _ (spot : Option (Cpu × ℕ)) (left : ℕ) (on : On spot older) (back : Cpu) (since : ℕ)
       (so : Boots R image held rom start left back) (early : Early rom start back since cpu)
       (boot : IsBoot rom start (Some back.pc) cpu) (free : cells.due ≡ 0)
-      (close : calm ≤ 12 * since + 26) where
+      (close : calm ≤ 6 * since + 13) where
     nmi_ready : AreBytes cpu → Ready
     nmi_ready bytes = let place = early_place early in record {
       in_rom = record { low = place.0; high = place.1; bytes = bytes.mem };
@@ -444,18 +444,18 @@ module _ (R image : List ℕ) (held rom : ℕ → ℕ) (start : ℕ) (cpu : Cpu)
             (both_true (starts_at (noted early.notes start)) _ early.accepted).0 h.now
             (ap (noted early.notes) (sym (eqb-true cpu.pc start e) ∙ early.turned.pc) ∙ h.is) h.level)
 
-    pub handles_unread : (list : List Two) → 0 < length list → length list < cycles (instr_of cpu) → Does list
+    pub handles_unread : (list : List Turn) → 0 < counted list → counted list < cycles (instr_of cpu) → Does list
         → sync (cells_after held older cells list) ≡ 0
     handles_unread list some less doing = unread (nmi_ready doing.shares.bytes) list some less doing
 
-    nmi_quiet : (bytes : AreBytes cpu) (list : List Two) (claim : Claim list) → AreQuiet (last (nmi_ready bytes) list claim).log
+    nmi_quiet : (bytes : AreBytes cpu) (list : List Turn) (claim : Claim list) → AreQuiet (last (nmi_ready bytes) list claim).log
     nmi_quiet bytes list claim =
         quiet_log (nmi_ready bytes) list claim (early_beside (early_turns early claim.mem claim.flags claim.turned))
 
-    pub handles_half : (list : List Two) (two : Two) → length list < cycles (instr_of cpu) → Does (list ++ two ∷ [])
+    pub handles_half : (list : List Turn) (two : Two) → counted list < cycles (instr_of cpu) → Does (list ++ acts two ∷ [])
         → Half R image held rom start older cells list two
     handles_half list two less doing = half_of (nmi_ready doing.shares.bytes) spot on list two less doing
-        (λ claim. nmi_quiet doing.shares.bytes (list ++ two ∷ []) claim)
+        (λ claim. nmi_quiet doing.shares.bytes (list ++ acts two ∷ []) claim)
 
     -- it leads back to the boot code as it was
     comes_back : (new : Cpu) → IsBack rom back new → Boots R image held rom start left new
@@ -471,7 +471,7 @@ module _ (R image : List ℕ) (held rom : ℕ → ℕ) (start : ℕ) (cpu : Cpu)
           next = omega (arith, next, pc);
         })
 
-    pub handles_done : (list : List Two) → length list ≡ cycles (instr_of cpu) → Does list
+    pub handles_done : (list : List Turn) → counted list ≡ cycles (instr_of cpu) → Does list
         → Done R image held rom start cpu older cells work calm list
     handles_done list count doing =
         goes (early_steps (early_turns early claim.mem claim.flags claim.turned) doing.shares.bytes.x doing.shares.bytes.y)
@@ -488,15 +488,15 @@ module _ (R image : List ℕ) (held rom : ℕ → ℕ) (start : ℕ) (cpu : Cpu)
         new : Cpu
         new = last it list claim
 
-        time : Timed R held rom (length list) calm (end_calm it list claim) (end_cells it list claim).due
-            × (end_calm it list claim ≤ calm + 2 * length list) × (length list ≤ 6)
+        time : Timed R held rom (counted list) calm (end_calm it list claim) (end_cells it list claim).due
+            × (end_calm it list claim ≤ calm + counted list) × (counted list ≤ 6)
         time = timed it list claim g doing count
 
         -- none rises meanwhile
         none_due : (end_cells it list claim).due ≡ 0
         none_due = none time.0
           where
-            none : Timed R held rom (length list) calm (end_calm it list claim) (end_cells it list claim).due
+            none : Timed R held rom (counted list) calm (end_calm it list claim) (end_cells it list claim).due
                 → (end_cells it list claim).due ≡ 0
             none (inl is) = is
             none (inr rose) = let late = rose.0 in let few = early_time early in let six = time.2 in
@@ -508,7 +508,7 @@ module _ (R image : List ℕ) (held rom : ℕ → ℕ) (start : ℕ) (cpu : Cpu)
         next : IsLoaded rom new.mem → Task R image held rom start new (end_older it list claim) (end_cells it list claim)
             (end_calm it list claim) (cycles (instr_of new)) → Done R image held rom start cpu older cells work calm list
         next loaded task = stands new (end_older it list claim) (end_cells it list claim) (end_work it list claim) (end_calm it list claim)
-            (cycles (instr_of new)) [] (doing_then it list claim g doing loaded) task (at_least (instr_of new))
+            (cycles (instr_of new)) [] (doing_then it list claim g doing loaded) task (at_least (instr_of new)) (spot, on_new)
 
         goes : Early rom start back (suc since) new ⊎ IsBack rom back new → Done R image held rom start cpu older cells work calm list
         goes (inl more) = let bound = time.1 in let six = time.2 in next (early_loaded more)

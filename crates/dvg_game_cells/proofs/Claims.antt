@@ -8,9 +8,9 @@ use Rattle.dvg_cells_core.specs.Cells.{bit, mux, part, either, eq}
 use Rattle.dvg_cells_board.specs.Board.{Bus, q}
 use Rattle.dvg_cells_cpu.specs.Cpu.{Cpu as Cells, at, write, dout, clock}
 use Rattle.dvg_cells_cpu.specs.Refines.{pins_of, access, made, after_writes, AreAnswered, Where}
-use Rattle.dvg_calls_cells.specs.Cycles.{Two, next, first_bus, second_bus, cycles_of, cycle_of, between}
+use Rattle.dvg_calls_cells.specs.Cycles.{Turn, acts, idles, wait_bus, next, first_bus, second_bus, cycles_of, cycle_of, between}
 use Rattle.dvg_calls_cells.specs.Played.{AreGiven, at_rest}
-use Rattle.dvg_calls_cells.proofs.Fits.{AllFit, cycle_fits}
+use Rattle.dvg_calls_cells.proofs.Fits.{AllFit, cycle_fits, wait_fits}
 use Rattle.dvg_calls_cells.proofs.Quiet.{made_more}
 use Rattle.dvg_calls_cells.proofs.Stepping.{on_board}
 use Rattle.dvg_game_cells.specs.Whole.{Finds}
@@ -69,17 +69,20 @@ module _ (R : List ℕ) (held rom : ℕ → ℕ) where
       by true e t = (e, t.0)
       by false e t = absurd t
 
-  pub tame_answered : (list : List Two) (older : List Bus) (cells : Cells) (work : ℕ → ℕ) (calm : ℕ) (cpu : Cpu)
+  pub tame_answered : (list : List Turn) (older : List Bus) (cells : Cells) (work : ℕ → ℕ) (calm : ℕ) (cpu : Cpu)
       → AllFit R held older cells → AreGiven R (at_rest held older cells) list
       → AreAsked rom work calm (at_rest held older cells) list
       → ((b : ℕ) → b < 0x200 → cpu.mem b ≡ work b) → ((b : ℕ) → 0x4800 ≤ b → b < 0x8000 → cpu.mem b ≡ rom b)
       → AreTame (made cells (cycles_of (at_rest held older cells) list) [])
       → AreAnswered cpu cells (cycles_of (at_rest held older cells) list)
   tame_answered [] older cells work calm cpu f given asked low loaded t = tt
-  tame_answered (two ∷ list) older cells work calm cpu f given asked low loaded t =
+  tame_answered (idles drive ∷ list) older cells work calm cpu f given asked low loaded t =
+      tame_answered list (wait_bus (at_rest held older cells) drive ∷ older) cells work calm cpu
+      (wait_fits R held older cells drive f given.0) given.1 asked low loaded t
+  tame_answered (acts two ∷ list) older cells work calm cpu f given asked low loaded t =
       let machine = at_rest held older cells in
       let cycle = cycle_of machine two in
-      let later = cycles_of (next machine two) list in
+      let later = cycles_of (next machine (acts two)) list in
       let all = subst AreTame (made_more (clock cells (pins_of cycle)) later (access cells cycle.din ∷ [])) t in
       let mine = reads_so cells cycle.din (tame_end (made (clock cells (pins_of cycle)) later []) (access cells cycle.din ∷ []) all) in
       let none = eqb-true (write cells) 0 mine.0 in (

@@ -1,5 +1,5 @@
 -- What the processor's cells are doing: an instruction, an NMI, or the reads of a reset, with the cycles of it so far.
-use Rattle.std.proofs.Common.{◌≡◌, ℕ, suc, ◌+◌, ◌*◌, ◌<◌, ◌≤◌, true, List, [], ◌∷◌, length}
+use Rattle.std.proofs.Common.{◌≡◌, ℕ, suc, ◌+◌, ◌*◌, ◌<◌, ◌≤◌, true, List, [], ◌∷◌}
 use Rattle.std.specs.Prelude.{◌⊎◌, nat_eq, nat_lt, ◌&&◌, if◌then◌else◌, Option, None, Some}
 use Rattle.dvg_mem.specs.Memory.{IsRom}
 use Rattle.dvg_calls_6502.specs.Processor.{Cpu, put}
@@ -11,7 +11,7 @@ use Rattle.dvg_game_rules.specs.Machine.{IsLoaded}
 use Rattle.dvg_game_rules.specs.Checker.{boots}
 use Rattle.dvg_game_rules.proofs.Early.{Early}
 use Rattle.dvg_calls_cells.specs.Machine.{Machine}
-use Rattle.dvg_calls_cells.specs.Cycles.{Two, next, cycles_of, cycle_of}
+use Rattle.dvg_calls_cells.specs.Cycles.{Turn, acts, idles, next, cycles_of, cycle_of}
 use Rattle.dvg_calls_cells.specs.Steps.{instr_of}
 use Rattle.dvg_calls_cells.specs.Played.{AreGiven, at_rest, older_after, cells_after}
 use Rattle.dvg_calls_cells.proofs.Fits.{AllFit}
@@ -28,28 +28,35 @@ abbrev pub works : Cells → List Cycle → (ℕ → ℕ) → ℕ → ℕ
 works cells [] work = work
 works cells (cycle ∷ later) work = works (clock cells (pins_of cycle)) later (wrote cells work)
 
--- how many clocks came since `nmi` rose
+-- how many cycles came since `nmi` rose
 abbrev pub calm_in : Cells → Cycle → ℕ → ℕ
-calm_in cells cycle calm = if nat_eq cycle.nmi 1 && nat_eq cells.was 0 then 0 else suc (suc calm)
+calm_in cells cycle calm = if nat_eq cycle.nmi 1 && nat_eq cells.was 0 then 0 else suc calm
 
 abbrev pub calms : Cells → List Cycle → ℕ → ℕ
 calms cells [] calm = calm
 calms cells (cycle ∷ later) calm = calms (clock cells (pins_of cycle)) later (calm_in cells cycle calm)
 
+-- how many of some turns are cycles
+abbrev pub counted : List Turn → ℕ
+counted [] = 0
+counted (acts two ∷ later) = suc (counted later)
+counted (idles drive ∷ later) = counted later
+
 module _ (rom : ℕ → ℕ) where
   -- what is asked of a cycle, beside its pins' widths and what the board is served
   pub record Asked (cells : Cells) (work : ℕ → ℕ) (calm : ℕ) (nmi m : ℕ) : Type 0 where
     pub finds : write cells ≡ 0 → Finds rom work (at cells) m
-    pub apart : (nat_eq nmi 1 && nat_eq cells.was 0) ≡ true → 10400 ≤ suc (suc calm)
+    pub apart : (nat_eq nmi 1 && nat_eq cells.was 0) ≡ true → 5200 ≤ suc calm
 
-  abbrev pub AreAsked : (ℕ → ℕ) → ℕ → Machine → List Two → Type 0
+  abbrev pub AreAsked : (ℕ → ℕ) → ℕ → Machine → List Turn → Type 0
   AreAsked work calm machine [] = Unit {0}
-  AreAsked work calm machine (two ∷ later) = Asked machine.cpu work calm two.second.nmi two.second.m
-      × AreAsked (wrote machine.cpu work) (calm_in machine.cpu (cycle_of machine two) calm) (next machine two) later
+  AreAsked work calm machine (idles drive ∷ later) = AreAsked work calm (next machine (idles drive)) later
+  AreAsked work calm machine (acts two ∷ later) = Asked machine.cpu work calm two.second.nmi two.second.m
+      × AreAsked (wrote machine.cpu work) (calm_in machine.cpu (cycle_of machine two) calm) (next machine (acts two)) later
 
--- an NMI may come, or it rose for the last one no more clocks ago than this many instructions take
+-- an NMI may come, or it rose for the last one no more cycles ago than this many instructions take
 abbrev pub IsTime : (since calm : ℕ) → Type 0
-IsTime since calm = (860 ≤ since) ⊎ (calm ≤ 12 * since + 26)
+IsTime since calm = (860 ≤ since) ⊎ (calm ≤ 6 * since + 13)
 
 module _ (R image : List ℕ) (held rom : ℕ → ℕ) (start : ℕ) where
   -- the definition's processor has the work RAM, the board's RAM and the ROM in memory
@@ -60,7 +67,7 @@ module _ (R image : List ℕ) (held rom : ℕ → ℕ) (start : ℕ) where
     pub bytes : AreBytes cpu
 
   -- cycles from these cells on
-  pub record Doing (cpu : Cpu) (older : List Bus) (cells : Cells) (work : ℕ → ℕ) (calm : ℕ) (list : List Two) : Type 0
+  pub record Doing (cpu : Cpu) (older : List Bus) (cells : Cells) (work : ℕ → ℕ) (calm : ℕ) (list : List Turn) : Type 0
     where
       pub is_rom : IsRom R
       pub fits : AllFit R held older cells
@@ -92,21 +99,26 @@ module _ (R image : List ℕ) (held rom : ℕ → ℕ) (start : ℕ) where
         → Boots left cpu → IsBoot rom start None cpu → cells.due ≡ 0 → Task cpu older cells calm (cycles (instr_of cpu))
     -- an NMI before the TXS
     breaks : (spot : Option (Cpu × ℕ)) (left : ℕ) → IsCabinet R image held rom start spot older → Rests cells cpu
-        → Boots left cpu → IsBoot rom start None cpu → cells.due ≡ 1 → calm ≤ 12 → Task cpu older cells calm 5
+        → Boots left cpu → IsBoot rom start None cpu → cells.due ≡ 1 → calm ≤ 6 → Task cpu older cells calm 5
     -- an instruction of its routine, which leads back to there
     handles : (spot : Option (Cpu × ℕ)) (left : ℕ) → IsCabinet R image held rom start spot older → Rests cells cpu
         → (back : Cpu) (since : ℕ) → Boots left back → Early rom start back since cpu
-        → IsBoot rom start (Some back.pc) cpu → cells.due ≡ 0 → calm ≤ 12 * since + 26 → Task cpu older cells calm (cycles (instr_of cpu))
+        → IsBoot rom start (Some back.pc) cpu → cells.due ≡ 0 → calm ≤ 6 * since + 13 → Task cpu older cells calm (cycles (instr_of cpu))
     -- one of the game or of the driver
     plays : (since : ℕ) → IsCabinet R image held rom start (Some (cpu, since)) older → Rests cells cpu → cells.due ≡ 0
         → IsTime since calm → Task cpu older cells calm (cycles (instr_of cpu))
     -- an NMI
     hears : (since : ℕ) → IsCabinet R image held rom start (Some (cpu, since)) older → Rests cells cpu → cells.due ≡ 1
-        → 860 ≤ since → calm ≤ 12 → Task cpu older cells calm 5
+        → 860 ≤ since → calm ≤ 6 → Task cpu older cells calm 5
+
+  -- where a cabinet stands
+  abbrev pub Spot : List Bus → Type 0
+  Spot clocks = (spot : Option (Cpu × ℕ)) × IsCabinet R image held rom start spot clocks
 
   -- where a run of cells stands between two cycles
   pub data Stand : Cells → (ℕ → ℕ) → ℕ → List Bus → Type 0 where
-    stands : (cpu : Cpu) (older : List Bus) (cells : Cells) (work : ℕ → ℕ) (calm n : ℕ) (list : List Two)
-        → Doing cpu older cells work calm list → Task cpu older cells calm n → length list < n
+    stands : (cpu : Cpu) (older : List Bus) (cells : Cells) (work : ℕ → ℕ) (calm n : ℕ) (list : List Turn)
+        → Doing cpu older cells work calm list → Task cpu older cells calm n → counted list < n
+        → Spot (older_after held older cells list)
         → Stand (cells_after held older cells list) (works cells (cycles_of (at_rest held older cells) list) work)
         (calms cells (cycles_of (at_rest held older cells) list) calm) (older_after held older cells list)

@@ -14,7 +14,7 @@ use Rattle.dvg_game_cells.specs.GoesOn.{SomeWhole, pins_for}
 use Rattle.dvg_game_cells.proofs.Lasting.{runs_go_on}
 
 abbrev at_next : Machine → (ℕ → ℕ) → Rattle.dvg_calls_cells.specs.Machine.Bus
-at_next machine work = pins_for zeros (rom nothing) machine work 0 0 0 0
+at_next machine work = pins_for zeros (rom nothing) machine work 0 1 0 0 0
 
 -- the machine and the work RAM after clocks
 abbrev went : ℕ → Machine → (ℕ → ℕ) → Machine × (ℕ → ℕ)
@@ -35,7 +35,7 @@ goes : (n : ℕ) (machine : Machine) (work : ℕ → ℕ) (calm : ℕ) (clocks :
 goes zero machine work calm clocks on = (calm, clocks, on, omega arith)
 goes (suc n) machine work calm clocks on =
     let pins = at_next machine work in
-    let next = runs_go_on zeros zeros nothing (rom nothing) machine work calm clocks on 0 0 0 0 (lit< tt) (lit< tt) (lit< tt)
+    let next = runs_go_on zeros zeros nothing (rom nothing) machine work calm clocks on 0 1 0 0 0 (lit< tt) (lit< tt) (lit< tt) (lit< tt)
     (λ rise. absurd (never (nat_eq machine.answers 1) (nat_eq machine.cpu.was 0) rise)) in
     let rest = goes n (clock machine pins) (work_after machine pins work) (calm_after machine pins calm) (drives_board machine pins ∷ clocks)
     next in
@@ -51,7 +51,7 @@ some_whole =
     let machine = (went 112 (powered nothing) nothing).0 in
     let work = (went 112 (powered nothing) nothing).1 in
     let pins = at_next machine work in
-    let on = runs_go_on zeros zeros nothing (rom nothing) machine work before.0 before.1 before.2 0 0 0 0 (lit< tt) (lit< tt)
-    (lit< tt) (λ rise. absurd (never (nat_eq machine.answers 1) (nat_eq machine.cpu.was 0) rise)) in
+    let on = runs_go_on zeros zeros nothing (rom nothing) machine work before.0 before.1 before.2 0 1 0 0 0 (lit< tt) (lit< tt)
+    (lit< tt) (lit< tt) (λ rise. absurd (never (nat_eq machine.answers 1) (nat_eq machine.cpu.was 0) rise)) in
     let count = before.3 in
     (_, _, _, drives_board machine pins, before.1, on, omega (arith, count), refl, refl, refl)

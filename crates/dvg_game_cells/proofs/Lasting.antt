@@ -53,10 +53,11 @@ all_fit (ticks {machine} {work} {calm} {clocks} pins on asks) =
     by false a old small = old a
 
 pub runs_go_on : RunsGoOn
-runs_go_on R image held rom machine work calm clocks on reset nmi hold free reset_in nmi_in free_in apart =
+runs_go_on R image held rom machine work calm clocks on reset ready nmi hold free reset_in ready_in nmi_in free_in apart =
     let all = all_fit on in
-    ticks (pins_for R rom machine work reset nmi hold free) on (record {
+    ticks (pins_for R rom machine work reset ready nmi hold free) on (record {
       reset = reset_in;
+      ready = ready_in;
       nmi = nmi_in;
       vector_rom = below R (recursion_from_All (λ byte. byte < 256) R all.is_rom.bytes) _;
       m = choose (nat_eq machine.answers 1) (answer rom work free (at machine.cpu)) free

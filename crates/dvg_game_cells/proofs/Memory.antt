@@ -12,9 +12,9 @@ use Rattle.dvg_cells_board.specs.Clocks.{after}
 use Rattle.dvg_cells_cpu.specs.Cpu.{Cpu as Cells, at, write, dout, clock}
 use Rattle.dvg_cells_cpu.specs.Refines.{Cycle, pins_of, access, made, after_writes}
 use Rattle.dvg_cells_cpu.proofs.Fitting.{fits}
-use Rattle.dvg_calls_cells.specs.Cycles.{Two, next, first_bus, second_bus, cycles_of, cycle_of}
+use Rattle.dvg_calls_cells.specs.Cycles.{Two, Turn, acts, idles, wait_bus, next, first_bus, second_bus, cycles_of, cycle_of}
 use Rattle.dvg_calls_cells.specs.Played.{AreGiven, at_rest, older_after}
-use Rattle.dvg_calls_cells.proofs.Fits.{AllFit, cycle_fits}
+use Rattle.dvg_calls_cells.proofs.Fits.{AllFit, cycle_fits, wait_fits}
 use Rattle.dvg_calls_cells.proofs.Quiet.{made_more}
 use Rattle.dvg_game_cells.proofs.Doing.{works, wrote}
 
@@ -57,15 +57,18 @@ low_one cells din work mem b bit less same =
     by false = placed (nat_lt (at cells) 0x200) refl
 
 module _ (R : List ℕ) (held : ℕ → ℕ) where
-  pub low_after : (list : List Two) (older : List Bus) (cells : Cells) (work mem : ℕ → ℕ) → AllFit R held older cells
+  pub low_after : (list : List Turn) (older : List Bus) (cells : Cells) (work mem : ℕ → ℕ) → AllFit R held older cells
       → AreGiven R (at_rest held older cells) list → ((b : ℕ) → b < 0x200 → mem b ≡ work b) → (b : ℕ) → b < 0x200
       → after_writes (made cells (cycles_of (at_rest held older cells) list) []) mem b
       ≡ works cells (cycles_of (at_rest held older cells) list) work b
   low_after [] older cells work mem f given same b less = same b less
-  low_after (two ∷ list) older cells work mem f given same b less =
+  low_after (idles drive ∷ list) older cells work mem f given same b less =
+      low_after list (wait_bus (at_rest held older cells) drive ∷ older) cells work mem (wait_fits R held older cells drive f given.0)
+      given.1 same b less
+  low_after (acts two ∷ list) older cells work mem f given same b less =
       let machine = at_rest held older cells in
       let cycle = cycle_of machine two in
-      ap (λ (m : ℕ → ℕ). m b) (writes_first cells cycle (cycles_of (next machine two) list) mem)
+      ap (λ (m : ℕ → ℕ). m b) (writes_first cells cycle (cycles_of (next machine (acts two)) list) mem)
       ∙ low_after list (second_bus machine two ∷ first_bus machine two ∷ older) (clock cells (pins_of cycle)) (wrote cells work)
       (after_writes (access cells cycle.din ∷ []) mem) (cycle_fits R held older cells two f given.0) given.1
       (λ b less. low_one cells cycle.din work mem b (fits.2 cells f.of_cells).1 less (same b less)) b less
@@ -121,16 +124,19 @@ module _ (R : List ℕ) (held : ℕ → ℕ) where
       by (suc zero) small_w false page = elsewhere page
       by (suc (suc n)) small_w t page = absurd (omega (arith, small_w))
 
-  pub ram_after : (list : List Two) (older : List Bus) (cells : Cells) (mem : ℕ → ℕ) → AllFit R held older cells
+  pub ram_after : (list : List Turn) (older : List Bus) (cells : Cells) (mem : ℕ → ℕ) → AllFit R held older cells
       → AreGiven R (at_rest held older cells) list → ((a : ℕ) → a < 2048 → mem (0x4000 + a) ≡ (after held older).ram a)
       → (a : ℕ) → a < 2048 → after_writes (made cells (cycles_of (at_rest held older cells) list) []) mem (0x4000 + a)
       ≡ (after held (older_after held older cells list)).ram a
   ram_after [] older cells mem f given same a less = same a less
-  ram_after (two ∷ list) older cells mem f given same a less =
+  ram_after (idles drive ∷ list) older cells mem f given same a less =
+      ram_after list (wait_bus (at_rest held older cells) drive ∷ older) cells mem (wait_fits R held older cells drive f given.0)
+      given.1 same a less
+  ram_after (acts two ∷ list) older cells mem f given same a less =
       let machine = at_rest held older cells in
       let cycle = cycle_of machine two in
       let pins = fits.2 cells f.of_cells in
-      ap (λ (m : ℕ → ℕ). m (0x4000 + a)) (writes_first cells cycle (cycles_of (next machine two) list) mem)
+      ap (λ (m : ℕ → ℕ). m (0x4000 + a)) (writes_first cells cycle (cycles_of (next machine (acts two)) list) mem)
       ∙ ram_after list (second_bus machine two ∷ first_bus machine two ∷ older) (clock cells (pins_of cycle))
       (after_writes (access cells cycle.din ∷ []) mem) (cycle_fits R held older cells two f given.0) given.1
       (λ a less. ram_one older cells two mem pins.1 pins.0 same a less) a less

@@ -1,5 +1,5 @@
 -- An instruction of the game or of the driver, on the cells, is one of the cabinet.
-use Rattle.std.proofs.Common.{◌≡◌, ℕ, zero, suc, ◌+◌, ◌-◌, ◌*◌, ◌<◌, ◌≤◌, Bool, true, false, List, [], ◌∷◌, ◌++◌, length, refl, sym, ap, ◌∙◌}
+use Rattle.std.proofs.Common.{◌≡◌, ℕ, zero, suc, ◌+◌, ◌-◌, ◌*◌, ◌<◌, ◌≤◌, Bool, true, false, List, [], ◌∷◌, ◌++◌, refl, sym, ap, ◌∙◌}
 use Rattle.std.proofs.Common.{subst, arith, inl, inr, append-nil, eqb-true, lit<, lit≤}
 use Rattle.std.specs.Prelude.{◌⊎◌, nat_eq, ◌||◌, if◌then◌else◌, Option, Some}
 use Rattle.dvg_calls_6502.specs.Processor.{Cpu, Access, Reads, Writes, Jump, does}
@@ -17,7 +17,7 @@ use Rattle.dvg_game_rules.proofs.Turning.{rom_inside}
 use Rattle.dvg_calls_6502.specs.Code.{code}
 use Rattle.dvg_calls_6502.specs.Single.{is_single}
 use Rattle.dvg_calls_6502.proofs.Few.{AreFew, few}
-use Rattle.dvg_calls_cells.specs.Cycles.{Two, IsQuiet, AreQuiet, cycles_of, cycle_of, first_bus}
+use Rattle.dvg_calls_cells.specs.Cycles.{Two, Turn, acts, IsQuiet, AreQuiet, cycles_of, cycle_of, first_bus}
 use Rattle.dvg_calls_cells.specs.Steps.{AreServed, instr_of}
 use Rattle.dvg_calls_cells.specs.Played.{at_rest, older_after, cells_after}
 use Rattle.dvg_calls_cells.proofs.Fits.{AllFit, served_of}
@@ -34,13 +34,13 @@ use Rattle.dvg_game_board.proofs.Sharing.{Laws}
 use Rattle.dvg_game_cells.specs.Keeps.{from_vector}
 use Rattle.dvg_game_cells.proofs.Answering.{tame_fetched, InRom}
 use Rattle.dvg_game_cells.proofs.Claims.{tame_writes}
-use Rattle.dvg_game_cells.proofs.Doing.{Doing, IsTime, calms, works}
-use Rattle.dvg_game_cells.proofs.Ends.{Done, Half, settle, settle_boot, split_served, unsnoc}
+use Rattle.dvg_game_cells.proofs.Doing.{Doing, IsTime, calms, counted, works}
+use Rattle.dvg_game_cells.proofs.Ends.{Done, EndsInCycle, Half, settle, settle_boot, split_served}
 use Rattle.dvg_game_cells.proofs.Jumps.{jump_is}
 use Rattle.dvg_game_cells.proofs.Known.{Known, known}
 use Rattle.dvg_game_cells.proofs.Memory.{writes_both}
 use Rattle.dvg_game_cells.proofs.Snoc.{counts, more_older, then_at}
-use Rattle.dvg_game_cells.proofs.Timing.{Timed, at_least, at_most, timely}
+use Rattle.dvg_game_cells.proofs.Timing.{Timed, at_most, timely}
 use Rattle.dvg_game_cells.proofs.Turned
 use Rattle.dvg_game_cells.proofs.Turned.{made_both, more_cycles}
 use Rattle.dvg_game_cells.proofs.Vectors.{doing_next}
@@ -75,22 +75,22 @@ module _ (laws : Laws) (R image : List ℕ) (held rom : ℕ → ℕ) (start : �
 
   module _ (cpu : Cpu) (older : List Bus) (cells : Cells) (work : ℕ → ℕ) (calm : ℕ) (since : ℕ) (on : On (Some (cpu, since)) older)
       (rests : Rests cells cpu) (free : cells.due ≡ 0) where
-    abbrev Does : List Two → Type 0
+    abbrev Does : List Turn → Type 0
     Does list = Doing R image held rom start cpu older cells work calm list
 
-    abbrev Claim : List Two → Type 0
+    abbrev Claim : List Turn → Type 0
     Claim list = Turned.Claim R image held rom start cpu older cells work calm list
 
-    abbrev cycled : List Two → List Cycle
+    abbrev cycled : List Turn → List Cycle
     cycled list = cycles_of (at_rest held older cells) list
 
     it : Known rom cpu
     it = known laws R image held rom start game brought cpu since older on
 
-    claims : (list : List Two) → Does list → length list ≤ cycles (instr_of cpu) → Claim list
+    claims : (list : List Turn) → Does list → counted list ≤ cycles (instr_of cpu) → Claim list
     claims list doing most = Turned.claim_all R image held rom start cpu older cells work calm rests free it.in_rom it.bytes it.direct list doing most
 
-    module _ (list : List Two) (claim : Claim list) where
+    module _ (list : List Turn) (claim : Claim list) where
       abbrev turned : Cpu
       turned = changed claim.mem cpu
 
@@ -109,7 +109,7 @@ module _ (laws : Laws) (R image : List ℕ) (held rom : ℕ → ℕ) (start : �
       abbrev Went : ℕ → Type 0
       Went n = Goes (instr_of as_turned) as_turned cells (whole n)
 
-      went : (n : ℕ) → length list + n ≡ cycles (instr_of cpu) → Went n
+      went : (n : ℕ) → counted list + n ≡ cycles (instr_of cpu) → Went n
       went n count = Turned.went R image held rom start cpu older cells work calm rests free it.in_rom it.bytes it.direct list claim n count
 
       module _ (n : ℕ) (g : Went n) where
@@ -183,9 +183,9 @@ module _ (laws : Laws) (R image : List ℕ) (held rom : ℕ → ℕ) (start : �
           (fetched_quiet IsQuiet (instr_of as_turned) as_turned)
 
     -- with one cycle more
-    module _ (list : List Two) (two : Two) (doing : Does (list ++ two ∷ [])) (claim : Claim (list ++ two ∷ [])) where
-      abbrev more : List Two
-      more = list ++ two ∷ []
+    module _ (list : List Turn) (two : Two) (doing : Does (list ++ acts two ∷ [])) (claim : Claim (list ++ acts two ∷ [])) where
+      abbrev more : List Turn
+      more = list ++ acts two ∷ []
 
       abbrev then_older : List Bus
       then_older = older_after held older cells list
@@ -200,7 +200,7 @@ module _ (laws : Laws) (R image : List ℕ) (held rom : ℕ → ℕ) (start : �
       made_is = ap (λ l. made cells l []) (more_cycles R image held rom start two list older cells)
           ∙ made_both (cycled list) (cycle_of (then_at R held rom older cells list) two ∷ []) cells []
 
-      served : AreServed R (at_rest held older cells) list × AreServed R (then_at R held rom older cells list) (two ∷ [])
+      served : AreServed R (at_rest held older cells) list × AreServed R (then_at R held rom older cells list) (acts two ∷ [])
       served = split_served R image held rom start two list older cells (served_of R held more older cells doing.fits doing.given).0
 
       quiet_case : AreQuiet (made cells (cycled more) []) → Half R image held rom start older cells list two
@@ -224,35 +224,36 @@ module _ (laws : Laws) (R image : List ℕ) (held rom : ℕ → ℕ) (start : �
           (goes_on more claim 0 g loud) claim.small loud.0 parts.0 loud.2 loud.3
 
     -- amid them no opcode is read
-    pub plays_amid : (list : List Two) → 0 < length list → length list < cycles (instr_of cpu) → Does list
+    pub plays_amid : (list : List Turn) → 0 < counted list → counted list < cycles (instr_of cpu) → Does list
         → sync (cells_after held older cells list) ≡ 0
     plays_amid list some less doing =
         let claim = claims list doing (omega (arith, less)) in
-        let n = cycles (instr_of cpu) - suc (length list) in
+        let n = cycles (instr_of cpu) - suc (counted list) in
         Turned.amid_so R image held rom start cpu older cells work calm rests free it.in_rom it.bytes it.direct list claim n
         (went list claim (suc n) (omega (arith, less))) some
 
-    pub plays_half : (list : List Two) (two : Two) → length list < cycles (instr_of cpu) → Does (list ++ two ∷ [])
+    pub plays_half : (list : List Turn) (two : Two) → counted list < cycles (instr_of cpu) → Does (list ++ acts two ∷ [])
         → Half R image held rom start older cells list two
     plays_half list two less doing =
         let count = counts list two in
-        let claim = claims (list ++ two ∷ []) doing (omega (arith, count, less)) in
-        by claim (cycles (instr_of cpu) - length (list ++ two ∷ [])) (omega (arith, count, less))
+        let claim = claims (list ++ acts two ∷ []) doing (omega (arith, count, less)) in
+        by claim (cycles (instr_of cpu) - counted (list ++ acts two ∷ [])) (omega (arith, count, less))
       where
-        by : (claim : Claim (list ++ two ∷ [])) (n : ℕ) → length (list ++ two ∷ []) + n ≡ cycles (instr_of cpu)
+        by : (claim : Claim (list ++ acts two ∷ [])) (n : ℕ) → counted (list ++ acts two ∷ []) + n ≡ cycles (instr_of cpu)
             → Half R image held rom start older cells list two
-        by claim zero count = let g = went (list ++ two ∷ []) claim 0 count in elim (verdict (list ++ two ∷ []) claim 0 g) [
-          | inl q ↦ quiet_case list two doing claim (so_far_quiet (list ++ two ∷ []) claim 0 g q.0)
-          | inr loud ↦ (Some (new (list ++ two ∷ []) claim, suc since), loud_case list two doing claim g loud)
+        by claim zero count = let g = went (list ++ acts two ∷ []) claim 0 count in elim (verdict (list ++ acts two ∷ []) claim 0 g) [
+          | inl q ↦ quiet_case list two doing claim (so_far_quiet (list ++ acts two ∷ []) claim 0 g q.0)
+          | inr loud ↦ (Some (new (list ++ acts two ∷ []) claim, suc since), loud_case list two doing claim g loud)
         ]
-        by claim (suc n) count = let g = went (list ++ two ∷ []) claim (suc n) count in
-            elim (verdict (list ++ two ∷ []) claim (suc n) g) [
-              | inl q ↦ quiet_case list two doing claim (so_far_quiet (list ++ two ∷ []) claim (suc n) g q.0)
-              | inr loud ↦ quiet_case list two doing claim (before_quiet (list ++ two ∷ []) claim n g loud)
+        by claim (suc n) count = let g = went (list ++ acts two ∷ []) claim (suc n) count in
+            elim (verdict (list ++ acts two ∷ []) claim (suc n) g) [
+              | inl q ↦ quiet_case list two doing claim (so_far_quiet (list ++ acts two ∷ []) claim (suc n) g q.0)
+              | inr loud ↦ quiet_case list two doing claim (before_quiet (list ++ acts two ∷ []) claim n g loud)
             ]
 
     -- all cycles
-    module _ (time : IsTime since calm) (list : List Two) (count : length list ≡ cycles (instr_of cpu)) (doing : Does list) where
+    module _ (time : IsTime since calm) (list : List Turn) (count : counted list ≡ cycles (instr_of cpu)) (doing : Does list)
+        (newest : EndsInCycle list) where
       claim : Claim list
       claim = claims list doing (omega (arith, count))
 
@@ -301,26 +302,19 @@ module _ (laws : Laws) (R image : List ℕ) (held rom : ℕ → ℕ) (start : �
           all_served.0 (so_far_quiet list claim 0 g q)
 
       -- where the newest cycle makes its access
-      abbrev OnLoud : List Two → Type 0
+      abbrev OnLoud : List Turn → Type 0
       OnLoud l = (doing : Does l) (claim : Claim l) (g : Went l claim 0) → Loudly l claim 0 g
           → On (Some (new l claim, suc since)) (older_after held older cells l)
 
-      loud_by : (front : List Two) (two : Two) → OnLoud (front ++ two ∷ [])
+      loud_by : (front : List Turn) (two : Two) → OnLoud (front ++ acts two ∷ [])
       loud_by front two doing claim g loud =
           let parts = served front two doing claim in
-          subst (λ c. On (Some (new (front ++ two ∷ []) claim, suc since)) c) (sym (more_older R held rom two front older cells))
+          subst (λ c. On (Some (new (front ++ acts two ∷ []) claim, suc since)) c) (sym (more_older R held rom (acts two) front older cells))
           (second_half R image held rom start (older_after held older cells front) (cells_after held older cells front) two parts.1
-          (Some (new (front ++ two ∷ []) claim, suc since)) (loud_case front two doing claim g loud))
+          (Some (new (front ++ acts two ∷ []) claim, suc since)) (loud_case front two doing claim g loud))
 
       on_loud : Loudly list claim 0 g → On (Some (last, suc since)) end_older
-      on_loud loud = by (unsnoc list)
-        where
-          by : (list ≡ []) ⊎ ((front : List Two) × (two : Two) × (list ≡ front ++ two ∷ []))
-              → On (Some (new list claim, suc since)) (older_after held older cells list)
-          by (inl empty) =
-              let some = at_least (instr_of cpu) in
-              let zero_long = ap length empty in absurd (omega (arith, some, zero_long, count))
-          by (inr some) = subst OnLoud (sym some.2) (loud_by some.0 some.1) doing claim g loud
+      on_loud loud = subst OnLoud (sym newest.2) (loud_by newest.0 newest.1) doing claim g loud
 
       on_new : restarts (turned list claim) ≡ false → On (Some (last, suc since)) end_older
       on_new go = elim (verdict list claim 0 g) [
@@ -332,29 +326,29 @@ module _ (laws : Laws) (R image : List ℕ) (held rom : ℕ → ℕ) (start : �
       abbrev due : ℕ
       due = end_cells.due
 
-      timed : Timed R held rom (length list) calm then_calm due × (then_calm ≤ calm + 2 * length list) × (length list ≤ 6)
+      timed : Timed R held rom (counted list) calm then_calm due × (then_calm ≤ calm + counted list) × (counted list ≤ 6)
       timed =
           let t = timely R held rom list older cells work calm doing.fits doing.given doing.asked in
           let six = at_most (instr_of cpu) in
           (t.timed free, t.bound, omega (arith, six, count))
 
       -- an NMI that rose is long after the last one
-      late_by : 10400 ≤ calm + 2 * length list → IsTime since calm → 860 ≤ suc since
+      late_by : 5200 ≤ calm + counted list → IsTime since calm → 860 ≤ suc since
       late_by rose (inl late) = omega (arith, late)
       late_by rose (inr close) = let six = timed.2 in omega (arith, rose, close, six)
 
       time_then : IsTime (suc since) then_calm
       time_then = by timed.0 time
         where
-          by : Timed R held rom (length list) calm then_calm due → IsTime since calm → IsTime (suc since) then_calm
+          by : Timed R held rom (counted list) calm then_calm due → IsTime since calm → IsTime (suc since) then_calm
           by (inr rose) time = inl (late_by rose.0 time)
           by (inl none) (inl late) = inl (omega (arith, late))
           by (inl none) (inr close) = let bound = timed.1 in let six = timed.2 in inr (omega (arith, close, bound, six))
 
-      late_then : due ≡ 1 → (860 ≤ suc since) × (then_calm ≤ 12)
+      late_then : due ≡ 1 → (860 ≤ suc since) × (then_calm ≤ 6)
       late_then is = by timed.0
         where
-          by : Timed R held rom (length list) calm then_calm due → (860 ≤ suc since) × (then_calm ≤ 12)
+          by : Timed R held rom (counted list) calm then_calm due → (860 ≤ suc since) × (then_calm ≤ 6)
           by (inl none) = absurd (omega (arith, is, none))
           by (inr rose) = let six = timed.2 in let calm_is = rose.1 in (late_by rose.0 time, omega (arith, calm_is, six))
 

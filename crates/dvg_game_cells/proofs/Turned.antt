@@ -19,7 +19,7 @@ use Rattle.dvg_game_rules.specs.Machine.{is_outside, IsTurned}
 use Rattle.dvg_game_rules.proofs.Facts.{both_true}
 use Rattle.dvg_game_rules.proofs.Memory.{between as in_page}
 use Rattle.dvg_game_rules.proofs.Turning.{low_inside, readable_inside, rom_inside}
-use Rattle.dvg_calls_cells.specs.Cycles.{Two, first_bus, second_bus, cycles_of, cycle_of, between}
+use Rattle.dvg_calls_cells.specs.Cycles.{Drive, Two, Turn, acts, idles, wait_bus, first_bus, second_bus, cycles_of, cycle_of, between}
 use Rattle.dvg_calls_cells.specs.Steps.{instr_of}
 use Rattle.dvg_calls_cells.specs.Played.{AreGiven, IsGiven, at_rest, older_after, cells_after, in_board}
 use Rattle.dvg_calls_cells.proofs.Fits.{AllFit, board_fits, served_of, first_is, q_in}
@@ -30,7 +30,7 @@ use Rattle.dvg_calls_board.proofs.Ram.{in_ram as ram_place}
 use Rattle.dvg_game_6502.specs.Play.{AreBytes, fresh}
 use Rattle.dvg_game_cells.proofs.Answering.{AreFine, AreTame, InRom, IsTame, fine, fine_end, is_direct}
 use Rattle.dvg_game_cells.proofs.Claims.{off_board, tame_answered, tame_byte, tame_writes, where_so}
-use Rattle.dvg_game_cells.proofs.Doing.{Asked, AreAsked, Doing, calm_in, calms, works, wrote}
+use Rattle.dvg_game_cells.proofs.Doing.{Asked, AreAsked, Doing, calm_in, calms, counted, works, wrote}
 use Rattle.dvg_game_cells.proofs.Fresh.{choose}
 use Rattle.dvg_game_cells.proofs.Memory.{low_after, ram_after}
 use Rattle.dvg_game_cells.proofs.Snoc.{then_at}
@@ -78,6 +78,11 @@ pub made_both : (one two : List Cycle) (cells : Cells) (log : List Access)
 made_both [] two cells log = refl
 made_both (cycle ∷ one) two cells log = made_both one two (clock cells (pins_of cycle)) (access cells cycle.din ∷ log)
 
+pub counted_both : (one two : List Turn) → counted (one ++ two) ≡ counted one + counted two
+counted_both [] two = omega arith
+counted_both (acts x ∷ one) two = let e = counted_both one two in omega (arith, e)
+counted_both (idles drive ∷ one) two = counted_both one two
+
 pub length_both : {A : Type 0} (one two : List A) → length (one ++ two) ≡ length one + length two
 length_both [] two = omega arith
 length_both (x ∷ one) two = let e = length_both one two in omega (arith, e)
@@ -90,47 +95,70 @@ module _ (R image : List ℕ) (held rom : ℕ → ℕ) (start : ℕ) where
   abbrev onward : List Bus → Cells → Two → List Bus
   onward older cells x = second_bus (at_rest held older cells) x ∷ first_bus (at_rest held older cells) x ∷ older
 
+  abbrev waited : List Bus → Cells → Drive → List Bus
+  waited older cells drive = wait_bus (at_rest held older cells) drive ∷ older
+
   abbrev moved : List Bus → Cells → Two → Cells
   moved older cells x = clock cells (pins_of (cycle_of (at_rest held older cells) x))
 
-  pub count_of : (list : List Two) (older : List Bus) (cells : Cells)
-      → length (cycles_of (at_rest held older cells) list) ≡ length list
+  pub count_of : (list : List Turn) (older : List Bus) (cells : Cells)
+      → length (cycles_of (at_rest held older cells) list) ≡ counted list
   count_of [] older cells = refl
-  count_of (x ∷ list) older cells = ap suc (count_of list (onward older cells x) (moved older cells x))
+  count_of (acts x ∷ list) older cells = ap suc (count_of list (onward older cells x) (moved older cells x))
+  count_of (idles drive ∷ list) older cells = count_of list (waited older cells drive) cells
+
+  -- none is a cycle
+  pub no_cycles : (list : List Turn) (older : List Bus) (cells : Cells) → counted list ≡ 0
+      → cycles_of (at_rest held older cells) list ≡ []
+  no_cycles [] older cells none = refl
+  no_cycles (acts x ∷ list) older cells none = absurd (omega (arith, none))
+  no_cycles (idles drive ∷ list) older cells none = no_cycles list (waited older cells drive) cells none
+
+  -- no cycle more
+  pub idle_cycles : (drive : Drive) (list : List Turn) (older : List Bus) (cells : Cells)
+      → cycles_of (at_rest held older cells) (list ++ idles drive ∷ []) ≡ cycles_of (at_rest held older cells) list
+  idle_cycles drive [] older cells = refl
+  idle_cycles drive (acts x ∷ list) older cells =
+      ap (λ l. cycle_of (at_rest held older cells) x ∷ l) (idle_cycles drive list (onward older cells x) (moved older cells x))
+  idle_cycles drive (idles x ∷ list) older cells = idle_cycles drive list (waited older cells x) cells
 
   module _ (two : Two) where
-    pub more_cycles : (list : List Two) (older : List Bus) (cells : Cells)
-        → cycles_of (at_rest held older cells) (list ++ two ∷ [])
+    pub more_cycles : (list : List Turn) (older : List Bus) (cells : Cells)
+        → cycles_of (at_rest held older cells) (list ++ acts two ∷ [])
         ≡ cycles_of (at_rest held older cells) list ++ cycle_of (then_at R held rom older cells list) two ∷ []
     more_cycles [] older cells = refl
-    more_cycles (x ∷ list) older cells =
+    more_cycles (idles drive ∷ list) older cells = more_cycles list (waited older cells drive) cells
+    more_cycles (acts x ∷ list) older cells =
         ap (λ l. cycle_of (at_rest held older cells) x ∷ l) (more_cycles list (onward older cells x) (moved older cells x))
 
-    pub split_given : (list : List Two) (older : List Bus) (cells : Cells) → AreGiven R (at_rest held older cells) (list ++ two ∷ [])
+    pub split_given : (list : List Turn) (older : List Bus) (cells : Cells) → AreGiven R (at_rest held older cells) (list ++ acts two ∷ [])
         → AreGiven R (at_rest held older cells) list × IsGiven R (then_at R held rom older cells list) two
     split_given [] older cells given = (tt, given.0)
-    split_given (x ∷ list) older cells given =
+    split_given (idles drive ∷ list) older cells given =
+        let rest = split_given list (waited older cells drive) cells given.1 in ((given.0, rest.0), rest.1)
+    split_given (acts x ∷ list) older cells given =
         let rest = split_given list (onward older cells x) (moved older cells x) given.1 in ((given.0, rest.0), rest.1)
 
-    pub split_asked : (list : List Two) (older : List Bus) (cells : Cells) (work : ℕ → ℕ) (calm : ℕ)
-        → AreAsked rom work calm (at_rest held older cells) (list ++ two ∷ [])
+    pub split_asked : (list : List Turn) (older : List Bus) (cells : Cells) (work : ℕ → ℕ) (calm : ℕ)
+        → AreAsked rom work calm (at_rest held older cells) (list ++ acts two ∷ [])
         → AreAsked rom work calm (at_rest held older cells) list
         × Asked rom (cells_after held older cells list) (works cells (cycles_of (at_rest held older cells) list) work)
         (calms cells (cycles_of (at_rest held older cells) list) calm) two.second.nmi two.second.m
     split_asked [] older cells work calm asked = (tt, asked.0)
-    split_asked (x ∷ list) older cells work calm asked =
+    split_asked (idles drive ∷ list) older cells work calm asked = split_asked list (waited older cells drive) cells work calm asked
+    split_asked (acts x ∷ list) older cells work calm asked =
         let rest = split_asked list (onward older cells x) (moved older cells x) (wrote cells work)
         (calm_in cells (cycle_of (at_rest held older cells) x) calm) asked.1 in ((asked.0, rest.0), rest.1)
 
   module _ (cpu : Cpu) (older : List Bus) (cells : Cells) (work : ℕ → ℕ) (calm : ℕ) where
-    abbrev pub Does : List Two → Type 0
+    abbrev pub Does : List Turn → Type 0
     Does list = Doing R image held rom start cpu older cells work calm list
 
-    abbrev cycled : List Two → List Cycle
+    abbrev cycled : List Turn → List Cycle
     cycled list = cycles_of (at_rest held older cells) list
 
     -- the newest read, where nothing was written before: if it isn't of what stands outside, it finds what memory has
-    module _ (list : List Two) (two : Two) (doing : Does (list ++ two ∷ [])) (tame : AreTame (made cells (cycled list) []))
+    module _ (list : List Turn) (two : Two) (doing : Does (list ++ acts two ∷ [])) (tame : AreTame (made cells (cycled list) []))
         (reading : nat_eq (write (cells_after held older cells list)) 0 ≡ true) where
       abbrev then_older : List Bus
       then_older = older_after held older cells list
@@ -174,7 +202,7 @@ module _ (R image : List ℕ) (held rom : ℕ → ℕ) (start : ℕ) where
           let high = page.1 in
           let there : in_board place ≡ true = eq-eqb (place / 0x800) 8 (omega (arith, low, high)) in
           let asks = where_is (nat_eq (write then_cells) 0) (subst (λ t. Where (not t) (din ≡ found place cpu)) (sym there) tt) in
-          let answered = answered_of R held cpu (two ∷ []) then_older then_cells true fitted (given.1, tt) (λ e. rams) (asks, tt) in
+          let answered = answered_of R held cpu (acts two ∷ []) then_older then_cells true fitted (given.1, tt) (λ e. rams) (asks, tt) in
           where_so (nat_eq (write then_cells) 0) reading answered.0
           ∙ ap (λ t. if t then cpu.flags 0 else cpu.mem place) other
 
@@ -235,7 +263,7 @@ module _ (R image : List ℕ) (held rom : ℕ → ℕ) (start : ℕ) where
       abbrev turned_cpu : Cpu
       turned_cpu = fresh (λ n. din) (changed turned_mem cpu)
 
-      all_answered : AreAnswered turned_cpu cells (cycled (list ++ two ∷ []))
+      all_answered : AreAnswered turned_cpu cells (cycled (list ++ acts two ∷ []))
       all_answered = subst (λ l. AreAnswered turned_cpu cells l) (sym (more_cycles two list older cells))
           (answered_both turned_cpu (cycled list) (cycle_of (then_at R held rom older cells list) two ∷ []) cells
           (tame_answered R held rom list older cells work calm turned_cpu doing.fits given.0
@@ -245,7 +273,7 @@ module _ (R image : List ℕ) (held rom : ℕ → ℕ) (start : ℕ) where
           (where_is (nat_eq (write then_cells) 0) (found_so (nat_eq place 0x2002)), tt))
 
     -- with this memory and this flag the reads so far find what the processor has
-    pub record Claim (list : List Two) : Type 0 where
+    pub record Claim (list : List Turn) : Type 0 where
       pub mem : ℕ → ℕ
       pub flags : ℕ → ℕ
       pub turned : IsTurned cpu.mem mem
@@ -255,7 +283,7 @@ module _ (R image : List ℕ) (held rom : ℕ → ℕ) (start : ℕ) where
 
     module _ (rests : Rests cells cpu) (free : cells.due ≡ 0) (in_rom : InRom cpu) (bytes : AreBytes cpu)
         (direct : is_direct (instr_of cpu) ≡ true) where
-      module _ (list : List Two) (claim : Claim list) where
+      module _ (list : List Turn) (claim : Claim list) where
         abbrev pub as_turned : Cpu
         as_turned = fresh claim.flags (changed claim.mem cpu)
 
@@ -302,7 +330,7 @@ module _ (R image : List ℕ) (held rom : ℕ → ℕ) (start : ℕ) where
         whole n = cycled list ++ answers n (cells_after held older cells list) as_turned
 
         -- these cycles and others are the instruction
-        pub went : (n : ℕ) → length list + n ≡ cycles (instr_of cpu) → Goes (instr_of as_turned) as_turned cells (whole n)
+        pub went : (n : ℕ) → counted list + n ≡ cycles (instr_of cpu) → Goes (instr_of as_turned) as_turned cells (whole n)
         went n count =
             let then_cells = cells_after held older cells list in
             let e1 = length_both (cycled list) (answers n then_cells as_turned) in
@@ -326,7 +354,7 @@ module _ (R image : List ℕ) (held rom : ℕ → ℕ) (start : ℕ) where
             (fine as_turned mine (instr_of as_turned) (ap is_direct same_instr ∙ direct) refl))
 
         -- amid them no opcode is read
-        pub amid_so : (n : ℕ) → Goes (instr_of as_turned) as_turned cells (whole (suc n)) → 0 < length list
+        pub amid_so : (n : ℕ) → Goes (instr_of as_turned) as_turned cells (whole (suc n)) → 0 < counted list
             → sync (cells_after held older cells list) ≡ 0
         amid_so n g some =
             let then_cells = cells_after held older cells list in
@@ -348,10 +376,10 @@ module _ (R image : List ℕ) (held rom : ℕ → ℕ) (start : ℕ) where
                   ∙ made_more last (answers n last as_turned) (access then_cells cycle.din ∷ made cells (cycled list) []),
             )
 
-      pub claim_more : (list : List Two) (two : Two) → Claim list → Does (list ++ two ∷ [])
-          → length list < cycles (instr_of cpu) → Claim (list ++ two ∷ [])
+      pub claim_more : (list : List Turn) (two : Two) → Claim list → Does (list ++ acts two ∷ [])
+          → counted list < cycles (instr_of cpu) → Claim (list ++ acts two ∷ [])
       claim_more list two claim doing less =
-          let n = cycles (instr_of cpu) - suc (length list) in
+          let n = cycles (instr_of cpu) - suc (counted list) in
           let g = went list claim (suc n) (omega (arith, less)) in
           let next = made_next list claim n in
           by (nat_eq (write then_cells) 0) refl
@@ -365,7 +393,7 @@ module _ (R image : List ℕ) (held rom : ℕ → ℕ) (start : ℕ) where
               → AreFine ((if w then Reads (at (cells_after held older cells list))
               (found (at (cells_after held older cells list)) (as_turned list claim))
               else Writes (at (cells_after held older cells list)) (dout (cells_after held older cells list)))
-              ∷ made cells (cycled list) []) → Claim (list ++ two ∷ [])
+              ∷ made cells (cycled list) []) → Claim (list ++ acts two ∷ [])
           by true reading tame = record {
             mem = turned_mem list two doing tame reading;
             flags = λ n. din list two doing tame reading;
@@ -401,30 +429,45 @@ module _ (R image : List ℕ) (held rom : ℕ → ℕ) (start : ℕ) where
         answered = tt;
       }
 
-      claim_on : (rest list : List Two) → Claim list → Does (list ++ rest) → length (list ++ rest) ≤ cycles (instr_of cpu)
+      claim_on : (rest list : List Turn) → Claim list → Does (list ++ rest) → counted (list ++ rest) ≤ cycles (instr_of cpu)
           → Claim (list ++ rest)
       claim_on [] list claim doing most = subst Claim (sym (append-nil list)) claim
-      claim_on (two ∷ rest) list claim doing most =
-          let same : (list ++ two ∷ []) ++ rest ≡ list ++ two ∷ rest = append_assoc list (two ∷ []) rest in
-          let count = length_both list (two ∷ rest) in
-          subst Claim same (claim_on rest (list ++ two ∷ []) (claim_more list two claim (front (list ++ two ∷ []) rest (subst Does (sym same) doing))
-          (omega (arith, count, most))) (subst Does (sym same) doing) (subst (λ l. length l ≤ cycles (instr_of cpu)) (sym same) most))
+      claim_on (idles drive ∷ rest) list claim doing most =
+          let same : (list ++ idles drive ∷ []) ++ rest ≡ list ++ idles drive ∷ rest = append_assoc list (idles drive ∷ []) rest in
+          let mine : Claim (list ++ idles drive ∷ []) = record {
+            mem = claim.mem;
+            flags = claim.flags;
+            turned = claim.turned;
+            bytes = claim.bytes;
+            small = claim.small;
+            answered = subst (λ l. AreAnswered (fresh claim.flags (changed claim.mem cpu)) cells l)
+                (sym (idle_cycles drive list older cells)) claim.answered;
+          } in
+          subst Claim same (claim_on rest (list ++ idles drive ∷ []) mine (subst Does (sym same) doing)
+          (subst (λ l. counted l ≤ cycles (instr_of cpu)) (sym same) most))
+      claim_on (acts two ∷ rest) list claim doing most =
+          let same : (list ++ acts two ∷ []) ++ rest ≡ list ++ acts two ∷ rest = append_assoc list (acts two ∷ []) rest in
+          let count = counted_both list (acts two ∷ rest) in
+          subst Claim same (claim_on rest (list ++ acts two ∷ []) (claim_more list two claim (front (list ++ acts two ∷ []) rest (subst Does (sym same) doing))
+          (omega (arith, count, most))) (subst Does (sym same) doing) (subst (λ l. counted l ≤ cycles (instr_of cpu)) (sym same) most))
         where
-          front_given : (l r : List Two) (b : List Bus) (c : Cells) → AreGiven R (at_rest held b c) (l ++ r)
+          front_given : (l r : List Turn) (b : List Bus) (c : Cells) → AreGiven R (at_rest held b c) (l ++ r)
               → AreGiven R (at_rest held b c) l
           front_given [] r b c given = tt
-          front_given (x ∷ l) r b c given = (given.0, front_given l r (onward b c x) (moved b c x) given.1)
+          front_given (acts x ∷ l) r b c given = (given.0, front_given l r (onward b c x) (moved b c x) given.1)
+          front_given (idles drive ∷ l) r b c given = (given.0, front_given l r (waited b c drive) c given.1)
 
-          front_asked : (l r : List Two) (b : List Bus) (c : Cells) (w : ℕ → ℕ) (k : ℕ)
+          front_asked : (l r : List Turn) (b : List Bus) (c : Cells) (w : ℕ → ℕ) (k : ℕ)
               → AreAsked rom w k (at_rest held b c) (l ++ r) → AreAsked rom w k (at_rest held b c) l
           front_asked [] r b c w k asked = tt
-          front_asked (x ∷ l) r b c w k asked = (
+          front_asked (idles drive ∷ l) r b c w k asked = front_asked l r (waited b c drive) c w k asked
+          front_asked (acts x ∷ l) r b c w k asked = (
             asked.0,
             front_asked l r (onward b c x) (moved b c x) (wrote c w)
                 (calm_in c (cycle_of (at_rest held b c) x) k) asked.1,
           )
 
-          front : (l r : List Two) → Does (l ++ r) → Does l
+          front : (l r : List Turn) → Does (l ++ r) → Does l
           front l r doing = record {
             is_rom = doing.is_rom;
             fits = doing.fits;
@@ -435,5 +478,5 @@ module _ (R image : List ℕ) (held rom : ℕ → ℕ) (start : ℕ) where
             asked = front_asked l r older cells work calm doing.asked;
           }
 
-      pub claim_all : (list : List Two) → Does list → length list ≤ cycles (instr_of cpu) → Claim list
+      pub claim_all : (list : List Turn) → Does list → counted list ≤ cycles (instr_of cpu) → Claim list
       claim_all list doing most = claim_on list [] (claim_none bytes) doing most

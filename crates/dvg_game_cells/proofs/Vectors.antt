@@ -17,9 +17,9 @@ use Rattle.dvg_game_rules.specs.Machine.{IsLoaded, is_outside, IsTurned, reset_v
 use Rattle.dvg_game_rules.specs.Checker.{accepts_game, boot_most, stand_at}
 use Rattle.dvg_game_rules.proofs.Facts.{both_true}
 use Rattle.dvg_game_rules.proofs.Turning.{low_inside, rom_inside}
-use Rattle.dvg_calls_cells.specs.Cycles.{Two, IsQuiet, AreQuiet, next, first_bus, second_bus, cycles_of, cycle_of, between}
+use Rattle.dvg_calls_cells.specs.Cycles.{Two, Turn, acts, idles, wait_bus, IsQuiet, AreQuiet, next, first_bus, second_bus, cycles_of, cycle_of, between}
 use Rattle.dvg_calls_cells.specs.Played.{AreGiven, at_rest, older_after, cells_after}
-use Rattle.dvg_calls_cells.proofs.Fits.{AllFit, cycle_fits, first_is, served_of}
+use Rattle.dvg_calls_cells.proofs.Fits.{AllFit, cycle_fits, wait_fits, first_is, served_of}
 use Rattle.dvg_calls_cells.proofs.Quiet.{made_more, write_both}
 use Rattle.dvg_calls_cells.proofs.Seen.{no_ram}
 use Rattle.dvg_calls_cells.proofs.Stepping.{on_board}
@@ -33,7 +33,7 @@ use Rattle.dvg_game_board.proofs.Sharing.{Laws}
 use Rattle.dvg_game_cells.specs.Keeps.{from_vector}
 use Rattle.dvg_game_cells.proofs.Answering.{InRom}
 use Rattle.dvg_game_cells.proofs.Claims.{where_so}
-use Rattle.dvg_game_cells.proofs.Doing.{Asked, AreAsked, Doing, calm_in, calms, works, wrote}
+use Rattle.dvg_game_cells.proofs.Doing.{Asked, AreAsked, Doing, calm_in, calms, counted, works, wrote}
 use Rattle.dvg_game_cells.proofs.Ends.{Done, Half, settle, settle_boot, split_served, works_in}
 use Rattle.dvg_game_cells.proofs.Known.{Known, known}
 use Rattle.dvg_game_cells.proofs.Memory.{low_after, ram_after}
@@ -134,17 +134,20 @@ reset_amid cpu ir low high back was due (a ∷ []) less = refl
 reset_amid cpu ir low high back was due (a ∷ b ∷ list) less = absurd (omega (arith, less))
 
 module _ (R image : List ℕ) (held rom : ℕ → ℕ) (start : ℕ) where
-  high_answered : (list : List Two) (older : List Bus) (cells : Cells) (work : ℕ → ℕ) (calm : ℕ) (k : Cpu)
+  high_answered : (list : List Turn) (older : List Bus) (cells : Cells) (work : ℕ → ℕ) (calm : ℕ) (k : Cpu)
       → AllFit R held older cells → AreGiven R (at_rest held older cells) list
       → AreAsked rom work calm (at_rest held older cells) list
       → ((b : ℕ) → 0xFFFA ≤ b → k.mem b ≡ rom (b - 0x8000))
       → AreHigh (made cells (cycles_of (at_rest held older cells) list) [])
       → AreAnswered k cells (cycles_of (at_rest held older cells) list)
   high_answered [] older cells work calm k f given asked vectors h = tt
-  high_answered (two ∷ list) older cells work calm k f given asked vectors h =
+  high_answered (idles drive ∷ list) older cells work calm k f given asked vectors h =
+      high_answered list (wait_bus (at_rest held older cells) drive ∷ older) cells work calm k
+      (wait_fits R held older cells drive f given.0) given.1 asked vectors h
+  high_answered (acts two ∷ list) older cells work calm k f given asked vectors h =
       let machine = at_rest held older cells in
       let cycle = cycle_of machine two in
-      let later = cycles_of (next machine two) list in
+      let later = cycles_of (next machine (acts two)) list in
       let all = high_both (made (clock cells (pins_of cycle)) later []) (access cells cycle.din ∷ [])
       (subst AreHigh (made_more (clock cells (pins_of cycle)) later (access cells cycle.din ∷ [])) h) in (
         by (nat_eq (write cells) 0) refl all.1 asked.0 (first_is R held older cells two f given.0).a,
@@ -165,18 +168,18 @@ module _ (R image : List ℕ) (held rom : ℕ → ℕ) (start : ℕ) where
           (λ is. let place = high.0 in omega (arith, is, place))) ∙ vectors (at cells) high.0)
 
   module _ (cpu : Cpu) (older : List Bus) (cells : Cells) (work : ℕ → ℕ) (calm : ℕ) where
-    abbrev Does : List Two → Type 0
+    abbrev Does : List Turn → Type 0
     Does list = Doing R image held rom start cpu older cells work calm list
 
-    abbrev cycled : List Two → List Cycle
+    abbrev cycled : List Turn → List Cycle
     cycled list = cycles_of (at_rest held older cells) list
 
     abbrev On : Option (Cpu × ℕ) → List Bus → Type 0
     On spot clocks = IsCabinet R image held rom start spot clocks
 
     -- quiet cycles, wherever a cabinet stands
-    pub half_quiet : (spot : Option (Cpu × ℕ)) → On spot older → (list : List Two) (two : Two) → Does (list ++ two ∷ [])
-        → AreQuiet (made cells (cycled (list ++ two ∷ [])) []) → Half R image held rom start older cells list two
+    pub half_quiet : (spot : Option (Cpu × ℕ)) → On spot older → (list : List Turn) (two : Two) → Does (list ++ acts two ∷ [])
+        → AreQuiet (made cells (cycled (list ++ acts two ∷ [])) []) → Half R image held rom start older cells list two
     half_quiet spot on list two doing quiet =
         let then_cells = cells_after held older cells list in
         let din = (cycle_of (then_at R held rom older cells list) two).din in
@@ -184,19 +187,19 @@ module _ (R image : List ℕ) (held rom : ℕ → ℕ) (start : ℕ) where
         ∙ made_both (cycled list) (cycle_of (then_at R held rom older cells list) two ∷ []) cells [] in
         let both = write_both IsQuiet (access then_cells din ∷ []) (made cells (cycled list) []) (subst AreQuiet made_is quiet) in
         let served = split_served R image held rom start two list older cells
-        (served_of R held (list ++ two ∷ []) older cells doing.fits doing.given).0 in (
+        (served_of R held (list ++ acts two ∷ []) older cells doing.fits doing.given).0 in (
           spot,
           quiet_half R image held rom start (older_after held older cells list) then_cells two served.1 spot
               (quietly R image held rom start spot list older cells on served.0 both.1) both.0,
         )
 
-    pub all_quiet : (spot : Option (Cpu × ℕ)) → On spot older → (list : List Two) → Does list
+    pub all_quiet : (spot : Option (Cpu × ℕ)) → On spot older → (list : List Turn) → Does list
         → AreQuiet (made cells (cycled list) []) → On spot (older_after held older cells list)
     all_quiet spot on list doing quiet = quietly R image held rom start spot list older cells on
         (served_of R held list older cells doing.fits doing.given).0 quiet
 
     -- what the next task begins with
-    pub doing_next : (list : List Two) → Does list → (new : Cpu) (mem : ℕ → ℕ) → IsTurned cpu.mem mem
+    pub doing_next : (list : List Turn) → Does list → (new : Cpu) (mem : ℕ → ℕ) → IsTurned cpu.mem mem
         → new.mem ≡ after_writes (made cells (cycled list) []) mem → IsLoaded rom new.mem → AreBytes new
         → Doing R image held rom start new (older_after held older cells list) (cells_after held older cells list)
         (works cells (cycled list) work) (calms cells (cycled list) calm) []
@@ -264,7 +267,7 @@ module _ (R image : List ℕ) (held rom : ℕ → ℕ) (start : ℕ) where
 
     -- a reset
     module _ (holds : Holds cells cpu) (begin : cells.state ≡ 0) (none : cells.due ≡ 0) where
-      reset_so : (list : List Two) → length list ≤ 2
+      reset_so : (list : List Turn) → counted list ≤ 2
           → AreQuiet (made cells (cycled list) []) × AreHigh (made cells (cycled list) [])
       reset_so list less =
           let e = count_of R image held rom start list older cells in
@@ -272,20 +275,20 @@ module _ (R image : List ℕ) (held rom : ℕ → ℕ) (start : ℕ) where
           (sym (stands_so 0 cells cpu cells.due holds begin refl))
           (reset_accesses cpu cells.ir cells.low cells.high cells.back cells.was cells.due (cycled list) (omega (arith, e, less)))
 
-      pub wakes_amid : (list : List Two) → length list < 2 → sync (cells_after held older cells list) ≡ 0
+      pub wakes_amid : (list : List Turn) → counted list < 2 → sync (cells_after held older cells list) ≡ 0
       wakes_amid list less =
           let e = count_of R image held rom start list older cells in
           subst (λ c. sync (ends c (cycled list)) ≡ 0) (sym (stands_so 0 cells cpu cells.due holds begin refl))
           (reset_amid cpu cells.ir cells.low cells.high cells.back cells.was cells.due (cycled list) (omega (arith, e, less)))
 
-      pub wakes_half : (spot : Option (Cpu × ℕ)) → On spot older → (list : List Two) (two : Two) → length list < 2
-          → Does (list ++ two ∷ []) → Half R image held rom start older cells list two
+      pub wakes_half : (spot : Option (Cpu × ℕ)) → On spot older → (list : List Turn) (two : Two) → counted list < 2
+          → Does (list ++ acts two ∷ []) → Half R image held rom start older cells list two
       wakes_half spot on list two less doing =
           let e = counts list two in
-          half_quiet spot on list two doing (reset_so (list ++ two ∷ []) (omega (arith, e, less))).0
+          half_quiet spot on list two doing (reset_so (list ++ acts two ∷ []) (omega (arith, e, less))).0
 
       pub wakes_done : IsAccepted rom start → (spot : Option (Cpu × ℕ)) → On spot older
-          → (list : List Two) → length list ≡ 2 → Does list → Done R image held rom start cpu older cells work calm list
+          → (list : List Turn) → counted list ≡ 2 → Does list → Done R image held rom start cpu older cells work calm list
       wakes_done game spot on list count doing =
           let so = reset_so list (omega (arith, count)) in
           let e = count_of R image held rom start list older cells in
@@ -306,14 +309,14 @@ module _ (R image : List ℕ) (held rom : ℕ → ℕ) (start : ℕ) where
           (λ due. close due ((timely R held rom list older cells work calm doing.fits doing.given doing.asked).timed none))
         where
           close : (cells_after held older cells list).due ≡ 1
-              → Timed R held rom (length list) calm (calms cells (cycled list) calm) (cells_after held older cells list).due
-              → calms cells (cycled list) calm ≤ 12
+              → Timed R held rom (counted list) calm (calms cells (cycled list) calm) (cells_after held older cells list).due
+              → calms cells (cycled list) calm ≤ 6
           close due (inl is) = absurd (omega (arith, due, is))
           close due (inr rose) = let long = rose.1 in omega (arith, long, count)
 
     -- an NMI
-    module _ (in_rom : InRom cpu) (bytes : AreBytes cpu) (rests : Rests cells cpu) (due : cells.due ≡ 1) (close : calm ≤ 12) where
-      nmi_so : (list : List Two) → length list ≤ 5
+    module _ (in_rom : InRom cpu) (bytes : AreBytes cpu) (rests : Rests cells cpu) (due : cells.due ≡ 1) (close : calm ≤ 6) where
+      nmi_so : (list : List Turn) → counted list ≤ 5
           → AreQuiet (made cells (cycled list) []) × AreHigh (made cells (cycled list) [])
       nmi_so list less =
           let e = count_of R image held rom start list older cells in
@@ -322,17 +325,17 @@ module _ (R image : List ℕ) (held rom : ℕ → ℕ) (start : ℕ) where
           (nmi_accesses cpu bytes.s cells.ir cells.low cells.high cells.back cells.was (cycled list) (omega (arith, e, less)))
 
       -- no opcode is read
-      pub nmi_unread : (list : List Two) → length list < 5 → sync (cells_after held older cells list) ≡ 0
+      pub nmi_unread : (list : List Turn) → counted list < 5 → sync (cells_after held older cells list) ≡ 0
       nmi_unread list less =
           let e = count_of R image held rom start list older cells in
           subst (λ c. sync (ends c (cycled list)) ≡ 0) (sym (stands_so 2 cells cpu 1 rests.holds rests.fetches due))
           (nmi_amid cpu bytes.s cells.ir cells.low cells.high cells.back cells.was (cycled list) (omega (arith, e, less)))
 
-      pub nmi_half : (spot : Option (Cpu × ℕ)) → On spot older → (list : List Two) (two : Two) → length list < 5
-          → Does (list ++ two ∷ []) → Half R image held rom start older cells list two
+      pub nmi_half : (spot : Option (Cpu × ℕ)) → On spot older → (list : List Turn) (two : Two) → counted list < 5
+          → Does (list ++ acts two ∷ []) → Half R image held rom start older cells list two
       nmi_half spot on list two less doing =
           let e = counts list two in
-          half_quiet spot on list two doing (nmi_so (list ++ two ∷ []) (omega (arith, e, less))).0
+          half_quiet spot on list two doing (nmi_so (list ++ acts two ∷ []) (omega (arith, e, less))).0
 
       plain : (b : ℕ) → 0x4800 ≤ b → found b k ≡ with_vectors b
       plain b low = ap (λ t. if t then 0 else with_vectors b) (ne_eqb b 0x2002 (λ e. omega (arith, e, low)))
@@ -356,49 +359,48 @@ module _ (R image : List ℕ) (held rom : ℕ → ℕ) (start : ℕ) where
           ∙ ap (λ b. cpu.mem 0x7FFA + 256 * b) (sym (loaded 0x7FFB (lit≤ tt) (lit< tt)))
 
       -- another one doesn't rise meanwhile
-      pub nmi_time : (list : List Two) → length list ≡ 5 → Does list → ((cells_after held older cells list).due ≡ 0)
-          × (calms cells (cycled list) calm ≤ 22)
-      nmi_time [] count doing = absurd (omega (arith, count))
-      nmi_time (two ∷ list) count doing = by (nat_eq (cycle_of (at_rest held older cells) two).nmi 1 && nat_eq cells.was 0) refl
+      none_rises : (list : List Turn) (older : List Bus) → AllFit R held older cells → AreGiven R (at_rest held older cells) list
+          → AreAsked rom work calm (at_rest held older cells) list → counted list ≡ 5
+          → ((cells_after held older cells list).due ≡ 0) × (calms cells (cycles_of (at_rest held older cells) list) calm ≤ 11)
+      none_rises [] older f given asked count = absurd (omega (arith, count))
+      none_rises (idles drive ∷ list) older f given asked count =
+          none_rises list (wait_bus (at_rest held older cells) drive ∷ older) (wait_fits R held older cells drive f given.0) given.1
+          asked count
+      none_rises (acts two ∷ list) older f given asked count =
+          by (nat_eq (cycle_of (at_rest held older cells) two).nmi 1 && nat_eq cells.was 0) refl
         where
-          cycle : Cycle
-          cycle = cycle_of (at_rest held older cells) two
-
-          rest : Timely R held rom (length list) (calm_in cells (cycle_of (at_rest held older cells) two) calm)
-              (calms cells (cycled (two ∷ list)) calm) (clock cells (pins_of (cycle_of (at_rest held older cells) two))).due
-              (cells_after held older cells (two ∷ list)).due
+          rest : Timely R held rom (counted list) (calm_in cells (cycle_of (at_rest held older cells) two) calm) (calms cells (cycles_of (at_rest held older cells) (acts two ∷ list)) calm) (clock cells (pins_of (cycle_of (at_rest held older cells) two))).due (cells_after held older cells (acts two ∷ list)).due
           rest = timely R held rom list
               (second_bus (at_rest held older cells) two ∷ first_bus (at_rest held older cells) two ∷ older)
-              (clock cells (pins_of (cycle_of (at_rest held older cells) two))) (wrote cells work)
-              (calm_in cells (cycle_of (at_rest held older cells) two) calm)
-              (cycle_fits R held older cells two doing.fits doing.given.0) doing.given.1 doing.asked.1
+              (clock cells (pins_of (cycle_of (at_rest held older cells) two))) (wrote cells work) (calm_in cells (cycle_of (at_rest held older cells) two) calm)
+              (cycle_fits R held older cells two f given.0) given.1 asked.1
 
-          four : length list ≡ 4
+          four : counted list ≡ 4
           four = omega (arith, count)
 
-          by : (t : Bool) → (nat_eq (cycle_of (at_rest held older cells) two).nmi 1 && nat_eq cells.was 0) ≡ t
-              → ((cells_after held older cells (two ∷ list)).due ≡ 0) × (calms cells (cycled (two ∷ list)) calm ≤ 22)
-          by true e = absurd (let long = doing.asked.0.apart e in omega (arith, long, close))
+          by : (t : Bool) → (nat_eq (cycle_of (at_rest held older cells) two).nmi 1 && nat_eq cells.was 0) ≡ t → ((cells_after held older cells (acts two ∷ list)).due ≡ 0) × ((calms cells (cycles_of (at_rest held older cells) (acts two ∷ list)) calm) ≤ 11)
+          by true e = absurd (let long = asked.0.apart e in omega (arith, long, close))
           by false e =
-              let now : calm_in cells (cycle_of (at_rest held older cells) two) calm ≡ suc (suc calm) =
-              ap (λ t. if t then 0 else suc (suc calm)) e in
+              let now : calm_in cells (cycle_of (at_rest held older cells) two) calm ≡ suc calm = ap (λ t. if t then 0 else suc calm) e in
               let none : (clock cells (pins_of (cycle_of (at_rest held older cells) two))).due ≡ 0 =
-              (hears cells (cycle_of (at_rest held older cells) two) doing.fits.of_cells.was doing.fits.of_cells.due doing.given.0.nmi).1
+              (hears cells (cycle_of (at_rest held older cells) two) f.of_cells.was f.of_cells.due given.0.nmi).1
               ∙ ap (λ t. if t then 1 else if nat_eq cells.state 2 then 0 else cells.due) e
               ∙ ap (λ n. if nat_eq n 2 then 0 else cells.due) rests.fetches in
               let bound = rest.bound in
               let long = four in
               (only now (rest.timed none), omega (arith, bound, now, long, close))
             where
-              only : calm_in cells (cycle_of (at_rest held older cells) two) calm ≡ suc (suc calm)
-                  → Timed R held rom (length list) (calm_in cells (cycle_of (at_rest held older cells) two) calm)
-                  (calms cells (cycled (two ∷ list)) calm) (cells_after held older cells (two ∷ list)).due
-                  → (cells_after held older cells (two ∷ list)).due ≡ 0
+              only : calm_in cells (cycle_of (at_rest held older cells) two) calm ≡ suc calm → Timed R held rom (counted list) (calm_in cells (cycle_of (at_rest held older cells) two) calm) (calms cells (cycles_of (at_rest held older cells) (acts two ∷ list)) calm) (cells_after held older cells (acts two ∷ list)).due
+                  → (cells_after held older cells (acts two ∷ list)).due ≡ 0
               only now (inl is) = is
               only now (inr rose) = let a = rose.0 in let long = four in absurd (omega (arith, a, now, long, close))
 
+      pub nmi_time : (list : List Turn) → counted list ≡ 5 → Does list → ((cells_after held older cells list).due ≡ 0)
+          × (calms cells (cycled list) calm ≤ 11)
+      nmi_time list count doing = none_rises list older doing.fits doing.given doing.asked count
+
       -- all of it
-      pub nmi_done : (list : List Two) → length list ≡ 5 → Does list → Rests (cells_after held older cells list) entered
+      pub nmi_done : (list : List Turn) → counted list ≡ 5 → Does list → Rests (cells_after held older cells list) entered
           × (entered.mem ≡ after_writes (made cells (cycled list) []) with_vectors) × AreQuiet (made cells (cycled list) [])
       nmi_done list count doing =
           let so = nmi_so list (omega (arith, count)) in
@@ -428,18 +430,18 @@ module _ (R image : List ℕ) (held rom : ℕ → ℕ) (start : ℕ) where
     -- and one of a game
     module _ (laws : Laws) (game : IsAccepted rom start) (brought : Brought R (bearing.on_board laws R image held) rom start)
         (since : ℕ) (on : On (Some (cpu, since)) older) (rests : Rests cells cpu) (due : cells.due ≡ 1) (late : 860 ≤ since)
-        (close : calm ≤ 12) where
+        (close : calm ≤ 6) where
       it : Known rom cpu
       it = known laws R image held rom start game brought cpu since older on
 
-      pub hears_amid : (list : List Two) → length list < 5 → sync (cells_after held older cells list) ≡ 0
+      pub hears_amid : (list : List Turn) → counted list < 5 → sync (cells_after held older cells list) ≡ 0
       hears_amid = nmi_unread it.in_rom it.bytes rests due close
 
-      pub hears_half : (list : List Two) (two : Two) → length list < 5
-          → Does (list ++ two ∷ []) → Half R image held rom start older cells list two
+      pub hears_half : (list : List Turn) (two : Two) → counted list < 5
+          → Does (list ++ acts two ∷ []) → Half R image held rom start older cells list two
       hears_half = nmi_half it.in_rom it.bytes rests due close (Some (cpu, since)) on
 
-      pub hears_done : (list : List Two) → length list ≡ 5 → Does list
+      pub hears_done : (list : List Turn) → counted list ≡ 5 → Does list
           → Done R image held rom start cpu older cells work calm list
       hears_done list count doing =
           let g = nmi_done it.in_rom it.bytes rests due close list count doing in

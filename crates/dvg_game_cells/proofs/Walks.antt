@@ -9,7 +9,7 @@ use Rattle.dvg_cells_board.specs.Clocks.{after}
 use Rattle.dvg_calls_board.specs.Machine.{Makes}
 use Rattle.dvg_cells_cpu.specs.Cpu.{Cpu as Cells, at, write, dout, clock}
 use Rattle.dvg_cells_cpu.specs.Refines.{pins_of, access, made}
-use Rattle.dvg_calls_cells.specs.Cycles.{Two, first_bus, second_bus, next, cycles_of, cycle_of, IsQuiet, AreQuiet}
+use Rattle.dvg_calls_cells.specs.Cycles.{Two, Turn, acts, idles, wait_bus, first_bus, second_bus, next, cycles_of, cycle_of, IsQuiet, AreQuiet}
 use Rattle.dvg_calls_cells.specs.Steps.{AreServed}
 use Rattle.dvg_calls_cells.specs.Played.{at_rest, older_after}
 use Rattle.dvg_calls_cells.proofs.Quiet.{idle_write, write_first}
@@ -22,7 +22,7 @@ module _ (R image : List ℕ) (held rom : ℕ → ℕ) (start : ℕ) where
   abbrev On : Option (Cpu × ℕ) → List Bus → Type 0
   On spot clocks = IsCabinet R image held rom start spot clocks
 
-  module _ (older : List Bus) (cells : Cells) (two : Two) (served : AreServed R (at_rest held older cells) (two ∷ [])) where
+  module _ (older : List Bus) (cells : Cells) (two : Two) (served : AreServed R (at_rest held older cells) (acts two ∷ [])) where
     abbrev one : Bus
     one = first_bus (at_rest held older cells) two
 
@@ -72,14 +72,17 @@ module _ (R image : List ℕ) (held rom : ℕ → ℕ) (start : ℕ) where
         (one_more its one no_more served.0 served.1.1.0 (makes (nat_eq (write cells) 0) its refl is it_is_seen)))
 
   -- cycles that leave the board alone
-  pub quietly : (spot : Option (Cpu × ℕ)) (twos : List Two) (older : List Bus) (cells : Cells) → On spot older
+  pub quietly : (spot : Option (Cpu × ℕ)) (twos : List Turn) (older : List Bus) (cells : Cells) → On spot older
       → AreServed R (at_rest held older cells) twos
       → AreQuiet (made cells (cycles_of (at_rest held older cells) twos) []) → On spot (older_after held older cells twos)
   quietly spot [] older cells on served quiet = on
-  quietly spot (two ∷ later) older cells on served quiet =
+  quietly spot (idles drive ∷ later) older cells on served quiet =
+      quietly spot later (wait_bus (at_rest held older cells) drive ∷ older) cells
+      (waits (wait_bus (at_rest held older cells) drive) on served.0 served.1.0 (refl, refl)) served.1.1 quiet
+  quietly spot (acts two ∷ later) older cells on served quiet =
       let machine = at_rest held older cells in
       let cycle = cycle_of machine two in
-      let both = write_first IsQuiet cells cycle (cycles_of (next machine two) later) quiet in
-      let mine : AreServed R machine (two ∷ []) = (served.0, (served.1.0, (served.1.1.0, (served.1.1.1.0, tt)))) in
+      let both = write_first IsQuiet cells cycle (cycles_of (next machine (acts two)) later) quiet in
+      let mine : AreServed R machine (acts two ∷ []) = (served.0, (served.1.0, (served.1.1.0, (served.1.1.1.0, tt)))) in
       quietly spot later (second_bus machine two ∷ first_bus machine two ∷ older) (clock cells (pins_of cycle))
       (second_half older cells two mine spot (quiet_half older cells two mine spot on both.0)) served.1.1.1.1 both.1

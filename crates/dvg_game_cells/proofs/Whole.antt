@@ -1,5 +1,5 @@
 -- Each run of cells stands somewhere, and so it is a run of a cabinet, whose log keeps the headline.
-use Rattle.std.proofs.Common.{◌≡◌, ℕ, zero, suc, ◌<◌, ◌≤◌, Bool, true, false, List, [], ◌∷◌, ◌++◌, length, refl, sym, ap, ◌∙◌}
+use Rattle.std.proofs.Common.{◌≡◌, ℕ, zero, suc, ◌<◌, ◌≤◌, Bool, true, false, List, [], ◌∷◌, ◌++◌, refl, sym, ap, ◌∙◌}
 use Rattle.std.proofs.Common.{subst, arith, inl, inr, lit<, eqb-true}
 use Rattle.std.specs.Prelude.{◌⊎◌, nat_eq, nat_lt, ◌&&◌, if◌then◌else◌, Option, Some, None}
 use Rattle.std.proofs.lemmas.Bool.{cases_lt}
@@ -11,36 +11,38 @@ use Rattle.dvg_cells_board.specs.Clocks.{IsServed, after}
 use Rattle.dvg_cells_board.specs.Logs.{HoldsRam}
 use Rattle.dvg_cells_cpu.specs.Cpu.{Cpu as Cells, at, dout, sync, write, zeros}
 use Rattle.dvg_cells_cpu.specs.Cpu as cpus
-use Rattle.dvg_cells_cpu.specs.Refines.{pins_of}
+use Rattle.dvg_cells_cpu.specs.Refines.{ends, made, pins_of}
 use Rattle.dvg_cells_cpu.proofs.Fitting.{fits}
 use Rattle.dvg_calls_cells.specs.Machine.{Machine, Bus as Pins, clock, drives_board}
-use Rattle.dvg_calls_cells.specs.Cycles.{Drive, Two, with_reset, driven, resetting, first_bus, second_bus, cycle_of}
-use Rattle.dvg_calls_cells.specs.Cycles.{cycles_of}
+use Rattle.dvg_calls_cells.specs.Machine as pin
+use Rattle.dvg_calls_cells.specs.Cycles.{Drive, Two, pins_by, driven, resetting, first_bus, second_bus, cycle_of}
+use Rattle.dvg_calls_cells.specs.Cycles.{Turn, acts, idles, wait_bus, cycles_of, AreQuiet}
 use Rattle.dvg_calls_cells.specs.Steps.{AreServed}
 use Rattle.dvg_calls_cells.specs.GoesOn.{drive_for}
-use Rattle.dvg_calls_cells.specs.Played.{IsGiven, at_rest, cells_after, older_after, reset_bus}
-use Rattle.dvg_calls_cells.proofs.Fits.{AllFit, reset_is, reset_fits, served_of}
+use Rattle.dvg_calls_cells.specs.Played.{IsGiven, IsWaiting, at_rest, cells_after, older_after, reset_bus}
+use Rattle.dvg_calls_cells.proofs.Fits.{AllFit, reset_is, reset_fits, served_of, wait_is}
 use Rattle.dvg_game_6502.proofs.Plays.{Brought, by_bytes, by_content}
 use Rattle.dvg_game_6502.proofs.Stages.{IsAccepted}
 use Rattle.dvg_game_board.proofs.OnBoard.{on_board}
 use Rattle.dvg_calls_board.proofs.Waiting.{below}
 use Rattle.dvg_calls_board.specs.Machine.{OfEachMachine}
-use Rattle.dvg_game_board.specs.Cabinet.{IsCabinet, powers, resets, AreAlike, DrawAlike, none, same, elsewhere}
+use Rattle.dvg_game_board.specs.Cabinet.{IsCabinet, powers, resets, waits, AreAlike, DrawAlike, none, same, elsewhere}
 use Rattle.dvg_game_board.specs.Keeps.{GamesKeep, Keeps, VectorsKeep}
 use Rattle.dvg_game_board.proofs.Sharing.{Laws}
 use Rattle.dvg_game_cells.specs.Whole.{IsDriven, IsWhole, Finds, calm_after, work_after}
 use Rattle.dvg_game_cells.specs.Whole as whole
 use Rattle.dvg_game_cells.specs.Keeps.{AreBooting, CellsKeep, GamesOnCellsKeep, StandAt, VectorsOnCellsKeep}
 use Rattle.dvg_game_cells.specs.GoesOn.{answer}
-use Rattle.dvg_game_cells.proofs.Walks.{second_half}
-use Rattle.dvg_game_cells.proofs.Doing.{Asked, Doing, Shares, Stand, Task, calm_in, calms, works, wrote, stands, wakes, starts, breaks, handles}
+use Rattle.dvg_game_cells.proofs.Walks.{quietly, second_half}
+use Rattle.dvg_game_cells.proofs.Doing.{Asked, Doing, Shares, Spot, Stand, Task, calm_in, counted, calms, works, wrote, stands, wakes, starts, breaks, handles}
 use Rattle.dvg_game_cells.proofs.Doing.{plays, hears}
 use Rattle.dvg_game_cells.proofs.Fresh.{answer_finds, answer_small, fresh_cpu, fresh_holds, fresh_shares}
 use Rattle.dvg_game_cells.proofs.Boots as booting
 use Rattle.dvg_game_cells.proofs.Plays as playing
+use Rattle.dvg_game_cells.proofs.Turned.{no_cycles}
 use Rattle.dvg_game_cells.proofs.Vectors as vectors
-use Rattle.dvg_game_cells.proofs.Ends.{Done, Half, unsnoc, works_in}
-use Rattle.dvg_game_cells.proofs.Snoc.{counts, more_asked, more_calms, more_cells, more_given, more_older, more_works, then_at}
+use Rattle.dvg_game_cells.proofs.Ends.{Done, EndsInCycle, Half, works_in}
+use Rattle.dvg_game_cells.proofs.Snoc.{counts, counts_idle, more_asked, more_calms, more_cells, more_given, more_older, more_works, then_at}
 
 -- clocks that are alike leave boards that draw the same
 alike_draw : {held : ℕ → ℕ} {made shown : List Bus} → AreAlike held made shown → DrawAlike (after held made) (after held shown)
@@ -71,8 +73,8 @@ module _ (laws : Laws) (R image : List ℕ) (held rom : ℕ → ℕ) (start : �
 
   -- a task's halfway, and its end
   half : (cpu : Cpu) (older : List Bus) (cells : Cells) (work : ℕ → ℕ) (calm : ℕ) {n : ℕ}
-      → Task R image held rom start cpu older cells calm n → (list : List Two) (two : Two) → length list < n
-      → Doing R image held rom start cpu older cells work calm (list ++ two ∷ [])
+      → Task R image held rom start cpu older cells calm n → (list : List Turn) (two : Two) → counted list < n
+      → Doing R image held rom start cpu older cells work calm (list ++ acts two ∷ [])
       → Half R image held rom start older cells list two
   half cpu older cells work calm (wakes spot on holds begin free) list two less doing =
       vectors.wakes_half R image held rom start cpu older cells work calm holds begin free spot on list two less doing
@@ -88,25 +90,25 @@ module _ (laws : Laws) (R image : List ℕ) (held rom : ℕ → ℕ) (start : �
       vectors.hears_half R image held rom start cpu older cells work calm laws game brought since on rests due late calm_is list two less doing
 
   done : (cpu : Cpu) (older : List Bus) (cells : Cells) (work : ℕ → ℕ) (calm : ℕ) {n : ℕ}
-      → Task R image held rom start cpu older cells calm n → (list : List Two) → length list ≡ n
+      → Task R image held rom start cpu older cells calm n → (list : List Turn) → EndsInCycle list → counted list ≡ n
       → Doing R image held rom start cpu older cells work calm list
       → Done R image held rom start cpu older cells work calm list
-  done cpu older cells work calm (wakes spot on holds begin free) list count doing =
+  done cpu older cells work calm (wakes spot on holds begin free) list newest count doing =
       vectors.wakes_done R image held rom start cpu older cells work calm holds begin free game spot on list count doing
-  done cpu older cells work calm (starts spot left on rests boots boot free) list count doing =
+  done cpu older cells work calm (starts spot left on rests boots boot free) list newest count doing =
       booting.starts_done R image held rom start cpu older cells work calm rests spot left on boots boot free list count doing
-  done cpu older cells work calm (breaks spot left on rests boots boot due close) list count doing =
+  done cpu older cells work calm (breaks spot left on rests boots boot due close) list newest count doing =
       booting.breaks_done R image held rom start cpu older cells work calm rests spot left on boots boot due close game list count doing
-  done cpu older cells work calm (handles spot left on rests back since boots early boot free close) list count doing =
+  done cpu older cells work calm (handles spot left on rests back since boots early boot free close) list newest count doing =
       booting.handles_done R image held rom start cpu older cells work calm rests spot left on back since boots early boot free close list count doing
-  done cpu older cells work calm (plays since on rests free time) list count doing =
-      playing.plays_done laws R image held rom start game brought cpu older cells work calm since on rests free time list count doing
-  done cpu older cells work calm (hears since on rests due late calm_is) list count doing =
+  done cpu older cells work calm (plays since on rests free time) list newest count doing =
+      playing.plays_done laws R image held rom start game brought cpu older cells work calm since on rests free time list count doing newest
+  done cpu older cells work calm (hears since on rests due late calm_is) list newest count doing =
       vectors.hears_done R image held rom start cpu older cells work calm laws game brought since on rests due late calm_is list count doing
 
   -- amid it no opcode is read
   amid_task : (cpu : Cpu) (older : List Bus) (cells : Cells) (work : ℕ → ℕ) (calm : ℕ) {n : ℕ}
-      → Task R image held rom start cpu older cells calm n → (list : List Two) → 0 < length list → length list < n
+      → Task R image held rom start cpu older cells calm n → (list : List Turn) → 0 < counted list → counted list < n
       → Doing R image held rom start cpu older cells work calm list → sync (cells_after held older cells list) ≡ 0
   amid_task cpu older cells work calm (wakes spot on holds begin free) list some less doing =
       vectors.wakes_amid R image held rom start cpu older cells work calm holds begin free list less
@@ -149,19 +151,20 @@ module _ (laws : Laws) (R image : List ℕ) (held rom : ℕ → ℕ) (start : �
 
   at_opcode : {cells : Cells} {work : ℕ → ℕ} {calm : ℕ} {clocks : List Bus} → Standing cells work calm clocks → sync cells ≡ 1
       → At cells clocks
-  at_opcode (stands cpu older cells work calm n [] doing task short) high = at_task cpu older cells work calm task doing.shares high
-  at_opcode (stands cpu older cells work calm n (two ∷ list) doing task short) high =
-      absurd (not_both (sync (cells_after held older cells (two ∷ list))) high
-      (amid_task cpu older cells work calm task (two ∷ list) (omega arith) short doing))
-
-  at_first : (cpu : Cpu) (older : List Bus) (cells : Cells) (calm : ℕ) {n : ℕ}
-      → Task R image held rom start cpu older cells calm n → (spot : Option (Cpu × ℕ)) × On spot older
-  at_first cpu older cells calm (wakes spot on holds begin free) = (spot, on)
-  at_first cpu older cells calm (starts spot left on rests boots boot free) = (spot, on)
-  at_first cpu older cells calm (breaks spot left on rests boots boot due close) = (spot, on)
-  at_first cpu older cells calm (handles spot left on rests back since boots early boot free close) = (spot, on)
-  at_first cpu older cells calm (plays since on rests free time) = (Some (cpu, since), on)
-  at_first cpu older cells calm (hears since on rests due late calm_is) = (Some (cpu, since), on)
+  at_opcode (stands cpu older cells work calm n list doing task short spot) high = by (counted list) refl
+    where
+      by : (count : ℕ) → counted list ≡ count → At (cells_after held older cells list) (older_after held older cells list)
+      by zero idle =
+          let empty = no_cycles R image held rom start list older cells idle in
+          let same : cells_after held older cells list ≡ cells = ap (λ l. ends cells l) empty in
+          let here = at_task cpu older cells work calm task doing.shares (subst (λ c. sync c ≡ 1) same high) in (
+            here.0,
+            quietly R image held rom start here.0 list older cells here.1 (served_of R held list older cells doing.fits doing.given).0
+                (subst (λ l. AreQuiet (made cells l [])) (sym empty) tt),
+            subst (λ c. StandAt c here.0 ⊎ AreBooting rom start c) (sym same) here.2,
+          )
+      by (suc count) some = absurd (not_both (sync (cells_after held older cells list)) high
+          (amid_task cpu older cells work calm task list (omega (arith, some)) short doing))
 
   -- what holds wherever it stands
   record Holding (cells : Cells) (work : ℕ → ℕ) (clocks : List Bus) : Type 0 where
@@ -172,54 +175,37 @@ module _ (laws : Laws) (R image : List ℕ) (held rom : ℕ → ℕ) (start : �
     spot : Option (Cpu × ℕ)
     on : On spot clocks
 
-  abbrev Spot : List Bus → Type 0
-  Spot clocks = (spot : Option (Cpu × ℕ)) × On spot clocks
-
   -- a task stands halfway, and after the second clock of the cycle
   both_clocks : (cpu : Cpu) (older : List Bus) (cells : Cells) (work : ℕ → ℕ) (calm n : ℕ)
-      → Task R image held rom start cpu older cells calm n → (list : List Two) (two : Two) → length list < n
-      → Doing R image held rom start cpu older cells work calm (list ++ two ∷ [])
-      → Spot (older_after held older cells (list ++ two ∷ []))
+      → Task R image held rom start cpu older cells calm n → (list : List Turn) (two : Two) → counted list < n
+      → Doing R image held rom start cpu older cells work calm (list ++ acts two ∷ [])
+      → Spot R image held rom start (older_after held older cells (list ++ acts two ∷ []))
   both_clocks cpu older cells work calm n task list two less doing =
       let first = half cpu older cells work calm task list two less doing in
-      let parts = served_of R held (list ++ two ∷ []) older cells doing.fits doing.given in
+      let parts = served_of R held (list ++ acts two ∷ []) older cells doing.fits doing.given in
       let served = last_served list older cells parts.0 in (
         first.0,
-        subst (λ k. On first.0 k) (sym (more_older R held rom two list older cells))
+        subst (λ k. On first.0 k) (sym (more_older R held rom (acts two) list older cells))
             (second_half R image held rom start (older_after held older cells list) (cells_after held older cells list) two served first.0 first.1),
       )
     where
-      last_served : (l : List Two) (b : List Bus) (c : Cells) → AreServed R (at_rest held b c) (l ++ two ∷ [])
-          → AreServed R (then_at R held rom b c l) (two ∷ [])
+      last_served : (l : List Turn) (b : List Bus) (c : Cells) → AreServed R (at_rest held b c) (l ++ acts two ∷ [])
+          → AreServed R (then_at R held rom b c l) (acts two ∷ [])
       last_served [] b c served = served
-      last_served (x ∷ l) b c served =
+      last_served (idles drive ∷ l) b c served = last_served l (wait_bus (at_rest held b c) drive ∷ b) c served.1.1
+      last_served (acts x ∷ l) b c served =
           last_served l (second_bus (at_rest held b c) x ∷ first_bus (at_rest held b c) x ∷ b)
           (cpus.clock c (pins_of (cycle_of (at_rest held b c) x))) served.1.1.1.1
 
   holding : {cells : Cells} {work : ℕ → ℕ} {calm : ℕ} {clocks : List Bus} → Standing cells work calm clocks → Holding cells work clocks
-  holding (stands cpu older cells work calm n list doing task short) = by (unsnoc list)
-    where
-      with_spot : Spot (older_after held older cells list)
-          → Holding (cells_after held older cells list) (works cells (cycles_of (at_rest held older cells) list) work)
-          (older_after held older cells list)
-      with_spot spot = record {
-        is_rom = doing.is_rom;
-        fitting = (served_of R held list older cells doing.fits doing.given).1;
-        work_in = works_in R image held rom start list older cells work doing.fits doing.given doing.work_in;
-        rom_in = doing.rom_in;
-        spot = spot.0;
-        on = spot.1;
-      }
-
-      by : (list ≡ []) ⊎ ((front : List Two) × (last : Two) × (list ≡ front ++ last ∷ []))
-          → Holding (cells_after held older cells list) (works cells (cycles_of (at_rest held older cells) list) work)
-          (older_after held older cells list)
-      by (inl empty) = with_spot (subst (λ l. Spot (older_after held older cells l)) (sym empty) (at_first cpu older cells calm task))
-      by (inr some) =
-          let does = subst (λ l. Doing R image held rom start cpu older cells work calm l) some.2 doing in
-          let count : length list ≡ suc (length some.0) = ap length some.2 ∙ counts some.0 some.1 in
-          with_spot (subst (λ l. Spot (older_after held older cells l)) (sym some.2)
-          (both_clocks cpu older cells work calm n task some.0 some.1 (omega (arith, count, short)) does))
+  holding (stands cpu older cells work calm n list doing task short spot) = record {
+    is_rom = doing.is_rom;
+    fitting = (served_of R held list older cells doing.fits doing.given).1;
+    work_in = works_in R image held rom start list older cells work doing.fits doing.given doing.work_in;
+    rom_in = doing.rom_in;
+    spot = spot.0;
+    on = spot.1;
+  }
 
   -- a cycle more
   cycle_on : {cells : Cells} {work : ℕ → ℕ} {calm : ℕ} {clocks : List Bus} → Standing cells work calm clocks → (two : Two)
@@ -227,48 +213,68 @@ module _ (laws : Laws) (R image : List ℕ) (held rom : ℕ → ℕ) (start : �
       → Standing (cpus.clock cells (pins_of (cycle_of (at_rest held clocks cells) two))) (wrote cells work)
       (calm_in cells (cycle_of (at_rest held clocks cells) two) calm)
       (second_bus (at_rest held clocks cells) two ∷ first_bus (at_rest held clocks cells) two ∷ clocks)
-  cycle_on (stands cpu older cells work calm n list doing task short) two given asked =
-      moved_to (more_cells R held rom two list older cells) (more_works R held rom two list older cells work)
-      (more_calms R held rom two list older cells calm) (more_older R held rom two list older cells)
-      (by (cases_lt (suc (length list)) n))
+  cycle_on (stands cpu older cells work calm n list doing task short spot) two given asked =
+      moved_to (more_cells R held rom (acts two) list older cells) (more_works R held rom (acts two) list older cells work)
+      (more_calms R held rom (acts two) list older cells calm) (more_older R held rom (acts two) list older cells)
+      (by (cases_lt (suc (counted list)) n))
     where
-      more : List Two
-      more = list ++ two ∷ []
-
-      does : Doing R image held rom start cpu older cells work calm (list ++ two ∷ [])
+      does : Doing R image held rom start cpu older cells work calm (list ++ acts two ∷ [])
       does = record {
         is_rom = doing.is_rom;
         fits = doing.fits;
         shares = doing.shares;
         work_in = doing.work_in;
         rom_in = doing.rom_in;
-        given = more_given R held rom two list older cells doing.given given;
-        asked = more_asked R held rom two list older cells work calm doing.asked asked;
+        given = more_given R held rom (acts two) list older cells doing.given (given, tt);
+        asked = more_asked R held rom (acts two) list older cells work calm doing.asked (asked, tt);
       }
 
-      by : (suc (length list) < n) ⊎ (n ≤ suc (length list))
-          → Standing (cells_after held older cells (list ++ two ∷ []))
-          (works cells (cycles_of (at_rest held older cells) (list ++ two ∷ [])) work)
-          (calms cells (cycles_of (at_rest held older cells) (list ++ two ∷ [])) calm)
-          (older_after held older cells (list ++ two ∷ []))
-      by (inl less) = stands cpu older cells work calm n (list ++ two ∷ []) does task
-          (let count = counts list two in omega (arith, count, less))
-      by (inr full) = done cpu older cells work calm task (list ++ two ∷ [])
+      by : (suc (counted list) < n) ⊎ (n ≤ suc (counted list))
+          → Standing (cells_after held older cells (list ++ acts two ∷ []))
+          (works cells (cycles_of (at_rest held older cells) (list ++ acts two ∷ [])) work)
+          (calms cells (cycles_of (at_rest held older cells) (list ++ acts two ∷ [])) calm)
+          (older_after held older cells (list ++ acts two ∷ []))
+      by (inl less) = stands cpu older cells work calm n (list ++ acts two ∷ []) does task
+          (let count = counts list two in omega (arith, count, less)) (both_clocks cpu older cells work calm n task list two short does)
+      by (inr full) = done cpu older cells work calm task (list ++ acts two ∷ []) (list, two, refl)
           (let count = counts list two in omega (arith, count, full, short)) does
+
+  -- a clock in which the processor waits
+  wait_on : {cells : Cells} {work : ℕ → ℕ} {calm : ℕ} {clocks : List Bus} → Standing cells work calm clocks → (drive : Drive)
+      → IsWaiting R (at_rest held clocks cells) drive
+      → Standing cells work calm (wait_bus (at_rest held clocks cells) drive ∷ clocks)
+  wait_on (stands cpu older cells work calm n list doing task short spot) drive given =
+      moved_to (more_cells R held rom (idles drive) list older cells) (more_works R held rom (idles drive) list older cells work)
+      (more_calms R held rom (idles drive) list older cells calm) (more_older R held rom (idles drive) list older cells)
+      (stands cpu older cells work calm n (list ++ idles drive ∷ []) (record {
+        is_rom = doing.is_rom;
+        fits = doing.fits;
+        shares = doing.shares;
+        work_in = doing.work_in;
+        rom_in = doing.rom_in;
+        given = more_given R held rom (idles drive) list older cells doing.given (given, tt);
+        asked = more_asked R held rom (idles drive) list older cells work calm doing.asked tt;
+      }) task (let count = counts_idle list drive in omega (arith, count, short)) (
+        spot.0,
+        subst (λ k. On spot.0 k) (sym (more_older R held rom (idles drive) list older cells))
+            (waits (wait_bus (then_at R held rom older cells list) drive) spot.1
+            (wait_is R held (older_after held older cells list) (cells_after held older cells list) drive
+            (served_of R held list older cells doing.fits doing.given).1 given) given.served (refl, refl)),
+      ))
 
   -- the first clock of one
   half_on : {cells : Cells} {work : ℕ → ℕ} {calm : ℕ} {clocks : List Bus} → Standing cells work calm clocks → (two : Two)
       → IsGiven R (at_rest held clocks cells) two → Asked rom cells work calm two.second.nmi two.second.m
-      → Spot (first_bus (at_rest held clocks cells) two ∷ clocks)
-  half_on (stands cpu older cells work calm n list doing task short) two given asked =
+      → Spot R image held rom start (first_bus (at_rest held clocks cells) two ∷ clocks)
+  half_on (stands cpu older cells work calm n list doing task short spot) two given asked =
       half cpu older cells work calm task list two short (record {
         is_rom = doing.is_rom;
         fits = doing.fits;
         shares = doing.shares;
         work_in = doing.work_in;
         rom_in = doing.rom_in;
-        given = more_given R held rom two list older cells doing.given given;
-        asked = more_asked R held rom two list older cells work calm doing.asked asked;
+        given = more_given R held rom (acts two) list older cells doing.given (given, tt);
+        asked = more_asked R held rom (acts two) list older cells work calm doing.asked (asked, tt);
       })
 
   -- a reset begins anew, also that of power-up
@@ -284,7 +290,7 @@ module _ (laws : Laws) (R image : List ℕ) (held rom : ℕ → ℕ) (start : �
         rom_in = rom_in;
         given = tt;
         asked = tt;
-      }) (wakes spot on (fresh_holds R image held rom start cells work clocks fitting work_in rom_in) begin free) (omega arith)
+      }) (wakes spot on (fresh_holds R image held rom start cells work clocks fitting work_in rom_in) begin free) (omega arith) (spot, on)
 
   -- between two cycles, or amid one
   data Now : Machine → (ℕ → ℕ) → ℕ → List Bus → Type 0 where
@@ -313,16 +319,34 @@ module _ (laws : Laws) (R image : List ℕ) (held rom : ℕ → ℕ) (start : �
     abbrev here : Machine
     here = at_rest held clocks cells
 
-    first_clock : (reset : ℕ) (drive : Drive) → reset < 2 → Asks here work calm (with_reset reset drive)
-        → Next here work calm clocks (with_reset reset drive)
-    first_clock zero drive less asks = amid s drive asks
-    first_clock (suc zero) drive less asks =
+    -- a reset, whether a cycle might begin or not
+    resets_it : (drive : Drive) → Asks here work calm (resetting drive) → Next here work calm clocks (resetting drive)
+    resets_it drive asks =
         let h = holding s in
         let bus = reset_bus held clocks cells drive in
         let on = resets bus h.on (reset_is R held clocks cells drive h.fitting asks.nmi asks.vector_rom asks.m) (served_by asks) (refl, refl) refl in
-        rests (anew None (clock here (resetting drive)).cpu work (suc calm) (bus ∷ clocks) on h.is_rom
+        rests (anew None (clock here (resetting drive)).cpu work calm (bus ∷ clocks) on h.is_rom
         (reset_fits R held clocks cells drive h.fitting asks.nmi asks.vector_rom asks.m) h.work_in h.rom_in refl refl)
-    first_clock (suc (suc n)) drive less asks = absurd (omega (arith, less))
+
+    first_clock : (reset ready : ℕ) (drive : Drive) → reset < 2 → ready < 2 → Asks here work calm (pins_by reset ready drive)
+        → Next here work calm clocks (pins_by reset ready drive)
+    first_clock zero zero drive less less_ready asks =
+        rests (wait_on s drive (record { rom = asks.vector_rom; served = served_by asks }))
+    first_clock zero (suc zero) drive less less_ready asks = amid s drive asks
+    first_clock (suc zero) zero drive less less_ready asks = resets_it drive (record {
+      reset = asks.reset;
+      ready = lit< tt;
+      nmi = asks.nmi;
+      vector_rom = asks.vector_rom;
+      m = asks.m;
+      big = asks.big;
+      from_rom = asks.from_rom;
+      answers = asks.answers;
+      apart = asks.apart;
+    })
+    first_clock (suc zero) (suc zero) drive less less_ready asks = resets_it drive asks
+    first_clock (suc (suc n)) ready drive less less_ready asks = absurd (omega (arith, less))
+    first_clock reset (suc (suc n)) drive less less_ready asks = absurd (omega (arith, less_ready))
 
     -- what is asked of two clocks is asked of the cycle
     module _ (first : Drive) (asks : Asks here work calm (driven first)) where
@@ -332,50 +356,59 @@ module _ (laws : Laws) (R image : List ℕ) (held rom : ℕ → ℕ) (start : �
       same_work : write cells ≡ 0 → wrote cells work ≡ work
       same_work is = ap (λ w. if nat_eq w 1 && nat_lt (at cells) 0x200 then put (at cells) (dout cells) work else work) is
 
-      given_by : (reset : ℕ) (second : Drive) → reset < 2
-          → Asks middle (work_after here (driven first) work) (calm_after here (driven first) calm) (with_reset reset second)
-          → IsGiven R here (record { first = first; second = second })
-      given_by zero second less more = record {
-        nmi = more.nmi;
-        first_rom = asks.vector_rom;
-        second_rom = more.vector_rom;
-        m = more.m;
-        first = served_by asks;
-        second = served_by more;
-      }
-      given_by (suc zero) second less more = record {
-        nmi = more.nmi;
-        first_rom = asks.vector_rom;
-        second_rom = more.vector_rom;
-        m = more.m;
-        first = served_by asks;
-        second = served_by more;
-      }
-      given_by (suc (suc n)) second less more = absurd (omega (arith, less))
+      abbrev Asked_then : (reset ready : ℕ) → Drive → Type 0
+      Asked_then reset ready second =
+          Asks middle (work_after here (driven first) work) (calm_after here (driven first) calm) (pins_by reset ready second)
 
-      asked_by : (reset : ℕ) (second : Drive)
-          → Asks middle (work_after here (driven first) work) (calm_after here (driven first) calm) (with_reset reset second)
-          → Asked rom cells work calm second.nmi second.m
-      asked_by reset second more = record {
+      asked_by : (second : Drive) → Asked_then 0 0 second → Asked rom cells work calm second.nmi second.m
+      asked_by second more = record {
         finds = λ is. subst (λ k. Finds rom k (at cells) second.m) (same_work is) (more.answers refl is);
         apart = more.apart;
       }
 
-      second_clock : (reset : ℕ) (second : Drive) → reset < 2
-          → Asks middle (work_after here (driven first) work) (calm_after here (driven first) calm) (with_reset reset second)
+      -- in it a reset does nothing, nor does `ready`
+      cycle_then : (second : Drive) → Asked_then 0 0 second
           → Next middle (work_after here (driven first) work) (calm_after here (driven first) calm)
-          (drives_board here (driven first) ∷ clocks) (with_reset reset second)
-      second_clock zero second less more =
-          rests (cycle_on s (record { first = first; second = second }) (given_by zero second less more) (asked_by zero second more))
-      second_clock (suc zero) second less more =
-          rests (cycle_on s (record { first = first; second = second }) (given_by (suc zero) second less more)
-          (asked_by (suc zero) second more))
-      second_clock (suc (suc n)) second less more = absurd (omega (arith, less))
+          (drives_board here (driven first) ∷ clocks) (pins_by 0 0 second)
+      cycle_then second more = rests (cycle_on s (record { first = first; second = second }) (record {
+        nmi = more.nmi;
+        first_rom = asks.vector_rom;
+        second_rom = more.vector_rom;
+        m = more.m;
+        first = served_by asks;
+        second = served_by more;
+      }) (asked_by second more))
+
+      plainly : {reset ready : ℕ} {second : Drive} → IsDriven R rom middle (work_after here (driven first) work)
+          (calm_after here (driven first) calm) (pins_by reset ready second)
+          → (pin.takes middle (pins_by 0 0 second) ≡ pin.takes middle (pins_by reset ready second)) → Asked_then 0 0 second
+      plainly {reset} {ready} {second} more alike = record {
+        reset = lit< tt;
+        ready = lit< tt;
+        nmi = more.nmi;
+        vector_rom = more.vector_rom;
+        m = more.m;
+        big = more.big;
+        from_rom = λ takes. more.from_rom (sym alike ∙ takes);
+        answers = more.answers;
+        apart = more.apart;
+      }
+
+      second_clock : (reset ready : ℕ) (second : Drive) → reset < 2 → ready < 2 → Asked_then reset ready second
+          → Next middle (work_after here (driven first) work) (calm_after here (driven first) calm)
+          (drives_board here (driven first) ∷ clocks) (pins_by reset ready second)
+      second_clock zero zero second less less_ready more = cycle_then second more
+      second_clock zero (suc zero) second less less_ready more = cycle_then second (plainly more refl)
+      second_clock (suc zero) zero second less less_ready more = cycle_then second (plainly more refl)
+      second_clock (suc zero) (suc zero) second less less_ready more = cycle_then second (plainly more refl)
+      second_clock (suc (suc n)) ready second less less_ready more = absurd (omega (arith, less))
+      second_clock reset (suc (suc n)) second less less_ready more = absurd (omega (arith, less_ready))
 
   tick : {machine : Machine} {work : ℕ → ℕ} {calm : ℕ} {clocks : List Bus} (pins : Pins) → Now machine work calm clocks
       → Asks machine work calm pins → Next machine work calm clocks pins
-  tick pins (rests s) asks = first_clock s pins.reset (drive_of pins) asks.reset asks
-  tick pins (amid s first driven_so) asks = second_clock s first driven_so pins.reset (drive_of pins) asks.reset asks
+  tick pins (rests s) asks = first_clock s pins.reset pins.ready (drive_of pins) asks.reset asks.ready asks
+  tick pins (amid s first driven_so) asks =
+      second_clock s first driven_so pins.reset pins.ready (drive_of pins) asks.reset asks.ready asks
 
   now : {machine : Machine} {work : ℕ → ℕ} {calm : ℕ} {clocks : List Bus}
       → IsWhole R image held rom machine work calm clocks → Now machine work calm clocks
@@ -414,7 +447,7 @@ module _ (laws : Laws) (R image : List ℕ) (held rom : ℕ → ℕ) (start : �
       apart = λ rise. absurd (never cells.was (holding s).fitting.of_cells.was rise);
     }
 
-    mid : Spot (first_bus (at_rest held clocks cells) ending ∷ clocks)
+    mid : Spot R image held rom start (first_bus (at_rest held clocks cells) ending ∷ clocks)
     mid = half_on s ending ends_given ends_asked
 
   -- so its clocks are those of a cabinet

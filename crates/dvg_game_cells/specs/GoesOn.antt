@@ -18,9 +18,10 @@ answer rom work free a = if nat_lt a 0x200 then work a else if nat_le 0x4800 a &
     else if nat_le 0xFFFA a then rom (a - 0x8000) else free
 
 -- the pins where that is served in the second clock of a cycle, and any byte before, and the generator's ROM in each
-abbrev pub pins_for : List ℕ → (ℕ → ℕ) → Machine → (ℕ → ℕ) → (reset nmi hold free : ℕ) → Pins
-pins_for R rom machine work reset nmi hold free = record {
+abbrev pub pins_for : List ℕ → (ℕ → ℕ) → Machine → (ℕ → ℕ) → (reset ready nmi hold free : ℕ) → Pins
+pins_for R rom machine work reset ready nmi hold free = record {
   reset = reset;
+  ready = ready;
   nmi = nmi;
   hold = hold;
   big = bit (not (length R == 2048));
@@ -29,13 +30,14 @@ pins_for R rom machine work reset nmi hold free = record {
   undefined = 0;
 }
 
--- each run can have a clock more in which memory and the generator's ROM answer, whatever `reset`, `nmi`, `hold` and the free
--- byte are in it, unless an NMI rises too soon
+-- each run can have a clock more in which memory and the generator's ROM answer, whatever `reset`, `ready`, `nmi`, `hold`
+-- and the free byte are in it, unless an NMI rises too soon
 abbrev pub RunsGoOn : Type 0
 RunsGoOn = (R image : List ℕ) (held rom : ℕ → ℕ) (machine : Machine) (work : ℕ → ℕ) (calm : ℕ) (clocks : List Bus)
-    → IsWhole R image held rom machine work calm clocks → (reset nmi hold free : ℕ) → reset < 2 → nmi < 2 → free < 256
-    → let pins = pins_for R rom machine work reset nmi hold free in
-    (rises machine pins ≡ true → 10400 ≤ suc calm)
+    → IsWhole R image held rom machine work calm clocks → (reset ready nmi hold free : ℕ) → reset < 2 → ready < 2
+    → nmi < 2 → free < 256
+    → let pins = pins_for R rom machine work reset ready nmi hold free in
+    (rises machine pins ≡ true → 5200 ≤ suc calm)
     → IsWhole R image held rom (clock machine pins) (work_after machine pins work) (calm_after machine pins calm)
     (drives_board machine pins ∷ clocks)
 

@@ -13,9 +13,9 @@ use Rattle.dvg_calls_cells.specs.Machine as pin
 abbrev pub rises : Machine → Pins → Bool
 rises machine pins = nat_eq machine.answers 1 && (nat_eq pins.nmi 1 && nat_eq machine.cpu.was 0)
 
--- how many clocks came since it rose last
+-- how many cycles came since it rose last: they end in their second clocks
 abbrev pub calm_after : Machine → Pins → ℕ → ℕ
-calm_after machine pins calm = if rises machine pins then 0 else suc calm
+calm_after machine pins calm = if rises machine pins then 0 else if nat_eq machine.answers 1 then suc calm else calm
 
 -- the work RAM outside, of the zero page and the stack, takes what is written there in the clock of the access
 abbrev pub takes : Machine → Pins → Bool
@@ -38,6 +38,7 @@ pub record Finds (rom work : ℕ → ℕ) (a byte : ℕ) : Type 0 where
 pub record IsDriven (R : List ℕ) (rom : ℕ → ℕ) (machine : Machine) (work : ℕ → ℕ) (calm : ℕ) (pins : Pins) : Type 0 where
   -- the pins are bits and bytes
   pub reset : pins.reset < 2
+  pub ready : pins.ready < 2
   pub nmi : pins.nmi < 2
   pub vector_rom : pins.rom < 256
   pub m : pins.m < 256
@@ -47,10 +48,10 @@ pub record IsDriven (R : List ℕ) (rom : ℕ → ℕ) (machine : Machine) (work
       → pins.rom ≡ slice_index R (2 * (pin.at machine - first_word R) + pin.high machine)
   -- in the second clock of a cycle that reads, the memory outside answers
   pub answers : machine.answers ≡ 1 → pin.write machine ≡ 0 → Finds rom work (pin.a machine) pins.m
-  -- an NMI rises 10,400 clocks after the one before, which are 5,200 cycles
-  pub apart : rises machine pins ≡ true → 10400 ≤ suc calm
+  -- an NMI rises 5,200 cycles after the one before
+  pub apart : rises machine pins ≡ true → 5200 ≤ suc calm
 
--- all that may come since power-up: the machine, the work RAM, how many clocks came since `nmi` rose, and the board's clocks,
+-- all that may come since power-up: the machine, the work RAM, how many cycles came since `nmi` rose, and the board's clocks,
 -- the newest first
 pub data IsWhole (R image : List ℕ) (held rom : ℕ → ℕ) : Machine → (ℕ → ℕ) → ℕ → List Bus → Type 0 where
   -- power-up, with any bytes in both RAMs, and bytes in the ROM

@@ -30,9 +30,9 @@ pub fn vectors_on_cells_keep()
     machine_keeps();
 }
 
-/// A run can go on by a clock in which memory and the generator's ROM answer, whatever `reset` and
-/// `hold` are, and the byte where any will do; and whatever `nmi` is, unless it rises less than
-/// 10,400 clocks after it rose before.
+/// A run can go on by a clock in which memory and the generator's ROM answer, whatever `reset`,
+/// `ready` and `hold` are, and the byte where any will do; and whatever `nmi` is, unless it rises
+/// less than 5,200 cycles after it rose before.
 pub fn runs_go_on()
     ensures { RunsGoOn }
 {}

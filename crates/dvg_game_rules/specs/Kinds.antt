@@ -36,7 +36,7 @@ pub data Kind : Type 0 where
   Call : Kind
   Return : Kind
   Finish : Kind
-  -- JMP (abs), TXS, stores through a pointer, BRK, SED, and what no manual has
+  -- JMP (abs), TXS, stores through a pointer, BRK, and what no manual has
   Wild : Kind
 
 -- how many bytes such an instruction has

@@ -1,4 +1,5 @@
-//! What Rust's users have beside the sources: conversions. By hand; tested, not proved.
+//! What Rust's users have beside the sources: conversions, and the digest of saved states. By hand;
+//! tested, not proved.
 use crate::code::Code;
 use crate::instr::Instr;
 use thiserror::Error;
@@ -21,4 +22,13 @@ impl From<Code> for Instr {
     fn from(code: Code) -> Instr {
         code.instr()
     }
+}
+
+/// Returns the digest of these bytes: FNV-1a of 64 bits, by Fowler, Noll and Vo, who gave it to the
+/// public domain (<http://www.isthe.com/chongo/tech/comp/fnv>). Two that differ in a single byte
+/// have different ones. A saved state names its ROM by it, and has one as its sum.
+pub fn digest(bytes: impl IntoIterator<Item = u8>) -> u64 {
+    bytes.into_iter().fold(0xCBF2_9CE4_8422_2325, |digest, byte| {
+        (digest ^ u64::from(byte)).wrapping_mul(0x0100_0000_01B3)
+    })
 }

@@ -1,14 +1,108 @@
-//! What Rust's users have beside the sources: defaults, a saved state as bytes, what serde reads
-//! and writes of a state, and reads of strokes, moves, the beam and counters, looked at. By hand;
-//! tested, not proved.
+//! What Rust's users have beside the sources: defaults, a saved state as bytes and why bytes are
+//! none, what serde reads and writes of a state, and reads of strokes, moves, the beam and counters,
+//! looked at. By hand; tested, not proved.
 use crate::beam::CIRCLE;
 use crate::generator::Generator;
 use crate::state::GeneratorState;
 use crate::stroke::Stroke;
 use arrayvec::ArrayVec;
-use dvg_code::OutOfMemory;
+use dvg_code::{OutOfMemory, digest};
 use std::alloc::{Allocator, Global};
 use std::prelude::Vec;
+use thiserror::Error;
+
+/// Why bytes aren't restored.
+#[derive(Clone, Copy, Debug, PartialEq, Eq, Hash, Error)]
+#[non_exhaustive]
+pub enum StateFault {
+    /// They are no saved state, or one that was cut or changed.
+    #[error("they are no saved state, or one that was cut or changed")]
+    Broken,
+    /// They are whole, and of another version.
+    #[error("they are of another version")]
+    OtherVersion,
+    /// They are the state of something else, as a generator's for a world.
+    #[error("they are of another class")]
+    OtherClass,
+    /// They are of a world over another ROM.
+    #[error("they are of a world over another ROM")]
+    OtherRom,
+    /// Their parts don't fit together, or the ROM refuses the frame in them, which `resume` finds.
+    #[error("their parts don't fit together, or this ROM refuses the frame in them")]
+    Parts,
+    /// An allocation failed.
+    #[error("out of memory")]
+    OutOfMemory,
+}
+
+impl From<OutOfMemory> for StateFault {
+    fn from(_: OutOfMemory) -> StateFault {
+        StateFault::OutOfMemory
+    }
+}
+
+/// The versions of a saved state: the first one has no digest of a ROM, and no sum.
+const FIRST: u8 = 1;
+const SUMMED: u8 = 2;
+
+/// Returns the first number of a saved state, as bytes, before this many others: the digest of a
+/// ROM and the sum are two of these. `letter` says what was saved.
+#[doc(hidden)]
+pub fn head(letter: u8, numbers: usize) -> [u8; 8] {
+    let [a, b, c, d] = (numbers as u32).to_le_bytes();
+    [b'D', b'V', letter, SUMMED, a, b, c, d]
+}
+
+/// Ends a saved state: adds the digest of a ROM, or 0, which names none, and the sum. Returns
+/// `OutOfMemory` where an allocation fails.
+#[doc(hidden)]
+pub fn end(bytes: &mut Vec<u8>, rom: u64) -> Result<(), OutOfMemory> {
+    put(bytes, rom)?;
+    let sum = digest(bytes.iter().copied());
+    put(bytes, sum)
+}
+
+/// Returns the numbers of a saved state, as bytes, without its head, digest and sum; and that
+/// digest, which is 0 where it has none. `letter` says what must have been saved. Returns why there
+/// are none: `Broken`, `OtherVersion` or `OtherClass`.
+#[doc(hidden)]
+pub fn numbers_of(letter: u8, bytes: &[u8]) -> Result<(&[u8], u64), StateFault> {
+    let (&[d, v, what, version, ref count @ ..], rest) =
+        bytes.split_first_chunk::<8>().ok_or(StateFault::Broken)?;
+    if [d, v] != *b"DV" || rest.len() < 8 {
+        return Err(StateFault::Broken);
+    }
+    let (numbers, named) = match version {
+        FIRST => (rest, 0),
+        _ => parts_of_summed(bytes)?,
+    };
+    if version != FIRST && version != SUMMED {
+        return Err(StateFault::OtherVersion);
+    }
+    if ![b'G', b'R', b'W'].contains(&what) {
+        return Err(StateFault::Broken);
+    }
+    if what != letter {
+        return Err(StateFault::OtherClass);
+    }
+    let is_whole = Ok(8 * u64::from(u32::from_le_bytes(*count))) == u64::try_from(rest.len());
+    if is_whole && !numbers.is_empty() { Ok((numbers, named)) } else { Err(StateFault::Broken) }
+}
+
+/// Returns what is between the head and the digest of a ROM, and that digest; `Broken` where the
+/// sum isn't that of the bytes.
+fn parts_of_summed(bytes: &[u8]) -> Result<(&[u8], u64), StateFault> {
+    let broken = StateFault::Broken;
+    let (summed, sum) = bytes.split_last_chunk::<8>().ok_or(broken)?;
+    if digest(summed.iter().copied()) != u64::from_le_bytes(*sum) {
+        return Err(broken);
+    }
+    // Of 16 bytes in all, which are those of a later version, nothing is between them.
+    let rest = summed.get(8..).unwrap_or(&[]);
+    Ok(rest.split_last_chunk::<8>().map_or((&[], 0), |(numbers, rom)| {
+        (numbers, u64::from_le_bytes(*rom))
+    }))
+}
 
 /// As `Generator::new`.
 impl<A: Allocator + Copy + Default> Default for Generator<A> {
@@ -20,48 +114,43 @@ impl<A: Allocator + Copy + Default> Default for Generator<A> {
 /// The number of the request that tells a part of a state: the lowest byte of each part.
 const TELLS: u64 = 35;
 
-/// The bytes that a saved state begins with, and one of a generator whose stack wraps: a name and a
-/// version.
-const NAME: [u8; 4] = *b"DVG\x01";
-const WRAPPING_NAME: [u8; 4] = *b"DVR\x01";
+/// The letters of a saved generator, and of one whose stack wraps.
+const GENERATOR: u8 = b'G';
+const WRAPPING: u8 = b'R';
 
 impl GeneratorState {
-    /// Returns the state as bytes, those that `dvg_save` of `dvg.h` writes, with `strokes` as what
-    /// its open run drew so far; where no run is open, `strokes` aren't part of it. Returns
+    /// Returns the state as bytes, those that `dvg_save_over` of `dvg.h` writes, with `strokes` as
+    /// what its open run drew so far; where no run is open, `strokes` aren't part of it. Returns
     /// `OutOfMemory` where an allocation fails.
     pub fn to_bytes(&self, strokes: &[Stroke]) -> Result<Vec<u8>, OutOfMemory> {
-        self.named(NAME, strokes)
+        self.lettered(GENERATOR, strokes)
     }
 
-    /// Returns the state of which `bytes` are, as `to_bytes` or `dvg_save` wrote them, and what its
-    /// open run drew so far: `Generator::resume` takes both. Returns `None` exactly where
-    /// `dvg_restore` refuses the bytes as those of a generator, and `OutOfMemory` where an
-    /// allocation fails.
-    pub fn from_bytes(
-        bytes: &[u8],
-    ) -> Result<Option<(GeneratorState, Vec<Stroke>)>, OutOfMemory> {
-        GeneratorState::of_named(NAME, bytes)
+    /// Returns the state of which `bytes` are, as `to_bytes`, `dvg_save_over` or `dvg_save` wrote
+    /// them, and what its open run drew so far: `Generator::resume` takes both. Refuses the bytes
+    /// exactly where `dvg_restore` refuses them as those of a generator, and where an allocation
+    /// fails. Never for `OtherRom`.
+    pub fn from_bytes(bytes: &[u8]) -> Result<(GeneratorState, Vec<Stroke>), StateFault> {
+        GeneratorState::of_parts(numbers_of(GENERATOR, bytes)?.0)
     }
 
     /// As `to_bytes`, of a `WrappingGenerator`.
     pub fn to_wrapping_bytes(&self, strokes: &[Stroke]) -> Result<Vec<u8>, OutOfMemory> {
-        self.named(WRAPPING_NAME, strokes)
+        self.lettered(WRAPPING, strokes)
     }
 
     /// As `from_bytes`, of a `WrappingGenerator`, whose state has four return addresses.
-    pub fn from_wrapping_bytes(
-        bytes: &[u8],
-    ) -> Result<Option<(GeneratorState, Vec<Stroke>)>, OutOfMemory> {
-        let told = GeneratorState::of_named(WRAPPING_NAME, bytes)?;
-        Ok(told.filter(|(state, _)| state.return_addresses.is_full()))
+    pub fn from_wrapping_bytes(bytes: &[u8]) -> Result<(GeneratorState, Vec<Stroke>), StateFault> {
+        let (state, strokes) = GeneratorState::of_parts(numbers_of(WRAPPING, bytes)?.0)?;
+        if state.return_addresses.is_full() { Ok((state, strokes)) } else { Err(StateFault::Parts) }
     }
 
-    /// Returns the state as bytes that begin with `name`.
-    fn named(&self, name: [u8; 4], strokes: &[Stroke]) -> Result<Vec<u8>, OutOfMemory> {
+    /// Returns the state as bytes that have this letter.
+    fn lettered(&self, letter: u8, strokes: &[Stroke]) -> Result<Vec<u8>, OutOfMemory> {
         let drawn = if self.is_open { strokes } else { &[] };
-        let count = 2 + self.return_addresses.len() + 2 * drawn.len();
+        let count = 4 + self.return_addresses.len() + 2 * drawn.len();
         let mut bytes = Vec::with_capacity(Global, 8 * (count + 1))?;
-        put(&mut bytes, u64::from(u32::from_le_bytes(name)) | (count as u64) << 32)?;
+        bytes.extend_from_slice(&head(letter, count))?;
         put(&mut bytes, self.fields())?;
         for address in self.return_addresses.iter() {
             put(&mut bytes, TELLS | 1 << 8 | u64::from(*address) << 16)?;
@@ -71,30 +160,22 @@ impl GeneratorState {
             put(&mut bytes, place(3, stroke.x1, stroke.y1) | u64::from(stroke.z % 16) << 60)?;
         }
         put(&mut bytes, place(2, self.x, self.y))?;
+        end(&mut bytes, 0)?;
         Ok(bytes)
     }
 
-    /// Returns the state of which `bytes` are, if they begin with `name`, and its strokes.
-    fn of_named(
-        name: [u8; 4],
-        bytes: &[u8],
-    ) -> Result<Option<(GeneratorState, Vec<Stroke>)>, OutOfMemory> {
-        let Some((&[d, v, g, version, ref count @ ..], parts)) = bytes.split_first_chunk::<8>() else {
-            return Ok(None);
-        };
-        let is_whole = Ok(8 * u64::from(u32::from_le_bytes(*count))) == u64::try_from(parts.len());
-        let begins = parts.starts_with(&[TELLS as u8, 0]);
-        if [d, v, g, version] != name || !is_whole || !begins {
-            return Ok(None);
-        }
+    /// Returns the state of which `parts` are, the bytes of whole numbers, and its strokes: those
+    /// that stand in the bytes of a generator and of a world. Returns `Parts` where they don't fit
+    /// together, and `OutOfMemory` where an allocation fails.
+    #[doc(hidden)]
+    pub fn of_parts(parts: &[u8]) -> Result<(GeneratorState, Vec<Stroke>), StateFault> {
         let (mut state, mut strokes) = (GeneratorState::default(), Vec::new(Global));
+        let mut fits = parts.starts_with(&[TELLS as u8, 0]);
         for part in parts.chunks_exact(8) {
             let part = part.iter().rev().fold(0, |number, byte| number << 8 | u64::from(*byte));
-            if !state.is_told(&mut strokes, part)? {
-                return Ok(None);
-            }
+            fits = fits && state.is_told(&mut strokes, part)?;
         }
-        Ok(state.is_valid().then_some((state, strokes)))
+        if fits && state.is_valid() { Ok((state, strokes)) } else { Err(StateFault::Parts) }
     }
 
     /// Returns the fields as a part.

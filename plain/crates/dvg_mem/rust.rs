@@ -1,5 +1,21 @@
-//! What Rust's users have beside the sources: images and ROMs as serde writes and reads them. By
-//! hand; tested, not proved.
+//! What Rust's users have beside the sources: the digest of a ROM, and images and ROMs as serde
+//! writes and reads them. By hand; tested, not proved.
+use crate::rom::Rom;
+use dvg_code::digest;
+use std::alloc::Allocator;
+
+impl<A: Allocator> Rom<A> {
+    /// Returns the digest of its bytes, by which the saved state of a world names its ROM.
+    pub fn digest(&self) -> u64 {
+        digest(bytes_of(self))
+    }
+}
+
+/// Returns the bytes of a ROM, in order.
+fn bytes_of<A: Allocator>(rom: &Rom<A>) -> impl Iterator<Item = u8> {
+    let addresses = rom.first()..rom.first() + rom.len_words();
+    addresses.flat_map(|address| rom.word(address).to_le_bytes())
+}
 
 /// An image, and a ROM, is the list of its bytes, and is refused where they are of another number.
 #[cfg(feature = "serde")]
@@ -26,8 +42,7 @@ mod forms {
 
     impl<A: Allocator> Serialize for Rom<A> {
         fn serialize<S: Serializer>(&self, serializer: S) -> Result<S::Ok, S::Error> {
-            let addresses = self.first()..self.first() + self.len_words();
-            serializer.collect_seq(addresses.flat_map(|a| self.word(a).to_le_bytes()))
+            serializer.collect_seq(super::bytes_of(self))
         }
     }
 

@@ -5,7 +5,7 @@ use crate::state::WorldState;
 use dvg_code::{Code, Instr, OutOfMemory};
 use dvg_driver::{DriverState, Phase};
 use dvg_frame::{Draft, Op, OpKind};
-use dvg_gen::GeneratorState;
+use dvg_gen::{GeneratorState, StateFault, end, head, numbers_of};
 use dvg_mem::{Half, Image, MEMORY_BYTES};
 use std::alloc::{Allocator, Global};
 use std::prelude::Vec;
@@ -17,9 +17,12 @@ impl Default for Judge {
     }
 }
 
-/// The bytes that a saved world begins with, and a saved generator: a name and a version.
-const WORLD: [u8; 4] = *b"DVW\x01";
-const GENERATOR: [u8; 4] = *b"DVG\x01";
+/// The letter of a saved world.
+const WORLD: u8 = b'W';
+
+/// How many bytes a saved generator has beside its parts: the head, a digest and a sum.
+const HEAD_BYTES: usize = 8;
+const END_BYTES: usize = 16;
 
 /// The lowest bytes of what follows the RAM: a part of the generator, an operation, and the driver.
 const PART: u8 = 35;
@@ -38,42 +41,48 @@ const PHASES: [Phase; 7] = [
 ];
 
 impl<A: Allocator> WorldState<A> {
-    /// Returns the state as bytes, those that `dvg_save` of `dvg.h` writes of a world. Returns
-    /// `OutOfMemory` where an allocation fails.
-    pub fn to_bytes(&self) -> Result<Vec<u8>, OutOfMemory> {
+    /// Returns the state as bytes, those that `dvg_save_over` of `dvg.h` writes of a world. `rom` is
+    /// the `digest` of its ROM, or 0, which names none. Returns `OutOfMemory` where an allocation
+    /// fails.
+    pub fn to_bytes(&self, rom: u64) -> Result<Vec<u8>, OutOfMemory> {
         let generator = self.generator.to_bytes(&self.strokes)?;
-        let parts = &generator[8..];
-        let numbers = (MEMORY_BYTES + parts.len()) / 8 + self.driver.frame.len() + 1;
+        let parts = &generator[HEAD_BYTES..generator.len() - END_BYTES];
+        let numbers = (MEMORY_BYTES + parts.len() + END_BYTES) / 8 + self.driver.frame.len() + 1;
         let mut bytes = Vec::with_capacity(Global, 8 * (numbers + 1))?;
-        bytes.extend_from_slice(&head(WORLD, numbers as u32))?;
+        bytes.extend_from_slice(&head(WORLD, numbers))?;
         bytes.extend_from_slice(self.ram.bytes())?;
         bytes.extend_from_slice(parts)?;
         for op in &self.driver.frame {
             bytes.extend_from_slice(&operation(*op))?;
         }
         bytes.extend_from_slice(&driver(&self.driver, self.strobe_sent))?;
+        end(&mut bytes, rom)?;
         Ok(bytes)
     }
 }
 
 impl WorldState {
-    /// Returns the state of which `bytes` are, as `to_bytes` or `dvg_save` wrote them, for
-    /// `World::resume`. Returns `None` where they are those of no world, or no generator can be in
-    /// its state, and `OutOfMemory` where an allocation fails. What `dvg_restore` refuses beside
-    /// these, `resume` refuses: a state whose driver's parts don't fit together, or whose frame the
-    /// world's ROM refuses. Nothing tells the ROM, so keep its name beside the bytes.
-    pub fn from_bytes(bytes: &[u8]) -> Result<Option<WorldState>, OutOfMemory> {
-        WorldState::from_bytes_in(Global, bytes)
+    /// Returns the state of which `bytes` are, as `to_bytes`, `dvg_save_over` or `dvg_save` wrote
+    /// them, for `World::resume`. `rom` is the `digest` of that world's ROM; if it is 0, or that in
+    /// the bytes is, or if they are of version 1, the ROM isn't compared.
+    ///
+    /// Returns why there is none: `OtherRom`, too, `Parts` where no generator can be in its state,
+    /// and `OutOfMemory` where an allocation fails. What `dvg_restore_over` refuses beside these,
+    /// `resume` refuses: a state whose driver's parts don't fit together, or whose frame the world's
+    /// ROM refuses.
+    pub fn from_bytes(rom: u64, bytes: &[u8]) -> Result<WorldState, StateFault> {
+        WorldState::from_bytes_in(Global, rom, bytes)
     }
 }
 
 impl<A: Allocator + Copy> WorldState<A> {
     /// As `from_bytes`, for a world whose memory is that of `alloc`: what the state holds is, too.
-    pub fn from_bytes_in(alloc: A, bytes: &[u8]) -> Result<Option<WorldState<A>>, OutOfMemory> {
-        match Parted::of(bytes) {
-            Some(parted) => parted.state(alloc),
-            None => Ok(None),
+    pub fn from_bytes_in(alloc: A, rom: u64, bytes: &[u8]) -> Result<WorldState<A>, StateFault> {
+        let (numbers, named) = numbers_of(WORLD, bytes)?;
+        if named != 0 && rom != 0 && named != rom {
+            return Err(StateFault::OtherRom);
         }
+        Parted::of(numbers).ok_or(StateFault::Parts)?.state(alloc)
     }
 }
 
@@ -86,13 +95,8 @@ struct Parted<'a> {
 }
 
 impl Parted<'_> {
-    /// Returns the pieces of `bytes`, if they begin and end as those of a saved world.
-    fn of(bytes: &[u8]) -> Option<Parted<'_>> {
-        let (first, numbers) = bytes.split_first_chunk::<8>()?;
-        let count = u32::try_from(numbers.len() / 8).ok()?;
-        if numbers.len() % 8 != 0 || *first != head(WORLD, count) {
-            return None;
-        }
+    /// Returns the pieces of `numbers`, as bytes, if they are in the order of a saved world.
+    fn of(numbers: &[u8]) -> Option<Parted<'_>> {
         let (ram, rest) = numbers.split_at_checked(MEMORY_BYTES)?;
         let parts = rest.chunks_exact(8).take_while(|number| number[0] == PART);
         let (generator, rest) = rest.split_at(8 * parts.count());
@@ -100,40 +104,31 @@ impl Parted<'_> {
         (driver[0] == DRIVER).then_some(Parted { ram, generator, operations, driver: *driver })
     }
 
-    /// Returns the state that the pieces are, if there is one, in memory of `alloc`.
-    fn state<A>(&self, alloc: A) -> Result<Option<WorldState<A>>, OutOfMemory>
+    /// Returns the state that the pieces are, in memory of `alloc`; `Parts` where they are none.
+    fn state<A>(&self, alloc: A) -> Result<WorldState<A>, StateFault>
     where
         A: Allocator + Copy,
     {
-        let mut generator = Vec::with_capacity(Global, 8 + self.generator.len())?;
-        generator.extend_from_slice(&head(GENERATOR, self.generator.len() as u32 / 8))?;
-        generator.extend_from_slice(self.generator)?;
-        let Some((generator, drawn)) = GeneratorState::from_bytes(&generator)? else {
-            return Ok(None);
-        };
+        let (generator, drawn) = GeneratorState::of_parts(self.generator)?;
         let mut strokes = Vec::new(alloc);
-        strokes.extend_from_slice(&drawn)?;
-        let (Some(frame), [_, phase, bits, left @ .., _, _, _]) = (self.frame(), self.driver) else {
-            return Ok(None);
-        };
-        let Some(phase) = PHASES.get(usize::from(phase)) else {
-            return Ok(None);
-        };
+        strokes.extend_from_slice(&drawn).map_err(OutOfMemory::from)?;
+        let [_, phase, bits, left @ .., _, _, _] = self.driver;
+        let phase = PHASES.get(usize::from(phase)).ok_or(StateFault::Parts)?;
         let half = |bit: u8| if bits >> bit & 1 == 1 { Half::H1 } else { Half::H0 };
-        Ok(Some(WorldState {
-            ram: Image::new(alloc, self.ram).map_err(|_| OutOfMemory)?,
+        Ok(WorldState {
+            ram: Image::new(alloc, self.ram).map_err(|_| StateFault::OutOfMemory)?,
             generator,
             strokes,
             driver: DriverState {
                 phase: *phase,
                 half: half(0),
                 flipped: bits >> 1 & 1 == 1,
-                frame,
+                frame: self.frame().ok_or(StateFault::Parts)?,
                 frame_half: half(2),
                 left: u16::from_le_bytes(left),
             },
             strobe_sent: bits >> 3 & 1 == 1,
-        }))
+        })
     }
 
     /// Returns the frame of the operations, if each of them is one, and they are at most 511.
@@ -144,13 +139,6 @@ impl Parted<'_> {
         }
         Some(draft)
     }
-}
-
-/// Returns the first number of a saved state, as bytes, before this many others.
-fn head(name: [u8; 4], numbers: u32) -> [u8; 8] {
-    let [a, b, c, d] = name;
-    let [e, f, g, h] = numbers.to_le_bytes();
-    [a, b, c, d, e, f, g, h]
 }
 
 /// Returns the number of an operation, as bytes.

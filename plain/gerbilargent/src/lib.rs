@@ -55,7 +55,7 @@ pub use dvg_driver::{Action, DriverFault, DriverState, Phase};
 pub use dvg_frame::{BadOp, Checked, Checker, Cursor, DraftFull, Frame, FrameFault, MAX_OPS, Op};
 pub use dvg_frame::{OpKind, Place, check};
 pub use dvg_gen::{Beam, Counters, GenFault, GeneratorState, Move, STACK_DEPTH, Step};
-pub use dvg_gen::{Stroke, Taken, WrappingGenerator};
+pub use dvg_gen::{StateFault, Stroke, Taken, WrappingGenerator};
 pub use dvg_world::{Desk, Drawn, Entries, Entry, EntryRun, EntryRuns, Event, Logged, MOST_EVENTS};
 pub use dvg_world::{OwnEntry, OwnEvent, Picture, Stopped, Trace, TraceEvent, draw_trace};
 pub use dvg_world::{first_torn, log_trace, run, run_trace};
@@ -115,22 +115,24 @@ pub use dvg_world::World;
 /// ```
 /// use gerbilargent::{WorldState, prelude::*};
 ///
-/// let ram = Image::new(Global, &[0; 2048])?;
-/// let mut world = World::<Flat>::new(Global, Rom::new(Global, &[0; 2048])?, &ram)?;
+/// let (rom, ram) = (Rom::new(Global, &[0; 2048])?, Image::new(Global, &[0; 2048])?);
+/// let (digest, other_rom) = (rom.digest(), rom.clone());
+/// let mut world = World::<Flat>::new(Global, rom, &ram)?;
 /// world.tick();
-/// let saved = world.state()?.to_bytes()?; // Those of `dvg_save`, which a file may have.
+/// let saved = world.state()?.to_bytes(digest)?; // Those of `dvg_save_over`; a file may have them.
 /// let later = world.tick();
 ///
-/// let mut other = World::<Flat>::new(Global, Rom::new(Global, &[0; 2048])?, &ram)?;
-/// let state = WorldState::from_bytes(&saved)?.ok_or("that is no saved world")?;
+/// let mut other = World::<Flat>::new(Global, other_rom, &ram)?;
+/// let state = WorldState::from_bytes(digest, &saved)?; // Or why not: a `StateFault`.
 /// assert!(other.resume(state)); // `false`: its parts don't fit, or the ROM refuses its frame.
 /// assert_eq!(other.tick(), later);
 /// # Ok::<(), Box<dyn std::error::Error>>(())
 /// ```
 ///
-/// A state belongs to its ROM, which isn't in it and isn't compared: over another one a run of the
-/// world may draw something else, end by `Entry::Broke`, or never end. A strobe that was sent may
-/// not have arrived yet: where `world.generator().halted()`, let it arrive.
+/// A state belongs to its ROM, which isn't in it. A world can't be asked for its ROM, so you hand
+/// its [`Rom::digest`] over. By 0 no ROM is compared: then over another one a run of the world may
+/// draw something else, end by `Entry::Broke`, or never end. A strobe that was sent may not have
+/// arrived yet: where `world.generator().halted()`, let it arrive.
 ///
 #[doc(inline)]
 pub use dvg_world::WorldState;

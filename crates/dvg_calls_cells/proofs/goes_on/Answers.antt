@@ -1,5 +1,5 @@
-use Rattle.dvg_calls_cells.proofs.Going.{call_goes_on, cells_go_on}
+use Rattle.dvg_calls_cells.proofs.Going.{call_goes_on, cells_go_on, cells_wait_on}
 use Rattle.dvg_calls_cells.proofs.goes_on.Goals as goal
 
 pub returns : goal.returns
-returns c = record { alone = cells_go_on; calls = call_goes_on }
+returns c = record { alone = cells_go_on; waits = cells_wait_on; calls = call_goes_on }

@@ -1,4 +1,4 @@
-use Rattle.dvg_cells_motion.proofs.Wiring.{start_takes_law}
+use Rattle.dvg_cells_motion.proofs.Resets.{start_takes_law}
 use Rattle.dvg_cells_motion.proofs.start_takes.Goals as goal
 
 pub returns : goal.returns

@@ -11,6 +11,7 @@ pub struct Code {
 
 impl Code {
     /// Returns `instr` as a `Code`, or `None` exactly where a field of it is out of its range.
+    #[must_use]
     pub fn new(instr: Instr) -> Option<Code> {
         if is_in_range(instr) {
             Some(Code { instr })

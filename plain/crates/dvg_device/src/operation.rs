@@ -29,6 +29,7 @@ pub struct Operation {
 impl Operation {
     /// Returns the operation, or `None` exactly where the kind is over 8, or a field that counts is
     /// out of its range.
+    #[must_use]
     pub fn op(self) -> Option<Op> {
         match self.kind {
             0 => self.vctr_op(),

@@ -37,6 +37,7 @@ pub enum StatePart {
 
 impl StatePart {
     /// Returns the part that `word` is, if its kind is that of one.
+    #[must_use]
     pub fn of(word: u64) -> Option<StatePart> {
         match word % 0x100 {
             0 => Some(fields_in(word)),

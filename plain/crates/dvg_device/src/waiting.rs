@@ -109,7 +109,7 @@ impl Waiting {
         }
         let (state, strokes) = self.take_told(alloc);
         let mut generator = Generator::new(alloc);
-        generator.resume(&state, strokes);
+        let _ = generator.resume(&state, strokes);
         Some(generator)
     }
 
@@ -121,7 +121,7 @@ impl Waiting {
         }
         let (state, strokes) = self.take_told(alloc);
         let mut wrapping = WrappingGenerator::new(alloc);
-        wrapping.resume(&state, strokes);
+        let _ = wrapping.resume(&state, strokes);
         Some(wrapping)
     }
 }

@@ -113,6 +113,7 @@ impl Driver {
     /// is. A frame that is being written is checked by `checker`, over `rom`. Returns `false`
     /// exactly where the parts of `state` don't fit together over that ROM, and then nothing has
     /// changed.
+    #[must_use]
     pub fn resume<A: Allocator>(
         &mut self,
         state: &DriverState,

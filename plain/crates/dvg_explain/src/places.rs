@@ -66,12 +66,14 @@ impl Place {
 }
 
 /// Returns the section that `line` begins.
+#[must_use]
 pub fn head_of(line: &[u8]) -> Option<Head<'_>> {
     let tokens = tokens_of(line)?;
     read_head(tokens.as_slice())
 }
 
 /// Returns the row that `line` spells.
+#[must_use]
 pub fn row_of(line: &[u8]) -> Option<Row<'_>> {
     let tokens = tokens_of(line)?;
     read_row(tokens.as_slice())
@@ -112,6 +114,7 @@ pub fn place_of(text: &[u8], number: usize) -> Place {
 }
 
 /// Returns the number of the first line of `text` that gives `name`, among `rows`.
+#[must_use]
 pub fn first_given(text: &[u8], name: &[u8], rows: Rows) -> Option<usize> {
     let mut place = Place::top();
     for (index, line) in text.split(|byte| *byte == b'\n').enumerate() {
@@ -125,6 +128,7 @@ pub fn first_given(text: &[u8], name: &[u8], rows: Rows) -> Option<usize> {
 }
 
 /// Returns the number of the first line of `text` that begins a frame called `name`.
+#[must_use]
 pub fn first_frame(text: &[u8], name: &[u8]) -> Option<usize> {
     for (index, line) in text.split(|byte| *byte == b'\n').enumerate() {
         if begins_frame(line, name) {

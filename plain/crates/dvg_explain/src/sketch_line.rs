@@ -214,6 +214,7 @@ fn expected_of(fault: TextFault, text: &[u8], number: usize) -> Option<Expected<
 
 /// Returns the text of the line at which `fault` is, in the sketch `text`, and what was expected of
 /// it. `small` is `text` in small letters. Returns `None` for a fault that has no line.
+#[must_use]
 pub fn explain_line<'t, 'a>(
     fault: TextFault,
     text: &'t [u8],

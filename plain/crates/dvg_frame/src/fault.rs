@@ -56,6 +56,7 @@ impl FrameFault {
     }
 
     /// Returns the place that the fault names, if it names one.
+    #[must_use]
     pub fn place(self) -> Option<Place> {
         match self {
             FrameFault::Empty | FrameFault::NoLabs | FrameFault::TooLong | FrameFault::Loops =>

@@ -39,6 +39,7 @@ impl Default for Op {
 impl Op {
     /// Returns `kind` as an operation. Returns `None` exactly for a `Draw` of an instruction other
     /// than VCTR, SVEC or LABS, and for a `CallRom` or `JumpRom` whose address is over FFF.
+    #[must_use]
     pub fn new(kind: OpKind) -> Option<Op> {
         if is_op(&kind) {
             Some(Op { kind })

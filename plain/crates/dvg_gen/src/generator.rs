@@ -81,6 +81,7 @@ impl<A: Allocator + Copy> Generator<A> {
     }
 
     /// Returns the address of the next word, below 4,096, or `None` where the generator is halted.
+    #[must_use]
     pub fn wants(&self) -> Option<u16> {
         (!self.halted()).then_some(self.at)
     }
@@ -93,12 +94,14 @@ impl<A: Allocator + Copy> Generator<A> {
 
     /// Returns the low byte of the next word, if it was fetched and the high byte comes next.
     #[inline(always)]
+    #[must_use]
     pub fn low_byte(&self) -> Option<u8> {
         self.has_low.then_some(self.low)
     }
 
     /// Returns the first word of an instruction whose second word comes next, in an open run. Once
     /// the run is over it means nothing.
+    #[must_use]
     pub fn first_word(&self) -> Option<u16> {
         self.held
     }
@@ -124,6 +127,7 @@ impl<A: Allocator + Copy> Generator<A> {
     /// pays nothing for its move. The generator stays as it is. `None` means that no run is open or
     /// that the byte moves no beam: a low byte or a first word, a word of another instruction than
     /// VCTR, SVEC and LABS, or no memory.
+    #[must_use]
     pub fn move_by(&self, byte: Option<u8>) -> Option<Move> {
         if self.halted() {
             return None;
@@ -202,6 +206,7 @@ impl<A: Allocator + Copy> Generator<A> {
     /// `true`. So it goes on as the one whose `state` and `strokes` these were. Of a run that goes
     /// on with other strokes nothing is said. The picture stays as it was. Returns `false` exactly
     /// where `state` isn't valid, and then nothing has changed.
+    #[must_use]
     pub fn resume(&mut self, state: &GeneratorState, strokes: Vec<Stroke, A>) -> bool {
         if !state.is_valid() {
             return false;

@@ -35,3 +35,4 @@ pub const STACK_DEPTH: usize = 4;
 
 #[path = "../rust.rs"]
 mod rust;
+pub use rust::*;

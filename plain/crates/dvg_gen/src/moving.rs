@@ -28,6 +28,7 @@ pub struct Move {
 impl Move {
     /// Returns what `code`, whose first word is at `address`, does to `beam`. `None` means that it
     /// is a HALT, JSRL, RTSL or JMPL, which leaves the beam as it is.
+    #[must_use]
     pub fn of(beam: &Beam, code: &Code, address: u16) -> Option<Move> {
         match code.instr() {
             Instr::Vctr { z, .. } | Instr::Svec { z, .. } => {

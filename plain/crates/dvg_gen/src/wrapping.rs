@@ -79,6 +79,7 @@ impl<A: Allocator + Copy> WrappingGenerator<A> {
     /// `true`. So it goes on as the one whose `state` and `strokes` these were. Of a run that goes
     /// on with other strokes nothing is said. The picture stays as it was. Returns `false` exactly
     /// where `state` isn't valid or hasn't four return addresses, and then nothing has changed.
+    #[must_use]
     pub fn resume(&mut self, state: &GeneratorState, strokes: Vec<Stroke, A>) -> bool {
         if !state.return_addresses.is_full() || !state.is_valid() {
             return false;

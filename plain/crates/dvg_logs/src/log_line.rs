@@ -39,6 +39,7 @@ pub enum LogLine {
 ///
 /// With a `base` the address after `wrote` is one of the processor, in four digits. The RAM lies
 /// there from the base on.
+#[must_use]
 pub fn read_log_line(line: &[u8], base: Option<u16>) -> Option<LogLine> {
     if line.len() > MOST_LINE_BYTES {
         return None;

@@ -6,6 +6,7 @@ use crate::{FIRST_LARGE_ROM_WORD, ROM_END};
 /// Returns a byte of the word at the word address `w`, which has 12 bits: the high byte where
 /// `high` is true, otherwise the low one. The word lies in `store`, the RAM, or in `rom`. Returns
 /// `None` exactly for a hole.
+#[must_use]
 pub fn fetch_byte<S: Store>(store: &S, rom: &Rom<S::Alloc>, w: u16, high: bool) -> Option<u8> {
     if w < FIRST_LARGE_ROM_WORD {
         let place = if high { 2 * w + 1 } else { 2 * w };
@@ -20,6 +21,7 @@ pub fn fetch_byte<S: Store>(store: &S, rom: &Rom<S::Alloc>, w: u16, high: bool) 
 
 /// Returns the word at the word address `w`, which has 12 bits, in `store`, the RAM, or in `rom`.
 /// Returns `None` exactly for a hole.
+#[must_use]
 pub fn fetch<S: Store>(store: &S, rom: &Rom<S::Alloc>, w: u16) -> Option<u16> {
     if w < FIRST_LARGE_ROM_WORD {
         let low = store.read(2 * w);

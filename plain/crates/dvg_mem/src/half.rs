@@ -48,6 +48,7 @@ impl Half {
 
     /// Returns the half in which word `w` lies, or `None` for word zero, word 200 and all from 400
     /// on.
+    #[must_use]
     pub fn of_word(w: u16) -> Option<Half> {
         match w {
             0x001..=0x1FF => Some(Half::H0),

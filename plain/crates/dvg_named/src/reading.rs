@@ -175,6 +175,7 @@ impl<'a, A: Allocator + Copy> Reading<'a, A> {
     /// Returns the bytes of the ROM, with the words of its sections as they are `laid`, after all
     /// lines of a text. Returns `None` where a row of the ROM needs a name that isn't given. No
     /// memory is taken.
+    #[must_use]
     pub fn rom(&self, laid: &LaidNames<'_, '_, '_, A>) -> Option<ArrayVec<u8, LARGE_ROM_BYTES>> {
         let mut bytes = self.rom.bytes();
         match put_sections(bytes.as_mut_slice(), laid) {

@@ -27,6 +27,7 @@ impl StatedRom {
 
     /// Reads a line of `tokens`. Returns whether it describes something of the ROM, and may stand
     /// here. Where it doesn't, nothing changes.
+    #[must_use]
     pub fn take(&mut self, tokens: &[&[u8]]) -> bool {
         if let Some(first) = map_of(tokens) {
             if self.is_stated {

@@ -15,6 +15,7 @@ pub struct EventLine {
 
 /// Returns the events that `line` spells by itself, or `None` exactly where it spells none.
 #[inline(always)]
+#[must_use]
 pub fn read_event_line(line: &[u8]) -> Option<EventLine> {
     if let Some(event) = event_named(line) {
         return Some(EventLine { event, count: 1 });

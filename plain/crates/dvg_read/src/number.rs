@@ -46,6 +46,7 @@ fn value_of(digits: &[u8], radix: u32) -> Option<u32> {
 
 /// Returns the decimal number below 65,536 that `part` spells, without a sign and without leading
 /// zeros.
+#[must_use]
 pub fn natural(part: &[u8]) -> Option<u16> {
     let first = *part.first()?;
     if part.len() > MAX_DIGITS || (first == b'0' && part.len() > 1) {
@@ -56,12 +57,14 @@ pub fn natural(part: &[u8]) -> Option<u16> {
 
 /// Returns the decimal number below 256 that `part` spells, without a sign and without leading
 /// zeros.
+#[must_use]
 pub fn small_natural(part: &[u8]) -> Option<u8> {
     u8::try_from(natural(part)?).ok()
 }
 
 /// Returns the decimal number from -32,767 to 32,767 that `part` spells, without leading zeros. It
 /// has `-` before it exactly where it is negative.
+#[must_use]
 pub fn integer(part: &[u8]) -> Option<i16> {
     let (first, digits) = part.split_first()?;
     if *first != b'-' {
@@ -72,6 +75,7 @@ pub fn integer(part: &[u8]) -> Option<i16> {
 }
 
 /// Returns the number that `part` spells, as `integer` does, if it is from -128 to 127.
+#[must_use]
 pub fn small_integer(part: &[u8]) -> Option<i8> {
     i8::try_from(integer(part)?).ok()
 }
@@ -79,6 +83,7 @@ pub fn small_integer(part: &[u8]) -> Option<i8> {
 /// Returns the number that `part` spells in exactly `count` hexadecimal digits of either case.
 /// `count` is at most 4.
 #[inline]
+#[must_use]
 pub fn hex(part: &[u8], count: usize) -> Option<u16> {
     if part.len() != count {
         return None;

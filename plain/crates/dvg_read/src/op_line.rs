@@ -5,6 +5,7 @@ use dvg_code::{Code, Instr};
 use dvg_frame::{Op, OpKind};
 
 /// Returns the operation that `line` spells, or `None` exactly where it spells none.
+#[must_use]
 pub fn read_op(line: &[u8]) -> Option<Op> {
     let parts = parts_of(line)?;
     read_op_parts(parts.as_slice())
@@ -12,6 +13,7 @@ pub fn read_op(line: &[u8]) -> Option<Op> {
 
 /// Returns the operation that `parts`, the parts of a line, spell, or `None` exactly where they
 /// spell none.
+#[must_use]
 pub fn read_op_parts(parts: &[&[u8]]) -> Option<Op> {
     Op::new(kind(parts)?)
 }

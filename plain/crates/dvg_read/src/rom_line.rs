@@ -16,6 +16,7 @@ pub struct RomWords {
 
 /// Returns the words that `line` gives, or `None` exactly where it isn't a line of the ROM. `first`
 /// is the word address of the ROM's first word.
+#[must_use]
 pub fn read_rom_line(first: u16, line: &[u8]) -> Option<RomWords> {
     let parts = parts_of(line)?;
     read_rom_parts(first, parts.as_slice())
@@ -23,6 +24,7 @@ pub fn read_rom_line(first: u16, line: &[u8]) -> Option<RomWords> {
 
 /// Returns the words that a line of the parts `cut` gives, or `None` exactly where it isn't a line
 /// of the ROM. `first` is the word address of the ROM's first word.
+#[must_use]
 pub fn read_rom_parts(first: u16, cut: &[&[u8]]) -> Option<RomWords> {
     let [name, address, spelled @ ..] = cut else {
         return None;

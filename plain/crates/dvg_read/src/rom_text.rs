@@ -31,6 +31,7 @@ impl RomReading {
 
     /// Reads one more line, `line`. Returns whether it describes something of the ROM, and may
     /// stand here. Where it doesn't, nothing changes.
+    #[must_use]
     pub fn take(&mut self, line: &[u8]) -> bool {
         if let Some(first) = read_map_line(line) {
             if self.is_stated {

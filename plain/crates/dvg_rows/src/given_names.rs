@@ -51,6 +51,7 @@ impl<'a, A: Allocator + Copy> GivenNames<'a, A> {
 
     /// Returns how many names were given before `name`, if it was given. The time doesn't grow with
     /// how many there are.
+    #[must_use]
     pub fn place_of(&self, name: &[u8]) -> Option<usize> {
         self.given.get_index_of(name)
     }

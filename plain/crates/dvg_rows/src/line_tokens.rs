@@ -7,6 +7,7 @@ pub const MAX_TOKENS: usize = 10;
 
 /// Returns the tokens of `line`, which are separated by spaces and tabs, without its comment and
 /// without one CR at its end. Returns `None` exactly where there are more than ten.
+#[must_use]
 pub fn tokens_of(line: &[u8]) -> Option<ArrayVec<&[u8], MAX_TOKENS>> {
     let mut found = ArrayVec::new();
     match find_tokens(line, &mut found) {

@@ -18,6 +18,7 @@ pub(crate) enum NameNumbers<'r, 'a, A: Allocator + Copy> {
 
 impl<'r, 'a, A: Allocator + Copy> NameNumbers<'r, 'a, A> {
     /// Returns the number of `name`, if it has one.
+    #[must_use]
     pub fn get(&self, name: &[u8]) -> Option<usize> {
         match self {
             NameNumbers::Told(table) => table.get(name),

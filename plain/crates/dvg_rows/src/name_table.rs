@@ -29,6 +29,7 @@ impl<'a, A: Allocator + Copy> NameTable<'a, A> {
     }
 
     /// Returns the number of `name`, if it has one.
+    #[must_use]
     pub fn get(&self, name: &[u8]) -> Option<usize> {
         self.numbers.get(name).copied()
     }

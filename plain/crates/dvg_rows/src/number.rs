@@ -40,6 +40,7 @@ impl<'r, 'a, A: Allocator + Copy> NamedRows<'r, 'a, A> {
 ///
 /// Where each name is given once, no other number is that of `name`. A name after the last
 /// operation has the number of one that isn't there (this project's own choice).
+#[must_use]
 pub fn number_of<A: Allocator + Copy>(rows: &NamedRows<'_, '_, A>, name: &[u8]) -> Option<usize> {
     rows.numbers.get(name)
 }

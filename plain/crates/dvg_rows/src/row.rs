@@ -41,6 +41,7 @@ pub enum Head<'a> {
 }
 
 /// Returns the row that a line of `tokens` spells, or `None` exactly where it spells none.
+#[must_use]
 pub fn read_row<'a>(tokens: &[&'a [u8]]) -> Option<Row<'a>> {
     let [first, rest @ ..] = tokens else {
         return None;
@@ -71,6 +72,7 @@ pub fn read_row<'a>(tokens: &[&'a [u8]]) -> Option<Row<'a>> {
 
 /// Returns the beginning of a section that a line of `tokens` spells, or `None` exactly where it
 /// spells none.
+#[must_use]
 pub fn read_head<'a>(tokens: &[&'a [u8]]) -> Option<Head<'a>> {
     match tokens {
         [begin] => bare_head(begin),

@@ -88,6 +88,7 @@ impl<A: Allocator> Desk<A> {
     /// Brings the driver into `state`, and returns `true`: it goes on as the one whose state this
     /// is. Returns `false` exactly where the parts of `state` don't fit together over this ROM, and
     /// then nothing has changed.
+    #[must_use]
     pub fn resume(&mut self, state: &DriverState) -> bool {
         self.driver.resume(state, &mut self.checker, &self.rom)
     }

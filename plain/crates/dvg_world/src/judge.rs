@@ -138,6 +138,7 @@ impl Judge {
 /// whole system end it; such a reset ends it before its own entry counts. It draws a half where the
 /// first word that it fetched is the one at 000, a jump to a word of that half: from that entry on.
 /// No memory is taken, and each entry is looked at once.
+#[must_use]
 pub fn first_torn<A: Allocator>(events: &[OwnEvent<A>], entries: &[OwnEntry<A>]) -> Option<usize> {
     let mut judge = Judge::new();
     for number in 0..events.len().min(entries.len()) {

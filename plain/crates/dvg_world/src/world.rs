@@ -297,6 +297,7 @@ impl<S: Store> World<S> {
     /// exactly where the generator's state isn't valid or the parts of the driver's don't fit
     /// together, and then nothing has changed: so never where `state` returned it over this ROM. Of
     /// parts that fit, and that no world had at once, nothing is said.
+    #[must_use]
     pub fn resume(&mut self, state: WorldState<S::Alloc>) -> bool {
         let WorldState {
             ram,
@@ -309,7 +310,7 @@ impl<S: Store> World<S> {
             return false;
         }
         self.store.load(&ram);
-        self.generator.resume(&generator, strokes);
+        let _ = self.generator.resume(&generator, strokes);
         self.strobe_sent = strobe_sent;
         true
     }

@@ -25,6 +25,7 @@ fn frame(rt: &HostRuntime) -> Option<Frame> {
 
 /// Ticks a driver until it sends its strobe, does each action that `tick` returns, and prints it
 /// through `rt`. Returns `None` where an allocation fails, or a line can't be printed.
+#[must_use]
 pub fn drive(rt: &HostRuntime) -> Option<()> {
     let mut memory = [0; MEMORY_BYTES];
     let mut driver = Driver::new();

@@ -12,6 +12,7 @@ const WORDS: [u16; 6] = [0xE001, 0xA190, 0x0200, 0x9064, 0x7464, 0xB000];
 /// Draws the memory, and prints through `rt` each instruction with the beam after it, and then each
 /// stroke. Returns `None` where an allocation fails, a line can't be printed, or there is no
 /// picture.
+#[must_use]
 pub fn draw(rt: &HostRuntime) -> Option<()> {
     let mut memory = [0; SMALL_DUMP_BYTES];
     for (i, word) in WORDS.iter().enumerate() {

@@ -55,6 +55,7 @@ fn judge(rt: &HostRuntime, text: &[u8]) -> Option<Option<usize>> {
 
 /// Judges the trace on the standard input of `rt`, and prints what it finds. Returns `None` where
 /// it can't be read or judged, or the line can't be printed.
+#[must_use]
 pub fn judge_input(rt: &HostRuntime) -> Option<()> {
     let text = io::read_to_string(rt.alloc(), rt.stdin()).ok()?;
     match judge(rt, text.as_bytes())? {

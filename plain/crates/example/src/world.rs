@@ -30,6 +30,7 @@ fn one_vector() -> Option<Draft> {
 
 /// Has the frame drawn, and prints its strokes through `rt`. Returns `None` where an allocation
 /// fails, or a line can't be printed.
+#[must_use]
 pub fn draw(rt: &HostRuntime) -> Option<()> {
     let alloc = rt.alloc();
     let rom = Rom::new(alloc, &[0; MEMORY_BYTES]).ok()?;

@@ -1,0 +1,14 @@
+pub mod Projection
+pub mod Shown
+pub mod Timing
+pub mod Shapes
+pub mod Reading
+pub mod Writing
+pub mod Standing
+pub mod Games
+pub mod Bits
+pub mod Latching
+pub mod Ticking
+pub mod Answering
+pub mod Around
+pub mod Pictures
