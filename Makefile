@@ -6,6 +6,8 @@
 #   make install PREFIX=/usr DESTDIR=stage
 #                             copies them below stage/usr, for who makes a package of them
 #   make uninstall            removes what was installed below the same PREFIX and DESTDIR
+#   make dist                 packs the libraries for C with their headers, into build/dist; with
+#                             TARGET and CC for another system
 #
 # LIBDIR and BINDIR are folders below PREFIX, for the libraries and the program: name them for make
 # and for make install. CC, CFLAGS, CPPFLAGS, LDFLAGS and RUSTFLAGS are those of the compilers.
@@ -26,4 +28,7 @@ install: all
 uninstall:
 	packaging/package --uninstall '$(DESTDIR)$(PREFIX)'
 
-.PHONY: all install uninstall
+dist:
+	packaging/dist
+
+.PHONY: all install uninstall dist

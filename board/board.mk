@@ -3,45 +3,51 @@
 #
 #     PROGRAM    its source without .s
 #     SKETCH     sketches of its frames and shapes, if it has some; they become one, build/sketch.
-#                `dvg help lay` has their form, and outline.awk adds outlines to it. Each frame is a
-#                table of its name, in build/tables.inc. The names of the ROM are in
-#                build/shapes.equates.
+#                `dvg help lay` has their form, and outline.awk adds outlines to it. Each frame
+#                becomes a table of its name, in build/tables.inc. build/shapes.equates has the
+#                names of the ROM.
 #     MACHINE    the arcade emulator's name of the board: asteroid, or astdelux for Asteroids Deluxe
 #     DEFINES    options of ca65 for the program, DRIVER those for the driver
-#     DVG        the program dvg, where it isn't the one of this repository
+#     DVG        the program dvg, if it isn't the one of this repository
 #
 # `make help` prints the lines below.
 #
 #: make           makes the ROM set, build/roms, and says how many bytes are taken
-#: make proof      says of its bytes that no run of them tears a picture, by the rules that are
-#:                proved; or what isn't seen; or which instruction is refused, and why
+#: make proof     looks at its bytes, by rules that are proved: no run of them tears a picture; or
+#:                it says what isn't seen, or which instruction is refused, and why
 #: make premises  looks whether the program keeps to the premises of the driver's proof
-#: make judge     the same, and runs it in the emulator without a screen, and says all that is bad
+#: make judge     the same, and runs it in the emulator without a screen, and says all that is bad:
+#:                a second of the game takes about a second of a processor
 #: make film      the same, and makes a moving picture of it, build/film.svg
 #: make sound     runs it without a screen, writes what it sounds like into build/sound/sound.wav,
 #:                and says of each second whether anything was heard
 #: make emulator  runs it without a screen, and compares what it does with the proved driver, and
 #:                what it shows with its frames
 #: make torn      runs it without a screen, and has it judged by dvg torn
-#: make play      runs it with a screen; where MAME isn't there, it is make page
-#: make record    runs it with a screen, and records what is pressed there as BUTTONS
-#: make page      writes build/page.html, on which it plays alone: for a browser, a friend, any host
-#: make watch     draws frames and shapes of the sketches again whenever one of their files changes,
-#:                and makes the page anew, if it is there: open build/watch.html in a browser
-#: make eproms    writes what is burned into build/eproms; make test-rom does so for a test ROM
-#: make clean     takes build away
+#: make play      runs it with a screen; without MAME it is make page
+#: make record    runs it with a screen, and records what you press there in BUTTONS
+#: make page      writes build/page.html, which plays only this game: for a browser, a friend, any
+#:                host
+#: make watch     draws frames and shapes again whenever a file of the sketches changes, and makes
+#:                the page again, if it is there: open build/watch.html in a browser
+#: make eproms    writes what is to be burned, in build/eproms; make test-rom does so for a test ROM
+#: make clean     removes build
 #:
 #: PROVE    1: proof has the prover itself prove it, which needs rt: 41 to 47 seconds of a processor
 #:          for a game of 2,900 bytes, if ./prove dvg_closed_cells has proved the crates below here;
 #:          else it proves them first, by estimate in an hour. It waits while other proofs run here
-#: JUDGED   how many seconds premises, judge, film and sound run, of the board's time [20]
+#: JUDGED   how many seconds of the board's time premises, judge, film and sound run [20]: so many
+#:          that the file of buttons is played to its end, as by JUDGED ?= 42 in the makefile
 #: SECONDS  the same of emulator and torn [5]; SHOTS: when pictures are taken [1.5 2.5 3.5 4.5]
-#: RATE     how many pictures a second judge wants [30]
-#: STILL    for how many seconds, up to the end, judge takes redraws alone [5]
+#: RATE     what judge wants [30]: so many pictures a second at least, redraws among them; a third
+#:          more new ones at most; and that a picture takes no longer than 1/RATE of a second
+#: STILL    for how many seconds, up to the end, judge takes only redraws [5]
 #: FILM     the seconds of the film, the first and the last one [3 12]
-#: WATCH    labels whose bytes judge prints at the end, as: lives score:4
+#: WATCH    labels whose bytes judge prints at the end, as: lives score:4. The program's own come
+#:          before the driver's
 #: BUTTONS  the file of presses that all but play and torn play [buttons.txt, if it is there]
 #: TITLE    what the page calls the game [the name of the folder]
+#: DVG      the program dvg [./dvg of this repository]
 #: WATCHED  how many rounds watch goes on: in each it looks at the files, draws, and rests a second
 
 # Relative where the makefile includes this file so: make takes no path with a blank in it.
@@ -191,7 +197,7 @@ judge: good_buttons build/roms/$(MACHINE) build/premises build/driver.proved
 	@DVG_BUTTONS="$(played)" DVG_LABELS="$(CURDIR)/$(labels)" DVG_WATCH="$(WATCH)" \
 	    $(BOARD)emulator/run build/roms build/judge $(JUDGED) $(BOARD)emulator/judge.lua || { \
 	    echo 'BAD: the emulator failed: build/judge/said' && exit 1; }
-	@DVG_LABELS="$(labels)" DVG_EQUATES=build/shapes.equates \
+	@DVG_LABELS="$(labels)" DVG_EQUATES=build/shapes.equates DVG_TABLES=build/tables \
 	    python3 $(BOARD)emulator/judge.py build/judge build/rom $(RATE) $(STILL)
 
 sound: good_buttons build/roms/$(MACHINE)

@@ -36,7 +36,7 @@
 ;
 ; Where an instruction has no room (510 words and the HALT), nothing of it is put, and C is set.
 ; The same where no frame is being built. Nothing checks what is built: it begins with a LABS, it
-; calls the ROM alone, or nothing. D is clear. A, X and Y aren't kept.
+; calls the ROM alone, or nothing. dvg_copy needs D clear. A, X and Y aren't kept.
 ;
 ; Five traps:
 ;   - After power-on dvg_phase is a byte of chance, and a tick would act on it. So a program's

@@ -7,6 +7,7 @@ shape are returns. The last shape counts with one of them, also if it ends in an
 where MAP is missing or has no segment of a ROM.
 """
 import re
+import signal
 import sys
 
 PROGRAM = 'CODE', 'DATA', 'VECTORS'
@@ -30,6 +31,7 @@ def bytes_of_shapes(rom):
 
 
 def main():
+    signal.signal(signal.SIGPIPE, signal.SIG_DFL)
     try:
         sizes = sizes_of(sys.argv[1])
     except OSError as fault:

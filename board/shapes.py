@@ -9,6 +9,7 @@ program is ./dvg of this repository, or the one that DVG names.
 """
 import os
 import re
+import signal
 import subprocess
 import sys
 
@@ -61,6 +62,7 @@ def path_of(strokes, left, top):
 
 
 def main():
+    signal.signal(signal.SIGPIPE, signal.SIG_DFL)
     with open(sys.argv[1], 'rb') as file:
         rom = file.read()
     with open(sys.argv[2]) as file:

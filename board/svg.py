@@ -13,6 +13,7 @@ svgelements reads the SVG: board/install svgelements brings it.
 """
 import argparse
 import re
+import signal
 import sys
 from xml.etree.ElementTree import ParseError
 
@@ -92,6 +93,7 @@ def outline(lines, scale):
 
 
 def main():
+    signal.signal(signal.SIGPIPE, signal.SIG_DFL)
     options = argparse.ArgumentParser(usage=__doc__.split('\n\n')[1].strip())
     options.add_argument('--size', type=float)
     options.add_argument('--name')

@@ -9,6 +9,7 @@ It shows as much of the screen as the emulator does; where less motion is prefer
 picture alone. The program is ./dvg of this repository, or the one that DVG names.
 """
 import os
+import signal
 import subprocess
 import sys
 
@@ -59,6 +60,7 @@ def path_of(memory, rom):
 
 
 def main():
+    signal.signal(signal.SIGPIPE, signal.SIG_DFL)
     out, rom_path, begin, end = sys.argv[1], sys.argv[2], float(sys.argv[3]), float(sys.argv[4])
     with open(os.path.join(out, 'pictures'), 'rb') as file:
         memories = file.read()

@@ -45,7 +45,7 @@ local space = cpu.spaces["program"]
 local pc_state, s_state, p_state = cpu.state["PC"], cpu.state["SP"], cpu.state["P"]
 local machine = manager.machine
 local waited, waits_since = 0, 0
-local written, gap, gap_since, shown, flipped = 0, 0, 0, 0, 0
+local written, gap, gap_since, shown, flipped, vector_read = 0, 0, 0, 0, 0, 0
 local gap_places, written_places, interrupted = "", "", ""
 
 local function now() return machine.time:as_double() end
@@ -209,9 +209,13 @@ _G.dvg_judges = {
     look_amid("picture", shown)
     look_amid("new", flipped)
   end),
-  space:install_read_tap(0x7ffc, 0x7ffc, "reset vector", function()
-    tell("reset %.6f %s", now(), interrupted)
-    note_gap(now())
+  space:install_read_tap(0x7ffc, 0x7ffc, "reset vector", function() vector_read = now() end),
+  -- A reset reads the two bytes in cycles that follow one another; a program that adds up its ROM
+  -- reads them, too, but not so.
+  space:install_read_tap(0x7ffd, 0x7ffd, "reset vector", function()
+    if now() - vector_read > 2 / 1512000 then return end
+    tell("reset %.6f %s", vector_read, interrupted)
+    note_gap(vector_read)
     written_places, interrupted, last_pc = "", "", nil
   end),
 }

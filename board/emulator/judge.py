@@ -5,15 +5,17 @@
 OUT is the folder that judge.lua wrote into, ROM the bytes of the vector ROM, RATE how many pictures
 a second are wanted, and STILL for how many seconds only redraws may come [5]. The program is ./dvg
 of this repository, or the one that DVG names.
-DVG_LABELS names ld65's list of the program's labels, and DVG_EQUATES the names of the vector ROM:
-by them places are told. OUT/premises is what `premises` of this folder said, if it was asked. Each
-line that begins with BAD is a reason for status 1.
+DVG_LABELS names ld65's list of the program's labels, DVG_EQUATES the names of the vector ROM, and
+DVG_TABLES what `dvg lay --table` wrote of the frames: by them places and frames are told.
+OUT/premises is what `premises` of this folder said, if it was asked. Each line that begins with BAD
+is a reason for status 1.
 
 Of each picture the words are those that stood in the vector RAM at its strobe. `dvg picture` draws
 them, and time.awk tells how long the generator of the arcade emulator takes. A frame is what was
 written from the flip before its own one on: a run reads no other word of the vector RAM.
 """
 import bisect
+import collections
 import os
 import re
 import signal
@@ -21,7 +23,7 @@ import statistics
 import subprocess
 import sys
 
-from places import Places, read_labels, read_shapes
+from places import Places, read_labels, read_shapes, read_tables
 
 HERE = os.path.dirname(os.path.realpath(__file__))
 TOP = os.path.dirname(os.path.dirname(HERE))
@@ -45,6 +47,7 @@ def program():
 DVG = program()
 places = Places(read_labels(os.environ.get('DVG_LABELS', '')))
 shapes = read_shapes(os.environ.get('DVG_EQUATES', ''))
+tables = read_tables(os.environ.get('DVG_TABLES', ''))
 bad = warnings = 0
 
 
@@ -198,7 +201,7 @@ def tell_pace(log, rate, each_second, pause, since):
         say(False, 'too many new pictures: %.1f a second, wanted are %g: does the program wait '
             'between them, as by `lda #8` and `jsr rest`? Or is RATE too low?' % (new, rate))
     else:
-        print('%.1f pictures a second, wanted are %g' % (each_second, rate))
+        print('%.1f pictures a second, %.1f of them new; RATE wants %g' % (each_second, new, rate))
     if pause < LONGEST_WAIT:
         print('the longest wait for a picture: %.1f milliseconds, from %.3f s on'
               % (pause * 1000, since))
@@ -278,6 +281,23 @@ def size_of(text):
     return 2 if text.split()[0] in ('VCTR', 'LABS') else 1
 
 
+def microseconds(scale):
+    """How long a vector takes, by its own and the global scale together, as time.awk has it."""
+    return 2 ** (scale + 1) * 8 / 12.096 + 4 if scale < 10 else 4.0
+
+
+def frame_name(memory, begin):
+    """The name of the table whose words stand in a half from word `begin` on, or None. In half 1
+    the driver moves calls and jumps within the frame."""
+    for name, words in tables.items():
+        moved = [one | 0x200 if begin > HALF_WORDS and one >> 8 & 0xDE == 0xC0 else one
+                 for one in words]
+        there = [word(memory, begin + k) for k in range(len(words))]
+        if words and all(one in both for one, *both in zip(there, words, moved)):
+            return name
+    return None
+
+
 def what_is_bad(memory, rom):
     """Why a picture isn't good, or None; and what `dvg picture --all` said of it."""
     first = word(memory, 0)
@@ -350,6 +370,12 @@ class Frames:
         time, where = self.writes[number]
         return ', put%s, at %.3f s' % (by(where), time)
 
+    def caller(self, k):
+        """The program's own places, two at most, that had the driver put word k."""
+        number = self.last[2 * k]
+        where = self.writes[number][1] if number >= 0 else []
+        return tuple(at for at in where if at not in places.driver)[:2]
+
 
 class Pictures:
     """Judges each picture; those of the same words are drawn once."""
@@ -371,7 +397,8 @@ class Pictures:
             why, said = what_is_bad(memory, self.rom)
             self.known[key] = why, instructions(said)
             if not why:
-                self.good.append((time, '\n'.join(said)))
+                most = frame_name(memory, half // 2 + 1) or self.costliest(self.known[key][1])
+                self.good.append((time, '\n'.join(said), most))
         why, run = self.known[key]
         begin = half // 2 + 1
         if self.frames.is_new:
@@ -381,6 +408,20 @@ class Pictures:
         why = self.what_is_old(memory, begin, run) or why
         if why:
             self.bad_ones.append((time, why))
+
+    def costliest(self, run):
+        """Whose words take longest of a run, with all that they call: places of the program, and
+        how many microseconds."""
+        spent, where, scale = collections.Counter(), (), 0
+        for at, text in run:
+            if 0 < at < WORDS:
+                where = self.frames.caller(at)
+            name, *numbers = text.split()
+            if name == 'LABS':
+                scale = int(numbers[2])
+            moves = name in ('VCTR', 'SVEC')
+            spent[where] += microseconds((int(numbers[0]) + scale) % 16) if moves else 4
+        return spent.most_common(1)[0] if spent else ((), 0)
 
     def look_for_garbage(self, memory, run, time):
         """Words that are taken for a vector, and are the place of a shape: calls without C000."""
@@ -468,17 +509,30 @@ def tell_longest(pictures, log, rate):
     """How long the generator took. A program that draws each new picture more than once has less
     time for it."""
     good = pictures.good
-    spent = [(found, at) for found, (at, _) in zip(times_of([text for _, text in good]), good)]
+    times = times_of([text for _, text, _ in good])
+    spent = [(found, at, most) for found, (at, _, most) in zip(times, good)]
     if not spent:
         return
-    (time, vectors, others), at = max(spent)
-    say(time <= 1000000 / rate, 'the longest picture: %d microseconds, %d vectors, '
-        '%d other instructions, at %.3f s' % (time, vectors, others, at))
-    drawings = drawings_of(log)
-    most = 1000000 / rate / drawings
-    if most < time <= 1000000 / rate:
-        warn('that is longer than %.0f microseconds, as each new picture is drawn %d times, and '
-             '%g new ones are wanted a second: they come later' % (most, drawings, rate))
+    (time, vectors, others), at, most = max(spent, key=lambda one: one[:2])
+    there_is, drawings = 1000000 / rate, drawings_of(log)
+    is_good, why = time <= there_is, tell_most(most)
+    if not is_good:
+        why += '; where RATE wants %g a second, there are %.0f for one' % (rate, there_is)
+    say(is_good, 'the longest picture: %d microseconds, %d vectors, %d other instructions, '
+        'at %.3f s%s' % (time, vectors, others, at, why))
+    if there_is / drawings < time <= there_is:
+        warn('the longest picture takes longer than %.0f microseconds: where RATE wants %g new '
+             'ones a second, and each is drawn %d times, there are no more for one. So new ones '
+             'come later%s' % (there_is / drawings, rate, drawings, why))
+
+
+def tell_most(most):
+    """The frame of a table by its name, or what takes longest of a picture that was built."""
+    if isinstance(most, str):
+        return '; it is the frame ' + most
+    where, time = most
+    told = '; %.0f microseconds of it by %s'
+    return told % (time, places.tell_way(list(where))) if where else ''
 
 
 def tell_fullest(pictures, log):

@@ -16,6 +16,7 @@ With --shots the frames that were published last before each snapshot are writte
 before it.
 """
 import os
+import signal
 import sys
 
 TWO_WORDS, LABS, HALT, CALL, RETURN, JUMP, SVEC = range(10), 10, 11, 12, 13, 14, 15
@@ -274,6 +275,7 @@ def write_shots(lines, head, folder):
 
 
 def main():
+    signal.signal(signal.SIGPIPE, signal.SIG_DFL)
     log, rom_lines, out, other_out = sys.argv[1:5]
     with open(log) as file:
         lines = file.read().splitlines()

@@ -25,6 +25,24 @@ def read_shapes(path):
     return {int(match.group(2), 16): match.group(1) for match in found if match}
 
 
+def read_tables(path):
+    """The words of each frame by the name of its table, as `dvg lay --table` writes them after how
+    many there are."""
+    try:
+        with open(path) as file:
+            parts = re.split(r'^(\w+):$', file.read(), flags=re.M)[1:]
+    except OSError:
+        return {}
+    return {name: words_of(text)[1:] for name, text in zip(parts[::2], parts[1::2])}
+
+
+def words_of(text):
+    """The numbers of the lines `.word` of a text, but those of remarks."""
+    lines = (line.split(';')[0] for line in text.splitlines())
+    return [int(one.replace('$', '0x'), 0) for line in lines if '.word' in line
+            for one in re.findall(r'\$[0-9A-Fa-f]+|\d+', line)]
+
+
 class Places:
     """Labels of the program's code, from 6000 on, and where the driver stands among them."""
 

@@ -6,6 +6,7 @@ STROKES are files of what `dvg play` writes. For each, a line: how many points o
 snapshot shows dark, how many points there are, and how many lit pixels are of no stroke.
 The emulator shows 1044 by 788 units, from -10, 117 on.
 """
+import signal
 import sys
 import zlib
 
@@ -91,6 +92,7 @@ def around(x, y, reach):
 
 
 def main():
+    signal.signal(signal.SIGPIPE, signal.SIG_DFL)
     lit, width, height = lit_pixels(sys.argv[1])
     for path in sys.argv[2:]:
         all_points = list(points(path, width, height))

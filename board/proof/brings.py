@@ -1,12 +1,14 @@
 """The rules of crates/dvg_game_content, as `brings` has them, and its notes, which nobody has to
 trust: of a place that is come to from the instruction before it alone, how many bytes that one has;
 and of a table's address the draft."""
-from opcodes import BRANCHES, CHANGES, STORES, Instruction
-from program import CODE_END, NMI_VECTOR, RESET_VECTOR, is_code, is_driver
+from opcodes import Instruction
+from program import NAMES, is_driver, is_list
+from table import MOST, NMI_VECTOR, RESET_VECTOR
 
-OFFER, PUT, PAIR = 0x68FE, 0x6957, 0x6989
-FAR = 12
-LEAPS = {'jmp', 'jsr', 'rts', 'rti'}
+OFFER, PUT, PAIR = (next(at for at, name in NAMES.items() if name == routine)
+                    for routine in ('dvg_offer', 'dvg_put', 'dvg_pair'))
+FAR = MOST['far']
+LEAPS = {'jumps', 'calls', 'returns', 'finishes'}
 
 
 # Notes.
@@ -16,9 +18,9 @@ def entered(program, notes, start):
     places = {start, program.word(NMI_VECTOR), program.word(RESET_VECTOR)}
     for at in notes:
         i = Instruction(program.rom, at)
-        if i.name in BRANCHES or i.name in ('jmp', 'jsr'):
+        if i.does in ('branches', 'jumps', 'calls'):
             places.add(i.operand)
-        if i.name == 'jsr':
+        if i.does == 'calls':
             places.add(i.next)
     return places
 
@@ -29,12 +31,12 @@ def ways_of(program, notes, start):
     before = {}
     for at in notes:
         i = Instruction(program.rom, at)
-        if i.name not in LEAPS:
+        if i.does not in LEAPS:
             before.setdefault(i.next, []).append(i)
     ways = {}
     for at in notes:
         i = Instruction(program.rom, at)
-        if i.name in ('jsr', 'jmp') and i.operand in (OFFER, PUT):
+        if i.does in ('calls', 'jumps') and i.operand in (OFFER, PUT):
             count = 0
             while count < FAR and at not in places and len(before.get(at, ())) == 1:
                 ways[at] = before[at][0].size
@@ -98,11 +100,11 @@ def drafts_of(program, ways, notes):
     drafts = {}
     for at in notes:
         i = Instruction(program.rom, at)
-        if i.name in ('jsr', 'jmp') and i.operand == OFFER:
+        if i.does in ('calls', 'jumps') and i.operand == OFFER:
             for a, x in pairs(fact(program, ways, FAR, at)) or ():
                 t = a + 256 * x
                 count = program.word(t)
-                if 0x4800 <= t and t + 2 + 2 * count <= 0x8000 and count <= 511:
+                if is_list(t, 2 + 2 * count) and count <= MOST['words']:
                     try:
                         drafts[t] = draft_of([program.word(t + 2 + 2 * k) for k in range(count)])
                     except (IndexError, KeyError):
@@ -116,7 +118,7 @@ NOTHING = (None, None, 256, 256)
 
 
 def listed(rom, base, most):
-    return (lambda y: rom.get(base + y, 0)) if 0x4800 <= base and base + most <= 0x8000 else None
+    return (lambda y: rom.get(base + y, 0)) if is_list(base, most) else None
 
 
 def masked(known, mask):
@@ -152,9 +154,8 @@ def next_of(program, at, f):
     if op == 0xB0:
         return a, x, min(less, most), 256
     i = Instruction(rom, at)
-    quiet = {'bit', 'clc', 'cld', 'cli', 'clv', 'cmp', 'cpx', 'cpy', 'nop', 'sec', 'sei'}
-    stores = STORES | (CHANGES if i.mode else set())
-    if i.name in quiet | stores | BRANCHES:
+    sets_none = i.does in ('takes', 'sets') and not i.register
+    if sets_none or i.writes() or i.does == 'branches':
         return a, x, most, 256
     return NOTHING
 
@@ -181,15 +182,15 @@ def flows(program, ways, at):
     """Whether each place that an instruction leads to is come to as the notes say."""
     i = Instruction(program.rom, at)
     free = lambda to: ways.get(to, 0) == 0
-    if i.name == 'jmp' and i.mode == 'abs':
+    if i.does == 'jumps' and i.mode == 'abs':
         return is_driver(i.operand) or free(i.operand)
-    if i.name == 'jsr':
+    if i.does == 'calls':
         return free(at + 3) and (is_driver(i.operand) or free(i.operand))
-    if i.name in ('rts', 'rti'):
+    if i.does in ('returns', 'finishes'):
         return True
-    if i.name == 'none' or i.mode == '(abs)' or i.name == 'txs':
+    if i.does == 'wild' or i.mode == '(abs)':
         return False
-    if i.name in BRANCHES and not free(i.operand):
+    if i.does == 'branches' and not free(i.operand):
         return False
     return free(at + i.size) or ways[at + i.size] == i.size
 
@@ -243,7 +244,7 @@ class Shapes:
         if view[0] in ('on', 'to'):
             return self.there(ops, view[1]) and self.ends(count - 1, ops, view[1], d)
         if view[0] == 'both':
-            return (self.there(ops, view[1]) and self.there(ops, view[2]) and d != 4
+            return (self.there(ops, view[1]) and self.there(ops, view[2]) and d != MOST['calls']
                     and self.ends(count - 1, ops, view[1], d + 1)
                     and self.ends(count - 1, ops, view[2], d))
         return d != 0 if view[0] == 'back' else True
@@ -255,7 +256,7 @@ class Shapes:
         if key not in self.seen:
             size = len(table_of(ops)) // 2
             self.seen[key] = bool(
-                ops and ops[0][0] == 'labs' and size <= 511
+                ops and ops[0][0] == 'labs' and size <= MOST['words']
                 and all(op[1] < len(ops) for op in ops if op[0] in ('call', 'jump'))
                 and self.ends(1 + len(ops) + len(self.rom) // 2, ops, ('frame', 0), 0))
         return self.seen[key]
@@ -276,8 +277,8 @@ def may_offer(program, shapes, drafts, t):
     table = table_of(ops)
     stands = all(program.rom.get(t + 2 + k) == byte for k, byte in enumerate(table))
     fits = all(0x400 <= op[1] <= 0xFFF for op in ops if op[0].endswith('rom'))
-    return (0x4800 <= t and t + 2 + len(table) <= 0x8000 and 1 <= len(table) <= 1022
-            and 2 * program.word(t) == len(table) and stands and len(ops) <= 511 and fits
+    return (is_list(t, 2 + len(table)) and 1 <= len(table) <= 2 * MOST['words'] and fits
+            and 2 * program.word(t) == len(table) and stands and len(ops) <= MOST['words']
             and shapes.passes(ops))
 
 
@@ -290,7 +291,7 @@ def brings(program, notes, start, ways, drafts, vectors):
         i = Instruction(program.rom, at)
         if not flows(program, ways, at):
             bad.append((at, 'flow'))
-        if i.name not in ('jmp', 'jsr') or i.operand not in (OFFER, PUT, PAIR):
+        if i.does not in ('jumps', 'calls') or i.operand not in (OFFER, PUT, PAIR):
             continue
         values = pairs(fact(program, ways, FAR, at))
         if i.operand == PAIR:

@@ -9,12 +9,10 @@ import re
 
 import brings
 from opcodes import Instruction
-from program import CODE_END, DRIVER_END, ROUTINES, is_driver
+from program import NAMES, is_driver
+from table import CODE_END, DRIVER_END, SAID, WHY
 
-CURE = ('it is seen where lda LIST,y and ldx LIST,y stand right before the call, and before these '
-        'cpy #LENGTH and bcs, or and #MASK and tay; or where lda # and ldx # do')
-WHAT = {'dvg_offer': 'offered', 'dvg_put': 'put', 'dvg_pair': 'put by dvg_pair'}
-
+LOOKED_AT = 'dvg_offer', 'dvg_put', 'dvg_pair'
 
 def tables_of(text):
     """The bytes of each table that `dvg lay --table` wrote."""
@@ -58,8 +56,8 @@ class Content:
         self.lines, self.unseen = [], []
         for at in sorted(notes):
             i = Instruction(program.rom, at)
-            name = ROUTINES.get(i.operand)
-            if i.name in ('jsr', 'jmp') and name in WHAT:
+            name = NAMES.get(i.operand)
+            if i.does in ('calls', 'jumps') and name in LOOKED_AT:
                 self.look(i, name)
 
     def look(self, i, name):
@@ -67,7 +65,7 @@ class Content:
         words = [a + 256 * x for a, x in brings.pairs(known) or ()]
         why = next(filter(None, (self.fault_of(name, word) for word in words)), None)
         if name == 'dvg_pair' or not words or why and is_unbounded(known):
-            self.unseen.append(f'{WHAT[name]} at {self.program.where(i.at)}')
+            self.unseen.append(SAID[name].format(where=self.program.where(i.at)))
             return
         self.seen[name] |= set(words)
         if why:
@@ -76,25 +74,23 @@ class Content:
     def fault_of(self, name, word):
         if name == 'dvg_put' and word not in self.shapes and not brings.is_short(
                 word & 0xFF, word >> 8):
-            return (f'it puts {word:04X}, which is no call of a shape, nor a short vector: '
-                    'dvg_call NAME')
+            return WHY['puts'].format(word=f'{word:04X}')
         if name == 'dvg_offer' and bytes_at(self.program, word) not in self.tables:
-            return f'it offers {word:04X}, where no table stands that dvg lay wrote'
+            return WHY['offers'].format(word=f'{word:04X}')
         return None
 
     def may_call(self, name):
         """Whether a JSR or JMP to a routine stands anywhere, also in data."""
         rom = self.program.rom
-        return any(rom[at] in (0x20, 0x4C) and ROUTINES.get(self.program.word(at + 1)) == name
+        return any(rom[at] in (0x20, 0x4C) and NAMES.get(self.program.word(at + 1)) == name
                    for at in range(DRIVER_END, CODE_END))
 
     def told(self):
         """A line of what was seen."""
-        if not any(map(self.may_call, WHAT)):
-            return 'it calls neither dvg_offer, dvg_put nor dvg_pair'
-        tables, words = len(self.seen['dvg_offer']), len(self.seen['dvg_put'])
-        others = 'there are others' if self.unseen else 'there are no others'
-        return f'{tables} tables checked, {words} words checked; {others}'
+        if not any(map(self.may_call, LOOKED_AT)):
+            return SAID['no_calls']
+        return SAID['others' if self.unseen else 'no_others'].format(
+            tables=len(self.seen['dvg_offer']), words=len(self.seen['dvg_put']))
 
 
 def read(folder):

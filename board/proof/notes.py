@@ -1,7 +1,8 @@
 """Makes notes of a program. Nothing is promised of them: the checker refuses what is wrong."""
-from opcodes import BRANCHES, Instruction
-from program import NMI_VECTOR, RESET_VECTOR, ROUTINES, is_code, is_driver
-from rules import ANYTHING, UNCHANGED, Note, held_after, stores_own
+from opcodes import Instruction
+from program import is_code, is_driver
+from rules import FIRST, LEAVES, UNCHANGED, blank_after, held_after, stores_own
+from table import MOST, NMI_VECTOR, RESET_VECTOR
 
 CAP = 900                       # more room, or more instructions of the NMI, than any may have
 MOST_PUSHED = 256
@@ -23,11 +24,10 @@ class Flow:
         self.subs = subs                            # what counts as a subroutine for all ways
         self.fills = fills                          # what follows a call is taken as not blank
         self.notes, self.owner, self.work = {}, {}, []
-        first = Note('main', 0, ANYTHING, '', 0, 0, False, False, False)
         nmi = program.word(NMI_VECTOR)
         # What comes last is gone over first.
-        self.go(nmi, first._replace(level='nmi', held=UNCHANGED), nmi)
-        self.go(start, first, start)
+        self.go(nmi, FIRST._replace(level='nmi', held=UNCHANGED), nmi)
+        self.go(start, FIRST, start)
         while self.work:
             self.follow(self.work.pop())
         self.spread()
@@ -55,14 +55,14 @@ class Flow:
         i, note, owner = Instruction(self.program.rom, at), self.notes[at], self.owner[at]
         if i.name in ('brk', 'none', 'rti') or i.mode == '(abs)':
             return
-        if i.name == 'rts':
+        if i.does == 'returns':
             self.ends |= {owner} if note.blank else set()
-        elif i.name == 'jmp':
+        elif i.does == 'jumps':
             self.jump(i.operand, note, owner)
-        elif i.name == 'jsr':
+        elif i.does == 'calls':
             self.go(i.next, self.called(i.operand, note), owner)
         else:
-            if i.name in BRANCHES:
+            if i.does == 'branches':
                 self.go(i.operand, note, owner)
             if note.depth < MOST_PUSHED:
                 self.go(i.next, beyond(i, note), owner)
@@ -82,18 +82,17 @@ class Flow:
 
 def driven(to, note):
     """What holds after a call of the driver."""
-    name = ROUTINES.get(to)
-    blank = name == 'dvg_open' or note.blank and name not in ('dvg_labs', 'dvg_reset')
-    return note._replace(awake=note.awake or name == 'dvg_reset', blank=blank)
+    awake = note.awake or 'awake' in LEAVES.get(to, ())
+    return note._replace(awake=awake, blank=blank_after(to, note.blank))
 
 
 def beyond(i, note):
     """What holds behind an instruction that isn't a jump."""
     held = held_after(i, note, note.slots[:1] or '.')
-    if i.name in ('pha', 'php'):
-        slot = note.held[0] if i.name == 'pha' else '.'
+    if i.does == 'pushes':
+        slot = note.held[UNCHANGED.index(i.register)] if i.register else '.'
         return note._replace(depth=note.depth + 1, slots=slot + note.slots)
-    if i.name in ('pla', 'plp'):
+    if i.does == 'pulls':
         return note._replace(depth=max(note.depth - 1, 0), slots=note.slots[1:], held=held)
     if stores_own(i):
         return note._replace(awake=False)
@@ -102,14 +101,14 @@ def beyond(i, note):
 
 def ways(program, i):
     """Where an instruction goes on, and how many bytes more are on the stack there."""
-    if i.name in BRANCHES:
+    if i.does == 'branches':
         return [(i.operand, 0), (i.next, 0)]
-    if i.name == 'jmp':
+    if i.does == 'jumps':
         ends = i.mode == '(abs)' or i.operand == program.word(RESET_VECTOR)
         return [] if ends or is_driver(i.operand) else [(i.operand, 0)]
     if i.name in ('rts', 'rti', 'brk', 'none'):
         return []
-    return [(i.next, {'pha': 1, 'php': 1, 'pla': -1, 'plp': -1}.get(i.name, 0))]
+    return [(i.next, {'pushes': 1, 'pulls': -1}.get(i.does, 0))]
 
 
 def counted(program, notes):
@@ -132,10 +131,10 @@ def counted(program, notes):
 def room_of(i, then, room):
     """How many bytes an instruction may push with what comes after it, where that is known."""
     need = max([room.get(to, 0) + more for to, more in then] + [0])
-    if is_driver(i.operand) and i.name in ('jsr', 'jmp'):
-        need = max(need, 4)
-    elif i.name == 'jsr':
-        need = max(need, room.get(i.operand, 0) + 2)
+    if is_driver(i.operand) and i.does in ('calls', 'jumps'):
+        need = max(need, MOST['driver_stack'])
+    elif i.does == 'calls':
+        need = max(need, room.get(i.operand, 0) + MOST['call_stack'])
     return min(need, CAP)
 
 
@@ -153,7 +152,7 @@ def jump_to(program, notes, at):
     before, found, work = ways_back(program, notes), {at}, [at]
     while work:
         new = [one for one in before.get(work.pop(0), ()) if one not in found]
-        jumps = [one for one in new if Instruction(program.rom, one).name == 'jmp']
+        jumps = [one for one in new if Instruction(program.rom, one).does == 'jumps']
         if jumps:
             return jumps[0]
         found |= set(new)
@@ -165,7 +164,7 @@ def empty_ones(program, start):
     """The subroutines that are called with an empty frame, and may return with it."""
     flow = Flow(program, start, set(), fills=True)
     calls = (Instruction(program.rom, at) for at, note in flow.notes.items() if note.blank)
-    return sorted({i.operand for i in calls if i.name == 'jsr'} & flow.ends)
+    return sorted({i.operand for i in calls if i.does == 'calls'} & flow.ends)
 
 
 def led_from(program, at):
@@ -182,7 +181,8 @@ def led_from(program, at):
 def returns(program, at):
     """Whether a way from an instruction on ends as a subroutine does."""
     steps = (Instruction(program.rom, to) for to in led_from(program, at))
-    return any(i.name == 'rts' or i.name == 'jmp' and is_driver(i.operand) for i in steps)
+    return any(i.does == 'returns' or i.does == 'jumps' and is_driver(i.operand)
+               for i in steps)
 
 
 def subroutines(program, start):
@@ -191,7 +191,7 @@ def subroutines(program, start):
     subs = set()
     while True:
         steps = [Instruction(program.rom, at) for at in Flow(program, start, set(), subs).notes]
-        new = {i.operand for i in steps if i.name == 'jsr' and is_code(i.operand)}
+        new = {i.operand for i in steps if i.does == 'calls' and is_code(i.operand)}
         new = {at for at in new - subs - {start, program.word(NMI_VECTOR)} if returns(program, at)}
         if not new:
             return subs

@@ -1,12 +1,19 @@
 """A program as its bytes and its labels, and what stands where on the board."""
 
-START, DRIVER_END, CODE_END, END = 0x6800, 0x6A87, 0x7FFA, 0x8000
-NMI_VECTOR, RESET_VECTOR = 0x7FFA, 0x7FFC
+from table import CODE_END, DRIVER_END, PROGRAM_END, RANGES, ROUTINES, STANDS, START, WRITABLE
+
+# The names of the routines by their addresses.
+NAMES = {at: name for at, name, _, _ in ROUTINES}
+
+
+def are_in(*names):
+    """The addresses of what is called so in RANGES."""
+    return {a for name in names for low, high in RANGES[name] for a in range(low, high)}
 
 
 class Board:
     """What the boards differ in. The definition that is proved has that of Asteroids alone."""
-    outputs = {0x3200, 0x3400, 0x3600, 0x3A00, 0x3E00, *range(0x3C00, 0x3C06)}
+    outputs = are_in('output')
     low = range(0)              # where more of the program's ROM stands
     names = 'asteroids.inc'
     remark = ''
@@ -20,10 +27,10 @@ def take_deluxe():
     Board.remark = '. The outputs of deluxe.inc and ROM below 6800 are allowed, without a proof'
 
 
-# The routines that are proved. dvg_copy isn't among them.
-ROUTINES = {0x6800: 'dvg_reset', 0x6809: 'dvg_run', 0x6860: 'dvg_ticks', 0x686A: 'dvg_tick',
-            0x68FE: 'dvg_offer', 0x6924: 'dvg_open', 0x6943: 'dvg_redraw', 0x6957: 'dvg_put',
-            0x6979: 'dvg_labs', 0x6989: 'dvg_pair', 0x6A00: 'dvg_close', 0x6A17: 'dvg_vector'}
+OWN = are_in('own')
+STROBES = are_in('strobe')
+LISTS = are_in('list')
+WRITTEN = {level: are_in(*names) for level, names in WRITABLE.items()}
 
 
 def is_code(a):
@@ -34,40 +41,41 @@ def is_driver(a):
     return START <= a < DRIVER_END
 
 
-def is_operand(a):
-    """dvg_y and dvg_x."""
-    return 0x1B <= a < 0x1F
-
-
 def is_own(a):
     """The driver's bytes, but dvg_y and dvg_x."""
-    return 0x10 <= a < 0x21 and not is_operand(a)
+    return a in OWN
 
 
-def is_free(a):
-    """RAM and outputs of the game's own."""
-    return a < 0x10 or 0x21 <= a < 0x100 or 0x200 <= a < 0x400 or a in Board.outputs
+def may_write(level, a):
+    """Whether code of a level may write there."""
+    return a in WRITTEN[level] or a in Board.outputs
 
 
 def is_strobe(a):
-    return 0x3000 <= a % 0x8000 < 0x3200
+    return a % PROGRAM_END in STROBES
+
+
+def is_list(a, size):
+    """Whether a list of so many bytes may stand there."""
+    return a in LISTS and a + size <= PROGRAM_END
+
+
+def text_at(rows, a):
+    """What a table of ranges has of an address."""
+    return next(text for low, high, text in rows if low <= a < high)
 
 
 def place(a):
     """What stands at an address that a game must not write."""
-    names = [(0x10, 0x21, f"the driver's byte {a:02X}"), (0x100, 0x200, 'the stack'),
-             (0x2000, 0x3000, 'an input, or the flag'), (0x3000, 0x3200, 'the strobe'),
-             (0x3200, 0x4000, f'no output that {Board.names} names'),
-             (0x4000, 0x4800, 'the vector RAM'), (0x4800, 0x8000, 'ROM'),
-             (0x8000, 0x10000, f'which the board takes for {a % 0x8000:04X}')]
-    return next((name for low, high, name in names if low <= a < high), 'no RAM')
+    return text_at(STANDS, a).format(byte=f'{a:02X}', names=Board.names,
+                                     mirror=f'{a % PROGRAM_END:04X}')
 
 
 class Program:
     """The bytes of a .program, which end at 7FFF, and the linker's labels, if there are."""
 
     def __init__(self, data, labels=()):
-        self.rom = dict(enumerate(data, END - len(data)))
+        self.rom = dict(enumerate(data, PROGRAM_END - len(data)))
         self.labels = {}
         for line in labels:
             word, label = line.split()[1:]

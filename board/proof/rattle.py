@@ -5,7 +5,7 @@ import re
 import textwrap
 from collections import namedtuple
 
-from program import CODE_END, DRIVER_END, NMI_VECTOR
+from table import CODE_END, DRIVER_END, NMI_VECTOR
 
 ROW = 64
 SPECS = '''-- The program of {title}, and notes of it, which nobody has to trust. board/prove --law
