@@ -1,6 +1,8 @@
 // What the page needs beside its modules, as constants on standard output: the listing of the
-// driver, the games, the opening, and the examples. assemble.py adds dvg.wasm.
+// driver, the games, the opening, the examples, and what is said of faults. assemble.py adds
+// dvg.wasm.
 import { readFileSync, readdirSync } from 'node:fs';
+import { explainedFaults } from './advice.mjs';
 import { packedGames } from './games.mjs';
 import { FRAME_END, SCENES } from './src/playfield.mjs';
 
@@ -38,6 +40,7 @@ const constants = {
   GAMES: packedGames().map(({ folder, ...game }) => game),
   FRAMES: framesOfExamples(),
   FILES: { ...sketches(), ...logs, ...textsOf('traces', null) },
+  ADVICE: explainedFaults(),
 };
 for (const [name, value] of Object.entries(constants)) {
   process.stdout.write(`const ${name} = ${JSON.stringify(value)};\n`);

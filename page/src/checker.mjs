@@ -1,11 +1,10 @@
 /* Says of a program's bytes whether a run of them may tear a picture: what board/prove does by its
  * script, but for the names of tables and shapes, which aren't in the bytes. Tested, not proved. */
-import { CURE, Contents } from './contents.mjs';
+import { Contents } from './contents.mjs';
 import { emptyOnes, jumpTo, ledFrom, makeNotes, waysOn } from './notes.mjs';
-import { NMI_VECTOR, START, isCode } from './programs.mjs';
-import { EMPTY, ORDER, TOO_EARLY, UNCALLED, refusalOf, refusalsOf, startOf } from './rules.mjs';
-
-const UNTORN = 'no run of these bytes tears a picture';
+import { ENTRIES, filled, isCode } from './programs.mjs';
+import { lineOf, refusalOf, refusalsOf, startOf } from './rules.mjs';
+import { HINTS, NMI_VECTOR, SAID, START, WHY } from './tables.mjs';
 
 /* What a program is called by: its verdict is GOOD, UNSEEN or REFUSED. */
 export const VERDICT = { GOOD: 0, REFUSED: 1, UNSEEN: 3 };
@@ -19,8 +18,8 @@ function undoingStores(program, notes, start) {
     seen.add(key);
     const one = program.at(at);
     if (one.storesOwn && isAwake) found.add(at);
-    if (one.name === 'jsr') work.push([one.operand, isAwake]);
-    const resets = one.name === 'jsr' && one.operand === START;
+    if (one.does === 'calls') work.push([one.operand, isAwake]);
+    const resets = one.does === 'calls' && one.operand === START;
     const stays = !one.storesOwn && (isAwake || resets);
     for (const [to] of waysOn(program, one)) work.push([to, stays]);
   }
@@ -28,37 +27,31 @@ function undoingStores(program, notes, start) {
 }
 
 /* Where a JMP may stand for the JSR of what returns. */
-function uncalledHint(line, program, notes) {
-  const jump = jumpTo(program, notes, parseInt(line, 16));
-  const place = jump === undefined ? '' : program.where(jump);
-  if (line.includes(': jmp ')) {
-    return `: is this a JMP for a JSR${place && `, or the one at ${place}, which leads there`}?`;
-  }
-  return place && `: is the JMP at ${place} one for a JSR?`;
+function uncalledHint({ at }, program, notes) {
+  const jump = jumpTo(program, notes, at), isJump = program.at(at).does === 'jumps';
+  if (jump === undefined) return isJump ? HINTS.jump : '';
+  return filled(HINTS[isJump ? 'jumps' : 'jump_there'], { where: program.where(jump) });
 }
 
 /* Where the cause of a refusal stands, if that isn't the instruction that is refused, or ''. */
 function hintOf(line, program, notes, start) {
-  if (line.endsWith(EMPTY)) {
-    return emptyOnes(program, start).map((at) => `; ${program.where(at)} is called between `
-      + 'dvg_open and dvg_labs: call it before dvg_open').join('');
+  if (line.why === 'empty') {
+    return emptyOnes(program, start).map((at) => filled(HINTS.labs, { where: program.where(at) }))
+      .join('');
   }
-  return line.endsWith(UNCALLED) ? uncalledHint(line, program, notes) : '';
+  return line.why === 'uncalled' ? uncalledHint(line, program, notes) : '';
 }
 
 /* One line for all calls that come too early, of the store that is the cause, if there is. */
 function earlyLine(lines, program, notes, start) {
-  const [place, call, ...rest] = lines[0].split(': '), [name] = rest.join(': ').split(' ');
-  const others = lines.length > 1 ? `, and ${lines.length - 1} other calls` : '';
-  const [undone] = undoingStores(program, notes, start);
-  if (undone !== undefined) {
-    return `${program.where(undone)}: ${program.at(undone)}: it may store a byte of 10 to 20, `
-      + `after which ${name} comes before dvg_reset, at ${place}${others}`;
-  }
-  const led = ledFrom(program, program.word(NMI_VECTOR));
-  const isByNmi = led.has(parseInt(place.split(' ')[0], 16));
-  const cause = isByNmi ? 'the NMI leads there' : 'which isn\'t called first on each way there';
-  return `${place}: ${call}: ${name} comes before dvg_reset${others}; ${cause}`;
+  const [{ at }] = lines, [undone] = undoingStores(program, notes, start);
+  const others = lines.length > 1 ? filled(HINTS.others, { count: lines.length - 1 }) : '';
+  const known = { name: ENTRIES.get(program.at(at).operand).name, where: program.where(at),
+    others };
+  const isByNmi = ledFrom(program, program.word(NMI_VECTOR)).has(at);
+  const hint = isByNmi ? HINTS.early_nmi : HINTS.early, place = undone ?? at;
+  const message = filled(undone === undefined ? hint : HINTS.undone, known);
+  return lineOf(program, place, { message }).text;
 }
 
 /* The notes of a program, where it starts, and the lines of what is refused by the rules. */
@@ -66,18 +59,16 @@ function examined(program, driver) {
   let start = 0;
   const why = refusalOf(() => { start = startOf(program); });
   if (why !== null) {
-    const line = `${program.where(why.at)}: ${program.at(why.at)}: ${why.message}`;
-    return { notes: new Map(), start, lines: [line] };
+    return { notes: new Map(), start, lines: [lineOf(program, why.at, why).text] };
   }
   if (refusalOf(() => startOf(program, NMI_VECTOR)) === null) {
-    const line = `${program.where(program.word(NMI_VECTOR))}: the NMI's vector leads there, where `
-      + `S is set as a reset does: ${ORDER}`;
+    const line = `${program.where(program.word(NMI_VECTOR))}: ${WHY.nmi_boots}`;
     return { notes: new Map(), start, lines: [line] };
   }
   const notes = makeNotes(program, start), lines = refusalsOf(program, notes, start, driver);
-  const early = lines.filter((line) => line.endsWith(TOO_EARLY));
-  const others = lines.filter((line) => !line.endsWith(TOO_EARLY))
-    .map((line) => line + hintOf(line, program, notes, start));
+  const early = lines.filter((line) => line.why === 'early');
+  const others = lines.filter((line) => line.why !== 'early')
+    .map((line) => line.text + hintOf(line, program, notes, start));
   const told = early.length > 0 ? [earlyLine(early, program, notes, start)] : [];
   return { notes, start, lines: [...others, ...told] };
 }
@@ -86,11 +77,10 @@ function summaryOf(program, notes, start) {
   const nmi = notes.get(program.word(NMI_VECTOR)), called = new Set();
   for (const at of notes.keys()) {
     const one = program.at(at);
-    if (one.name === 'jsr' && isCode(one.operand)) called.add(one.operand);
+    if (one.does === 'calls' && isCode(one.operand)) called.add(one.operand);
   }
-  return `${notes.size} instructions, ${called.size} subroutines; at most `
-    + `${notes.get(start).room + nmi.room + 3} bytes of the stack, and ${nmi.fuel} instructions of `
-    + 'the NMI';
+  return filled(SAID.summary, { count: notes.size, calls: called.size, fuel: nmi.fuel,
+    stack: notes.get(start).room + nmi.room + 3 });
 }
 
 /* The verdict of a program over a vector ROM, with `driver`, the bytes that are proved: a verdict,
@@ -101,10 +91,9 @@ export function judgeProgram(program, rom, driver) {
   const contents = new Contents(program, notes, start, rom);
   if (contents.lines.length > 0) return { verdict: VERDICT.REFUSED, lines: contents.lines };
   const told = [summaryOf(program, notes, start), contents.told];
-  if (contents.bad.length === 0) return { verdict: VERDICT.GOOD, lines: [UNTORN, ...told] };
-  const others = contents.bad.map((at) => `brought at ${program.where(at)}`);
+  if (contents.bad.length === 0) return { verdict: VERDICT.GOOD, lines: [SAID.untorn, ...told] };
+  const others = contents.bad.map((at) => filled(SAID.brought, { where: program.where(at) }));
   const unseen = contents.unseen.length > 0 ? contents.unseen : others;
-  const first = `keeps to the rules, but what is ${[...new Set(unseen)].join(', ')} isn't seen: it `
-    + 'may tear a picture';
-  return { verdict: VERDICT.UNSEEN, lines: [first, CURE, ...told] };
+  const first = filled(SAID.unseen, { what: [...new Set(unseen)].join(', ') });
+  return { verdict: VERDICT.UNSEEN, lines: [first, SAID.unseen_cure, ...told] };
 }

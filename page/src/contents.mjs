@@ -2,18 +2,15 @@
  * nothing tears where it is, is proved of the definition in crates/dvg_game_content; this is
  * tested, not proved. */
 import { hex } from './hex.mjs';
-import { CHANGES, STORES } from './processor.mjs';
+import { ENTRIES, filled, isDriver, isList } from './programs.mjs';
 import {
-  CODE_END, DRIVER_END, NMI_VECTOR, PROGRAM_END, RESET_VECTOR, ROUTINES, isDriver,
-} from './programs.mjs';
+  CODE_END, DRIVER_END, MOST, NMI_VECTOR, RESET_VECTOR, ROUTINES, SAID, WHY,
+} from './tables.mjs';
 
-const OFFER = 0x68FE, PUT = 0x6957, PAIR = 0x6989;
-/* How many instructions before a call are looked at. */
-const FAR = 12;
-const LEAPS = ['jmp', 'jsr', 'rts', 'rti'];
-/* The most words of a table, and the most calls that may be open. */
-const MOST_WORDS = 511, MOST_CALLS = 4;
-const ROM_AT = 0x4800, NO_WORD = 0x400, ROM_END_WORD = 0xC00, SMALL_ROM_BYTES = 2048;
+const [OFFER, PUT, PAIR] = ['dvg_offer', 'dvg_put', 'dvg_pair']
+  .map((routine) => ROUTINES.find(([, name]) => name === routine)[0]);
+const LEAPS = ['jumps', 'calls', 'returns', 'finishes'];
+const NO_WORD = 0x400, ROM_END_WORD = 0xC00, SMALL_ROM_BYTES = 2048;
 
 /* --- Notes: how many bytes the instruction before has that alone leads to a place --- */
 
@@ -22,8 +19,8 @@ function enteredPlaces(program, notes, start) {
   const places = new Set([start, program.word(NMI_VECTOR), program.word(RESET_VECTOR)]);
   for (const at of notes.keys()) {
     const one = program.at(at);
-    if (one.branches || one.name === 'jmp' || one.name === 'jsr') places.add(one.operand);
-    if (one.name === 'jsr') places.add(one.next);
+    if (['branches', 'jumps', 'calls'].includes(one.does)) places.add(one.operand);
+    if (one.does === 'calls') places.add(one.next);
   }
   return places;
 }
@@ -33,14 +30,14 @@ function befores(program, notes) {
   const before = new Map();
   for (const at of notes.keys()) {
     const one = program.at(at);
-    if (LEAPS.includes(one.name)) continue;
+    if (LEAPS.includes(one.does)) continue;
     before.set(one.next, [...before.get(one.next) ?? [], one]);
   }
   return before;
 }
 
 function isCallOf(one, ...routines) {
-  return (one.name === 'jsr' || one.name === 'jmp') && routines.includes(one.operand);
+  return (one.does === 'calls' || one.does === 'jumps') && routines.includes(one.operand);
 }
 
 /* A note for each place on a straight way to a call of dvg_offer or dvg_put. */
@@ -50,7 +47,7 @@ export function straightWays(program, notes, start) {
   for (const call of notes.keys()) {
     if (!isCallOf(program.at(call), OFFER, PUT)) continue;
     let at = call;
-    for (let k = 0; k < FAR && !places.has(at) && before.get(at)?.length === 1; k++) {
+    for (let k = 0; k < MOST.far && !places.has(at) && before.get(at)?.length === 1; k++) {
       const [one] = before.get(at);
       ways.set(at, one.size);
       at = one.at;
@@ -62,12 +59,10 @@ export function straightWays(program, notes, start) {
 /* --- What A and X hold: null, a number, { under } for a byte below that, or a function of Y --- */
 
 const NOTHING = { a: null, x: null, most: 256, less: 256 };
-const QUIET = ['bit', 'clc', 'cld', 'cli', 'clv', 'cmp', 'cpx', 'cpy', 'nop', 'sec', 'sei'];
 
 /* The entries of a list in the ROM. */
 function listed(program, base, most) {
-  const isInside = base >= ROM_AT && base + most <= PROGRAM_END;
-  return isInside ? (y) => program.byte(base + y) ?? 0 : null;
+  return isList(base, most) ? (y) => program.byte(base + y) ?? 0 : null;
 }
 
 function masked(known, mask) {
@@ -100,8 +95,8 @@ function factAfter(program, at, fact) {
     case 0xB0: return { ...known, most: Math.min(less, most) };
     default:
   }
-  const stores = one.name in STORES || (one.name in CHANGES && one.mode !== '');
-  return QUIET.includes(one.name) || stores || one.branches ? known : NOTHING;
+  const setsNone = (one.does === 'takes' || one.does === 'sets') && one.register === '';
+  return setsNone || one.writes || one.branches ? known : NOTHING;
 }
 
 /* What is known before the instruction at a place, of so many before it. */
@@ -124,10 +119,10 @@ function wordsOf({ a, x, most }) {
 function flowsOn(program, ways, at) {
   const one = program.at(at), isUnnoted = (to) => (ways.get(to) ?? 0) === 0;
   const leads = isDriver(one.operand) || isUnnoted(one.operand);
-  if (one.name === 'jmp' && one.mode === 'abs') return leads;
-  if (one.name === 'jsr') return isUnnoted(at + 3) && leads;
-  if (one.name === 'rts' || one.name === 'rti') return true;
-  if (one.name === 'none' || one.goesByTable || one.name === 'txs') return false;
+  if (one.does === 'jumps' && one.mode === 'abs') return leads;
+  if (one.does === 'calls') return isUnnoted(at + 3) && leads;
+  if (one.does === 'returns' || one.does === 'finishes') return true;
+  if (one.does === 'wild' || one.goesByTable) return false;
   if (one.branches && !isUnnoted(one.operand)) return false;
   return isUnnoted(one.next) || ways.get(one.next) === one.size;
 }
@@ -166,8 +161,7 @@ function isLaid(word, next) {
 /* The words of the table at an address, or null where none may stand. */
 function tableAt(program, at) {
   const count = program.word(at);
-  if (at < ROM_AT || count === 0 || count > MOST_WORDS) return null;
-  if (at + 2 + 2 * count > PROGRAM_END) return null;
+  if (count === 0 || count > MOST.words || !isList(at, 2 + 2 * count)) return null;
   return Array.from({ length: count }, (_, k) => program.word(at + 2 + 2 * k));
 }
 
@@ -221,7 +215,7 @@ class Shapes {
     if (view === null) return false;
     const { into, on, back } = view;
     if (back) return calls > 0;
-    if (into !== undefined && (calls === MOST_CALLS || !this.isThere(on)
+    if (into !== undefined && (calls === MOST.calls || !this.isThere(on)
       || !this.ends(into, calls + 1, seen))) return false;
     return on === undefined || this.ends(on, calls, seen);
   }
@@ -254,11 +248,6 @@ class Shapes {
 
 /* --- What a program offers and puts --- */
 
-/* Where what is put is seen. */
-export const CURE = 'it is seen where lda LIST,y and ldx LIST,y stand right before the call, and '
-  + 'before these cpy #LENGTH and bcs, or and #MASK and tay; or where lda # and ldx # do';
-const WHAT = { dvg_offer: 'offered', dvg_put: 'put', dvg_pair: 'put by dvg_pair' };
-
 export class Contents {
   /* `lines` of what is refused; `unseen`, what is offered or put where it isn't known; `bad`, the
    * places where the rules are broken; and the words that are `seen`. */
@@ -273,17 +262,17 @@ export class Contents {
   look(one) {
     const { program, ways } = this;
     if (!flowsOn(program, ways, one.at)) this.bad.push(one.at);
-    if (isCallOf(one, OFFER, PUT, PAIR)) this.lookAtCall(one, ROUTINES.get(one.operand));
+    if (isCallOf(one, OFFER, PUT, PAIR)) this.lookAtCall(one, ENTRIES.get(one.operand).name);
   }
 
   lookAtCall(one, name) {
-    const fact = factAt(this.program, this.ways, FAR, one.at), words = wordsOf(fact);
+    const fact = factAt(this.program, this.ways, MOST.far, one.at), words = wordsOf(fact);
     const bad = name === 'dvg_pair' ? [] : (words ?? []).filter((word) => !this.isGood(name, word));
     const isListed = typeof fact.a === 'function' || typeof fact.x === 'function';
     if (name === 'dvg_pair' || words === null || bad.length > 0) this.bad.push(one.at);
     const isUnbounded = fact.most === 256 && isListed;
     if (name === 'dvg_pair' || !words?.length || (bad.length > 0 && isUnbounded)) {
-      this.unseen.push(`${WHAT[name]} at ${this.program.where(one.at)}`);
+      this.unseen.push(filled(SAID[name], { where: this.program.where(one.at) }));
       return;
     }
     for (const word of words) this.seen[name].add(word);
@@ -298,27 +287,24 @@ export class Contents {
   }
 
   faultOf(name, word) {
-    return name === 'dvg_put'
-      ? `it puts ${hex(word, 4)}, which is no call of a shape, nor a short vector: dvg_call NAME`
-      : `it offers ${hex(word, 4)}, where no table stands that may be drawn`;
+    return filled(WHY[name === 'dvg_put' ? 'puts' : 'offers_undrawn'], { word: hex(word, 4) });
   }
 
   /* Whether a JSR or JMP to a routine stands anywhere, also in data. */
   mayCall(name) {
     for (let at = DRIVER_END; at < CODE_END; at++) {
       const isJump = this.program.byte(at) === 0x20 || this.program.byte(at) === 0x4C;
-      if (isJump && ROUTINES.get(this.program.word(at + 1)) === name) return true;
+      if (isJump && ENTRIES.get(this.program.word(at + 1))?.name === name) return true;
     }
     return false;
   }
 
   /* A line of what was seen. */
   get told() {
-    if (!Object.keys(WHAT).some((name) => this.mayCall(name))) {
-      return 'it calls neither dvg_offer, dvg_put nor dvg_pair';
-    }
     const { dvg_offer: tables, dvg_put: words } = this.seen;
-    const others = this.unseen.length > 0 ? 'there are others' : 'there are no others';
-    return `${tables.size} tables checked, ${words.size} words checked; ${others}`;
+    const names = ['dvg_offer', 'dvg_put', 'dvg_pair'];
+    if (!names.some((name) => this.mayCall(name))) return SAID.no_calls;
+    return filled(this.unseen.length > 0 ? SAID.others : SAID.no_others,
+      { tables: tables.size, words: words.size });
   }
 }

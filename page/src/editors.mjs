@@ -1,4 +1,5 @@
 /* The editors of frames and of the ROM, each checked while one types. */
+import { adviceOf } from './advice.mjs';
 import { hex } from './hex.mjs';
 import { drawSmall } from './screen.mjs';
 import { readSketch, romOf } from './sketches.mjs';
@@ -96,10 +97,10 @@ function goodText(said, frames) {
 
 /* Where somebody writes a frame, or a sketch of several, which are offered in turn. */
 export class DraftEditor extends Editor {
-  /* Texts that are `known` have no fault. */
-  constructor(place, title, changed, known) {
+  /* Texts that are `known` have no fault. `advice` is what `dvg explain` says of each fault. */
+  constructor(place, title, changed, known, advice) {
     super(place, title, changed);
-    Object.assign(this, { known, isSeen: false });
+    Object.assign(this, { known, advice, isSeen: false });
     this.preview = make('canvas', { className: 'preview', width: 240, height: 240 });
     this.preview.setAttribute('role', 'img');
     this.preview.setAttribute('aria-label', `${title}, drawn`);
@@ -133,9 +134,10 @@ export class DraftEditor extends Editor {
     const alone = readSketch(engine, this.value);
     this.take(alone);
     const isOver = this.offerable && this.ownRom === '' && rom.lines > 0;
-    const { said, good } = isOver ? readSketch(engine, rom.text + this.value) : alone;
+    const read = isOver ? readSketch(engine, rom.text + this.value) : alone, { said, good } = read;
     const shown = isOver ? withoutRom(said, rom.lines) : said;
-    this.tell(good ? goodText(shown, this.frames) : shown, good ? null : lineOfFault(shown));
+    if (good) this.tell(goodText(shown, this.frames), null);
+    else this.tell(shown + adviceOf(engine, read, this.advice), lineOfFault(shown));
   }
 
   /* The text as `dvg` takes it: after the lines of the ROM, where it brings none. */

@@ -1,7 +1,8 @@
 /* What a game is dropped as: its program, its three sockets, its vector ROM, its labels, a zip of
  * these, or the page that `make page` wrote; and the games that are built in. */
 import { bytesOfBase64 } from './hex.mjs';
-import { NMI_VECTOR, PROGRAM_END, RESET_VECTOR, START, labelsOf } from './programs.mjs';
+import { labelsOf } from './programs.mjs';
+import { NMI_VECTOR, PROGRAM_END, RESET_VECTOR, START } from './tables.mjs';
 
 const SOCKET_BYTES = 2048, PROGRAM_BYTES = PROGRAM_END - START, NO_BYTE = 0xFF;
 /* The sockets of the program, and that of the vector ROM, by their names. */

@@ -6,10 +6,10 @@ const STEPS = {
   Home: -Infinity, End: Infinity,
 };
 
-/* On the rows; `stage` tells the moment and how many events there are, shows another moment, and
- * draws the rows. */
+/* On the rows; `stage` tells how many events there are, shows another moment, and draws the rows.
+ */
 export function listenToRows(rows, stage) {
-  const canvas = byId('rows');
+  const { canvas } = rows;
   canvas.addEventListener('keydown', (event) => {
     if (event.ctrlKey || event.altKey || event.metaKey) return;
     if (event.key === '+' || event.key === '-') stage.zoom(event.key === '+' ? 2 : 0.5);

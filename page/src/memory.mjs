@@ -126,7 +126,7 @@ export class Memory {
     const drawn = { [AREA.HALF0]: 0, [AREA.HALF1]: 1 }[moment.run?.half];
     context.font = '12px system-ui, sans-serif';
     [0, 1].forEach((half) => {
-      context.fillStyle = colors.areas[half === 0 ? AREA.HALF0 : AREA.HALF1];
+      context.fillStyle = colors.ink;
       const words = [`half ${half}`];
       if (published === half) words.push('published');
       if (drawn === half) words.push('being drawn');

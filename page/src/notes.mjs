@@ -11,7 +11,8 @@
  *     blank   a frame that is being built may have nothing in it
  *     ends    the same, where this subroutine returns
  */
-import { NMI_VECTOR, RESET_VECTOR, ROUTINES, heldAfter, isCode, isDriver } from './programs.mjs';
+import { ENTRIES, heldAfter, isCode, isDriver } from './programs.mjs';
+import { MOST, NMI_VECTOR, RESET_VECTOR } from './tables.mjs';
 
 /* More room, or more instructions of the NMI, than any may have. */
 const CAP = 900;
@@ -37,30 +38,37 @@ function joined(old, now) {
 /* Where an instruction goes on, and how many bytes more are on the stack there. */
 export function waysOn(program, one) {
   if (one.branches) return [[one.operand, 0], [one.next, 0]];
-  if (one.name === 'jmp') {
+  if (one.does === 'jumps') {
     const ends = one.goesByTable || one.operand === program.word(RESET_VECTOR);
     return ends || isDriver(one.operand) ? [] : [[one.operand, 0]];
   }
   if (['rts', 'rti', 'brk', 'none'].includes(one.name)) return [];
-  return [[one.next, { pha: 1, php: 1, pla: -1, plp: -1 }[one.name] ?? 0]];
+  return [[one.next, { pushes: 1, pulls: -1 }[one.does] ?? 0]];
+}
+
+/* Whether a frame may be blank after a call of the driver. */
+export function blankAfter(to, isBlank) {
+  const leaves = ENTRIES.get(to)?.leaves ?? [];
+  return leaves.includes('blank') || (isBlank && !leaves.includes('filled'));
 }
 
 /* What holds after a call of the driver. */
 function driven(to, note) {
-  const name = ROUTINES.get(to);
-  const stays = note.blank && name !== 'dvg_labs' && name !== 'dvg_reset';
-  const blank = name === 'dvg_open' || stays;
-  return { ...note, awake: note.awake || name === 'dvg_reset', blank };
+  const awake = note.awake || (ENTRIES.get(to)?.leaves.includes('awake') ?? false);
+  return { ...note, awake, blank: blankAfter(to, note.blank) };
 }
+
+/* What a PHA or PHP pushes, as it is known: a byte of `held`. */
+export const slotOf = ({ register }, { held }) => (
+  register === '' ? '.' : held[UNCHANGED.indexOf(register)]);
 
 /* What holds behind an instruction that isn't a jump. */
 function beyond(one, note) {
-  const held = heldAfter(one, note, note.slots[0] ?? '.'), { name } = one;
-  if (name === 'pha' || name === 'php') {
-    const slot = name === 'pha' ? note.held[0] : '.';
-    return { ...note, depth: note.depth + 1, slots: slot + note.slots };
+  const held = heldAfter(one, note, note.slots[0] ?? '.');
+  if (one.does === 'pushes') {
+    return { ...note, depth: note.depth + 1, slots: slotOf(one, note) + note.slots };
   }
-  if (name === 'pla' || name === 'plp') {
+  if (one.does === 'pulls') {
     return { ...note, depth: Math.max(note.depth - 1, 0), slots: note.slots.slice(1), held };
   }
   return one.storesOwn ? { ...note, awake: false } : { ...note, held };
@@ -107,10 +115,10 @@ class Flow {
   follow(at) {
     const one = this.program.at(at), note = this.notes.get(at), owner = this.owner.get(at);
     if (['brk', 'none', 'rti'].includes(one.name) || one.goesByTable) return;
-    if (one.name === 'rts') {
+    if (one.does === 'returns') {
       if (note.blank) this.ends.add(owner);
-    } else if (one.name === 'jmp') this.jump(one.operand, note, owner);
-    else if (one.name === 'jsr') this.go(one.next, this.called(one.operand, note), owner);
+    } else if (one.does === 'jumps') this.jump(one.operand, note, owner);
+    else if (one.does === 'calls') this.go(one.next, this.called(one.operand, note), owner);
     else {
       if (one.branches) this.go(one.operand, note, owner);
       if (note.depth < MOST_PUSHED) this.go(one.next, beyond(one, note), owner);
@@ -133,8 +141,11 @@ class Flow {
 /* How many bytes an instruction may push with what comes after it, where that is known. */
 function roomOf(one, ways, room) {
   let need = Math.max(0, ...ways.map(([to, more]) => (room.get(to) ?? 0) + more));
-  if (isDriver(one.operand) && (one.name === 'jsr' || one.name === 'jmp')) need = Math.max(need, 4);
-  else if (one.name === 'jsr') need = Math.max(need, (room.get(one.operand) ?? 0) + 2);
+  if (isDriver(one.operand) && (one.does === 'calls' || one.does === 'jumps')) {
+    need = Math.max(need, MOST.driver_stack);
+  } else if (one.does === 'calls') {
+    need = Math.max(need, (room.get(one.operand) ?? 0) + MOST.call_stack);
+  }
   return Math.min(need, CAP);
 }
 
@@ -172,7 +183,7 @@ export function jumpTo(program, notes, to) {
   const before = waysBack(program, notes), found = new Set([to]), work = [to];
   while (work.length > 0) {
     const next = (before.get(work.shift()) ?? []).filter((at) => !found.has(at));
-    const jump = next.find((at) => program.at(at).name === 'jmp');
+    const jump = next.find((at) => program.at(at).does === 'jumps');
     if (jump !== undefined) return jump;
     next.forEach((at) => found.add(at));
     work.push(...next);
@@ -185,7 +196,7 @@ export function emptyOnes(program, start) {
   const flow = new Flow(program, start, new Set(), { fills: true }), found = new Set();
   for (const [at, note] of flow.notes) {
     const one = program.at(at);
-    if (note.blank && one.name === 'jsr' && flow.ends.has(one.operand)) found.add(one.operand);
+    if (note.blank && one.does === 'calls' && flow.ends.has(one.operand)) found.add(one.operand);
   }
   return [...found].sort((a, b) => a - b);
 }
@@ -205,7 +216,7 @@ export function ledFrom(program, from) {
 /* Whether a way from an instruction on ends as a subroutine does. */
 function returns(program, from) {
   return [...ledFrom(program, from)].map((at) => program.at(at))
-    .some(({ name, operand }) => name === 'rts' || (name === 'jmp' && isDriver(operand)));
+    .some(({ does, operand }) => does === 'returns' || (does === 'jumps' && isDriver(operand)));
 }
 
 /* What a JSR leads to, and returns: a subroutine, however else it is come to. So what is refused is
@@ -215,7 +226,7 @@ function subroutinesOf(program, start) {
   for (let before = -1; before !== subs.size;) {
     before = subs.size;
     [...new Flow(program, start, new Set(), { subs }).notes.keys()].map((at) => program.at(at))
-      .filter(({ name, operand }) => name === 'jsr' && isCode(operand))
+      .filter(({ does, operand }) => does === 'calls' && isCode(operand))
       .map(({ operand }) => operand)
       .filter((at) => !others.includes(at) && returns(program, at))
       .forEach((at) => subs.add(at));

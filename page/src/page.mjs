@@ -26,9 +26,9 @@ import {
 } from './words.mjs';
 import { builtGame, isOfGame } from './eproms.mjs';
 import { Play, listenToPlay } from './play.mjs';
-import { DRIVER_END, START } from './programs.mjs';
+import { DRIVER_END, START } from './tables.mjs';
 import { linesOfListing } from './twin.mjs';
-import { FILES, FRAMES, GAMES, LISTING, SCENES, WASM } from './built.mjs';
+import { ADVICE, FILES, FRAMES, GAMES, LISTING, SCENES, WASM } from './built.mjs';
 
 /* What stands in the editors by a name. */
 const EXAMPLES = { ...SCENES, ...FRAMES };
@@ -44,7 +44,9 @@ const FIRST_GAME = plainFragment({ game: GAMES[0].name });
 const LOG_BEFORE = 12, LOG_AFTER = 4;
 /* Why what is grey is so: of a recording, and of a board with as many events as it holds. */
 const ELSEWHERE = 'This happened elsewhere: it can\'t be run, cut or added to.';
-const FULL = 'These are 65,536 events, the most that fit: begin anew.';
+const FULL = '65,536 events are the most: begin anew, or run on and on.';
+/* The largest seed. */
+const MOST_SEED = 4294967295;
 /* How many frames of a sketch are drawn in a second beside its text. */
 const PREVIEW_RATE = 12;
 /* How many events before and after a torn line are shown. */
@@ -59,6 +61,8 @@ const JUDGE_EVERY = 500, TEXTS_EVERY = 100;
 const MOST_PASSED = 200;
 
 let engine, drawer, tube, board, schedule = null, running = false;
+/* How many events are to go while it runs. */
+let toGo = 0;
 /* What shows a concern of its own: the verdicts, the driver's code, files that are opened, and a
  * game. `fitSizes` gives canvases that come into view their size. */
 let verdicts, code, drops, play, fitSizes;
@@ -146,17 +150,20 @@ const SCHEDULES = {
 };
 
 function scheduleNow() {
-  const how = byId('how').value, seed = clamp(byId('seed').value, 0, 4294967295);
+  const how = byId('how').value, seed = clamp(byId('seed').value, 0, MOST_SEED);
   const key = `${how} ${seed}`;
-  if (schedule?.key !== key) {
-    const made = SCHEDULES[how](seed, reelNow);
-    schedule = { key, made, left: 0 };
-  }
+  if (schedule?.key !== key) schedule = { key, made: SCHEDULES[how](seed, reelNow) };
   return schedule;
 }
 
+/* Whether a run ends only when somebody stops it. */
+function isEndless() {
+  return byId('endless').checked && !tour.running;
+}
+
 function canRun() {
-  return shown === board && editorA.offerable && editorB.offerable && !board.full;
+  const hasRoom = !board.full || isEndless();
+  return shown === board && editorA.offerable && editorB.offerable && hasRoom;
 }
 
 function runSome(count, until = Infinity) {
@@ -191,10 +198,24 @@ function rateNow() {
   return tour.running ? TOUR_RATE : 60 * 2 ** Number(byId('speed').value);
 }
 
+/* How many events a run has. */
+function countOfRun() {
+  if (isEndless()) return Infinity;
+  return tour.running ? MOST_EVENTS : countNow();
+}
+
+/* Begins anew while it runs, as the board holds no more events: its frames, its halves and its wire
+ * stay as they are, and the seed is the next one. */
+function beginNext() {
+  byId('seed').value = (clamp(byId('seed').value, 0, MOST_SEED) + 1) % (MOST_SEED + 1);
+  beginAnew();
+  changed();
+}
+
 function setRunning(on) {
   running = on && canRun();
   if (running) {
-    scheduleNow().left = tour.running ? MOST_EVENTS : countNow();
+    toGo = countOfRun();
     animatedAt = performance.now();
     requestAnimationFrame(animate);
   } else tour.end();
@@ -207,12 +228,13 @@ function animate() {
   const begin = performance.now(), passed = Math.min(MOST_PASSED, begin - animatedAt);
   animatedAt = begin;
   const wanted = Math.max(1, Math.round(rateNow() * passed / 1000));
-  schedule.left -= runSome(Math.min(schedule.left, wanted), begin + 3);
+  toGo -= runSome(Math.min(toGo, wanted), begin + 3);
   rows.follow(at);
   if (begin - verdicts.judgedAt > JUDGE_EVERY) judge();
   show();
   frameTimes.push(performance.now() - begin);
-  if (schedule.left <= 0 || board.full) setRunning(false);
+  if (board.full && isEndless()) beginNext();
+  if (toGo <= 0 || board.full) setRunning(false);
   else requestAnimationFrame(animate);
   if (tour.running) tour.pass(begin, board);
 }
@@ -225,8 +247,11 @@ function wantsLessMotion() {
 function run() {
   tour.end();
   if (running) setRunning(false);
-  else if (wantsLessMotion()) runAtOnce();
-  else setRunning(true);
+  else if (!wantsLessMotion()) setRunning(true);
+  else {
+    if (board.full) beginNext();
+    runAtOnce();
+  }
 }
 
 /* --- Verdicts --- */
@@ -300,6 +325,7 @@ function readColors() {
     early: of('early'), glows: [null, of('early-glow'), of('torn-glow')], good: of('good'),
     shade: of('shade'),
   };
+  if (play !== undefined) play.colors = colors;
 }
 
 /* After something has happened or was chosen. */
@@ -353,17 +379,23 @@ function tornPicture({ picture, run: open }) {
 function whyNoRun() {
   const fault = [editorA, editorB].find(({ offerable }) => !offerable);
   if (shown !== board) return ELSEWHERE;
-  if (board.full) return FULL;
+  if (board.full && !isEndless()) return FULL;
   return fault && !running ? `Run waits for frame ${fault.place.id}, which spells nothing to offer.`
     : '';
 }
 
-/* What Run does, and for how long; or why it can't. */
+/* What Run does, and for how long. */
+function textOfRun() {
+  const left = running ? toGo : countOfRun(), count = counted(left, 'event');
+  if (running) return `${isEndless() ? 'On and on' : `${count} to go`}; grey waits for Stop.`;
+  if (isEndless()) return 'Run: on and on, anew after each 65,536 events.';
+  return `Run: ${count}, in ${durationText(left / rateNow())}.`;
+}
+
+/* That, or why it can't run; or why it begins anew. */
 function showRunText() {
-  const left = running ? schedule.left : countNow(), time = durationText(left / rateNow());
-  const said = running ? `${counted(left, 'event')} to go; grey waits for Stop.`
-    : `Run: ${counted(left, 'event')}, in ${time}.`;
-  setText(byId('run-text'), whyNoRun() || said);
+  const why = whyNoRun() || (board.full && !running ? FULL : '');
+  setText(byId('run-text'), why || textOfRun());
   setText(byId('how-text'), (board.oneHalf ? ONE_HALF_TEXT : '') + HOW_TEXT[byId('how').value]);
 }
 
@@ -510,8 +542,9 @@ function showButtons() {
   byId('wire').textContent = wireCut ? 'Mend the HALT wire' : 'Cut the HALT wire';
   byId('run').textContent = running ? 'Stop' : 'Run';
   byId('run').disabled = !running && !canRun();
-  byId('once').disabled = running || !canRun();
-  byId('one-picture').disabled = running || !canRun();
+  for (const id of ['once', 'one-picture']) {
+    byId(id).disabled = running || board.full || !canRun();
+  }
   for (const id of ['moment-text', 'verdicts']) {
     byId(id).setAttribute('aria-live', running ? 'off' : 'polite');
   }
@@ -1010,6 +1043,11 @@ function listenToButtons() {
   byId('half-count').addEventListener('change', beginAgain);
   for (const id of ['seed', 'how']) byId(id).addEventListener('input', () => { schedule = null; });
   for (const id of ['count', 'speed', 'how']) byId(id).addEventListener('input', showRunText);
+  byId('endless').addEventListener('change', () => {
+    toGo = countOfRun();
+    showButtons();
+    showRunText();
+  });
 }
 
 /* With plain words nothing is told in hexadecimal. */
@@ -1026,15 +1064,17 @@ function listenToHands() {
   });
   listenToMemory(memory, show);
   listenToFiles(openFiles);
-  fitSizes = listenToSizes([byId('screen'), byId('rows'), byId('memory'), byId('tube')], () => {
-    rows.fit();
-    memory.fit();
+  const drawAll = () => {
     if (play?.isShown) play.drawAnew();
     else if (board !== undefined) show();
+  };
+  fitSizes = listenToSizes(['screen', 'rows', 'memory', 'tube', 'past'].map(byId), () => {
+    for (const fitted of [rows, memory, play?.strip]) fitted?.fit();
+    drawAll();
   });
   matchMedia('(prefers-color-scheme: light)').addEventListener('change', () => {
     readColors();
-    show();
+    drawAll();
   });
 }
 
@@ -1047,7 +1087,7 @@ function makePlay() {
       .map(([part, text]) => [part, bytesOfBase64(text)]));
     return { name, ...builtGame(bytes, driver) };
   });
-  play = new Play(engine, games, driver);
+  play = Object.assign(new Play(engine, games, driver), { colors });
   byId('games').replaceChildren(...games.map(({ name }, k) => {
     const button = Object.assign(document.createElement('button'), { textContent: name });
     button.addEventListener('click', () => play.openBuilt(k));
@@ -1067,8 +1107,8 @@ function makeEditors() {
     showRunText();
   };
   const known = Object.values(SCENES);
-  editorA = new DraftEditor(byId('A'), 'Frame A', () => edited(editorA), known);
-  editorB = new DraftEditor(byId('B'), 'Frame B', () => edited(editorB), known);
+  editorA = new DraftEditor(byId('A'), 'Frame A', () => edited(editorA), known, ADVICE);
+  editorB = new DraftEditor(byId('B'), 'Frame B', () => edited(editorB), known, ADVICE);
   editorR = new RomEditor(byId('R'), 'Lines map and rom; a change begins anew', () => {
     setRunning(false);
     setRom(editorR.value);

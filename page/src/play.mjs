@@ -2,11 +2,16 @@
 import { HERTZ } from './arcade.mjs';
 import { VERDICT, judgeProgram } from './checker.mjs';
 import { gameOf, gameOfFields, unzipped } from './eproms.mjs';
+import { listenToRows } from './gestures.mjs';
 import { base64Of, hex } from './hex.mjs';
 import { byId, setText } from './parts.mjs';
+import { KeptArcade } from './past.mjs';
 import { Player, listenToPlayer } from './player.mjs';
 import { Program, isDriver } from './programs.mjs';
-import { counted } from './words.mjs';
+import { ROW, SIGN } from './signs.mjs';
+import { Strip } from './strip.mjs';
+import { redText, tearCode, tearOfGame } from './tears.mjs';
+import { areaName, counted } from './words.mjs';
 
 /* How often the texts are shown, in milliseconds. */
 const TEXTS_AFTER = 200;
@@ -49,13 +54,26 @@ const OUTCOMES = {
   on: 'it goes on as before',
 };
 
+/* What an instruction does that writes into an area, by the sign of its slot. */
+function writingText(sign, area) {
+  if (sign === SIGN.FLIP) return 'publishes a half';
+  const isEarly = sign === SIGN.EARLY || sign === SIGN.SEEN;
+  const shows = sign === SIGN.SEEN ? ', and it shows' : '';
+  return `writes ${areaName(area)}${isEarly ? ', which is being drawn' : ''}${shows}`;
+}
+
 export class Play extends Player {
   /* `games` are those that are built in, and `driver` the driver's bytes. */
   constructor(engine, games, driver) {
     super(engine);
     Object.assign(this, { games, driver, program: null, textsAt: 0, guess: null });
-    Object.assign(this, { number: -1, onChange: () => {} });
+    Object.assign(this, { number: -1, isRowsTurn: false, onChange: () => {} });
+    // The moment of the rows that somebody looks at, if so, and the torn picture.
+    Object.assign(this, { moment: null, looked: null, colors: null });
+    this.strip = new Strip(byId('past'));
   }
+
+  boardOf(program, shapes) { return new KeptArcade(this.engine, program, shapes); }
 
   /* --- Games --- */
 
@@ -189,6 +207,99 @@ export class Play extends Player {
       + `than the beam draws${ignored ? '' : '. A slower beam may not keep up'}.`;
   }
 
+  /* --- The last seconds --- */
+
+  /* A game that goes on shows the newest end of its rows. */
+  setPaused(isPaused) {
+    if (!isPaused) {
+      Object.assign(this, { moment: null, looked: null });
+      setText(byId('past-text'), '');
+    }
+    super.setPaused(isPaused);
+  }
+
+  /* The rows of a game that goes on are drawn with every other picture. */
+  draw() {
+    super.draw();
+    this.isRowsTurn = this.isPaused || !this.isRowsTurn;
+    if (this.isRowsTurn) this.drawStrip();
+  }
+
+  drawStrip() {
+    const { strip, moment } = this, { past } = this.arcade;
+    if (moment === null) strip.showEnd(past.length);
+    strip.draw(past, moment ?? past.length, this.colors);
+  }
+
+  /* Lets the game rest, and the rows be looked at: by default at their end. */
+  rest() {
+    if (!this.isPaused) this.setPaused(true);
+    this.moment ??= this.arcade.past.length;
+  }
+
+  /* Shows a moment of the rows, and tells what happens then. */
+  goTo(moment) {
+    this.rest();
+    this.looked = null;
+    this.moment = Math.min(this.arcade.past.length, Math.max(0, moment));
+    this.strip.follow(this.moment);
+    this.showMoment(this.momentText);
+  }
+
+  /* A moment by so many slots later. */
+  walk(slots) { this.goTo((this.moment ?? this.arcade.past.length) + slots); }
+
+  zoom(factor) {
+    this.rest();
+    this.strip.zoom(factor, this.moment, this.arcade.past.length);
+    this.drawStrip();
+  }
+
+  showMoment(text) {
+    setText(byId('past-text'), text);
+    byId('past').setAttribute('aria-valuemax', this.arcade.past.length);
+    byId('past').setAttribute('aria-valuenow', this.moment);
+    byId('past').setAttribute('aria-valuetext', text);
+    this.drawAnew();
+  }
+
+  /* What both ends did just before the moment. */
+  get momentText() {
+    const { past } = this.arcade, slot = this.moment - 1;
+    const time = `At ${past.timeOf(this.moment).toFixed(4)} s`;
+    if (slot < 0) return `${time} the rows begin: what was before is forgotten.`;
+    const [drawn, written] = [ROW.GENERATOR, ROW.DRIVER].map((row) => past.areas[row][slot]);
+    const drawing = drawn === 0 ? 'is halted' : `draws ${areaName(drawn)}`;
+    const writing = written === 0 ? '' : `; ${this.instructionText(past.writers[slot])} `
+      + writingText(past.signs[ROW.DRIVER][slot], written);
+    return `${time} the generator ${drawing}${writing}.`;
+  }
+
+  /* Shows the byte that tore the newest torn picture: in the rows its moment, amid the run, and on
+   * the tube the picture, with what isn't of the frame that the run began with in red. */
+  showByte() {
+    const { past } = this.arcade, { torn } = past;
+    if (torn === null) return;
+    torn.parts ??= tearOfGame(this.engine, torn, { bytes: this.game.shapes });
+    this.rest();
+    this.looked = torn;
+    this.moment = past.slotAt(torn.byte.at) + 1;
+    this.strip.showSpan(past.slotAt(torn.began), past.slotAt(torn.done) + 1);
+    this.showMoment(this.byteText(torn));
+  }
+
+  byteText({ picture, byte, parts }) {
+    const { at, readAt, by, isEarly } = byte, later = 1000 * (readAt - at) / HERTZ;
+    return `At ${(at / HERTZ).toFixed(4)} s a byte ${isEarly ? 'came early' : 'was written'}, by `
+      + `${this.instructionText(by)}. ${tearCode({ word: byte })} ${later.toFixed(2)} ms later the `
+      + `generator read it: there the tear begins. ${redText(parts.wrong, picture)}`;
+  }
+
+  /* The picture that is looked at, or the newest one. */
+  get seen() { return this.looked?.picture ?? super.seen; }
+
+  tearOf(picture) { return this.looked?.parts ?? super.tearOf(picture); }
+
   /* --- In every run --- */
 
   judge() {
@@ -219,6 +330,7 @@ export class Play extends Player {
       counts.left ? `: ${counted(counts.left, 'run')}, by a strobe that came too soon.`
         : ': each run.');
     setText(byId('run-counts'), this.countsText());
+    byId('show-byte').hidden = counts.torn === 0 || arcade.past.torn === null;
     setText(byId('what-text'), this.whatText);
     byId('guesses').hidden = !this.isOther || this.guess !== null
       || arcade.seconds >= ANSWER_AFTER;
@@ -232,10 +344,14 @@ export class Play extends Player {
     else tellVerdict('run-moments', color, word, `: each of ${counted(pictures, 'picture')}.`);
   }
 
-  /* Which instruction wrote the first early byte, by its label, or as the driver's. */
+  /* An instruction, by its label, or as the driver's. */
+  instructionText(at) {
+    return `${isDriver(at) ? 'the driver, ' : ''}${this.program.where(at)}: ${this.program.at(at)}`;
+  }
+
+  /* Which instruction wrote the first early byte. */
   firstText({ at, cycles }) {
-    const where = `${isDriver(at) ? 'the driver, ' : ''}${this.program.where(at)}`;
-    return `, the first by ${where}: ${this.program.at(at)}, at ${(cycles / HERTZ).toFixed(2)} s.`;
+    return `, the first by ${this.instructionText(at)}, at ${(cycles / HERTZ).toFixed(2)} s.`;
   }
 
   countsText() {
@@ -267,6 +383,16 @@ export function listenToPlay(play) {
   on('beam', 'change', () => play.changeBoard());
   on('strobes-ignored', 'change', () => play.changeBoard());
   on('mistake', 'change', () => play.restart());
+  on('show-byte', 'click', () => play.showByte());
+  listenToRows(play.strip, {
+    get length() { return play.arcade.past.length; },
+    zoom: (factor) => play.zoom(factor), goTo: (moment) => play.goTo(moment),
+    walk: (slots) => play.walk(slots),
+    drawRows: () => {
+      play.rest();
+      play.drawStrip();
+    },
+  });
   for (const button of document.querySelectorAll('[data-guess]')) {
     button.addEventListener('click', () => play.takeGuess(button.dataset.guess));
   }

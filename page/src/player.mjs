@@ -27,9 +27,11 @@ export class Player {
   /* Puts a program and its vector ROM into a board, which begins. */
   insert(program, shapes) {
     this.arcade?.free();
-    this.arcade = new Arcade(this.engine, program, shapes);
+    this.arcade = this.boardOf(program, shapes);
     this.held.clear();
   }
+
+  boardOf(program, shapes) { return new Arcade(this.engine, program, shapes); }
 
   /* --- Time --- */
 
@@ -112,13 +114,18 @@ export class Player {
     if (this.arcade !== null) this.draw();
   }
 
-  /* The newest picture; none where none was finished for long. A torn one is red. */
+  /* The picture that is on the tube: the newest; none where none was finished for long. */
+  get seen() {
+    const { picture, processor } = this.arcade;
+    return picture !== null && processor.cycles - this.seenAt < GLOW * HERTZ ? picture : null;
+  }
+
+  /* What a torn picture is made of: all of it is red. */
+  tearOf({ strokes }) { return { wanted: [], next: [], wrong: strokes }; }
+
   draw() {
-    const { arcade } = this, { picture } = arcade;
-    const isLit = picture !== null && arcade.processor.cycles - this.seenAt < GLOW * HERTZ;
-    const seen = isLit ? picture : null;
-    const tear = seen?.torn ? { wanted: [], next: [], wrong: seen.strokes } : null;
-    this.screen.draw(seen, null, false, tear);
+    const { seen } = this;
+    this.screen.draw(seen, null, false, seen?.torn ? this.tearOf(seen) : null);
     byId('tube').dataset.strokes = seen?.strokes.length ?? 0;
   }
 
@@ -164,7 +171,8 @@ function listenToGameKeys(player) {
   for (const [type, isDown] of [['keydown', true], ['keyup', false]]) {
     document.addEventListener(type, (event) => {
       const name = GAME_KEYS[event.key];
-      const isTaken = event.target.closest?.('button, select, input, textarea, a, summary, pre');
+      const isTaken = event.target.closest?.(
+        'button, select, input, textarea, a, summary, pre, [role="slider"]');
       if (!player.isShown || name === undefined || isTaken) return;
       if (event.ctrlKey || event.metaKey) return;
       player.press(name, isDown);

@@ -2,78 +2,16 @@
  * reads and writes, but for those that an indexed address reads at a wrong page. Tested, not
  * proved. */
 import { hex } from './hex.mjs';
+import { INSTRUCTIONS, SIZES } from './opcodes.mjs';
 
-/* The instructions: a name, and its opcodes, each with how it finds its operand. */
-const CODES = `
-adc 69# 65zp 75zp,x 6dabs 7dabs,x 79abs,y 61(zp,x) 71(zp),y
-and 29# 25zp 35zp,x 2dabs 3dabs,x 39abs,y 21(zp,x) 31(zp),y
-asl 0a 06zp 16zp,x 0eabs 1eabs,x
-bcc 90rel
-bcs b0rel
-beq f0rel
-bit 24zp 2cabs
-bmi 30rel
-bne d0rel
-bpl 10rel
-brk 00
-bvc 50rel
-bvs 70rel
-clc 18
-cld d8
-cli 58
-clv b8
-cmp c9# c5zp d5zp,x cdabs ddabs,x d9abs,y c1(zp,x) d1(zp),y
-cpx e0# e4zp ecabs
-cpy c0# c4zp ccabs
-dec c6zp d6zp,x ceabs deabs,x
-dex ca
-dey 88
-eor 49# 45zp 55zp,x 4dabs 5dabs,x 59abs,y 41(zp,x) 51(zp),y
-inc e6zp f6zp,x eeabs feabs,x
-inx e8
-iny c8
-jmp 4cabs 6c(abs)
-jsr 20abs
-lda a9# a5zp b5zp,x adabs bdabs,x b9abs,y a1(zp,x) b1(zp),y
-ldx a2# a6zp b6zp,y aeabs beabs,y
-ldy a0# a4zp b4zp,x acabs bcabs,x
-lsr 4a 46zp 56zp,x 4eabs 5eabs,x
-nop ea
-ora 09# 05zp 15zp,x 0dabs 1dabs,x 19abs,y 01(zp,x) 11(zp),y
-pha 48
-php 08
-pla 68
-plp 28
-rol 2a 26zp 36zp,x 2eabs 3eabs,x
-ror 6a 66zp 76zp,x 6eabs 7eabs,x
-rti 40
-rts 60
-sbc e9# e5zp f5zp,x edabs fdabs,x f9abs,y e1(zp,x) f1(zp),y
-sec 38
-sed f8
-sei 78
-sta 85zp 95zp,x 8dabs 9dabs,x 99abs,y 81(zp,x) 91(zp),y
-stx 86zp 96zp,y 8eabs
-sty 84zp 94zp,x 8cabs
-tax aa
-tay a8
-tsx ba
-txa 8a
-txs 9a
-tya 98`;
-
-/* How many bytes an instruction has. */
-const SIZES = {
-  '': 1, '#': 2, zp: 2, 'zp,x': 2, 'zp,y': 2, abs: 3, 'abs,x': 3, 'abs,y': 3, '(zp,x)': 2,
-  '(zp),y': 2, rel: 2, '(abs)': 3,
-};
-
-/* The instructions by their opcodes: a name, how it finds its operand, and its bytes. */
-export const OPCODES = new Map(CODES.trim().split('\n').flatMap((line) => {
-  const [name, ...forms] = line.split(' ');
+/* The instructions by their opcodes: a name, what it does and with which register, how it finds its
+ * operand, and its bytes. */
+export const OPCODES = new Map(INSTRUCTIONS.split('\n').flatMap((line) => {
+  const [name, does, register, ...forms] = line.split(' ');
   return forms.map((form) => {
     const mode = form.slice(2);
-    return [parseInt(form.slice(0, 2), 16), { name, mode, size: SIZES[mode] }];
+    return [parseInt(form.slice(0, 2), 16),
+      { name, does, register: register.replace('-', ''), mode, size: SIZES[mode] }];
   });
 }));
 
@@ -107,10 +45,10 @@ const READS = {
 };
 
 /* The register that is written. */
-export const STORES = { sta: 'a', stx: 'x', sty: 'y' };
+const STORES = { sta: 'a', stx: 'x', sty: 'y' };
 
 /* What a byte is changed to. It stands in A, where there is no operand. */
-export const CHANGES = {
+const CHANGES = {
   asl: (cpu, byte) => cpu.shiftLeft(byte, 0),
   rol: (cpu, byte) => cpu.shiftLeft(byte, cpu.c),
   lsr: (cpu, byte) => cpu.shiftRight(byte, 0),
@@ -120,13 +58,10 @@ export const CHANGES = {
 };
 
 /* The flag that is looked at, and what it is where the branch is taken. */
-export const BRANCHES = {
+const BRANCHES = {
   bpl: ['n', 0], bmi: ['n', 1], bvc: ['v', 0], bvs: ['v', 1], bcc: ['c', 0], bcs: ['c', 1],
   bne: ['z', 0], beq: ['z', 1],
 };
-
-/* From which register to which other one. */
-export const TRANSFERS = { tax: 'ax', txa: 'xa', tay: 'ay', tya: 'ya' };
 
 /* All other instructions. */
 const OTHERS = {
@@ -183,7 +118,7 @@ function cyclesOf(name, mode) {
 }
 
 /* What an instruction does on a processor, as a function of that. */
-function actionOf(name, mode) {
+function actionOf({ name, does, register: moved, mode }) {
   const place = PLACES[mode];
   if (name in READS) {
     const use = READS[name];
@@ -201,8 +136,8 @@ function actionOf(name, mode) {
     const [flag, taken] = BRANCHES[name];
     return (cpu) => cpu.branch(cpu[flag] === taken);
   }
-  if (name in TRANSFERS) {
-    const [from, to] = TRANSFERS[name];
+  if (does === 'moves') {
+    const [from, to] = moved;
     return (cpu) => { cpu[to] = cpu.flag(cpu[from]); };
   }
   return mode === '(abs)' ? (cpu) => cpu.jumpByTable() : OTHERS[name];
@@ -220,9 +155,9 @@ function actionOfChange(change, place) {
 
 /* By its opcode what an instruction does, and its cycles; nothing where it isn't known. */
 const ACTIONS = [], ACTION_CYCLES = [];
-for (const [code, { name, mode }] of OPCODES) {
-  ACTIONS[code] = actionOf(name, mode);
-  ACTION_CYCLES[code] = cyclesOf(name, mode);
+for (const [code, one] of OPCODES) {
+  ACTIONS[code] = actionOf(one);
+  ACTION_CYCLES[code] = cyclesOf(one.name, one.mode);
 }
 
 export class Processor {

@@ -1,49 +1,42 @@
 /* A program as its bytes and its labels, its instructions, and what stands where on the board: what
  * board/proof/program.py and opcodes.py have. */
 import { hex } from './hex.mjs';
-import { BRANCHES, CHANGES, OPCODES, STORES, TRANSFERS } from './processor.mjs';
+import { OPCODES } from './processor.mjs';
+import {
+  CODE_END, CURES, DRIVER_END, PROGRAM_END, RANGES, ROUTINES, STANDS, START, WRITABLE,
+} from './tables.mjs';
 
-export const START = 0x6800, DRIVER_END = 0x6A87, CODE_END = 0x7FFA, PROGRAM_END = 0x8000;
-export const NMI_VECTOR = 0x7FFA, RESET_VECTOR = 0x7FFC;
-
-/* The outputs that asteroids.inc names. */
-const OUTPUTS = new Set([0x3200, 0x3400, 0x3600, 0x3A00, 0x3E00, 0x3C00, 0x3C01, 0x3C02, 0x3C03,
-  0x3C04, 0x3C05]);
-
-/* The routines that are proved. dvg_copy isn't among them. */
-export const ROUTINES = new Map([
-  [0x6800, 'dvg_reset'], [0x6809, 'dvg_run'], [0x6860, 'dvg_ticks'], [0x686A, 'dvg_tick'],
-  [0x68FE, 'dvg_offer'], [0x6924, 'dvg_open'], [0x6943, 'dvg_redraw'], [0x6957, 'dvg_put'],
-  [0x6979, 'dvg_labs'], [0x6989, 'dvg_pair'], [0x6A00, 'dvg_close'], [0x6A17, 'dvg_vector'],
-]);
+/* The routines that are proved, by their addresses: each with its name, what it needs and what it
+ * leaves. */
+export const ENTRIES = new Map(ROUTINES.map(([at, name, needs, leaves]) => (
+  [at, { name, needs, leaves }])));
 
 export const isCode = (at) => at >= DRIVER_END && at < CODE_END;
 export const isDriver = (at) => at >= START && at < DRIVER_END;
 
-/* dvg_y and dvg_x. */
-export const isOperand = (at) => at >= 0x1B && at < 0x1F;
+const isIn = (name, at) => RANGES[name].some(([low, high]) => at >= low && at < high);
 
 /* The driver's bytes, but dvg_y and dvg_x. */
-export const isOwn = (at) => at >= 0x10 && at < 0x21 && !isOperand(at);
+export const isOwn = (at) => isIn('own', at);
 
-/* RAM and outputs of the game's own. */
-export function isFree(at) {
-  return at < 0x10 || (at >= 0x21 && at < 0x100) || (at >= 0x200 && at < 0x400) || OUTPUTS.has(at);
-}
+/* Whether code of a level may write there. */
+export const mayWrite = (level, at) => WRITABLE[level].some((name) => isIn(name, at));
 
-export const isStrobe = (at) => at % PROGRAM_END >= 0x3000 && at % PROGRAM_END < 0x3200;
+export const isStrobe = (at) => isIn('strobe', at % PROGRAM_END);
 
-/* What stands at an address that a game must not write. */
-export function placeText(at) {
-  const names = [
-    [0x10, 0x21, `the driver's byte ${hex(at, 2)}`], [0x100, 0x200, 'the stack'],
-    [0x2000, 0x3000, 'an input, or the flag'], [0x3000, 0x3200, 'the strobe'],
-    [0x3200, 0x4000, 'no output that asteroids.inc names'], [0x4000, 0x4800, 'the vector RAM'],
-    [0x4800, 0x8000, 'ROM'],
-    [0x8000, 0x10000, `which the board takes for ${hex(at % PROGRAM_END, 4)}`],
-  ];
-  return names.find(([low, high]) => at >= low && at < high)?.[2] ?? 'no RAM';
-}
+/* Whether a list of so many bytes may stand there. */
+export const isList = (at, size) => isIn('list', at) && at + size <= PROGRAM_END;
+
+/* A text of the tables, with what is to be known of it. */
+export const filled = (text, known) => text.replace(/\{(\w+)\}/g, (all, name) => known[name]);
+
+const textAt = (rows, at) => rows.find(([low, high]) => at >= low && at < high)[2];
+
+/* What stands at an address that a game must not write, and what to write in place of a store. */
+export const placeText = (at) => filled(textAt(STANDS, at), {
+  byte: hex(at, 2), names: 'asteroids.inc', mirror: hex(at % PROGRAM_END, 4),
+});
+export const cureOf = (at) => textAt(CURES, at);
 
 /* The labels of a program, of the lines that the linker writes: a Map of names by addresses. */
 export function labelsOf(text) {
@@ -56,13 +49,8 @@ export function labelsOf(text) {
   return labels;
 }
 
-/* Which register an instruction sets, but for PLA and transfers. */
-const INTO = {
-  lda: 'a', adc: 'a', and: 'a', eor: 'a', ora: 'a', sbc: 'a', ldx: 'x', inx: 'x', dex: 'x',
-  tsx: 'x', ldy: 'y', iny: 'y', dey: 'y',
-};
 /* How an instruction without an opcode is read. */
-const NO_OPCODE = { name: 'none', mode: '', size: 1 };
+const NO_OPCODE = { name: 'none', does: 'wild', register: '', mode: '', size: 1 };
 
 /* The instruction at an address of a program; its name is 'none' where there is no opcode. */
 class Instruction {
@@ -75,16 +63,18 @@ class Instruction {
       this.operand = (at + 2 + this.operand - 2 * (this.operand & 0x80)) & 0xFFFF;
     }
     this.next = at + this.size;
-    this.writes = this.name in STORES || (this.name in CHANGES && this.mode !== '');
+    this.writes = this.does === 'stores' || (this.does === 'changes' && this.mode !== '');
   }
 
-  get branches() { return this.name in BRANCHES; }
+  get branches() { return this.does === 'branches'; }
 
   get goesByTable() { return this.mode === '(abs)'; }
 
   /* The register that it sets to what it computes or reads, or ''. */
   get sets() {
-    return this.name in CHANGES && this.mode === '' ? 'a' : INTO[this.name] ?? '';
+    const { does, mode, register } = this;
+    const isComputed = does === 'takes' || does === 'sets' || (does === 'changes' && mode === '');
+    return isComputed ? register : '';
   }
 
   /* The addresses that it may read or write, whatever X and Y are; null: any. */
@@ -144,9 +134,9 @@ export class Program {
 /* What A, X and Y hold after an instruction; `top` is what a PLA brings. */
 export function heldAfter(instruction, note, top) {
   const held = { a: note.held[0], x: note.held[1], y: note.held[2] };
-  const transfer = TRANSFERS[instruction.name];
-  if (instruction.name === 'pla') held.a = top;
-  else if (transfer !== undefined) held[transfer[1]] = held[transfer[0]];
+  const { does, register } = instruction;
+  if (does === 'pulls' && register !== '') held[register] = top;
+  else if (does === 'moves') held[register[1]] = held[register[0]];
   else if (instruction.sets !== '') held[instruction.sets] = '.';
   return held.a + held.x + held.y;
 }

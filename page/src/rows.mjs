@@ -79,22 +79,35 @@ export class Rows {
     this.drawTexts(board.length, colors);
   }
 
-  /* Each row as spans of one colour. An early byte that shows is at least three pixels wide. */
-  drawColumns(board, from, to, colors) {
-    const count = Math.ceil(this.width) + 1;
-    const columns = [new Uint8Array(count), new Uint8Array(count)];
-    const early = new Uint8Array(count);
+  /* Marks the pixels of all events. */
+  markAll(board, from, to) {
     const wide = Math.max(1, Math.floor(this.scale));
     for (let k = from; k < to; k++) {
       const area = board.areas[k], row = board.rows[k];
       if (area === 0 || row === ROW.NONE) continue;
       const x = Math.floor((k - this.first) * this.scale);
-      for (let dx = Math.max(0, -x); dx < wide && x + dx < count; dx++) {
-        if (STRENGTH[area] > STRENGTH[columns[row][x + dx]]) columns[row][x + dx] = area;
-        if (board.signs[k] === SIGN.EARLY) early[x + dx] = Math.max(1, early[x + dx]);
-        if (board.signs[k] === SIGN.SEEN) early.fill(2, Math.max(0, x + dx - 1), x + dx + 2);
-      }
+      this.mark(row, x, x + wide, area, board.signs[k]);
     }
+  }
+
+  /* Marks the pixels of an event in its row: its area, if it is stronger than what is there, and
+   * whether it is an early byte. One that shows is at least three pixels wide. */
+  mark(row, from, to, area, sign) {
+    const { early } = this, column = this.columns[row];
+    for (let x = Math.max(0, from); x < to && x < column.length; x++) {
+      if (STRENGTH[area] > STRENGTH[column[x]]) column[x] = area;
+      if (sign === SIGN.EARLY) early[x] = Math.max(1, early[x]);
+      if (sign === SIGN.SEEN) early.fill(2, Math.max(0, x - 1), x + 2);
+    }
+  }
+
+  /* Each row as spans of one colour. */
+  drawColumns(board, from, to, colors) {
+    const count = Math.ceil(this.width) + 1;
+    this.columns = [new Uint8Array(count), new Uint8Array(count)];
+    this.early = new Uint8Array(count);
+    this.markAll(board, from, to);
+    const { columns, early } = this;
     const [first, second] = this.tops, height = this.rowHeight;
     columns.forEach((column, row) => {
       this.fillSpans(column, this.tops[row], height, (area) => colors.areas[area]);
@@ -179,16 +192,21 @@ export class Rows {
   }
 
   drawTexts(length, colors) {
-    const { context } = this;
+    const { context } = this, [above, under, right] = this.texts(length);
     context.font = '12px system-ui, sans-serif';
     context.fillStyle = colors.dim;
     const below = this.tops[1] + this.rowHeight + 15;
-    context.fillText('the generator fetches', 4, 11);
-    context.fillText('the driver writes', 4, below);
-    const last = Math.min(length, Math.floor(this.first + this.span));
-    const text = `events ${Math.floor(this.first)} to ${last}`;
+    context.fillText(above, 4, 11);
+    context.fillText(under, 4, below);
     context.textAlign = 'right';
-    context.fillText(text, this.width - 4, below);
+    context.fillText(right, this.width - 4, below);
     context.textAlign = 'left';
+  }
+
+  /* What the upper row shows, what the lower one does, and which events are in sight. */
+  texts(length) {
+    const last = Math.min(length, Math.floor(this.first + this.span));
+    return ['the generator fetches', 'the driver writes',
+      `events ${Math.floor(this.first)} to ${last}`];
   }
 }

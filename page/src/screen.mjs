@@ -3,7 +3,7 @@
 const UNIT = 512, SIDE = 1024 * UNIT, FIELD = 4096 * UNIT;
 const MARGIN = 10 * UNIT;
 /* A stroke is drawn several times: how wide, in units, and how strong. */
-const PASSES = [[22, 0.05], [11, 0.1], [5, 0.24], [2.1, 1]];
+const PASSES = [[14, 0.07], [5.5, 0.24], [2.1, 1]];
 const THIN = [[1.6, 1]];
 
 /* Where the shorter way to an end leads, which may be beyond the edge of the field. */
@@ -22,15 +22,18 @@ function linesOfStroke([x0, y0, x1, y1]) {
   return lines;
 }
 
-/* The strokes as paths, one for each intensity. */
+/* The strokes as paths, one for each intensity, which go on where the stroke before ended: so there
+ * are fewer ends to draw. */
 function pathsOf(strokes) {
-  const paths = new Map();
+  const paths = new Map(), ends = new Map();
   for (const stroke of strokes) {
     const z = stroke[4];
     if (!paths.has(z)) paths.set(z, new Path2D());
     for (const [x0, y0, x1, y1] of linesOfStroke(stroke)) {
-      paths.get(z).moveTo(x0, y0);
-      paths.get(z).lineTo(x0 === x1 && y0 === y1 ? x1 + 1 : x1, y1);
+      if (ends.get(z) !== `${x0} ${y0}`) paths.get(z).moveTo(x0, y0);
+      const x = x0 === x1 && y0 === y1 ? x1 + 1 : x1;
+      paths.get(z).lineTo(x, y1);
+      ends.set(z, `${x} ${y1}`);
     }
   }
   return paths;

@@ -35,16 +35,16 @@ function readDrafts(engine, text) {
 }
 
 /* What `dvg render --check` says of a sketch; its fault, if it has one, as `dvg render` tells it;
- * its frames, each with its name and the lines that `dvg check` reads; and the text of its own ROM,
- * which is empty where it brings none. A frame that is refused is told, and spelled. Of a text that
- * spells no frames there are none. */
+ * its frames, each with its name, the lines that `dvg check` reads, and whether it takes them; and
+ * the text of its own ROM, which is empty where it brings none. A frame that is refused is told,
+ * and spelled. Of a text that spells no frames there are none. */
 export function readSketch(engine, text) {
   const checked = engine.run(COMMAND.sketch + OPTION, text), good = checked.status === 0;
   const { rom, drafts } = readDrafts(engine, text);
   if (checked.error !== '') return { said: plainFault(checked.error), good, frames: [], rom };
   const frames = linesOfText(checked.output).map((line, k) => {
     const [, name = ''] = /^(\w+): /.exec(line) ?? [];
-    return { name, lines: drafts[k] };
+    return { name, lines: drafts[k], isGood: /^(\w+: )?ok /.test(line) };
   });
   const said = good ? checked.output.trim() : plainFault(engine.run(COMMAND.sketch, text).error);
   return { said, good, frames, rom };

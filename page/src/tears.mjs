@@ -20,19 +20,30 @@ export function strokesOfLines(lines) {
     .map((line) => line.split(' ').map(Number));
 }
 
+/* The strokes that are none of these. */
+function othersOf(strokes, wanted) {
+  const own = new Set(wanted.map(String));
+  return strokes.filter((stroke) => !own.has(String(stroke)));
+}
+
 /* Of a picture that is torn, or shows what came early: `wanted`, what the frame draws that its run
  * began with; `next`, what the frame draws that was written into it, or the memory as the run
  * ended; `wrong`, the strokes that are none of the first frame's; and the word that tore. */
 export function tearOf(engine, board, picture, drawingOf) {
   const ram = ramAt(board, picture.from);
   const wanted = strokesOfMemory(engine, ram, board.rom);
-  const own = new Set(wanted.map(String));
-  const wrong = picture.strokes.filter((stroke) => !own.has(String(stroke)));
+  const wrong = othersOf(picture.strokes, wanted);
   const word = tornWord(board, picture, ram);
   const draft = word === null ? null : offeredBefore(board, word.event);
   const next = draft === null ? strokesOfMemory(engine, ramAt(board, picture.at), board.rom)
     : strokesOfLines(drawingOf(draft).split('\n'));
   return { wanted, next, wrong, draft, word };
+}
+
+/* What a torn picture of a game is made of, by the vector RAM as its run began, and as it ended. */
+export function tearOfGame(engine, { picture, before, after }, rom) {
+  const [wanted, next] = [before, after].map((ram) => strokesOfMemory(engine, ram, rom));
+  return { wanted, next, wrong: othersOf(picture.strokes, wanted) };
 }
 
 /* The frame that was offered last before an event, and taken; or null, as of a log, which doesn't
@@ -78,11 +89,15 @@ export function besideOf(engine, board, { from, at }) {
 /* The tear in words. */
 export function tearText({ wrong, word: { event, read } }, picture) {
   const then = picture.torn ? 'there the tear begins' : 'so it shows, though the run is consistent';
-  const { length } = picture.strokes;
-  const red = length === 0 ? 'The run drew no stroke.' : `${wrong.length} of ${length} strokes are `
-    + 'red: they aren\'t of the frame that the run began with.';
   return `Event ${event} wrote a byte while the generator drew`
-    + `${picture.early > 0 ? ' from that half' : ''}. Event ${read} read it: ${then}. ${red}`;
+    + `${picture.early > 0 ? ' from that half' : ''}. Event ${read} read it: ${then}. `
+    + `${redText(wrong, picture)}`;
+}
+
+/* How much of a torn picture is red. */
+export function redText(wrong, { strokes: { length } }) {
+  return length === 0 ? 'The run drew no stroke.' : `${wrong.length} of ${length} strokes are `
+    + 'red: they aren\'t of the frame that the run began with.';
 }
 
 /* The byte that came in between, as a log has it. */
