@@ -119,48 +119,74 @@ const char *dvg_version(void);
 
 /* --- Requests and answers --- */
 
-/* The lowest byte of a request says which it is. What it brings stands above: a flag in bit 8, a
- * byte in bits 16 to 23, a count in bits 24 to 39, a byte address, or the number of a stroke, a
- * return address, an operation or a part of a state, from bit 8 on; the fields of DVG_REQUEST_PUSH,
- * as dvg_push has them; and those of a state, as docs/FORMATS.md has them. */
+/* The lowest byte of a request says which it is. Beside each request are what must be open for it,
+ * the kinds of its answers, without their DVG_, and its fields, by their bits. Other bits are 0.
+ *
+ * A request of `any` may always be asked. Each other one is answered DVG_CLOSED while nothing is
+ * open, and DVG_UNKNOWN while something else is. `wrapping` is a generator whose stack wraps.
+ *
+ * Some answers have no kind: a number; a place, with x in bits 0 to 31 and y in bits 32 to 63; and
+ * a request, which is the DVG_REQUEST_PUSH of this operation.
+ *
+ * Requests that take a RAM or a ROM take the staged bytes, those of the RAM first. A world resumes
+ * with the staged RAM, the generator that was told, and the draft as the frame that is being
+ * written. No request is 36 or 37, which are kinds of answers. */
 enum dvg_request {
-    DVG_REQUEST_OFFER = 0,
-    DVG_REQUEST_REDRAW = 1,
-    DVG_REQUEST_TICK = 2,
-    DVG_REQUEST_STROBE = 3,
-    DVG_REQUEST_FETCH = 4,
-    DVG_REQUEST_RESET_GENERATOR = 5,
-    DVG_REQUEST_RESET_PROCESSOR = 6,
-    DVG_REQUEST_RESET_ALL = 7,
-    DVG_REQUEST_PUSH = 8,
-    DVG_REQUEST_CLEAR = 9,
-    DVG_REQUEST_STAGE = 10,
-    DVG_REQUEST_UNSTAGE = 11,
-    DVG_REQUEST_OPEN_WORLD = 12,
-    DVG_REQUEST_OPEN_DRIVER = 13,
-    DVG_REQUEST_OPEN_GENERATOR = 14,
-    DVG_REQUEST_SHUT = 15,
-    DVG_REQUEST_WANTS = 16,
-    DVG_REQUEST_STROKES = 17,
-    DVG_REQUEST_STROKE_FROM = 18,
-    DVG_REQUEST_STROKE_TO = 19,
-    DVG_REQUEST_STROKE_INTENSITY = 20,
-    DVG_REQUEST_OPEN_JUDGE = 21,
-    DVG_REQUEST_TELL = 22,
-    DVG_REQUEST_MOVE = 23,
-    DVG_REQUEST_MOVE_TO = 24,
-    DVG_REQUEST_BEAM = 25,
-    DVG_REQUEST_HOLDS = 26,
-    DVG_REQUEST_RETURN_TO = 27,
-    DVG_REQUEST_STATE = 28,
-    DVG_REQUEST_RESUME = 29,
-    DVG_REQUEST_OPEN_WRAPPING = 30,
-    DVG_REQUEST_BYTE = 31,
-    DVG_REQUEST_DRIVER = 32,
-    DVG_REQUEST_OPERATION = 33,
-    DVG_REQUEST_RESUME_WRAPPING = 34,
-    DVG_REQUEST_TELL_STATE = 35,
-    DVG_REQUEST_RESUME_WORLD = 38
+    DVG_REQUEST_OFFER = 0,              /* world, driver: OFFERED, REFUSED, BUSY */
+    DVG_REQUEST_REDRAW = 1,             /* world, driver: ASKED, NOTHING_PUBLISHED, BUSY */
+    DVG_REQUEST_TICK = 2,               /* world, driver: PEEK, WROTE, READ, SENT, IDLE; of a
+                                           driver: the HALT flag in bit 8, byte 001 in 16 to 23 */
+    DVG_REQUEST_STROBE = 3,             /* world, generator, wrapping: STARTED, NO_STROBE */
+    DVG_REQUEST_FETCH = 4,              /* world, generator, wrapping: LOW, FETCHED, DONE, BROKE,
+                                           STILL, NO_MEMORY; of a generator: a byte in 16 to 23,
+                                           or 1 in bit 8: no memory answers */
+    DVG_REQUEST_RESET_GENERATOR = 5,    /* world, generator, wrapping, judge: CLEARED, NO_RUN */
+    DVG_REQUEST_RESET_PROCESSOR = 6,    /* world, driver, judge: CLEARED, NO_RUN, ONE_MOMENT,
+                                           NO_MOMENT */
+    DVG_REQUEST_RESET_ALL = 7,          /* world, judge: CLEARED, WRONG_SIZE, NO_RUN */
+    DVG_REQUEST_PUSH = 8,               /* any: PUSHED, NO_OPERATION, FULL; the operation's kind
+                                           in 8 to 15: 0 VCTR, 1 SVEC, 2 LABS, 3 a call and 4 a
+                                           jump in the frame, 5 and 6 the same into the ROM, 7 a
+                                           return, 8 HALT; scale in 16 to 23, z in 24 to 31, x in
+                                           32 to 47, y in 48 to 63; fields that a kind has no use
+                                           for are 0 */
+    DVG_REQUEST_CLEAR = 9,              /* any: CLEARED */
+    DVG_REQUEST_STAGE = 10,             /* any: STAGED, FULL, NO_MEMORY; a byte in 16 to 23, how
+                                           often in 24 to 39 */
+    DVG_REQUEST_UNSTAGE = 11,           /* any: CLEARED */
+    DVG_REQUEST_OPEN_WORLD = 12,        /* any: OPENED, WRONG_SIZE, NO_MEMORY */
+    DVG_REQUEST_OPEN_DRIVER = 13,       /* any: OPENED, WRONG_SIZE, NO_MEMORY */
+    DVG_REQUEST_OPEN_GENERATOR = 14,    /* any: OPENED */
+    DVG_REQUEST_SHUT = 15,              /* any: CLOSED */
+    DVG_REQUEST_WANTS = 16,             /* generator, wrapping: WANTED, STILL */
+    DVG_REQUEST_STROKES = 17,           /* any: a number */
+    DVG_REQUEST_STROKE_FROM = 18,       /* any: a place; a stroke's number, from 8 on */
+    DVG_REQUEST_STROKE_TO = 19,         /* any: a place; the same */
+    DVG_REQUEST_STROKE_INTENSITY = 20,  /* any: a number; the same */
+    DVG_REQUEST_OPEN_JUDGE = 21,        /* any: OPENED, NO_MEMORY */
+    DVG_REQUEST_TELL = 22,              /* judge: NO_RUN, ONE_MOMENT, NO_MOMENT, WHOLE, TORN,
+                                           UNKNOWN; a kind in 8 to 15, an address in 16 to 31, a
+                                           value in 32 to 47 */
+    DVG_REQUEST_MOVE = 23,              /* world, generator, wrapping: MOVES, NOTHING; a byte in
+                                           16 to 23, or 1 in bit 8: no memory answers */
+    DVG_REQUEST_MOVE_TO = 24,           /* world, generator, wrapping: a place; as MOVE */
+    DVG_REQUEST_BEAM = 25,              /* world, generator, wrapping: a place */
+    DVG_REQUEST_HOLDS = 26,             /* world, generator, wrapping: HOLDS */
+    DVG_REQUEST_RETURN_TO = 27,         /* world, generator, wrapping: RETURNS_TO, NOTHING; its
+                                           number in 8 to 15 */
+    DVG_REQUEST_STATE = 28,             /* world, generator, wrapping: STATE, NOTHING; a part's
+                                           number, from 8 on */
+    DVG_REQUEST_RESUME = 29,            /* any: OPENED, NO_STATE */
+    DVG_REQUEST_OPEN_WRAPPING = 30,     /* any: OPENED */
+    DVG_REQUEST_BYTE = 31,              /* world: BYTE, NOTHING; a byte address, from 8 on */
+    DVG_REQUEST_DRIVER = 32,            /* world: DRIVER */
+    DVG_REQUEST_OPERATION = 33,         /* world: a request, NOTHING; an operation's number, in
+                                           the frame that is being written, from 8 on */
+    DVG_REQUEST_RESUME_WRAPPING = 34,   /* any: OPENED, NO_STATE */
+    DVG_REQUEST_TELL_STATE = 35,        /* any: CLEARED, NO_STATE, NO_MEMORY, UNKNOWN; a part, as
+                                           STATE answers it */
+    DVG_REQUEST_RESUME_WORLD = 38       /* world: OPENED, WRONG_SIZE, NO_STATE, NO_MEMORY,
+                                           UNKNOWN; the driver, as DRIVER answers it, in 8 to 39 */
 };
 
 /* The kind of an answer, with what its address and its value are; both are 0 where nothing is said
@@ -894,10 +920,18 @@ static inline dvg_answer dvg_reset_all(dvg *device, const uint8_t *ram)
  * a world is its RAM, its generator, its driver with the frame that it writes, and whether a strobe
  * is under way. A driver alone and a judge aren't saved.
  *
- * A ROM isn't saved, and a state belongs to its ROM: name the ROM beside the bytes. No call
- * compares it, nor its size. The frame that is being written is checked over the ROM that is there;
- * the frame in the RAM, and an open run, are not. So over another ROM a world may open, and then
- * draw something else, answer DVG_BROKE, or fetch without end.
+ * A ROM isn't saved, and a state belongs to its ROM. A device can't be asked for its ROM, so hand
+ * the digest of it to dvg_save_over and to dvg_restore_over, which refuses a world of another one:
+ *
+ *     uint64_t digest = dvg_digest(rom, rom_length);
+ *     size_t length = dvg_save_over(world, digest, bytes, sizeof bytes);
+ *     dvg_answer answer = dvg_restore_over(world, digest, bytes, length);
+ *     if (answer.kind == DVG_NO_STATE) puts(dvg_saved_fault_text(dvg_saved_fault_of(answer)));
+ *
+ * Where no digest is handed over (0), and by dvg_restore, nothing compares the ROM, nor its size.
+ * The frame that is being written is checked over the ROM that is there; the frame in the RAM, and
+ * an open run, are not. So over another ROM a world may open, and then draw something else, answer
+ * DVG_BROKE, or fetch without end.
  *
  * A strobe is under way from its DVG_SENT to the next reset of the whole system, also after it
  * arrived. Whether it arrived isn't saved. So after a restore let it arrive where no run is open:
@@ -910,15 +944,62 @@ static inline dvg_answer dvg_reset_all(dvg *device, const uint8_t *ram)
  * A judge knows nothing of what came before a restore: a run that was open then is none for it, and
  * isn't judged (DVG_NO_RUN). Tell it the log from the beginning, or begin with the next strobe.
  *
- * The bytes are numbers of 64 bits, the low byte first. The first one has 'D', 'V', a letter and
- * the version in its low bytes, and above them how many follow. docs/FORMATS.md says which. */
+ * The bytes are numbers of 64 bits, the low byte of each first. The low bytes of the first number
+ * are 'D', 'V', a letter and the version, 1 or 2; its high 32 bits say how many numbers follow:
+ *
+ *   'G', a generator alone        its parts
+ *   'R', one whose stack wraps    its parts; its four registers are the return addresses
+ *   'W', a world                  its RAM (256 numbers: 2,048 bytes, in order), the parts of its
+ *                                 generator, the operations of the frame that its driver is
+ *                                 writing, if it writes one, and the driver
+ *
+ * Version 2, which dvg_save_over writes, has two more numbers at its end, which count, too: the
+ * digest of the ROM, or 0, which names none, as of a generator alone; and the sum, the digest of
+ * all bytes before it. Each later version will end with this sum.
+ *
+ * A bit that isn't named here is written as 0, and readers ignore it. The parts of a generator, in
+ * this order, are told by DVG_REQUEST_TELL_STATE, 35 in bits 7 to 0. Bits 15 to 8 say what a part
+ * is; there are two parts for each stroke that an open run has drawn so far:
+ *
+ *   0, its fields                 31 to 16 the address of the next word, 47 to 32 a first word,
+ *                                 55 to 48 a low byte, 59 to 56 the scale, 60 whether a run is
+ *                                 open, 61 and 62 whether that byte and that word are there
+ *   1, a return address           31 to 16 the address; the oldest comes first
+ *   2, where a stroke begins      37 to 16 x, 59 to 38 y, in 1/512 of a screen unit
+ *   3, where it ends              the same, and 63 to 60 the intensity
+ *   2, where the beam is          as where a stroke begins
+ *
+ * An operation is the DVG_REQUEST_PUSH that adds it. The driver is the last number but these two,
+ * told by DVG_REQUEST_RESUME_WORLD, 38 in bits 7 to 0:
+ *
+ *   15 to 8                       how far it is: 0 after a reset, 1 it waits for the first time
+ *                                 until the generator is halted, 2 idle, 3 it writes a frame, 4 it
+ *                                 has written byte 000, 5 it waits until the generator is halted,
+ *                                 6 it sends a strobe next
+ *   16                            the current half, which byte 001 names; after a reset it isn't
+ *                                 known, and doesn't count
+ *   17                            whether it has flipped since its reset
+ *   18                            the half that the frame is laid out for
+ *   19                            whether a strobe is under way
+ *   39 to 24                      how many bytes of the frame are still to be written
+ *
+ * A state is read if the version is 1 or 2, the number of bytes is right, and of version 2 the sum;
+ * if all is in this order, and a generator can be in it: addresses are below 4,096, a first word
+ * below 0xB000, and places below 2,097,152; there is a low byte only in an open run, and there are
+ * four return addresses if the stack wraps. The frame that a driver is writing must be one that the
+ * check accepts over the ROM, for the half that isn't the current one, with no more bytes left than
+ * it has. A driver has flipped in 5 and 6, and not in 0, 1 and 4. */
 
-/* The version of the bytes that dvg_save writes. dvg_restore reads no other one. */
+/* The version of the bytes that dvg_save writes, and of those that dvg_save_over writes. Both are
+ * read by dvg_restore and by dvg_restore_over, and no other one. */
 #define DVG_SAVED_VERSION 1
+#define DVG_SAVED_OVER_VERSION 2
 
-/* The most bytes of a saved generator and of a saved world, but for strokes: each adds 16. */
+/* The most bytes of a saved generator and of a saved world, but for strokes: each adds 16. What
+ * dvg_save_over writes has 16 more. */
 #define DVG_SAVED_BYTES 56
 #define DVG_SAVED_WORLD_BYTES 6192
+#define DVG_SAVED_OVER_BYTES 16
 
 /* What was saved, by the letter in its bytes. */
 typedef enum dvg_saved {
@@ -928,11 +1009,67 @@ typedef enum dvg_saved {
     DVG_SAVED_WORLD = 'W'
 } dvg_saved;
 
-/* The first number of a saved state, after which this many come. */
+/* Why dvg_restore and dvg_restore_over refuse bytes. */
+typedef enum dvg_saved_fault {
+    DVG_SAVED_FAULT_NONE = 0,   /* the answer is no DVG_NO_STATE of theirs */
+    DVG_SAVED_FAULT_BROKEN = 1, /* they are no saved state, or one that was cut or changed */
+    DVG_SAVED_FAULT_OTHER_VERSION = 2,
+    DVG_SAVED_FAULT_OTHER_CLASS = 3, /* they are of a world, and none is open */
+    DVG_SAVED_FAULT_OTHER_ROM = 4, /* they are of a world over another ROM */
+    DVG_SAVED_FAULT_PARTS = 5   /* their parts don't fit together, or this ROM refuses the frame
+                                   in them */
+} dvg_saved_fault;
+
+/* The fault that bytes were refused for, by the answer of dvg_restore or dvg_restore_over. */
+static inline dvg_saved_fault dvg_saved_fault_of(dvg_answer answer)
+{
+    return answer.kind == DVG_NO_STATE ? (dvg_saved_fault)(answer.value & 0x7)
+                                       : DVG_SAVED_FAULT_NONE;
+}
+
+/* The name of a fault, as of those above. */
+static inline const char *dvg_saved_fault_text(dvg_saved_fault fault)
+{
+    switch (fault) {
+    case DVG_SAVED_FAULT_NONE: return "none";
+    case DVG_SAVED_FAULT_BROKEN: return "no saved state, or one that was cut or changed";
+    case DVG_SAVED_FAULT_OTHER_VERSION: return "of another version";
+    case DVG_SAVED_FAULT_OTHER_CLASS: return "of another class";
+    case DVG_SAVED_FAULT_OTHER_ROM: return "of a world over another ROM";
+    case DVG_SAVED_FAULT_PARTS: return "its parts don't fit, or this ROM refuses its frame";
+    }
+    return "no fault";
+}
+
+/* The digest of bytes: FNV-1a of 64 bits, by Fowler, Noll and Vo, who gave it to the public domain
+ * (http://www.isthe.com/chongo/tech/comp/fnv). By that of the 2,048 or 4,096 bytes of a ROM a saved
+ * state names it. Two that differ in a single byte have different ones. It doesn't stop whoever
+ * changes bytes on purpose. `bytes` may be null where there are none. */
+static inline uint64_t dvg_digest(const uint8_t *bytes, size_t size)
+{
+    uint64_t digest = UINT64_C(0xCBF29CE484222325);
+    size_t at;
+    if (size > 0) {
+        dvg_need(bytes);
+    }
+    for (at = 0; at < size; at++) {
+        digest = (digest ^ bytes[at]) * UINT64_C(0x100000001B3);
+    }
+    return digest;
+}
+
+/* The first number of a saved state of version 1, after which this many come. */
 static inline uint64_t dvg_saved_head(dvg_saved what, uint64_t count)
 {
     return (uint64_t)'D' | (uint64_t)'V' << 8 | (uint64_t)what << 16
            | (uint64_t)DVG_SAVED_VERSION << 24 | count << 32;
+}
+
+/* The same of version 2. */
+static inline uint64_t dvg_saved_head_over(dvg_saved what, uint64_t count)
+{
+    uint64_t later = DVG_SAVED_OVER_VERSION - DVG_SAVED_VERSION;
+    return dvg_saved_head(what, count) + (later << 24);
 }
 
 /* Writes a number as 8 bytes, the low byte first, if these end within `size`. */
@@ -961,28 +1098,89 @@ static inline size_t dvg_saved_parts(dvg_saved what)
     return what == DVG_SAVED_WORLD ? 8 + DVG_RAM_BYTES : 8;
 }
 
-/* Of what these may be the saved state, by their first number and the kind of the first part. Of
- * another version, which is the byte bytes[3], they are DVG_SAVED_NOTHING. */
-static inline dvg_saved dvg_saved_as(const uint8_t *bytes, size_t size)
+/* Where the numbers of a saved state end that both versions have. */
+static inline size_t dvg_saved_end(const uint8_t *bytes, size_t size)
 {
-    dvg_saved what = DVG_SAVED_NOTHING;
-    size_t parts;
+    return bytes[3] == DVG_SAVED_OVER_VERSION ? size - DVG_SAVED_OVER_BYTES : size;
+}
+
+/* Why these are no saved state, by their length, their version, and but for version 1 their sum:
+ * DVG_SAVED_FAULT_BROKEN; DVG_SAVED_FAULT_OTHER_VERSION; else DVG_SAVED_FAULT_NONE. */
+static inline dvg_saved_fault dvg_saved_sum_fault(const uint8_t *bytes, size_t size)
+{
     if (size < 16 || size % 8 != 0 || (uint64_t)size >> 35 != 0) {
-        return DVG_SAVED_NOTHING;
+        return DVG_SAVED_FAULT_BROKEN;
     }
     dvg_need(bytes);
+    if (bytes[0] != 'D' || bytes[1] != 'V') {
+        return DVG_SAVED_FAULT_BROKEN;
+    }
+    if (bytes[3] == DVG_SAVED_VERSION) {
+        return DVG_SAVED_FAULT_NONE;
+    }
+    if (dvg_saved_number(bytes + (size - 8)) != dvg_digest(bytes, size - 8)) {
+        return DVG_SAVED_FAULT_BROKEN;
+    }
+    return bytes[3] == DVG_SAVED_OVER_VERSION ? DVG_SAVED_FAULT_NONE
+                                              : DVG_SAVED_FAULT_OTHER_VERSION;
+}
+
+/* The same, by their first number, too. Writes to *what of what they are the state, if of any. */
+static inline dvg_saved_fault dvg_saved_head_fault(const uint8_t *bytes, size_t size,
+                                                   dvg_saved *what)
+{
+    dvg_saved_fault fault = dvg_saved_sum_fault(bytes, size);
+    uint64_t head;
+    *what = DVG_SAVED_NOTHING;
+    if (fault != DVG_SAVED_FAULT_NONE) {
+        return fault;
+    }
     switch (bytes[2]) {
-    case 'G': what = DVG_SAVED_GENERATOR; break;
-    case 'R': what = DVG_SAVED_WRAPPING; break;
-    case 'W': what = DVG_SAVED_WORLD; break;
-    default: break;
+    case 'G': *what = DVG_SAVED_GENERATOR; break;
+    case 'R': *what = DVG_SAVED_WRAPPING; break;
+    case 'W': *what = DVG_SAVED_WORLD; break;
+    default: return DVG_SAVED_FAULT_BROKEN;
+    }
+    head = bytes[3] == DVG_SAVED_VERSION ? dvg_saved_head(*what, size / 8 - 1)
+                                         : dvg_saved_head_over(*what, size / 8 - 1);
+    return dvg_saved_number(bytes) == head && dvg_saved_end(bytes, size) >= 16
+               ? DVG_SAVED_FAULT_NONE
+               : DVG_SAVED_FAULT_BROKEN;
+}
+
+/* Of what these may be the saved state, by their first number, the kind of the first part, and of
+ * version 2 their sum. Of another version, which is the byte bytes[3], they are DVG_SAVED_NOTHING.
+ */
+static inline dvg_saved dvg_saved_as(const uint8_t *bytes, size_t size)
+{
+    dvg_saved what;
+    size_t parts;
+    if (dvg_saved_head_fault(bytes, size, &what) != DVG_SAVED_FAULT_NONE) {
+        return DVG_SAVED_NOTHING;
     }
     parts = dvg_saved_parts(what);
-    if (dvg_saved_number(bytes) != dvg_saved_head(what, size / 8 - 1) || size < parts + 8
+    if (dvg_saved_end(bytes, size) < parts + 8
         || (dvg_saved_number(bytes + parts) & 0xFFFF) != DVG_REQUEST_TELL_STATE) {
         return DVG_SAVED_NOTHING;
     }
     return what;
+}
+
+/* Why dvg_restore_over refuses these bytes before it asks the device; DVG_SAVED_FAULT_NONE: it asks
+ * it. The digest of the ROM is as there. */
+static inline dvg_saved_fault dvg_saved_fault_over(uint64_t rom, const uint8_t *bytes, size_t size)
+{
+    dvg_saved what;
+    dvg_saved_fault fault = dvg_saved_head_fault(bytes, size, &what);
+    if (fault == DVG_SAVED_FAULT_NONE && what == DVG_SAVED_WORLD
+        && bytes[3] == DVG_SAVED_OVER_VERSION && rom != 0) {
+        uint64_t named = dvg_saved_number(bytes + (size - 16));
+        fault = named == 0 || named == rom ? DVG_SAVED_FAULT_NONE : DVG_SAVED_FAULT_OTHER_ROM;
+    }
+    if (fault == DVG_SAVED_FAULT_NONE && dvg_saved_as(bytes, size) == DVG_SAVED_NOTHING) {
+        fault = DVG_SAVED_FAULT_PARTS;
+    }
+    return fault;
 }
 
 /* Writes the answers to this request, numbered from 0, from byte `at` on, as long as their lowest
@@ -1001,11 +1199,12 @@ static inline size_t dvg_save_answers(dvg *device, uint64_t request, uint64_t co
     return at;
 }
 
-/* Of a world or a generator: writes its state to `bytes`, which has room for `size` bytes, and
- * returns how many bytes the state has: at most DVG_SAVED_WORLD_BYTES or DVG_SAVED_BYTES, and 16
- * for each stroke that the open run drew so far. Where `size` is less, ask again with as much room:
- * what was written is no whole state. `bytes` may be null where `size` is 0. What is saved stays as
- * it is. Returns 0 where nothing is open, or a driver alone or a judge. */
+/* Of a world or a generator: writes its state in version 1, which programs before dvg_save_over
+ * read, to `bytes`, which has room for `size` bytes, and returns how many bytes the state has: at
+ * most DVG_SAVED_WORLD_BYTES or DVG_SAVED_BYTES, and 16 for each stroke that the open run drew so
+ * far. Where `size` is less, ask again with as much room: what was written is no whole state.
+ * `bytes` may be null where `size` is 0. What is saved stays as it is. Returns 0 where nothing is
+ * open, or a driver alone or a judge. */
 static inline size_t dvg_save(dvg *device, uint8_t *bytes, size_t size)
 {
     uint64_t driver = dvg_turn(dvg_there(device), DVG_REQUEST_DRIVER);
@@ -1033,6 +1232,27 @@ static inline size_t dvg_save(dvg *device, uint8_t *bytes, size_t size)
     return at;
 }
 
+/* The same in version 2: 16 bytes more, which are a digest and the sum. `rom` is the dvg_digest of
+ * the ROM over which the world was opened, or 0, which names none; of a generator it doesn't count,
+ * and 0 is written. Use this one, unless who reads the bytes was built before it. */
+static inline size_t dvg_save_over(dvg *device, uint64_t rom, uint8_t *bytes, size_t size)
+{
+    size_t end = dvg_save(device, bytes, size);
+    size_t whole = end + DVG_SAVED_OVER_BYTES;
+    if (end == 0) {
+        return 0;
+    }
+    if (size >= end) {
+        dvg_saved what = (dvg_saved)bytes[2];
+        dvg_saved_put(bytes, size, 0, dvg_saved_head_over(what, whole / 8 - 1));
+        dvg_saved_put(bytes, size, end, what == DVG_SAVED_WORLD ? rom : 0);
+    }
+    if (size >= whole) {
+        dvg_saved_put(bytes, size, end + 8, dvg_digest(bytes, end + 8));
+    }
+    return whole;
+}
+
 /* Tells the numbers from byte `at` to byte `end`: parts of a generator's state, and after them, of
  * a world, operations of the frame that it writes. DVG_NO_MEMORY; DVG_NO_STATE: one doesn't suit;
  * else of another kind. */
@@ -1057,14 +1277,18 @@ static inline dvg_answer dvg_tell_saved(dvg *device, dvg_saved what, const uint8
     return answer;
 }
 
-/* As dvg_restore, of bytes that may be the saved state of a world. */
+/* As dvg_restore_over, of bytes that may be the saved state of a world: in version 1, or in version
+ * 2 without the digest and the sum. */
 static inline dvg_answer dvg_restore_world(dvg *device, const uint8_t *bytes, size_t size)
 {
     uint64_t driver = dvg_saved_number(bytes + (size - 8));
-    dvg_answer staged, told;
-    if ((driver & 0xFF) != DVG_REQUEST_RESUME_WORLD
-        || dvg_ask(device, DVG_REQUEST_DRIVER).kind != DVG_DRIVER) {
-        return dvg_answer_of(DVG_NO_STATE);
+    dvg_answer staged, told = dvg_answer_of(DVG_NO_STATE);
+    if ((driver & 0xFF) != DVG_REQUEST_RESUME_WORLD) {
+        return told;
+    }
+    if (dvg_ask(device, DVG_REQUEST_DRIVER).kind != DVG_DRIVER) {
+        told.value = DVG_SAVED_FAULT_OTHER_CLASS;
+        return told;
     }
     staged = dvg_stage_ram(device, bytes + 8);
     dvg_clear(device);
@@ -1086,23 +1310,28 @@ static inline dvg_answer dvg_restore_world(dvg *device, const uint8_t *bytes, si
  *   a world       the world that is open goes on so: open one before, over the same ROM. Its ROM
  *                 and the strokes of its newest finished run stay
  *
- * The bytes may be any. DVG_OPENED; DVG_NO_STATE: they are no saved state, or one of another
- * version, or of a world while none is open, or of one whose frame is refused over this ROM, or
- * their parts don't fit together; DVG_NO_MEMORY. Where the answer isn't DVG_OPENED, what was open
- * stays as it was. Nothing finds out that a byte was changed where another state is saved so, nor
- * that the ROM is another one.
+ * `rom` is the dvg_digest of the ROM over which the world is open, or 0. The ROM isn't compared if
+ * that is 0, or the digest in the bytes, or if they are of version 1. The bytes may be any.
+ * DVG_OPENED; DVG_NO_STATE: dvg_saved_fault_of says why; DVG_NO_MEMORY. Where the answer isn't
+ * DVG_OPENED, what was open stays as it was. Of version 1 nothing finds out that a byte was changed
+ * where another state is saved so.
  *
  * Whatever the answer, what was told of a state by DVG_REQUEST_TELL_STATE may be forgotten. Where a
  * world is open and the bytes are those of one, no byte is staged then, also none that was before,
  * and the draft is the frame in them, or a beginning of it: dvg_clear begins the next one. */
-DVG_MUST_USE static inline dvg_answer dvg_restore(dvg *device, const uint8_t *bytes, size_t size)
+DVG_MUST_USE static inline dvg_answer dvg_restore_over(dvg *device, uint64_t rom,
+                                                       const uint8_t *bytes, size_t size)
 {
-    dvg_saved what = dvg_saved_as(bytes, size);
+    dvg_saved_fault fault = dvg_saved_fault_over(rom, bytes, size);
     dvg_answer answer = dvg_answer_of(DVG_NO_STATE);
     dvg *there = dvg_there(device);
-    if (what == DVG_SAVED_NOTHING) {
+    dvg_saved what;
+    if (fault != DVG_SAVED_FAULT_NONE) {
+        answer.value = (uint16_t)fault;
         return answer;
     }
+    what = (dvg_saved)bytes[2];
+    size = dvg_saved_end(bytes, size);
     if (what == DVG_SAVED_WORLD) {
         answer = dvg_restore_world(there, bytes, size);
     } else {
@@ -1116,7 +1345,16 @@ DVG_MUST_USE static inline dvg_answer dvg_restore(dvg *device, const uint8_t *by
         /* What was told is forgotten, and its memory given back. */
         dvg_ask(there, DVG_REQUEST_TELL_STATE);
     }
+    if (answer.kind == DVG_NO_STATE && answer.value == 0) {
+        answer.value = DVG_SAVED_FAULT_PARTS;
+    }
     return answer;
+}
+
+/* The same, where no ROM is named: `rom` is 0. */
+DVG_MUST_USE static inline dvg_answer dvg_restore(dvg *device, const uint8_t *bytes, size_t size)
+{
+    return dvg_restore_over(device, 0, bytes, size);
 }
 
 /* --- A judge --- */

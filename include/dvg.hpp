@@ -9,8 +9,8 @@
  * What dvg.h says of devices and of their callers is said of these, too.
  *
  * Where a program is compiled without exceptions, what would be thrown ends it by abort, and says
- * why. There a program asks dvg_saved_as and dvg_restore of bytes that may be any, and looks at the
- * answer. */
+ * why. There a program asks dvg_saved_as and dvg_restore_over of bytes that may be any, and looks
+ * at the answer. */
 #ifndef DVG_HPP
 #define DVG_HPP
 
@@ -22,9 +22,22 @@
 #include <memory>
 #include <new>
 #include <stdexcept>
+#include <string>
 #include <vector>
 
 namespace gerbilargent {
+
+/* Bytes aren't restored: fault() says why. */
+class BadState : public std::invalid_argument {
+public:
+    explicit BadState(dvg_saved_fault fault)
+        : std::invalid_argument(std::string("restore: ") + dvg_saved_fault_text(fault)),
+          fault_(fault) {}
+    dvg_saved_fault fault() const noexcept { return fault_; }
+
+private:
+    dvg_saved_fault fault_;
+};
 
 /* What is thrown, or ends a program without exceptions. */
 namespace refusals {
@@ -32,6 +45,7 @@ namespace refusals {
 [[noreturn]] inline void no_memory() { throw std::bad_alloc(); }
 [[noreturn]] inline void moved_away(const char *why) { throw std::logic_error(why); }
 [[noreturn]] inline void bad_argument(const char *why) { throw std::invalid_argument(why); }
+[[noreturn]] inline void bad_state(dvg_saved_fault fault) { throw BadState(fault); }
 #else
 [[noreturn]] inline void bad_argument(const char *why) {
     std::fprintf(stderr, "dvg.hpp: %s\n", why);
@@ -39,6 +53,10 @@ namespace refusals {
 }
 [[noreturn]] inline void no_memory() { bad_argument("no memory"); }
 [[noreturn]] inline void moved_away(const char *why) { bad_argument(why); }
+[[noreturn]] inline void bad_state(dvg_saved_fault fault) {
+    std::fprintf(stderr, "dvg.hpp: restore: %s\n", dvg_saved_fault_text(fault));
+    std::abort();
+}
 #endif
 } // namespace refusals
 
@@ -89,21 +107,23 @@ protected:
         }
     }
 
-    /* What is open as bytes: dvg_save. */
-    Bytes saved() const {
-        Bytes found(dvg_save(*this, nullptr, 0));
-        dvg_save(*this, found.data(), found.size());
+    /* What is open as bytes, over the ROM of this digest: dvg_save_over. */
+    Bytes saved(std::uint64_t rom = 0) const {
+        Bytes found(dvg_save_over(*this, rom, nullptr, 0));
+        dvg_save_over(*this, rom, found.data(), found.size());
         return found;
     }
 
-    /* Restores this of bytes, and nothing else: dvg_restore. */
-    void restore_as(dvg_saved what, const Bytes &bytes) {
-        if (dvg_saved_as(bytes.data(), bytes.size()) != what) {
-            refusals::bad_argument("restore: no saved state of this class and version");
+    /* Restores this of bytes, and nothing else, over the ROM of this digest: dvg_restore_over. */
+    void restore_as(dvg_saved what, const Bytes &bytes, std::uint64_t rom = 0) {
+        dvg_saved found = DVG_SAVED_NOTHING;
+        dvg_saved_head_fault(bytes.data(), bytes.size(), &found);
+        if (found != DVG_SAVED_NOTHING && found != what) {
+            refusals::bad_state(DVG_SAVED_FAULT_OTHER_CLASS);
         }
-        dvg_answer answer = dvg_restore(*this, bytes.data(), bytes.size());
+        dvg_answer answer = dvg_restore_over(*this, rom, bytes.data(), bytes.size());
         if (answer.kind == DVG_NO_STATE) {
-            refusals::bad_argument("restore: its parts don't fit, or this ROM refuses its frame");
+            refusals::bad_state(dvg_saved_fault_of(answer));
         }
         expect_opened(answer);
     }
@@ -119,7 +139,7 @@ private:
  * std::invalid_argument; std::bad_alloc. */
 class World : public Device {
 public:
-    World(const Bytes &ram, const Bytes &rom) {
+    World(const Bytes &ram, const Bytes &rom) : rom_(dvg_digest(rom.data(), rom.size())) {
         if (ram.size() != DVG_RAM_BYTES) {
             refusals::bad_argument("a RAM has 2,048 bytes");
         }
@@ -140,14 +160,19 @@ public:
         return found;
     }
 
-    /* Its state as bytes, without its ROM and the strokes of a finished run: dvg_save. */
-    DVG_MUST_USE Bytes save() const { return saved(); }
+    /* Its state as bytes, with the digest of its ROM, without that ROM and the strokes of a
+     * finished run: dvg_save_over. */
+    DVG_MUST_USE Bytes save() const { return saved(rom_); }
 
-    /* Has it go on as the world over the same ROM whose state these bytes are: dvg_restore, which
-     * leaves another draft, and doesn't compare the ROM. Of other bytes, a generator's among them,
-     * std::invalid_argument; std::bad_alloc. Then it stays as it was. (dvg_restore itself, handed
-     * this world and a generator's bytes, opens that generator in its place.) */
-    void restore(const Bytes &bytes) { restore_as(DVG_SAVED_WORLD, bytes); }
+    /* Has it go on as the world over the same ROM whose state these bytes are: dvg_restore_over,
+     * which leaves another draft. Bytes of version 1 name no ROM, and then none is compared. Of
+     * other bytes, a generator's among them, BadState; std::bad_alloc. Then it stays as it was.
+     * (dvg_restore itself, handed this world and a generator's bytes, opens that generator in its
+     * place.) */
+    void restore(const Bytes &bytes) { restore_as(DVG_SAVED_WORLD, bytes, rom_); }
+
+private:
+    std::uint64_t rom_;
 };
 
 /* A driver alone, whose drafts are checked over a ROM, with what World throws. */
@@ -183,7 +208,7 @@ public:
         return found;
     }
 
-    /* Its state as bytes: dvg_save. */
+    /* Its state as bytes: dvg_save_over. */
     DVG_MUST_USE Bytes save() const { return saved(); }
 
 protected:
@@ -195,8 +220,8 @@ class Generator : public AnyGenerator {
 public:
     Generator() { expect_opened(dvg_open_generator(*this)); }
 
-    /* Has it go on as the Generator whose state these bytes are: dvg_restore. Of other bytes
-     * std::invalid_argument; std::bad_alloc. Then it stays as it was. */
+    /* Has it go on as the Generator whose state these bytes are: dvg_restore_over. Of other bytes
+     * BadState; std::bad_alloc. Then it stays as it was. */
     void restore(const Bytes &bytes) { restore_as(DVG_SAVED_GENERATOR, bytes); }
 
     /* Another one that goes on as this one does, without the strokes of a finished run.

@@ -30,7 +30,7 @@ system_apt() {
 }
 
 install_packages() {
-    echo "install: this waits up to five minutes while another has apt's lock: $*" >&2
+    echo "install: $*; if another program has apt's lock, this waits up to five minutes" >&2
     system_apt update && system_apt install -y --no-install-recommends "$@"
 }
 
@@ -69,7 +69,7 @@ open_suite() {
     mkdir -p "$1/lists/partial" "$1/cache/archives/partial" || return
     debian=${DEBIAN:-$(find_debian "$1")}
     [ -n "$debian" ] || {
-        echo "install: this machine's sources name no Debian: DEBIAN=ADDRESS does" >&2
+        echo "install: no source here is a mirror of Debian; name one by DEBIAN=ADDRESS" >&2
         return 1
     }
     keys=/usr/share/keyrings/debian-archive-keyring.gpg

@@ -69,8 +69,8 @@ __all__ = [
     "Fault", "Generator", "Halted", "InUse", "Judge", "Kind", "LibraryMissing", "MOST_OPERATIONS",
     "MOST_WORDS", "MomentJudge", "Move", "NoBytes", "NoDraft", "NoEvent", "NoInteger", "NoStrobe",
     "NoStroke", "NoText", "NotCopied", "NothingPublished", "Opened", "Operation", "OutOfMemory",
-    "Picture", "RAM_BYTES", "RETURNS", "ROM_SIZES", "RunBroke", "Stroke", "Torn", "Verdict",
-    "Wanted", "World", "WrongOrder", "WrongSize", "judge", "picture", "svg",
+    "Picture", "RAM_BYTES", "RETURNS", "ROM_SIZES", "RunBroke", "StateFault", "Stroke", "Torn",
+    "Verdict", "Wanted", "World", "WrongOrder", "WrongSize", "judge", "picture", "svg",
 ]
 
 __version__ = "0.9.0"
@@ -144,6 +144,7 @@ class Kind(enum.IntEnum):
 
     @property
     def text(self) -> str:
+        """Its name in words, in lower case."""
         return self.name.lower().replace("_", " ")
 
 
@@ -173,6 +174,7 @@ class Fault(enum.IntEnum):
 
     @property
     def text(self) -> str:
+        """Its name in `dvg check`."""
         return self.name.lower().replace("_", " ")
 
 
@@ -185,7 +187,19 @@ class Break(enum.IntEnum):
 
     @property
     def text(self) -> str:
+        """What it is, in words."""
         return ("fifth call", "return without a call", "no memory there")[self - 1]
+
+
+class StateFault(enum.Enum):
+    """Why bytes aren't restored, in words by its value. NO_STATE is an older name of BROKEN."""
+
+    BROKEN = "they are no saved state, or one that was cut or changed"
+    OTHER_CLASS = "they are of another class"
+    OTHER_VERSION = "they are of another version"
+    OTHER_ROM = "they are of a world over another ROM"
+    PARTS = "their parts don't fit together, or this ROM refuses the frame in them"
+    NO_STATE = BROKEN
 
 
 class Stroke(NamedTuple):
@@ -351,11 +365,17 @@ class BadCount(Error, ValueError):
 
 
 class BadState(Error, ValueError):
-    """Bytes are no saved state of what is to be restored, or one of another version.
+    """Bytes are no saved state of what is to be restored, one of another version, or a broken one.
 
-    Or it is of a world, and this ROM refuses the frame that it was writing. Else the ROM isn't
-    compared.
+    Or it is of a world over another ROM. `reason` says which.
     """
+
+    def __init__(self, reason: StateFault) -> None:
+        self.reason = reason
+        super().__init__(reason)
+
+    def __str__(self) -> str:
+        return f"bytes aren't restored: {self.reason.value}"
 
 
 class BadOperation(Error, ValueError):
@@ -544,14 +564,15 @@ _ERRORS = {
     Kind.NO_OPERATION: BadOperation("a field is out of its range"),
     Kind.FULL: DraftFull(f"a draft has at most {MOST_OPERATIONS} operations"),
     Kind.WRONG_SIZE: WrongSize("a RAM has 2,048 bytes, and a ROM 2,048 or 4,096"),
-    Kind.NO_STATE: BadState(
-        "that is no saved state of it, or of another version, or its frame is refused over this ROM"
-    ),
+    Kind.NO_STATE: BadState(StateFault.PARTS),
     Kind.NO_MEMORY: OutOfMemory("memory was refused"),
 }
 
-#: The version of a saved state.
-_SAVED_VERSION = 1
+#: The versions of a saved state: the first one has no digest of a ROM, and no sum.
+_FIRST_VERSION, _SAVED_VERSION = 1, 2
+
+#: How many bytes the digest and the sum have.
+_MORE_BYTES = 16
 
 #: What was saved, by the letter in its bytes.
 _GENERATOR, _WRAPPING, _WORLD = b"G", b"R", b"W"
@@ -604,11 +625,34 @@ def _bytes(name: str, held: Bytes) -> bytes:
     return view.tobytes()
 
 
-def _saved_bytes(what: bytes, ram: bytes, numbers: "array[int]") -> bytes:
+def _digest(held: bytes) -> int:
+    """FNV-1a of 64 bits, by Fowler, Noll and Vo, who gave it to the public domain.
+
+    http://www.isthe.com/chongo/tech/comp/fnv has it. Two that differ in one byte have two digests.
+    """
+    digest = 0xCBF29CE484222325
+    for byte in held:
+        digest = (digest ^ byte) * 0x100000001B3 & 0xFFFFFFFFFFFFFFFF
+    return digest
+
+
+#: The same of a ROM: worlds over it are saved and restored often.
+_rom_digest = functools.lru_cache(maxsize=16)(_digest)
+
+
+def _first_bytes(what: bytes, ram: bytes, numbers: "array[int]") -> bytes:
     """The bytes of a saved state: of what it is, of a RAM where it has one, and these numbers."""
     count = len(ram) // 8 + len(numbers)
-    head = b"DV" + what + bytes([_SAVED_VERSION]) + count.to_bytes(4, "little")
+    head = b"DV" + what + bytes([_FIRST_VERSION]) + count.to_bytes(4, "little")
     return head + ram + _turned(numbers).tobytes()
+
+
+def _saved_bytes(first: bytes, rom: int) -> bytes:
+    """A saved state of the first version as one that has the digest of a ROM, or 0, and a sum."""
+    count = len(first) // 8 + 1
+    head = first[:3] + bytes([_SAVED_VERSION]) + count.to_bytes(4, "little")
+    summed = head + first[8:] + rom.to_bytes(8, "little")
+    return summed + _digest(summed).to_bytes(8, "little")
 
 
 def _turned(numbers: "array[int]") -> "array[int]":
@@ -618,16 +662,42 @@ def _turned(numbers: "array[int]") -> "array[int]":
     return numbers
 
 
-def _bad_state() -> BadState:
-    return BadState(*_ERRORS[Kind.NO_STATE].args)
+def _version_fault(saved: bytes) -> Optional[StateFault]:
+    """Why bytes can't be a saved state, by their version, and but for the first one their sum."""
+    if len(saved) < 16 or not saved.startswith(b"DV"):
+        return StateFault.BROKEN
+    if saved[3] == _FIRST_VERSION:
+        return None
+    if _digest(saved[:-8]).to_bytes(8, "little") != saved[-8:]:
+        return StateFault.BROKEN
+    return None if saved[3] == _SAVED_VERSION else StateFault.OTHER_VERSION
 
 
-def _saved_numbers(what: bytes, saved: bytes) -> "array[int]":
-    """The numbers of a saved state of this, after its head. BadState."""
-    if len(saved) < 16 or len(saved) % 8 or saved[2:3] != what:
-        raise _bad_state()
-    if saved[:8] != _saved_bytes(what, saved[8:], array("Q"))[:8]:
-        raise _bad_state()
+def _state_fault(what: bytes, saved: bytes) -> Optional[StateFault]:
+    """Why bytes can't be a saved state of this, by their head, their length and their sum."""
+    fault = _version_fault(saved)
+    if fault is not None:
+        return fault
+    if saved[2:3] not in (_GENERATOR, _WRAPPING, _WORLD):
+        return StateFault.BROKEN
+    if saved[2:3] != what:
+        return StateFault.OTHER_CLASS
+    count, least = int.from_bytes(saved[4:8], "little"), 1 if saved[3] == _FIRST_VERSION else 3
+    return StateFault.BROKEN if count < least or len(saved) != 8 + 8 * count else None
+
+
+def _saved_numbers(what: bytes, saved: bytes, rom: int = 0) -> "array[int]":
+    """The numbers of a saved state of this that both versions have, after its head. BadState.
+
+    `rom` is the digest of a world's ROM. That in the bytes must be the same, if it isn't 0.
+    """
+    fault = _state_fault(what, saved)
+    if fault is None and saved[3] != _FIRST_VERSION:
+        saved, named = saved[:-_MORE_BYTES], int.from_bytes(saved[-_MORE_BYTES:-8], "little")
+        if what == _WORLD and named not in (0, rom):
+            fault = StateFault.OTHER_ROM
+    if fault is not None:
+        raise BadState(fault)
     numbers = array("Q")
     numbers.frombytes(saved[8:])
     return _turned(numbers)
@@ -643,7 +713,7 @@ def _saved_parts(saved: bytes, wraps: bool) -> "array[int]":
     """The parts of a saved generator, each as the request that tells it. BadState."""
     numbers = _saved_numbers(_WRAPPING if wraps else _GENERATOR, saved)
     if not _are_parts(numbers):
-        raise _bad_state()
+        raise BadState(StateFault.PARTS)
     return numbers
 
 
@@ -652,21 +722,21 @@ def _place(part: int) -> "tuple[int, int]":
     return part >> 16 & 0x3FFFFF, part >> 38 & 0x3FFFFF
 
 
-def _saved_world(saved: bytes) -> "tuple[bytes, array[int], array[int], int]":
+def _saved_world(saved: bytes, rom: int) -> "tuple[bytes, array[int], array[int], int]":
     """Of a saved world its RAM, its generator's parts, its operations and its driver. BadState.
 
-    All but the RAM are the requests that tell them.
+    All but the RAM are the requests that tell them. `rom` is the digest of its ROM.
     """
-    numbers = _saved_numbers(_WORLD, saved)[_RAM_NUMBERS:]
+    numbers = _saved_numbers(_WORLD, saved, rom)[_RAM_NUMBERS:]
     tells = itertools.takewhile(lambda number: number & 0xFF == _Request.TELL_STATE, numbers)
     count = sum(1 for _ in tells)
     parts, operations = numbers[:count], numbers[count:]
     if not operations or not parts or not _are_parts(parts):
-        raise _bad_state()
+        raise BadState(StateFault.PARTS)
     driver = operations.pop()
     pushes = all(number & 0xFF == _Request.PUSH for number in operations)
     if not pushes or driver & 0xFF != _Request.RESUME_WORLD:
-        raise _bad_state()
+        raise BadState(StateFault.PARTS)
     return saved[8:8 + RAM_BYTES], parts, operations, driver
 
 
@@ -815,7 +885,11 @@ class _Device:
                 raise
 
     def __repr__(self) -> str:
-        return f"<{type(self).__name__}{'' if self._handle.device else ', closed'}>"
+        return f"<{type(self).__name__}{self._shown()}{'' if self._handle.device else ', closed'}>"
+
+    def _shown(self) -> str:
+        """What its representation says beside its class."""
+        return ""
 
     def close(self) -> None:
         """Gives the memory back. Closing again does nothing, and any other call is Closed then."""
@@ -935,7 +1009,7 @@ class _Device:
         self._turns(answers)
         for answer in answers:
             if answer & 0xFF in (Kind.NO_OPERATION, Kind.FULL):
-                raise _bad_state()
+                raise BadState(StateFault.PARTS)
             self._entry(answer)
 
     def _beam(self) -> Beam:
@@ -1006,6 +1080,18 @@ class Operation(NamedTuple):
         low = self.kind << 8 | self.scale << 16 | self.z << 24
         return low | (self.x & 0xFFFF) << 32 | (self.y & 0xFFFF) << 48
 
+    @property
+    def text(self) -> str:
+        """Its line in a draft, as `dvg check` reads it."""
+        name = _CALLS[self.kind].replace("_", "")
+        if name in ("vctr", "svec"):
+            return f"{name} {self.scale} {self.x} {self.y} {self.z}"
+        if name == "labs":
+            return f"labs {self.x} {self.y} {self.scale}"
+        if name in ("call", "jump"):
+            return f"{name} {self.x}"
+        return f"{name} {self.x:03X}" if name.endswith("rom") else name
+
     def __str__(self) -> str:
         name = _CALLS[self.kind]
         if name in ("vctr", "svec"):
@@ -1046,6 +1132,11 @@ class Draft:
 
     def __repr__(self) -> str:
         return "Draft()" + "".join(f".{operation}" for operation in self._operations)
+
+    @property
+    def text(self) -> str:
+        """Its operations as `dvg check` and `dvg explain` read them, a line each."""
+        return "".join(operation.text + "\n" for operation in self._operations)
 
     def requests(self) -> Iterator[int]:
         """What hands it to a driver, as numbers of include/dvg.h."""
@@ -1171,6 +1262,9 @@ class Generator(_Device):
         super().__init__(_Request.OPEN_WRAPPING if wraps else _Request.OPEN_GENERATOR)
         self._wraps = wraps
 
+    def _shown(self) -> str:
+        return ", wraps" if self._wraps else ""
+
     @property
     def wraps(self) -> bool:
         """Whether its stack wraps."""
@@ -1255,8 +1349,16 @@ class Generator(_Device):
 
         `restore` takes them, in any process. Strokes of a finished run are no part of it.
         """
+        return _saved_bytes(self._state(), 0)
+
+    @_alone
+    def _first_version(self) -> bytes:
+        """The same of the first version, without a sum: a copy takes less time so."""
+        return self._state()
+
+    def _state(self) -> bytes:
         parts = self._answers(_Request.STATE, int(Kind.STATE))
-        return _saved_bytes(_WRAPPING if self._wraps else _GENERATOR, b"", parts)
+        return _first_bytes(_WRAPPING if self._wraps else _GENERATOR, b"", parts)
 
     @_alone
     def restore(self, saved: Bytes) -> None:
@@ -1303,7 +1405,7 @@ class Generator(_Device):
         """
         other = Generator()
         try:
-            other.restore(self.save())
+            other.restore(self._first_version())
         except Error:
             other.close()
             raise
@@ -1350,20 +1452,37 @@ class Generator(_Device):
         RunBroke; Endless, where there is no end within this many words; BadCount, where they are
         less than 0; WrongSize, OutOfMemory.
         """
-        held_rom = _rom(rom)
-        memory, rom_bytes = _ram(ram) + held_rom, len(held_rom)
-        most = _count("most_words", most_words, 0)
+        memory, most = (_ram(ram), _rom(rom)), _count("most_words", most_words, 0)
+        self._turn(_Request.STROBE)
+        return self._run_to_halt(*memory, most)
+
+    @_alone
+    def run_to_halt(
+        self, ram: Bytes, rom: Optional[Bytes] = None, most_words: int = MOST_WORDS
+    ) -> Picture:
+        """Goes on with the open run, over this RAM and ROM, which don't change, up to the HALT.
+
+        The words are those that were fetched by this call. Halted, where no run is open; else as
+        `draw`.
+        """
+        memory, most = (_ram(ram), _rom(rom)), _count("most_words", most_words, 0)
+        if self._wanted() is None:
+            raise Halted("the generator is halted")
+        return self._run_to_halt(*memory, most)
+
+    def _run_to_halt(self, ram: bytes, rom: bytes, most: int) -> Picture:
+        memory, rom_bytes = ram + rom, len(rom)
         low, fetched = int(Kind.LOW), int(Kind.FETCHED)
-        number = self._turn(_Request.STROBE)
-        words = 0
+        wanted, words = self._turn(_Request.WANTS), 0
+        at = 2 * (wanted >> 8 & 0xFFF) + (wanted >> 24 & 1)
         while words < most:
-            at = number >> 40 & 0x1FFF  # each answer says which byte is wanted next
             place = _place_of(at, rom_bytes)
             number = self._turn(_Request.FETCH, 0x100 if place is None else memory[place] << 16)
             words += number & 0xFF != low
             if number & 0xFF not in (low, fetched):
                 self._entry(number)
                 return Picture(words, self._strokes())
+            at = number >> 40 & 0x1FFF  # each answer says which byte is wanted next
         raise Endless(most)
 
     @_alone
@@ -1385,10 +1504,13 @@ class World(_Device):
     """
 
     _events = 0
+    _held_rom = RETURNS
 
     def __init__(self, rom: Optional[Bytes] = None, ram: Optional[Bytes] = None) -> None:
         """A world whose driver boots, and whose generator is halted. WrongSize, OutOfMemory."""
-        super().__init__(_Request.OPEN_WORLD, _ram(ram) + _rom(rom))
+        held = _rom(rom)
+        super().__init__(_Request.OPEN_WORLD, _ram(ram) + held)
+        self._held_rom = held
 
     @property
     def events(self) -> int:
@@ -1412,31 +1534,32 @@ class World(_Device):
         strobe that is under way, and its generator with what an open run drew so far.
 
         `restore` of a world over the same ROM takes them, in any process. Its ROM, `events`, and
-        the strokes of a finished run are no part of it. So keep the ROM's name beside the bytes.
+        the strokes of a finished run are no part of it; a digest of the ROM is.
         """
         numbers = self._answers(_Request.STATE, int(Kind.STATE))
         numbers += self._answers(_Request.OPERATION, int(_Request.PUSH))
         numbers.append(self._turn(_Request.DRIVER))
-        return _saved_bytes(_WORLD, self._ram(), numbers)
+        first = _first_bytes(_WORLD, self._ram(), numbers)
+        return _saved_bytes(first, _rom_digest(self._held_rom))
 
     @_alone
     def restore(self, saved: Bytes) -> None:
         """Goes on as the world over the same ROM whose `save` gave these bytes.
 
-        BadState, also where this ROM refuses the frame that was being written; OutOfMemory. Its
-        ROM, `strokes` and `events` stay as they are: this is no event.
+        BadState; OutOfMemory. Its ROM, `strokes` and `events` stay as they are: this is no event.
 
-        Else the ROM isn't compared, nor its size: over another one a run may draw something else,
-        raise RunBroke, or never end. A strobe that was sent may not have arrived before the save:
-        where the world is `halted`, let it arrive.
+        Bytes of version 1, or of a `dvg_save_over` that named no ROM, don't tell another ROM: over
+        it a run may draw something else, raise RunBroke, or never end. A strobe that was sent may
+        not have arrived before the save: where the world is `halted`, let it arrive.
         """
-        ram, parts, operations, driver = _saved_world(_bytes("a saved state", saved))
+        held, digest = _bytes("a saved state", saved), _rom_digest(self._held_rom)
+        ram, parts, operations, driver = _saved_world(held, digest)
         try:
             self._turn(_Request.CLEAR)
             self._tell_saved(parts + operations)
             answer = self._with_staged(_Request.RESUME_WORLD, ram, driver & ~0xFF)
             if answer.kind is not Kind.OPENED:
-                raise _bad_state()
+                raise BadState(StateFault.PARTS)
         except Error:
             # What was told is forgotten.
             self._turn(_Request.TELL_STATE)
@@ -1454,8 +1577,8 @@ class World(_Device):
         """Where its generator's beam is, and the global scale."""
         return self._beam()
 
-    def __repr__(self) -> str:
-        return f"<World, {self.events} events{'' if self._handle.device else ', closed'}>"
+    def _shown(self) -> str:
+        return f", {self.events} events"
 
     def _repr_svg_(self) -> str:
         return svg(self.strokes)
@@ -1563,6 +1686,30 @@ class World(_Device):
         self._event(_Request.STROBE)
         self._let_finish()
         return self._strokes()
+
+    @_alone
+    def run_to_halt(self, most_steps: int) -> Optional[Entry]:
+        """Lets it go on until a run ends, and returns its DONE; None where none ends.
+
+        A step is a tick, the strobe that this sent, and a fetch: each is an event. There are at
+        most so many steps, and no more where the driver is idle and no run is open. A strobe that
+        was sent before doesn't arrive by this. OutOfMemory; BadCount, where the steps are less than
+        0. RunBroke as `fetch`.
+        """
+        goes_on = {int(Kind.STILL), int(Kind.LOW), int(Kind.FETCHED)}
+        self._own_device()
+        for _ in range(_count("most_steps", most_steps, 0)):
+            ticked = self._event(_Request.TICK).kind
+            if ticked is Kind.SENT:
+                self._event(_Request.STROBE)
+            number = self._turn(_Request.FETCH)
+            kind = number & 0xFF
+            self._events += kind != Kind.NO_MEMORY
+            if kind not in goes_on:
+                return self._entry(number)
+            if kind == Kind.STILL and ticked is Kind.IDLE:
+                break
+        return None
 
     def _let_happen(self, event: _Request, count: int) -> Entry:
         """Lets an event happen this many times, or up to a DONE, and returns the last entry."""
@@ -1785,6 +1932,10 @@ class Judge:
     def reset(self) -> None:
         """The run ended by a reset of the generator."""
         self._begun, self._half = False, None
+
+    def __repr__(self) -> str:
+        return (f"<Judge, {self.runs} runs, {self.drew} drew a half, {self.halts} halted, "
+                f"{self.writes} writes>")
 
     def wrote(self, address: int, byte: int = 0) -> bool:
         """A byte was written, at a byte address, 000 to 7FF. Whether that tears the picture."""
