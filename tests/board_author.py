@@ -152,7 +152,8 @@ MISTAKES = [
      'premises', '^warning: .* bytes that nothing had written, .* score$'),
     ('no LABS at first', edit('draw_at wall_x, wall_y, wall', 'dvg_call wall'), 'proof',
      'the frame may be empty yet: begin it with dvg_labs'),
-    ('SED', edit(FLIES, 'flies:  sed\n rts'), 'proof', 'decimal sums are not proved: .*score.inc'),
+    ('SED', edit(FLIES, 'flies:  sed\n rts'), 'premises',
+     '^warning: .* sums were decimal at one time and binary at another: is a CLD missing?'),
     ('a sound that never stops', edit('serve:  lda #0', 'serve:  lda #SOUND_ON\n sta SOUND_SHIP\n'
                                       ' lda #0'), 'sound', '^on at the end: SOUND_SHIP, since 0.0'),
     ('OUT_BANKS for a lamp', each_picture(' lda #OUT_BANKS\nlamps: sta OUTPUTS'), 'judge',

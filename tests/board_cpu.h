@@ -1,7 +1,7 @@
-/* An NMOS 6502 for tests: its documented instructions but BRK and SED, their cycles, and each
- * access of the bus that they make beside the fetch of the instruction. Dummy accesses are made,
- * too: indexed addressing may read a wrong page first, and INC and its like write twice. There is
- * no decimal mode. Who includes this defines the bus. */
+/* An NMOS 6502 for tests: its documented instructions but BRK, their cycles, and each access of the
+ * bus that they make beside the fetch of the instruction. Dummy accesses are made, too: indexed
+ * addressing may read a wrong page first, and INC and its like write twice. Decimal sums are those
+ * of Bruce Clark, "Decimal Mode" (6502.org, appendix A). Who includes this defines the bus. */
 #include <stdint.h>
 #include <string.h>
 
@@ -24,7 +24,7 @@ enum mode { NONE, IMM, ZP, ZPX, ZPY, ABS, ABX, ABY, IZX, IZY, REL, ACC, IND };
 enum operation {
     ADC, AND, ASL, BCC, BCS, BEQ, BIT, BMI, BNE, BPL, BVC, BVS, CLC, CLD, CLI, CLV, CMP, CPX, CPY,
     DEC, DEX, DEY, EOR, INC, INX, INY, JMP, JSR, LDA, LDX, LDY, LSR, NOP, ORA, PHA, PHP, PLA, PLP,
-    ROL, ROR, RTI, RTS, SBC, SEC, SEI, STA, STX, STY, TAX, TAY, TSX, TXA, TXS, TYA
+    ROL, ROR, RTI, RTS, SBC, SEC, SED, SEI, STA, STX, STY, TAX, TAY, TSX, TXA, TXS, TYA
 };
 
 /* An opcode's cycles are those without a page crossed and without a branch taken. */
@@ -61,7 +61,8 @@ static const struct { uint8_t opcode, operation, mode, cycles; } opcodes[] = {
     { 0x6E, ROR, ABS, 6 }, { 0x7E, ROR, ABX, 7 }, { 0x40, RTI, NONE, 6 }, { 0x60, RTS, NONE, 6 },
     { 0xE9, SBC, IMM, 2 }, { 0xE5, SBC, ZP, 3 }, { 0xF5, SBC, ZPX, 4 }, { 0xED, SBC, ABS, 4 },
     { 0xFD, SBC, ABX, 4 }, { 0xF9, SBC, ABY, 4 }, { 0xE1, SBC, IZX, 6 }, { 0xF1, SBC, IZY, 5 },
-    { 0x38, SEC, NONE, 2 }, { 0x78, SEI, NONE, 2 }, { 0x85, STA, ZP, 3 }, { 0x95, STA, ZPX, 4 },
+    { 0x38, SEC, NONE, 2 }, { 0xF8, SED, NONE, 2 }, { 0x78, SEI, NONE, 2 }, { 0x85, STA, ZP, 3 },
+    { 0x95, STA, ZPX, 4 },
     { 0x8D, STA, ABS, 4 }, { 0x9D, STA, ABX, 5 }, { 0x99, STA, ABY, 5 }, { 0x81, STA, IZX, 6 },
     { 0x91, STA, IZY, 6 }, { 0x86, STX, ZP, 3 }, { 0x96, STX, ZPY, 4 }, { 0x8E, STX, ABS, 4 },
     { 0x84, STY, ZP, 3 }, { 0x94, STY, ZPX, 4 }, { 0x8C, STY, ABS, 4 }, { 0xAA, TAX, NONE, 2 },
@@ -161,6 +162,45 @@ static void add_carrying(cpu *c, uint8_t value)
     c->a = flagged(c, (uint8_t)sum);
 }
 
+/* ADC with D set. Z tells of the binary sum; N and V of the digits, of which the upper one isn't
+ * mended yet. */
+static void add_digits(cpu *c, uint8_t value)
+{
+    int low = (c->a & 15) + (value & 15) + (c->p & CARRY);
+    if (low > 9) low = ((low + 6) & 15) + 16;
+    int sum = (c->a & 0xF0) + (value & 0xF0) + low;
+    int shown = (int8_t)(c->a & 0xF0) + (int8_t)(value & 0xF0) + low;
+    flagged(c, (uint8_t)(c->a + value + (c->p & CARRY)));
+    set_flag(c, NEGATIVE, shown & 0x80);
+    set_flag(c, OVERFLOW, shown < -128 || shown > 127);
+    if (sum >= 0xA0) sum += 0x60;
+    set_flag(c, CARRY, sum > 255);
+    c->a = (uint8_t)sum;
+}
+
+/* SBC with D set. All flags tell of the binary difference. */
+static void subtract_digits(cpu *c, uint8_t value)
+{
+    int low = (c->a & 15) - (value & 15) + (c->p & CARRY) - 1;
+    if (low < 0) low = ((low - 6) & 15) - 16;
+    int difference = (c->a & 0xF0) - (value & 0xF0) + low;
+    if (difference < 0) difference -= 0x60;
+    add_carrying(c, (uint8_t)~value);
+    c->a = (uint8_t)difference;
+}
+
+static void add_byte(cpu *c, uint8_t value)
+{
+    if (c->p & DECIMAL) add_digits(c, value);
+    else add_carrying(c, value);
+}
+
+static void subtract_byte(cpu *c, uint8_t value)
+{
+    if (c->p & DECIMAL) subtract_digits(c, value);
+    else add_carrying(c, (uint8_t)~value);
+}
+
 static void compare(cpu *c, uint8_t of, uint8_t value)
 {
     set_flag(c, CARRY, of >= value);
@@ -205,8 +245,8 @@ static void change(cpu *c, enum operation operation, enum mode mode)
 static void use(cpu *c, enum operation operation, uint8_t value)
 {
     switch (operation) {
-    case ADC: add_carrying(c, value); break;
-    case SBC: add_carrying(c, (uint8_t)~value); break;
+    case ADC: add_byte(c, value); break;
+    case SBC: subtract_byte(c, value); break;
     case AND: c->a = flagged(c, c->a & value); break;
     case ORA: c->a = flagged(c, c->a | value); break;
     case EOR: c->a = flagged(c, c->a ^ value); break;
@@ -243,6 +283,7 @@ static int step(cpu *c)
     case CLC: set_flag(c, CARRY, 0); break;
     case SEC: set_flag(c, CARRY, 1); break;
     case CLI: set_flag(c, INTERRUPT, 0); break;
+    case SED: set_flag(c, DECIMAL, 1); break;
     case SEI: set_flag(c, INTERRUPT, 1); break;
     case CLV: set_flag(c, OVERFLOW, 0); break;
     case CLD: set_flag(c, DECIMAL, 0); break;

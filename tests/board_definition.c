@@ -6,6 +6,7 @@
  *     board_definition vectors COUNT     prints this many of each opcode by board_cpu.h, as numbers
  *     board_definition sim COUNT RECORDS RESULTS
  *                                        writes steps for board_steps.s, and what they leave
+ *     board_definition sums FILE         compares each sum with D set with those of decimal_sums.py
  */
 #include "board_cpu.h"
 #include <stdio.h>
@@ -86,13 +87,38 @@ static void changing(state *t, const char *mode, int byte)
     t->pc += size(mode);
 }
 
-/* A sum with the carry. */
-static void adding(state *t, int byte)
+static int carried(int low) { return low >= 10 ? 16 + (low + 6) % 16 : low; }
+static int borrowed(int low) { return low >= 16 ? low : (low + 10) % 16; }
+
+static int by_digits(int (*ordered)(int), int byte, const state *t)
 {
-    int sum = t->a + byte + t->c, same = t->a / 128 == byte / 128;
-    t->v = same && t->a / 128 != sum % 256 / 128;
-    t->c = sum >= 256;
-    setting(t, 'A', sum % 256);
+    return 16 * (t->a / 16) + 16 * (byte / 16) + ordered(t->a % 16 + byte % 16 + t->c);
+}
+
+static int overflows(int a, int byte, int sum)
+{
+    return a / 128 == byte / 128 && a / 128 != sum % 256 / 128;
+}
+
+static void summing(state *t, int byte)
+{
+    int binary = t->a + byte + t->c, digits = by_digits(carried, byte, t);
+    int sum = t->d ? digits : binary;
+    t->n = sum % 256 >= 128;
+    t->z = binary % 256 == 0;
+    t->c = t->d ? digits >= 160 : binary >= 256;
+    t->v = overflows(t->a, byte, sum);
+    t->a = (t->d && digits >= 160 ? digits + 96 : sum) % 256;
+}
+
+static void subtracting(state *t, int byte)
+{
+    int binary = t->a + byte + t->c, digits = by_digits(borrowed, byte, t);
+    t->n = binary % 256 >= 128;
+    t->z = binary % 256 == 0;
+    t->c = binary >= 256;
+    t->v = overflows(t->a, byte, binary);
+    t->a = (t->d ? (binary >= 256 ? digits : digits + 160) : binary) % 256;
 }
 
 static void take_byte(state *t, const char *kind, char of, const char *mode)
@@ -103,8 +129,8 @@ static void take_byte(state *t, const char *kind, char of, const char *mode)
     else if (is(kind, "And")) setting(t, 'A', t->a & byte);
     else if (is(kind, "Or")) setting(t, 'A', t->a | byte);
     else if (is(kind, "Xor")) setting(t, 'A', t->a ^ byte);
-    else if (is(kind, "Add")) adding(t, byte);
-    else if (is(kind, "Subtract")) adding(t, 255 - byte);
+    else if (is(kind, "Add")) summing(t, byte);
+    else if (is(kind, "Subtract")) subtracting(t, 255 - byte);
     else if (is(kind, "Compare")) {
         int value = *register_named(t, of);
         telling(t, (value + 256 - byte) % 256);
@@ -369,7 +395,7 @@ static int operands(const char *instruction, int x, int y, int *first, int *seco
 }
 
 /* Whether board_steps.s runs it: it leaves S, and what is behind it, as they are. The sim65 of cc65
- * 2.19 takes ROL abs,X for an instruction of two bytes. */
+ * 2.19 takes ROL abs,X for an instruction of two bytes, and subtracts otherwise with D set. */
 static int is_run(const char *instruction)
 {
     return !is_move(instruction) && !strstr(instruction, "Push") && !strstr(instruction, "Pull") &&
@@ -379,7 +405,7 @@ static int is_run(const char *instruction)
 static void write_step(const char *instruction, int opcode, FILE *records, FILE *results)
 {
     cpu c = some_cpu(BUFFER);
-    c.p = (uint8_t)(c.p & ~DECIMAL);
+    if (strstr(instruction, "Subtract")) c.p = (uint8_t)(c.p & ~DECIMAL);
     if (strstr(instruction, "IndexedIndirect")) c.y = 0;
     state t = state_of(&c);
     int first, second, bytes = operands(instruction, t.x, t.y, &first, &second);
@@ -418,10 +444,31 @@ static int write_steps(long count, const char *record_path, const char *result_p
     return fclose(records) != 0 || fclose(results) != 0;
 }
 
+/* Of ADC and then SBC with D set, of C clear and then set, of each A and each operand: A, and N, V,
+ * Z and C, beside the two bytes that a file has of it. */
+static int compare_sums(const char *path)
+{
+    FILE *file = fopen(path, "rb");
+    long differ = 0;
+    if (!file) return 1;
+    for (int k = 0; k < 4 * 65536; k++) {
+        state t = { .a = k / 256 % 256, .c = k / 65536 % 2, .d = 1 };
+        if (k < 2 * 65536) summing(&t, k % 256);
+        else subtracting(&t, 255 - k % 256);
+        int a = fgetc(file), flags = fgetc(file);
+        differ += a != t.a || flags != (flags_byte(&t, 0) & (NEGATIVE | OVERFLOW | ZERO | CARRY));
+    }
+    differ += fgetc(file) != EOF;
+    fclose(file);
+    if (differ) printf("%ld sums differ\n", differ);
+    return differ != 0;
+}
+
 int main(int argc, char **argv)
 {
     ready_opcodes();
     if (argc == 5) return write_steps(atol(argv[2]), argv[3], argv[4]);
+    if (argc == 3 && is(argv[1], "sums")) return compare_sums(argv[2]);
     if (argc == 3) {
         for (int row = 0; row < ROWS; row++)
             for (int i = 0; i < atoi(argv[2]); i++) print_vector(row);

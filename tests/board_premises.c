@@ -97,6 +97,9 @@ static vain misread = {
     .what = "branches by BEQ or BNE look at all bits of a switch: BMI and BPL look at the one that "
         "counts, and AND #SWITCHES_MASK leaves two"
 };
+static vain mixed_sums = {
+    .what = "sums were decimal at one time and binary at another: is a CLD missing?"
+};
 static vain lost_registers[REGISTERS] = {
     { .what = "uses of A come after a call of the driver or its letters, which keep no register" },
     { .what = "uses of X come after a call of the driver or its letters, which keep no register" },
@@ -104,7 +107,7 @@ static vain lost_registers[REGISTERS] = {
 };
 static const vain *const warnings[] = {
     &refused_opens, &refused_offers, &refused_redraws, &vain_puts, &left_out, &lost_scales,
-    &old_places, &misread, &lost_registers[0], &lost_registers[1], &lost_registers[2]
+    &old_places, &misread, &mixed_sums, &lost_registers[0], &lost_registers[1], &lost_registers[2]
 };
 static vain blind_reads[RAM_END];       /* of each byte, before anything had written it */
 /* Of each instruction that reads a list by an index: whether it also read a byte of it, the reads
@@ -116,7 +119,10 @@ static int printers[PRINTERS];          /* where they stand, or 0 */
 static int list_ends[MEMORY];           /* of each label: where its list ends; or 0 */
 static uint8_t is_called[MEMORY];       /* a JSR leads there */
 static uint16_t ran_from[MEMORY];       /* the instruction before that ran on into this one, or 0 */
-static uint8_t was_written[RAM_END], was_counted[RAM_END], was_used[MEMORY], was_run[MEMORY];
+static uint8_t was_written[RAM_END], was_counted[RAM_END], was_run[MEMORY];
+static int reader[MEMORY];              /* of a byte that was read: the instruction, or 0 */
+static uint8_t reads_code[MEMORY];      /* an instruction that reads code, as one that sums a ROM */
+static uint8_t sums[MEMORY];             /* of an ADC or SBC: 1 a binary sum, 2 a decimal one */
 static uint8_t memory[MEMORY];
 static cpu processor;
 static context contexts[3], *now = contexts;
@@ -158,13 +164,37 @@ static int label_before(int at)
     return best;
 }
 
+/* A cheap local label of ca65, as @skip: its name is only known with the label before it. */
+static int is_cheap(int i) { return labels[i].name[0] == '@'; }
+
+/* The label to which a cheap local one belongs: the last other one up to its place, or -1. */
+static int owner_of(int cheap)
+{
+    int best = -1;
+    for (int i = 0; i < label_count; i++) {
+        if (!is_own(i) || is_cheap(i) || is_driver(labels[i].at)) continue;
+        if (labels[i].at > labels[cheap].at) continue;
+        if (best < 0 || labels[i].at > labels[best].at) best = i;
+    }
+    return best;
+}
+
+/* As `move`, or `move@skip` of a cheap local label. */
+static void print_label(int i)
+{
+    const int owner = is_cheap(i) ? owner_of(i) : -1;
+    printf("%s%s", owner >= 0 ? labels[owner].name : "", labels[i].name);
+}
+
 /* As `6AF8, picture + 23`. */
 static void print_place(int at)
 {
     const int i = label_before(at);
     printf("%04X", at);
-    if (i >= 0) printf(", %s", labels[i].name);
-    if (i >= 0 && at > labels[i].at && !is_driver(at)) printf(" + %d", at - labels[i].at);
+    if (i < 0) return;
+    printf(", ");
+    print_label(i);
+    if (at > labels[i].at && !is_driver(at)) printf(" + %d", at - labels[i].at);
 }
 
 /* The JSR whose return address stands on the stack above s, or 0. */
@@ -215,7 +245,9 @@ static void print_run_into(int at, const int *calls)
     if (i < 0) return;
     printf("; ");
     print_place(ran_from[entry]);
-    printf(", runs on into %s: is an rts missing before it?", labels[i].name);
+    printf(", runs on into ");
+    print_label(i);
+    printf(": is an rts missing before it?");
 }
 
 static void fail(const char *format, ...)
@@ -358,7 +390,8 @@ uint8_t bus_fetch(uint16_t at) { return memory[at % MEMORY]; }
 /* After dvg_reset has returned, a byte of RAM that is read should have been written. */
 static void check_read(int at)
 {
-    was_used[at] = 1;
+    if (was_run[at]) reads_code[instruction % MEMORY] = 1;
+    if (!reader[at] || reads_code[reader[at]]) reader[at] = instruction % MEMORY;
     if (at >= RAM_END || was_written[at] || now->in_driver || !was_reset) return;
     note_here(&blind_reads[at]);
 }
@@ -486,7 +519,6 @@ static void check_call(enum routine routine)
     const cpu *c = &processor;
     if ((!was_reset || begins_anew) && (routine != RESET || is_nmi()))
         fail("%s calls %s before dvg_reset has returned", whose(), names[routine]);
-    if (c->p & DECIMAL) fail("D is set");
     if (now == contexts + 2 && contexts[1].in_driver)
         fail("an NMI amid the ticks of an NMI calls %s", names[routine]);
     if (is_nmi() && !does_tick(routine)) fail("the NMI calls %s", names[routine]);
@@ -604,7 +636,7 @@ static int comes(uint64_t *next, int *was_interrupted)
 
 /* --- A run --- */
 
-/* The 6502 of board_cpu.h has neither BRK nor a decimal mode. */
+/* The 6502 of board_cpu.h has no BRK. */
 static void check_opcode(int opcode)
 {
     if (processor.pc % MEMORY >= program_from) last_in_rom = processor.pc;
@@ -614,7 +646,6 @@ static void check_opcode(int opcode)
             processor.pc);
     }
     if (opcode == 0x00) fail("a BRK");
-    if (opcode == 0xF8) fail("a SED, and D has to stay clear");
     if (opcode == TXS_OPCODE && is_nmi())
         fail("the NMI sets S: is it the reset? VECTORS has .word nmi, reset, irq");
     if (opcode == RTI_OPCODE && !is_nmi())
@@ -633,6 +664,15 @@ static void check_input(int opcode)
 
 /* The address that stands behind an opcode. */
 static int operand_of(int at) { return word_at((at + 1) % MEMORY) % MEMORY; }
+
+/* An instruction that sums does so in one way. */
+static void check_sum(int opcode)
+{
+    const int operation = opcodes[opcode_index[opcode]].operation;
+    if (operation != ADC && operation != SBC) return;
+    sums[instruction] |= processor.p & DECIMAL ? 2 : 1;
+    if (sums[instruction] == 3) note_here(&mixed_sums);
+}
 
 /* An output that takes any byte. */
 static int takes_any(int at) { return at == WATCHDOG || at == NOISE_RESET; }
@@ -695,6 +735,7 @@ static void check_misuse(int opcode)
     note_way(opcode);
     check_input(opcode);
     check_registers(opcode);
+    check_sum(opcode);
     if (kinds[opcode].reads_list) check_list(opcode);
 }
 
@@ -702,7 +743,7 @@ static void run_one(void)
 {
     int inside = is_driver(processor.pc);
     instruction = processor.pc;
-    was_used[instruction % MEMORY] = was_run[instruction % MEMORY] = 1;
+    was_run[instruction % MEMORY] = 1;
     if (!is_nmi() && processor.pc == word_at(MEMORY - 4)) begins_anew = 1;
     press_buttons();
     if (inside && !now->in_driver) begin_call();
@@ -880,11 +921,12 @@ static int reads_more(int at, int base)
 }
 
 /* The program's own label of a place. */
-static const char *name_of(int at)
+static void print_name(int at)
 {
-    for (int i = 0; i < label_count; i++)
-        if (labels[i].at == at && is_own(i)) return labels[i].name;
-    return "what follows";
+    int i = 0;
+    while (i < label_count && (labels[i].at != at || !is_own(i))) i++;
+    if (i < label_count) print_label(i);
+    else printf("what follows");
 }
 
 static void tell_short_list(int base)
@@ -897,8 +939,10 @@ static void tell_short_list(int base)
         if (lists[at].most > most) most = lists[at].most;
     }
     if (!all.count) return;
-    printf("warning: %ld reads go beyond the end of %s, by up to %d byte%s, into %s", all.count,
-        name_of(base), most, most > 1 ? "s" : "", name_of(list_ends[base]));
+    printf("warning: %ld reads go beyond the end of ", all.count);
+    print_name(base);
+    printf(", by up to %d byte%s, into ", most, most > 1 ? "s" : "");
+    print_name(list_ends[base]);
     print_first(&all);
     printf("\n");
 }
@@ -911,6 +955,9 @@ static void tell_short_lists(void)
 
 static int is_branch(int opcode) { return (opcode & 0x1F) == 0x10; }
 
+/* Whether a byte ran, or was read as data, but by what adds up the ROM. */
+static int is_used(int at) { return was_run[at] || (reader[at] && !reads_code[reader[at]]); }
+
 /* Where nothing of the program's code ran, in its order: its labels, and what follows a branch that
  * was always taken. */
 static void tell_unused(int data)
@@ -918,8 +965,9 @@ static void tell_unused(int data)
     int count = 0;
     for (int at = code_end; at < data; at++) {
         const int i = label_before(at), is_behind = was_run[at - 2] && is_branch(memory[at - 2]);
-        if (was_used[at] || i < 0 || (at > labels[i].at && !is_behind)) continue;
-        printf("%s%s", count++ ? " " : "never run: ", labels[i].name);
+        if (is_used(at) || i < 0 || (at > labels[i].at && !is_behind)) continue;
+        printf("%s", count++ ? " " : "never run: ");
+        print_label(i);
         if (at > labels[i].at) printf("+%d", at - labels[i].at);
     }
     if (count) printf("\n");

@@ -16,7 +16,7 @@ MOVES = """a9 a5 b5 ad bd b9 a1 b1 a2 a6 b6 ae be a0 a4 b4 ac bc 85 95 8d 9d 99 
     8c aa a8 8a 98 ba 9a""".split()
 
 # The opcodes that lead elsewhere, use the stack or set a flag.
-FLOW = """10 30 50 70 90 b0 d0 f0 4c 6c 20 60 40 48 08 68 28 18 38 58 78 b8 d8 ea""".split()
+FLOW = """10 30 50 70 90 b0 d0 f0 4c 6c 20 60 40 48 08 68 28 18 38 58 78 b8 d8 f8 ea""".split()
 
 # Of each file, what its steps do.
 FILES = {

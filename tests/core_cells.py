@@ -249,7 +249,7 @@ class Vectors(Board):
 
 class Machine(Circuit):
     """dvg_machine, with dvg_cpu and dvg_board."""
-    WIDTHS = {"reset": 1, "nmi": 1, "hold": 1, "big": 1, "rom": 8, "m": 8}
+    WIDTHS = {"reset": 1, "ready": 1, "nmi": 1, "hold": 1, "big": 1, "rom": 8, "m": 8}
     OUTPUTS = "access write a d sync takes".split() + SHOWS
 
     def any_pins(self):
@@ -259,8 +259,9 @@ class Machine(Circuit):
             m = random.randrange(256)
         if cpu["state"] == 2 and not once_in(8):
             m = random.choice([*OPCODES, 0x8D, 0x8D, 0x8D, 0xAD, 0x9D, 0x99])
-        return {"reset": int(once_in(800)), "nmi": int(once_in(20)), "hold": int(once_in(16)),
-                "big": int(once_in(2)), "rom": random.randrange(256), "m": m}
+        return {"reset": int(once_in(800)), "ready": int(not once_in(4)), "nmi": int(once_in(20)),
+                "hold": int(once_in(16)), "big": int(once_in(2)), "rom": random.randrange(256),
+                "m": m}
 
 
 class Game(Circuit):

@@ -9,8 +9,11 @@
  * and what the program reads, what stands there: of the board at 4000 to 47FF, 2002 and 3000, and
  * else of memory, which answers any byte where the board does. The pins of the board are, clock by
  * clock, those of a RAM and the port's generator. The routine of an NMI counts: as many are counted
- * as came since the last reset. A reset in the second clock of a cycle alone does nothing. Prints
- * what was played, or the first difference (status 1). */
+ * as came since the last reset. A reset in the second clock of a cycle alone does nothing. From one
+ * reset to the next `ready` is always high, or high at random, or in one of any 3 to 12 clocks, as
+ * for a 6502 at a slower clock: where it is low and a cycle would begin, the processor's pins stay,
+ * there is no access, and a reset is taken all the same. Prints what was played, or the first
+ * difference (status 1). */
 #include "Vdvg_machine.h"
 #include "core_access.h"
 #include <cstring>
@@ -28,9 +31,22 @@ static uint32_t counted, rose;          /* NMIs: since the last reset, and those
 static uint16_t last_at;                /* where the access before was, since the last reset */
 static uint8_t looked;                  /* what the program found where it looked last */
 
+/* How `ready` is driven: in SLOW it is high in one clock of `of`, the next one in `left` more. */
+static struct {
+    enum { ALWAYS, ANY, SLOW } kind;
+    uint32_t of, left;
+} pace;
+
+/* The processor's pins in a clock in which it waited. */
+static struct {
+    bool waited, write, sync;
+    uint16_t a;
+    uint8_t d;
+} stays;
+
 static struct {
     uint64_t frames, starts, pictures, strokes, watched, nmis, resets, looks, read, ignored,
-        broken;
+        broken, waits, waiting;         /* and clocks of waits; resets that are taken in one */
 } counts;
 
 static const uint8_t program[] = {
@@ -89,6 +105,20 @@ static void fit_rom()
     set_word(rom, 0xCC00 - rom_bytes / 2);
     put_table(TABLES, 0);
     put_table(TABLES + 0x80, 1);
+}
+
+static void choose_pace()
+{
+    pace.kind = below(3) == 0 ? pace.ALWAYS : once_in(2) ? pace.ANY : pace.SLOW;
+    pace.of = 3 + below(10);
+    pace.left = 0;
+}
+
+/* Whether the processor may begin a cycle in this clock. */
+static bool is_ready()
+{
+    pace.left = pace.left == 0 ? pace.of - 1 : pace.left - 1;
+    return pace.kind == pace.ALWAYS || (pace.kind == pace.ANY ? once_in(3) : pace.left == 0);
 }
 
 static void fill_memory(const char *code)
@@ -205,15 +235,31 @@ static void agree_on_board(bool resets)
     agree("takes", machine.takes, owed.pending && !resets && !owed.starting);
 }
 
+/* The processor's pins are those of the clock before, if it waited in that. */
+static void agree_on_wait(bool waits)
+{
+    if (stays.waited) {
+        agree("a, after a wait", machine.a, stays.a);
+        agree("write, after a wait", machine.write, stays.write);
+        agree("sync, after a wait", machine.sync, stays.sync);
+        agree("d, after a wait", machine.write ? machine.d : 0, machine.write ? stays.d : 0);
+    }
+    stays = {waits, (bool)machine.write, (bool)machine.sync, machine.a, machine.d};
+    counts.waits += waits;
+}
+
 /* A clock. An NMI is looked at where a cycle ends, and in a reset. */
 static void play_clock(bool reset)
 {
     machine.reset = reset;
+    machine.ready = is_ready();
     machine.nmi = was ? !once_in(20) : once_in(2000);
     machine.hold = !once_in(128);       /* so that the driver has to wait for a picture */
     answer_rom(machine);
-    agree("access", machine.access, !second && !reset);
+    agree("access", machine.access, machine.ready && !second && !reset);
     bool resets = reset && !second;
+    agree_on_wait(!machine.ready && !second && !reset);
+    counts.waiting += resets && !machine.ready;
     if (second || reset) {
         bool rises = machine.nmi && !was && !resets;
         was = machine.nmi;
@@ -250,6 +296,7 @@ static void play_reset()
         play_clock(true);
     }
     fit_rom();
+    choose_pace();
     shown.clear();
     counts.resets++;
     uint64_t begun = clocks;
@@ -271,6 +318,7 @@ int main(int argc, char **argv)
     dvg_open_generator(core);
     machine.clk = machine.reset = 0;
     fit_rom();
+    choose_pace();
     machine.eval();
     resetting = true;                   /* until the program has begun */
     while (clocks < wanted) {
@@ -286,9 +334,11 @@ int main(int argc, char **argv)
     printf("%" PRIu64 " clocks, %" PRIu64 " frames, %" PRIu64 " starts, %" PRIu64
            " pictures with %" PRIu64 " strokes, and %" PRIu64 " broken runs agree: %" PRIu64
            " looks at the flag,\n %" PRIu64 " bytes read, %" PRIu64 " NMIs, %" PRIu64
-           " resets, and %" PRIu64 " that are ignored, %" PRIu64 " writes at 3400\n",
+           " resets, and %" PRIu64 " that are ignored, %" PRIu64 " writes at 3400;\n %" PRIu64
+           " clocks of waits, and %" PRIu64 " of resets amid one\n",
         clocks, counts.frames, counts.starts, counts.pictures, counts.strokes, counts.broken,
-        counts.looks, counts.read, counts.nmis, counts.resets, counts.ignored, counts.watched);
+        counts.looks, counts.read, counts.nmis, counts.resets, counts.ignored, counts.watched,
+        counts.waits, counts.waiting);
     dvg_free(core);
     dvg_free(port);
     return counts.pictures == 0;

@@ -4,7 +4,7 @@
     core_mistakes.py FOLDER
 
 Writes the Verilog of each into FOLDER/NUMBER, and prints a line for each mistake: its number, what
-must find it (fetches, wraps, board, events, motion, vectors, cpu, machine, play, bus, or else
+must find it (fetches, wraps, board, events, motion, vectors, cpu, machine, play, bus, or else law,
 prover, none, nobody), and its name. Ends with status 1 where a text isn't in the file exactly
 once."""
 
@@ -30,13 +30,17 @@ def read_edits(lines):
 
 
 def read_mistakes():
-    """Name, file, edits and bench of each mistake, as the text has them."""
+    """Name, file, edits and bench of each mistake, as the text has them: file and bench are those
+    of the heading above it, but for a bench that is named below the mistake."""
     with open(f"{TESTS}/core_mistakes.md", encoding="utf-8") as text:
-        parts = re.split(r"(?m)^## ", text.read())[1:]
-    for part in parts:
-        lines = [line[4:] for line in part.split("\n") if line.startswith("    ")]
-        bench = re.search(r"(?m)^Found by `?(\w+)", part)[1]
-        yield part.partition("\n")[0], lines[0], read_edits(lines[1:]), bench
+        sections = re.split(r"(?m)^## In ", text.read())[1:]
+    for section in sections:
+        heading, *mistakes = re.split(r"(?m)^### ", section)
+        file = heading.split("\n")[0].partition(", found by ")[0]
+        for mistake in mistakes:
+            lines = [line[4:] for line in mistake.split("\n") if line.startswith("    ")]
+            bench = re.search(r"(?i)found by `?(\w+)", mistake + heading)[1]
+            yield mistake.partition("\n")[0], file, read_edits(lines), bench
 
 
 def plant(name, text, edits):

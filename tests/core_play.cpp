@@ -138,7 +138,14 @@ struct View {
     uint8_t d;
 };
 
+/* What stands in the board, and in its core: the gates, GATES, are one module. */
+#ifdef GATES
+#define BOARD(signal) (root->dvg_game__DOT__vectors__02eboard__02e##signal)
+#define CORE(signal) BOARD(core__02e##signal)
+#else
 #define BOARD(signal) (root->dvg_game__DOT__vectors__DOT__board__DOT__##signal)
+#define CORE(signal) BOARD(signal)
+#endif
 
 static void choose_pins()
 {
@@ -208,7 +215,7 @@ static void agree_on_found()
 static void log_board(bool resets)
 {
     bool takes = owed.pending && !owed.starting && !resets;
-    uint32_t at = BOARD(at), high = BOARD(high);
+    uint32_t at = CORE(at), high = CORE(high);
     const uint8_t *word = at < 0x400 ? ram + 2 * at : rom + 2 * (at - 0x800);
     if (game.done) {
         fputs("halted\n", log_file);
@@ -268,7 +275,7 @@ static bool play_clock()
     look_at_nmi(resets);
     go_on(resets, taken, area == 0x3400);
     timed.clock(View{resets, (bool)game.access, (bool)game.write, (bool)BOARD(takes), game.a,
-        BOARD(at), BOARD(high), game.d}, taken);
+        CORE(at), CORE(high), game.d}, taken);
     take_access();
     edge(game);
     if (resets) {

@@ -14,7 +14,7 @@ import sys
 import tempfile
 
 TOPS = ("dvg_named", "dvg_socket", "dvg_monitor", "dvg_raster", "dvg_enable", "dvg_machine",
-        "dvg_game")
+        "dvg_game", "dvg_sound")
 READER = """proc set_global_assignment {option kind path} { puts "$option $kind $path" }
 array set ::quartus {qip_path .}
 source dvg.qip

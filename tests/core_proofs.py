@@ -24,7 +24,7 @@ import texts
 
 CELLS = {"dvg_cells_core": ["core"], "dvg_cells_wraps": ["wraps"], "dvg_cells_cpu": ["cpu"],
          "dvg_cells_board": ["board"], "dvg_cells_motion": ["motion", "pace", "vectors"],
-         "dvg_calls_cells": ["machine"]}
+         "dvg_calls_cells": ["machine"], "dvg_game_circuit": ["game"]}
 LAWS = {"dvg_cells_core": ["core_refines", "pins_tell"],
         "dvg_cells_wraps": ["wraps_refine", "wraps_tell"],
         "dvg_cells_cpu": ["cpu_refines", "cpu_stays", "cpu_waits", "cpu_interrupts", "cpu_resets",
@@ -33,8 +33,12 @@ LAWS = {"dvg_cells_core": ["core_refines", "pins_tell"],
         "dvg_cells_motion": ["goes_by_pulses", "shows", "moves_right", "follows", "machine_follows",
                              "halted_tells", "takes_time", "start_takes", "takes_picture",
                              "reset_draws", "vectors_show"],
-        "dvg_calls_cells": ["cells_step", "cells_keep", "goes_on", "reset_waits", "machine_shows"]}
+        "dvg_calls_cells": ["cells_step", "cells_keep", "goes_on", "reset_waits", "machine_shows"],
+        "dvg_game_circuit": ["circuits_are_whole", "circuits_keep_by_bytes", "circuit_shows",
+                             "board_goes_around"]}
 
+# The verdicts that a mistake may get, if another one than that it is refused.
+WANTED = {"none": ["refused", "proved"], "nobody": ["proved"]}
 
 # The file that the cells of a module are read from, where its name is another one.
 FILES = {"wraps": "core"}
@@ -122,8 +126,7 @@ def main(folder, *numbers):
             try_cells(suite, f"{crate} as it is", [crate], f"{texts.TOP}/core", f"{folder}/room",
                       ["proved"])
     for name, bench, planted, crates in mistakes:
-        wanted = ["refused", "proved"] if bench == "none" else ["refused"]
-        try_cells(suite, name, crates, planted, f"{folder}/room", wanted)
+        try_cells(suite, name, crates, planted, f"{folder}/room", WANTED.get(bench, ["refused"]))
     suite.end()
 
 

@@ -1,5 +1,5 @@
-/* core/top/ulx3s.v in Verilator with core/top/game.v: a whole game on cells, by the board's buttons
- * and on its HDMI socket.
+/* core/top/ulx3s.v in Verilator with dvg_game: a whole game on cells, by the board's buttons, on
+ * its HDMI socket and on its audio jack.
  *
  *     core_whole SWITCHES BUTTONS RAM START >PICTURE
  *
@@ -13,17 +13,18 @@
  * of its pixels is the raster's, and the syncs are those of 640 by 480 pixels, in each of 800 by
  * 525 characters. What was played is printed to standard error, or how many bytes differ (status
  * 1), and to standard output what else does (status 1). */
-#include "Vulx3s.h"
-#include "Vulx3s___024root.h"
+#include "Vcore_whole.h"
+#include "Vcore_whole___024root.h"
 #include <cstring>
 #include "core_tmds.h"
 
 enum : uint64_t { WIDTH = 640, HEIGHT = 480, COLUMNS = 800, LINES = 525, RAM = 2048 };
-enum : uint64_t { CLOCKS_OF_NMI = 101626, EARLY = 10 };
+enum : uint64_t { EARLY = 10, SILENCE = 7, MILLISECOND = 25000 };
+static const double CLOCKS_OF_NMI = 6144 * 3125 / 189.0;
 static const double FRAMES_A_SECOND = 12096000 / 4096.0 / 12 / 4;
 
-static Vulx3s top;
-static Vulx3s___024root *const root = top.rootp;
+static Vcore_whole top;
+static Vcore_whole___024root *const root = top.rootp;
 static uint8_t wanted[RAM], level[HEIGHT][WIDTH], picture[HEIGHT][WIDTH];
 
 /* What the buttons do, in the order of time. */
@@ -36,17 +37,17 @@ static std::vector<Press> presses;
 static size_t presses_done;
 
 /* What the buttons of the board are, and the bits of `held` that they close. 0 is low while it is
- * pressed. */
-enum { BUTTONS = 7 };
-static const char *const NAMES[BUTTONS] = {"coin_left", "fire", "hyperspace", "thrust", "start_1",
-    "left", "right"};
-static const unsigned INPUTS[BUTTONS] = {8, 4, 3, 13, 11, 15, 14};
+ * pressed. The last one is a switch. */
+enum { BUTTONS = 7, INPUTS = 8 };
+static const char *const NAMES[INPUTS] = {"coin_left", "fire", "hyperspace", "thrust", "start_1",
+    "left", "right", "self_test"};
+static const unsigned PLACES[INPUTS] = {8, 4, 3, 13, 11, 15, 14, 7};
 
-/* The button of a name: BUTTONS of what the board has none for. */
+/* The button of a name, or INPUTS if there is none. */
 static unsigned button_of(const char *name)
 {
     unsigned button = 0;
-    while (button < BUTTONS && strcmp(NAMES[button], name) != 0) {
+    while (button < INPUTS && strcmp(NAMES[button], name) != 0) {
         button++;
     }
     return button;
@@ -63,24 +64,35 @@ static void read_buttons(const char *path)
     while (fgets(line, sizeof line, file)) {
         if (sscanf(line, "%lf %19s %19s", &time, name, way) == 3) {
             uint64_t frame = uint64_t(time * FRAMES_A_SECOND) + 1;
-            presses.push_back(
-                {frame * 4 * CLOCKS_OF_NMI, button_of(name), strcmp(way, "down") == 0});
+            presses.push_back({uint64_t(double(frame) * 4 * CLOCKS_OF_NMI), button_of(name),
+                strcmp(way, "down") == 0});
         }
     }
     fclose(file);
+}
+
+/* The pins of buttons and switch. */
+static unsigned inputs;
+static void set_inputs(unsigned pins)
+{
+    inputs = pins;
+    top.btn = pins & ((1u << BUTTONS) - 1);
+    top.sw = pins >> BUTTONS;
 }
 
 static void press_buttons()
 {
     while (presses_done < presses.size() && presses[presses_done].clock <= clocks) {
         const Press &press = presses[presses_done++];
-        agree("a button of the board", press.button < BUTTONS, true);
+        agree("a button of the board", press.button < INPUTS, true);
         bool pin = press.is_down != (press.button == 0);
-        top.btn = (top.btn & ~(1u << press.button)) | unsigned(pin) << press.button;
+        set_inputs((inputs & ~(1u << press.button)) | unsigned(pin) << press.button);
     }
 }
 
-#define BOARD(signal) (root->ulx3s__DOT__machine__DOT__vectors__DOT__board__DOT__##signal)
+#define ULX3S(signal) (root->core_whole__DOT__ulx3s__DOT__##signal)
+#define MACHINE(signal) ULX3S(machine__DOT__##signal)
+#define BOARD(signal) MACHINE(game__DOT__vectors__DOT__board__DOT__##signal)
 
 /* What the monitor reads. */
 static Receiver receiver;
@@ -116,18 +128,63 @@ static void read_symbol(const Symbol &symbol)
     }
 }
 
+/* What the game writes for its lamps, where 0 is lit, and for its sounds: LEDs and dvg_sound have
+ * it after the next edge. The jack has what dvg_sound makes of it. */
+static unsigned lamps = 3, explosion, thump, sounds;
+static uint64_t cycles, changes;        /* of the processor; of the lamps */
+static uint64_t heard, loud;            /* writes of sounds that change one; clocks of no silence */
+static uint64_t due;                    /* by when the jack isn't silent, or 0 */
+
+/* A bit for each sound that is on: an explosion, a thump, and those of 3C00 but for 3C02. */
+static unsigned sounds_on()
+{
+    return (explosion >> 2 & 15 ? 128 : 0) | (thump >> 4 ? 64 : 0) | (sounds & 0x3B);
+}
+
+static void watch_game()
+{
+    unsigned area = MACHINE(game__DOT__area), d = MACHINE(game__DOT__d), a = MACHINE(game__DOT__a);
+    bool writes = MACHINE(game__DOT__of_output), resets = MACHINE(game__DOT__resets);
+    agree("the lamps", top.led >> 2, (lamps & 1) << 1 | lamps >> 1);
+    agree("left", top.audio_l, top.dac);
+    agree("right", top.audio_r, top.dac);
+    top.explosion = explosion;
+    top.thump = thump;
+    top.sounds = sounds;
+    top.hushes = writes && area == 7;
+    unsigned before = sounds_on();
+    loud += top.audio_l != SILENCE;
+    due = resets || top.audio_l != SILENCE ? 0 : due;
+    agree("a sound is heard within a millisecond", due == 0 || clocks < due, 1);
+    if (resets) {
+        lamps = 3;
+        explosion = thump = sounds = 0;
+    } else if (writes) {
+        unsigned bit = area == 6 && a % 8 < 6 ? 1u << a % 8 : 0;
+        changes += area == 1 && lamps != (~d & 3);
+        lamps = area == 1 ? ~d & 3 : lamps;
+        explosion = area == 3 ? d : explosion;
+        thump = area == 5 ? d & 31 : thump;
+        sounds = (sounds & ~bit) | (d >> 7 ? bit : 0);
+        heard += top.explosion != explosion || top.thump != thump || top.sounds != sounds;
+        due = due == 0 && (sounds_on() & ~before) ? clocks + MILLISECOND : due;
+    }
+    cycles += MACHINE(game__DOT__access);
+}
+
 /* One clock. While the monitor listens, its wires have five clocks of both edges in it. */
 static void clock_once()
 {
     uint64_t old = clocks - 2, column = old % COLUMNS, line = old / COLUMNS % LINES;
     if (clocks > 2 && column < WIDTH && line < HEIGHT) {
-        level[line][column] = root->ulx3s__DOT__level;
+        level[line][column] = ULX3S(level);
     }
     press_buttons();
+    watch_game();
     Symbol symbol;
     for (int half = 0; half < (listens ? 10 : 2); half++) {
         top.clk_25mhz = listens ? half < 5 : half == 0;
-        root->ulx3s__DOT__hdmi__DOT__pll__DOT__fast = listens && half % 2 == 0;
+        ULX3S(hdmi__DOT__pll__DOT__fast) = listens && half % 2 == 0;
         top.eval();
         if (listens && receiver.take(top.gpdi_dp, symbol)) {
             read_symbol(symbol);
@@ -159,16 +216,26 @@ static void read_frame()
  * oscillator of 625. */
 static void check_pins()
 {
-    agree("the PLL", root->ulx3s__DOT__hdmi__DOT__pll__DOT__ratios, 25 << 16 | 5 << 8 | 5);
+    agree("the PLL", ULX3S(hdmi__DOT__pll__DOT__ratios), 25 << 16 | 5 << 8 | 5);
     agree("wifi_gpio0", top.wifi_gpio0, 1);
-    for (unsigned button = 0; button < BUTTONS; button++) {
-        top.btn = 1u ^ 1u << button;
+    for (unsigned button = 0; button < INPUTS; button++) {
+        set_inputs(1u ^ 1u << button);
         for (int wait = 0; wait < 4; wait++) {
             clock_once();
         }
-        agree(NAMES[button], root->ulx3s__DOT__held, 1u << INPUTS[button]);
+        agree(NAMES[button], ULX3S(held), 1u << PLACES[button]);
     }
-    top.btn = 1;
+    set_inputs(1);
+}
+
+/* The processor had as many cycles as the arcade's has in this time, 1.512 million a second, but
+ * for some in the reset after power-up. */
+static void check_pace()
+{
+    uint64_t wanted_cycles = clocks * 189 / 3125;
+    agree("cycles of the processor", cycles <= wanted_cycles && cycles + 30 > wanted_cycles, 1);
+    fprintf(stderr, "%" PRIu64 " cycles of the processor, %" PRIu64 " changes of lamps and %" PRIu64
+        " of sounds, heard in %" PRIu64 " clocks; ", cycles, changes, heard, loud);
 }
 
 /* How many bytes of the RAM aren't those that are wanted. */
@@ -208,9 +275,9 @@ int main(int count, char **words)
     fclose(file);
     read_buttons(words[2]);
     top.clk_25mhz = 0;
-    top.btn = 1;
+    set_inputs(1);
     top.eval();
-    root->ulx3s__DOT__machine__DOT__processor__DOT__switches = strtoul(words[1], nullptr, 16);
+    MACHINE(switches) = strtoul(words[1], nullptr, 16);
     check_pins();
     uint64_t start = strtoull(words[4], nullptr, 0);
     if (start > 0) {
@@ -219,6 +286,7 @@ int main(int count, char **words)
     while (start == 0 && clocks < EARLY * COLUMNS * LINES) {
         clock_once();
     }
+    check_pace();
     read_frame();
     printf("P5\n%u %u\n255\n", unsigned(WIDTH), unsigned(HEIGHT));
     fwrite(picture, 1, sizeof picture, stdout);

@@ -64,7 +64,9 @@
     CALL(dvg_reset_all(NULL, bytes)) \
     CALL(dvg_save(NULL, ram, sizeof ram)) \
     CALL(dvg_save_answers(NULL, DVG_REQUEST_STATE, DVG_STATE, ram, sizeof ram, 8)) \
+    CALL(dvg_save_over(NULL, 0, ram, sizeof ram)) \
     CALL(dvg_restore(NULL, saved, sizeof saved).kind) \
+    CALL(dvg_restore_over(NULL, 0, saved, sizeof saved).kind) \
     CALL(dvg_restore_world(NULL, saved_world, sizeof saved_world)) \
     CALL(dvg_tell_saved(NULL, DVG_SAVED_GENERATOR, saved, 8, sizeof saved)) \
     CALL(dvg_judge_line(NULL, DVG_STARTED, 0, 0)) \
@@ -96,7 +98,10 @@
     CALL(dvg_ram(device, NULL)) \
     CALL(dvg_saved_as(NULL, 16)) \
     CALL(dvg_save(device, NULL, 1)) \
+    CALL(dvg_save_over(device, 0, NULL, 1)) \
     CALL(dvg_restore(device, NULL, 16).kind) \
+    CALL(dvg_restore_over(device, 0, NULL, 16).kind) \
+    CALL(dvg_digest(NULL, 1)) \
     CALL(dvg_hand_from(device, 0, NULL, bytes, DVG_ROM_BYTES)) \
     CALL(dvg_hand_from(device, 0x1000, bytes, NULL, DVG_ROM_BYTES)) \
     CALL(dvg_generator_fetch_from(device, NULL, bytes, DVG_ROM_BYTES)) \
@@ -109,7 +114,7 @@ static bool answers(dvg *device)
     return dvg_turns(device, NULL, NULL, 0) == 0
            && dvg_stage_bytes(device, NULL, 0).kind == DVG_STAGED
            && dvg_saved_as(NULL, 0) == DVG_SAVED_NOTHING && dvg_save(device, NULL, 0) > 0
-           && dvg_restore(device, NULL, 0).kind == DVG_NO_STATE
+           && dvg_restore(device, NULL, 0).kind == DVG_NO_STATE && dvg_digest(NULL, 0) != 0
            && dvg_open_world(device, NULL, NULL, 0).kind == DVG_WRONG_SIZE
            && dvg_open_world(device, NULL, nowhere, 6145).kind == DVG_WRONG_SIZE
            && dvg_open_driver(device, nowhere, (size_t)-1).kind == DVG_WRONG_SIZE

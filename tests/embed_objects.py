@@ -1,6 +1,6 @@
 """Tests what an object of python/gerbilargent.py is to Python, for each class: copies, pickles,
-`with`, subclasses, cycles, forks, threads, signals, objects that `__init__` didn't make; and then a
-storm of random calls.
+`with`, subclasses, cycles, forks, threads, signals, objects that `__init__` didn't make, what
+`help` and `repr` show; and then a storm of random calls.
 
     embed_objects.py [SECONDS [SEED]]    a storm of so many seconds; none without SECONDS
 
@@ -16,6 +16,7 @@ import asyncio
 import collections
 import copy
 import gc
+import inspect
 import itertools
 import os
 import pickle
@@ -28,6 +29,7 @@ import time
 from pathlib import Path
 
 import counts
+import embed_states as states
 from counts import expect
 
 TOP = Path(__file__).resolve().parent.parent
@@ -134,7 +136,7 @@ CALLS = {
         "fetch": (), "reset_generator": (), "reset_processor": (), "reset_all": (),
         "draw": (FRAME,), "ram": None, "halted": None, "beam": None, "strokes": None,
         "stroke_table": None, "save": (), "restore": (SAVED_WORLD,), "_repr_svg_": (),
-        "__enter__": (),
+        "run_to_halt": (9,), "__enter__": (),
     },
     Driver: {
         "tick": (True, 0), "offer": (FRAME,), "redraw": (), "reset": (), "strokes": None,
@@ -143,7 +145,7 @@ CALLS = {
     Generator: {
         "strobe": (), "fetch": (0,), "hole": (), "fetch_from": (RAM,), "draw": (RAM,),
         "reset": (), "move_by": (0,), "save": (), "restore": (SAVED,), "copy": (),
-        "take_strokes": (),
+        "take_strokes": (), "run_to_halt": (RAM,),
         "wanted": None, "halted": None, "beam": None, "first_word": None,
         "return_addresses": None, "strokes": None, "stroke_table": None, "__enter__": (),
         "__copy__": (),
@@ -452,6 +454,7 @@ def test_counts():
     for call in (
         lambda: g.svg([], 0), lambda: g.svg([], -5), lambda: g.svg([], 4097),
         lambda: g.picture(bytes(4096), -1), lambda: Generator().draw(RAM, most_words=-1),
+        lambda: World().run_to_halt(-1), lambda: Generator().run_to_halt(RAM, None, -1),
     ):
         expect_raises(g.BadCount, call, "a count out of its range")
     expect(str(raised(g.svg, [], 0)) == "units is 0, and must be 1 to 4096", "it says the range")
@@ -481,6 +484,125 @@ def test_taken_strokes():
         expect(parts.take_strokes() == [] and parts.strokes, "after a run there are none to take")
         expect(parts.wraps and len(parts.return_addresses) == 4, "and it is of the same kind")
     expect_none_left("strokes that are taken")
+
+
+def words(*values):
+    """Words as bytes, low bytes first."""
+    return b"".join(value.to_bytes(2, "little") for value in values)
+
+
+def test_run_to_halt():
+    """A world, and a generator alone, go on to the end of a run."""
+    with World() as world, World() as other:
+        expect((world.run_to_halt(0), world.events) == (None, 0), "of no steps nothing comes")
+        expect((world.run_to_halt(99), world.events) == (None, 6), "it ends where nothing is to do")
+        world.offer(FRAME)
+        expect(world.run_to_halt(5) is None, "a frame is being written")
+        other.restore(world.save())
+        for one, events in ((world, 58), (other, 41)):
+            # Of the other ticks seven write, one reads the flag, and one sends the strobe, with
+            # which the first of twelve bytes is fetched.
+            expect(one.run_to_halt(19) is None, "a run doesn't end before its last step")
+            expect(str(one.run_to_halt(1)) == "done 205 B000 1", "and ends with it")
+            expect(one.strokes == [g.Stroke(262144, 204800, 210944, 256000, 7)], "it has drawn")
+            expect(one.events == events, f"{one.events} events are counted, not {events}")
+        world.redraw()
+        expect(world.run_to_halt(1 << 70).strokes == 1, "a redraw has it draw again")
+    with World(words(*[0xD000] * 1024)) as world, World(words(*[0xF000] * 1024)) as other:
+        world.run_to_halt(9), world.offer(Draft().labs(0, 0).call_rom(0x800).halt())
+        world.run_to_halt(12)
+        other.restore(states.first_of(world.save()))
+        error = raised(other.run_to_halt, 5000)
+        expect(type(error) is g.RunBroke and error.address == 0xC00, f"over another ROM: {error!r}")
+    memory = words(0xE001, 0xA190, 0x3200, 0xF1F5, 0xB000).ljust(2048, b"\0")
+    with Generator() as whole, Generator() as later:
+        expect_raises(g.Halted, lambda: whole.run_to_halt(memory), "no run is open")
+        wanted = whole.draw(memory)
+        later.strobe()
+        for _ in range(5):
+            later.fetch_from(memory)
+        found = later.run_to_halt(memory)
+        expect(found == g.Picture(wanted.words - 2, wanted.strokes), f"amid a word: {found!r}")
+        later.strobe()
+        error = raised(later.run_to_halt, words(0xE000) * 1024, None, 9)
+        expect(type(error) is g.Endless and error.words == 9, f"a run without an end: {error!r}")
+    del error
+    expect_none_left("runs to the HALT")
+
+
+def test_reasons():
+    """Why bytes aren't restored."""
+    why = g.StateFault
+    with World() as world, Generator() as generator, World(words(*[0xC800] * 1024)) as other:
+        named, summed = world.save(), generator.save()
+        saved, state = states.first_of(named), states.first_of(summed)
+        world.run([Event.TICK] * 2 + [Draft().labs(0, 0).call_rom(0x800).halt()])
+        writing = states.first_of(world.save())
+        for thing, held, reason in (
+            (world, b"", why.BROKEN), (world, saved[:-8], why.BROKEN),
+            (world, saved + bytes(8), why.BROKEN), (world, b"GIF8" + saved[4:], why.BROKEN),
+            (generator, state[:2] + b"X" + state[3:], why.BROKEN),
+            (generator, b"DVG\1" + bytes(4), why.BROKEN),
+            (world, named[:-8], why.BROKEN), (world, saved[:3] + b"\2" + saved[4:], why.BROKEN),
+            (generator, states.summed(b"DVG\2\2" + bytes(19)), why.BROKEN),
+            (world, states.summed(named, 3), why.OTHER_VERSION),
+            (generator, states.summed(summed, 0), why.OTHER_VERSION),
+            (world, summed, why.OTHER_CLASS), (generator, named, why.OTHER_CLASS),
+            (world, state, why.OTHER_CLASS), (generator, saved, why.OTHER_CLASS),
+            (other, named, why.OTHER_ROM), (other, states.second_of(saved, 1), why.OTHER_ROM),
+            (world, states.second_of(saved, 1), why.OTHER_ROM),
+            (world, saved[:-7] + b"\7" + saved[-6:], why.PARTS),
+            (generator, state[:9] + b"\1" + state[10:], why.PARTS),
+            (generator, state[:18] + b"\xff" * 6, why.PARTS), (other, writing, why.PARTS),
+            (other, states.second_of(writing), why.PARTS),
+        ):
+            for _ in range(2):
+                error = raised(thing.restore, held)
+                expect(type(error) is g.BadState and error.reason is reason,
+                       f"{held[-16:]!r}: {error!r}, and not {reason}")
+        for thing, held in ((world, named), (generator, summed)):
+            for bit in range(8 * len(held)) if thing is generator else range(0, 8 * len(held), 97):
+                number = int.from_bytes(held, "little") ^ 1 << bit
+                error = raised(thing.restore, number.to_bytes(len(held), "little"))
+                expect(type(error) is g.BadState and error.reason is why.BROKEN,
+                       f"bit {bit}: {error!r}")
+        for held in (saved, named, states.second_of(saved)):
+            world.restore(held)
+            expect(world.save() == named, "each version is restored")
+    expect(why.NO_STATE is why.BROKEN, "an older name of a broken state")
+    expect(g._digest(b"foobar") == 0x85944171F73967E8 == states.digest(b"foobar"), "FNV-1a")
+    text = "bytes aren't restored: they are of another version"
+    expect(str(g.BadState(why.OTHER_VERSION)) == text, "it says why")
+    del error, thing
+    expect_none_left("reasons")
+
+
+def test_shown():
+    """Each name says what it is, and each object what it is at."""
+    for name in g.__all__:
+        thing = getattr(g, name)
+        calls = vars(thing) if isinstance(thing, type) else {}
+        if calls or inspect.isfunction(thing):
+            expect(inspect.getdoc(thing), f"{name} has no doc")
+        for call, found in calls.items():
+            if call[0] != "_" and (inspect.isfunction(found) or isinstance(found, property)):
+                expect(found.__doc__, f"{name}.{call} has no doc")
+    judge = g.judge("started\nfetched 000 E201\nwrote 002 90\nhalted\n")
+    expect(str(judge).endswith("1 runs, 1 drew a half, 1 halted, 1 writes"), "a verdict")
+    one = g.Judge()
+    one.started(), one.fetched(0, 0xE201), one.wrote(2)
+    expect(repr(one) == "<Judge, 1 runs, 1 drew a half, 0 halted, 1 writes>", repr(one))
+    with World() as world, Generator() as generator, Generator(True) as wraps, Driver() as driver:
+        shown = [repr(it) for it in (world, generator, wraps, driver)]
+        expect(shown == ["<World, 0 events>", "<Generator>", "<Generator, wraps>", "<Driver>"],
+               f"{shown}")
+    expect(repr(wraps) == "<Generator, wraps, closed>", "one that was closed")
+    draft = Draft().labs(1, 2, 3).vctr(9, -100, 100, 7).svec(2, -3, 3, 0).call(4).jump(5)
+    draft.call_rom(0x800).jump_rom(0xFFF).return_().halt()
+    text = "labs 1 2 3\nvctr 9 -100 100 7\nsvec 2 -3 3 0\ncall 4\njump 5\n"
+    expect(draft.text == text + "callrom 800\njumprom FFF\nreturn\nhalt\n", draft.text)
+    del world, generator, wraps, driver
+    expect_none_left("what is shown")
 
 
 # --- Forks, threads, signals ---
@@ -809,7 +931,7 @@ for test in (
     test_calls, test_copies, test_copies_of_generators, test_copies_of_drafts,
     test_copies_of_values, test_with, test_subclasses, test_cycles, test_failing, test_forks,
     test_ended_threads, test_in_use, test_signals, test_fetching, test_types, test_answers,
-    test_counts, test_taken_strokes,
+    test_counts, test_taken_strokes, test_run_to_halt, test_reasons, test_shown,
 ):
     test()
 if len(sys.argv) > 1:

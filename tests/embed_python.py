@@ -20,6 +20,7 @@ import tempfile
 from pathlib import Path
 
 import counts
+import embed_states as states
 from counts import expect
 
 TOP = Path(__file__).resolve().parent.parent
@@ -245,15 +246,16 @@ def test_moves():
 
 def test_saving():
     with Generator() as generator:
-        expect_same(24, len(generator.save()), "a new generator is saved in 24 bytes")
-        expect_same(b"DVG\x01\x02\0\0\0#\0", generator.save()[:10], "the head, and its first part")
+        expect_same(40, len(generator.save()), "a new generator is saved in 40 bytes")
+        expect_same(b"DVG\x02\x04\0\0\0#\0", generator.save()[:10], "the head, and its first part")
         ram = words(0xC002, 0xB000, 0xA190, 0x3200, 0x01FF, 0x7401, 0xF1F5, 0xD000)
         ram = ram.ljust(2048, b"\0")
         generator.strobe()
         while generator.wanted != g.Wanted(7, True):
             generator.fetch_from(ram)
         saved = generator.save()
-        expect_same(64, len(saved), "with a return address and two strokes in 64")
+        expect_same(80, len(saved), "with a return address and two strokes in 80")
+        expect_same(states.second_of(states.first_of(saved)), saved, "of no ROM, with its sum")
         others = [generator.copy(), copy.copy(generator), Generator()]
         others[2].restore(bytearray(saved))
         for other in others:
@@ -268,11 +270,11 @@ def test_saving():
             other.close()
         for kind, other in (
             (g.BadState, b""), (g.BadState, saved[:-8]), (g.BadState, saved[:-1]),
-            (g.BadState, saved[:3] + b"\2" + saved[4:]),
-            (g.BadState, saved[:9] + b"\1" + saved[10:]),
-            (g.BadState, saved[:16] + b"\x0f" + saved[17:]),
-            (g.BadState, saved[:17] + b"\4" + saved[18:]),
-            (g.BadState, saved[:8] + b"#\0\0\x10" + saved[12:]), (g.NoBytes, 7),
+            (g.BadState, saved[:3] + b"\3" + saved[4:]),
+            (g.BadState, states.summed(saved[:9] + b"\1" + saved[10:])),
+            (g.BadState, states.summed(saved[:16] + b"\x0f" + saved[17:])),
+            (g.BadState, states.summed(saved[:17] + b"\4" + saved[18:])),
+            (g.BadState, states.summed(saved[:8] + b"#\0\0\x10" + saved[12:])), (g.NoBytes, 7),
         ):
             expect_raises(kind, lambda: generator.restore(other), f"{other!r} is no saved state")
         expect_same(2, len(generator.strokes), "what is refused changes nothing")
@@ -287,7 +289,7 @@ def test_saving():
 def test_saving_wrapping():
     ram = words(0xC003, 0xB000, 0xB000, 0xC000).ljust(2048, b"\0")
     with Generator(wraps=True) as wrapping, Generator() as other:
-        expect_same(56, len(wrapping.save()), "a new one is saved in 56 bytes")
+        expect_same(72, len(wrapping.save()), "a new one is saved in 72 bytes")
         wrapping.strobe()
         for _ in range(11):
             wrapping.fetch_from(ram)
@@ -296,7 +298,7 @@ def test_saving_wrapping():
         other.restore(saved)
         expect_same([True, saved], [other.wraps, other.save()], "one that didn't wrap does now")
         with Generator(True) as third:
-            expect_raises(g.BadState, lambda: third.restore(saved[:3] + b"\2" + saved[4:]), "bad")
+            expect_raises(g.BadState, lambda: third.restore(saved[:3] + b"\3" + saved[4:]), "bad")
             third.restore(Generator().save())
             expect_same(False, third.wraps, "and the other way round")
         for _ in range(40):
@@ -306,13 +308,15 @@ def test_saving_wrapping():
 def test_saving_worlds():
     frame = Draft().labs(512, 400).vctr(9, -100, 100, 7).halt()
     with World() as world, World(ram=bytes([7]) * 2048) as other:
-        expect_same(2080, len(world.save()), "a new world is saved in 2,080 bytes")
-        expect_same(b"DVW\x01\x03\x01\0\0" + bytes(2048) + b"#", world.save()[:2057], "its head")
+        expect_same(2096, len(world.save()), "a new world is saved in 2,096 bytes")
+        expect_same(b"DVW\x02\x05\x01\0\0" + bytes(2048) + b"#", world.save()[:2057], "its head")
         world.draw(frame)
         world.offer(frame)
         world.run([g.Event.TICK] * 3)
         saved, events = world.save(), world.events
-        expect_same(2104, len(saved), "with three operations in 2,104")
+        expect_same(2120, len(saved), "with three operations in 2,120")
+        first, digest = states.first_of(saved), states.digest(g.RETURNS)
+        expect_same(states.second_of(first, digest), saved, "with the digest of its ROM, and a sum")
         other.restore(bytearray(saved))
         expect_same([saved, [], 0], [other.save(), other.strokes, other.events], "restored")
         expect_same(world.ram, other.ram, "with its RAM")
@@ -322,18 +326,19 @@ def test_saving_worlds():
         expect_same(world.save(), other.save(), "and end so")
         before = other.save()
         for kind, bad in (
-            (g.BadState, b""), (g.BadState, saved[:-8]), (g.BadState, saved[:-1]),
-            (g.BadState, saved[:2] + b"G" + saved[3:]), (g.BadState, saved[:3] + b"\2" + saved[4:]),
-            (g.BadState, saved[:-7] + b"\7" + saved[-6:]),
-            (g.BadState, saved[:-5] + b"\xff" + saved[-4:]),
-            (g.BadState, saved[:-16] + b"\x08\x09" + saved[-14:]),
-            (g.BadState, saved[:-16] + b"\x0f" + saved[-15:]), (g.NoBytes, 7),
+            (g.BadState, b""), (g.BadState, saved[:-8]), (g.BadState, first[:-8]),
+            (g.BadState, saved[:2] + b"G" + saved[3:]), (g.BadState, saved[:3] + b"\3" + saved[4:]),
+            (g.BadState, first[:-7] + b"\7" + first[-6:]),
+            (g.BadState, first[:-5] + b"\xff" + first[-4:]),
+            (g.BadState, first[:-16] + b"\x08\x09" + first[-14:]),
+            (g.BadState, first[:-16] + b"\x0f" + first[-15:]), (g.NoBytes, 7),
         ):
             expect_raises(kind, lambda: other.restore(bad), f"{bad[-16:]!r} is no saved world"
                           if bad != 7 else "7 is no saved world")
         expect_same(before, other.save(), "what is refused changes nothing")
-        world.restore(saved)
-        expect_same(saved, world.save(), "it goes back")
+        for version in (first, states.second_of(first), saved):
+            world.restore(version)
+            expect_same(saved, world.save(), "it goes back, from each version")
         expect_same(events + 25, world.events, "which is no event")
         with Generator() as generator:
             expect_raises(g.BadState, lambda: generator.restore(saved), "it is no generator's")
@@ -348,21 +353,24 @@ def test_saving_worlds():
         long.halt()
     with World() as world:
         world.run([g.Event.TICK] * 2 + [long])
-        expect_same(2080 + 8 * 510, len(world.save()), "a long frame is saved")
+        expect_same(2096 + 8 * 510, len(world.save()), "a long frame is saved")
         expect_same(None, world.restore(world.save()), "and restored")
     expect_raises(g.Closed, world.save, "a closed world isn't saved")
     expect_raises(g.Closed, lambda: world.restore(saved), "nor restored")
 
 
 def test_other_rom():
-    """A run that was saved over one ROM opens over another of either size, and breaks there."""
+    """A run that was saved over one ROM is refused over another of either size. Where its bytes
+    don't name the ROM, it opens, and breaks there."""
     frame = Draft().labs(0, 0).call_rom(0x800).vctr(9, 100, 100, 7).halt()
     with World() as world:
         world.run([g.Event.TICK] * 2 + [frame] + [g.Event.TICK] * 16 + [g.Event.STROBE])
         world.run([g.Event.FETCH] * 2)
-        saved = world.save()
+        named = world.save()
+        saved = states.first_of(named)
     for size in g.ROM_SIZES:
         with World(rom=words(*[0xF0F0] * (size // 2))) as other:
+            expect_raises(g.BadState, lambda: other.restore(named), "another ROM is told")
             other.restore(saved)
             expect_same(False, other.halted, "a run is open")
             with expect_break(0xC00):
@@ -413,7 +421,7 @@ def test_saving_many():
             for word in range(strokes):
                 generator.fetch(ram[2 * word])
                 generator.fetch(ram[2 * word + 1])
-            expect_same(24 + 16 * strokes, len(generator.save()), f"{strokes} strokes are saved")
+            expect_same(40 + 16 * strokes, len(generator.save()), f"{strokes} strokes are saved")
             with generator.copy() as other:
                 generator.fetch(0)
                 generator.fetch(0xB0)
@@ -478,7 +486,7 @@ def refused(draft, fault, operation=None, rom_word=None, rom=g.RETURNS):
                 )
                 expect_same(
                     f"fault {error}\n",
-                    dvg("check", text=rom_text(rom) + text_of(draft))[0],
+                    dvg("check", text=rom_text(rom) + draft.text)[0],
                     "as `check` says",
                 )
             frame = first_frame()
@@ -728,22 +736,6 @@ def test_ranges():
 
 # --- Beside the program ---
 
-NAMES = ("vctr", "svec", "labs", "call", "jump", "callrom", "jumprom", "return", "halt")
-
-
-def text_of(draft):
-    """The draft as `dvg check` reads it."""
-    lines = []
-    for kind, scale, z, x, y in draft:
-        if kind < 2:
-            fields = (scale, x, y, z)
-        elif kind == 2:
-            fields = (x, y, scale)
-        else:
-            fields = (x,) if kind < 5 else (f"{x:03X}",) if kind < 7 else ()
-        lines.append(" ".join(map(str, (NAMES[kind], *fields))) + "\n")
-    return "".join(lines)
-
 
 def rom_text(rom):
     """The ROM as lines of a draft or trace."""
@@ -864,7 +856,7 @@ def random_schedule(chance, rom):
         which = chance.randrange(44)
         many = chance.randint(1, 60)
         draft = random_draft(chance)
-        offer = (f"offer\n{text_of(draft)}end\n", "offer", (draft,))
+        offer = (f"offer\n{draft.text}end\n", "offer", (draft,))
         if which < 4:
             events.append(offer)
         elif which >= 40:

@@ -1,11 +1,13 @@
-"""Compares the table of requests in docs/C.md with include/dvg.h and with what the library does.
+"""Compares what include/dvg.h says of each request with the Rust sources and with what the library
+does.
 
-    embed_requests.py LIBRARY [TABLE [COUNT]]    docs/C.md, 600,000 requests
+    embed_requests.py LIBRARY [HEADER [COUNT]]    include/dvg.h, 600,000 requests
 
-Each request of the header has its row, with its number. Random requests are asked of a device in
-which each thing is open by turns: each answer must be one of its row, `closed` where nothing is
-open, and `unknown` where it is none of what is open. Each answer that a row names must come. The
-last line is 'N passed, M failed'.
+Each request of the Rust sources is in the header, with its number, and beside it are what must be
+open for it and the kinds of its answers. Random requests are asked of a device in which each thing
+is open by turns: each answer must be one of these, `closed` where nothing is open, and `unknown`
+where something else is. Each answer that the header names must come. The last line is
+'N passed, M failed'.
 """
 
 import collections
@@ -16,10 +18,12 @@ import sys
 from pathlib import Path
 
 import counts
+import port_numbers
 from counts import expect
 
 TOP = Path(__file__).resolve().parent.parent
-ROW = re.compile(r"\| (\d+) \| `(\w+)` \| ([^|]*) \| ([^|]*) \| ([^|]*) \|")
+# A request in the header: its name, its number, and beside it what must be open, and the answers.
+ROW = re.compile(r"DVG_REQUEST_(\w+) = (\d+),?\s*/\* ([\w, ]+): ([\w,\s]+?)(?:;[^*]*)? \*/")
 OPENS = ("nothing", "world", "driver", "generator", "wrapping", "judge")
 NUMBERS = ("a number", "a place")
 PUSHING = "a request"
@@ -35,12 +39,13 @@ class Row(collections.namedtuple("Row", "name of answers")):
         return ("CLOSED" if what == "nothing" else "UNKNOWN", *set(self.answers) & {"UNKNOWN"})
 
 
-def read_rows(text):
-    """The rows of the table by their numbers."""
+def read_rows(header):
+    """The requests of the header by their numbers, each with what is beside it."""
     rows = {}
-    for number, name, of, _fields, answers in ROW.findall(text):
+    body = re.search(r"enum dvg_request {(.*?)}", header, re.S).group(1)
+    for name, number, of, answers in ROW.findall(body):
         opens = OPENS if of == "any" else tuple(of.split(", "))
-        rows[int(number)] = Row(name, opens, tuple(re.sub("`", "", answers).split(", ")))
+        rows[int(number)] = Row(name, opens, tuple(re.split(r",\s+", answers)))
     return rows
 
 
@@ -158,13 +163,12 @@ def storm(library, rows, kinds, count):
     return came, wrong
 
 
-def main(library, table, count):
-    header = (TOP / "include/dvg.h").read_text(encoding="utf-8")
-    requests = read_enum(header, "dvg_request")
+def main(library, path, count):
+    header = Path(path).read_text(encoding="utf-8")
     kinds = read_enum(header, "dvg_kind")
-    rows = read_rows(Path(table).read_text(encoding="utf-8"))
-    named = {number: row.name for number, row in rows.items()}
-    wanted = {number: name[len("REQUEST_"):] for number, name in requests.items()}
+    rows = read_rows(header)
+    named = {row.name: number for number, row in rows.items()}
+    wanted = port_numbers.of_rust(port_numbers.read_files(TOP))["request"]
     expect(named == wanted, f"the requests: {set(named.items()) ^ set(wanted.items())}")
     known = {*kinds.values(), *NUMBERS, PUSHING}
     for row in rows.values():
@@ -182,5 +186,5 @@ if __name__ == "__main__":
     shared = ctypes.CDLL(sys.argv[1])
     shared.dvg_turn.argtypes = [ctypes.c_void_p, ctypes.c_uint64]
     shared.dvg_turn.restype = ctypes.c_uint64
-    main(shared, sys.argv[2] if len(sys.argv) > 2 else TOP / "docs/C.md",
+    main(shared, sys.argv[2] if len(sys.argv) > 2 else TOP / "include/dvg.h",
          int(sys.argv[3]) if len(sys.argv) > 3 else 600000)

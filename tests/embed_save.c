@@ -1,13 +1,16 @@
 /* Saves generators amid random runs, also such as wrap, restores each into another device, and lets
  * both go on: each answer, move and stroke must be equal to the end. Then it restores other bytes:
- * those of a saved state with each bit changed, or cut, of other versions, and random ones. Each is
- * answered, and where it is refused, what was open stays.
+ * those of a saved state of either version with each bit changed, or cut, of other versions, and
+ * random ones. Each is answered, and where it is refused, what was open stays. Of version 2 each
+ * changed bit and each beginning is broken.
  *
  *   embed_save COUNT SEED
  *
  * Generator number i, from 0, comes from SEED + i alone. It is linked with the archive, and
  * compiled with a sanitizer: then what a device does with memory is watched, too. The last line of
  * what is written is 'N passed, M failed'.
+ *
+ * With IS_FUZZED it has no main: clang's libFuzzer hands it bytes, which are restored (tests/fuzz).
  */
 #include "dvg.h"
 #include "embed_chance.h"
@@ -160,6 +163,69 @@ static void try_bytes(dvg *device, const uint8_t *bytes, size_t size, bool *answ
     }
 }
 
+#ifdef IS_FUZZED
+
+/* The bytes of a saved generator, in memory that is the caller's to free. They are the input, if
+ * that begins as a saved state does; the sum is made right, if its highest bit is 0. Else the input
+ * is what stands behind the head, so that it may grow and shrink: of a generator whose stack wraps,
+ * if its length is odd, and of version 2, if that has bit 1. */
+static uint8_t *bytes_of(const uint8_t *data, size_t *size)
+{
+    bool is_whole = *size >= 2 && data[0] == 'D' && data[1] == 'V', is_summed = *size % 4 >= 2;
+    dvg_saved what = *size % 2 == 0 ? DVG_SAVED_GENERATOR : DVG_SAVED_WRAPPING;
+    size_t before = is_whole ? 0 : 8, held = is_whole ? *size : *size / 8 * 8;
+    uint8_t *bytes;
+    *size = before + held + (is_whole || !is_summed ? 0 : DVG_SAVED_OVER_BYTES);
+    bytes = calloc(*size + (*size == 0), 1);
+    if (bytes == NULL) {
+        exit(2);
+    }
+    memcpy(bytes + before, data, held);
+    if (!is_whole) {
+        dvg_saved_put(bytes, *size, 0, is_summed ? dvg_saved_head_over(what, *size / 8 - 1)
+                                                 : dvg_saved_head(what, *size / 8 - 1));
+    }
+    if (*size >= 16 && bytes[3] != DVG_SAVED_VERSION && bytes[*size - 1] < 0x80) {
+        dvg_saved_put(bytes, *size, *size - 8, dvg_digest(bytes, *size - 8));
+    }
+    return bytes;
+}
+
+/* Restores bytes, whatever they are, where a generator is open. The generator that goes on then is
+ * saved, and goes on alike in another device. */
+int LLVMFuzzerTestOneInput(const uint8_t *data, size_t size)
+{
+    dvg *one = NULL, *other = NULL;
+    size_t saved_size;
+    uint8_t *bytes, *saved;
+    bool answered = true;
+    if (dvg_new(&one) != 0 || dvg_new(&other) != 0) {
+        exit(2);
+    }
+    chance = 1979;
+    fill_memory();
+    bytes = bytes_of(data, &size);
+    dvg_open_generator(one);
+    try_bytes(one, bytes, size, &answered);
+    free(bytes);
+    expect(answered, "bytes are answered");
+    expect(dvg_wants(one).address < sizeof memory / 2, "a word is wanted that there may be");
+    saved = save(one, &saved_size);
+    expect(dvg_restore(other, saved, saved_size).kind == DVG_OPENED, "what is saved is restored");
+    if (failed == 0) {
+        expect(go_on_alike(one, other), "both go on alike");
+    }
+    free(saved);
+    dvg_free(one);
+    dvg_free(other);
+    if (failed > 0) {
+        abort();
+    }
+    return 0;
+}
+
+#else
+
 /* Each bit of a saved state changed, each beginning of it, and other versions. */
 static void try_changed(dvg *device, uint8_t *bytes, size_t size)
 {
@@ -184,6 +250,36 @@ static void try_changed(dvg *device, uint8_t *bytes, size_t size)
     }
     bytes[3] = DVG_SAVED_VERSION;
     expect(answered, "other versions are refused");
+}
+
+/* Of version 2 each changed bit, and each beginning, is broken; another version isn't, if its sum
+ * is right. */
+static void try_broken(dvg *device)
+{
+    uint8_t bytes[512];
+    size_t size = dvg_save_over(device, 7, bytes, sizeof bytes);
+    bool broken = size <= sizeof bytes && dvg_saved_number(bytes + size - 16) == 0;
+    for (size_t bit = 0; bit < 8 * size; bit++) {
+        bytes[bit / 8] ^= (uint8_t)(1 << bit % 8);
+        broken = broken && dvg_saved_as(bytes, size) == DVG_SAVED_NOTHING
+                 && dvg_saved_fault_of(dvg_restore(device, bytes, size)) == DVG_SAVED_FAULT_BROKEN;
+        bytes[bit / 8] ^= (uint8_t)(1 << bit % 8);
+    }
+    for (size_t length = 0; length < size; length++) {
+        broken = broken
+                 && dvg_saved_fault_of(dvg_restore(device, bytes, length))
+                        == DVG_SAVED_FAULT_BROKEN;
+    }
+    expect(broken, "of version 2 each changed bit and each beginning is broken");
+    for (int version = 0; version < 256; version++) {
+        bytes[3] = (uint8_t)version;
+        dvg_saved_put(bytes, size, size - 8, dvg_digest(bytes, size - 8));
+        expect(dvg_saved_fault_of(dvg_restore(device, bytes, size))
+                   == (version == 2   ? DVG_SAVED_FAULT_NONE
+                       : version == 1 ? DVG_SAVED_FAULT_PARTS
+                                      : DVG_SAVED_FAULT_OTHER_VERSION),
+               "another version whose sum is right is told");
+    }
 }
 
 /* Random bytes, mostly with the head of a saved state, and with parts. */
@@ -219,6 +315,30 @@ static bool is_as_long(dvg *device, size_t size)
     return size == DVG_SAVED_BYTES - 8 * (size_t)(4 - held.returns) + (is_open ? 16 * drawn : 0);
 }
 
+/* In version 2 what is saved of a device has these numbers, too, and more; also where there is less
+ * room. It is restored. */
+static void is_summed(dvg *device, const uint8_t *first, size_t size)
+{
+    size_t whole = size + DVG_SAVED_OVER_BYTES, room = below((uint32_t)whole);
+    uint8_t *bytes = malloc(whole + 1), *less = malloc(room + 1);
+    if (bytes == NULL || less == NULL) {
+        exit(2);
+    }
+    bytes[whole] = less[room] = 0xA5;
+    expect(dvg_save_over(device, 7, NULL, 0) == whole
+               && dvg_save_over(device, 7, bytes, whole) == whole && bytes[whole] == 0xA5
+               && memcmp(bytes + 8, first + 8, size - 8) == 0 && bytes[2] == first[2]
+               && dvg_saved_number(bytes + whole - 16) == 0
+               && dvg_saved_number(bytes + whole - 8) == dvg_digest(bytes, whole - 8),
+           "in version 2 a generator has no ROM, and a sum");
+    expect(dvg_save_over(device, 7, less, room) == whole && less[room] == 0xA5
+               && dvg_saved_fault_of(dvg_restore(device, less, room)) == DVG_SAVED_FAULT_BROKEN,
+           "what has less room is no state");
+    expect(dvg_restore_over(device, 8, bytes, whole).kind == DVG_OPENED, "it is restored");
+    free(bytes);
+    free(less);
+}
+
 static void test_generator(dvg *one, dvg *other)
 {
     size_t size, again;
@@ -236,11 +356,13 @@ static void test_generator(dvg *one, dvg *other)
            "and tells whether the stack wraps");
     expect(dvg_restore(other, bytes, size).kind == DVG_OPENED, "a saved state is restored");
     expect(dvg_strokes(other) == 0, "with no strokes of a finished run");
+    is_summed(other, bytes, size);
     copy = save(other, &again);
     expect(again == size && memcmp(bytes, copy, size) == 0, "and saved as the same bytes");
     expect(go_on_alike(one, other), "both go on alike");
     if (seed % 16 == 0 && size < 400) {
         try_changed(other, bytes, size);
+        try_broken(other);
     }
     try_random(other);
     free(bytes);
@@ -356,3 +478,5 @@ int main(int count, char **words)
     printf("%lu passed, %lu failed\n", passed, failed);
     return failed == 0 ? 0 : 1;
 }
+
+#endif

@@ -4,8 +4,9 @@ those that the plain form in Rust writes and reads.
     embed_saved.py PROGRAM [SEED]
 
 PROGRAM is tests/embed_saved.rs. It must write a generator that was handed the same bytes as the
-same state, and read what the library reads, as the same state, and refuse what that refuses. The
-last line of what is written is 'N passed, M failed'.
+same state, and read what the library reads, as the same state, and refuse what that refuses, for
+the same reason. States are of both versions; of changed ones some have a right sum. The last line
+of what is written is 'N passed, M failed'.
 """
 
 import random
@@ -13,9 +14,11 @@ import subprocess
 import sys
 from pathlib import Path
 
+import embed_states as states
+
 sys.path.insert(0, str(Path(__file__).resolve().parent.parent / "python"))
 
-from gerbilargent import BadState, Generator, RunBroke  # noqa: E402
+from gerbilargent import BadState, Generator, RunBroke, StateFault  # noqa: E402
 
 RUNS = 600
 
@@ -48,17 +51,17 @@ def read_again(saved):
     with Generator() as generator:
         try:
             generator.restore(saved)
-        except BadState:
-            return "refused"
+        except BadState as error:
+            return f"refused: {error.reason.value}"
         return generator.save().hex()
 
 
 def changed(chance, saved):
-    """A saved state that was changed or cut, or not."""
-    held = bytearray(saved)
+    """A saved state that was changed or cut, or not, of either version."""
+    held = bytearray(states.first_of(saved))
     which = chance.randrange(5)
     if which == 4:
-        held[2] ^= ord("G") ^ ord("R")
+        held[2] = chance.choice(b"GRWX")
     elif which == 0:
         held[chance.randrange(len(held))] ^= 1 << chance.randrange(8)
     elif which == 1:
@@ -67,7 +70,7 @@ def changed(chance, saved):
         at = 8 * chance.randrange(1, len(held) // 8)
         held[at:at] = held[8 * chance.randrange(1, len(held) // 8):][:8]
         held[4:8] = (len(held) // 8 - 1).to_bytes(4, "little")
-    return bytes(held)
+    return states.changed_again(chance, bytes(held))
 
 
 def main():
@@ -79,7 +82,7 @@ def main():
         saved = saved_after(held, wraps)
         asked.append(f"{'wrap' if wraps else 'run'} {held.hex()}")
         wanted.append(saved.hex())
-        for told in (saved, changed(chance, saved), changed(chance, saved)):
+        for told in (saved, states.first_of(saved), *(changed(chance, saved) for _ in range(3))):
             asked.append(f"read {told.hex()}")
             wanted.append(read_again(told))
     lines = "".join(f"{line}\n" for line in asked)
@@ -90,9 +93,14 @@ def main():
         if want != answer:
             failed += 1
             print(f"FAILED: {line}: {want} is wanted, {answer} was found")
-    if min(map(wanted.count, ("refused",))) < RUNS // 10 or len(set(wanted)) < RUNS:
+    for reason in (StateFault.BROKEN, StateFault.OTHER_VERSION, StateFault.OTHER_CLASS,
+                   StateFault.PARTS):
+        if wanted.count(f"refused: {reason.value}") < RUNS // 20:
+            failed += 1
+            print(f"FAILED: hardly any state is refused for {reason}")
+    if len(set(wanted)) < RUNS:
         failed += 1
-        print("FAILED: the states are all alike, or none is refused")
+        print("FAILED: the states are all alike")
     print(f"{len(wanted) - failed} passed, {failed} failed")
     return failed != 0
 

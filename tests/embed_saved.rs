@@ -4,8 +4,8 @@
 //! - `run BYTES`, in hexadecimal digits: a generator is started where it is halted, is handed each
 //!   byte, and is written as it stands then;
 //! - `wrap BYTES`: the same, of one whose stack wraps;
-//! - `read BYTES`: the state that these are, written again, or `refused`.
-use gerbilargent::{Generator, GeneratorState, Global, WrappingGenerator};
+//! - `read BYTES`: the state that these are, written again, or `refused`, and why.
+use gerbilargent::{Generator, GeneratorState, Global, StateFault, WrappingGenerator};
 use std::fmt::Write;
 use std::io;
 
@@ -52,17 +52,20 @@ fn wrap(bytes: &[u8]) -> String {
     written_wrapping(&wrapping)
 }
 
-fn read(bytes: &[u8]) -> String {
-    if let Some((state, strokes)) = GeneratorState::from_bytes(bytes).unwrap() {
-        let mut generator = Generator::new(Global);
-        assert!(generator.resume(&state, strokes));
-        written(&generator)
-    } else if let Some((state, strokes)) = GeneratorState::from_wrapping_bytes(bytes).unwrap() {
-        let mut wrapping = WrappingGenerator::new(Global);
-        assert!(wrapping.resume(&state, strokes));
-        written_wrapping(&wrapping)
-    } else {
-        "refused".to_owned()
+fn read(bytes: &[u8]) -> Result<String, StateFault> {
+    match GeneratorState::from_bytes(bytes) {
+        Err(StateFault::OtherClass) => {
+            let (state, strokes) = GeneratorState::from_wrapping_bytes(bytes)?;
+            let mut wrapping = WrappingGenerator::new(Global);
+            assert!(wrapping.resume(&state, strokes));
+            Ok(written_wrapping(&wrapping))
+        }
+        read => {
+            let (state, strokes) = read?;
+            let mut generator = Generator::new(Global);
+            assert!(generator.resume(&state, strokes));
+            Ok(written(&generator))
+        }
     }
 }
 
@@ -74,7 +77,7 @@ fn main() {
         println!("{}", match what {
             "run" => run(&bytes),
             "wrap" => wrap(&bytes),
-            _ => read(&bytes),
+            _ => read(&bytes).unwrap_or_else(|fault| format!("refused: {fault}")),
         });
     }
 }

@@ -8,6 +8,9 @@
  * turns. The first line of what is
  * written says how often each kind of answer came, and the last is 'N passed, M failed'.
  *
+ * With IS_FUZZED it has no main: clang's libFuzzer hands it bytes, and both are asked the numbers
+ * that these are (tests/fuzz).
+ *
  * It is linked with the archive of the port and with the twin, twin/src/port.rs, and compiled
  * with a sanitizer: then what a device does with memory is watched, too.
  */
@@ -474,6 +477,52 @@ static void blow(dvg *pair)
     }
 }
 
+/* Makes both of a pair. Whether there was memory for them. */
+static bool make_pair(dvg *pair)
+{
+    return dvg_new((dvg **)&pair->proved) == 0 && plain_new(&pair->plain) == 0;
+}
+
+static void free_pair(dvg *pair)
+{
+    dvg_free((dvg *)pair->proved);
+    plain_free(pair->plain);
+}
+
+#ifdef IS_FUZZED
+
+/* The most requests that are asked for one input, and the code of a number that is none: it has the
+ * number before it asked again, as often as the byte above says. */
+#define MOST_REQUESTS 4096
+#define AGAIN 0xFF
+
+/* Asks a pair the numbers that the bytes are, eight each, the low byte first. */
+int LLVMFuzzerTestOneInput(const uint8_t *data, size_t size)
+{
+    dvg pair = {NULL, NULL};
+    uint64_t number = 0;
+    int left = MOST_REQUESTS;
+    equal = true;
+    if (!make_pair(&pair)) {
+        exit(2);
+    }
+    for (size_t at = 0; at + 8 <= size && left > 0; at += 8) {
+        uint64_t here = dvg_saved_number(data + at);
+        int count = (here & 0xFF) == AGAIN ? (int)(here >> 8 & 0xFF) : 1;
+        number = (here & 0xFF) == AGAIN ? number : here;
+        for (; count > 0 && left > 0; count--, left--) {
+            pair_turn(&pair, number);
+        }
+    }
+    free_pair(&pair);
+    if (!equal) {
+        abort();
+    }
+    return 0;
+}
+
+#else
+
 /* One storm. Whether the answers were equal. */
 static bool storm(uint64_t seed)
 {
@@ -486,7 +535,7 @@ static bool storm(uint64_t seed)
     if (below(4) != 0) {
         fill_rom();
     }
-    if (dvg_new((dvg **)&pair.proved) != 0 || plain_new(&pair.plain) != 0) {
+    if (!make_pair(&pair)) {
         printf("FAILED: no device was made\n");
         return false;
     }
@@ -496,8 +545,7 @@ static bool storm(uint64_t seed)
     for (int i = 0; i < BLOWS && equal; i++) {
         blow(&pair);
     }
-    dvg_free((dvg *)pair.proved);
-    plain_free(pair.plain);
+    free_pair(&pair);
     if (!equal) {
         printf("  in the storm of seed %" PRIu64 "\n", seed);
     }
@@ -547,3 +595,5 @@ int main(int count, char **words)
     printf("%lu passed, %lu failed\n", passed, failed);
     return failed == 0 ? 0 : 1;
 }
+
+#endif

@@ -280,6 +280,10 @@ private:
         if (below(3) == 0 && !saved.empty()) {
             std::uint8_t &byte = saved[below(static_cast<unsigned>(saved.size()))];
             byte = static_cast<std::uint8_t>(byte ^ 1u << below(8));
+            if (below(2) == 0 && saved.size() > 8) {
+                std::size_t end = saved.size() - 8;
+                dvg_saved_put(saved.data(), saved.size(), end, dvg_digest(saved.data(), end));
+            }
         }
         if (below(3) == 0) {
             saved.resize(below(static_cast<unsigned>(saved.size() + 1)));

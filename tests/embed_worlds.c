@@ -1,14 +1,17 @@
 /* Saves worlds amid random schedules, restores each by another world over the same ROM, and lets
  * both go on: each answer and stroke must be equal to the end. Then it restores other bytes: those
  * of a saved world with bits changed, or cut, of other versions, over another ROM, and random ones.
- * Each is answered, and where it is refused, the world stays as it was. A strobe under way, a run
- * over another ROM, and a judge after a restore are tried once.
+ * Each is answered, and where it is refused, the world stays as it was; of version 2 each of these
+ * is refused. A strobe under way, a run over another ROM, and a judge after a restore are tried
+ * once.
  *
  *   embed_worlds COUNT SEED
  *
  * World number i, from 0, comes from SEED + i alone. It is linked with the archive, and compiled
  * with a sanitizer: then what a device does with memory is watched, too. The last line of what is
  * written is 'N passed, M failed'.
+ *
+ * With IS_FUZZED it has no main: clang's libFuzzer hands it bytes, which are restored (tests/fuzz).
  */
 #include "dvg.h"
 #include "embed_chance.h"
@@ -215,6 +218,38 @@ static void try_changed(dvg *device, uint8_t *bytes, size_t size)
     expect(answered, "other versions are refused");
 }
 
+/* Of version 2 bits changed are broken; over another ROM it is refused for that. */
+static void try_broken(dvg *device, const uint8_t *first, size_t first_size)
+{
+    uint64_t digest = dvg_digest(rom, sizeof rom);
+    size_t size = dvg_save_over(device, digest, NULL, 0);
+    uint8_t *bytes = malloc(size);
+    bool broken = size == first_size + DVG_SAVED_OVER_BYTES;
+    if (bytes == NULL) {
+        exit(2);
+    }
+    dvg_save_over(device, digest, bytes, size);
+    expect(memcmp(bytes + 8, first + 8, first_size - 8) == 0
+               && dvg_saved_number(bytes + size - 16) == digest
+               && dvg_saved_number(bytes + size - 8) == dvg_digest(bytes, size - 8),
+           "version 2 has the numbers of version 1, the digest, and the sum");
+    for (size_t bit = 0; bit < 8 * size; bit += bit / 8 < 8 || bit / 8 > 2055 ? 1 : 97) {
+        bytes[bit / 8] ^= (uint8_t)(1 << bit % 8);
+        broken = broken
+                 && dvg_saved_fault_of(dvg_restore_over(device, digest, bytes, size))
+                        == DVG_SAVED_FAULT_BROKEN;
+        bytes[bit / 8] ^= (uint8_t)(1 << bit % 8);
+    }
+    expect(broken, "of version 2 each changed bit is broken");
+    expect(dvg_saved_fault_of(dvg_restore_over(device, digest ^ 1, bytes, size))
+               == DVG_SAVED_FAULT_OTHER_ROM, "over another ROM it is refused");
+    expect(dvg_restore_over(device, digest, bytes, size).kind == DVG_OPENED
+               && dvg_restore_over(device, 0, bytes, size).kind == DVG_OPENED
+               && dvg_restore_over(device, digest, first, first_size).kind == DVG_OPENED,
+           "and not over its own, by no digest, and in version 1");
+    free(bytes);
+}
+
 /* Random numbers behind a RAM, mostly of kinds that may stand there. */
 static void try_random(dvg *device)
 {
@@ -267,6 +302,9 @@ static void test_world(dvg *one, dvg *other)
     expect(dvg_restore(other, bytes, size).kind == DVG_OPENED, "a saved world is restored");
     copy = save(other, &again);
     expect(again == size && memcmp(bytes, copy, size) == 0, "and saved as the same bytes");
+    if (seed % 16 == 0) {
+        try_broken(other, bytes, size);
+    }
     expect(go_on_alike(one, other), "both go on alike");
     if (seed % 64 == 0) {
         try_changed(other, bytes, size);
@@ -275,6 +313,90 @@ static void test_world(dvg *one, dvg *other)
     free(bytes);
     free(copy);
 }
+
+#ifdef IS_FUZZED
+
+/* Restores bytes by a world over a ROM of returns, whatever they are but a generator's. What goes
+ * on then, the world in them or the one that was open, is saved, and goes on alike in another
+ * device. */
+static void try_bytes(dvg *one, dvg *other, const uint8_t *bytes, size_t size)
+{
+    size_t saved_size, again;
+    uint8_t *saved, *copy;
+    expect(is_answered(one, bytes, size), "bytes are answered");
+    saved = save(one, &saved_size);
+    expect(dvg_restore(other, saved, saved_size).kind == DVG_OPENED, "what is saved is restored");
+    copy = save(other, &again);
+    expect(again == saved_size && memcmp(saved, copy, again) == 0, "and saved as the same bytes");
+    expect(go_on_alike(one, other), "both go on alike");
+    free(saved);
+    free(copy);
+}
+
+/* The bytes of a saved world, in memory that is the caller's to free. They are the input, if that
+ * begins as a saved state does; the sum is made right, if its highest bit is 0. Else the input is
+ * what stands behind the RAM, so that it may grow and shrink, and the RAM has a jump to half 1,
+ * short vectors and halts. That is of version 2, over a ROM that isn't named, if its length is
+ * odd. */
+static uint8_t *bytes_of(const uint8_t *data, size_t *size)
+{
+    bool is_whole = *size >= 2 && data[0] == 'D' && data[1] == 'V', is_summed = *size % 2 != 0;
+    size_t before = is_whole ? 0 : 8 + DVG_RAM_BYTES, held = is_whole ? *size : *size / 8 * 8;
+    uint8_t *bytes;
+    *size = before + held + (is_whole || !is_summed ? 0 : DVG_SAVED_OVER_BYTES);
+    bytes = calloc(*size + (*size == 0), 1);
+    if (bytes == NULL) {
+        exit(2);
+    }
+    memcpy(bytes + before, data, held);
+    if (!is_whole) {
+        for (size_t at = 8; at < before; at += 2) {
+            uint32_t word = below(6) == 0 ? 0xB000 : 0xF000 | below(0x1000);
+            bytes[at] = (uint8_t)(word & 0xFF);
+            bytes[at + 1] = (uint8_t)(word >> 8);
+        }
+        bytes[8] = 0x01;
+        bytes[9] = 0xE2;
+        size_t count = *size / 8 - 1;
+        dvg_saved_put(bytes, *size, 0, is_summed ? dvg_saved_head_over(DVG_SAVED_WORLD, count)
+                                                 : dvg_saved_head(DVG_SAVED_WORLD, count));
+    }
+    if (*size >= 16 && bytes[3] != DVG_SAVED_VERSION && bytes[*size - 1] < 0x80) {
+        dvg_saved_put(bytes, *size, *size - 8, dvg_digest(bytes, *size - 8));
+    }
+    return bytes;
+}
+
+int LLVMFuzzerTestOneInput(const uint8_t *data, size_t size)
+{
+    dvg *one = NULL, *other = NULL;
+    dvg_saved what;
+    uint8_t *bytes;
+    memset(rom, 0xD0, sizeof rom);
+    chance = 1979;
+    left = 0;
+    bytes = bytes_of(data, &size);
+    what = dvg_saved_as(bytes, size);
+    if (what == DVG_SAVED_GENERATOR || what == DVG_SAVED_WRAPPING) {
+        free(bytes);
+        return 0;
+    }
+    if (dvg_new(&one) != 0 || dvg_new(&other) != 0) {
+        exit(2);
+    }
+    dvg_open_world(one, NULL, rom, DVG_ROM_BYTES);
+    dvg_open_world(other, NULL, rom, DVG_ROM_BYTES);
+    try_bytes(one, other, bytes, size);
+    free(bytes);
+    dvg_free(one);
+    dvg_free(other);
+    if (failed > 0) {
+        abort();
+    }
+    return 0;
+}
+
+#else
 
 /* The longest state of a world without strokes, room that is too small, and what is no world. */
 static void test_others(dvg *one, dvg *other)
@@ -480,3 +602,5 @@ int main(int count, char **words)
     printf("%lu passed, %lu failed\n", passed, failed);
     return failed == 0 ? 0 : 1;
 }
+
+#endif

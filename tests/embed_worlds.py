@@ -6,8 +6,9 @@ the library for C, and those of the plain form in Rust, which is another process
 PROGRAM is tests/embed_worlds.rs. A world of Rust plays each schedule to its end, and is never
 saved. At some event a world of Python and one of Rust are saved, as the same bytes, and each is
 restored by a new world of the other: whatever comes then must be what came of the world that was
-never saved. What either reads of bytes that were changed or cut must be what the other reads. Then
-a mistake is planted in the bytes: each must be found. The last line is 'N passed, M failed'.
+never saved. What either reads of bytes that were changed or cut, of both versions, must be what the
+other reads, and it must refuse them for the same reason. Then a mistake is planted in the bytes:
+each must be found. The last line is 'N passed, M failed'.
 """
 
 import collections
@@ -17,11 +18,12 @@ import sys
 from pathlib import Path
 
 import counts
+import embed_states as states
 from counts import expect
 
 sys.path.insert(0, str(Path(__file__).resolve().parent.parent / "python"))
 
-from gerbilargent import BadState, Draft, Event, Kind, World  # noqa: E402
+from gerbilargent import BadState, Draft, Event, Kind, StateFault, World  # noqa: E402
 
 #: The event of each word of a schedule; `all` and `offer` have more words.
 EVENTS = {
@@ -116,7 +118,7 @@ def random_cut(chance, rom, schedule):
 
 
 def driver_of(saved):
-    """The number of the driver in a saved world."""
+    """The number of the driver in a saved world. It is of version 1, here and below."""
     return int.from_bytes(saved[-8:], "little")
 
 
@@ -180,7 +182,7 @@ MISTAKES = {
 def changed(chance, saved):
     """A saved world that was changed, cut, or put together otherwise."""
     held, numbers = bytearray(saved), numbers_of(saved)
-    which = chance.randrange(6)
+    which = chance.randrange(7)
     if which == 0:
         held[chance.randrange(len(held))] ^= 1 << chance.randrange(8)
     elif which == 1:
@@ -193,27 +195,29 @@ def changed(chance, saved):
     elif which == 4:
         del numbers[chance.randrange(len(numbers))]
         return of_numbers(saved, numbers)
-    else:
+    elif which == 5:
         numbers[-1] = bytes([38]) + chance.randbytes(3) + bytes([chance.randrange(3), 0, 0, 0])
         return of_numbers(saved, numbers)
+    else:
+        held[2] = chance.choice(b"GRX")
     return bytes(held)
 
 
 def restored(rom, saved):
-    """A new world in a saved state; None where it is refused, which leaves the world as it was."""
+    """A new world in a saved state; or why it is refused, which leaves the world as it was."""
     world = World(rom, bytes([0x5A]) * 2048)
     before = world.save()
     try:
         world.restore(saved)
-    except BadState:
+    except BadState as error:
         expect(world.save() == before, "a refused state has changed the world")
-        return None
+        return error.reason
     return world
 
 
 def read_again(rom, saved):
-    world = restored(rom, saved)
-    return "refused" if world is None else world.save().hex()
+    found = restored(rom, saved)
+    return f"refused: {found.value}" if isinstance(found, StateFault) else found.save().hex()
 
 
 # --- One schedule ---
@@ -239,14 +243,19 @@ class Lives:
             came, saved = play(world, schedule[:cut]), world.save()
         over, ram = rom.hex(), bytes(2048).hex()
         first, then = ",".join(schedule[:cut]), ",".join(schedule[cut:])
-        life = {"rom": rom, "saved": saved, "came": came, "then": schedule[cut:]}
+        first_version, digest = states.first_of(saved), states.digest(rom)
+        expect(states.second_of(first_version, digest) == saved, "the digest and the sum are right")
+        life = {"rom": rom, "saved": first_version, "came": came, "then": schedule[cut:]}
         life["played"] = self.ask(f"play {over} {ram} {','.join(schedule)}")
         life["saved of Rust"] = self.ask(f"save {over} {ram} {first}", saved.hex())
         life["restored"] = self.ask(f"restore {over} {saved.hex()} {then}")
-        for told in (saved, changed(chance, saved), changed(chance, saved)):
+        for told in (saved, first_version, *(changed(chance, first_version) for _ in range(3))):
+            if told not in (saved, first_version):
+                named = chance.choice((0, digest, digest, digest + 1 & 2**64 - 1))
+                told = states.changed_again(chance, told, named)
             self.ask(f"read {over} {told.hex()}", read_again(rom, told))
         life["mistaken"] = {
-            name: self.ask(f"restore {over} {mistake(saved).hex()} {then}")
+            name: self.ask(f"restore {over} {mistake(first_version).hex()} {then}")
             for name, mistake in MISTAKES.items()
         }
         self.lives.append(life)
@@ -260,8 +269,10 @@ class Lives:
         for line, wanted, answer in zip(self.asked, self.wanted, answers):
             if wanted is not None:
                 expect(answer == wanted, f"{line[:4]}: {wanted[-60:]}, not {answer[-60:]}")
-        refused = sum(wanted == "refused" for wanted in self.wanted)
-        expect(refused > len(self.lives) // 4, f"of changed bytes only {refused} were refused")
+        for reason in (StateFault.BROKEN, StateFault.OTHER_VERSION, StateFault.OTHER_CLASS,
+                       StateFault.OTHER_ROM, StateFault.PARTS):
+            refused = self.wanted.count(f"refused: {reason.value}")
+            expect(refused > len(self.lives) // 25, f"only {refused} were refused for {reason}")
         return answers
 
     def compare(self, answers):
@@ -275,7 +286,7 @@ class Lives:
             of_rust = answers[life["restored"]].split(",")[:-1]
             expect(of_rust == rest, f"schedule {number}, saved by C, restored by Rust")
             world = restored(life["rom"], bytes.fromhex(answers[life["saved of Rust"]]))
-            of_python = world and play(world, life["then"])
+            of_python = isinstance(world, World) and play(world, life["then"])
             expect(of_python == rest, f"schedule {number}, saved by Rust, restored by C")
             for name, at in life["mistaken"].items():
                 found[name] += answers[at].split(",")[:-1] != rest

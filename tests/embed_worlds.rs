@@ -5,15 +5,15 @@
 //! - `play ROM RAM SCHEDULE`: what came of each event;
 //! - `save ROM RAM SCHEDULE`: the bytes of the state after it;
 //! - `restore ROM BYTES SCHEDULE`: a new world goes on in this state, and what came of each event
-//!   then; or `refused`;
-//! - `read ROM BYTES`: the state that these bytes are, written again, or `refused`.
+//!   then; or `refused`, and why;
+//! - `read ROM BYTES`: the state that these bytes are, written again, or `refused`, and why.
 //!
 //! Events are `tick`, `strobe`, `fetch`, `redraw`, `generator` and `processor` (resets), `all BYTE`
 //! (a reset of the whole system with a RAM of this byte), and `offer DRAFT`, whose lines have
 //! slashes between them. What came is the number of its kind, an address, a value, and the strokes
 //! of a picture.
 use gerbilargent::prelude::*;
-use gerbilargent::{FrameFault, Place, WorldState, read::read_draft};
+use gerbilargent::{FrameFault, Place, StateFault, WorldState, read::read_draft};
 use std::fmt::Write;
 use std::io;
 
@@ -105,19 +105,27 @@ fn play(world: &mut World<Flat>, schedule: &str) -> String {
     came
 }
 
-/// A new world in the state that bytes are, if it can be in it.
-fn restored(rom: &str, saved: &str) -> Option<World<Flat>> {
-    let mut world = world_of(rom, &[0x5A; 2048]);
-    let state = WorldState::from_bytes(&bytes_of(saved)).unwrap()?;
-    world.resume(state).then_some(world)
+fn digest_of(rom: &str) -> u64 {
+    Rom::new(Global, &bytes_of(rom)).unwrap().digest()
 }
 
-fn written(world: &World<Flat>) -> String {
+/// A new world in the state that bytes are, if it can be in it.
+fn restored(rom: &str, saved: &str) -> Result<World<Flat>, StateFault> {
+    let mut world = world_of(rom, &[0x5A; 2048]);
+    let state = WorldState::from_bytes(digest_of(rom), &bytes_of(saved))?;
+    if world.resume(state) { Ok(world) } else { Err(StateFault::Parts) }
+}
+
+fn written(rom: &str, world: &World<Flat>) -> String {
     let state = world.state().unwrap();
-    let bytes = state.to_bytes().unwrap();
-    let read = WorldState::from_bytes(&bytes).unwrap();
-    assert!(read.as_ref() == Some(&state) && read == Some(state.clone()));
+    let bytes = state.to_bytes(digest_of(rom)).unwrap();
+    let read = WorldState::from_bytes(0, &bytes);
+    assert!(read.as_ref() == Ok(&state) && read == Ok(state.clone()));
     digits_of(&bytes)
+}
+
+fn refused(fault: StateFault) -> String {
+    format!("refused: {fault}")
 }
 
 fn answer(line: &str) -> String {
@@ -127,15 +135,15 @@ fn answer(line: &str) -> String {
         ["save", rom, ram, schedule] => {
             let mut world = world_of(rom, &bytes_of(ram));
             play(&mut world, schedule);
-            written(&world)
+            written(rom, &world)
         }
         ["restore", rom, saved, schedule] => match restored(rom, saved) {
-            Some(mut world) => play(&mut world, schedule),
-            None => "refused".to_owned(),
+            Ok(mut world) => play(&mut world, schedule),
+            Err(fault) => refused(fault),
         },
         ["read", rom, saved] => match restored(rom, saved) {
-            Some(world) => written(&world),
-            None => "refused".to_owned(),
+            Ok(world) => written(rom, &world),
+            Err(fault) => refused(fault),
         },
         _ => panic!("{line:.40}"),
     }

@@ -183,16 +183,16 @@ fn saved_bytes() -> std::vec::Vec<u8> {
     while world.generator().strokes().is_empty() {
         world.fetch().unwrap();
     }
-    world.state().unwrap().to_bytes().unwrap().to_vec()
+    world.state().unwrap().to_bytes(0).unwrap().to_vec()
 }
 
 /// A world goes on from bytes, with its memory from here. What reads them asks Rust's heap, too.
 fn restored(alloc: &Refusing) -> Option<String> {
     let bytes = counting(false, saved_bytes);
-    let state = counting(false, || again(|| WorldState::from_bytes_in(alloc, &bytes))).ok()?;
+    let state = counting(false, || again(|| WorldState::from_bytes_in(alloc, 0, &bytes))).ok()?;
     let rom = Rom::new(alloc, &[0; 2048]).ok()?;
-    let mut world = World::<Flat<&Refusing>>::new(alloc, rom, &state.as_ref()?.ram).ok()?;
-    assert!(world.resume(state?));
+    let mut world = World::<Flat<&Refusing>>::new(alloc, rom, &state.ram).ok()?;
+    assert!(world.resume(state));
     loop {
         match again(|| world.fetch()) {
             Ok(Entry::Done(..)) => return told(Ok::<_, ()>(world.picture())),

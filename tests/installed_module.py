@@ -7,6 +7,7 @@ times what is wanted. The last line is 'N passed, M failed'.
 """
 
 import sys
+import tempfile
 import time
 from importlib.metadata import distribution
 from pathlib import Path
@@ -41,6 +42,40 @@ def frames(count):
     return ([Event.REDRAW] + [Event.TICK] * 3 + [Event.STROBE] + [Event.FETCH] * 12) * count
 
 
+def reason_of(world, held):
+    """Why a world refuses bytes, which then stays as it was; None where it doesn't."""
+    before = world.save()
+    try:
+        world.restore(held)
+    except g.BadState as error:
+        return error.reason if world.save() == before else "changed"
+    return None
+
+
+def test_saved():
+    """A world is saved into a file, and goes on; bytes that it can't go on from say why not."""
+    frame, faults = Draft().labs(512, 400).vctr(9, -100, 100, 7).halt(), g.StateFault
+    with World() as world, World() as later, World(rom=bytes(4096)) as elsewhere, \
+            g.Generator() as generator, tempfile.NamedTemporaryFile() as file:
+        world.run([Event.TICK] * 2 + [frame, Event.TICK])
+        file.write(world.save())
+        file.flush()
+        saved = Path(file.name).read_bytes()
+        expect(reason_of(later, saved) is None and later.draw(frame), "a world goes on")
+        changed = bytes([*saved[:1000], saved[1000] ^ 1, *saved[1001:]])
+        # Of another version, whose sum is right: the sum is the digest of all before it.
+        other = saved[:3] + b"\x03" + saved[4:-8]
+        other += g._digest(other).to_bytes(8, "little")
+        for thing, held, reason in (
+            (later, changed, faults.BROKEN), (later, saved[:-8], faults.BROKEN),
+            (later, frame.text.encode(), faults.BROKEN), (later, b"", faults.BROKEN),
+            (later, other, faults.OTHER_VERSION), (elsewhere, saved, faults.OTHER_ROM),
+            (later, generator.save(), faults.OTHER_CLASS), (generator, saved, faults.OTHER_CLASS),
+        ):
+            found = reason_of(thing, held)
+            expect(found is reason, f"{found}, and not {reason}")
+
+
 here = Path(g.__file__).parent
 expect(g.__version__ == sys.argv[1], f"the version is {g.__version__}")
 about = distribution("gerbilargent").read_text("METADATA") or ""
@@ -61,6 +96,7 @@ with World() as world:
     rate = len(events) / seconds
     expect(rate > 1e5, f"{rate:.0f} events in a second are fewer than a tenth of 1,000,000")
     print(f"{rate / 1e6:.1f} million events in a second; ", end="")
+test_saved()
 loads = []
 load = g.ctypes.CDLL
 g.ctypes.CDLL = lambda *words: loads.append(words) or load(*words)

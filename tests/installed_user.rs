@@ -6,9 +6,9 @@ use std::error::Error;
 use gerbilargent::alloc::{AllocError, AllocFailed, Vec};
 use gerbilargent::{
     Action, BadCode, BadOp, Checker, Code, CodeFault, Draft, DraftFull, Driver, DriverFault, Entry,
-    Event, Flat, FrameFault, GenFault, Generator, Global, Image, Instr, Judge, MemFault,
-    MomentJudge, Op, OpKind, OutOfMemory, Rom, Stopped, Stroke, World, WorldState,
-    WrappingGenerator, check, dump, read, steps,
+    Event, Flat, FrameFault, GenFault, Generator, GeneratorState, Global, Image, Instr, Judge,
+    MemFault, MomentJudge, Op, OpKind, OutOfMemory, Rom, StateFault, Stopped, Stroke, World,
+    WorldState, WrappingGenerator, check, digest, dump, read, steps,
 };
 
 /// All names of the crate at once leave std's as they are, and so does the prelude.
@@ -108,8 +108,10 @@ fn world_over(rom: &[u8]) -> Result<World<Flat>, Box<dyn Error>> {
 }
 
 /// A world amid a run is saved in a file. It goes on over its ROM. Over another one of either size
-/// it opens, and its run breaks, as nothing compares the ROM. A judge doesn't judge that run.
+/// it is refused; by bytes that name no ROM it opens, and its run breaks. A judge doesn't judge
+/// that run.
 fn save() -> Result<(), Box<dyn Error>> {
+    let rom = Rom::new(Global, &[0xD0; 2048])?.digest();
     let mut world = world_over(&[0xD0; 2048])?;
     while world.tick() != Entry::Acted(Action::Idle) {}
     let frame = read::read_draft(b"labs 0 0 0\ncallrom 800\nvctr 9 100 100 7\nhalt\n")?.draft;
@@ -117,9 +119,13 @@ fn save() -> Result<(), Box<dyn Error>> {
     while world.tick() != Entry::Acted(Action::Sent) {}
     world.strobe();
     world.fetch()?;
-    std::fs::write("saved", world.state()?.to_bytes()?)?;
-    let state = WorldState::from_bytes(&std::fs::read("saved")?)?.ok_or("no saved world")?;
+    std::fs::write("saved", world.state()?.to_bytes(rom)?)?;
+    let bytes = std::fs::read("saved")?;
+    refuse(rom, &bytes)?;
+    let state = WorldState::from_bytes(rom, &bytes)?;
     for rom in [&[0xF0; 2048][..], &[0xF0; 4096]] {
+        let other_rom = Rom::new(Global, rom)?.digest();
+        assert_eq!(WorldState::from_bytes(other_rom, &bytes).err(), Some(StateFault::OtherRom));
         let mut other = world_over(rom)?;
         assert!(other.resume(state.clone()));
         assert_eq!(run_of(&mut other)?, Entry::Broke(0xC00, GenFault::Hole));
@@ -133,6 +139,39 @@ fn save() -> Result<(), Box<dyn Error>> {
     assert_eq!(later.strobe(), Entry::Started); // The frame is drawn once more.
     assert!(matches!(run_of(&mut later)?, Entry::Done(..)));
     assert_eq!(later.picture().len(), 1);
+    Ok(())
+}
+
+/// Each reason for which the bytes of a saved world aren't restored, but another ROM.
+fn refuse(rom: u64, bytes: &[u8]) -> Result<(), Box<dyn Error>> {
+    let why = |bytes: &[u8]| WorldState::from_bytes(rom, bytes).err();
+    for bit in (0..8 * bytes.len()).step_by(61) {
+        let mut changed = bytes.to_vec();
+        changed[bit / 8] ^= 1 << (bit % 8);
+        assert_eq!(why(&changed), Some(StateFault::Broken));
+    }
+    for cut in [0, 8, 16, bytes.len() - 8, bytes.len() - 1] {
+        assert_eq!(why(&bytes[..cut]), Some(StateFault::Broken));
+    }
+    assert_eq!(why(b"labs 512 400 0 is no saved state"), Some(StateFault::Broken));
+    let (mut later, end) = (bytes.to_vec(), bytes.len() - 8);
+    later[3] = 3; // Of another version, whose sum is right.
+    let sum = digest(later[..end].iter().copied()).to_le_bytes();
+    later[end..].copy_from_slice(&sum);
+    assert_eq!(why(&later), Some(StateFault::OtherVersion));
+    assert_eq!(StateFault::OtherVersion.to_string(), "they are of another version");
+    let generator = Generator::new(Global);
+    let of_generator = generator.state().to_bytes(generator.strokes())?;
+    assert_eq!(why(&of_generator), Some(StateFault::OtherClass));
+    assert_eq!(GeneratorState::from_bytes(bytes).err(), Some(StateFault::OtherClass));
+    assert!(GeneratorState::from_bytes(&of_generator)?.0 == generator.state());
+    // A frame that is being written, which another ROM refuses: `resume` says so.
+    let mut writing = world_over(&[0xD0; 2048])?;
+    while writing.tick() != Entry::Acted(Action::Idle) {}
+    let frame = read::read_draft(b"labs 0 0 0\ncallrom 800\nhalt\n")?.draft;
+    assert_eq!(writing.offer(&frame), Entry::Offered);
+    let state = WorldState::from_bytes(rom, &writing.state()?.to_bytes(0)?)?;
+    assert!(!world_over(&[0xC8; 2048])?.resume(state));
     Ok(())
 }
 

@@ -7,6 +7,7 @@
 #include <type_traits>
 #include <utility>
 
+using gerbilargent::BadState;
 using gerbilargent::Bytes;
 using gerbilargent::Device;
 using gerbilargent::Driver;
@@ -134,20 +135,52 @@ static void test_wrapping(Generator &generator) {
     expect(refuses([&] { wrapping.restore(generator.save()); }), "nor the other way round");
 }
 
-// What is said of bytes that are refused: of another version, of another frame, of another class.
-// The call of C takes a generator's bytes, also where a world is open.
+// Why bytes aren't restored.
+template <typename Object>
+static dvg_saved_fault fault_of(Object &object, const Bytes &bytes) {
+    try {
+        object.restore(bytes);
+        return DVG_SAVED_FAULT_NONE;
+    } catch (const BadState &error) {
+        return error.fault();
+    }
+}
+
+// Saved bytes with the sum of what they are now.
+static Bytes summed(Bytes bytes) {
+    const std::size_t end = bytes.size() - 8;
+    dvg_saved_put(bytes.data(), bytes.size(), end, dvg_digest(bytes.data(), end));
+    return bytes;
+}
+
+// Each reason for which bytes are refused. The call of C takes a generator's bytes, also where a
+// world is open.
 static void test_refused(World &world, const Bytes &rom) {
-    Bytes saved = world.save();
-    const std::string no_state = "restore: no saved state of this class and version";
-    saved[saved.size() - 7] = 9;
+    const Bytes whole = world.save();
+    Bytes saved = whole;
+    World elsewhere(Bytes(DVG_RAM_BYTES), Bytes(DVG_LARGE_ROM_BYTES));
+    Generator generator;
+    saved[1000] ^= 1;
+    expect(fault_of(world, saved) == DVG_SAVED_FAULT_BROKEN
+               && fault_of(world, Bytes(whole.begin(), whole.end() - 8)) == DVG_SAVED_FAULT_BROKEN
+               && fault_of(world, Bytes()) == DVG_SAVED_FAULT_BROKEN, "a changed bit, a cut state");
     expect(said([&] { world.restore(saved); })
-               == "restore: its parts don't fit, or this ROM refuses its frame",
-           "a phase of none");
-    saved[3] = 2;
-    expect(said([&] { world.restore(saved); }) == no_state, "another version");
-    expect(said([&] { world.restore(Generator().save()); }) == no_state, "a generator's bytes");
+               == "restore: no saved state, or one that was cut or changed", "which it says");
+    saved = whole;
+    saved[3] = 3;
+    expect(fault_of(world, summed(saved)) == DVG_SAVED_FAULT_OTHER_VERSION, "another version");
+    expect(fault_of(world, generator.save()) == DVG_SAVED_FAULT_OTHER_CLASS
+               && fault_of(generator, whole) == DVG_SAVED_FAULT_OTHER_CLASS, "another class");
+    expect(fault_of(elsewhere, whole) == DVG_SAVED_FAULT_OTHER_ROM, "another ROM");
+    saved = whole;
+    saved[saved.size() - 23] = 9;
+    expect(fault_of(world, summed(saved)) == DVG_SAVED_FAULT_PARTS, "a phase of none");
+    Bytes first(dvg_save(world, nullptr, 0));
+    dvg_save(world, first.data(), first.size());
+    expect(fault_of(world, first) == DVG_SAVED_FAULT_NONE && world.save() == whole,
+           "version 1 is read");
     World replaced(Bytes(DVG_RAM_BYTES), rom);
-    saved = Generator().save();
+    saved = generator.save();
     expect(dvg_run_is_open(replaced) == false
                && dvg_restore(replaced, saved.data(), saved.size()).kind == DVG_OPENED
                && dvg_tick(replaced).kind == DVG_UNKNOWN, "a generator takes the place of a world");

@@ -4,12 +4,16 @@
 //     node tests/page_browser.mjs CHROMIUM DVG FOLDER SEEDS EVENTS [TEST..]
 //
 // FOLDER is for what is thrown away; the screenshots come there, too. Tests that are named are done
-// alone. The last line is 'N passed, M failed'.
+// alone. MINUTES says over how many of a game the page's memory is measured [3].
+// The last line is 'N passed, M failed'.
 import { execFileSync, spawnSync } from 'node:child_process';
 import { existsSync, readFileSync, readdirSync, statSync, writeFileSync } from 'node:fs';
 import { createServer } from 'node:http';
 import { comesTo, startChromium } from './page_chromium.mjs';
+import { BEGIN_STOPS, STOP_NOW, lowContrasts } from './page_access.mjs';
+import { brokenRules, readAxe, versionOfAxe } from './page_axe.mjs';
 import { DROP_LONG_LOG, MOVE_OVER_IT, movesText } from './page_long.mjs';
+import { FAST_TIME, FRAMES_OF_MINUTE, megabytes } from './page_minutes.mjs';
 import { builtGame } from '../page/src/eproms.mjs';
 import { LESSONS } from '../page/src/lessons.mjs';
 import { strokesOfLines } from '../page/src/tears.mjs';
@@ -282,13 +286,22 @@ async function testTyping() {
     ['labs 512 400 0\nvctr 9 -100 100 7\nhalt', 'ok 5 words 6 fetches', 'none'],
     ['labs 512 400 0\nvctr 9 -100 100\nhalt', 'syntax at line 2: vctr 9 -100 100\n'
       + 'expected vctr S DX DY Z: S 0 to 9, DX and DY -1023 to 1023, Z 0 to 15', '2'],
-    ['labs 0 0 0\n\ncall 9\nhalt', 'line 3: call 9: fault 4 target 1', '3'],
+    ['labs 0 0 0\n\ncall 9\nhalt', 'line 3: call 9: fault 4 target 1\n'
+      + 'it names an operation that isn\'t there\n'
+      + 'do: count operations from 0, or give names, as dvg help lay tells', '3'],
     ['labs 0 0 0\nhalt\ncall rock', 'unknown name at line 3: call rock\n'
       + 'expected a name of this frame: no line gives rock', '3'],
-    ['rock: labs 0 0 0\njump rock # for ever', 'line 1: labs 0 0 0: fault 9 loops', '1'],
-    ['', 'line 1: fault 1 empty', '1'],
-    ['halt', 'line 1: halt: fault 2 no labs', '1'],
-    ['labs 0 0 0\nreturn', 'line 2: return: fault 8 no caller op 1', '2'],
+    ['rock: labs 0 0 0\njump rock # for ever', 'line 1: labs 0 0 0: fault 9 loops\noperation 1, '
+      + 'jump 0: this jump leads back with as many calls open, so the picture may have no end\n'
+      + 'do: draw the same twice by two calls, and let the run come to a halt', '1'],
+    ['', 'line 1: fault 1 empty\nthere is no operation\n'
+      + 'do: begin with labs X Y S, draw, and end with halt', '1'],
+    ['halt', 'line 1: halt: fault 2 no labs\n'
+      + 'the first operation is no labs, so the picture would depend on where the beam was\n'
+      + 'do: begin with labs X Y S', '1'],
+    ['labs 0 0 0\nreturn', 'line 2: return: fault 8 no caller op 1\nit returns, but nothing has '
+      + 'called\ndo: put halt between the frame and its shapes, so that it doesn\'t run into them',
+    '2'],
     ['.frame one\nlabs 5 5 0\nvctr 9 10 0 7\nhalt\n.frame two\nlabs 5 5 0\nhalt',
       'ok 2 frames of at most 5 words', 'none'],
   ];
@@ -1240,25 +1253,97 @@ async function testEdges() {
   }
 }
 
-// The least contrast of a text with what lies under it.
-const CONTRAST = `(() => {
-  const rgb = (text) => text.match(/[0-9.]+/g).map(Number);
-  const light = (color) => color.slice(0,
-    3).map((c) => c / 255).map((c) => (c <= 0.03928 ? c / 12.92 : ((c + 0.055) / 1.055) ** 2.4))
-    .reduce((sum, c, k) => sum + c * [0.2126, 0.7152, 0.0722][k], 0);
-  const under =
-    (one) => { for (; one; one = one.parentElement) { const c =
-    rgb(getComputedStyle(one).backgroundColor); if (c.length < 4
-    || c[3] > 0) return c; } return [255, 255, 255]; };
-  const texts =
-    [...document.querySelectorAll('h1, h2, p, button, label, a, .said, textarea, #log span')]
-      .filter((one) => one.checkVisibility() && !one.disabled && !one.classList.contains('later'));
-  return Math.min(...texts.map((one) => {
-    const [a, b] = [light(rgb(getComputedStyle(one).color)),
-      light(under(one))].sort((x, y) => y - x);
-    return (a + 0.05) / (b + 0.05);
-  }));
-})()`;
+// What is looked at by WCAG: states of the page, and how one comes to them.
+const STATES = {
+  'a game': async () => {
+    await tab.open(front);
+    await tab.until('/^Whole/.test(document.getElementById("run-moments").textContent)');
+  },
+  'a torn game': async () => {
+    await tab.open(`${front}#game=The+test+ROM&wire=cut&beam=4&strobes=ignored`);
+    await tab.until('!document.getElementById("show-byte").hidden');
+    await tab.click('show-byte');
+  },
+  'a refused game': async () => {
+    await tab.open(`${front}#game=Bat+and+ball&mistake=1`);
+    await comesWith('every', 'Refused');
+  },
+  'the opening': () => openPage(),
+  'a tear': async () => {
+    await openPage();
+    for (const id of ['wire', 'once', 'moments-go', 'back', 'back']) await tab.click(id);
+  },
+  'a fault': async () => {
+    await openPage();
+    await set('textA', 'labs 0 0 0\ncall 9\nhalt');
+  },
+  'a log': async () => {
+    await openPage();
+    await tab.drop('screen', `${top}examples/logs/tears.log`);
+    await comes('file-title', 'The log tears.log');
+  },
+};
+
+// In dark and in light, and in both as greys, texts and fields have the contrast that WCAG AA asks
+// for; whatever can be used has a name; and axe-core finds nothing that breaks a rule of it.
+async function testAccess() {
+  const axe = await readAxe(browser);
+  for (const [state, reach] of Object.entries(STATES)) {
+    for (const scheme of ['dark', 'light']) {
+      await tab.media({ 'color-scheme': scheme });
+      await reach();
+      for (const isGrey of [false, true]) {
+        expect(`${state}, ${scheme}${isGrey ? ' as greys' : ''}: what has too little contrast`, '',
+          await tab.value(lowContrasts(isGrey)));
+      }
+      if (axe !== null) expect(`${state}, ${scheme}: by axe-core`, '', await brokenRules(tab, axe));
+    }
+    expect(`${state}: what has no name`, '', (await nameless()).join());
+  }
+  if (axe === null) console.log('skipped: axe-core: this Chromium has none');
+  else console.log(`browser: axe-core ${await versionOfAxe(tab)}, finds nothing in 14 states`);
+  await testPlantedAccess(axe);
+  await tab.media({});
+}
+
+// What is planted on the page is found: a text that is hardly seen, and a slider without its name.
+async function testPlantedAccess(axe) {
+  await openPage();
+  await tab.value(`{
+    document.querySelector('h1').style.color = 'var(--edge)';
+    const speed = document.getElementById('speed');
+    speed.parentElement.replaceWith(speed);
+    0;
+  }`);
+  expect('a text that is hardly seen is found', /^1\.[0-9]{2} H1: Gerbilargent$/,
+    await tab.value(lowContrasts(false)));
+  expect('and a slider without a name', 'slider', (await nameless()).join());
+  if (axe !== null) expect('so says axe-core', 'color-contrast: h1 | label: #speed',
+    await brokenRules(tab, axe));
+}
+
+// The key Tab leads to whatever can be used, in its order, and nothing covers where it is.
+async function testStops() {
+  for (const [width, height] of [[1280, 900], [400, 800]]) {
+    await tab.size(width, height, width === 400);
+    for (const state of ['a game', 'a torn game', 'the opening', 'a tear']) {
+      await STATES[state]();
+      await tab.value(BEGIN_STOPS);
+      const count = await tab.value('stops.length'), numbers = [];
+      let covered = '';
+      for (let k = 0; k < count + 20 && numbers.at(-1) !== count - 1; k++) {
+        await tab.key('Tab');
+        const { number, isSeen, name } = await tab.value(STOP_NOW);
+        if (number >= 0) numbers.push(number);
+        if (number >= 0 && !isSeen) covered += `${name} `;
+      }
+      const all = Array.from({ length: count }, (_, k) => k);
+      expect(`${state} at ${width}: Tab leads to each part`, all.join(), numbers.join());
+      expect(`${state} at ${width}: what is covered`, '', covered);
+    }
+  }
+  await tab.size(1600, 1000, false);
+}
 
 async function testColors() {
   const backs = [];
@@ -1267,7 +1352,7 @@ async function testColors() {
     await openPage();
     await tab.click('#lessons li:nth-child(6) a');
     await tab.until('!document.getElementById("lesson").hidden');
-    expect(`${scheme}: texts stand out`, true, await tab.value(CONTRAST) >= 4.5);
+    expect(`${scheme}: what has too little contrast`, '', await tab.value(lowContrasts(false)));
     backs.push(await tab.value('getComputedStyle(document.body).backgroundColor'));
     await tab.value('scrollTo(0, 0)');
     writeFileSync(`${work}/page_${scheme}.png`, await tab.screenshot());
@@ -1385,7 +1470,7 @@ async function testRows() {
   expect('there are at most as many events as play takes', /^event 65536 /,
     await tab.text('counts'));
   expect('that is said',
-    'These are 65,536 events, the most that fit: begin anew. true',
+    '65,536 events are the most: begin anew, or run on and on. true',
     await tab.value('`${document.getElementById("thumb-why").textContent} '
       + '${document.getElementById("run").disabled}`'));
   await tab.click('compare');
@@ -1395,6 +1480,37 @@ async function testRows() {
   await tab.mouse('mouseMoved', x + 3, at + 22);
   await expectSoon('a word under the pointer', /^Word zero: .* Word 000: E[0-9A-F]{3}, JMPL/,
     () => tab.text('word-text'));
+}
+
+// On and on a run begins anew where the board is full, with the next seed, until somebody stops it;
+// its wire stays as it was.
+async function testOnAndOn() {
+  await openPage();
+  await set('seed', 7);
+  await tab.click('wire');
+  await set('count', 65536);
+  await tab.click('once');
+  expect('a full board runs no more', true,
+    await tab.value('document.getElementById("run").disabled'));
+  await tab.click('endless');
+  expect('but on and on', 'false ', await tab.value('`${document.getElementById("run").disabled} '
+    + '${document.getElementById("thumb-why").textContent}`'));
+  await tab.value('document.getElementById("speed").value = 9');
+  await tab.click('run');
+  await expectSoon('the seed after the next one', '9',
+    () => tab.value('document.getElementById("seed").value'));
+  expect('it runs', 'Stop', await tab.text('run'));
+  expect('that is said', 'On and on; grey waits for Stop.', await tab.text('run-text'));
+  await tab.click('run');
+  expect('it has room again', true,
+    Number(/^event ([0-9]+) /.exec(await tab.text('counts'))[1]) < 65536);
+  expect('the wire is still cut', 'Mend the HALT wire', await tab.text('wire'));
+  await tab.click('wire');
+  await tab.click('endless');
+  expect('without it a run has an end', 'Run: 65536 events, in about 2 seconds.',
+    await tab.text('run-text'));
+  await tab.click('compare');
+  expect('play does the same', /^the same up to the cut wire/, await tab.text('compared'));
 }
 
 // What is read aloud of an element: its text without what is hidden from that.
@@ -1538,16 +1654,25 @@ async function testEditorsStill() {
   await tab.size(1600, 1000);
 }
 
+// The parts of the page as they are read aloud: the role and the name of each.
+async function partsRead() {
+  const { nodes } = await tab.send('Accessibility.getFullAXTree');
+  return nodes.filter(({ ignored }) => !ignored)
+    .map(({ role, name }) => [role?.value, name?.value ?? '']);
+}
+
+const USED = /^(button|checkbox|textbox|combobox|spinbutton|slider|image|link|application)$/;
+
+// The roles of those that can be used, or are pictures, and have no name.
+async function nameless() {
+  return (await partsRead()).filter(([role, name]) => USED.test(role) && name === '')
+    .map(([role]) => role);
+}
+
 async function testReadAloud() {
   await openPage();
-  const { nodes } = await tab.send('Accessibility.getFullAXTree');
-  const named = nodes.filter(({ ignored }) => !ignored)
-    .map(({ role, name }) => [role?.value, name?.value ?? '']);
-  const nameless =
-    named.filter(([role,
-    name]) => /^(button|textbox|combobox|spinbutton|slider|image|link|application)$/.test(role)
-    && name === '');
-  expect('each part has a name', '', nameless.map(([role]) => role).join());
+  const named = await partsRead();
+  expect('each part has a name', '', (await nameless()).join());
   const images = named.filter(([role]) => role === 'image' || role === 'img')
     .map(([, name]) => name);
   expect('the picture is told in words', true, images.includes(await tab.text('picture-text')));
@@ -1813,6 +1938,91 @@ async function testWhatIf() {
     () => tab.text('run-moments'));
 }
 
+// How many pixels of the rows over time of a game have these colours, above and below.
+const PIXELS_OF_ROWS = `(() => {
+  const canvas = document.getElementById('past'), { width, height } = canvas;
+  const style = getComputedStyle(document.documentElement);
+  const { data } = canvas.getContext('2d').getImageData(0, 0, width, height);
+  const found = [{}, {}];
+  for (const name of ['half0', 'half1', 'early', 'torn']) {
+    const color = parseInt(style.getPropertyValue('--' + name).trim().slice(1), 16);
+    found.forEach((row, k) => { row[name] = 0; });
+    for (let k = 0; k < width * height; k++) {
+      const [r, g, b] = data.subarray(4 * k, 4 * k + 3);
+      if ((r << 16 | g << 8 | b) === color) found[k < width * height / 2 ? 0 : 1][name]++;
+    }
+  }
+  return found;
+})()`;
+
+const isHidden = (id) => tab.value(`document.getElementById('${id}').hidden`);
+
+// Below a game are its last seconds: both halves in both rows. A key leads back, and the game rests
+// until it is told to go on.
+async function testStrip() {
+  await tab.size(1280, 900);
+  await openGame(1);
+  await expectSoon('both rows have both halves, and no byte is early', true, async () => {
+    const rows = await tab.value(PIXELS_OF_ROWS);
+    return rows.every(({ half0, half1, early, torn }) => half0 > 20 && half1 > 20
+      && early + torn === 0);
+  });
+  const drawn = () => tab.value('document.getElementById("past").toDataURL()');
+  const before = await drawn();
+  await expectSoon('they go on', true, async () => before !== await drawn());
+  expect('there is no byte to show', true, await isHidden('show-byte'));
+  await tab.value('document.getElementById("past").focus()');
+  await tab.key('ArrowLeft');
+  expect('a key lets the game rest', 'Play', await tab.text('pause'));
+  const writes = /; the driver, 6[89A][0-9A-F]{2}: sta .* writes half [01]\.$/;
+  for (let k = 0; k < 200 && !writes.test(await tab.text('past-text')); k++) {
+    await tab.key('ArrowLeft', k % 3 ? 0 : 8);
+  }
+  const told = await tab.text('past-text');
+  expect('what both ends do is told', /^At [0-9]+\.[0-9]{4} s the generator (is|draws half) /,
+    told);
+  expect('by which instruction', writes, told);
+  expect('so says the slider', told, await tab.value(
+    'document.getElementById("past").getAttribute("aria-valuetext")'));
+  const { left, top: y, width, height } = await tab.middle('past');
+  await tab.clickAt(left + width / 4, y + height / 2);
+  const shown = await tab.text('past-text');
+  expect('a click shows another moment', true, shown !== told && shown.startsWith('At '));
+  await tab.click('pause');
+  expect('it goes on', 'Pause', await tab.text('pause'));
+  expect('and nothing is told', '', await tab.text('past-text'));
+  await testByteOfGame();
+}
+
+// The byte that tears a picture is shown with its instruction: the game rests, and on the tube is
+// the torn picture, of which a part is red.
+async function testByteOfGame() {
+  await openGame(5);
+  await tab.click('game-wire');
+  await tab.choose('beam', '4');
+  await tab.click('strobes-ignored');
+  expect('a byte can be shown', true,
+    await tab.until('!document.getElementById("show-byte").hidden'));
+  await tab.click('show-byte');
+  expect('the game rests at it', 'Play', await tab.text('pause'));
+  expect('it is told', new RegExp('^At [0-9]+[.][0-9]{4} s a byte came early, by the driver, '
+    + '6[89A][0-9A-F]{2}: sta .*[.] It wrote [0-9A-F]{2} over [0-9A-F]{2} into byte [0-9A-F]{3}, '
+    + 'the (low|high) byte of word [0-9A-F]{3}[.] [0-9]+[.][0-9]{2} ms later the generator read '
+    + 'it: there the tear begins[.] [1-9][0-9]* of [0-9]+ strokes are red: '),
+  await tab.text('past-text'));
+  const { found, red } = await tab.value(LIT);
+  expect('a part of the picture is red', true, red.length > 20 && found.length > red.length + 20);
+  expect('the rows show it', true, (await tab.value(PIXELS_OF_ROWS))[1].torn > 0);
+  writeFileSync(`${work}/page_game_byte.png`, await tab.screenshot());
+  await tab.click('pause');
+  await expectSoon('it goes on, all red', true, async () => {
+    const lit = await tab.value(LIT);
+    return lit.red.length > 100;
+  });
+  expect('and nothing is told of a byte', '', await tab.text('past-text'));
+  await tab.size(1600, 1000);
+}
+
 // The program and the vector ROM of a game, as files; with changes of the program.
 function filesOfGame(number, changes = []) {
   const packed = packedGames()[number], unpack = (text) => Buffer.from(text, 'base64');
@@ -1843,6 +2053,11 @@ async function testGameDrops() {
     await tab.text('every-lines'));
   await expectSoon('bytes come early', /^Early: [0-9]+ bytes, the first by 6C8F: sta \$4004, /,
     () => tab.text('run-halves'));
+  await tab.drop('tube', filesOfGame(3, [[0x6A8B, 0x00]]));
+  await expectSoon('one with BRK is refused', /^6A8B: brk: the checker doesn't take BRK: it goes /,
+    () => tab.text('every-lines'));
+  await expectSoon('and runs', /^Whole: each of [0-9]{2,} pictures\.$/,
+    () => tab.text('run-moments'));
   await tab.drop('tube', filesOfGame(1)[0]);
   await expectSoon('a program without shapes', /vector ROM isn't among them/,
     () => tab.text('game-said'));
@@ -1866,7 +2081,95 @@ async function testGameWidths() {
   await tab.size(1600, 1000, false);
 }
 
+// --- Memory ---
+
+const minutes = Number(process.env.MINUTES || 3);
+
+// How much memory the page has in use, once what is no longer used is gone.
+async function memoryNow() {
+  await tab.send('HeapProfiler.collectGarbage');
+  const { usedSize, backingStorageSize = 0 } = await tab.send('Runtime.getHeapUsage');
+  return usedSize + backingStorageSize + await tab.value('wasmBytes()');
+}
+
+// Does something in a tab of its own, in which time passes as it is told.
+async function inFastTab(act) {
+  const first = tab;
+  tab = await openTab();
+  await tab.size(1280, 900);
+  await tab.send('HeapProfiler.enable');
+  await tab.send('Page.addScriptToEvaluateOnNewDocument', { source: FAST_TIME });
+  try {
+    await act();
+    expect('no fault in the page', '', tab.faults.join());
+  } finally {
+    asked.push(...tab.requests);
+    await tab.close();
+    tab = first;
+  }
+  await tab.send('Page.bringToFront');
+}
+
+// What was in use from the second time on doesn't grow.
+function expectFlat(what, [, ...sizes], began) {
+  const [least, most] = [Math.min(...sizes), Math.max(...sizes)];
+  const seconds = Math.round((Date.now() - began) / 1000);
+  console.log(`browser: ${what} in ${seconds} s: the page has ${megabytes(least)} to `
+    + `${megabytes(most)} in use`);
+  expect(`${what}: memory doesn't grow: ${sizes}`, true, sizes.at(-1) < sizes[0] + 2e5
+    && most < sizes[0] + 6e5);
+}
+
+// Over minutes of a game, which go by as fast as they can, the page's memory stays what it was
+// after the first fifth of them.
+async function testMinutes() {
+  await inFastTab(async () => {
+    await tab.open(front);
+    const began = Date.now(), sizes = [];
+    for (let k = 0; k < 10; k++) {
+      for (let part = 0; part < minutes; part++) {
+        await tab.value(`passFrames(${FRAMES_OF_MINUTE / 10})`);
+      }
+      sizes.push(await memoryNow());
+    }
+    expectFlat(`${minutes} minutes of a game`, sizes, began);
+    const seconds = Number(/, ([0-9.]+) s: /.exec(await tab.text('run-counts'))[1]);
+    const pictures = Number(/^Whole: each of ([0-9]+) /.exec(await tab.text('run-moments'))[1]);
+    expect('it ran all the time', true, seconds > 60 * minutes - 1);
+    expect('and drew', true, pictures > 60 * seconds && pictures < 62 * seconds);
+  });
+}
+
+// Lets frames pass until the board begins anew; whether it did.
+const PASS_A_BOARD = `(() => {
+  const seed = document.getElementById('seed'), before = seed.value;
+  for (let k = 0; k < 100 && seed.value === before; k++) passFrames(1);
+  return seed.value !== before;
+})()`;
+
+// So it does where a board goes on and on, each time that it begins anew.
+async function testBoards() {
+  await inFastTab(async () => {
+    await openPage();
+    await tab.value('document.getElementById("speed").value = 9');
+    for (const id of ['endless', 'run']) await tab.click(id);
+    const began = Date.now(), sizes = [];
+    while (sizes.length < 10) {
+      expect('it begins anew', true, await tab.value(PASS_A_BOARD));
+      sizes.push(await memoryNow());
+    }
+    expectFlat('10 boards of 65,536 events', sizes, began);
+  });
+}
+
 // --- How long a frame of the animation takes ---
+
+// From then on window.frameCount is how many there were.
+const COUNT_FRAMES = `{
+  window.frameCount = 0;
+  const count = () => { window.frameCount++; requestAnimationFrame(count); };
+  count();
+}`;
 
 async function testSpeed() {
   const vectors = Array.from({ length: 254 },
@@ -1884,11 +2187,7 @@ async function testSpeed() {
   await tab.value('document.getElementById("speed").value = 4');
   await tab.value('document.getElementById("run").scrollIntoView({ block: "center" })');
   await tab.value('scrollTo(0, 0)');
-  await tab.value(`{
-    window.frameCount = 0;
-    const count = () => { window.frameCount++; requestAnimationFrame(count); };
-    count();
-  }`);
+  await tab.value(COUNT_FRAMES);
   const task = await workOf(async () => {
     await tab.value('window.frameCount = 0; document.getElementById("run").click()');
     expect('it runs to the end', true,
@@ -1901,16 +2200,56 @@ async function testSpeed() {
   expect('a frame works less than ten times 8 ms', true, task <= 80);
 }
 
+// What a game has taken by now: of a processor, in milliseconds, the page's thread and its script;
+// the frames of its animation, and the pictures of its board.
+async function takenByGame() {
+  const { metrics } = await tab.send('Performance.getMetrics');
+  const [task, script] = ['TaskDuration', 'ScriptDuration'].map((wanted) => (
+    1000 * metrics.find(({ name }) => name === wanted).value));
+  const pictures = Number(/each of ([0-9]+) /.exec(await tab.text('run-moments'))?.[1]);
+  return { task, script, pictures, frames: await tab.value('window.frameCount'), at: Date.now() };
+}
+
+// On a processor that is four times as slow, ten seconds of a game that somebody plays: for each of
+// its pictures, of which there are 61.5 in a second, the script works less than that takes. How
+// many of them are shown is only told, as a busy machine decides that, too.
+async function testSlowed() {
+  await tab.size(1280, 900);
+  await tab.open(front);
+  await tab.value(COUNT_FRAMES);
+  await tab.send('Emulation.setCPUThrottlingRate', { rate: 4 });
+  await tab.until('/each of [0-9]{3}/.test(document.getElementById("run-moments").textContent)');
+  const before = await takenByGame();
+  for (let k = 0; Date.now() < before.at + 10000; k++) {
+    const key = [['ArrowLeft', 37], [' ', 32], ['ArrowUp', 38], ['ArrowRight', 39]][k % 4];
+    for (const isDown of [true, false]) {
+      await tab.hold(...key, isDown);
+      await tab.until('new Promise((done) => setTimeout(() => done(true), 120))');
+    }
+  }
+  const after = await takenByGame();
+  await tab.send('Emulation.setCPUThrottlingRate', { rate: 1 });
+  const [task, script, pictures, frames, time] = ['task', 'script', 'pictures', 'frames', 'at']
+    .map((name) => after[name] - before[name]);
+  console.log(`browser: on a processor four times as slow a game shows `
+    + `${(1000 * frames / time).toFixed(1)} pictures a second; for each of its `
+    + `${(1000 * pictures / time).toFixed(1)} the page's thread works `
+    + `${(task / pictures).toFixed(1)} ms, ${(script / pictures).toFixed(1)} of them the script`);
+  expect('it keeps on', true, pictures > 50 && frames > 5);
+  expect('the script works less than a picture takes', true, script / pictures < 1000 / 61.5);
+}
+
 const tests = {
   testBeginning, testOpening, testTyping, testExamples, testSketches, testStepping, testAbandoned,
     testOneByOne, testSeeds, testCutWire, testRunning, testLessons, testLessonKeys,
     testOneHalf, testLink, testFiles, testDrops, testUnjudged, testLongLog,
   testHttp, testInView, testGrey, testCode, testTour, testMend,
-    testWidths, testSmall, testEmbed, testColors, testMotion, testKeys, testRows,
+    testWidths, testSmall, testEmbed, testColors, testMotion, testKeys, testRows, testOnAndOn,
     testEdges,
-  testGame, testTube, testHands, testWhatIf, testSound, testGameDrops, testGameLink, testGamePage,
-    testGameWidths,
-  testLive, testPlain, testLessonFrames, testEditorsStill, testReadAloud, testSpeed,
+  testGame, testTube, testHands, testWhatIf, testStrip, testSound, testGameDrops, testGameLink,
+    testGamePage, testGameWidths,
+  testLive, testPlain, testLessonFrames, testEditorsStill, testReadAloud, testAccess, testStops,
+  testMinutes, testBoards, testSpeed, testSlowed,
 };
 for (const [name, test] of Object.entries(tests)) {
   if (chosen.length > 0 && !chosen.includes(name)) continue;

@@ -3,11 +3,17 @@
  *     page_cpu STEPS
  *
  * After each 10,000 tries it prints how many steps were done and a digest of all that they left:
- * registers, flags, cycles, and each byte written. tests/page_games.mjs does the same steps. */
+ * registers, flags, cycles, and each byte written. tests/page_games.mjs does the same steps. With
+ * SIM65 the 6502 is that of board_sim65.c, and the steps are BRK and RTI alone: the other one has
+ * no BRK. */
 #include <inttypes.h>
 #include <stdio.h>
 #include <stdlib.h>
+#ifdef SIM65
+#include "board_sim65.h"
+#else
 #include "board_cpu.h"
+#endif
 
 enum { REPORT_EVERY = 10000 };
 
@@ -38,10 +44,7 @@ void bus_write(uint16_t at, uint8_t value)
     mix(value);
 }
 
-static int is_sum(enum operation operation) { return operation == ADC || operation == SBC; }
-
-/* One step, or now and then an NMI, from a random state; nothing where it draws no opcode, or a sum
- * in decimal mode, which board_cpu.h hasn't. */
+/* One step, or now and then an NMI, from a random state; nothing where it draws no opcode. */
 static int try_step(void)
 {
     cpu c = { .cycles = 0 };
@@ -52,8 +55,12 @@ static int try_step(void)
     c.p = (uint8_t)((drawn() & 0xCF) | UNUSED);
     c.pc = (uint16_t)drawn();
     memory[c.pc] = (uint8_t)drawn();
+#ifdef SIM65
+    memory[c.pc] &= 0x40;
+    c.p |= BREAK;   /* so it keeps P */
+#else
     if (opcode_index[memory[c.pc]] < 0) return 0;
-    if (c.p & DECIMAL && is_sum(opcodes[opcode_index[memory[c.pc]]].operation)) return 0;
+#endif
     if (drawn() % 64 == 0) begin_nmi(&c);
     else step(&c);
     mix(c.a);

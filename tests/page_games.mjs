@@ -4,10 +4,13 @@
 //     node tests/page_games.mjs DVG FOLDER SEEDS EVENTS [TEST..]
 //
 // FOLDER is for what is thrown away. Where tests are named, they alone are run, up to the first
-// failure. The last line is 'N passed, M failed'.
+// failure. PROGRAMS says how many programs the checker answers about, changed at random [240], and
+// TRIES how many random states the 6502 has [1000000]. The last line is 'N passed, M failed'.
 import { spawnSync } from 'node:child_process';
 import { createHash } from 'node:crypto';
-import { appendFileSync, existsSync, mkdirSync, readFileSync, writeFileSync } from 'node:fs';
+import {
+  appendFileSync, cpSync, existsSync, mkdirSync, readFileSync, writeFileSync,
+} from 'node:fs';
 import { Arcade, HERTZ } from '../page/src/arcade.mjs';
 import { VERDICT, judgeProgram } from '../page/src/checker.mjs';
 import { Engine, KIND } from '../page/src/engine.mjs';
@@ -17,9 +20,13 @@ import { hex } from '../page/src/hex.mjs';
 import { fragmentOf, plainFragment, stateOf } from '../page/src/links.mjs';
 import { withoutOutlines } from '../page/src/outlines.mjs';
 import { Play } from '../page/src/play.mjs';
+import { KeptArcade, MOST_SLOTS, SLOT_CYCLES } from '../page/src/past.mjs';
 import { OPCODES, Processor } from '../page/src/processor.mjs';
 import { Program, labelsOf } from '../page/src/programs.mjs';
+import { ROW, SIGN, areaOf } from '../page/src/signs.mjs';
 import { Latches, SOUND, Speaker } from '../page/src/sounds.mjs';
+import { Strip } from '../page/src/strip.mjs';
+import { tearOfGame } from '../page/src/tears.mjs';
 import { linesOfListing } from '../page/src/twin.mjs';
 import { packedGames } from '../page/games.mjs';
 import { Audio, partsOf, runPage, scriptOf } from './page_stage.mjs';
@@ -68,10 +75,11 @@ const GAMES = new Map(packedGames().map(({ folder, bytes, vectors, shapes }) => 
 // --- The 6502 ---
 
 // How many random states the 6502 has, of which three in five begin with an opcode.
-const TRIES = isShort ? 100000 : 1000000;
+const TRIES = Number(process.env.TRIES || (isShort ? 100000 : 1000000));
 
 // Steps of the page's 6502 from random states, as page_cpu.c has them: a line after each 10,000.
-function digestsOfSteps() {
+// Those of sim65 are BRK and RTI alone.
+function digestsOfSteps(isSim65 = false) {
   const memory = new Uint8Array(0x10000), lines = [];
   const drawn = numbersFrom(12345);
   let digest = 0, steps = 0;
@@ -85,8 +93,8 @@ function digestsOfSteps() {
     for (const name of ['a', 'x', 'y', 's', 'status']) cpu[name] = drawn() & 0xFF;
     Object.assign(cpu, { pc: drawn() & 0xFFFF, cycles: 0 });
     memory[cpu.pc] = drawn();
-    const name = OPCODES.get(memory[cpu.pc])?.name ?? 'brk', isSum = /adc|sbc/.test(name);
-    if (name !== 'brk' && name !== 'sed' && !(cpu.d === 1 && isSum)) {
+    if (isSim65) memory[cpu.pc] &= 0x40;
+    if (isSim65 || (OPCODES.get(memory[cpu.pc])?.name ?? 'brk') !== 'brk') {
       if (drawn() % 64 === 0) cpu.interrupt();
       else cpu.step();
       steps++;
@@ -97,13 +105,13 @@ function digestsOfSteps() {
   return lines;
 }
 
-// The opcodes are those of the definition in dvg_calls_6502, with BRK and SED, which it hasn't.
+// The opcodes are those of the definition in dvg_calls_6502, with BRK, which it hasn't.
 // Registers, flags, cycles and writes of random steps, and of NMIs, are those of board_cpu.h.
 function testSteps() {
   const definition = readFileSync(`${top}crates/dvg_calls_6502/specs/Processor.antt`, 'utf8');
   const codes = [...definition.matchAll(/\((0x[0-9A-F]{2}), [A-Za-z0-9 ]+\)/g)].map(([, code]) => (
     Number(code)));
-  expect('the opcodes', [...codes, 0x00, 0xF8].sort((a, b) => a - b),
+  expect('the opcodes', [...codes, 0x00].sort((a, b) => a - b),
     [...OPCODES.keys()].sort((a, b) => a - b));
   const made = spawnSync('gcc', ['-O2', '-o', `${work}/page_cpu`, `${top}tests/page_cpu.c`]);
   if (made.error) return console.log('skipped: steps of the 6502 of board_cpu.h: gcc is not here');
@@ -114,10 +122,24 @@ function testSteps() {
   return console.log(`the 6502 beside board_cpu.h: ${steps} steps, with cycles`);
 }
 
+// So are those of BRK and RTI beside cc65's sim65, whose source board/install brings.
+function testBreakSteps() {
+  const source = `${top}build/sim65`;
+  const made = spawnSync('gcc', ['-O2', '-w', '-DSIM65', `-I${source}`, '-o', `${work}/page_sim65`,
+    `${top}tests/page_cpu.c`, `${top}tests/board_sim65.c`]);
+  if (made.error || !existsSync(`${source}/6502.c`)) {
+    return console.log('skipped: BRK beside sim65: its source is not here (board/install sim65)');
+  }
+  const { stdout } = spawnSync(`${work}/page_sim65`, [String(TRIES)]);
+  const lines = digestsOfSteps(true), [steps] = lines.at(-1).split(' ');
+  expect('steps of BRK and RTI', stdout.toString().trim().split('\n'), lines);
+  return console.log(`BRK and RTI beside sim65: ${steps} steps, with cycles`);
+}
+
 // In decimal mode ADC and SBC are, of each A and each operand, with C clear and set, those of
-// page_decimal.py: what A is then, and N, V, Z and C.
+// decimal_sums.py: what A is then, and N, V, Z and C.
 function testDecimal() {
-  const { stdout: wanted } = spawnSync('python3', [`${top}tests/page_decimal.py`],
+  const { stdout: wanted } = spawnSync('python3', [`${top}tests/decimal_sums.py`],
     { maxBuffer: 1 << 20 });
   const memory = new Uint8Array(0x10000);
   const cpu = new Processor({ read: (at) => memory[at], write: () => {} });
@@ -154,9 +176,122 @@ function testBreak() {
   arcade.free();
 }
 
+// --- A program with BRK and decimal mode ---
+
+// examples/first with BRK: after each picture it counts in decimal mode where an IRQ goes, and
+// keeps which flags and which address were pushed, and that it came back.
+const PUSHED = 0x200, KEPT = 6;
+const WITH_BREAK = [
+  ['WATCHDOG = $3400', `WATCHDOG = $3400\nPUSHED = $${hex(PUSHED, 4)}\nTENS = PUSHED + 3\n`
+    + 'BACK = PUSHED + 5'],
+  ['        inc frame\n', '        sec\n        brk\n        .byte $A5\n        inc BACK\n'
+    + '        inc frame\n'],
+  ['irq:    rti', `        rti
+irq:    pha
+        txa
+        pha
+        tsx
+        lda $0103,x
+        sta PUSHED
+        lda $0104,x
+        sta PUSHED + 1
+        lda $0105,x
+        sta PUSHED + 2
+        sed
+        clc
+        lda TENS
+        adc #$01
+        sta TENS
+        lda TENS + 1
+        adc #$00
+        sta TENS + 1
+        pla
+        tax
+        pla
+        rti`],
+];
+
+// That program, made: its bytes, its labels, and its vector ROM.
+function madeWithBreak() {
+  const { games } = programs(), folder = `${work}/made/break`, file = `${folder}/first.s`;
+  cpSync(`${work}/made/first`, folder, { recursive: true });
+  let text = readFileSync(file, 'utf8');
+  for (const [old, now] of WITH_BREAK) {
+    expect(`first.s has ${old}`, true, text.includes(old));
+    text = text.replace(old, now);
+  }
+  writeFileSync(file, text);
+  const { status, stderr } = spawnSync('make', ['-s', '-C', folder, 'build/first.program'],
+    { env: { ...process.env, DVG: program } });
+  expect(`make of a program with BRK: ${stderr}`, 0, status);
+  return { bytes: readFileSync(`${folder}/build/first.program`), shapes: bytesOf(games.first.rom),
+    labels: readFileSync(`${folder}/build/first.labels`) };
+}
+
+// A board that keeps what comes into some bytes of RAM.
+class Keeping extends Arcade {
+  write(address, byte) {
+    if (address >= PUSHED && address < PUSHED + KEPT) (this.kept ??= []).push(byte);
+    super.write(address, byte);
+  }
+}
+
+// It runs, and is judged while it does; in each run it is refused, in words. What it keeps is what
+// it keeps in the arcade emulator, byte by byte.
+async function testBreakGame() {
+  if (!hasTools) return console.log('skipped: a program with BRK: ca65 is not here');
+  const { bytes, labels, shapes } = madeWithBreak(), seconds = 4;
+  const { play, parts } = playOnStage();
+  await play.openFiles([{ name: 'first.program', bytes }, { name: 'first.labels', bytes: labels },
+    { name: 'rom', bytes: Buffer.from(shapes) }]);
+  for (let k = 0; k < 60; k++) play.run(1 / 30);
+  play.showTexts();
+  const told = (id) => [parts[id].firstElementChild, parts[id].lastElementChild]
+    .map(({ textContent }) => textContent).join('');
+  expect('its pictures are whole', true, /^Whole: each of [0-9]{2,} pictures/.test(
+    told('run-moments')));
+  expect('each byte in time', 'In time: each byte.', told('run-halves'));
+  expect('in each run', 'Refused: 1 instruction may tear it, or can\'t be followed.',
+    told('every'));
+  expect('in words', true, /^[0-9A-F]{4} \(\w+\+[0-9]+\): brk: the checker doesn't take BRK: it /
+    .test(parts['every-lines'].textContent));
+  const board = new Keeping(engine, bytes, shapes);
+  board.run(seconds * HERTZ);
+  expect('no fault, no reset, each run finished', ['', 0, 0],
+    [board.fault, board.counts.resets, board.counts.left]);
+  const [flags, low, high] = board.kept, at = low + 256 * high - 0x6800;
+  expect('BRK pushes B, and the address behind the byte after it', [0x37, 0x00, 0xA5],
+    [flags & 0x3F, ...bytes.subarray(at - 2, at)]);
+  const emulated = hasEmulator ? keptInEmulator(bytes, shapes, seconds) : [];
+  const count = Math.min(emulated.length, board.kept.length);
+  if (!hasEmulator) console.log('skipped: BRK beside the emulator: it isn\'t here');
+  else expect('what it keeps there', emulated.slice(0, count), board.kept.slice(0, count));
+  expect('it counts beyond ninety-nine', true, board.kept.length > 100 * KEPT);
+  expect('and so it does there', true, !hasEmulator || count > 100 * KEPT);
+  board.free();
+  return console.log(`a program with BRK beside the emulator: ${count} bytes that it keeps`);
+}
+
+// What that program keeps in the arcade emulator.
+function keptInEmulator(bytes, shapes, seconds) {
+  const script = `${work}/kept.lua`, folder = `${work}/breaking`;
+  writeFileSync(script, `if dvg_loaded then return end
+dvg_loaded = true
+local space = manager.machine.devices[":maincpu"].spaces["program"]
+local file = assert(io.open("kept", "wb"))
+dvg_tap = space:install_write_tap(${PUSHED}, ${PUSHED + KEPT - 1}, "kept", function(_, data)
+  file:write(string.char(data & 0xff))
+  file:flush()
+end)
+`);
+  runInEmulator(folder, bytes, shapes, String(seconds), script);
+  return [...readFileSync(`${folder}/out/kept`)];
+}
+
 // --- The checker ---
 
-const CASES = 240;
+// How many programs are changed at random.
+const CASES = Number(process.env.PROGRAMS || 240);
 
 // What board/prove says of programs: tests/page_programs.py is asked once.
 function programs() {
@@ -165,7 +300,7 @@ function programs() {
     mkdirSync(folder, { recursive: true });
     const asked = ['-B', `${top}tests/page_programs.py`, folder, String(CASES), '1'];
     const { stdout, stderr, status } = spawnSync('python3', asked,
-      { maxBuffer: 1 << 28, env: { ...process.env, DVG: program } });
+      { maxBuffer: 1 << 30, env: { ...process.env, DVG: program } });
     if (status !== 0) throw new Error(`page_programs.py: ${stderr}`);
     writeFileSync(file, stdout);
   }
@@ -220,14 +355,19 @@ function testChecker() {
 
 // --- The board and its judges ---
 
+// What is told to a judge, as lines of a log.
+function linesOfTold(kind, at, value) {
+  const word = hex(at, 3);
+  const line = { [KIND.STARTED]: 'started', [KIND.LOW]: `low ${word} ${hex(value, 2)}`,
+    [KIND.WROTE]: `wrote ${word} ${hex(value, 2)}`, [KIND.BROKE]: 'halted' }[kind];
+  const lines = [line ?? `fetched ${word} ${hex(value, 4)}`];
+  return kind === KIND.DONE ? [...lines, 'halted'] : lines;
+}
+
 // A board that keeps its log.
 class Logged extends Arcade {
   tell(kind, at = 0, value = 0) {
-    const word = hex(at, 3);
-    const line = { [KIND.STARTED]: 'started', [KIND.LOW]: `low ${word} ${hex(value, 2)}`,
-      [KIND.WROTE]: `wrote ${word} ${hex(value, 2)}`, [KIND.BROKE]: 'halted' }[kind];
-    (this.log ??= []).push(line ?? `fetched ${word} ${hex(value, 4)}`);
-    if (kind === KIND.DONE) this.log.push('halted');
+    (this.log ??= []).push(...linesOfTold(kind, at, value));
     super.tell(kind, at, value);
   }
 }
@@ -293,6 +433,183 @@ function testJudges() {
     arcade.free();
   }
   console.log(`the judges beside dvg torn: ${BOARDS.length} runs, ${lines} lines`);
+}
+
+// --- Its last seconds ---
+
+// A board that keeps its last seconds, and its log with the time of each line in cycles, and with
+// the instruction that was at work.
+class Timed extends KeptArcade {
+  tell(kind, at = 0, value = 0) {
+    const isOfGame = kind === KIND.STARTED || kind === KIND.WROTE;
+    const cycles = isOfGame ? this.processor.cycles : this.fetchAt, by = this.at;
+    this.lines ??= [];
+    for (const text of linesOfTold(kind, at, value)) this.lines.push({ text, cycles, by });
+    super.tell(kind, at, value);
+  }
+}
+
+// Of a log with times: its runs; what both rows show in each slot, by its number; and the bytes
+// that are read in the lines `torn`, by which runs are mixed.
+function rowsOfLog(lines, torn) {
+  const slots = new Map(), runs = [], bytes = [], ram = new Uint8Array(2048), changes = new Map();
+  let run = null;
+  const slotOf = (cycles) => {
+    const number = Math.floor(cycles / SLOT_CYCLES);
+    if (!slots.has(number)) slots.set(number, { above: 0, below: 0, area: 0, by: -1 });
+    return slots.get(number);
+  };
+  const sign = (slot, row, one) => { slot[row] = Math.max(slot[row], one); };
+  const acts = {
+    started(slot, cycles) {
+      sign(slot, 'above', run === null ? SIGN.START : SIGN.ANEW);
+      if (run !== null) run.to = cycles;
+      run = { from: cycles, to: Infinity, half: 0, early: 0, isTorn: false };
+      runs.push(run);
+    },
+    halted(slot, cycles) {
+      const whole = run.early > 0 ? SIGN.EARLY_DONE : SIGN.DONE;
+      sign(slot, 'above', run.isTorn ? SIGN.TORN_DONE : whole);
+      run.to = cycles;
+      run = null;
+    },
+    wrote(slot, cycles, place, value, by) {
+      const area = areaOf(place >> 1), isEarly = run !== null && run.half === area;
+      if (slot.below < SIGN.EARLY) slot.by = by;
+      if (isEarly) {
+        run.early++;
+        sign(slot, 'below', SIGN.EARLY);
+      } else if (place === 1) sign(slot, 'below', SIGN.FLIP);
+      slot.area = Math.max(slot.area, area);
+      if (ram[place] !== value) {
+        changes.set(place, { run, slot, byte: { at: cycles, readAt: 0, by, address: place, value,
+          before: ram[place], isEarly } });
+      }
+      ram[place] = value;
+    },
+    read(place, cycles, isTorn) {
+      const change = changes.get(place);
+      if (change !== undefined && change.run === run && change.byte.isEarly) {
+        sign(change.slot, 'below', SIGN.SEEN);
+      }
+      if (!isTorn) return;
+      run.isTorn = true;
+      bytes.push({ ...change?.byte, readAt: cycles });
+    },
+  };
+  lines.forEach(({ text, cycles, by }, k) => {
+    const [name, ...parts] = text.split(' '), slot = slotOf(cycles);
+    const [place, value] = parts.map((part) => parseInt(part, 16));
+    if (name in acts) acts[name](slot, cycles, place, value, by);
+    else acts.read(2 * place + Number(name === 'fetched'), cycles, torn.has(k + 1));
+    if (name === 'fetched' && run.half === 0) run.half = (value & 0xFFF) < 512 ? 1 : 2;
+  });
+  return { slots, runs, bytes };
+}
+
+// The rows of a board are those that its log says: in each slot within a run the half that it
+// draws, and between two runs nothing; where bytes were written and early, and by which
+// instruction; and which byte tore the newest torn picture is what `dvg torn` says.
+function expectRows(what, { past, lines, processor }) {
+  const { stdout } = spawnSync(program, ['torn', '--moments', '--all'],
+    { input: lines.map(({ text }) => `${text}\n`).join(''), maxBuffer: 1 << 28 });
+  const torn = new Set([...stdout.toString().matchAll(/^torn at line ([0-9]+)/gm)]
+    .map(([, line]) => Number(line)));
+  const { slots, runs, bytes } = rowsOfLog(lines, torn), halves = [0, 0, 0];
+  const none = { above: 0, below: 0, area: 0, by: -1 };
+  let differ = 0;
+  for (let k = 0; k < past.length; k++) {
+    const { above, below, area, by } = slots.get(past.from + k) ?? none;
+    const begin = (past.from + k) * SLOT_CYCLES, end = begin + SLOT_CYCLES;
+    const within = runs.find(({ from, to }) => from <= begin && end <= to);
+    const isApart = runs.every(({ from, to }) => to < begin || from >= end);
+    const drawn = past.areas[ROW.GENERATOR][k];
+    if (within !== undefined || isApart) halves[drawn]++;
+    const isSame = past.signs[ROW.GENERATOR][k] === above && past.signs[ROW.DRIVER][k] === below
+      && past.areas[ROW.DRIVER][k] === area && (area === 0 || past.writers[k] === by)
+      && (within === undefined || within.half === drawn) && (!isApart || drawn === 0);
+    if (!isSame) differ++;
+  }
+  expect(`${what}: slots that differ`, 0, differ);
+  expect(`${what}: both halves are drawn`, true, Math.min(...halves) > 0);
+  expect(`${what}: the newest slot`, Math.floor(processor.cycles / SLOT_CYCLES),
+    past.from + past.length - 1);
+  expect(`${what}: at most so many`, true, past.length <= MOST_SLOTS);
+  expect(`${what}: the byte that tore`, bytes.at(-1), past.torn?.byte);
+  expect(`${what}: in which run`, runs.findLast(({ isTorn }) => isTorn)?.from, past.torn?.began);
+  return past.length;
+}
+
+// What the rows of a game show; how long a board remembers; and of which frame strokes are.
+function testPast() {
+  let slots = 0;
+  for (const [folder, changes, tenths] of [['asteroid_game', {}, 15], ['bat', {}, 60],
+    ['test_rom', { wireCut: true }, 8],
+    ['asteroid_game', { wireCut: true, slow: 6, ignored: true }, 15],
+    ['test_rom', { wireCut: true, slow: 4, ignored: true }, 8]]) {
+    const arcade = playGame(boardOf(folder, changes, Timed), tenths), { past } = arcade;
+    slots += expectRows(`${folder} with ${JSON.stringify(changes)}`, arcade);
+    if (past.torn !== null) expectForgotten(arcade);
+    arcade.free();
+  }
+  expectWanted();
+  console.log(`the last seconds of boards beside their logs: ${slots} slots`);
+}
+
+// The areas of both rows, by chance, in so many slots.
+function areasByChance(count) {
+  const drawn = numbersFrom(6);
+  return [0, 1].map(() => Uint8Array.from({ length: count }, () => drawn() % 3));
+}
+
+// Each pixel of the rows has the area of a slot that it shows, and none only where all have none.
+function testStrip() {
+  const { parts } = partsOf('<canvas id="past">'), strip = new Strip(parts.past), count = 4000;
+  const areas = areasByChance(count), signs = areas.map((row) => row.map(() => SIGN.NONE));
+  for (const [scale, first] of [[5, 100], [1, 7], [0.25, 0], [0.125, 500]]) {
+    Object.assign(strip, { scale, first, early: new Uint8Array(401) });
+    strip.columns = areas.map(() => new Uint8Array(401));
+    strip.markAll({ areas, signs }, 0, count);
+    let differ = 0;
+    for (let x = 0; x < 400; x++) {
+      const begin = first + (scale < 1 ? Math.ceil(x / scale) : Math.floor(x / scale));
+      const end = Math.max(begin + 1, first + Math.ceil((x + 1) / scale));
+      areas.forEach((row, k) => {
+        const shown = [...row.slice(begin, end)], found = strip.columns[k][x];
+        if (!shown.includes(found) || (found === 0 && Math.max(...shown) > 0)) differ++;
+      });
+    }
+    expect(`pixels that differ, by ${scale} for each slot`, 0, differ);
+  }
+}
+
+// A torn picture has strokes of its first frame; it is forgotten once its run is.
+function expectForgotten(arcade) {
+  const { torn } = arcade.past, { wanted, wrong } = tearOfGame(engine, torn,
+    { bytes: GAMES.get('test_rom').shapes });
+  const { strokes } = torn.picture;
+  expect('some strokes are of the first frame, and some aren\'t', true, wrong.length > 0
+    && wrong.length < strokes.length && wanted.length > 0);
+  Object.assign(arcade, { wireCut: false, ignored: false });
+  arcade.run(HERTZ / 2);
+  expect('a torn picture is kept', true, arcade.past.torn !== null);
+  for (let k = 0; k < 50; k++) {
+    arcade.lines.length = 0;
+    arcade.run(HERTZ / 10);
+  }
+  expect('but not for ever', null, arcade.past.torn);
+}
+
+// All strokes of a whole picture are of the frame that its run began with.
+function expectWanted() {
+  const arcade = playGame(boardOf('asteroid_game', {}, KeptArcade), 12);
+  while (arcade.running) arcade.run(100);
+  const { picture, past: { run: { ram: before } }, ram: after } = arcade;
+  const { wanted, wrong } = tearOfGame(engine, { picture, before, after },
+    { bytes: GAMES.get('asteroid_game').shapes });
+  expect('a whole picture is of one frame', [picture.strokes.length, 0],
+    [wanted.length, wrong.length]);
+  arcade.free();
 }
 
 // What is counted after the wire was mended is of the runs that begin then: none is torn, early or
@@ -460,18 +777,27 @@ function programOfWrites(writes) {
   return image;
 }
 
+const hasEmulator = spawnSync('sh', ['-c', 'command -v mame || test -x /usr/games/mame'])
+  .status === 0;
+
+// Runs a program over a vector ROM in the arcade emulator, for some seconds, with a script.
+function runInEmulator(folder, image, shapes, seconds, script) {
+  const board = `${top}board/emulator`;
+  mkdirSync(`${folder}/roms`, { recursive: true });
+  writeFileSync(`${folder}/program`, image);
+  writeFileSync(`${folder}/rom`, shapes);
+  spawnSync('python3', [`${board}/prom.py`, `${folder}/prom`]);
+  spawnSync(`${board}/roms`, ['program', 'rom', 'prom', 'roms/asteroid'], { cwd: folder });
+  const { status } = spawnSync(`${board}/run`, [`${folder}/roms`, `${folder}/out`, seconds,
+    script], { env: { ...process.env, DVG_BUTTONS: '' } });
+  if (status !== 0) throw new Error(`the emulator: ${readFileSync(`${folder}/out/said`, 'utf8')}`);
+}
+
 // What `make sound` says is on at the end, of a program in the arcade emulator: each sound and
 // since which second.
 function soundingInEmulator(image, seconds) {
   const folder = `${work}/sounding`, board = `${top}board/emulator`;
-  mkdirSync(`${folder}/roms`, { recursive: true });
-  writeFileSync(`${folder}/program`, image);
-  writeFileSync(`${folder}/rom`, new Uint8Array(2048));
-  spawnSync('python3', [`${board}/prom.py`, `${folder}/prom`]);
-  spawnSync(`${board}/roms`, ['program', 'rom', 'prom', 'roms/asteroid'], { cwd: folder });
-  const { status } = spawnSync(`${board}/run`, [`${folder}/roms`, `${folder}/out`, seconds,
-    `${board}/press.lua`], { env: { ...process.env, DVG_BUTTONS: '' } });
-  if (status !== 0) throw new Error(`the emulator: ${readFileSync(`${folder}/out/said`, 'utf8')}`);
+  runInEmulator(folder, image, new Uint8Array(2048), seconds, `${board}/press.lua`);
   const text = readFileSync(`${folder}/out/sounding`, 'utf8');
   return new Map([...text.matchAll(/^(\w+), since ([0-9.]+) s$/gm)].map(([, name, time]) => (
     [name, Number(time)])));
@@ -479,8 +805,7 @@ function soundingInEmulator(image, seconds) {
 
 // Of a program that writes for some seconds, what is on at the end is what the emulator says.
 function testSounding() {
-  const isHere = spawnSync('sh', ['-c', 'command -v mame || test -x /usr/games/mame']).status === 0;
-  if (!isHere) return console.log('skipped: sounds beside the emulator: it isn\'t here');
+  if (!hasEmulator) return console.log('skipped: sounds beside the emulator: it isn\'t here');
   const image = programOfWrites(soundWrites(25, 11)), sounds = soundsOfBoard();
   const wanted = soundingInEmulator(image, '4');
   const arcade = new Arcade(engine, image, new Uint8Array(2048));
@@ -651,14 +976,20 @@ const ASKED = [[{}, [false, 1, false]], [{ wire: 'cut' }, [true, 1, false]],
   [{ beam: '4' }, [false, 4, false]], [{ beam: '3' }, [false, 1, false]],
   [{ wire: 'cut', beam: '8', strobes: 'ignored' }, [true, 8, true]]];
 
-// A link to a game holds it and what is asked of its board: one that is built in by its name, one
-// that was dropped with its bytes and labels.
-async function testGameLinks() {
+// The games of the page without a browser: its parts, and the games that are built in.
+function playOnStage() {
   const { parts } = partsOf(['page', 'cabinet'].map((name) => (
     readFileSync(`${top}page/src/${name}.html`, 'utf8'))).join(''));
   globalThis.document = { getElementById: (id) => parts[id] };
+  parts.beam.value = '1';
   const games = [...GAMES.entries()].map(([name, game]) => ({ name, ...game }));
-  const play = new Play(engine, games, driverOfPage());
+  return { play: new Play(engine, games, driverOfPage()), parts, games };
+}
+
+// A link to a game holds it and what is asked of its board: one that is built in by its name, one
+// that was dropped with its bytes and labels.
+async function testGameLinks() {
+  const { play, parts, games } = playOnStage();
   for (const [asked, wanted] of ASKED) {
     const fragment = plainFragment({ game: 'bat', ...asked });
     play.openState(await stateOf(fragment));
@@ -773,8 +1104,9 @@ function zipsOf(files) {
 }
 
 const TESTS = [
-  testSteps, testDecimal, testBreak, testBuilt, testChecker, testJudges, testMendedBoard, testRate,
-  testBoard, testNmi,
+  testSteps, testBreakSteps, testDecimal, testBreak, testBreakGame, testBuilt, testChecker,
+  testJudges, testPast, testStrip,
+  testMendedBoard, testRate, testBoard, testNmi,
   testGamepads, testSoundLatches, testSounding, testSpeaker, testSoundButton, testGamePage,
   testMakePage, testGameLinks, testGameFiles, testOutlines,
 ];

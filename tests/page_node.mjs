@@ -9,6 +9,7 @@
 // The last line is 'N passed, M failed'.
 import { spawnSync } from 'node:child_process';
 import { existsSync, mkdirSync, readFileSync, readdirSync, writeFileSync } from 'node:fs';
+import { adviceOf } from '../page/src/advice.mjs';
 import { COMMAND, Engine, OPTION } from '../page/src/engine.mjs';
 import { Board } from '../page/src/board.mjs';
 import { AREA, SIGN, areaOf, drawnHalf } from '../page/src/signs.mjs';
@@ -29,6 +30,7 @@ import { driverOf, driverText, generatorOf } from '../page/src/inside.mjs';
 import { Processor } from '../page/src/processor.mjs';
 import { Twin, bytesOfTable, linesOfListing } from '../page/src/twin.mjs';
 import { LESSONS, stateOfLesson, withLesson } from '../page/src/lessons.mjs';
+import { explainedFaults } from '../page/advice.mjs';
 
 const [program, work] = process.argv.slice(2, 4),
   [seeds, events] = process.argv.slice(4, 6).map(Number),
@@ -99,7 +101,7 @@ function untimed(verdicts) {
 }
 
 // What the page's reader of sketches tells of a text: its fault, or what `dvg render --check` says,
-// and its frames.
+// and its frames; and what the page says of a frame that is refused.
 function testReader(name, text) {
   const { stdout, stderr, status } = spawnSync(program, ['render', '--check'], { input: text });
   const refused = () => spawnSync(program, ['render'], { input: text }).stderr;
@@ -113,6 +115,11 @@ function testReader(name, text) {
     + runProgram(['check', '--bound'], texts[k]));
   const told = untimed(stdout.toString());
   expect(`the sketch of ${name}: each of its frames`, told, verdicts.join(''));
+  // A picture of too many words is no fault of the check, of which alone `dvg explain` tells.
+  if (/fetches \d+ words, and at most/.test(said)) return;
+  const [explained] = /^.*\ndo: .*$/m.exec(runProgram(['explain'], text)) ?? [];
+  if (explained !== undefined) expect(`the sketch of ${name}: what is said of its fault`,
+    explained, saidOf(text).said);
   if (!good) return;
   const laid = (input) => spawnSync(program, ['lay'], { input, maxBuffer: 1 << 28 }).stdout;
   expect(`the sketch of ${name}: their bytes`, laid(text).toString('hex'),
@@ -569,6 +576,39 @@ function testLongTrace() {
   board.free();
 }
 
+// --- What is said of a frame that is refused ---
+
+// The jump that leads back, if the page names one, and the sentences.
+function saidOf(text) {
+  const found = adviceOf(engine, readSketch(engine, text), explainedFaults());
+  const [, jump, said] = /^\n(?:operation [0-9]+, (.*?): )?([^]*)$/.exec(found) ?? [];
+  return { jump, said };
+}
+
+// A frame for each fault, with three that loop, and one whose ROM does.
+const REFUSED_FRAMES = ['map 2048\n', 'vctr 9 -100 100 7\nhalt\n',
+  `labs 0 0 0\n${'vctr 0 0 0 0\n'.repeat(255)}`, 'labs 0 0 0\ncall 9\nhalt\n',
+  'labs 512 400 0\nvctr 9 -100 100 7\n', 'labs 0 0 0\ncallrom 7FF\nhalt\n',
+  'labs 0 0 0\ncall 1\nhalt\n', 'labs 0 0 0\nreturn\n', 'labs 0 0 0\nvctr 9 1 1 7\njump 1\n',
+  'labs 0 0 0\ncall 3\njump 6\njump 5\nhalt\nreturn\njump 6\n',
+  'labs 0 0 0\njump 4\nlabs 0 0 0\njump 5\njump 3\njump 2\n',
+  'rom 800 E800\nlabs 0 0 0\njumprom 800\n'];
+
+// What is said of each fault is what `dvg explain` says, and it is of the same jump.
+function testAdvice() {
+  const seen = new Set();
+  for (const text of REFUSED_FRAMES) {
+    const [, , line, ...sentences] = runProgram(['explain'], text).trimEnd().split('\n');
+    const { jump, said } = saidOf(text), what = JSON.stringify(text.slice(0, 60));
+    expect(`what is said of ${what}`, sentences.join('\n'), said);
+    expect(`the jump that leads back in ${what}`, said.startsWith('this jump')
+      ? line.replace(/^line [0-9]+: /, '') : 'none', jump ?? 'none');
+    seen.add(said);
+  }
+  expect('each of the sentences is said', explainedFaults().length, seen.size);
+  expect('nothing is said of a good frame', undefined, saidOf('labs 0 0 0\nhalt\n').said);
+}
+
 // --- Drafts with names, and ROMs ---
 
 // The examples, and texts in which a name is where one might not look for it.
@@ -918,7 +958,8 @@ function testTwin() {
 
 const TESTS = [
   testTwin, testSchedules, testCutWire, testMended, testOneHalf, testMomentLogs,
-  testJudged, testRuns, testProportions, testHalves, testLongTrace, testDrafts, testRoms,
+  testJudged, testRuns, testProportions, testHalves, testLongTrace, testAdvice, testDrafts,
+  testRoms,
   testMoments, testLinks, testFiles, testRecordings, testDumps, testDriverTexts, testBuses,
   testSketches, testTears, testLessons, testLessonColors, testLessonPage, testCases,
   testSketchCases,

@@ -22,6 +22,7 @@ loader = importlib.machinery.SourceFileLoader('games', f'{TESTS}/games')
 games = importlib.util.module_from_spec(importlib.util.spec_from_loader('games', loader))
 loader.exec_module(games)
 brings, content, programs, prove = games.brings, games.content, games.programs, games.prove
+table = games.table
 
 
 def text_of(data):
@@ -38,11 +39,10 @@ class ByBytes(content.Content):
 
     def fault_of(self, name, word):
         if name == 'dvg_put' and not brings.may_put(self.vectors, word & 0xFF, word >> 8):
-            return (f'it puts {word:04X}, which is no call of a shape, nor a short vector: '
-                    'dvg_call NAME')
+            return table.WHY['puts'].format(word=f'{word:04X}')
         if name == 'dvg_offer' and not brings.may_offer(self.program, self.vectors, self.drafts,
                                                         word):
-            return f'it offers {word:04X}, where no table stands that may be drawn'
+            return table.WHY['offers_undrawn'].format(word=f'{word:04X}')
         return None
 
 
@@ -67,10 +67,7 @@ def by_bytes(program, notes, start, found, bad):
     told = [prove.summary(program, notes, start), found.told()]
     if not bad:
         return 0, [prove.UNTORN, *told]
-    others = [f'brought at {program.where(at)}' for at, _ in bad]
-    unseen = ', '.join(dict.fromkeys(found.unseen or others))
-    return 3, [f"keeps to the rules, but what is {unseen} isn't seen: it may tear a picture",
-               content.CURE, *told]
+    return 3, [prove.unseen_text(found, program, bad), table.SAID['unseen_cure'], *told]
 
 
 def sources_of(work):
@@ -106,7 +103,7 @@ def changed_cases(sources, count, seed):
 
 
 def bytes_of(program):
-    return bytes(program.rom[at] for at in range(programs.START, programs.END))
+    return bytes(program.rom[at] for at in range(table.START, table.PROGRAM_END))
 
 
 def fault_cases(work, sources):

@@ -66,7 +66,14 @@ export async function runPage(html, more = {}) {
       body, getElementById: (id) => parts[id], querySelectorAll: () => Object.values(inputs),
     }),
     performance: { now: () => now }, requestAnimationFrame: (frame) => frames.push(frame),
-    Path2D: class { moveTo(...place) { begun.push(place); } lineTo() {} },
+    Path2D: class {
+      moveTo(...place) { this.place = place; }
+
+      lineTo(...place) {
+        begun.push(this.place);
+        this.place = place;
+      }
+    },
     ResizeObserver: class { observe() {} },
     addEventListener: (...words) => body.addEventListener(...words),
     matchMedia: () => ({ matches: false }), devicePixelRatio: 1, navigator: {}, WebAssembly, atob,

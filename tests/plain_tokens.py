@@ -11,6 +11,7 @@ order. At the head of each crate stand the lines that must stand there.
 Each file that differs is named, with the first place. Status 1 if there is one.
 """
 
+import itertools
 import re
 import sys
 from pathlib import Path
@@ -69,6 +70,16 @@ KEPT = """
     enum Half, enum Instr, enum Listed, enum MemFault, enum OpKind, struct OutOfMemory
 """
 KEPT = {tuple(item.split()) for item in KEPT.split(",")} | CHECKED.keys() | LOOKED_AT.keys()
+# How public functions begin that refuse by `false`, and statements that don't look at one of these.
+MUST_USE = words("#[must_use]")
+REFUSING = [words(head) for head in (
+    "fn resume(&mut self,", "fn resume<A: Allocator>(&mut self,",
+    "fn take(&mut self, line: &[u8]) -> bool", "fn take(&mut self, tokens: &[&[u8]]) -> bool",
+)]
+UNLOOKED = [words(statement) for statement in (
+    "self.generator.resume(&generator, strokes);", "generator.resume(&state, strokes);",
+    "wrapping.resume(&state, strokes);",
+)]
 # What stands at the end of a library with a file by hand beside its sources.
 BESIDE = ['#[path = "../rust.rs"]', "mod rust;", ""]
 BESIDE_WITH_ITEMS = ['#[path = "../rust.rs"]', "mod rust;", "pub use rust::*;", ""]
@@ -164,6 +175,20 @@ class Source:
         ends = (it for it in (narrow, wide) if self.left[-len(it) :] == it)
         return next(ends, [])
 
+    def refuses(self):
+        """Whether a public function may refuse, by an Option or as one of REFUSING."""
+        if not self.next_is("fn") or self.left[-1:] != ["pub"]:
+            return False
+        ends = {"{", ";", "requires", "ensures", "where"}
+        signature = list(itertools.takewhile(lambda it: it not in ends, self.tokens[self.at :]))
+        by_option = ") - > Option <" in (text := " ".join(signature)) and "& mut self" not in text
+        return by_option or any(self.next_is(*head) for head in REFUSING)
+
+    def is_unlooked(self):
+        """Whether a statement begins here that doesn't look at a refusal."""
+        return self.left[-1:] in ([";"], ["{"], ["}"]) and any(
+            self.next_is(*statement) for statement in UNLOOKED)
+
     def formatting(self):
         """A signature up to its bracket's end."""
         end = self.until(")")
@@ -174,6 +199,10 @@ class Source:
 
     def step(self):
         line = self.skipped_line()
+        if self.refuses():
+            self.left[-1:] = [*MUST_USE, "pub"]
+        elif self.is_unlooked():
+            self.left += words("let _ =")
         if self.next_is("ghost"):
             self.pass_ghost()
         elif self.next_is("requires") or self.next_is("ensures") or self.is_model():

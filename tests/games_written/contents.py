@@ -7,6 +7,23 @@ DRAW = 'draw:   jsr dvg_open\n        draw_at wall_x, wall_y, wall\n'
 OFFER = '        jsr dvg_offer       ; takes the frame\n'
 LISTS = '        ldx tables_high,y\n        lda tables_low,y\n'
 CODE = '.segment "CODE"\nreset:'
+SCORED = '''        ldy score
+        {}
+        lda letters_high,y
+        ora #$C0
+        tax
+        lda letters_low,y
+        jsr dvg_put
+past:
+'''
+EITHER = '''        lda #<($C000 | bat)
+        ldx #>($C000 | bat)
+        bit IN_FIRE
+        bmi both
+        lda #<($C000 | ball)
+        ldx #>($C000 | ball)
+{}
+'''
 OWN = CODE, '.segment "DATA"\n.scope own\nwalk_0: .word {}\n.endscope\n' + CODE
 BY_OWN = LISTS + '        lda #<own::walk_0\n        ldx #>own::walk_0\n'
 
@@ -33,6 +50,32 @@ CONTENTS = [
     (*BAT, [(DRAW, DRAW + '        ldx letters_high,y\n        jsr dvg_put\n')],
      'a shape by an index that is not looked at', 3, 'but what is put at'),
     (*BAT, [(DRAW, DRAW + '        jsr dvg_pair\n')], 'two words', 3, "isn't seen"),
+    (*BAT, [(DRAW, DRAW + SCORED.format('cpy #10\n        bcs past'))],
+     'a digit, by CPY and BCS', 0, 'there are no others'),
+    (*BAT, [(DRAW, DRAW + SCORED.format('tya\n        and #7\n        tay'))],
+     'a digit, by AND and TAY', 0, 'there are no others'),
+    (*BAT, [(DRAW, DRAW + SCORED.format('cpy #10\n        bcc *+5\n        jmp past'))],
+     'a digit, by CPY and BCC', 3, "isn't seen"),
+    (*BAT, [(DRAW, DRAW + '''        ldx score
+        cpx #10
+        bcs past
+        lda letters_low,x
+        ldx #$C8
+        jsr dvg_put
+past:
+''')], 'a digit, by CPX', 3, "isn't seen"),
+    (*BAT, [(DRAW, DRAW + EITHER.format('both:   jsr dvg_put'))],
+     'one of two constants', 3, "isn't seen"),
+    (*BAT, [(DRAW, DRAW + EITHER.format('        jsr dvg_put\nboth:'))],
+     'a constant, or none', 0, 'there are no others'),
+    (*BAT, [(DRAW, DRAW + '''        lda #<($C000 | bat)
+        pha
+        ldx #>($C000 | bat)
+        pla
+        jsr dvg_put
+''')], 'PHA and PLA between', 3, "isn't seen"),
+    (*BAT, [('        ldx #$FF\n', '        sta $00,x\n        ldx #$FF\n')],
+     'STA 0,X before TXS', 0, 'there are no others'),
     (*BAT, [offer('lda #<title', 'ldx #>title')],
      'a text for a table', 1, 'where no table stands'),
     (*BAT, [offer('lda #0', 'ldx #2')],

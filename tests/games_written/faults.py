@@ -43,7 +43,7 @@ FAULTS = [
     ('cannons.s', 'a subroutine of both an empty frame and one that is begun',
      '        jsr place_of\n        jsr dvg_open', '        jsr dvg_open\n        jsr place_of',
      '(place_of) is called between dvg_open and dvg_labs'),
-    ('cannons.s', 'decimal sums', 'halves: lsr a', 'halves: sed\n        lsr a', 'decimal'),
+    ('cannons.s', 'a BRK', 'halves: lsr a', 'halves: brk\n        lsr a', 'where an IRQ does'),
     ('cannons.s', 'powder in a byte of the driver', 'sta powder + 1', 'sta dvg_phase',
      "the driver's byte 10"),
     ('cannons.s', 'TXS to leave all calls', 'jmp won',

@@ -1,8 +1,8 @@
 #!/usr/bin/env python3
 """ADC and SBC of an NMOS 6502 in decimal mode, as Bruce Clark describes them in "Decimal Mode"
-(6502.org, appendix A), for the page's 6502 beside it:
+(6502.org, appendix A), for the definition of the 6502 and the page's 6502 beside it:
 
-    page_decimal.py
+    decimal_sums.py
 
 For ADC, and then for SBC, with C clear and then set, of each A and of each operand two bytes: what
 A is after that, and the flags N, V, Z and C by their bits in the status. 524,288 bytes in all.
