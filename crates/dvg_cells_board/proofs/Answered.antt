@@ -1,5 +1,5 @@
 -- What the board answers the processor.
-use Rattle.std.proofs.Common.{◌≡◌, ◌≢◌, ℕ, ◌/◌, ◌%◌, ◌<◌, Bool, true, false, not, List, length, refl, sym, ap, ◌∙◌, arith, inl, inr}
+use Rattle.std.proofs.Common.{◌≡◌, ◌≢◌, ℕ, ◌+◌, ◌*◌, ◌/◌, ◌%◌, ◌<◌, Bool, true, false, not, List, length, refl, sym, ap, ◌∙◌, arith, inl, inr}
 use Rattle.std.specs.Prelude.{is_none, nat_eq, ◌&&◌, if◌then◌else◌, slice_index}
 use Rattle.std.proofs.lemmas.Bool.{eqb-true}
 use Rattle.std.proofs.lemmas.Bool.Decides.{eqb_tells}
@@ -7,13 +7,13 @@ use Rattle.dvg_log.specs.Log.{Log, ram, open_run}
 use Rattle.dvg_cells_core.specs.Cells.{bit, both, none, some, mux, joined, part}
 use Rattle.dvg_cells_core.specs.Core.{halted}
 use Rattle.dvg_cells_board.specs.Board.{Board, Bus, q, clock}
-use Rattle.dvg_cells_board.specs.Clocks.{IsBus, after, reads, writes, sends}
+use Rattle.dvg_cells_board.specs.Clocks.{IsBus, after, reads}
 use Rattle.dvg_cells_board.specs.Logs.{OfEachBoard}
 use Rattle.dvg_cells_board.specs.Answers.{uses_ram, Answers, AnswersNext, Works, BoardWorks}
 use Rattle.dvg_cells_board.proofs.System.{pin_is, never}
 use Rattle.dvg_cells_board.proofs.Cores.{cores, core_is}
 use Rattle.dvg_cells_board.proofs.Board.{holds}
-use Rattle.dvg_cells_board.proofs.Wires.{on_of, writes_of, place_of, asks_of, not_one, ram_of, ram_is}
+use Rattle.dvg_cells_board.proofs.Wires.{on_of, writes_of, other, place_of, asks_of, not_one, ram_of, ram_is, read_is}
 
 never' : {A : Type 0} → true ≡ false → A
 never' e = cc
@@ -138,6 +138,14 @@ asks_is true true true true true true on = refl
 asks_is true true true true true false true = refl
 asks_is true true true true true false false = refl
 
+answers_by : (x y z shut : Bool) (r : ℕ) → mux (looks_of x y z) (joined 7 0 (none (if shut then 1 else 0))) r
+    ≡ (if not x && (y && z) then (if nat_eq (if shut then 1 else 0) 0 then 128 else 0) else r)
+answers_by true y z shut r = refl
+answers_by false false z shut r = refl
+answers_by false true false shut r = refl
+answers_by false true true true r = refl
+answers_by false true true false r = refl
+
 module _ (board : Board) (bus : Bus) (is : IsBus bus) where
   page : nat_eq (part 11 5 bus.a) 8 ≡ nat_eq (bus.a / 0x800) 8
   page = let small = is.a in let parts : part 11 5 bus.a ≡ bus.a / 0x800 = omega arith in ap (λ n. nat_eq n 8) parts
@@ -153,6 +161,18 @@ module _ (board : Board) (bus : Bus) (is : IsBus bus) where
   ram_steps false false false a = refl
   ram_steps false false true a = ap (λ n. if nat_eq a n then bus.d else board.ram a) place
 
+  core_place : other board bus ≡ 2 * (board.core.at % 0x400) + board.core.high
+  core_place = omega arith
+
+  read_steps : (acc wr on : Bool) → mux (writes_of acc wr on) board.read (board.ram (place_of board bus (on_of acc on)))
+      ≡ (if not acc && (not wr && on) then board.read
+      else board.ram (if not acc && on then bus.a % 0x800 else 2 * (board.core.at % 0x400) + board.core.high))
+  read_steps true wr on = ap board.ram core_place
+  read_steps false true true = ap board.ram place
+  read_steps false true false = ap board.ram core_place
+  read_steps false false true = refl
+  read_steps false false false = ap board.ram core_place
+
   works : Works board bus
   works = record {
     starts = sends_is (nat_eq bus.access 0) (nat_eq bus.write 0) (nat_eq bus.a 12288) (nat_eq bus.reset 0);
@@ -164,6 +184,12 @@ module _ (board : Board) (bus : Bus) (is : IsBus bus) where
         ∙ ram_steps (nat_eq bus.access 0) (nat_eq bus.write 0) (nat_eq (part 11 5 bus.a) 8) a
         ∙ ap (λ on. if (not (nat_eq bus.access 0) && (not (nat_eq bus.write 0) && on)) && nat_eq a (bus.a % 0x800)
         then bus.d else board.ram a) page;
+    answers = λ next. answers_by (nat_eq bus.access 0) (nat_eq bus.write 0) (nat_eq bus.a 8194)
+        (nat_eq board.core.is_open 0) (clock board bus).read;
+    read = read_is board bus ∙ read_steps (nat_eq bus.access 0) (nat_eq bus.write 0) (nat_eq (part 11 5 bus.a) 8)
+        ∙ ap (λ on. if not (nat_eq bus.access 0) && (not (nat_eq bus.write 0) && on) then board.read
+        else board.ram (if not (nat_eq bus.access 0) && on then bus.a % 0x800
+        else 2 * (board.core.at % 0x400) + board.core.high)) page;
   }
 
 pub board_works : BoardWorks

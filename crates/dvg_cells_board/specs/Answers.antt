@@ -1,9 +1,9 @@
 -- What the board answers the processor, and that it serves the core.
-use Rattle.std.specs.Prelude.{◌≡◌, ℕ, ◌/◌, ◌%◌, ◌&&◌, Bool, true, false, not, nat_eq, if◌then◌else◌, List, slice_index}
+use Rattle.std.specs.Prelude.{◌≡◌, ℕ, ◌+◌, ◌*◌, ◌/◌, ◌%◌, ◌&&◌, Bool, true, false, not, nat_eq, if◌then◌else◌, List, slice_index}
 use Rattle.std.specs.Prelude.{is_none}
 use Rattle.dvg_log.specs.Log.{Log, ram, open_run}
 use Rattle.dvg_cells_core.specs.Cells.{bit}
-use Rattle.dvg_cells_board.specs.Board.{Board, Bus, q, clock, halted}
+use Rattle.dvg_cells_board.specs.Board.{Board, Bus, q, clock, halted, at, high}
 use Rattle.dvg_cells_board.specs.Clocks.{IsBus, after, reads, writes, sends}
 
 -- the processor uses the RAM in this clock
@@ -31,13 +31,18 @@ AnswersNext image held log clocks = (bus : Bus) → IsBus bus → Answers image 
 
 -- a clock of any board, whatever came before it and whoever drives it: a strobe starts the core in the next clock, and
 -- nothing else does; a byte is read for the core where nobody holds and all else leaves it alone, and nowhere else; and
--- the RAM is as it was, but for the byte that is written
+-- the RAM is as it was, but for the byte that is written. In the next clock `q` is the flag after a read of 2002, and
+-- after all else the byte that the RAM read last: the processor's, or the one at the core's place
 pub record Works (board : Board) (bus : Bus) : Type 0 where
   pub starts : (clock board bus).starting ≡ bit (sends bus && nat_eq bus.reset 0)
   pub serves : (clock board bus).pending ≡ bit (nat_eq (halted board) 0 && (nat_eq bus.hold 0 && (nat_eq bus.reset 0
       && (nat_eq board.starting 0 && (nat_eq board.pending 0 && not (uses_ram bus))))))
   pub ram : (a : ℕ) → (clock board bus).ram a
       ≡ (if writes bus && nat_eq a (bus.a % 0x800) then bus.d else board.ram a)
+  pub answers : (next : Bus) → q (clock board bus) next
+      ≡ (if reads bus 0x2002 then (if nat_eq (halted board) 0 then 128 else 0) else (clock board bus).read)
+  pub read : (clock board bus).read ≡ (if writes bus then board.read
+      else board.ram (if uses_ram bus then bus.a % 0x800 else 2 * (at board % 0x400) + high board))
 
 abbrev pub BoardWorks : Type 0
 BoardWorks = (board : Board) (bus : Bus) → IsBus bus → Works board bus
