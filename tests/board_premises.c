@@ -34,7 +34,7 @@ enum {
     CODE = 0x6800, PROGRAM_BYTES = 0x2000, VARIABLES = 0x10, OPERANDS = 0x1B, OPERANDS_END = 0x1F,
     VARIABLES_END = 0x21, FLAG = 0x2002, STROBE = 0x3000, VECTOR_RAM = 0x4000, MEMORY = 0x8000,
     BEGUN = 8, NMI_CYCLES = 6144, FRAME_CYCLES = 24576, NMI_MOST_CYCLES = 6048, NMI_MOST_TICKS = 53,
-    CYCLES_A_SECOND = 1512000, LEAST_STACK = 0x60,
+    CYCLES_A_SECOND = 1512000, SPARE_STACK = 0x20, HALF_STACK = 0x80,
     INPUTS = 0x2000, CLOCK = 0x2001, TEST = 0x2007, SWITCHES = 0x2800, INPUTS_END = 0x3000,
     ROM = 0x6000, JSR_OPCODE = 0x20, RTI_OPCODE = 0x40, JMP_OPCODE = 0x4C, RTS_OPCODE = 0x60,
     TXS_OPCODE = 0x9A, BNE_OPCODE = 0xD0, BEQ_OPCODE = 0xF0, MOST_CALLS = 3, RAM_END = 0x400,
@@ -739,6 +739,15 @@ static void check_misuse(int opcode)
     if (kinds[opcode].reads_list) check_list(opcode);
 }
 
+/* The program leaves as many bytes to an NMI as `make proof` wants, 32. S begins again at FF where
+ * an NMI needs more. */
+static void check_stack(void)
+{
+    if (!is_nmi() && processor.s < SPARE_STACK) fail("the stack grows down to %02X", processor.s);
+    if (is_nmi() && now->before.s < HALF_STACK && processor.s >= HALF_STACK)
+        fail("the NMI needs more of the stack than there is");
+}
+
 static void run_one(void)
 {
     int inside = is_driver(processor.pc);
@@ -750,7 +759,7 @@ static void run_one(void)
     else if (!inside && now->in_driver) end_call();
     if (is_nmi() && processor.pc == label(names[TICK]) && ++now->ticks > NMI_MOST_TICKS)
         fail("more than %d ticks in an NMI", NMI_MOST_TICKS);
-    if (processor.s < LEAST_STACK && was_reset) fail("the stack grows down to %02X", processor.s);
+    if (was_reset) check_stack();
     check_opcode(memory[processor.pc % MEMORY]);
     if (!now->in_driver) check_misuse(memory[processor.pc % MEMORY]);
     step(&processor);
