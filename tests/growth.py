@@ -1,7 +1,7 @@
 """How large the tree is beside growth.txt, which has the most that may be of each thing, for
-tests/documents. `python3 tests/growth.py` prints both. A thing is counted in texts: the paths of
-all files, those that are read with what is in them, and after a `$` commands, with what they
-print."""
+tests/documents. `python3 tests/growth.py` prints both, and then what has no limit. A thing is
+counted in texts: the paths of all files, those that are read with what is in them, and after a `$`
+commands, with what they print."""
 
 import os
 import re
@@ -17,6 +17,17 @@ COPY = 12
 COPIED = f"lines of proofs in copies of {COPY} or more"
 # What shows inputs and outputs for tests is no paper.
 CASES = re.compile(r"tests/(tool_)?cases/")
+
+
+# What users run, all by hand; and what tests it. The rest is proofs, papers, examples, what a
+# command writes, and bench/.
+SOURCES = re.compile(r"crates/\w+/src/|page/(src|wasm)/|(include|python|board|core|tools)/"
+                     r"|plain/(?!crates/\w+/src/)")
+TESTS = re.compile(r"(tests|twin|unproved)/")
+# A mistake in a text is a heading there.
+MISTAKES = [("wrong bodies", r"crates/\w+/wrong-bodies\.edits", r"(?m)^# "),
+            ("wrong laws", r"crates/\w+/wrong-laws\.edits", r"(?m)^# "),
+            ("mistakes in Verilog", r"tests/core_mistakes\.md", r"(?m)^### ")]
 
 
 def is_paper(path):
@@ -95,6 +106,38 @@ def count_by_shell():
     return dict(zip(names, map(int, numbers.split())))
 
 
+def count_others():
+    """How many there are of what has no limit, by its name: lines, and mistakes that are planted in
+    what is proved."""
+    paths = [path for path in line_lengths.tracked(TOP) if not is_paper(path)]
+    numbers = {name: sum(read_lines(path) for path in paths if kind.match(path))
+               for name, kind in (("lines of sources", SOURCES), ("lines of tests", TESTS))}
+    for name, file, heading in MISTAKES:
+        texts = [read(path) for path in line_lengths.tracked(TOP) if re.fullmatch(file, path)]
+        numbers[name] = sum(len(re.findall(heading, text)) for text in texts)
+    return numbers
+
+
+def read_lines(path):
+    with open(f"{TOP}/{path}", "rb") as file:
+        return file.read().count(b"\n")
+
+
+def count_others_by_shell():
+    """The same once more, by other programs."""
+    numbers = printed("""
+        lines() { git ls-files -z -- "$@" | xargs -0 cat | wc -l; }
+        lines 'crates/*/src/*' page/src page/wasm include python board core tools plain \\
+            ':!plain/crates/*/src/*' ':!*.md'
+        lines tests twin unproved ':(glob,exclude)tests/*.md' ':(glob,exclude)twin/*.md' \\
+            ':(glob,exclude)unproved/**/*.md'
+        cat crates/*/wrong-bodies.edits | grep -c '^# '
+        cat crates/*/wrong-laws.edits | grep -c '^# '
+        grep -c '^### ' tests/core_mistakes.md""")
+    names = ["lines of sources", "lines of tests"] + [name for name, _, _ in MISTAKES]
+    return dict(zip(names, map(int, numbers.split())))
+
+
 def read_limits():
     """The most that may be of each thing, by its name."""
     lines = [line.split(None, 1) for line in read(LIMITS).splitlines() if line[:1] not in ("", "#")]
@@ -147,3 +190,5 @@ if __name__ == "__main__":
     LIMITS_NOW = read_limits()
     for NAME, COUNT in count(read_texts()).items():
         print(f"{COUNT:,} {NAME}, {LIMITS_NOW[NAME]:,} at most")
+    for NAME, COUNT in count_others().items():
+        print(f"{COUNT:,} {NAME}")
