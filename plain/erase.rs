@@ -16,8 +16,8 @@
 //!    the signature of `Display::fmt`, and of functions that a `Formatter<W>` is handed to; `main`,
 //!    which gets its runtime by a line of its own; `to_ascii_lowercase` with an allocator, which
 //!    Rust's slices have without one, as `to_ascii_lowercase_in`; `clone`, which returns a `Result`
-//!    in the sources, as `try_clone`; `step` as `_step`, where a loop's number has this name, or
-//!    any other, for its proof alone; and the statements `UNLOOKED` with `let _ = ` before them.
+//!    in the sources, as `try_clone`; and `step` as `_step`, where a loop's number has this name,
+//!    or any other, for its proof alone.
 //! 3. It puts in: the lines of `HEAD` at the head of a crate; `PRELUDE` in a file that names one of
 //!    its words; a `use` of the `MACROS` that a file calls; `Clone` and `Debug` at each type of
 //!    `COPIED` that derives them not, as Rattle has no copy that takes memory without a refusal;
@@ -59,7 +59,7 @@ const MACROS: [&str; 3] = ["eprint", "eprintln", "println"];
 
 /// The types that Rust's users copy and print, where the sources don't: what users hold, and what
 /// that is made of.
-const COPIED: [&str; 42] = [
+const COPIED: [&str; 44] = [
     "struct Alike",
     "struct Banked",
     "struct Chain",
@@ -80,6 +80,7 @@ const COPIED: [&str; 42] = [
     "struct Found",
     "struct Frame",
     "struct Generator",
+    "struct GeneratorRefused",
     "struct GeneratorState",
     "struct Image",
     "struct Judge",
@@ -100,6 +101,7 @@ const COPIED: [&str; 42] = [
     "struct WordBytes",
     "struct Worklist",
     "struct World",
+    "struct WorldRefused",
     "struct WorldState",
     "struct WrappingGenerator",
 ];
@@ -137,19 +139,9 @@ const KEPT: [(&str, &str); 22] = [
 ];
 
 /// How public functions begin that refuse by `false`.
-const REFUSING: [&str; 4] = [
-    "fn resume(&mut self, ",
-    "fn resume<A: Allocator>(\n        &mut self,",
+const REFUSING: [&str; 2] = [
     "fn take(&mut self, line: &[u8]) -> bool",
     "fn take(&mut self, tokens: &[&[u8]]) -> bool",
-];
-
-/// How statements begin, each on a line of its own, that don't look at such a refusal: it is proved
-/// that none comes.
-const UNLOOKED: [&str; 3] = [
-    "self.generator.resume(&generator, strokes);",
-    "generator.resume(&state, strokes);",
-    "wrapping.resume(&state, strokes);",
 ];
 
 /// What stands above a function whose refusal must be looked at.
@@ -689,9 +681,6 @@ impl<'a> Eraser<'a> {
     }
 
     fn word(&mut self, end: usize) -> Result<(), Refused> {
-        if self.is_line_begun() && UNLOOKED.iter().any(|begin| self.begins(begin)) {
-            self.out.extend_from_slice(b"let _ = ");
-        }
         match self.slice(self.at, end) {
             "ghost" => self.drop_ghost()?,
             "requires" | "ensures" => self.drop_clauses()?,
@@ -1348,16 +1337,11 @@ mod tests {
             "/// A.\n#[must_use]\npub fn of(part: &[u8]) -> Option<u8> {\n}\n",
         );
         leaves(
-            "    #[inline]\n    pub fn resume(&mut self, state: u8) -> bool {\n",
-            "    #[inline]\n    #[must_use]\n    pub fn resume(&mut self, state: u8) -> bool {\n",
+            "    #[inline]\n    pub fn take(&mut self, line: &[u8]) -> bool {\n",
+            "    #[inline]\n    #[must_use]\n    pub fn take(&mut self, line: &[u8]) -> bool {\n",
         );
         stays("pub fn step(&mut self) -> Option<u8> {\n}\n");
         stays("fn of(part: &[u8]) -> Option<u8> {\n}\npub fn is_of(part: u8) -> bool {\n}\n");
-        leaves(
-            "    generator.resume(&state, strokes);\n",
-            "    let _ = generator.resume(&state, strokes);\n",
-        );
-        stays("    if !generator.resume(&state, strokes) {\n    }\n");
         stays("#[derive(Eq, Hash)]\nstruct Codes;\n");
         stays("enum World {}\nstruct Worlds {}\n");
     }

@@ -57,13 +57,13 @@ fn read(bytes: &[u8]) -> Result<String, StateFault> {
         Err(StateFault::OtherClass) => {
             let (state, strokes) = GeneratorState::from_wrapping_bytes(bytes)?;
             let mut wrapping = WrappingGenerator::new(Global);
-            assert!(wrapping.resume(&state, strokes));
+            wrapping.resume(&state, strokes).unwrap();
             Ok(written_wrapping(&wrapping))
         }
         read => {
             let (state, strokes) = read?;
             let mut generator = Generator::new(Global);
-            assert!(generator.resume(&state, strokes));
+            generator.resume(&state, strokes).unwrap();
             Ok(written(&generator))
         }
     }

@@ -113,7 +113,8 @@ fn digest_of(rom: &str) -> u64 {
 fn restored(rom: &str, saved: &str) -> Result<World<Flat>, StateFault> {
     let mut world = world_of(rom, &[0x5A; 2048]);
     let state = WorldState::from_bytes(digest_of(rom), &bytes_of(saved))?;
-    if world.resume(state) { Ok(world) } else { Err(StateFault::Parts) }
+    world.resume(state).map_err(|_| StateFault::Parts)?;
+    Ok(world)
 }
 
 fn written(rom: &str, world: &World<Flat>) -> String {

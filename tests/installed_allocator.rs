@@ -192,7 +192,7 @@ fn restored(alloc: &Refusing) -> Option<String> {
     let state = counting(false, || again(|| WorldState::from_bytes_in(alloc, 0, &bytes))).ok()?;
     let rom = Rom::new(alloc, &[0; 2048]).ok()?;
     let mut world = World::<Flat<&Refusing>>::new(alloc, rom, &state.ram).ok()?;
-    assert!(world.resume(state));
+    assert!(world.resume(state).is_ok());
     loop {
         match again(|| world.fetch()) {
             Ok(Entry::Done(..)) => return told(Ok::<_, ()>(world.picture())),

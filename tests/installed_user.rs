@@ -5,10 +5,11 @@ use std::error::Error;
 
 use gerbilargent::alloc::{AllocError, AllocFailed, Vec};
 use gerbilargent::{
-    Action, BadCode, BadOp, Checker, Code, CodeFault, Draft, DraftFull, Driver, DriverFault, Entry,
-    Event, Flat, FrameFault, GenFault, Generator, GeneratorState, Global, Image, Instr, Judge,
-    MemFault, MomentJudge, Op, OpKind, OutOfMemory, Rom, StateFault, Stopped, Stroke, World,
-    WorldState, WrappingGenerator, check, digest, dump, read, steps,
+    Action, BadCode, BadOp, Checker, Code, CodeFault, Draft, DraftFull, Driver, DriverFault,
+    DriverState, DriverStateFault, Entry, Event, Flat, FrameFault, GenFault, Generator,
+    GeneratorState, GeneratorStateFault, Global, Image, Instr, Judge, MemFault, MomentJudge, Op,
+    OpKind, OutOfMemory, Phase, Place, Rom, StateFault, Stopped, Stroke, World, WorldState,
+    WorldStateFault, WrappingGenerator, check, digest, dump, read, steps,
 };
 
 /// All names of the crate at once leave std's as they are, and so does the prelude.
@@ -85,7 +86,7 @@ fn copy() -> Result<(), Box<dyn Error>> {
     }
     let state = generator.state();
     let mut resumed = Generator::new(Global);
-    assert!(resumed.resume(&state.clone(), Vec::new(Global)));
+    resumed.resume(&state.clone(), Vec::new(Global))?;
     assert_eq!(format!("{state:?}"), format!("{:?}", resumed.state()));
     let mut copies = (generator.clone(), wrapping.clone());
     for byte in [0x02, 0x64, 0x90, 0x64, 0x74, 0x00, 0xB0] {
@@ -127,12 +128,12 @@ fn save() -> Result<(), Box<dyn Error>> {
         let other_rom = Rom::new(Global, rom)?.digest();
         assert_eq!(WorldState::from_bytes(other_rom, &bytes).err(), Some(StateFault::OtherRom));
         let mut other = world_over(rom)?;
-        assert!(other.resume(state.clone()));
+        other.resume(state.clone())?;
         assert_eq!(run_of(&mut other)?, Entry::Broke(0xC00, GenFault::Hole));
         assert!(other.generator().halted() && other.fetch()? == Entry::Still);
     }
     let (mut later, mut judge) = (world_over(&[0xD0; 2048])?, MomentJudge::new());
-    assert!(later.resume(state));
+    later.resume(state)?;
     while !later.generator().halted() {
         assert!(!judge.take(&Event::Fetch, &later.apply(&Event::Fetch)?) && !judge.is_torn());
     }
@@ -171,7 +172,12 @@ fn refuse(rom: u64, bytes: &[u8]) -> Result<(), Box<dyn Error>> {
     let frame = read::read_draft(b"labs 0 0 0\ncallrom 800\nhalt\n")?.draft;
     assert_eq!(writing.offer(&frame), Entry::Offered);
     let state = WorldState::from_bytes(rom, &writing.state()?.to_bytes(0)?)?;
-    assert!(!world_over(&[0xC8; 2048])?.resume(state));
+    let mut other = world_over(&[0xC8; 2048])?;
+    let refused = other.resume(state).err().ok_or("the frame is taken")?;
+    // Each word of that ROM is a call of 8C8.
+    let fault = FrameFault::TooDeep(Place::InRom(0x8C8));
+    assert_eq!(refused.fault, WorldStateFault::Driver(DriverStateFault::Frame(fault)));
+    world_over(&[0xD0; 2048])?.resume(refused.state)?; // It has come back whole.
     Ok(())
 }
 
@@ -192,10 +198,86 @@ fn save_driver() -> Result<(), Box<dyn Error>> {
     while driver.tick(true, 0) != Action::Idle {}
     driver.offer(check(&one_vector().ok_or("a field is out of its range")?, &rom)?)?;
     driver.tick(true, 0);
-    assert!(later.resume(&driver.state(), &mut checker, &rom));
+    later.resume(&driver.state(), &mut checker, &rom)?;
     for _ in 0..20 {
         assert_eq!(driver.tick(true, 0), later.tick(true, 0));
     }
+    Ok(())
+}
+
+/// What no generator, no driver and no world resumes comes back with the reason, and what was to go
+/// on is as it was.
+fn refuse_states() -> Result<(), Box<dyn Error>> {
+    let drawn = Stroke { x0: 0, y0: 2_097_151, x1: 2_097_151, y1: 0, z: 15 };
+    assert!(drawn.is_valid() && Stroke { z: 1, ..drawn }.is_valid());
+    let mut wrong = vec![Stroke { z: 0, ..drawn }, Stroke { z: 16, ..drawn }];
+    wrong.extend([Stroke { x0: 2_097_152, ..drawn }, Stroke { y0: 2_097_152, ..drawn }]);
+    wrong.extend([Stroke { x1: 2_097_152, ..drawn }, Stroke { y1: u32::MAX, ..drawn }]);
+    for stroke in wrong {
+        assert!(!stroke.is_valid());
+        refuse_stroke(&[drawn, stroke, drawn].into_iter().collect())?;
+    }
+    let (mut generator, mut wrapping) = (Generator::new(Global), WrappingGenerator::new(Global));
+    let (good, four) = (generator.state(), wrapping.state());
+    let bad = GeneratorState { x: 2_097_152, ..good.clone() };
+    let nothing = || Vec::new(Global);
+    let fields = Some(GeneratorStateFault::Fields);
+    assert_eq!(generator.resume(&bad, nothing()).err().map(|it| it.fault), fields);
+    assert_eq!(wrapping.resume(&good, nothing()).err().map(|it| it.fault), fields);
+    let bad = GeneratorState { at: 4096, ..four.clone() };
+    assert_eq!(wrapping.resume(&bad, nothing()).err().map(|it| it.fault), fields);
+    wrapping.resume(&four, nothing())?;
+    refuse_drivers()
+}
+
+/// Neither kind of generator, nor a world, goes on with these strokes, of which one is none.
+fn refuse_stroke(strokes: &Vec<Stroke>) -> Result<(), Box<dyn Error>> {
+    let fault = GeneratorStateFault::Stroke;
+    let (mut generator, mut wrapping) = (Generator::new(Global), WrappingGenerator::new(Global));
+    let (state, four) = (generator.state(), wrapping.state());
+    generator.start();
+    assert_eq!(state.fault_with(strokes), Some(fault));
+    let refused = generator.resume(&state, strokes.clone()).err().ok_or("a stroke is taken")?;
+    assert_eq!((refused.fault, &refused.strokes), (fault, strokes));
+    assert_eq!(refused.to_string(), "a stroke that no generator draws");
+    assert!(!generator.halted());
+    let refused = wrapping.resume(&four, refused.strokes).err().ok_or("a stroke is taken")?;
+    assert_eq!((refused.fault, &refused.strokes), (fault, strokes));
+    let mut world = world_over(&[0; 2048])?;
+    let before = WorldState { strokes: refused.strokes, ..world.state()? };
+    world.tick();
+    let after = world.state()?;
+    let refused = world.resume(before.clone()).err().ok_or("a stroke is taken")?;
+    assert_eq!(refused.fault, WorldStateFault::Generator(fault));
+    assert_eq!(refused.to_string(), "the generator isn't resumed: a stroke that no generator draws");
+    assert!(refused.state == before && world.state()? == after);
+    Ok(())
+}
+
+/// A driver's state is refused for each reason.
+fn refuse_drivers() -> Result<(), Box<dyn Error>> {
+    let (rom, mut checker) = (Rom::new(Global, &[0; 2048])?, Checker::new());
+    let frame = one_vector().ok_or("a field is out of its range")?;
+    let writing = DriverState { phase: Phase::Writing, frame, left: 10, ..Driver::new().state() };
+    let mut driver = Driver::new();
+    let mut why = |state: &DriverState| driver.resume(state, &mut checker, &rom).err();
+    let half = writing.half;
+    for (state, fault) in [
+        (DriverState { left: 11, ..writing.clone() }, DriverStateFault::Left),
+        (DriverState { frame_half: half, left: 99, ..writing.clone() }, DriverStateFault::Half),
+        (
+            DriverState { frame: Draft::new(), frame_half: half, ..writing.clone() },
+            DriverStateFault::Frame(FrameFault::Empty),
+        ),
+        (DriverState { phase: Phase::Sending, ..writing.clone() }, DriverStateFault::Flipped),
+        (
+            DriverState { phase: Phase::Booting, flipped: true, ..writing.clone() },
+            DriverStateFault::Flipped,
+        ),
+    ] {
+        assert_eq!(why(&state), Some(fault));
+    }
+    assert_eq!(why(&writing), None);
     Ok(())
 }
 
@@ -265,6 +347,7 @@ fn main() -> Result<(), Box<dyn Error>> {
     copy()?;
     save()?;
     save_driver()?;
+    refuse_states()?;
     assert!(all_names::draws_nothing()?.is_empty());
     println!("{:?} {} {}", draw()?, count()?, gerbilargent::VERSION);
     Ok(())

@@ -46,11 +46,11 @@ COPIED = """
     struct Alike, struct Banked, struct Chain, struct Checked, struct Checker, struct Counted,
     struct Cursor, struct Desk, struct DraftText, struct Drawn, struct Driver, struct Dump,
     enum Ending, struct Entries, struct EntryRun, struct EntryRuns, struct Flat, struct Found,
-    struct Frame, struct Generator, struct GeneratorState, struct Image, struct Judge,
-    struct Listing, struct Logged, struct Note, struct Pair, struct PairList, enum Phase,
-    struct Picture, struct Rom, struct Run, struct Runs, struct Stopped, struct Table, enum Taken,
-    struct Traced, struct WordBytes, struct Worklist, struct World, struct WorldState,
-    struct WrappingGenerator
+    struct Frame, struct Generator, struct GeneratorRefused, struct GeneratorState, struct Image,
+    struct Judge, struct Listing, struct Logged, struct Note, struct Pair, struct PairList,
+    enum Phase, struct Picture, struct Rom, struct Run, struct Runs, struct Stopped, struct Table,
+    enum Taken, struct Traced, struct WordBytes, struct Worklist, struct World,
+    struct WorldRefused, struct WorldState, struct WrappingGenerator
 """
 COPIED = {tuple(item.split()) for item in COPIED.split(",")}
 # The types that serde writes and reads, some by another type, which is checked, and some that are
@@ -70,15 +70,10 @@ KEPT = """
     enum Half, enum Instr, enum Listed, enum MemFault, enum OpKind, struct OutOfMemory
 """
 KEPT = {tuple(item.split()) for item in KEPT.split(",")} | CHECKED.keys() | LOOKED_AT.keys()
-# How public functions begin that refuse by `false`, and statements that don't look at one of these.
+# How public functions begin that refuse by `false`.
 MUST_USE = words("#[must_use]")
 REFUSING = [words(head) for head in (
-    "fn resume(&mut self,", "fn resume<A: Allocator>(&mut self,",
     "fn take(&mut self, line: &[u8]) -> bool", "fn take(&mut self, tokens: &[&[u8]]) -> bool",
-)]
-UNLOOKED = [words(statement) for statement in (
-    "self.generator.resume(&generator, strokes);", "generator.resume(&state, strokes);",
-    "wrapping.resume(&state, strokes);",
 )]
 # What stands at the end of a library with a file by hand beside its sources.
 BESIDE = ['#[path = "../rust.rs"]', "mod rust;", ""]
@@ -184,11 +179,6 @@ class Source:
         by_option = ") - > Option <" in (text := " ".join(signature)) and "& mut self" not in text
         return by_option or any(self.next_is(*head) for head in REFUSING)
 
-    def is_unlooked(self):
-        """Whether a statement begins here that doesn't look at a refusal."""
-        return self.left[-1:] in ([";"], ["{"], ["}"]) and any(
-            self.next_is(*statement) for statement in UNLOOKED)
-
     def formatting(self):
         """A signature up to its bracket's end."""
         end = self.until(")")
@@ -201,8 +191,6 @@ class Source:
         line = self.skipped_line()
         if self.refuses():
             self.left[-1:] = [*MUST_USE, "pub"]
-        elif self.is_unlooked():
-            self.left += words("let _ =")
         if self.next_is("ghost"):
             self.pass_ghost()
         elif self.next_is("requires") or self.next_is("ensures") or self.is_model():

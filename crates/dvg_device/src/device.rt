@@ -1,6 +1,8 @@
 //! The device.
 ghost use Rattle.std.specs.Prelude.{◌≡◌, ◌↔◌, ◌<◌, ◌+◌, ◌++◌, [], ◌∷◌, length, drop, take};
-ghost use Rattle.std.specs.Prelude.{slice_get, vec_capacity, IfSome, IsSome, IsTrue, MatchOption};
+ghost use Rattle.std.specs.Prelude.{slice_get, vec_capacity, All, IfSome, IsSome, IsTrue};
+ghost use Rattle.std.specs.Prelude.{MatchOption};
+ghost use Rattle.dvg_gen.specs.Position.{IsStroke};
 ghost use Rattle.dvg_gen.specs.Saved.{machine_of};
 ghost use Rattle.dvg_mem.specs.declared.TheConstants.{MEMORY_BYTES};
 ghost use Rattle.dvg_device.specs.Devices.{Answered, Driver, IsNewDriver, IsOneOf, Numbered};
@@ -690,8 +692,8 @@ fn stroke_intensity(picture: &[Stroke], i: u64) -> Reply
     }
 }
 
-// Has `world` go on with a RAM that holds `ram`, with the generator's state and strokes `told`, and
-// with `fields` of its driver, whose frame is `draft`. Returns the reply.
+// Has `world` go on with a RAM that holds `ram`, with the generator's state and strokes `told`, of
+// which each is one, and with `fields` of its driver, whose frame is `draft`. Returns the reply.
 fn resumed(
     world: &mut World<Flat>,
     ram: Image,
@@ -699,6 +701,7 @@ fn resumed(
     fields: DriverFields,
     draft: &Draft,
 ) -> Reply
+    requires { All IsStroke told.1.items }
     ensures { Resumes ram (machine_of told.0 told.1.items []) fields draft.now world.old world.new
         result }
 {
@@ -710,10 +713,9 @@ fn resumed(
         driver: fields.state(draft.copy()),
         strobe_sent: fields.strobe_sent,
     };
-    if world.resume(state) {
-        Reply::Opened
-    } else {
-        Reply::NoState
+    match world.resume(state) {
+        Ok(()) => Reply::Opened,
+        Err(_) => Reply::NoState,
     }
 }
 

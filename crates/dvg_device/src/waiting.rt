@@ -1,7 +1,7 @@
 //! What was told of a generator's state, before one begins in it. An answer that tells a part is
 //! the request that tells another device the same part. What was open stays until the whole state
 //! is there; the first part begins anew.
-ghost use Rattle.std.specs.Prelude.{◌≡◌, ◌↔◌, ◌<◌, [], IsTrue, MatchOption, Some};
+ghost use Rattle.std.specs.Prelude.{◌≡◌, [], All, MatchOption, Some};
 ghost use Rattle.dvg_gen.specs.Position.{IsStroke};
 ghost use Rattle.dvg_gen.specs.Saved.{machine_of};
 ghost use Rattle.dvg_device.specs.States.{CanStand, TakesPart, part_in, unbegun};
@@ -29,13 +29,16 @@ pub(crate) struct Waiting {
 
 /// Contracts see the machine in that state.
 impl Model for Waiting {
-    ghost use Rattle.std.specs.Prelude.{[]};
+    ghost use Rattle.std.specs.Prelude.{[], All};
     ghost use Rattle.dvg_gen.specs.Machine.{Machine};
+    ghost use Rattle.dvg_gen.specs.Position.{IsStroke};
     ghost use Rattle.dvg_gen.specs.Saved.{machine_of};
 
     ghost Value = { Machine };
 
     ghost view = { λ waiting. machine_of waiting.state waiting.strokes.items [] };
+
+    ghost invariant = { λ waiting. All IsStroke waiting.strokes.items };
 }
 
 impl Waiting {
@@ -112,7 +115,7 @@ impl Waiting {
             y1: y,
             z,
         };
-        if !is_stroke(&stroke) {
+        if !stroke.is_valid() {
             return Reply::NoState;
         }
         match self.strokes.push(stroke) {
@@ -124,6 +127,7 @@ impl Waiting {
     // Takes the state and the strokes that were told, and forgets them.
     pub(crate) fn take_told(&mut self, alloc: Global) -> (GeneratorState, Vec<Stroke>)
         ensures told { self.old ≡ machine_of result.0 result.1.items [] }
+        ensures strokes { All IsStroke result.1.items }
         ensures forgotten { self.new ≡ unbegun }
     {
         let Waiting { state, strokes } = mem::replace(self, Waiting::new(alloc));
@@ -142,8 +146,10 @@ impl Waiting {
         }
         let (state, strokes) = self.take_told(alloc);
         let mut generator = Generator::new(alloc);
-        generator.resume(&state, strokes);
-        Some(generator)
+        match generator.resume(&state, strokes) {
+            Ok(()) => Some(generator),
+            Err(_) => unreachable!(),
+        }
     }
 
     // Returns a generator whose stack wraps in this state, and forgets the state, where such a one
@@ -158,22 +164,9 @@ impl Waiting {
         }
         let (state, strokes) = self.take_told(alloc);
         let mut wrapping = WrappingGenerator::new(alloc);
-        wrapping.resume(&state, strokes);
-        Some(wrapping)
+        match wrapping.resume(&state, strokes) {
+            Ok(()) => Some(wrapping),
+            Err(_) => unreachable!(),
+        }
     }
-}
-
-// Returns whether a generator can have drawn `stroke`.
-fn is_stroke(stroke: &Stroke) -> bool
-    ensures { IsTrue result ↔ IsStroke stroke.now }
-{
-    let Stroke { x0, y0, x1, y1, z } = *stroke;
-    is_inside(x0) && is_inside(y0) && is_inside(x1) && is_inside(y1) && matches!(z, 1..=15)
-}
-
-// Returns whether the beam can be at `place`, along an axis.
-fn is_inside(place: u32) -> bool
-    ensures { IsTrue result ↔ (place < 2097152) }
-{
-    place < 2_097_152
 }

@@ -1,10 +1,13 @@
 -- A driver's state as a plain value.
-use Rattle.std.specs.Prelude.{◌≡◌, ℕ, ◌*◌, ◌≤◌, List, Some, IfSome}
+use Rattle.std.specs.Prelude.{◌≡◌, ◌≢◌, ℕ, ◌*◌, ◌<◌, ◌≤◌, List, Some, IfSome}
 use Rattle.dvg_mem.specs.Areas.{other}
-use Rattle.dvg_frame.specs.Faults.{Accepts}
+use Rattle.dvg_frame.specs.Faults.{Accepts, Refuses}
 use Rattle.dvg_frame.specs.Layout.{size}
 use Rattle.dvg_frame.specs.Left.{CursorState}
+use Rattle.dvg_driver.specs.declared.fault.DriverStateFault.{DriverStateFault}
+use Rattle.dvg_driver.specs.declared.fault.DriverStateFault.TheVariants.{Flipped, Frame, Half, Left}
 use Rattle.dvg_driver.specs.declared.state.DriverState.{DriverState}
+use Rattle.dvg_driver.specs.declared.state.Phase.TheVariants as phase
 use Rattle.dvg_driver.specs.Phases.{Allows, driving_at}
 use Rattle.dvg_driver.specs.Stands.{Driving, Stage}
 
@@ -17,6 +20,19 @@ IsWritable R state =
 -- the parts of a state fit together, over this ROM
 abbrev pub IsState : List ℕ → DriverState → Type 0
 IsState R state = Allows state.phase state.flipped (IsWritable R state)
+
+-- why the frame in a state can't be written over this ROM: the fault of the check, the wrong half, or too few bytes
+abbrev pub IsUnwritable : List ℕ → DriverState → DriverStateFault → Type 0
+IsUnwritable R state Flipped = ⊥
+IsUnwritable R state (Frame fault) = Refuses state.frame R fault
+IsUnwritable R state Half = Accepts state.frame R × (state.frame_half ≢ other state.half)
+IsUnwritable R state Left =
+    Accepts state.frame R × (state.frame_half ≡ other state.half) × (2 * size state.frame < state.left)
+
+-- why the parts of a state don't fit together: a frame that is being written can't be, and otherwise it is the flip
+abbrev pub IsUnfit : List ℕ → DriverState → DriverStateFault → Type 0
+IsUnfit R state Flipped = (state.phase ≢ phase.Writing) × ¬ IsState R state
+IsUnfit R state fault = (state.phase ≡ phase.Writing) × IsUnwritable R state fault
 
 -- what gives the bytes of the frame in a state
 abbrev pub cursor_in : DriverState → CursorState

@@ -1,7 +1,7 @@
 //! The driver.
 ghost use Rattle.std.specs.Prelude.{◌≡◌, ◌↔◌, ◌≤◌, ℕ, ◌*◌, true, false, not, All, List, [], ◌∷◌};
-ghost use Rattle.std.specs.Prelude.{IfErr, IfNone, IfSome, IsOk, IsSome, IsSomeAnd, IsTrue, None};
-ghost use Rattle.std.specs.Prelude.{OnErr, OnOk, Some, option_map};
+ghost use Rattle.std.specs.Prelude.{IfErr, IfNone, IfOk, IfSome, IsOk, IsSome, IsSomeAnd, IsTrue};
+ghost use Rattle.std.specs.Prelude.{None, OnErr, OnOk, Some, option_map};
 ghost use Rattle.dvg_frame.specs.Bytes.{IsBehindWordZero, addressed, bytes};
 ghost use Rattle.dvg_frame.specs.Layout.{laid, size};
 ghost use Rattle.dvg_frame.specs.Left.{IsOf, after_item, items_in};
@@ -10,15 +10,15 @@ ghost use Rattle.dvg_driver.specs.declared.state.Phase.TheVariants as phase;
 ghost use Rattle.dvg_mem.specs.Areas.{base, half_of_high, high, other};
 ghost use Rattle.dvg_driver.specs.Phases.{items_of};
 ghost use Rattle.dvg_driver.specs.Place.{Waiting, Writing};
-ghost use Rattle.dvg_driver.specs.Saved.{IsState, IsWritable, KeepsAccepted, cursor_in};
-ghost use Rattle.dvg_driver.specs.Saved.{driving_in};
+ghost use Rattle.dvg_driver.specs.Saved.{IsState, IsUnfit, IsUnwritable, IsWritable};
+ghost use Rattle.dvg_driver.specs.Saved.{KeepsAccepted, cursor_in, driving_in};
 ghost use Rattle.dvg_driver.specs.Script.{Item, Offered, Asked, Did, IsLife, IsWhole, has_flip};
 ghost use Rattle.dvg_driver.specs.Script.{word_zero};
 ghost use Rattle.dvg_driver.specs.Stands.{IsInRam, KeepsNoOther, StandsAfter, Tells, WritesNext};
 ghost use Rattle.dvg_driver.specs.Stands.{WritesNoByte, WritesWordZero, byte1_of, peeked_after};
 
 use crate::action::Action;
-use crate::fault::DriverFault;
+use crate::fault::{DriverFault, DriverStateFault};
 use crate::state::{DriverState, Phase};
 use dvg_frame::{Checked, Checker, Cursor, Draft, Frame};
 use dvg_mem::{Half, Rom};
@@ -191,33 +191,37 @@ impl Driver {
         }
     }
 
-    /// Brings the driver into `state`, and returns `true`: it goes on as the one whose state this
-    /// is. A frame that is being written is checked by `checker`, over `rom`. Returns `false`
-    /// exactly where the parts of `state` don't fit together over that ROM, and then nothing has
-    /// changed.
+    /// Brings the driver into `state`: it goes on as the one whose state this is. A frame that is
+    /// being written is checked by `checker`, over `rom`. Returns why the parts of `state` don't fit
+    /// together over that ROM exactly where they don't, and then nothing has changed.
     pub fn resume<A: Allocator>(
         &mut self,
         state: &DriverState,
         checker: &mut Checker,
         rom: &Rom<A>,
-    ) -> bool
-        ensures taken { IsTrue result ↔ IsState rom.now state.now }
-        ensures driver { IsTrue result → self.new ≡ driving_in state.now }
-        ensures refused { (IsTrue result → ⊥) → self.new ≡ self.old }
+    ) -> Result<(), DriverStateFault>
+        ensures taken { IsOk result ↔ IsState rom.now state.now }
+        ensures driver { OnOk result (self.new ≡ driving_in state.now) }
+        ensures fault { IfErr result (IsUnfit rom.now state.now) }
+        ensures refused { OnErr result (self.new ≡ self.old) }
     {
         match state.phase {
-            Phase::Start | Phase::Booting | Phase::Flipping if state.flipped => return false,
-            Phase::Waiting | Phase::Sending if !state.flipped => return false,
+            Phase::Start | Phase::Booting | Phase::Flipping if state.flipped => {
+                return Err(DriverStateFault::Flipped);
+            }
+            Phase::Waiting | Phase::Sending if !state.flipped => {
+                return Err(DriverStateFault::Flipped);
+            }
             Phase::Writing => match cursor_of(state, checker, rom) {
-                Some(cursor) => self.cursor = Some(cursor),
-                None => return false,
+                Ok(cursor) => self.cursor = Some(cursor),
+                Err(fault) => return Err(fault),
             },
             _ => {}
         }
         self.phase = state.phase;
         self.half = state.half;
         self.flipped = state.flipped;
-        true
+        Ok(())
     }
 
     // Returns the next byte of a frame that the driver writes, with its address before it: it is
@@ -320,23 +324,30 @@ fn written_by(cursor: &Cursor) -> (Draft, Half, u16)
     (source.0.copy(), source.1, cursor.left())
 }
 
-// Returns a cursor over those bytes of the frame in `state` that are still to come. Returns `None`
+// Returns a cursor over those bytes of the frame in `state` that are still to come. Returns a fault
 // exactly where the check by `checker` over `rom` refuses that frame, it isn't laid out for the
-// half that is free, or it has fewer bytes.
+// half that is free, or it has fewer bytes: the first of these.
 fn cursor_of<A: Allocator>(
     state: &DriverState,
     checker: &mut Checker,
     rom: &Rom<A>,
-) -> Option<Cursor>
-    ensures taken { IsSome result ↔ IsWritable rom.now state.now }
-    ensures cursor { IfSome result (λ cursor. cursor ≡ cursor_in state.now) }
-    ensures in_ram { IfSome result (λ cursor. All IsBehindWordZero (items_in cursor)) }
+) -> Result<Cursor, DriverStateFault>
+    ensures taken { IsOk result ↔ IsWritable rom.now state.now }
+    ensures cursor { IfOk result (λ cursor. cursor ≡ cursor_in state.now) }
+    ensures in_ram { IfOk result (λ cursor. All IsBehindWordZero (items_in cursor)) }
+    ensures fault { IfErr result (IsUnwritable rom.now state.now) }
 {
-    let checked = checker.check(state.frame.ops(), rom).ok()?;
-    if state.frame_half != state.half.other() || state.left > 2 * checked.len_words() {
-        return None;
+    let checked = match checker.check(state.frame.ops(), rom) {
+        Ok(checked) => checked,
+        Err(fault) => return Err(DriverStateFault::Frame(fault)),
+    };
+    if state.frame_half != state.half.other() {
+        return Err(DriverStateFault::Half);
     }
-    Some(Cursor::with_left(&checked, state.frame_half, state.left))
+    if state.left > 2 * checked.len_words() {
+        return Err(DriverStateFault::Left);
+    }
+    Ok(Cursor::with_left(&checked, state.frame_half, state.left))
 }
 
 // Makes `cursor` begin with the bytes of `checked`, laid out for `half`.

@@ -21,5 +21,5 @@ mod state;
 
 pub use action::Action;
 pub use driver::Driver;
-pub use fault::DriverFault;
+pub use fault::{DriverFault, DriverStateFault};
 pub use state::{DriverState, Phase};

@@ -1,9 +1,9 @@
 -- A generator's state as a plain value.
-use Rattle.std.specs.Prelude.{◌≡◌, ℕ, ◌+◌, ◌<◌, List, [], length, reverse, slice_index, IsSome, true}
+use Rattle.std.specs.Prelude.{◌≡◌, ℕ, ◌+◌, ◌<◌, List, [], length, reverse, slice_index, All, IsSome, true}
 use Rattle.dvg_gen.specs.declared.state.GeneratorState.{GeneratorState}
 use Rattle.dvg_gen.specs.declared.stroke.Stroke.{Stroke}
 use Rattle.dvg_gen.specs.Machine.{Machine, IsKept}
-use Rattle.dvg_gen.specs.Position.{IsBeam}
+use Rattle.dvg_gen.specs.Position.{IsBeam, IsStroke}
 use Rattle.dvg_gen.specs.Run.{Visit, past_call, calls, returns}
 use Rattle.dvg_gen.specs.Wrapping.{Wrapped}
 
@@ -18,6 +18,10 @@ pub record IsState (state : GeneratorState) : Type 0 where
   pub kept : IsKept state.at state.held state.return_addresses.items
   pub waits : IsSome state.low → state.is_open ≡ true
   pub beam : IsBeam state.x state.y state.scale
+
+-- one that can be in a state, if this holds, goes on in it with these strokes of its run, each of which is one
+abbrev pub GoesOn : (CanBe : Type 0) → List Stroke → Type 0
+GoesOn CanBe strokes = CanBe × All IsStroke strokes
 
 -- a generator whose stack wraps can be in a state: a generator can, and there are four return addresses
 pub record IsWrappedState (state : GeneratorState) : Type 0 where

@@ -1,8 +1,9 @@
 //! The beam, and what an instruction does to it.
-ghost use Rattle.std.specs.Prelude.{◌≡◌, ◌+◌, ◌*◌, ◌%◌, ◌<◌, ◌≤◌, option_to_list};
+ghost use Rattle.std.specs.Prelude.{◌≡◌, ◌+◌, ◌*◌, ◌%◌, ◌<◌, ◌≤◌, IfSome, option_to_list};
 ghost use Rattle.dvg_code.specs.Ranges.{InRange};
 ghost use Rattle.dvg_code.specs.declared.instr.Instr.{Instr};
 ghost use Rattle.dvg_gen.specs.Drawing as spec;
+ghost use Rattle.dvg_gen.specs.Position.{IsStroke};
 
 use crate::stroke::Stroke;
 use dvg_code::{Code, Instr};
@@ -62,6 +63,7 @@ impl Beam {
     pub fn step(&mut self, code: &Code) -> Option<Stroke>
         ensures moved { self.new ≡ spec.moved self.old code.now }
         ensures drawn { option_to_list result ≡ spec.drawn self.old code.now }
+        ensures in_range { IfSome result IsStroke }
     {
         match code.instr() {
             Instr::Vctr { scale, dx, dy, z } => self.slide(dx, dy, unit(self.scale, scale), z),
@@ -83,6 +85,7 @@ impl Beam {
         requires { unit ≤ 131072 }
         ensures moved { self.new ≡ spec.slid self.old dx dy unit }
         ensures drawn { option_to_list result ≡ spec.line self.old self.new z }
+        ensures in_range { z ≤ 15 → IfSome result IsStroke }
     {
         let (x0, y0) = (self.x, self.y);
         self.x = shifted(x0, dx, unit);

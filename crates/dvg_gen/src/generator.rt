@@ -1,7 +1,8 @@
 //! The generator.
 ghost use Rattle.std.specs.Prelude.{◌≡◌, ◌↔◌, ◌+◌, ◌%◌, ◌<◌, ◌≤◌, true, false, ℕ, List, Option, []};
-ghost use Rattle.std.specs.Prelude.{◌∷◌, ◌++◌, IsTrue, IsNone, IsSome, IsOk, IfSome, IfOk, OnErr};
-ghost use Rattle.std.specs.Prelude.{Some, None, length, option_to_list, reverse};
+ghost use Rattle.std.specs.Prelude.{◌∷◌, ◌++◌, All, IsTrue, IsNone, IsSome, IsOk, IfSome, IfOk};
+ghost use Rattle.std.specs.Prelude.{IfErr, OnErr, OnOk, Some, None, length, option_to_list};
+ghost use Rattle.std.specs.Prelude.{reverse};
 ghost use Rattle.dvg_code.specs.Acts.{Moves, act_of};
 ghost use Rattle.dvg_code.specs.Ranges.{InRange};
 ghost use Rattle.dvg_code.specs.Spelling.{IsFirst};
@@ -13,8 +14,9 @@ ghost use Rattle.dvg_gen.specs.Machine.{Answers, HasTaken, IsOnward, Machine};
 ghost use Rattle.dvg_gen.specs.Machine.{answer_by, answer_of, left_by, picture_after};
 ghost use Rattle.dvg_gen.specs.Moving.{AddsMoves, CompletesMove, IsMove, begins_at};
 ghost use Rattle.dvg_gen.specs.Obeyed.{IsLabs, Obeyed};
+ghost use Rattle.dvg_gen.specs.Position.{IsStroke};
 ghost use Rattle.dvg_gen.specs.Run as spec;
-ghost use Rattle.dvg_gen.specs.Saved.{IsReturns, IsState, machine_of};
+ghost use Rattle.dvg_gen.specs.Saved.{GoesOn, IsReturns, IsState, machine_of};
 ghost use Rattle.dvg_gen.specs.Told.{Drew, Told, Start, Reset, wants};
 ghost use Rattle.dvg_gen.specs.Wrapping.{is_turn, turn_of};
 ghost use Rattle.dvg_gen.specs.declared.TheConstants.{STACK_DEPTH};
@@ -23,7 +25,7 @@ ghost use Rattle.dvg_gen.specs.declared.stroke.Stroke.{Stroke};
 use crate::STACK_DEPTH;
 use crate::beam::Beam;
 use crate::moving::Move;
-use crate::state::GeneratorState;
+use crate::state::{GeneratorRefused, GeneratorState, GeneratorStateFault};
 use crate::stroke::Stroke;
 use crate::taken::{GenFault, Step, Taken};
 use arrayvec::ArrayVec;
@@ -60,8 +62,9 @@ pub struct Generator<A: Allocator = Global> {
 
 /// Contracts see a `Machine`.
 impl<A: Allocator> Model for Generator<A> {
-    ghost use Rattle.std.specs.Prelude.{Some, None, if◌then◌else◌, reverse};
+    ghost use Rattle.std.specs.Prelude.{All, Some, None, if◌then◌else◌, reverse};
     ghost use Rattle.dvg_gen.specs.Machine.{IsKept, Machine, WaitsInRun};
+    ghost use Rattle.dvg_gen.specs.Position.{IsStroke};
 
     ghost Value = { Machine };
 
@@ -77,7 +80,7 @@ impl<A: Allocator> Model for Generator<A> {
     } };
 
     ghost invariant = { λ generator. IsKept generator.at generator.held generator.stack.items
-        × WaitsInRun generator.has_low generator.is_open };
+        × WaitsInRun generator.has_low generator.is_open × All IsStroke generator.strokes.items };
 }
 
 impl<A: Allocator + Copy> Generator<A> {
@@ -211,8 +214,19 @@ impl<A: Allocator + Copy> Generator<A> {
         ensures run { (history : List Told) (low : Option ℕ)
             (after : HasTaken self.now history low) → after.run.is_open ≡ true
             → result.now ≡ spec.strokes after.run.first after.run.visits }
+        ensures in_range { All IsStroke result.now }
     {
         self.strokes.as_slice()
+    }
+
+    /// Takes out the strokes that the open run drew so far, and leaves none: its picture is made of
+    /// those that it draws from now on. So a run without an end takes no more memory.
+    pub fn take_strokes(&mut self) -> Vec<Stroke, A>
+        ensures taken { result.items ≡ self.old.strokes }
+        ensures machine { self.new ≡ record self.old { strokes = [] } }
+        ensures in_range { All IsStroke result.items }
+    {
+        mem::replace(&mut self.strokes, Vec::new(self.alloc))
     }
 
     /// Returns the move that `byte`, the next one, completes, before it is taken: so who takes one
@@ -337,23 +351,43 @@ impl<A: Allocator + Copy> Generator<A> {
         }
     }
 
-    /// Brings the generator into `state`, with `strokes` as what its run drew so far, and returns
-    /// `true`. So it goes on as the one whose `state` and `strokes` these were. Of a run that goes
-    /// on with other strokes nothing is said. The picture stays as it was. Returns `false` exactly
-    /// where `state` isn't valid, and then nothing has changed.
-    pub fn resume(&mut self, state: &GeneratorState, strokes: Vec<Stroke, A>) -> bool
-        ensures taken { IsTrue result ↔ IsState state.now }
-        ensures machine { IsTrue result
-            → self.new ≡ machine_of state.now strokes.items self.old.picture }
-        ensures stands { IsTrue result → (saved : Machine) (picture : List Stroke)
+    /// Brings the generator into `state`, with `strokes` as what its run drew so far. So it goes on
+    /// as the one whose `state` and `strokes` these were. Of a run that goes on with other strokes
+    /// nothing is said. The picture stays as it was. Where `fault_with` finds a fault, it returns
+    /// that with the strokes, and nothing has changed: so never with those of a generator.
+    pub fn resume(
+        &mut self,
+        state: &GeneratorState,
+        strokes: Vec<Stroke, A>,
+    ) -> Result<(), GeneratorRefused<A>>
+        ensures taken { IsOk result ↔ GoesOn (IsState state.now) strokes.items }
+        ensures machine { OnOk result
+            (self.new ≡ machine_of state.now strokes.items self.old.picture) }
+        ensures stands { OnOk result ((saved : Machine) (picture : List Stroke)
+            (history : List Told) (low : Option ℕ)
+            → saved ≡ machine_of state.now strokes.items picture → HasTaken saved history low
+            → HasTaken self.new history low) }
+        ensures stroke { IfErr result (λ refused.
+            (refused.fault ≡ GeneratorStateFault.Stroke) ↔ IsState state.now) }
+        ensures given_back { IfErr result (λ refused. refused.strokes ≡ strokes) }
+        ensures refused { OnErr result (self.new ≡ self.old) }
+    {
+        if let Some(fault) = state.fault_with(strokes.as_slice()) {
+            return Err(GeneratorRefused { fault, strokes });
+        }
+        self.go_on(state, strokes);
+        Ok(())
+    }
+
+    // Does what `resume` does, where `fault_with` finds no fault.
+    pub(crate) fn go_on(&mut self, state: &GeneratorState, strokes: Vec<Stroke, A>)
+        requires { GoesOn (IsState state.now) strokes.items }
+        ensures machine { self.new ≡ machine_of state.now strokes.items self.old.picture }
+        ensures stands { (saved : Machine) (picture : List Stroke)
             (history : List Told) (low : Option ℕ)
             → saved ≡ machine_of state.now strokes.items picture → HasTaken saved history low
             → HasTaken self.new history low }
-        ensures refused { (IsTrue result → ⊥) → self.new ≡ self.old }
     {
-        if !state.is_valid() {
-            return false;
-        }
         self.is_open = state.is_open;
         self.at = state.at;
         self.held = state.held;
@@ -366,7 +400,6 @@ impl<A: Allocator + Copy> Generator<A> {
             scale: state.scale,
         };
         self.strokes = strokes;
-        true
     }
 
     // Returns the move of the instruction that the whole word `word` completes.

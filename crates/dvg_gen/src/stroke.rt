@@ -1,4 +1,8 @@
 //! What is seen.
+ghost use Rattle.std.specs.Prelude.{◌↔◌, ◌<◌, IsTrue};
+ghost use Rattle.dvg_gen.specs.Position.{IsStroke};
+
+use crate::beam::CIRCLE;
 
 /// A line that was drawn. Positions are in 1/512 of a screen unit, below 2,097,152.
 #[derive(Clone, Copy, Debug, PartialEq, Eq)]
@@ -13,4 +17,22 @@ pub struct Stroke {
     pub y1: u32,
     /// Its intensity, 1 to 15.
     pub z: u8,
+}
+
+impl Stroke {
+    /// Returns whether a generator can draw this stroke: each field is in the range that stands at
+    /// it.
+    pub fn is_valid(&self) -> bool
+        ensures { IsTrue result ↔ IsStroke self.now }
+    {
+        let Stroke { x0, y0, x1, y1, z } = *self;
+        is_inside(x0) && is_inside(y0) && is_inside(x1) && is_inside(y1) && matches!(z, 1..=15)
+    }
+}
+
+// Returns whether the beam can be at `place`, along an axis.
+fn is_inside(place: u32) -> bool
+    ensures { IsTrue result ↔ (place < 2097152) }
+{
+    place < CIRCLE
 }

@@ -1,18 +1,18 @@
 //! A generator whose stack wraps.
 ghost use Rattle.std.specs.Prelude.{◌≡◌, ◌↔◌, ◌+◌, ◌<◌, ◌≤◌, ℕ, List, [], ◌∷◌, Option, None, Some};
-ghost use Rattle.std.specs.Prelude.{IsOk, IfOk, IsTrue, OnErr, true, false, length, reverse};
+ghost use Rattle.std.specs.Prelude.{IfErr, IsOk, IfOk, OnErr, OnOk, true, false, length, reverse};
 ghost use Rattle.dvg_gen.specs.Bytes.{met};
 ghost use Rattle.dvg_gen.specs.Completing.{DrawsNothing};
 ghost use Rattle.dvg_gen.specs.Machine.{answer_by, picture_after};
 ghost use Rattle.dvg_gen.specs.Run.{on};
-ghost use Rattle.dvg_gen.specs.Saved.{IsWrappedState, wrapped_of};
+ghost use Rattle.dvg_gen.specs.Saved.{GoesOn, IsWrappedState, wrapped_of};
 ghost use Rattle.dvg_gen.specs.Told.{Told, Start, Reset};
 ghost use Rattle.dvg_gen.specs.Wrapping.{AnswersWrapped, HasWrapped, Wrapped, jump_of, turn_of};
 ghost use Rattle.dvg_gen.specs.Wrapping.{turned};
 
 use crate::STACK_DEPTH;
 use crate::generator::{Generator, copied};
-use crate::state::GeneratorState;
+use crate::state::{GeneratorRefused, GeneratorState, GeneratorStateFault};
 use crate::stroke::Stroke;
 use crate::taken::Step;
 use arrayvec::ArrayVec;
@@ -130,25 +130,40 @@ impl<A: Allocator + Copy> WrappingGenerator<A> {
         state
     }
 
-    /// Brings the generator into `state`, with `strokes` as what its run drew so far, and returns
-    /// `true`. So it goes on as the one whose `state` and `strokes` these were. Of a run that goes
-    /// on with other strokes nothing is said. The picture stays as it was. Returns `false` exactly
-    /// where `state` isn't valid or hasn't four return addresses, and then nothing has changed.
-    pub fn resume(&mut self, state: &GeneratorState, strokes: Vec<Stroke, A>) -> bool
-        ensures taken { IsTrue result ↔ IsWrappedState state.now }
-        ensures machine { IsTrue result
-            → self.new ≡ wrapped_of state.now strokes.items self.old.machine.picture }
-        ensures stands { IsTrue result → (saved : Wrapped) (picture : List Stroke)
+    /// Brings the generator into `state`, with `strokes` as what its run drew so far. So it goes on
+    /// as the one whose `state` and `strokes` these were. Of a run that goes on with other strokes
+    /// nothing is said. The picture stays as it was. Returns the strokes with `Fields` exactly
+    /// where `state` isn't valid or hasn't four return addresses, otherwise with `Stroke` exactly
+    /// where one of `strokes` isn't valid; then nothing has changed.
+    pub fn resume(
+        &mut self,
+        state: &GeneratorState,
+        strokes: Vec<Stroke, A>,
+    ) -> Result<(), GeneratorRefused<A>>
+        ensures taken { IsOk result ↔ GoesOn (IsWrappedState state.now) strokes.items }
+        ensures machine { OnOk result
+            (self.new ≡ wrapped_of state.now strokes.items self.old.machine.picture) }
+        ensures stands { OnOk result ((saved : Wrapped) (picture : List Stroke)
             (history : List Told) (low : Option ℕ)
             → saved ≡ wrapped_of state.now strokes.items picture → HasWrapped saved history low
-            → HasWrapped self.new history low }
-        ensures refused { (IsTrue result → ⊥) → self.new ≡ self.old }
+            → HasWrapped self.new history low) }
+        ensures stroke { IfErr result (λ refused.
+            (refused.fault ≡ GeneratorStateFault.Stroke) ↔ IsWrappedState state.now) }
+        ensures given_back { IfErr result (λ refused. refused.strokes ≡ strokes) }
+        ensures refused { OnErr result (self.new ≡ self.old) }
     {
-        if !state.return_addresses.is_full() || !state.is_valid() {
-            return false;
+        if !state.return_addresses.is_full() {
+            return Err(GeneratorRefused {
+                fault: GeneratorStateFault::Fields,
+                strokes,
+            });
+        }
+        if let Some(fault) = state.fault_with(strokes.as_slice()) {
+            return Err(GeneratorRefused { fault, strokes });
         }
         self.registers = newest_first(&state.return_addresses);
-        self.generator.resume(&without_addresses(state), strokes)
+        self.generator.go_on(&without_addresses(state), strokes);
+        Ok(())
     }
 
     /// Takes `byte`, as `Generator::feed` does, and returns what it led to. A run must be open. No

@@ -1,13 +1,13 @@
 //! A driver at its desk. Others call it a checked driver.
-ghost use Rattle.std.specs.Prelude.{◌≡◌, ◌≢◌, ◌↔◌, length, IfOk, IsErrOf, IsOk, IsTrue, OnErr};
-ghost use Rattle.std.specs.Prelude.{OnOk};
+ghost use Rattle.std.specs.Prelude.{◌≡◌, ◌≢◌, ◌↔◌, length, IfErr, IfOk, IsErrOf, IsOk, IsTrue};
+ghost use Rattle.std.specs.Prelude.{OnErr, OnOk};
 ghost use Rattle.dvg_mem.specs.declared.TheConstants.{LARGE_ROM_BYTES, MEMORY_BYTES};
-ghost use Rattle.dvg_driver.specs.Saved.{IsState, driving_in};
+ghost use Rattle.dvg_driver.specs.Saved.{IsState, IsUnfit, driving_in};
 ghost use Rattle.dvg_driver.specs.Script.{IsWhole};
 ghost use Rattle.dvg_world.specs.Desks.{IsFresh, OfferAnswers, OfLives, RedrawAnswers, TickAnswers};
 
 use dvg_code::OutOfMemory;
-use dvg_driver::{Action, Driver, DriverFault, DriverState};
+use dvg_driver::{Action, Driver, DriverFault, DriverState, DriverStateFault};
 use dvg_frame::{Checker, Op};
 use dvg_log::Entry;
 use dvg_mem::{MemFault, Rom};
@@ -128,16 +128,20 @@ impl<A: Allocator> Desk<A> {
         self.driver.state()
     }
 
-    /// Brings the driver into `state`, and returns `true`: it goes on as the one whose state this
-    /// is. Returns `false` exactly where the parts of `state` don't fit together over this ROM, and
-    /// then nothing has changed.
-    pub fn resume(&mut self, state: &DriverState) -> bool
-        ensures taken { IsTrue result ↔ IsState self.old.rom state.now }
-        ensures driver { IsTrue result
-            → self.new ≡ record { rom = self.old.rom; driver = driving_in state.now } }
-        ensures refused { (IsTrue result → ⊥) → self.new ≡ self.old }
+    /// Brings the driver into `state`: it goes on as the one whose state this is. Returns why the
+    /// parts of `state` don't fit together over this ROM exactly where they don't, and then nothing
+    /// has changed.
+    pub fn resume(&mut self, state: &DriverState) -> Result<(), DriverStateFault>
+        ensures taken { IsOk result ↔ IsState self.old.rom state.now }
+        ensures driver { OnOk result
+            (self.new ≡ record { rom = self.old.rom; driver = driving_in state.now }) }
+        ensures fault { IfErr result (IsUnfit self.old.rom state.now) }
+        ensures refused { OnErr result (self.new ≡ self.old) }
     {
-        self.driver.resume(state, &mut self.checker, &self.rom)
+        match self.driver.resume(state, &mut self.checker, &self.rom) {
+            Ok(()) => Ok(()),
+            Err(fault) => Err(fault),
+        }
     }
 
     /// Resets the driver.

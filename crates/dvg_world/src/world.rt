@@ -1,7 +1,7 @@
 //! The world: both ends of the vector RAM, one event at a time. It keeps the picture, and its
 //! entries have none: so memory is used again. Who needs the strokes takes them out, as `apply`
 //! does.
-ghost use Rattle.std.specs.Prelude.{◌≡◌, ◌≢◌, ◌↔◌, ◌<◌, ℕ, List, [], length, IfOk};
+ghost use Rattle.std.specs.Prelude.{◌≡◌, ◌≢◌, ◌↔◌, ◌<◌, ℕ, List, [], length, IfErr, IfOk};
 ghost use Rattle.std.specs.Prelude.{IsErrOf, IsOk, IsSome, IsTrue, None, OnErr, OnOk, slice_index};
 ghost use Rattle.dvg_mem.specs.Memory.{IsImage};
 ghost use Rattle.dvg_mem.specs.declared.TheConstants.{LARGE_ROM_BYTES, MEMORY_BYTES};
@@ -20,7 +20,7 @@ ghost use Rattle.dvg_log.specs.Legal.{IsLegal};
 ghost use Rattle.dvg_log.specs.Log.{Log};
 ghost use Rattle.dvg_log.specs.Traces.{BringsDraft, seen_as};
 ghost use Rattle.dvg_world.specs.Desks.{OfLives};
-ghost use Rattle.dvg_world.specs.Saved.{GoesOnAs, IsState, world_in};
+ghost use Rattle.dvg_world.specs.Saved.{GoesOnAs, IsState, IsUnfit, world_in};
 ghost use Rattle.dvg_world.specs.Standing.{AddsLine, ChangesNothing, DrawsNow};
 ghost use Rattle.dvg_world.specs.Standing.{KeepsHeadlineAfter, KeepsLogs, OfBeam, OfHistory, OfRam};
 ghost use Rattle.dvg_world.specs.Standing.{WorldAfter, picture_left, shown_in};
@@ -28,7 +28,7 @@ ghost use Rattle.dvg_world.specs.own.Stepping.{IsDrawnBy, WantsMemory, ram_by, s
 ghost use Rattle.dvg_world.specs.Wanting.{TakesMemory};
 
 use crate::desk::Desk;
-use crate::state::WorldState;
+use crate::state::{WorldRefused, WorldState, WorldStateFault};
 use dvg_code::OutOfMemory;
 use dvg_driver::{Action, DriverState};
 use dvg_frame::{Draft, Op};
@@ -454,32 +454,41 @@ impl<S: Store> World<S> {
         Ok(image)
     }
 
-    /// Brings the world into `state`, and returns `true`: it goes on as each world over this ROM
-    /// that was in `state` (`stands`). The ROM stays, and so does the picture. Returns `false`
-    /// exactly where the generator's state isn't valid or the parts of the driver's don't fit
-    /// together, and then nothing has changed: so never where `state` returned it over this ROM. Of
-    /// parts that fit, and that no world had at once, nothing is said.
-    pub fn resume(&mut self, state: WorldState<S::Alloc>) -> bool
-        ensures taken { IsTrue result ↔ IsState self.old.rom state }
-        ensures state { IsTrue result
-            → self.new ≡ world_in self.old.rom state self.old.machine.picture }
-        ensures stands { IsTrue result → GoesOnAs self.old.rom state self.new }
-        ensures refused { (IsTrue result → ⊥) → self.new ≡ self.old }
+    /// Brings the world into `state`: it goes on as each world over this ROM that was in `state`
+    /// (`stands`). The ROM stays, and so does the picture. Returns `state`, and why its parts don't
+    /// fit, exactly where no generator goes on in its state with the strokes, or else the driver's
+    /// parts don't fit together; then nothing has changed. So it takes all that `state` returned
+    /// over this ROM. Of parts that fit, and that no world had at once, nothing is said.
+    pub fn resume(&mut self, state: WorldState<S::Alloc>) -> Result<(), WorldRefused<S::Alloc>>
+        ensures taken { IsOk result ↔ IsState self.old.rom state }
+        ensures state { OnOk result
+            (self.new ≡ world_in self.old.rom state self.old.machine.picture) }
+        ensures stands { OnOk result (GoesOnAs self.old.rom state self.new) }
+        ensures fault { IfErr result (λ refused. IsUnfit self.old.rom state refused.fault) }
+        ensures given_back { IfErr result (λ refused. refused.state ≡ state) }
+        ensures refused { OnErr result (self.new ≡ self.old) }
     {
+        if let Some(fault) = state.generator.fault_with(state.strokes.as_slice()) {
+            let fault = WorldStateFault::Generator(fault);
+            return Err(WorldRefused { fault, state });
+        }
+        if let Err(fault) = self.desk.resume(&state.driver) {
+            let fault = WorldStateFault::Driver(fault);
+            return Err(WorldRefused { fault, state });
+        }
         let WorldState {
             ram,
             generator,
             strokes,
-            driver,
+            driver: _,
             strobe_sent,
         } = state;
-        if !generator.is_valid() || !self.desk.resume(&driver) {
-            return false;
-        }
+        let Ok(()) = self.generator.resume(&generator, strokes) else {
+            unreachable!()
+        };
         self.store.load(&ram);
-        self.generator.resume(&generator, strokes);
         self.strobe_sent = strobe_sent;
-        true
+        Ok(())
     }
 
     /// Resets the generator, as by `Event::ResetGen`. Returns the entry.

@@ -1,11 +1,12 @@
-//! What Rust's users have beside the sources: defaults, a saved state as bytes and why bytes are
-//! none, what serde reads and writes of a state, and reads of strokes, moves, the beam and counters,
-//! looked at. By hand; tested, not proved.
-use crate::beam::CIRCLE;
+//! What Rust's users have beside the sources: defaults, a refusal as an error, a saved state as bytes
+//! and why bytes are none, what serde reads and writes of a state, and reads of strokes, moves, the
+//! beam and counters, looked at. By hand; tested, not proved.
 use crate::generator::Generator;
-use crate::state::GeneratorState;
+use crate::state::{GeneratorRefused, GeneratorState};
 use crate::stroke::Stroke;
 use arrayvec::ArrayVec;
+use core::error::Error as Fault;
+use core::fmt::{self, Debug, Display, Formatter};
 use dvg_code::{OutOfMemory, digest};
 use std::alloc::{Allocator, Global};
 use std::prelude::Vec;
@@ -111,6 +112,15 @@ impl<A: Allocator + Copy + Default> Default for Generator<A> {
     }
 }
 
+/// As its fault.
+impl<A: Allocator> Display for GeneratorRefused<A> {
+    fn fmt(&self, f: &mut Formatter<'_>) -> fmt::Result {
+        Display::fmt(&self.fault, f)
+    }
+}
+
+impl<A: Allocator + Debug> Fault for GeneratorRefused<A> {}
+
 /// The number of the request that tells a part of a state: the lowest byte of each part.
 const TELLS: u64 = 35;
 
@@ -207,11 +217,11 @@ impl GeneratorState {
             }
             0x0323 => {
                 let z = (part >> 60) as u8;
-                let is_stroke = [self.x, self.y, x, y].into_iter().all(|it| it < CIRCLE) && z > 0;
-                if is_stroke {
-                    strokes.push(Stroke { x0: self.x, y0: self.y, x1: x, y1: y, z })?;
+                let stroke = Stroke { x0: self.x, y0: self.y, x1: x, y1: y, z };
+                if stroke.is_valid() {
+                    strokes.push(stroke)?;
                 }
-                Ok(is_stroke)
+                Ok(stroke.is_valid())
             }
             _ => Ok(false),
         }

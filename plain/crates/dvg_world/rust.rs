@@ -1,7 +1,9 @@
-//! What Rust's users have beside the sources: a default, a saved state as bytes, and what serde
-//! writes and reads of it. By hand; tested, not proved.
+//! What Rust's users have beside the sources: a default, a refusal as an error, a saved state as
+//! bytes, and what serde writes and reads of it. By hand; tested, not proved.
 use crate::judge::Judge;
-use crate::state::WorldState;
+use crate::state::{WorldRefused, WorldState};
+use core::error::Error;
+use core::fmt::{self, Debug, Display, Formatter};
 use dvg_code::{Code, Instr, OutOfMemory};
 use dvg_driver::{DriverState, Phase};
 use dvg_frame::{Draft, Op, OpKind};
@@ -16,6 +18,15 @@ impl Default for Judge {
         Judge::new()
     }
 }
+
+/// As its fault.
+impl<A: Allocator> Display for WorldRefused<A> {
+    fn fmt(&self, f: &mut Formatter<'_>) -> fmt::Result {
+        Display::fmt(&self.fault, f)
+    }
+}
+
+impl<A: Allocator + Debug> Error for WorldRefused<A> {}
 
 /// The letter of a saved world.
 const WORLD: u8 = b'W';

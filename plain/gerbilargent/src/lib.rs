@@ -51,14 +51,14 @@ pub use dvg_code::*;
 pub use dvg_mem::*;
 // What has an example below is named there; the pages of rustdoc show it where no `*` brings it,
 // too.
-pub use dvg_driver::{Action, DriverFault, DriverState, Phase};
+pub use dvg_driver::{Action, DriverFault, DriverState, DriverStateFault, Phase};
 pub use dvg_frame::{BadOp, Checked, Checker, Cursor, DraftFull, Frame, FrameFault, MAX_OPS, Op};
 pub use dvg_frame::{OpKind, Place, check};
-pub use dvg_gen::{Beam, Counters, GenFault, GeneratorState, Move, STACK_DEPTH, Step};
-pub use dvg_gen::{StateFault, Stroke, Taken, WrappingGenerator};
+pub use dvg_gen::{Beam, Counters, GenFault, GeneratorRefused, GeneratorState, Move, STACK_DEPTH};
+pub use dvg_gen::{GeneratorStateFault, StateFault, Step, Stroke, Taken, WrappingGenerator};
 pub use dvg_world::{Desk, Drawn, Entries, Entry, EntryRun, EntryRuns, Event, Logged, MOST_EVENTS};
-pub use dvg_world::{OwnEntry, OwnEvent, Picture, Stopped, Trace, TraceEvent, draw_trace};
-pub use dvg_world::{first_torn, log_trace, run, run_trace};
+pub use dvg_world::{OwnEntry, OwnEvent, Picture, Stopped, Trace, TraceEvent, WorldRefused};
+pub use dvg_world::{WorldStateFault, draw_trace, first_torn, log_trace, run, run_trace};
 pub use plain_std::alloc::Global;
 
 /// The version of this crate, as `"1.2.3"`: that of all crates of the repository, of the header for
@@ -124,7 +124,7 @@ pub use dvg_world::World;
 ///
 /// let mut other = World::<Flat>::new(Global, other_rom, &ram)?;
 /// let state = WorldState::from_bytes(digest, &saved)?; // Or why not: a `StateFault`.
-/// assert!(other.resume(state)); // `false`: its parts don't fit, or the ROM refuses its frame.
+/// other.resume(state)?; // Or why not, with the state: a `WorldRefused`.
 /// assert_eq!(other.tick(), later);
 /// # Ok::<(), Box<dyn std::error::Error>>(())
 /// ```

@@ -552,8 +552,8 @@ fn stroke_intensity(picture: &[Stroke], i: u64) -> Reply {
     }
 }
 
-// Has `world` go on with a RAM that holds `ram`, with the generator's state and strokes `told`, and
-// with `fields` of its driver, whose frame is `draft`. Returns the reply.
+// Has `world` go on with a RAM that holds `ram`, with the generator's state and strokes `told`, of
+// which each is one, and with `fields` of its driver, whose frame is `draft`. Returns the reply.
 fn resumed(
     world: &mut World<Flat>,
     ram: Image,
@@ -569,10 +569,9 @@ fn resumed(
         driver: fields.state(draft.copy()),
         strobe_sent: fields.strobe_sent,
     };
-    if world.resume(state) {
-        Reply::Opened
-    } else {
-        Reply::NoState
+    match world.resume(state) {
+        Ok(()) => Reply::Opened,
+        Err(_) => Reply::NoState,
     }
 }
 

@@ -86,7 +86,7 @@ impl Waiting {
             y1: y,
             z,
         };
-        if !is_stroke(&stroke) {
+        if !stroke.is_valid() {
             return Reply::NoState;
         }
         match self.strokes.push(stroke) {
@@ -109,8 +109,10 @@ impl Waiting {
         }
         let (state, strokes) = self.take_told(alloc);
         let mut generator = Generator::new(alloc);
-        let _ = generator.resume(&state, strokes);
-        Some(generator)
+        match generator.resume(&state, strokes) {
+            Ok(()) => Some(generator),
+            Err(_) => unreachable!(),
+        }
     }
 
     // Returns a generator whose stack wraps in this state, and forgets the state, where such a one
@@ -121,18 +123,9 @@ impl Waiting {
         }
         let (state, strokes) = self.take_told(alloc);
         let mut wrapping = WrappingGenerator::new(alloc);
-        let _ = wrapping.resume(&state, strokes);
-        Some(wrapping)
+        match wrapping.resume(&state, strokes) {
+            Ok(()) => Some(wrapping),
+            Err(_) => unreachable!(),
+        }
     }
-}
-
-// Returns whether a generator can have drawn `stroke`.
-fn is_stroke(stroke: &Stroke) -> bool {
-    let Stroke { x0, y0, x1, y1, z } = *stroke;
-    is_inside(x0) && is_inside(y0) && is_inside(x1) && is_inside(y1) && matches!(z, 1..=15)
-}
-
-// Returns whether the beam can be at `place`, along an axis.
-fn is_inside(place: u32) -> bool {
-    place < 2_097_152
 }

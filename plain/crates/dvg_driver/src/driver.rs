@@ -1,6 +1,6 @@
 //! The driver.
 use crate::action::Action;
-use crate::fault::DriverFault;
+use crate::fault::{DriverFault, DriverStateFault};
 use crate::state::{DriverState, Phase};
 use dvg_frame::{Checked, Checker, Cursor, Draft, Frame};
 use dvg_mem::{Half, Rom};
@@ -109,30 +109,32 @@ impl Driver {
         }
     }
 
-    /// Brings the driver into `state`, and returns `true`: it goes on as the one whose state this
-    /// is. A frame that is being written is checked by `checker`, over `rom`. Returns `false`
-    /// exactly where the parts of `state` don't fit together over that ROM, and then nothing has
-    /// changed.
-    #[must_use]
+    /// Brings the driver into `state`: it goes on as the one whose state this is. A frame that is
+    /// being written is checked by `checker`, over `rom`. Returns why the parts of `state` don't fit
+    /// together over that ROM exactly where they don't, and then nothing has changed.
     pub fn resume<A: Allocator>(
         &mut self,
         state: &DriverState,
         checker: &mut Checker,
         rom: &Rom<A>,
-    ) -> bool {
+    ) -> Result<(), DriverStateFault> {
         match state.phase {
-            Phase::Start | Phase::Booting | Phase::Flipping if state.flipped => return false,
-            Phase::Waiting | Phase::Sending if !state.flipped => return false,
+            Phase::Start | Phase::Booting | Phase::Flipping if state.flipped => {
+                return Err(DriverStateFault::Flipped);
+            }
+            Phase::Waiting | Phase::Sending if !state.flipped => {
+                return Err(DriverStateFault::Flipped);
+            }
             Phase::Writing => match cursor_of(state, checker, rom) {
-                Some(cursor) => self.cursor = Some(cursor),
-                None => return false,
+                Ok(cursor) => self.cursor = Some(cursor),
+                Err(fault) => return Err(fault),
             },
             _ => {}
         }
         self.phase = state.phase;
         self.half = state.half;
         self.flipped = state.flipped;
-        true
+        Ok(())
     }
 
     // Returns the next byte of a frame that the driver writes, with its address before it: it is
@@ -204,19 +206,25 @@ fn written_by(cursor: &Cursor) -> (Draft, Half, u16) {
     (source.0.copy(), source.1, cursor.left())
 }
 
-// Returns a cursor over those bytes of the frame in `state` that are still to come. Returns `None`
+// Returns a cursor over those bytes of the frame in `state` that are still to come. Returns a fault
 // exactly where the check by `checker` over `rom` refuses that frame, it isn't laid out for the
-// half that is free, or it has fewer bytes.
+// half that is free, or it has fewer bytes: the first of these.
 fn cursor_of<A: Allocator>(
     state: &DriverState,
     checker: &mut Checker,
     rom: &Rom<A>,
-) -> Option<Cursor> {
-    let checked = checker.check(state.frame.ops(), rom).ok()?;
-    if state.frame_half != state.half.other() || state.left > 2 * checked.len_words() {
-        return None;
+) -> Result<Cursor, DriverStateFault> {
+    let checked = match checker.check(state.frame.ops(), rom) {
+        Ok(checked) => checked,
+        Err(fault) => return Err(DriverStateFault::Frame(fault)),
+    };
+    if state.frame_half != state.half.other() {
+        return Err(DriverStateFault::Half);
     }
-    Some(Cursor::with_left(&checked, state.frame_half, state.left))
+    if state.left > 2 * checked.len_words() {
+        return Err(DriverStateFault::Left);
+    }
+    Ok(Cursor::with_left(&checked, state.frame_half, state.left))
 }
 
 // Makes `cursor` begin with the bytes of `checked`, laid out for `half`.

@@ -4,7 +4,7 @@ use std::prelude::*;
 use crate::STACK_DEPTH;
 use crate::beam::Beam;
 use crate::moving::Move;
-use crate::state::GeneratorState;
+use crate::state::{GeneratorRefused, GeneratorState};
 use crate::stroke::Stroke;
 use crate::taken::{GenFault, Step, Taken};
 use arrayvec::ArrayVec;
@@ -123,6 +123,12 @@ impl<A: Allocator + Copy> Generator<A> {
         self.strokes.as_slice()
     }
 
+    /// Takes out the strokes that the open run drew so far, and leaves none: its picture is made of
+    /// those that it draws from now on. So a run without an end takes no more memory.
+    pub fn take_strokes(&mut self) -> Vec<Stroke, A> {
+        mem::replace(&mut self.strokes, Vec::new(self.alloc))
+    }
+
     /// Returns the move that `byte`, the next one, completes, before it is taken: so who takes one
     /// pays nothing for its move. The generator stays as it is. `None` means that no run is open or
     /// that the byte moves no beam: a low byte or a first word, a word of another instruction than
@@ -202,15 +208,24 @@ impl<A: Allocator + Copy> Generator<A> {
         }
     }
 
-    /// Brings the generator into `state`, with `strokes` as what its run drew so far, and returns
-    /// `true`. So it goes on as the one whose `state` and `strokes` these were. Of a run that goes
-    /// on with other strokes nothing is said. The picture stays as it was. Returns `false` exactly
-    /// where `state` isn't valid, and then nothing has changed.
-    #[must_use]
-    pub fn resume(&mut self, state: &GeneratorState, strokes: Vec<Stroke, A>) -> bool {
-        if !state.is_valid() {
-            return false;
+    /// Brings the generator into `state`, with `strokes` as what its run drew so far. So it goes on
+    /// as the one whose `state` and `strokes` these were. Of a run that goes on with other strokes
+    /// nothing is said. The picture stays as it was. Where `fault_with` finds a fault, it returns
+    /// that with the strokes, and nothing has changed: so never with those of a generator.
+    pub fn resume(
+        &mut self,
+        state: &GeneratorState,
+        strokes: Vec<Stroke, A>,
+    ) -> Result<(), GeneratorRefused<A>> {
+        if let Some(fault) = state.fault_with(strokes.as_slice()) {
+            return Err(GeneratorRefused { fault, strokes });
         }
+        self.go_on(state, strokes);
+        Ok(())
+    }
+
+    // Does what `resume` does, where `fault_with` finds no fault.
+    pub(crate) fn go_on(&mut self, state: &GeneratorState, strokes: Vec<Stroke, A>) {
         self.is_open = state.is_open;
         self.at = state.at;
         self.held = state.held;
@@ -223,7 +238,6 @@ impl<A: Allocator + Copy> Generator<A> {
             scale: state.scale,
         };
         self.strokes = strokes;
-        true
     }
 
     // Returns the move of the instruction that the whole word `word` completes.

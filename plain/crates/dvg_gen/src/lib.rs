@@ -25,7 +25,7 @@ pub use beam::Beam;
 pub use counters::Counters;
 pub use generator::Generator;
 pub use moving::Move;
-pub use state::GeneratorState;
+pub use state::{GeneratorRefused, GeneratorState, GeneratorStateFault};
 pub use stroke::Stroke;
 pub use taken::{GenFault, Step, Taken};
 pub use wrapping::WrappingGenerator;

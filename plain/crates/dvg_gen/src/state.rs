@@ -1,7 +1,12 @@
 //! A generator's state as a plain value. A generator is saved without its strokes, and resumed with
 //! them: so each clause goes on after the same history.
+use std::prelude::*;
+
 use crate::STACK_DEPTH;
+use crate::stroke::Stroke;
 use arrayvec::ArrayVec;
+use std::alloc::{Allocator, Global};
+use thiserror::Error;
 
 /// All that a generator keeps but its strokes, as a value that can be stored anywhere. Its fields
 /// may hold anything: `is_valid` tells whether a generator can be in it. A `WrappingGenerator` can
@@ -39,4 +44,39 @@ impl GeneratorState {
             && self.y < 2_097_152
             && self.scale < 16
     }
+
+    /// Returns why no generator goes on in this state, with `strokes` as what its run drew so far:
+    /// `Fields` exactly where the state isn't valid, otherwise `Stroke` exactly where one of
+    /// `strokes` isn't. `None` means that one can.
+    #[must_use]
+    pub fn fault_with(&self, strokes: &[Stroke]) -> Option<GeneratorStateFault> {
+        if !self.is_valid() {
+            return Some(GeneratorStateFault::Fields);
+        }
+        if !strokes.iter().all(|stroke| stroke.is_valid()) {
+            return Some(GeneratorStateFault::Stroke);
+        }
+        None
+    }
+}
+
+/// Why a generator isn't resumed.
+#[derive(Clone, Copy, Debug, PartialEq, Eq, Error, Hash)]
+pub enum GeneratorStateFault {
+    /// No generator of this kind can be in that state.
+    #[error("no generator can be in that state")]
+    Fields,
+    /// One of the strokes is none: a place isn't below 2,097,152, or the intensity isn't 1 to 15.
+    #[error("a stroke that no generator draws")]
+    Stroke,
+}
+
+/// A generator wasn't resumed: why, and the strokes that it was to go on with.
+#[derive(Debug)]
+#[derive(Clone)]
+pub struct GeneratorRefused<A: Allocator = Global> {
+    /// Why it wasn't resumed.
+    pub fault: GeneratorStateFault,
+    /// What its run was to have drawn so far.
+    pub strokes: Vec<Stroke, A>,
 }

@@ -3,7 +3,7 @@ use std::prelude::*;
 
 use crate::STACK_DEPTH;
 use crate::generator::{Generator, copied};
-use crate::state::GeneratorState;
+use crate::state::{GeneratorRefused, GeneratorState, GeneratorStateFault};
 use crate::stroke::Stroke;
 use crate::taken::Step;
 use arrayvec::ArrayVec;
@@ -75,17 +75,28 @@ impl<A: Allocator + Copy> WrappingGenerator<A> {
         state
     }
 
-    /// Brings the generator into `state`, with `strokes` as what its run drew so far, and returns
-    /// `true`. So it goes on as the one whose `state` and `strokes` these were. Of a run that goes
-    /// on with other strokes nothing is said. The picture stays as it was. Returns `false` exactly
-    /// where `state` isn't valid or hasn't four return addresses, and then nothing has changed.
-    #[must_use]
-    pub fn resume(&mut self, state: &GeneratorState, strokes: Vec<Stroke, A>) -> bool {
-        if !state.return_addresses.is_full() || !state.is_valid() {
-            return false;
+    /// Brings the generator into `state`, with `strokes` as what its run drew so far. So it goes on
+    /// as the one whose `state` and `strokes` these were. Of a run that goes on with other strokes
+    /// nothing is said. The picture stays as it was. Returns the strokes with `Fields` exactly
+    /// where `state` isn't valid or hasn't four return addresses, otherwise with `Stroke` exactly
+    /// where one of `strokes` isn't valid; then nothing has changed.
+    pub fn resume(
+        &mut self,
+        state: &GeneratorState,
+        strokes: Vec<Stroke, A>,
+    ) -> Result<(), GeneratorRefused<A>> {
+        if !state.return_addresses.is_full() {
+            return Err(GeneratorRefused {
+                fault: GeneratorStateFault::Fields,
+                strokes,
+            });
+        }
+        if let Some(fault) = state.fault_with(strokes.as_slice()) {
+            return Err(GeneratorRefused { fault, strokes });
         }
         self.registers = newest_first(&state.return_addresses);
-        self.generator.resume(&without_addresses(state), strokes)
+        self.generator.go_on(&without_addresses(state), strokes);
+        Ok(())
     }
 
     /// Takes `byte`, as `Generator::feed` does, and returns what it led to. A run must be open. No

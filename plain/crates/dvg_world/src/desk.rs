@@ -2,7 +2,7 @@
 use std::prelude::*;
 
 use dvg_code::OutOfMemory;
-use dvg_driver::{Action, Driver, DriverFault, DriverState};
+use dvg_driver::{Action, Driver, DriverFault, DriverState, DriverStateFault};
 use dvg_frame::{Checker, Op};
 use dvg_log::Entry;
 use dvg_mem::{MemFault, Rom};
@@ -85,12 +85,14 @@ impl<A: Allocator> Desk<A> {
         self.driver.state()
     }
 
-    /// Brings the driver into `state`, and returns `true`: it goes on as the one whose state this
-    /// is. Returns `false` exactly where the parts of `state` don't fit together over this ROM, and
-    /// then nothing has changed.
-    #[must_use]
-    pub fn resume(&mut self, state: &DriverState) -> bool {
-        self.driver.resume(state, &mut self.checker, &self.rom)
+    /// Brings the driver into `state`: it goes on as the one whose state this is. Returns why the
+    /// parts of `state` don't fit together over this ROM exactly where they don't, and then nothing
+    /// has changed.
+    pub fn resume(&mut self, state: &DriverState) -> Result<(), DriverStateFault> {
+        match self.driver.resume(state, &mut self.checker, &self.rom) {
+            Ok(()) => Ok(()),
+            Err(fault) => Err(fault),
+        }
     }
 
     /// Resets the driver.

@@ -28,7 +28,7 @@ pub use judge::{Judge, first_torn};
 pub use logging::{Logged, log_trace};
 pub use pictures::{Drawn, Picture, draw_trace};
 pub use runs::{run, run_trace};
-pub use state::WorldState;
+pub use state::{WorldRefused, WorldState, WorldStateFault};
 pub use stopped::Stopped;
 pub use world::World;
 

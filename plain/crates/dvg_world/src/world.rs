@@ -4,7 +4,7 @@
 use std::prelude::*;
 
 use crate::desk::Desk;
-use crate::state::WorldState;
+use crate::state::{WorldRefused, WorldState, WorldStateFault};
 use dvg_code::OutOfMemory;
 use dvg_driver::{Action, DriverState};
 use dvg_frame::{Draft, Op};
@@ -292,27 +292,33 @@ impl<S: Store> World<S> {
         Ok(image)
     }
 
-    /// Brings the world into `state`, and returns `true`: it goes on as each world over this ROM
-    /// that was in `state` (`stands`). The ROM stays, and so does the picture. Returns `false`
-    /// exactly where the generator's state isn't valid or the parts of the driver's don't fit
-    /// together, and then nothing has changed: so never where `state` returned it over this ROM. Of
-    /// parts that fit, and that no world had at once, nothing is said.
-    #[must_use]
-    pub fn resume(&mut self, state: WorldState<S::Alloc>) -> bool {
+    /// Brings the world into `state`: it goes on as each world over this ROM that was in `state`
+    /// (`stands`). The ROM stays, and so does the picture. Returns `state`, and why its parts don't
+    /// fit, exactly where no generator goes on in its state with the strokes, or else the driver's
+    /// parts don't fit together; then nothing has changed. So it takes all that `state` returned
+    /// over this ROM. Of parts that fit, and that no world had at once, nothing is said.
+    pub fn resume(&mut self, state: WorldState<S::Alloc>) -> Result<(), WorldRefused<S::Alloc>> {
+        if let Some(fault) = state.generator.fault_with(state.strokes.as_slice()) {
+            let fault = WorldStateFault::Generator(fault);
+            return Err(WorldRefused { fault, state });
+        }
+        if let Err(fault) = self.desk.resume(&state.driver) {
+            let fault = WorldStateFault::Driver(fault);
+            return Err(WorldRefused { fault, state });
+        }
         let WorldState {
             ram,
             generator,
             strokes,
-            driver,
+            driver: _,
             strobe_sent,
         } = state;
-        if !generator.is_valid() || !self.desk.resume(&driver) {
-            return false;
-        }
+        let Ok(()) = self.generator.resume(&generator, strokes) else {
+            unreachable!()
+        };
         self.store.load(&ram);
-        let _ = self.generator.resume(&generator, strokes);
         self.strobe_sent = strobe_sent;
-        true
+        Ok(())
     }
 
     /// Resets the generator, as by `Event::ResetGen`. Returns the entry.

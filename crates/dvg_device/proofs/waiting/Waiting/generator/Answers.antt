@@ -15,17 +15,23 @@ returns-then-not-is_valid c = (
   refl,
 )
 
+pub unreachable-requires : goal.unreachable-requires
+unreachable-requires c =
+    let valid = c.is_valid.ensures.0 c.if-not-is_valid.false in
+    let told = c.take_told-state.ensures in
+    let stands = can_stand c.self.inside.state c.self.inside.strokes.items [] valid in
+    let there = is_state c.take_told-state.result.0 c.take_told-state.result.1.items []
+    (subst CanStand (c.self.view_is ∙ told.told) stands) in
+    false≢true (c.in-Err.ensures.taken.1 (there, told.strokes))
+
 pub returns : goal.returns
 returns c =
     let valid = c.is_valid.ensures.0 c.if-not-is_valid.false in
-    let stands = subst CanStand c.self.view_is (can_stand c.self.inside.state c.self.inside.strokes.items [] valid) in
     let told = c.take_told-state.ensures.told in
     let state = c.take_told-state.result.0 in
-    let strokes = c.take_told-state.result.1.items in
-    let there = is_state state strokes [] (subst CanStand told stands) in (
-      stands,
+    let strokes = c.take_told-state.result.1.items in (
+      subst CanStand c.self.view_is (can_stand c.self.inside.state c.self.inside.strokes.items [] valid),
       ap (λ (machine : Machine). machine.picture) told,
-      c.resume.ensures.machine (c.resume.ensures.taken.1 there)
-          ∙ ap (machine_of state strokes) c.new-generator.ensures.picture ∙ sym told,
+      c.in-Ok.ensures.machine ∙ ap (machine_of state strokes) c.new-generator.ensures.picture ∙ sym told,
       c.take_told-state.ensures.forgotten,
     )

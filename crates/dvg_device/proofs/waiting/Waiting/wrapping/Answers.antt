@@ -24,6 +24,19 @@ returns-then-not-is_full c = (
   refl,
 )
 
+pub unreachable-requires : goal.unreachable-requires
+unreachable-requires c =
+    let valid = c.is_valid.ensures.0 c.if-not-is_valid.false in
+    let full = eqb-true _ _ (sym c.is_full.ensures.value ∙ c.if-not-is_full.false) in
+    let told = c.take_told-state.ensures in
+    let is = c.self.view_is ∙ told.told in
+    let stands = can_stand c.self.inside.state c.self.inside.strokes.items [] valid in
+    let there : IsWrappedState c.take_told-state.result.0 = record {
+      plain = is_state c.take_told-state.result.0 c.take_told-state.result.1.items [] (subst CanStand is stands);
+      four = sym (length-reverse _) ∙ subst (λ (machine : Machine). length machine.stack ≡ 4) is (length-reverse _ ∙ full);
+    } in
+    false≢true (c.in-Err.ensures.taken.1 (there, told.strokes))
+
 pub returns : goal.returns
 returns c =
     let valid = c.is_valid.ensures.0 c.if-not-is_valid.false in
@@ -32,14 +45,10 @@ returns c =
     let four = subst (λ (machine : Machine). length machine.stack ≡ 4) c.self.view_is (length-reverse _ ∙ full) in
     let told = c.take_told-state.ensures.told in
     let state = c.take_told-state.result.0 in
-    let strokes = c.take_told-state.result.1.items in
-    let there : IsWrappedState state = record {
-      plain = is_state state strokes [] (subst CanStand told stands);
-      four = sym (length-reverse _) ∙ subst (λ (machine : Machine). length machine.stack ≡ 4) told four;
-    } in (
+    let strokes = c.take_told-state.result.1.items in (
       (stands, four),
       ap (λ (machine : Machine). machine.picture) told,
-      c.resume.ensures.machine (c.resume.ensures.taken.1 there)
+      c.in-Ok.ensures.machine
           ∙ ap (λ picture. wrapped_of state strokes picture) c.new-wrapping.ensures.picture ∙ ap wrapping_of (sym told),
       c.take_told-state.ensures.forgotten,
     )
