@@ -86,5 +86,5 @@ pub fn goes_on_as_saved(
         → IsTrue result }
 {
     let state = saved.state();
-    other.resume(&state, Vec::new(alloc))
+    other.resume(&state, Vec::new(alloc)).is_ok()
 }
