@@ -249,7 +249,8 @@ fn refuse_stroke(strokes: &Vec<Stroke>) -> Result<(), Box<dyn Error>> {
     let after = world.state()?;
     let refused = world.resume(before.clone()).err().ok_or("a stroke is taken")?;
     assert_eq!(refused.fault, WorldStateFault::Generator(fault));
-    assert_eq!(refused.to_string(), "the generator isn't resumed: a stroke that no generator draws");
+    let told = "the generator isn't resumed: a stroke that no generator draws";
+    assert_eq!(refused.to_string(), told);
     assert!(refused.state == before && world.state()? == after);
     Ok(())
 }
