@@ -192,8 +192,8 @@ impl Driver {
     }
 
     /// Brings the driver into `state`: it goes on as the one whose state this is. A frame that is
-    /// being written is checked by `checker`, over `rom`. Returns why the parts of `state` don't fit
-    /// together over that ROM exactly where they don't, and then nothing has changed.
+    /// being written is checked by `checker`, over `rom`. Returns why the parts of `state` don't
+    /// fit together over that ROM exactly where they don't, and then nothing has changed.
     pub fn resume<A: Allocator>(
         &mut self,
         state: &DriverState,
