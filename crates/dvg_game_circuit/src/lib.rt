@@ -30,8 +30,8 @@ pub fn circuits_keep_by_bytes()
     games_on_cells_keep_by_bytes();
 }
 
-/// So does each run of the circuit with examples/asteroid_game, since power-up: no premise is left
-/// but that pins are bits and bytes.
+/// So does each run of the circuit whose ROMs hold examples/asteroid_game at power-up (`IsLoaded`):
+/// no other premise is left but that pins are bits and bytes.
 pub fn asteroid_circuit_keeps()
     ensures { Asteroid }
 {
@@ -39,7 +39,7 @@ pub fn asteroid_circuit_keeps()
     can_be_powered();
 }
 
-/// So does each with examples/board.
+/// So does each whose ROMs hold examples/board then.
 pub fn rocks_circuit_keeps()
     ensures { Rocks }
 {
