@@ -352,8 +352,8 @@ impl<A: Allocator + Copy> Generator<A> {
     }
 
     /// Brings the generator into `state`, with `strokes` as what its run drew so far. So it goes on
-    /// as the one whose `state` and `strokes` these were. Of a run that goes on with other strokes
-    /// nothing is said. The picture stays as it was. Where `fault_with` finds a fault, it returns
+    /// as the one whose `state` and `strokes` these were. No claim is made about a run that goes on
+    /// with other strokes. The picture stays as it was. If `fault_with` finds a fault, it returns
     /// that with the strokes, and nothing has changed: so never with those of a generator.
     pub fn resume(
         &mut self,

@@ -131,8 +131,8 @@ impl<A: Allocator + Copy> WrappingGenerator<A> {
     }
 
     /// Brings the generator into `state`, with `strokes` as what its run drew so far. So it goes on
-    /// as the one whose `state` and `strokes` these were. Of a run that goes on with other strokes
-    /// nothing is said. The picture stays as it was. Returns the strokes with `Fields` exactly
+    /// as the one whose `state` and `strokes` these were. No claim is made about a run that goes on
+    /// with other strokes. The picture stays as it was. Returns the strokes with `Fields` exactly
     /// where `state` isn't valid or hasn't four return addresses, otherwise with `Stroke` exactly
     /// where one of `strokes` isn't valid; then nothing has changed.
     pub fn resume(

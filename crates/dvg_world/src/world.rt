@@ -458,7 +458,7 @@ impl<S: Store> World<S> {
     /// (`stands`). The ROM stays, and so does the picture. Returns `state`, and why its parts don't
     /// fit, exactly where no generator goes on in its state with the strokes, or else the driver's
     /// parts don't fit together; then nothing has changed. So it takes all that `state` returned
-    /// over this ROM. Of parts that fit, and that no world had at once, nothing is said.
+    /// over this ROM. No claim is made about parts that fit, and that no world had at once.
     pub fn resume(&mut self, state: WorldState<S::Alloc>) -> Result<(), WorldRefused<S::Alloc>>
         ensures taken { IsOk result ↔ IsState self.old.rom state }
         ensures state { OnOk result
