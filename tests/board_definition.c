@@ -6,7 +6,11 @@
  *     board_definition vectors COUNT     prints this many of each opcode by board_cpu.h, as numbers
  *     board_definition sim COUNT RECORDS RESULTS
  *                                        writes steps for board_steps.s, and what they leave
- *     board_definition sums FILE         compares each sum with D set with those of decimal_sums.py
+ *     board_definition sums PROGRAM COUNT FILE
+ *                                        has both run the program of board_sums.s, by instructions,
+ *                                        and sim65, where it is built with that: what it shows must
+ *                                        be the bytes of FILE, as far as that goes. It ends after
+ *                                        COUNT sums with D set, or, if that is 0, with FILE
  */
 #include "board_cpu.h"
 #include <stdio.h>
@@ -24,15 +28,17 @@ typedef struct {
     int a, x, y, s, pc, n, z, c, v, d, i;
 } state;
 
-static uint8_t theirs[PLACES], ours[PLACES];
+static uint8_t theirs[PLACES], ours[PLACES], sims[PLACES];
 static int written[8], writes, our_written[8], our_writes;
+/* Which of them the bus is. */
+static uint8_t *memory = theirs;
 
-uint8_t bus_fetch(uint16_t at) { return theirs[at]; }
-uint8_t bus_read(uint16_t at, int dummy) { return dummy ? 0 : theirs[at]; }
+uint8_t bus_fetch(uint16_t at) { return memory[at]; }
+uint8_t bus_read(uint16_t at, int dummy) { return dummy ? 0 : memory[at]; }
 void bus_write(uint16_t at, uint8_t value)
 {
-    theirs[at] = value;
-    written[writes++] = at;
+    memory[at] = value;
+    if (memory == theirs) written[writes++] = at;
 }
 
 static void put(int at, int byte)
@@ -317,6 +323,26 @@ static state state_of(const cpu *c)
     return t;
 }
 
+/* Steps both, by an NMI in place of a row that isn't there: whether they agree. */
+static int step_both(cpu *c, state *t, int row)
+{
+    writes = our_writes = 0;
+    if (row == ROWS) {
+        begin_nmi(c);
+        interrupted(t);
+    } else {
+        if (!step(c)) return 0;
+        does(t, table[row].instruction);
+    }
+    state end = state_of(c);
+    if (memcmp(&end, t, sizeof end) != 0) return 0;
+    for (int i = 0; i < writes; i++)
+        if (theirs[written[i]] != ours[written[i]]) return 0;
+    for (int i = 0; i < our_writes; i++)
+        if (theirs[our_written[i]] != ours[our_written[i]]) return 0;
+    return 1;
+}
+
 /* Of an opcode, or of an NMI in place of the last row. */
 static int compare_step(int row)
 {
@@ -326,21 +352,7 @@ static int compare_step(int row)
             (uint8_t)(i || row == ROWS ? some_byte() : table[row].opcode);
     cpu c = some_cpu(pc);
     state t = state_of(&c);
-    writes = our_writes = 0;
-    if (row == ROWS) {
-        begin_nmi(&c);
-        interrupted(&t);
-    } else {
-        if (!step(&c)) return 0;
-        does(&t, table[row].instruction);
-    }
-    state end = state_of(&c);
-    if (memcmp(&end, &t, sizeof t) != 0) return 0;
-    for (int i = 0; i < writes; i++)
-        if (theirs[written[i]] != ours[written[i]]) return 0;
-    for (int i = 0; i < our_writes; i++)
-        if (theirs[our_written[i]] != ours[our_written[i]]) return 0;
-    return 1;
+    return step_both(&c, &t, row);
 }
 
 static void print_state(const state *t)
@@ -444,31 +456,107 @@ static int write_steps(long count, const char *record_path, const char *result_p
     return fclose(records) != 0 || fclose(results) != 0;
 }
 
-/* Of ADC and then SBC with D set, of C clear and then set, of each A and each operand: A, and N, V,
- * Z and C, beside the two bytes that a file has of it. */
-static int compare_sums(const char *path)
+/* --- The program of board_sums.s --- */
+
+enum { PROGRAM = 0x6800, PROGRAM_BYTES = 0x1800, RESULT = 0x43, FLAGS = 0x44 };
+
+static long sums, subtracted, nmis, instructions, other;
+
+/* Puts the program where a 6502 reads it that decodes A15, and where one does that doesn't. */
+static int load(const char *path)
 {
     FILE *file = fopen(path, "rb");
-    long differ = 0;
-    if (!file) return 1;
-    for (int k = 0; k < 4 * 65536; k++) {
-        state t = { .a = k / 256 % 256, .c = k / 65536 % 2, .d = 1 };
-        if (k < 2 * 65536) summing(&t, k % 256);
-        else subtracting(&t, 255 - k % 256);
-        int a = fgetc(file), flags = fgetc(file);
-        differ += a != t.a || flags != (flags_byte(&t, 0) & (NEGATIVE | OVERFLOW | ZERO | CARRY));
-    }
-    differ += fgetc(file) != EOF;
+    if (!file || fread(theirs + PROGRAM, 1, PROGRAM_BYTES, file) != PROGRAM_BYTES) return 0;
     fclose(file);
-    if (differ) printf("%ld sums differ\n", differ);
-    return differ != 0;
+    memcpy(theirs + PLACES / 2 + PROGRAM, theirs + PROGRAM, PROGRAM_BYTES);
+    memcpy(ours, theirs, PLACES);
+    memcpy(sims, theirs, PLACES);
+    return 1;
+}
+
+#ifdef SIM65
+int sim65_step(cpu *c, int nmi);
+
+/* Whether sim65 does what the 6502 of these tests did, all but an SBC with D set: that of cc65 2.19
+ * is another one, so it goes on with what the others have. */
+static int step_sim65(cpu *sim, const cpu *c, int nmi, int is_subtracted)
+{
+    const int seen = 0xFF & ~(BREAK | UNUSED);
+    memory = sims;
+    int is_done = sim65_step(sim, nmi);
+    memory = theirs;
+    if (is_subtracted) {
+        other += sim->a != c->a || (sim->p & seen) != (c->p & seen);
+        sim->a = c->a;
+        sim->p = c->p | BREAK | UNUSED;
+    }
+    for (int i = 0; i < writes; i++)
+        if (theirs[written[i]] != sims[written[i]]) return 0;
+    return is_done && sim->a == c->a && sim->x == c->x && sim->y == c->y && sim->s == c->s &&
+        (sim->p & seen) == (c->p & seen) && sim->pc == c->pc;
+}
+#else
+static int step_sim65(cpu *sim, const cpu *c, int nmi, int is_subtracted)
+{
+    return sim && c && nmi + is_subtracted >= 0;
+}
+#endif
+
+/* Compares what was shown with the file: 0 where it differs, and -1 where the file has ended. */
+static int compare_shown(FILE *file)
+{
+    for (int i = 0; i < writes; i++) {
+        if (written[i] != RESULT && written[i] != FLAGS) continue;
+        int wanted = fgetc(file);
+        if (wanted == EOF) return -1;
+        if (wanted != theirs[written[i]]) return 0;
+    }
+    return 1;
+}
+
+/* An instruction of the program, or now and then an NMI, by all of them. */
+static int step_all(cpu *c, state *t, cpu *sim, const int *rows)
+{
+    int row = random_below(1000) ? rows[theirs[c->pc]] : ROWS;
+    const char *instruction = row == ROWS ? "" : row < 0 ? "unknown" : table[row].instruction;
+    int subtracts = t->d && strncmp(instruction, "Subtract", 8) == 0;
+    sums += subtracts || (t->d && strncmp(instruction, "Add", 3) == 0);
+    subtracted += subtracts;
+    nmis += row == ROWS;
+    instructions++;
+    return row >= 0 && step_both(c, t, row) && step_sim65(sim, c, row == ROWS, subtracts);
+}
+
+static int run_sums(const char *program, long count, const char *path)
+{
+    FILE *file = fopen(path, "rb");
+    int rows[256], shown = 1;
+    memset(rows, -1, sizeof rows);
+    for (int row = 0; row < ROWS; row++) rows[table[row].opcode] = row;
+    if (!file || !load(program)) return 1;
+    cpu c = { .s = 0xFD, .p = UNUSED, .pc = (uint16_t)(theirs[0xFFFC] | theirs[0xFFFD] << 8) };
+    cpu sim = c;
+    state t = state_of(&c);
+    sim.p |= BREAK;
+    while (count ? sums < count : shown >= 0) {
+        int is_agreed = step_all(&c, &t, &sim, rows);
+        if (shown > 0) shown = compare_shown(file);
+        if (!is_agreed || shown == 0) {
+            printf("after %ld sums they differ, before %04X\n", sums, (unsigned)c.pc);
+            return 1;
+        }
+    }
+    printf("%ld sums with D set, %ld of them SBC, among %ld instructions and %ld NMIs",
+        sums, subtracted, instructions - nmis, nmis);
+    printf("; sim65 subtracted otherwise in %ld\n", other);
+    return sums == 0;
 }
 
 int main(int argc, char **argv)
 {
     ready_opcodes();
+    if (argc == 5 && is(argv[1], "sums")) return run_sums(argv[2], atol(argv[3]), argv[4]);
     if (argc == 5) return write_steps(atol(argv[2]), argv[3], argv[4]);
-    if (argc == 3 && is(argv[1], "sums")) return compare_sums(argv[2]);
     if (argc == 3) {
         for (int row = 0; row < ROWS; row++)
             for (int i = 0; i < atoi(argv[2]); i++) print_vector(row);

@@ -1,4 +1,4 @@
--- For tests/board --judge: writes the bytes that board_sums.s leaves in `result` and `flags`, in
+-- For tests/board: writes the bytes that board_sums.s leaves in `result` and `flags`, in
 -- their order, into the file `sums`.
 if dvg_loaded then return end
 dvg_loaded = true

@@ -2,11 +2,16 @@
  * which nothing is answered, NMIs, and resets at any time.
  *
  *     core_cpu INSTRUCTIONS SEED
+ *     core_cpu SUMS SEED sums
  *
  * Each access of an instruction is compared in its order, but for the dummy ones, which the circuit
  * leaves out. Before most instructions A, X, Y and the flags are loaded, and after most they are
- * stored. Prints what was played, or the first difference (status 1). */
+ * stored. With `sums` they are ADC and SBC, of any mode, until so many had D set: A and the flags
+ * are stored after each, and most others begin with what the one before left, amid what sets D and
+ * clears it, pushes and pulls flags, compares and counts. Prints what was played, or the first
+ * difference (status 1). */
 #include "Vdvg_cpu.h"
+#include <string>
 #include "core_bench.h"
 extern "C" {
 #include "board_cpu.h"
@@ -21,7 +26,7 @@ struct Access {
 };
 
 static struct {
-    uint64_t instructions, cycles, waits, nmis, unknown, resets, amid;
+    uint64_t instructions, sums, cycles, waits, nmis, unknown, resets, amid;
 } counts;
 
 static Vdvg_cpu circuit;
@@ -136,6 +141,12 @@ static void play_next()
     agree_on_accesses();
 }
 
+static bool is_sum(uint8_t opcode)
+{
+    int index = opcode_index[opcode];
+    return index >= 0 && (opcodes[index].operation == ADC || opcodes[index].operation == SBC);
+}
+
 /* An instruction of these bytes comes next; an NMI that is due comes before it. */
 static void play(uint8_t opcode, uint8_t first, uint8_t second)
 {
@@ -145,6 +156,7 @@ static void play(uint8_t opcode, uint8_t first, uint8_t second)
     put(port.pc, opcode);
     put((uint16_t)(port.pc + 1), first);
     put((uint16_t)(port.pc + 2), second);
+    counts.sums += is_sum(opcode) && (port.p & DECIMAL);
     play_next();
     counts.instructions++;
 }
@@ -197,11 +209,17 @@ static void reset_amid()
     counts.amid++;
 }
 
-static void play_any()
+/* No instruction is amid the stack, or ends the memory. */
+static void stay_inside()
 {
     if (port.pc < 0x300 || port.pc > 0xFF00) {
         play(0x4C, (uint8_t)below(256), (uint8_t)(3 + below(0xF0)));
     }
+}
+
+static void play_any()
+{
+    stay_inside();
     if (!once_in(4)) {
         load_registers();
     }
@@ -219,9 +237,38 @@ static void play_any()
     }
 }
 
+/* SED and CLD, SEC, CLC and CLV, PHP, PLP and RTI, PHA and PLA, CMP and CPX, INC and DEC, ROL, INX,
+ * LDX and LDY. */
+static void play_between()
+{
+    static const uint8_t between[] = {0xF8, 0xD8, 0x38, 0x18, 0xB8, 0x08, 0x28, 0x40, 0x48, 0x68,
+        0xC9, 0xDD, 0xE4, 0xE6, 0xDE, 0x26, 0xE8, 0xA2, 0xA0};
+    play(between[below(sizeof between)], any_byte(), any_byte());
+    stay_inside();
+}
+
+static void play_sum()
+{
+    static const uint8_t modes[] = {0x61, 0x65, 0x69, 0x6D, 0x71, 0x75, 0x79, 0x7D};
+    stay_inside();
+    while (once_in(2)) {
+        play_between();
+    }
+    if (once_in(8)) {
+        load_registers();
+    }
+    if (!(port.p & DECIMAL) && !once_in(8)) {
+        play(0xF8, 0, 0);
+    }
+    play(modes[below(8)] | once_in(2) << 7, (uint8_t)below(256), any_byte());
+    play(0x08, 0, 0);                                    /* PHP, STA */
+    play(0x85, any_byte(), 0);
+}
+
 int main(int argc, char **argv)
 {
-    uint64_t seed, instructions = read_arguments(argc, argv, &seed);
+    bool has_sums = argc > 3 && std::string(argv[3]) == "sums";
+    uint64_t seed, wanted = read_arguments(argc, argv, &seed);
     ready_opcodes();
     for (int at = 0; at < PLACES; at++) {
         put((uint16_t)at, (uint8_t)below(256));
@@ -229,14 +276,14 @@ int main(int argc, char **argv)
     circuit.clk = circuit.reset = circuit.step = circuit.nmi = 0;
     circuit.eval();
     begin_anew();
-    while (counts.instructions < instructions) {
+    while ((has_sums ? counts.sums : counts.instructions) < wanted) {
         done_so_far = counts.instructions;
-        play_any();
+        has_sums ? play_sum() : play_any();
     }
-    printf("%" PRIu64 " instructions, %" PRIu64 " cycles, %" PRIu64 " waits, %" PRIu64
-           " NMIs, %" PRIu64 " unknown opcodes, %" PRIu64 " resets, %" PRIu64
-           " of them amid an instruction, agree, seed %" PRIu64 "\n",
-        counts.instructions, counts.cycles, counts.waits, counts.nmis, counts.unknown,
+    printf("%" PRIu64 " instructions, %" PRIu64 " of them sums with D set, %" PRIu64
+           " cycles, %" PRIu64 " waits, %" PRIu64 " NMIs, %" PRIu64 " unknown opcodes, %" PRIu64
+           " resets, %" PRIu64 " of them amid an instruction, agree, seed %" PRIu64 "\n",
+        counts.instructions, counts.sums, counts.cycles, counts.waits, counts.nmis, counts.unknown,
         counts.resets, counts.amid, seed);
     return 0;
 }

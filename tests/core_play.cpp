@@ -3,17 +3,28 @@
  * and the motion of core_paced.h.
  *
  *     core_play CLOCKS SEED GAME [A15 [LOG]]
+ *     core_play --game CLOCKS SEED GAME BUTTONS
  *
  * GAME has the bytes of a game's ROMs as numbers: 2,048 of the vector ROM, then 6,144 of the
  * program. It is played for a half of the clocks, but 600,000 at least, and random programs for the
  * other half, each for 600,000. Each access of the processor is compared, but for the dummy ones,
- * what a read finds, and all pins in each clock. Ticks, the processor's cycles, resets, inputs and
- * switches come at random; each third program doesn't tell the watchdog. A15 is that of the module
- * [default: 1]. LOG is written for `dvg torn`: what the game's processor writes into the vector
- * RAM, and what the core fetches; then it isn't reset. Prints what was played, or the first
- * difference (status 1). */
+ * what a read finds, all pins in each clock, and all RAM at each start of the generator. Ticks, the
+ * processor's cycles, resets, inputs and switches come at random; each third program doesn't tell
+ * the watchdog. A15 is that of the module [default: 1]. LOG is written for `dvg torn`: what the
+ * game's processor writes into the vector RAM, and what the core fetches; then it isn't reset.
+ *
+ * With --game the game alone is played, by the presses of the file BUTTONS (core_buttons.h), from
+ * each reset anew, without some of the time before the first one: a tick in each fourth clock, and
+ * a cycle in each tick, so that 6,048,000 clocks are a second. Resets of one clock to 5,000 come at
+ * random, and so do other inputs, in any clock; where no read looks at them, inputs but the
+ * self-test's are any. Memory is late for 1 to 20,000 clocks, and then a cycle begins in any clock.
+ * All RAM has any bytes at first, and mostly after a reset.
+ *
+ * Prints what was played, or the first difference (status 1). */
 #include "Vdvg_game.h"
 #include "Vdvg_game___024root.h"
+#include <algorithm>
+#include "core_buttons.h"
 #include "core_paced.h"
 extern "C" {
 #include "board_cpu.h"
@@ -21,7 +32,8 @@ extern "C" {
 
 enum : uint32_t {
     PROGRAM = 0x6800, PROGRAM_BYTES = 0x1800, LOW_BYTES = 0x400, SPACE = 4, PERIOD = 512,
-    PERIODS_OF_NMI = 12, PERIODS_OF_BITE = 256, CLOCKS_OF_ROM = 600000
+    PERIODS_OF_NMI = 12, PERIODS_OF_BITE = 256, CLOCKS_OF_ROM = 600000,
+    CLOCKS_OF_SECOND = 6048000, LONGEST_RESET = 5000, SELF_TEST = 0x80
 };
 
 /* A reset is taken, amid an instruction or not. */
@@ -38,7 +50,7 @@ static uint32_t decoded = 0xFFFF;       /* the bits of an address that are looke
 static FILE *log_file;
 
 static struct {
-    uint64_t accesses, nmis, resets, bites, soon, tested;
+    uint64_t accesses, nmis, resets, bites, soon, tested, presses, others, late, pulses, single;
 } counts;
 
 /* What the board keeps beside memories. */
@@ -65,9 +77,24 @@ static struct {
 /* How the pins are driven for a while. */
 static struct {
     uint32_t shortest, longest, left;
-    enum { TICK, ALWAYS, ANY } ready;
-    uint32_t reset_in, resetting, early;
+    enum { TICK, ALWAYS, ANY, LATE } ready;
+    uint32_t reset_in, longest_reset, resetting, early;
 } drive;
+
+/* Memory: for how many clocks it is late yet, and whether a cycle waits for it. */
+static struct {
+    uint32_t late;
+    bool waits;
+} memory;
+
+/* Who plays: what the presses so far have closed, the clock in which they began, which comes next,
+ * and another input that is turned over, as a bit, for how many clocks yet. */
+static struct {
+    uint32_t closed;
+    uint64_t began;
+    size_t next;
+    uint32_t other, left;
+} hands;
 
 /* --- What the board answers --- */
 
@@ -147,6 +174,61 @@ struct View {
 #define CORE(signal) BOARD(signal)
 #endif
 
+/* Whether a cycle may begin where memory is late now and then: else in a tick. */
+static bool is_in_time(bool is_time)
+{
+    if (memory.late == 0 && once_in(2000)) {
+        memory.late = 1 + below(once_in(50) ? 20000 : 12);
+        counts.late++;
+    }
+    bool is_late = memory.late > 0;
+    memory.late -= is_late;
+    memory.waits = memory.waits || (is_time && (is_late || bus.second));
+    return !is_late && (is_time || memory.waits);
+}
+
+static void stir_inputs()
+{
+    if (once_in(3000)) {
+        game.held ^= once_in(20) ? SELF_TEST : 1u << below(16) & ~SELF_TEST;
+    }
+    if (once_in(20000)) {
+        game.switches = below(256);
+    }
+}
+
+/* A read looks at inputs in a cycle's second clock. */
+static void press_inputs()
+{
+    while (hands.next < presses.size() && hands.began + presses[hands.next].clock <= clocks) {
+        const Press &press = presses[hands.next++];
+        agree("a button of the board", press.button < INPUTS, true);
+        uint32_t bit = 1u << PLACES[press.button];
+        hands.closed = press.is_down ? hands.closed | bit : hands.closed & ~bit;
+        counts.presses++;
+    }
+    if (hands.left == 0 && once_in(600000)) {
+        hands.other = 1u << below(16);
+        hands.left = 1 + below(once_in(4) ? 2000000 : 3000);
+        counts.others++;
+    }
+    uint32_t other = hands.left > 0 ? hands.other : 0, any = bus.second ? 0 : random_bits();
+    hands.left -= hands.left > 0;
+    game.held = hands.closed ^ other ^ (any & 0xFFFF & ~SELF_TEST);
+    game.switches = any >> 24;
+}
+
+static void choose_reset()
+{
+    if (drive.resetting == 0 && once_in(drive.reset_in)) {
+        drive.resetting = 1 + below(drive.longest_reset);
+        counts.pulses++;
+        counts.single += drive.resetting == 1;
+    }
+    game.reset = drive.resetting > 0;
+    drive.resetting -= drive.resetting > 0;
+}
+
 static void choose_pins()
 {
     bool is_time = drive.left == 0;
@@ -155,18 +237,10 @@ static void choose_pins()
     bool soon = since.clocks < SPACE && once_in(drive.early);
     counts.soon += soon;
     game.tick = is_time || soon;
-    game.ready = drive.ready == drive.ALWAYS || (drive.ready == drive.TICK ? is_time : once_in(3));
-    if (drive.resetting == 0 && once_in(drive.reset_in)) {
-        drive.resetting = 1 + below(4);
-    }
-    game.reset = drive.resetting > 0;
-    drive.resetting -= drive.resetting > 0;
-    if (once_in(3000)) {
-        game.held ^= once_in(20) ? 0x80 : 1u << below(16) & ~0x80u;
-    }
-    if (once_in(20000)) {
-        game.switches = below(256);
-    }
+    game.ready = drive.ready == drive.ALWAYS || (drive.ready == drive.TICK ? is_time
+        : drive.ready == drive.LATE ? is_in_time(is_time) : once_in(3));
+    choose_reset();
+    presses.empty() ? stir_inputs() : press_inputs();
 }
 
 /* Time after this clock. */
@@ -202,6 +276,17 @@ static void agree_on_latches()
     agree("explosion", game.explosion, latches.explosion);
     agree("thump", game.thump, latches.thump);
     agree("sounds", game.sounds, latches.sounds);
+}
+
+/* All RAM. */
+static void agree_on_memories()
+{
+    for (uint32_t place = 0; place < DVG_RAM_BYTES; place++) {
+        agree("a byte of the vector RAM", BOARD(ram)[place], ram[place]);
+    }
+    for (uint32_t place = 0; place < LOW_BYTES; place++) {
+        agree("a byte of the RAM", root->dvg_game__DOT__work[place], low[place]);
+    }
 }
 
 /* What the read of the clock before found. */
@@ -243,6 +328,9 @@ static void agree_on_pins(bool taken, bool restarts, uint32_t area)
     if (bus.second && !bus.write) {
         agree_on_found();
     }
+    if (owed.starting) {
+        agree_on_memories();
+    }
 }
 
 /* The access of a clock, and what it changes. */
@@ -256,6 +344,7 @@ static void take_access()
         bus.write = game.write;
         bus.a = game.a;
         bus.d = game.d;
+        memory.waits = false;
         counts.accesses++;
     }
 }
@@ -277,7 +366,10 @@ static bool play_clock()
     timed.clock(View{resets, (bool)game.access, (bool)game.write, (bool)BOARD(takes), game.a,
         CORE(at), CORE(high), game.d}, taken);
     take_access();
-    edge(game);
+    game.clk = 1;                       /* it falls with the pins of the next clock */
+    game.eval();
+    game.clk = 0;
+    clocks++;
     if (resets) {
         latches = {};
         counts.resets++;
@@ -369,6 +461,7 @@ static void choose_drive(Kind kind)
         : once_in(2) ? drive.TICK : drive.ALWAYS;
     drive.reset_in = kind == RANDOM ? (once_in(2) ? 20000 : 200000)
         : kind == GAME && !log_file ? 2000000 : UINT32_MAX;
+    drive.longest_reset = 4;
     drive.early = kind == RANDOM ? 5 : UINT32_MAX;
 }
 
@@ -469,16 +562,47 @@ static void load()
     }
 }
 
+/* All memories hold any bytes. */
+static void fill_memories()
+{
+    for (uint32_t place = 0; place < DVG_RAM_BYTES; place++) {
+        BOARD(ram)[place] = ram[place] = below(256);
+    }
+    for (uint32_t place = 0; place < LOW_BYTES; place++) {
+        root->dvg_game__DOT__work[place] = low[place] = below(256);
+    }
+}
+
+/* A game of so many clocks begins anew: its presses do, of which the first one may come soon, and
+ * the next reset is chosen. */
+static void begin_game(uint64_t wanted)
+{
+    hands = {0, clocks - below(presses[0].clock), 0, 0, 0};
+    drive.ready = drive.LATE;
+    uint32_t seldom = uint32_t(std::min<uint64_t>(wanted / 2, 6 * CLOCKS_OF_SECOND));
+    drive.reset_in = once_in(8) ? seldom : once_in(2) ? 20000 : 200000;
+    drive.longest_reset = once_in(2) ? 4 : LONGEST_RESET;
+    if (!once_in(4)) {
+        fill_memories();
+    }
+}
+
 static void play(Kind kind, uint64_t wanted)
 {
     choose_drive(kind);
     kind == GAME ? fill_game() : fill_program(kind == SILENT);
     load();
+    bool begins = true;
     for (uint64_t last = clocks + wanted; clocks < last;) {
+        if (begins && !presses.empty()) {
+            begin_game(wanted);
+        }
         try {
             play_next();
+            begins = false;
         } catch (const Reset &) {
             begin_anew();
+            begins = true;
         }
     }
 }
@@ -496,34 +620,43 @@ static void read_game(const char *path)
     fclose(file);
 }
 
-/* All memories hold any bytes. */
 static void power_on()
 {
-    for (uint32_t place = 0; place < DVG_RAM_BYTES; place++) {
-        BOARD(ram)[place] = ram[place] = below(256);
-    }
-    for (uint32_t place = 0; place < LOW_BYTES; place++) {
-        root->dvg_game__DOT__work[place] = low[place] = below(256);
-    }
+    fill_memories();
     game.clk = game.reset = game.tick = game.ready = game.held = 0;
     game.switches = 0;
     port.p = UNUSED;
     game.eval();
 }
 
-int main(int argc, char **argv)
+/* A press comes in any clock of the hundredth of a second from its time on. */
+static uint64_t clock_of(double second)
 {
-    uint64_t seed, wanted = read_arguments(argc, argv, &seed);
-    read_game(argc > 3 ? argv[3] : nullptr);
-    decoded = argc > 4 && !strtoul(argv[4], nullptr, 0) ? 0x7FFF : 0xFFFF;
-    ready_opcodes();
-    power_on();
+    return uint64_t(second * CLOCKS_OF_SECOND) + below(CLOCKS_OF_SECOND / 100);
+}
+
+static int play_presses(uint64_t wanted, uint64_t seed)
+{
+    play(GAME, wanted);
+    printf("%.1f seconds of a game, %" PRIu64 " clocks, %" PRIu64 " accesses, %" PRIu64 " NMIs, %"
+           PRIu64 " starts, %" PRIu64 " pictures,\n %" PRIu64 " presses and %" PRIu64
+           " others, %" PRIu64 " times late, %" PRIu64 " resets, %" PRIu64
+           " of one clock, %" PRIu64 " clocks of reset; agree, seed %" PRIu64 "\n",
+        double(clocks) / CLOCKS_OF_SECOND, clocks, counts.accesses, counts.nmis, timed.starts,
+        timed.halts, counts.presses, counts.others, counts.late, counts.pulses, counts.single,
+        counts.resets, seed);
+    return timed.halts > 0 ? 0 : 1;
+}
+
+/* Random programs, and a game, of which the file LOG gets a log, if there is one. */
+static int play_all(uint64_t wanted, uint64_t seed, const char *log)
+{
     uint64_t half = wanted / 2;
     for (int number = 1; clocks < half; number++) {
         play(number % 3 ? RANDOM : SILENT, CLOCKS_OF_ROM);
     }
     uint64_t nmis = counts.nmis, bites = counts.bites, halts = timed.halts;
-    log_file = argc > 5 ? fopen(argv[5], "w") : nullptr;
+    log_file = log ? fopen(log, "w") : nullptr;
     play(GAME, half < CLOCKS_OF_ROM ? +CLOCKS_OF_ROM : half);
     printf("%" PRIu64 " clocks, %" PRIu64 " accesses, %" PRIu64 " bytes read, %" PRIu64 " NMIs, %"
            PRIu64 " clocks of reset, %" PRIu64 " bites of the watchdog,\n %" PRIu64
@@ -534,4 +667,19 @@ int main(int argc, char **argv)
         counts.soon, timed.starts, timed.halts, timed.breaks[1], timed.breaks[2], timed.breaks[3],
         counts.nmis - nmis, timed.halts - halts, seed);
     return counts.bites == bites && timed.halts > halts ? 0 : 1;
+}
+
+int main(int argc, char **argv)
+{
+    bool has_presses = argc == 6 && strcmp(argv[1], "--game") == 0;
+    uint64_t seed, wanted = read_arguments(argc - has_presses, argv + has_presses, &seed);
+    read_game(argc > 3 ? argv[3 + has_presses] : nullptr);
+    ready_opcodes();
+    power_on();
+    if (has_presses) {
+        read_buttons(argv[5], clock_of);
+        return play_presses(wanted, seed);
+    }
+    decoded = argc > 4 && !strtoul(argv[4], nullptr, 0) ? 0x7FFF : 0xFFFF;
+    return play_all(wanted, seed, argc > 5 ? argv[5] : nullptr);
 }

@@ -4,9 +4,9 @@
  *     core_whole SWITCHES BUTTONS RAM START >PICTURE
  *
  * It runs where program.hex and rom.hex are. SWITCHES is a hexadecimal number, the lowest two bits
- * those of 2800. BUTTONS is a file of presses (board/emulator/buttons.lua): each comes with the
- * first frame of the emulator after its time, of which one has four NMIs. At the generator's start
- * of the number START, from 1, the vector RAM must have the bytes of the file RAM, all 2,048.
+ * those of 2800. BUTTONS is a file of presses (core_buttons.h): each comes with the first frame of
+ * the emulator after its time, of which one has four NMIs. At the generator's start of the number
+ * START, from 1, the vector RAM must have the bytes of the file RAM, all 2,048.
  * PICTURE is what the monitor shows of the run that begins there: the first frame of the monitor
  * that begins after that run, as a grey PGM of 640 by 480 pixels. With a START of 0 it is what the
  * monitor shows after EARLY frames, whatever the RAM. It is read off the wires of the socket: each
@@ -15,7 +15,7 @@
  * 1), and to standard output what else does (status 1). */
 #include "Vcore_whole.h"
 #include "Vcore_whole___024root.h"
-#include <cstring>
+#include "core_buttons.h"
 #include "core_tmds.h"
 
 enum : uint64_t { WIDTH = 640, HEIGHT = 480, COLUMNS = 800, LINES = 525, RAM = 2048 };
@@ -27,51 +27,17 @@ static Vcore_whole top;
 static Vcore_whole___024root *const root = top.rootp;
 static uint8_t wanted[RAM], level[HEIGHT][WIDTH], picture[HEIGHT][WIDTH];
 
-/* What the buttons do, in the order of time. */
-struct Press {
-    uint64_t clock;
-    unsigned button;                    /* a bit of `btn` */
-    bool is_down;
-};
-static std::vector<Press> presses;
+enum { BUTTONS = INPUTS - 1 };
 static size_t presses_done;
 
-/* What the buttons of the board are, and the bits of `held` that they close. 0 is low while it is
- * pressed. The last one is a switch. */
-enum { BUTTONS = 7, INPUTS = 8 };
-static const char *const NAMES[INPUTS] = {"coin_left", "fire", "hyperspace", "thrust", "start_1",
-    "left", "right", "self_test"};
-static const unsigned PLACES[INPUTS] = {8, 4, 3, 13, 11, 15, 14, 7};
-
-/* The button of a name, or INPUTS if there is none. */
-static unsigned button_of(const char *name)
+/* A press comes with the first frame of the emulator after its time. */
+static uint64_t clock_of(double second)
 {
-    unsigned button = 0;
-    while (button < INPUTS && strcmp(NAMES[button], name) != 0) {
-        button++;
-    }
-    return button;
+    uint64_t frame = uint64_t(second * FRAMES_A_SECOND) + 1;
+    return uint64_t(double(frame) * 4 * CLOCKS_OF_NMI);
 }
 
-static void read_buttons(const char *path)
-{
-    FILE *file = fopen(path, "r");
-    if (!file) {
-        exit(64);
-    }
-    char line[200], name[20], way[20];
-    double time;
-    while (fgets(line, sizeof line, file)) {
-        if (sscanf(line, "%lf %19s %19s", &time, name, way) == 3) {
-            uint64_t frame = uint64_t(time * FRAMES_A_SECOND) + 1;
-            presses.push_back({uint64_t(double(frame) * 4 * CLOCKS_OF_NMI), button_of(name),
-                strcmp(way, "down") == 0});
-        }
-    }
-    fclose(file);
-}
-
-/* The pins of buttons and switch. */
+/* The pins of buttons and switch. The first button's is low while it is pressed. */
 static unsigned inputs;
 static void set_inputs(unsigned pins)
 {
@@ -273,7 +239,7 @@ int main(int count, char **words)
         return 64;
     }
     fclose(file);
-    read_buttons(words[2]);
+    read_buttons(words[2], clock_of);
     top.clk_25mhz = 0;
     set_inputs(1);
     top.eval();
