@@ -1,7 +1,7 @@
 #!/usr/bin/env -S python3 -B
 """Compares what the VGA example shows with what the arcade emulator shows of the same vector RAM.
 
-    core_shown.py SNAPSHOT PICTURE
+    core_shown.py SNAPSHOT PICTURE [OTHER..]
     core_shown.py --planted SNAPSHOT PICTURE
     core_shown.py --without NUMBER <RAM >RAM
 
@@ -11,6 +11,9 @@ some 1.3. Each pixel with light in one of them has one in the other no farther t
 direction, and the shares of NEAR have one no farther than two units. Left out is what lies within
 MARGIN of the edge of what both show. Prints how many there are, and these shares, or what differs
 (status 1).
+
+The light of a picture lasts for some frames, in which a game's shapes move. So light of PICTURE may
+also lie where an OTHER snapshot has it, which is of some frames before or after.
 
 --planted makes mistakes in PICTURE, each of which must be found by that comparison.
 --without takes a call of a shape out of the frame that word zero jumps to: that of this number."""
@@ -59,12 +62,14 @@ def distances(points, others):
             yield min((max(abs(x - u), abs(y - v)) for u, v in around), default=8)
 
 
-def compare(snapshot, picture):
+def compare(snapshot, picture, others=()):
     """What is said of both, and whether they agree."""
     lit = {"snapshot": lit_of_snapshot(snapshot), "picture": lit_of_picture(picture)}
+    near_light = {"snapshot": lit["picture"],
+                  "picture": sum(map(lit_of_snapshot, others), lit["snapshot"])}
     said, agrees = [], True
     for name, other in (("snapshot", "picture"), ("picture", "snapshot")):
-        found = list(distances(lit[name], lit[other]))
+        found = list(distances(lit[name], near_light[name]))
         within = sum(far <= FARTHEST for far in found)
         near = sum(far <= 2 for far in found)
         said.append(f"of {len(found)} lit pixels of the {name} {within} have light within "
@@ -124,8 +129,9 @@ def main(words):
     if words[0] == "--without":
         sys.stdout.buffer.write(without(sys.stdin.buffer.read(), int(words[1])))
         return
-    snapshot, picture = read_picture(words[-2]), read_picture(words[-1])
-    if words[0] == "--planted":
+    is_planted = words[0] == "--planted"
+    snapshot, picture, *others = map(read_picture, words[is_planted:])
+    if is_planted:
         mistakes = [(name, *compare(snapshot, planted)) for name, planted in plant(picture)]
         missed = [name for name, _, agrees in mistakes if agrees]
         for name, said, agrees in mistakes:
@@ -134,7 +140,7 @@ def main(words):
             sys.exit(f"not found: {', '.join(missed)}")
         print(f"{len(mistakes)} planted mistakes found")
         return
-    said, agrees = compare(snapshot, picture)
+    said, agrees = compare(snapshot, picture, others)
     if not agrees:
         sys.exit(said)
     print(said)

@@ -1,31 +1,36 @@
 /* core/top/ulx3s.v in Verilator with dvg_game: a whole game on cells, by the board's buttons, on
  * its HDMI socket and on its audio jack.
  *
- *     core_whole SWITCHES BUTTONS RAM START >PICTURE
+ *     core_whole SWITCHES BUTTONS RAMS START.. >WRITES
  *
  * It runs where program.hex and rom.hex are. SWITCHES is a hexadecimal number, the lowest two bits
  * those of 2800. BUTTONS is a file of presses (core_buttons.h): each comes with the first frame of
- * the emulator after its time, of which one has four NMIs. At the generator's start of the number
- * START, from 1, the vector RAM must have the bytes of the file RAM, all 2,048.
- * PICTURE is what the monitor shows of the run that begins there: the first frame of the monitor
- * that begins after that run, as a grey PGM of 640 by 480 pixels. With a START of 0 it is what the
- * monitor shows after EARLY frames, whatever the RAM. It is read off the wires of the socket: each
- * of its pixels is the raster's, and the syncs are those of 640 by 480 pixels, in each of 800 by
- * 525 characters. What was played is printed to standard error, or how many bytes differ (status
- * 1), and to standard output what else does (status 1). */
+ * the emulator after its time, of which one has four NMIs. RAMS has 2,048 bytes for each of the
+ * generator's starts, up to the last START or farther: the vector RAM at that start.
+ *
+ * START.shown is what the monitor shows of the run that begins at the start of that number, from 1:
+ * the first frame of the monitor that begins after that run, as a grey PGM of 640 by 480 pixels.
+ * With a START of 0 it is what the monitor shows after EARLY frames, whatever the RAM. It is read
+ * off the wires of the socket: each of its pixels is the raster's, and the syncs are those of 640
+ * by 480 pixels, in each of 800 by 525 characters. WRITES has what changed a latch of sounds, as
+ * core_sound.cpp reads it. What was played is printed to standard error, or at which start how many
+ * bytes differ (status 1), and to standard output what else does (status 1). */
 #include "Vcore_whole.h"
 #include "Vcore_whole___024root.h"
+#include <string>
 #include "core_buttons.h"
 #include "core_tmds.h"
 
 enum : uint64_t { WIDTH = 640, HEIGHT = 480, COLUMNS = 800, LINES = 525, RAM = 2048 };
 enum : uint64_t { EARLY = 10, SILENCE = 7, MILLISECOND = 25000 };
 static const double CLOCKS_OF_NMI = 6144 * 3125 / 189.0;
-static const double FRAMES_A_SECOND = 12096000 / 4096.0 / 12 / 4;
+static const double FRAMES_A_SECOND = 12096000 / 4096.0 / 12 / 4, CLOCKS_A_SECOND = 25000000;
 
 static Vcore_whole top;
 static Vcore_whole___024root *const root = top.rootp;
-static uint8_t wanted[RAM], level[HEIGHT][WIDTH], picture[HEIGHT][WIDTH];
+static uint8_t level[HEIGHT][WIDTH], picture[HEIGHT][WIDTH];
+static std::vector<uint8_t> rams;
+static uint64_t starts, alike;          /* of the generator, so far; those with this RAM */
 
 enum { BUTTONS = INPUTS - 1 };
 static size_t presses_done;
@@ -100,6 +105,7 @@ static unsigned lamps = 3, explosion, thump, sounds;
 static uint64_t cycles, changes;        /* of the processor; of the lamps */
 static uint64_t heard, loud;            /* writes of sounds that change one; clocks of no silence */
 static uint64_t due;                    /* by when the jack isn't silent, or 0 */
+static uint64_t frames, lit;            /* read off the wires; pixels of them with light */
 
 /* A bit for each sound that is on: an explosion, a thump, and those of 3C00 but for 3C02. */
 static unsigned sounds_on()
@@ -132,10 +138,30 @@ static void watch_game()
         explosion = area == 3 ? d : explosion;
         thump = area == 5 ? d & 31 : thump;
         sounds = (sounds & ~bit) | (d >> 7 ? bit : 0);
-        heard += top.explosion != explosion || top.thump != thump || top.sounds != sounds;
+        if (top.explosion != explosion || top.thump != thump || top.sounds != sounds) {
+            heard++;
+            printf("%.6f %04X %02X\n", double(clocks) / CLOCKS_A_SECOND, a, d);
+        }
         due = due == 0 && (sounds_on() & ~before) ? clocks + MILLISECOND : due;
     }
     cycles += MACHINE(game__DOT__access);
+}
+
+/* At a start the RAM must have the bytes of RAMS, as far as that goes. */
+static void watch_starts()
+{
+    if (!BOARD(starting) || ++starts * RAM > rams.size()) {
+        return;
+    }
+    unsigned sum = 0;
+    for (size_t at = 0; at < RAM; at++) {
+        sum += BOARD(ram)[at] != rams[(starts - 1) * RAM + at];
+    }
+    if (sum > 0) {
+        fprintf(stderr, "at start %" PRIu64 " %u bytes differ\n", starts, sum);
+        exit(1);
+    }
+    alike++;
 }
 
 /* One clock. While the monitor listens, its wires have five clocks of both edges in it. */
@@ -157,25 +183,43 @@ static void clock_once()
         }
     }
     clocks++;
+    watch_starts();
 }
 
 /* Reads the next whole frame off the wires, each pixel of which is the raster's. */
 static void read_frame()
 {
-    uint64_t most = clocks + 3 * COLUMNS * LINES, lit = 0;
+    uint64_t most = clocks + 3 * COLUMNS * LINES, before = lit;
+    receiver.calm = receiver.since = 0;
+    in_frame = false;
+    place = dark = 0;
     for (listens = true; place < COLUMNS * LINES;) {
         clock_once();
         agree("a frame comes", clocks < most, true);
     }
+    listens = false;
     for (uint64_t line = 0; line < HEIGHT; line++) {
         for (uint64_t column = 0; column < WIDTH; column++) {
             agree("the light of a pixel", picture[line][column], level[line][column]);
             lit += picture[line][column] > 0;
         }
     }
-    agree("a frame has light", lit > 0, true);
-    fprintf(stderr, "a frame of %" PRIu64 " characters, %" PRIu64 " pixels of it lit, is the"
-        " raster's; at most %d more of one bit\n", place, lit, receiver.farthest);
+    agree("a frame has light", lit > before, true);
+    frames++;
+}
+
+/* Reads the frame that a start shows, and writes it. */
+static void show_start(const char *start)
+{
+    std::string name = std::string(start) + ".shown";
+    FILE *file = fopen(name.c_str(), "wb");
+    if (!file) {
+        exit(64);
+    }
+    read_frame();
+    fprintf(file, "P5\n%u %u\n255\n", unsigned(WIDTH), unsigned(HEIGHT));
+    fwrite(picture, 1, sizeof picture, file);
+    fclose(file);
 }
 
 /* Each button of the board closes its input, and no other. The PLL makes 125 and 25 MHz by an
@@ -204,57 +248,57 @@ static void check_pace()
         " of sounds, heard in %" PRIu64 " clocks; ", cycles, changes, heard, loud);
 }
 
-/* How many bytes of the RAM aren't those that are wanted. */
-static unsigned differing()
-{
-    unsigned sum = 0;
-    for (size_t at = 0; at < RAM; at++) {
-        sum += BOARD(ram)[at] != wanted[at];
-    }
-    return sum;
-}
-
-/* Plays up to a start, by its number, and its run. */
+/* Plays up to a start, by its number, and its run; or for EARLY frames. */
 static void play_start(uint64_t number)
 {
-    for (uint64_t left = number - BOARD(starting); left > 0; left -= BOARD(starting)) {
+    if (number == 0) {
+        while (clocks < EARLY * COLUMNS * LINES) {
+            clock_once();
+        }
+        return;
+    }
+    agree("a start is later than the ones before", number > starts && number * RAM <= rams.size(),
+        1);
+    while (starts < number) {
         clock_once();
     }
-    if (differing()) {
-        fprintf(stderr, "at start %" PRIu64 " %u bytes differ\n", number, differing());
-        exit(1);
-    }
-    uint64_t began = clocks;
     do {
         clock_once();
     } while (!BOARD(halted));
-    fprintf(stderr, "start %" PRIu64 " has this RAM, after %" PRIu64 " clocks and %zu events of"
-        " buttons; its run took %" PRIu64 " clocks; ", number, began, presses_done, clocks - began);
+}
+
+static void read_rams(const char *path)
+{
+    FILE *file = fopen(path, "rb");
+    if (!file) {
+        exit(64);
+    }
+    for (uint8_t byte; fread(&byte, 1, 1, file) == 1;) {
+        rams.push_back(byte);
+    }
+    fclose(file);
 }
 
 int main(int count, char **words)
 {
-    FILE *file = count == 5 ? fopen(words[3], "rb") : nullptr;
-    if (!file || fread(wanted, 1, RAM, file) != RAM) {
+    if (count < 5) {
         return 64;
     }
-    fclose(file);
     read_buttons(words[2], clock_of);
+    read_rams(words[3]);
     top.clk_25mhz = 0;
     set_inputs(1);
     top.eval();
     MACHINE(switches) = strtoul(words[1], nullptr, 16);
     check_pins();
-    uint64_t start = strtoull(words[4], nullptr, 0);
-    if (start > 0) {
-        play_start(start);
-    }
-    while (start == 0 && clocks < EARLY * COLUMNS * LINES) {
-        clock_once();
+    for (int word = 4; word < count; word++) {
+        play_start(strtoull(words[word], nullptr, 0));
+        show_start(words[word]);
     }
     check_pace();
-    read_frame();
-    printf("P5\n%u %u\n255\n", unsigned(WIDTH), unsigned(HEIGHT));
-    fwrite(picture, 1, sizeof picture, stdout);
+    fprintf(stderr, "%" PRIu64 " frames off the wires, %" PRIu64 " of their pixels lit, are the"
+        " raster's, at most %d more of one bit; of %" PRIu64 " starts %" PRIu64 " have this RAM,"
+        " after %" PRIu64 " clocks and %zu events of buttons\n", frames, lit, receiver.farthest,
+        starts, alike, clocks, presses_done);
     return 0;
 }
