@@ -9,11 +9,13 @@
 import { execFileSync, spawnSync } from 'node:child_process';
 import { existsSync, readFileSync, readdirSync, statSync, writeFileSync } from 'node:fs';
 import { createServer } from 'node:http';
+import { cpus, loadavg } from 'node:os';
 import { comesTo, startChromium } from './page_chromium.mjs';
 import { BEGIN_STOPS, STOP_NOW, lowContrasts } from './page_access.mjs';
 import { brokenRules, readAxe, versionOfAxe } from './page_axe.mjs';
 import { DROP_LONG_LOG, MOVE_OVER_IT, movesText } from './page_long.mjs';
-import { FAST_TIME, FRAMES_OF_MINUTE, megabytes } from './page_minutes.mjs';
+import { FAST_TIME, FRAMES_OF_MINUTE, FRAME_TIME, megabytes } from './page_minutes.mjs';
+import { isDrawn } from './page_pixels.mjs';
 import { builtGame } from '../page/src/eproms.mjs';
 import { LESSONS } from '../page/src/lessons.mjs';
 import { strokesOfLines } from '../page/src/tears.mjs';
@@ -1740,30 +1742,6 @@ function picturesOfFirst() {
     + 'tick 1100\nstrobe\nfetch 9999\n').split('\n')).filter(([, , , , z]) => z > 0));
 }
 
-// Points along strokes, on a tube that is so wide: 10 units more are on each side of the 1,024.
-function pointsOf(strokes, width) {
-  const place = (x, y) => [(x / 512 + 10) * width / 1044, width - (y / 512 + 10) * width / 1044];
-  return strokes.flatMap(([x0, y0, x1, y1]) => {
-    const steps = Math.ceil(Math.hypot(x1 - x0, y1 - y0) / 512) + 1;
-    return Array.from({ length: steps + 1 }, (_, k) => (
-      place(x0 + (x1 - x0) * k / steps, y0 + (y1 - y0) * k / steps)));
-  });
-}
-
-// Whether what is lit is what strokes draw: each of their points is, and nothing far from them.
-function isDrawn(strokes, { width, found }) {
-  const near = (far, points) => new Set(points.flatMap(([x, y]) => {
-    const all = [];
-    for (let dx = -far; dx <= far; dx++) for (let dy = -far; dy <= far; dy++) {
-      all.push(Math.round(x + dx) + width * Math.round(y + dy));
-    }
-    return all;
-  }));
-  const points = pointsOf(strokes, width), lit = new Set(found), close = near(5, points);
-  return found.every((at) => close.has(at))
-    && points.every((point) => [...near(2, [point])].some((at) => lit.has(at)));
-}
-
 // What is on the tube is a picture of that game, as `dvg` draws it: one, and no other one.
 async function testTube() {
   const pictures = picturesOfFirst(), seen = new Set();
@@ -2092,13 +2070,13 @@ async function memoryNow() {
   return usedSize + backingStorageSize + await tab.value('wasmBytes()');
 }
 
-// Does something in a tab of its own, in which time passes as it is told.
-async function inFastTab(act) {
+// Does something in a tab of its own, in which time passes as this script says.
+async function inTabOf(source, act) {
   const first = tab;
   tab = await openTab();
   await tab.size(1280, 900);
   await tab.send('HeapProfiler.enable');
-  await tab.send('Page.addScriptToEvaluateOnNewDocument', { source: FAST_TIME });
+  await tab.send('Page.addScriptToEvaluateOnNewDocument', { source });
   try {
     await act();
     expect('no fault in the page', '', tab.faults.join());
@@ -2123,7 +2101,7 @@ function expectFlat(what, [, ...sizes], began) {
 // Over minutes of a game, which go by as fast as they can, the page's memory stays what it was
 // after the first fifth of them.
 async function testMinutes() {
-  await inFastTab(async () => {
+  await inTabOf(FAST_TIME, async () => {
     await tab.open(front);
     const began = Date.now(), sizes = [];
     for (let k = 0; k < 10; k++) {
@@ -2149,7 +2127,7 @@ const PASS_A_BOARD = `(() => {
 
 // So it does where a board goes on and on, each time that it begins anew.
 async function testBoards() {
-  await inFastTab(async () => {
+  await inTabOf(FAST_TIME, async () => {
     await openPage();
     await tab.value('document.getElementById("speed").value = 9');
     for (const id of ['endless', 'run']) await tab.click(id);
@@ -2210,33 +2188,45 @@ async function takenByGame() {
   return { task, script, pictures, frames: await tab.value('window.frameCount'), at: Date.now() };
 }
 
-// On a processor that is four times as slow, ten seconds of a game that somebody plays: for each of
-// its pictures, of which there are 61.5 in a second, the script works less than that takes. How
-// many of them are shown is only told, as a busy machine decides that, too.
-async function testSlowed() {
-  await tab.size(1280, 900);
-  await tab.open(front);
-  await tab.value(COUNT_FRAMES);
-  await tab.send('Emulation.setCPUThrottlingRate', { rate: 4 });
-  await tab.until('/each of [0-9]{3}/.test(document.getElementById("run-moments").textContent)');
+// Plays a game for so many frames of its animation, each a 60th of a second: how long the page's
+// thread works for one, and how long of that its script.
+async function workOfFrames(count) {
   const before = await takenByGame();
-  for (let k = 0; Date.now() < before.at + 10000; k++) {
+  for (let k = 0; await tab.value('window.frameCount') < before.frames + count; k++) {
     const key = [['ArrowLeft', 37], [' ', 32], ['ArrowUp', 38], ['ArrowRight', 39]][k % 4];
     for (const isDown of [true, false]) {
       await tab.hold(...key, isDown);
-      await tab.until('new Promise((done) => setTimeout(() => done(true), 120))');
+      await tab.until('new Promise((done) => setTimeout(() => done(true), 60))');
     }
   }
   const after = await takenByGame();
-  await tab.send('Emulation.setCPUThrottlingRate', { rate: 1 });
-  const [task, script, pictures, frames, time] = ['task', 'script', 'pictures', 'frames', 'at']
-    .map((name) => after[name] - before[name]);
-  console.log(`browser: on a processor four times as slow a game shows `
-    + `${(1000 * frames / time).toFixed(1)} pictures a second; for each of its `
-    + `${(1000 * pictures / time).toFixed(1)} the page's thread works `
-    + `${(task / pictures).toFixed(1)} ms, ${(script / pictures).toFixed(1)} of them the script`);
-  expect('it keeps on', true, pictures > 50 && frames > 5);
-  expect('the script works less than a picture takes', true, script / pictures < 1000 / 61.5);
+  const frames = after.frames - before.frames, [task, script, pictures] = ['task', 'script',
+    'pictures'].map((name) => (after[name] - before[name]) / frames);
+  return { task, script, pictures, shown: 1000 * frames / (after.at - before.at) };
+}
+
+// On a processor that is four times as slow, ten seconds of a game that somebody plays: in its
+// quickest second the script works less for each picture than that takes. Where nothing else is at
+// work, so does all of the page's thread, with painting, of which there must be 60 in a second: a
+// busy machine gives it less of a processor than it counts.
+async function testSlowed() {
+  await inTabOf(FRAME_TIME, async () => {
+    await tab.open(front);
+    await tab.send('Emulation.setCPUThrottlingRate', { rate: 4 });
+    await tab.until('/each of [0-9]{3}/.test(document.getElementById("run-moments").textContent)');
+    const seconds = [], isBusy = () => loadavg()[0] > cpus().length;
+    while (seconds.length < 10) seconds.push(await workOfFrames(60));
+    const [{ task, script, shown }, { task: middle }] = [0, 5].map((k) => (
+      [...seconds].sort((a, b) => a.task - b.task)[k]));
+    console.log(`browser: on a processor four times as slow the page's thread works `
+      + `${task.toFixed(1)} ms for a 60th of a second of a game, ${script.toFixed(1)} of them the `
+      + `script, ${middle.toFixed(1)} at the median; ${shown.toFixed(0)} are shown in a second`
+      + `${isBusy() ? ', by a busy machine' : ''}`);
+    expect('the game goes on', true, seconds.every(({ pictures }) => pictures > 0.5));
+    expect('the script works less than a picture takes', true, script < 1000 / 61.5);
+    expect('and with it the thread, on a machine that isn\'t busy', true,
+      isBusy() || task < 1000 / 60);
+  });
 }
 
 const tests = {

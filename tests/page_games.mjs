@@ -29,6 +29,7 @@ import { Strip } from '../page/src/strip.mjs';
 import { tearOfGame } from '../page/src/tears.mjs';
 import { linesOfListing } from '../page/src/twin.mjs';
 import { packedGames } from '../page/games.mjs';
+import { brightOf, isDrawn } from './page_pixels.mjs';
 import { Audio, partsOf, runPage, scriptOf } from './page_stage.mjs';
 
 const [program, work] = process.argv.slice(2, 4), events = Number(process.argv[5]),
@@ -939,12 +940,12 @@ function testMakePage() {
 async function playPage(folder, html) {
   const pads = [null], navigator = { getGamepads: () => pads };
   const page = await runPage(html, { navigator }), arcade = boardOf(folder, {});
+  const { tube } = page.parts;
   const pass = (count) => {
     page.pass(count);
     for (let k = 0; k < count; k++) arcade.run(Math.round(page.frame * HERTZ / 1000));
-    const begun = arcade.picture.strokes.map(([x, y]) => [x, y]);
-    expect(`${folder}: where the strokes of the newest picture begin`, begun,
-      page.begun.slice(-begun.length));
+    expect(`${folder}: the strokes of the newest picture are lit, and nothing else is`, true,
+      isDrawn(arcade.picture.strokes, brightOf(tube.image)));
   };
   pass(100);
   expect(`${folder}: strokes are seen`, true, arcade.picture.strokes.length > 3);
@@ -962,9 +963,9 @@ async function playPage(folder, html) {
     pass(30);
   }
   page.parts.pause.happen('click');
-  const before = page.begun.length;
+  const before = tube.painted;
   page.pass(100);
-  expect(`${folder}: it pauses`, before, page.begun.length);
+  expect(`${folder}: it pauses`, before, tube.painted);
   expect(`${folder}: no fault is told`, '', page.parts['game-said'].textContent);
   arcade.free();
 }

@@ -1,13 +1,13 @@
-// What tests/page_browser.mjs puts into a page before its script, so that minutes go by in seconds:
-// the page's clock stands still, and frames of its animation come when they are asked for.
+// What tests/page_browser.mjs puts into a page before its script, so that its clock goes on by the
+// frames of its animation: minutes go by in seconds, or each frame is a 60th of a second.
 
 // How long a frame is, in milliseconds: the page makes up for no more.
 const FRAME = 100;
 
 export const FRAMES_OF_MINUTE = 60000 / FRAME;
 
-// From then on passFrames(N) lets so many frames pass, and wasmBytes() tells how much memory the
-// WebAssembly has.
+// Frames come when they are asked for: from then on passFrames(N) lets so many pass, and wasmBytes()
+// tells how much memory the WebAssembly has.
 export const FAST_TIME = `{
   const frames = [], memories = [], { instantiate } = WebAssembly;
   let now = 0;
@@ -25,6 +25,15 @@ export const FAST_TIME = `{
     return made;
   };
   window.wasmBytes = () => memories.reduce((sum, { buffer }) => sum + buffer.byteLength, 0);
+}`;
+
+// Frames come when the browser can show them, and each is a 60th of a second to the page, however
+// late it is: window.frameCount is how many there were.
+export const FRAME_TIME = `{
+  window.frameCount = 0;
+  performance.now = () => window.frameCount * 1000 / 60;
+  const count = () => { window.frameCount++; requestAnimationFrame(count); };
+  requestAnimationFrame(count);
 }`;
 
 // A number of bytes in words.

@@ -1,5 +1,5 @@
 // A page's script under node, without a browser: its parts hold what they are given, nothing is
-// painted but kept where strokes begin, and time passes as it is told.
+// painted but the images that are put are kept, and time passes as it is told.
 import { createContext, runInContext } from 'node:vm';
 
 // How long a frame of the animation takes, in milliseconds.
@@ -30,7 +30,13 @@ class Part {
 
   focus() {}
 
-  getContext() { return new Proxy({ canvas: this }, { get: (held, name) => held[name] ?? none }); }
+  getContext() {
+    const putImageData = (image) => {
+      this.image = image;
+      this.painted = (this.painted ?? 0) + 1;
+    };
+    return new Proxy({ canvas: this, putImageData }, { get: (held, name) => held[name] ?? none });
+  }
 
   // Lets something happen to it.
   happen(type, event = {}) {
@@ -54,24 +60,20 @@ export function scriptOf(html) {
 }
 
 // Runs a page; `more` are other names that its script finds. Returns its parts by their ids, and by
-// names of what they press; `keys`, which takes keys; `pass`, by which frames pass; and `begun`:
-// where each stroke began that was painted.
+// names of what they press; `keys`, which takes keys; and `pass`, by which frames pass.
 export async function runPage(html, more = {}) {
   const { parts, inputs } = partsOf(html);
   const keys = new Part(''), body = new Part('');
-  const frames = [], begun = [];
+  const frames = [];
   let now = 0;
   const global = {
     document: Object.assign(keys, {
       body, getElementById: (id) => parts[id], querySelectorAll: () => Object.values(inputs),
     }),
     performance: { now: () => now }, requestAnimationFrame: (frame) => frames.push(frame),
-    Path2D: class {
-      moveTo(...place) { this.place = place; }
-
-      lineTo(...place) {
-        begun.push(this.place);
-        this.place = place;
+    ImageData: class {
+      constructor(width, height) {
+        Object.assign(this, { width, height, data: new Uint8ClampedArray(4 * width * height) });
       }
     },
     ResizeObserver: class { observe() {} },
@@ -87,7 +89,7 @@ export async function runPage(html, more = {}) {
       for (const frame of frames.splice(0)) frame();
     }
   };
-  return { parts, inputs, keys, body, pass, begun, frame: FRAME };
+  return { parts, inputs, keys, body, pass, frame: FRAME };
 }
 
 // A number that changes over time: what was asked of it, each with a time.

@@ -15,6 +15,8 @@ import { areaName, counted } from './words.mjs';
 
 /* How often the texts are shown, in milliseconds. */
 const TEXTS_AFTER = 200;
+/* With how many frames of the animation the rows are drawn once. */
+const ROWS_EVERY = 4;
 /* How many seconds of the board go by until what comes of a change is told. */
 const ANSWER_AFTER = 3;
 /* What a beginning presses by itself: the button, from which second on, and until which. */
@@ -67,7 +69,7 @@ export class Play extends Player {
   constructor(engine, games, driver) {
     super(engine);
     Object.assign(this, { games, driver, program: null, textsAt: 0, guess: null });
-    Object.assign(this, { number: -1, isRowsTurn: false, onChange: () => {} });
+    Object.assign(this, { number: -1, turns: 0, onChange: () => {} });
     // The moment of the rows that somebody looks at, if so, and the torn picture.
     Object.assign(this, { moment: null, looked: null, colors: null });
     this.strip = new Strip(byId('past'));
@@ -218,11 +220,11 @@ export class Play extends Player {
     super.setPaused(isPaused);
   }
 
-  /* The rows of a game that goes on are drawn with every other picture. */
+  /* The rows of a game that goes on are drawn with every fourth picture. */
   draw() {
     super.draw();
-    this.isRowsTurn = this.isPaused || !this.isRowsTurn;
-    if (this.isRowsTurn) this.drawStrip();
+    this.turns = this.isPaused ? 0 : (this.turns + 1) % ROWS_EVERY;
+    if (this.turns === 0) this.drawStrip();
   }
 
   drawStrip() {

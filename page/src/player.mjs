@@ -126,7 +126,8 @@ export class Player {
   draw() {
     const { seen } = this;
     this.screen.draw(seen, null, false, seen?.torn ? this.tearOf(seen) : null);
-    byId('tube').dataset.strokes = seen?.strokes.length ?? 0;
+    const count = String(seen?.strokes.length ?? 0), { dataset } = byId('tube');
+    if (dataset.strokes !== count) dataset.strokes = count;
   }
 
   /* --- Hands --- */
