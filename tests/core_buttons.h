@@ -17,17 +17,18 @@ struct Press {
 };
 static std::vector<Press> presses;
 
-/* The buttons, and the bits of `held` that they close. The last one is a switch. */
-enum { INPUTS = 8 };
-static const char *const NAMES[INPUTS] = {"coin_left", "fire", "hyperspace", "thrust", "start_1",
-    "left", "right", "test"};
-static const unsigned PLACES[INPUTS] = {8, 4, 3, 13, 11, 15, 14, 7};
+/* The buttons, and the bits of `held` that they close: first the INPUTS that a ULX3S has, of which
+ * the last one is a switch. */
+enum { INPUTS = 8, NAMED = 13 };
+static const char *const NAMES[NAMED] = {"coin_left", "fire", "hyperspace", "thrust", "start_1",
+    "left", "right", "test", "coin_center", "coin_right", "start_2", "slam", "step"};
+static const unsigned PLACES[NAMED] = {8, 4, 3, 13, 11, 15, 14, 7, 9, 10, 12, 6, 5};
 
-/* The button of a name, or INPUTS if there is none. */
+/* The button of a name, or NAMED if there is none. */
 static unsigned button_of(const char *name)
 {
     unsigned button = 0;
-    while (button < INPUTS && strcmp(NAMES[button], name) != 0) {
+    while (button < NAMED && strcmp(NAMES[button], name) != 0) {
         button++;
     }
     return button;

@@ -202,7 +202,7 @@ static void press_inputs()
 {
     while (hands.next < presses.size() && hands.began + presses[hands.next].clock <= clocks) {
         const Press &press = presses[hands.next++];
-        agree("a button of the board", press.button < INPUTS, true);
+        agree("a button of the board", press.button < NAMED, true);
         uint32_t bit = 1u << PLACES[press.button];
         hands.closed = press.is_down ? hands.closed | bit : hands.closed & ~bit;
         counts.presses++;
