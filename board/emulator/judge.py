@@ -383,6 +383,7 @@ class Pictures:
     def __init__(self, memories, rom):
         self.memories, self.rom, self.known, self.frames = memories, rom, {}, Frames()
         self.count, self.good, self.bad_ones, self.garbage = 0, [], [], []
+        self.drawn = set()                          # the strokes of each, in either half
         self.fullest = 0, 0.0
 
     def take(self, time):
@@ -396,6 +397,7 @@ class Pictures:
         if key not in self.known:
             why, said = what_is_bad(memory, self.rom)
             self.known[key] = why, instructions(said)
+            self.drawn.add(tuple(line for line in said if re.fullmatch(r'\d+( \d+){4}', line)))
             if not why:
                 most = frame_name(memory, half // 2 + 1) or self.costliest(self.known[key][1])
                 self.good.append((time, '\n'.join(said), most))
@@ -476,7 +478,7 @@ def judge_pictures(out, log, rom, rate):
         say(False, '%d bad pictures of %d; the first at %.3f s: %s'
             % (len(pictures.bad_ones), pictures.count, *pictures.bad_ones[0]))
     else:
-        print('%d pictures are good, of which %d differ' % (pictures.count, len(pictures.known)))
+        print('%d pictures are good, of which %d differ' % (pictures.count, len(pictures.drawn)))
 
 
 def tell_presses(pressed):
