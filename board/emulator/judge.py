@@ -423,7 +423,7 @@ class Pictures:
                 scale = int(numbers[2])
             moves = name in ('VCTR', 'SVEC')
             spent[where] += microseconds((int(numbers[0]) + scale) % 16) if moves else 4
-        return spent.most_common(1)[0] if spent else ((), 0)
+        return longest_of(spent) if spent else ((), 0)
 
     def look_for_garbage(self, memory, run, time):
         """Words that are taken for a vector, and are the place of a shape: calls without C000."""
@@ -505,6 +505,17 @@ def drawings_of(log):
     places = [bisect.bisect(times, flip) for flip in log.flips]
     counts = [after - before for before, after in zip(places, places[1:])]
     return max(statistics.median_low(counts), 1) if counts else 1
+
+
+def longest_of(spent):
+    """The place with the most of what was spent; or the label from which on many places spent far
+    more in all, as a macro's lines do."""
+    where, most = spent.most_common(1)[0]
+    labels = collections.Counter()
+    for way, time in spent.items():
+        labels[tuple(places.label(at) for at in way[:1]) + way[1:]] += time
+    label, whole = labels.most_common(1)[0]
+    return (label, whole) if whole >= 2 * most else (where, most)
 
 
 def tell_longest(pictures, log, rate):
