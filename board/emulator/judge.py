@@ -383,6 +383,7 @@ class Pictures:
     def __init__(self, memories, rom):
         self.memories, self.rom, self.known, self.frames = memories, rom, {}, Frames()
         self.count, self.good, self.bad_ones, self.garbage = 0, [], [], []
+        self.drawn = set()                          # the strokes of each, in either half
         self.fullest = 0, 0.0
 
     def take(self, time):
@@ -396,6 +397,7 @@ class Pictures:
         if key not in self.known:
             why, said = what_is_bad(memory, self.rom)
             self.known[key] = why, instructions(said)
+            self.drawn.add(tuple(line for line in said if re.fullmatch(r'\d+( \d+){4}', line)))
             if not why:
                 most = frame_name(memory, half // 2 + 1) or self.costliest(self.known[key][1])
                 self.good.append((time, '\n'.join(said), most))
@@ -421,7 +423,7 @@ class Pictures:
                 scale = int(numbers[2])
             moves = name in ('VCTR', 'SVEC')
             spent[where] += microseconds((int(numbers[0]) + scale) % 16) if moves else 4
-        return spent.most_common(1)[0] if spent else ((), 0)
+        return longest_of(spent) if spent else ((), 0)
 
     def look_for_garbage(self, memory, run, time):
         """Words that are taken for a vector, and are the place of a shape: calls without C000."""
@@ -476,7 +478,7 @@ def judge_pictures(out, log, rom, rate):
         say(False, '%d bad pictures of %d; the first at %.3f s: %s'
             % (len(pictures.bad_ones), pictures.count, *pictures.bad_ones[0]))
     else:
-        print('%d pictures are good, of which %d differ' % (pictures.count, len(pictures.known)))
+        print('%d pictures are good, of which %d differ' % (pictures.count, len(pictures.drawn)))
 
 
 def tell_presses(pressed):
@@ -503,6 +505,17 @@ def drawings_of(log):
     places = [bisect.bisect(times, flip) for flip in log.flips]
     counts = [after - before for before, after in zip(places, places[1:])]
     return max(statistics.median_low(counts), 1) if counts else 1
+
+
+def longest_of(spent):
+    """The place with the most of what was spent; or the label from which on many places spent far
+    more in all, as a macro's lines do."""
+    where, most = spent.most_common(1)[0]
+    labels = collections.Counter()
+    for way, time in spent.items():
+        labels[tuple(places.label(at) for at in way[:1]) + way[1:]] += time
+    label, whole = labels.most_common(1)[0]
+    return (label, whole) if whole >= 2 * most else (where, most)
 
 
 def tell_longest(pictures, log, rate):

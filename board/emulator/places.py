@@ -63,6 +63,10 @@ class Places:
         label, name = before[-1]
         return '%04X, %s%s' % (at, name, ' + %d' % (at - label) if at > label else '')
 
+    def label(self, at):
+        """The place of the label before it; itself where none stands there."""
+        return max((label for label, _ in self.code if label <= at), default=at)
+
     def routine(self, at):
         return [name for label, name in self.routines if label <= at][-1]
 
