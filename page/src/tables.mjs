@@ -155,7 +155,7 @@ export const SAID = {
 "dvg_offer": "offered at {where}",
 "dvg_put": "put at {where}",
 "dvg_pair": "put by dvg_pair at {where}",
-"summary": "{count} instructions, {calls} subroutines; at most {stack} bytes of the stack, and {fuel} instructions of the NMI",
+"summary": "{count} instructions behind TXS, {calls} subroutines; at most {stack} bytes of the stack, and {fuel} instructions of the NMI",
 "no_calls": "it calls neither dvg_offer, dvg_put nor dvg_pair",
 "no_others": "{tables} tables checked, {words} words checked; there are no others",
 "others": "{tables} tables checked, {words} words checked; there are others"
