@@ -5,10 +5,12 @@
 An input has the words of a command, a line each, up to an empty line, and then what stands on
 standard input. Of all inputs in the folders at most so many are asked, evenly among them. What
 comes must be the same: the status and both outputs. An input is passed over where the twin isn't
-made for it: `explain`, help, and words that ask for nothing. The last line is 'N passed, M failed'.
+made for it: `explain`, help, and words that ask for nothing. So are lines that say what is expected
+of a line of a sketch. The last line is 'N passed, M failed'.
 """
 
 import os
+import re
 import subprocess
 import sys
 from concurrent.futures import ThreadPoolExecutor
@@ -21,6 +23,7 @@ from counts import expect
 COMMANDS = {b"check", b"lay", b"list", b"picture", b"play", b"render", b"rom", b"torn"}
 HELP = {b"-h", b"--help", b"help", b"-V", b"--version"}
 MISUSE, MOST_SECONDS = 64, 60
+EXPECTED = re.compile(rb"(?m)^dvg: expected .*\n")
 
 
 def split(held):
@@ -37,7 +40,7 @@ def come(program, words, text):
     """What comes of a program: its status, and what it writes."""
     ran = subprocess.run([program, *words], input=text, capture_output=True, timeout=MOST_SECONDS,
                          check=False)
-    return ran.returncode, ran.stdout, ran.stderr
+    return ran.returncode, ran.stdout, EXPECTED.sub(b"", ran.stderr)
 
 
 def compare(path, program, twin):

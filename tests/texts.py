@@ -113,8 +113,9 @@ def generated(script):
     return output
 
 
-def wanted(shown):
-    """The status, the standard output and the standard error that these lines show."""
+def wanted(shown, unsaid=None):
+    """The status, the standard output and the standard error that these lines show, without the
+    lines of this pattern."""
     status, output, error = "0", b"", b""
     for number, line in enumerate(shown):
         if line.startswith("2> ") or line == "2>":
@@ -125,6 +126,8 @@ def wanted(shown):
             output += generated(line[2:-1])
         else:
             output += line.encode() + b"\n"
+    if unsaid:
+        output, error = (re.sub(unsaid, b"", text) for text in (output, error))
     return status, output, error
 
 
@@ -149,9 +152,10 @@ class Suite:
             for line in list(difflib.unified_diff(*lines, n=0, lineterm=""))[2:12]:
                 print("    " + line[:100])
 
-    def run_cases(self, cases, preamble, asked=""):
-        """Runs cases side by side, and wants exactly what they show. The preamble is what bash is
-        told before each command; repository/ is this repository."""
+    def run_cases(self, cases, preamble, asked="", unsaid=None):
+        """Runs cases side by side, and wants exactly what they show, but for lines of this
+        pattern, which none may print. The preamble is what bash is told before each command;
+        repository/ is this repository."""
         before = f". '{GENERATORS}'\n{preamble}\n"
         parts = ("status", "standard output", "standard error")
 
@@ -166,7 +170,7 @@ class Suite:
                     what = case.name + asked
                     if len(case.commands) > 1:
                         what += f", $ {command.script}"
-                    self.expect(what, list(zip(parts, wanted(command.shown), found)))
+                    self.expect(what, list(zip(parts, wanted(command.shown, unsaid), found)))
 
     def end(self):
         print(f"{self.passed} passed, {self.failed} failed")

@@ -31,12 +31,9 @@ pub mod world;
 /// Random schedules and images, and a recount of what came of them, by no module above.
 pub mod storm {
     pub mod drafts;
-    pub mod literal;
     pub mod pictures;
     pub mod programs;
     pub mod recount;
     pub mod schedules;
     pub mod sketches;
-    pub mod spent;
-    pub mod ways;
 }

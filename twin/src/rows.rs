@@ -56,7 +56,7 @@ pub fn tokens_of(line: &[u8]) -> impl Iterator<Item = &[u8]> {
 }
 
 /// Whether these bytes are a name.
-pub fn is_name(bytes: &[u8]) -> bool {
+fn is_name(bytes: &[u8]) -> bool {
     let is_inner = |byte: &u8| matches!(byte, b'a'..=b'z' | b'0'..=b'9' | b'_');
     bytes.first().is_some_and(u8::is_ascii_lowercase)
         && bytes.iter().all(is_inner)

@@ -1,10 +1,12 @@
 //! The plain twin of `dvg`: the same program in plain Rust, with nothing proved, to compare speeds
 //! with.
 //!
-//! It has the same limits, texts and statuses, as tests/program sees. Only where standard input or
-//! standard output was closed by the caller do the two differ, as Rust's runtime opens /dev/null in
-//! its place, and for arguments that ask for help or for nothing the program can do: those it
-//! answers with one line and the status 64.
+//! It has the same limits, texts and statuses, as tests/program sees. The two differ only
+//! - where standard input or standard output was closed by the caller, as Rust's runtime opens
+//!   /dev/null in its place,
+//! - for arguments that ask for help or for nothing the program can do: those it answers with one
+//!   line and the status 64, and
+//! - where a line of a sketch is at fault: it doesn't say what is expected there.
 
 use std::ffi::OsString;
 use std::fmt;

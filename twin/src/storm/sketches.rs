@@ -9,8 +9,8 @@ const MOST_TEXT_BYTES: usize = 1_048_576;
 /// A random sketch, and what it denotes by the way in which it was made.
 pub struct Made {
     pub text: Vec<u8>,
-    /// The frames: the name of each, and its draft.
-    pub frames: Vec<(Option<String>, Vec<Op>)>,
+    /// The draft of each frame.
+    pub frames: Vec<Vec<Op>>,
     pub equates: Vec<(String, usize)>,
 }
 
@@ -479,13 +479,13 @@ fn write_all(
     maker: &mut Maker,
     sections: &[RomSection],
     drafts: Vec<Vec<Op>>,
-) -> Vec<(Option<String>, Vec<Op>)> {
+) -> Vec<Vec<Op>> {
     let mut frame_names = Names::new();
     let mut frames = Vec::new();
     let mut drafts = drafts.into_iter().peekable();
     let mut sections = sections.iter().peekable();
     if sections.peek().is_none() && drafts.peek().is_none() {
-        return vec![(None, Vec::new())];
+        return vec![Vec::new()];
     }
     let mut at_top = true;
     while sections.peek().is_some() || drafts.peek().is_some() {
@@ -500,7 +500,7 @@ fn write_all(
                 maker.writer.line(&begin, maker.random);
             }
             maker.write_frame(&ops);
-            frames.push((name, ops));
+            frames.push(ops);
         } else if let Some(section) = sections.next() {
             maker.write_section(section);
         }
