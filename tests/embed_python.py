@@ -175,6 +175,13 @@ def test_generator():
         expect_raises(g.BadByte, lambda: generator.fetch(256))
         expect_raises(g.WrongSize, lambda: generator.fetch_from(bytes(2047)))
         expect_raises(g.WrongSize, lambda: generator.fetch_from(bytes(2048), bytes(4095)))
+        generator.strobe()
+        nowhere = words(0xE500).ljust(2048, b"\0")
+        text = [str(generator.fetch_from(nowhere)) for _ in range(2)]
+        expect_same(["low 000 00", "fetched 000 E500"], text, "a jump to where no memory is")
+        broke = expect_raises(g.RunBroke, lambda: generator.fetch_from(nowhere))
+        expect_same((0x500, Break.HOLE), (broke.address, broke.why), "no byte is taken from there")
+        expect_same("broke 500 3", str(g.Entry(Kind.BROKE, 0x500, Break.HOLE)), "its entry")
         ram = words(0xB000).ljust(2048, b"\0")
         expect_same(g.Picture(1, []), generator.draw(ram), "a HALT alone")
         expect_same("picture 1 0", str(generator.draw(ram)), "its text")
