@@ -7,9 +7,9 @@ use gerbilargent::alloc::{AllocError, AllocFailed, Vec};
 use gerbilargent::{
     Action, BadCode, BadOp, Checker, Code, CodeFault, Draft, DraftFull, Driver, DriverFault,
     DriverState, DriverStateFault, Entry, Event, Flat, FrameFault, GenFault, Generator,
-    GeneratorState, GeneratorStateFault, Global, Image, Instr, Judge, MemFault, MomentJudge, Op,
-    OpKind, OutOfMemory, Phase, Place, Rom, StateFault, Stopped, Stroke, World, WorldState,
-    WorldStateFault, WrappingGenerator, check, digest, dump, read, steps,
+    GeneratorRefused, GeneratorState, GeneratorStateFault, Global, Image, Instr, Judge, MemFault,
+    MomentJudge, Op, OpKind, OutOfMemory, Phase, Place, Rom, StateFault, Stopped, Stroke, World,
+    WorldRefused, WorldState, WorldStateFault, WrappingGenerator, check, digest, dump, read, steps,
 };
 
 /// All names of the crate at once leave std's as they are, and so does the prelude.
@@ -129,7 +129,9 @@ fn save() -> Result<(), Box<dyn Error>> {
         assert_eq!(WorldState::from_bytes(other_rom, &bytes).err(), Some(StateFault::OtherRom));
         let mut other = world_over(rom)?;
         other.resume(state.clone())?;
-        assert_eq!(run_of(&mut other)?, Entry::Broke(0xC00, GenFault::Hole));
+        let broke = Entry::Broke(0xC00, GenFault::Hole);
+        assert_eq!(other.clone().run_to_halt(9999)?, broke);
+        assert_eq!(run_of(&mut other)?, broke);
         assert!(other.generator().halted() && other.fetch()? == Entry::Still);
     }
     let (mut later, mut judge) = (world_over(&[0xD0; 2048])?, MomentJudge::new());
@@ -189,6 +191,51 @@ fn run_of(world: &mut World<Flat>) -> Result<Entry<()>, OutOfMemory> {
             entry => return Ok(entry),
         }
     }
+}
+
+/// A world goes on to the end of a run as by its events one by one, however many steps it has.
+fn run_to_halt() -> Result<(), Box<dyn Error>> {
+    let mut world = world_over(&[0; 2048])?;
+    assert_eq!(world.run_to_halt(9)?, Entry::Still); // There is nothing to draw.
+    let _ = world.offer(&one_vector().ok_or("a field is out of its range")?);
+    for most in 0..40 {
+        let (mut one, mut other, mut last) = (world.clone(), world.clone(), Entry::Still);
+        for _ in 0..most {
+            if other.tick() == Entry::Acted(Action::Sent) {
+                assert_eq!(other.strobe(), Entry::Started);
+            }
+            last = other.fetch()?;
+            if other.picture().len() == 1 {
+                break;
+            }
+        }
+        assert_eq!(one.run_to_halt(most)?, last);
+        assert!(one.state()? == other.state()? && one.picture() == other.picture());
+    }
+    assert_eq!(world.run_to_halt(40)?, Entry::Done(0x205, 0xB000, ()));
+    Ok(())
+}
+
+/// The strokes of a run without an end are taken out of it, and it goes on as one that keeps them.
+fn take_strokes() -> Result<(), Box<dyn Error>> {
+    let (mut taking, mut keeping) = (Generator::new(Global), Generator::new(Global));
+    let mut taken = std::vec::Vec::new();
+    taking.start();
+    keeping.start();
+    for turn in 0..20 {
+        // A vector from word 0 on, and a jump back to it.
+        for byte in [0x64, 0x90, 0x64, 0x74, 0x00, 0xE0] {
+            assert_eq!(taking.feed(Some(byte))?, keeping.feed(Some(byte))?);
+        }
+        if turn % 3 == 2 {
+            assert_eq!(taking.strokes().len(), 3);
+            taken.extend(taking.take_strokes());
+        }
+        assert!(taking.strokes().len() < 3 && taking.state() == keeping.state());
+    }
+    taken.extend(taking.take_strokes());
+    assert!(taken == keeping.strokes() && taken.len() == 20 && !taking.halted());
+    Ok(())
 }
 
 /// A driver alone is saved amid a frame, and another one goes on.
@@ -309,11 +356,17 @@ fn name_errors() {
     is_error::<CodeFault>();
     is_error::<DraftFull>();
     is_error::<DriverFault>();
+    is_error::<DriverStateFault>();
     is_error::<FrameFault>();
     is_error::<GenFault>();
+    is_error::<GeneratorRefused>();
+    is_error::<GeneratorStateFault>();
     is_error::<MemFault>();
     is_error::<OutOfMemory>();
+    is_error::<StateFault>();
     is_error::<Stopped>();
+    is_error::<WorldRefused>();
+    is_error::<WorldStateFault>();
     is_error::<dump::DumpFault>();
     is_error::<read::TextFault>();
     is_error::<read::Unread>();
@@ -347,6 +400,8 @@ fn main() -> Result<(), Box<dyn Error>> {
     convert()?;
     copy()?;
     save()?;
+    run_to_halt()?;
+    take_strokes()?;
     save_driver()?;
     refuse_states()?;
     assert!(all_names::draws_nothing()?.is_empty());

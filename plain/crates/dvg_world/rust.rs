@@ -1,14 +1,17 @@
-//! What Rust's users have beside the sources: a default, a refusal as an error, a saved state as
-//! bytes, and what serde writes and reads of it. By hand; tested, not proved.
+//! What Rust's users have beside the sources: a default, a refusal as an error, a world that goes on
+//! to the end of a run, a saved state as bytes, and what serde writes and reads of it. By hand;
+//! tested, not proved.
 use crate::judge::Judge;
 use crate::state::{WorldRefused, WorldState};
+use crate::world::World;
 use core::error::Error;
 use core::fmt::{self, Debug, Display, Formatter};
 use dvg_code::{Code, Instr, OutOfMemory};
-use dvg_driver::{DriverState, Phase};
+use dvg_driver::{Action, DriverState, Phase};
 use dvg_frame::{Draft, Op, OpKind};
 use dvg_gen::{GeneratorState, StateFault, end, head, numbers_of};
-use dvg_mem::{Half, Image, MEMORY_BYTES};
+use dvg_log::Entry;
+use dvg_mem::{Half, Image, MEMORY_BYTES, Store};
 use std::alloc::{Allocator, Global};
 use std::prelude::Vec;
 
@@ -27,6 +30,26 @@ impl<A: Allocator> Display for WorldRefused<A> {
 }
 
 impl<A: Allocator + Debug> Error for WorldRefused<A> {}
+
+impl<S: Store> World<S> {
+    /// Lets the world go on until a run ends. Each step is a tick, the strobe that this sent, and a
+    /// fetch; there are `most` of them at most. Returns the entry of the last fetch: `Done`,
+    /// `Broke`, or another one if no run ended within these steps. Returns `OutOfMemory` where the
+    /// fetch is refused memory.
+    pub fn run_to_halt(&mut self, most: u32) -> Result<Entry<()>, OutOfMemory> {
+        let mut entry = Entry::Still;
+        for _ in 0..most {
+            if self.tick() == Entry::Acted(Action::Sent) {
+                self.strobe();
+            }
+            entry = self.fetch()?;
+            if matches!(entry, Entry::Done(..) | Entry::Broke(..)) {
+                break;
+            }
+        }
+        Ok(entry)
+    }
+}
 
 /// The letter of a saved world.
 const WORLD: u8 = b'W';
