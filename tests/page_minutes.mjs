@@ -6,7 +6,7 @@ const FRAME = 100;
 
 export const FRAMES_OF_MINUTE = 60000 / FRAME;
 
-// Frames come when they are asked for: from then on passFrames(N) lets so many pass, and wasmBytes()
+// Frames come when they are asked for: then passFrames(N) lets so many pass, and wasmBytes()
 // tells how much memory the WebAssembly has.
 export const FAST_TIME = `{
   const frames = [], memories = [], { instantiate } = WebAssembly;

@@ -11,8 +11,8 @@ use std::alloc::Allocator;
 use std::io::Write;
 
 /// The background, and what the strokes have in common: each is two units wide. So it is in the
-/// other writers of SVG: twin/src/svg.rs and twin/src/storm/ways.rs, core/svg.awk,
-/// board/emulator/film.py and python/gerbilargent.py.
+/// other writers of SVG: twin/src/svg.rs, core/svg.awk, board/emulator/film.py and
+/// python/gerbilargent.py.
 const SCREEN: &[u8] = b"<rect x=\"-256\" y=\"-256\" width=\"524288\" height=\"524288\"/>\n\
 <g transform=\"matrix(1 0 0 -1 0 523776)\" fill=\"none\" stroke=\"#fff\" stroke-width=\"1024\" \
 stroke-linecap=\"round\">\n";
