@@ -1784,9 +1784,9 @@ async function testHands() {
   }`);
   const pushed = await picturesSeen();
   expect('so it does of a stick that is pushed', false, meet(pushed, before));
-  expect('which is that key', true, meet(pushed, held));
+  await expectSoon('which is that key', true, async () => meet(await picturesSeen(), held));
   await tab.value('navigator.getGamepads = () => [null]; 0');
-  expect('until it isn\'t', true, meet(await picturesSeen(), before));
+  await expectSoon('until it isn\'t', true, async () => meet(await picturesSeen(), before));
 }
 
 const meet = (some, others) => [...some].some((one) => others.has(one));
