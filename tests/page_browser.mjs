@@ -2205,10 +2205,10 @@ async function workOfFrames(count) {
   return { task, script, pictures, shown: 1000 * frames / (after.at - before.at) };
 }
 
-// On a processor that is four times as slow, ten seconds of a game that somebody plays: in its
-// quickest second the script works less for each picture than that takes. Where nothing else is at
-// work, so does all of the page's thread, with painting, of which there must be 60 in a second: a
-// busy machine gives it less of a processor than it counts.
+// On a processor that is four times as slow, ten seconds of a game that somebody plays: on average
+// the script works less for each picture than that takes. In the quickest second, where nothing
+// else is at work, so does all of the page's thread, with painting, of which there must be 60 in a
+// second: a busy machine gives it less of a processor than it counts.
 async function testSlowed() {
   await inTabOf(FRAME_TIME, async () => {
     await tab.open(front);
@@ -2216,14 +2216,17 @@ async function testSlowed() {
     await tab.until('/each of [0-9]{3}/.test(document.getElementById("run-moments").textContent)');
     const seconds = [], isBusy = () => loadavg()[0] > cpus().length;
     while (seconds.length < 10) seconds.push(await workOfFrames(60));
+    const sum = (name) => seconds.reduce((so, second) => so + second[name], 0);
+    const average = sum('script') / sum('pictures');
     const [{ task, script, shown }, { task: middle }] = [0, 5].map((k) => (
       [...seconds].sort((a, b) => a.task - b.task)[k]));
     console.log(`browser: on a processor four times as slow the page's thread works `
       + `${task.toFixed(1)} ms for a 60th of a second of a game, ${script.toFixed(1)} of them the `
-      + `script, ${middle.toFixed(1)} at the median; ${shown.toFixed(0)} are shown in a second`
+      + `script, ${middle.toFixed(1)} at the median; ${shown.toFixed(0)} are shown in a second; `
+      + `the script works ${average.toFixed(1)} ms a picture on average`
       + `${isBusy() ? ', by a busy machine' : ''}`);
     expect('the game goes on', true, seconds.every(({ pictures }) => pictures > 0.5));
-    expect('the script works less than a picture takes', true, script < 1000 / 61.5);
+    expect('the script works less than a picture takes', true, average < 1000 / 61.5);
     expect('and with it the thread, on a machine that isn\'t busy', true,
       isBusy() || task < 1000 / 60);
   });
