@@ -5,8 +5,8 @@
 An input has the words of a command, a line each, up to an empty line, and then what stands on
 standard input. Of all inputs in the folders at most so many are asked, evenly among them. What
 comes must be the same: the status and both outputs. An input is passed over where the twin isn't
-made for it: `explain`, help, and words that ask for nothing. So are lines that say what is expected
-of a line of a sketch. The last line is 'N passed, M failed'.
+made for it: `explain`, help, and words that ask for nothing. So is what is said of a fault behind
+its line. The last line is 'N passed, M failed'.
 """
 
 import os
@@ -23,7 +23,7 @@ from counts import expect
 COMMANDS = {b"check", b"lay", b"list", b"picture", b"play", b"render", b"rom", b"torn"}
 HELP = {b"-h", b"--help", b"help", b"-V", b"--version"}
 MISUSE, MOST_SECONDS = 64, 60
-EXPECTED = re.compile(rb"(?m)^dvg: expected .*\n")
+UNSAID = re.compile(rb"(?m)^dvg: expected .*\n|(?<=\n)dvg: (?!.* at line \d).*\n")
 
 
 def split(held):
@@ -40,7 +40,7 @@ def come(program, words, text):
     """What comes of a program: its status, and what it writes."""
     ran = subprocess.run([program, *words], input=text, capture_output=True, timeout=MOST_SECONDS,
                          check=False)
-    return ran.returncode, ran.stdout, EXPECTED.sub(b"", ran.stderr)
+    return ran.returncode, ran.stdout, UNSAID.sub(b"", ran.stderr)
 
 
 def compare(path, program, twin):

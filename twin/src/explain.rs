@@ -1,5 +1,5 @@
-//! What is told of a fault in a sketch, in plain Rust, for the plain twin: the text of its line.
-//! What is expected there only the program says, and tests/cases holds that.
+//! What is told of a fault in a sketch or a log, in plain Rust, for the plain twin: the text of its
+//! line. What is expected there only the program says, and tests/cases holds that.
 
 use crate::sketch::SketchFault;
 
@@ -8,7 +8,7 @@ const MOST_SHOWN: usize = 60;
 
 /// The text of a line: printable ASCII without blanks at its ends, and the first of it if it's
 /// long.
-fn shown(line: &[u8]) -> String {
+pub fn shown(line: &[u8]) -> String {
     let line = line.strip_suffix(b"\r").unwrap_or(line);
     let printed: String = line
         .iter()

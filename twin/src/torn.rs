@@ -1,5 +1,6 @@
 //! What is said of a log's text, by halves and by moments, in plain Rust, for the plain twin.
 
+use crate::explain::shown;
 use crate::moments::{Line, Moments, Standing};
 use crate::run::Run;
 use std::io::{self, Read, Write};
@@ -38,7 +39,8 @@ pub struct Verdict {
 
 /// Why nothing is said of it.
 pub enum LogFault {
-    Syntax(usize),
+    /// A line says nothing that a line may say: its number and its text.
+    Syntax(usize, String),
     Reader,
     Writer,
 }
@@ -126,7 +128,7 @@ fn take<T>(
     base: Option<u16>,
     judge: &mut impl FnMut(usize, LogLine) -> Result<Option<T>, LogFault>,
 ) -> Result<Option<T>, LogFault> {
-    let logged = read_line(line, base).ok_or(LogFault::Syntax(number))?;
+    let logged = read_line(line, base).ok_or_else(|| LogFault::Syntax(number, shown(line)))?;
     judge(number, logged)
 }
 
@@ -154,7 +156,7 @@ fn read<T>(
             rest = &rest[end + 1..];
         }
         if rest.len() > MOST_LINE_BYTES {
-            return Err(LogFault::Syntax(number + 1));
+            return Err(LogFault::Syntax(number + 1, shown(rest)));
         }
         let begin = held + count - rest.len();
         held = rest.len();

@@ -1,11 +1,12 @@
 //! The program `dvg`, for people who write and debug display lists of the Digital Vector Generator.
 #![tactic(auto)]
 
+mod kept;
 mod told;
 
 use clap::Error;
 use clap::error::ErrorKind;
-use dvg_explain::{Explained, explain_line};
+use dvg_explain::{Explained, UNENDED, UnreadLog, explain_line};
 use dvg_io::read_up_to;
 use dvg_tool::{
     Done, Job, LogRule, MISUSE, MOST_TEXT_BYTES, TextFault, ToolFault, Watched, arguments_status,
@@ -15,6 +16,7 @@ use std::alloc::Global;
 use std::io::{BufWriter, IsTerminal, Read, Write};
 use std::process::ExitCode;
 use std::{env, io};
+use kept::Kept;
 use told::Told;
 
 /// The most bytes of output that are kept, to be written together.
@@ -76,17 +78,20 @@ fn may_tell(rt: &HostRuntime, job: Job) -> bool {
     }
 }
 
+/// What came of a job.
+type Answer = Result<Done<Global>, ToolFault>;
+
 /// Does `job` from `input` to standard output. Where that takes long, standard error tells how far
-/// it is, if that is a terminal.
-fn run<R: Read + Drop>(rt: &HostRuntime, job: Job, input: R) -> Result<Done<Global>, ToolFault> {
+/// it is, if that is a terminal. Returns what came of it, and `input`, as far as it was read.
+fn run<R: Read + Drop>(rt: &HostRuntime, job: Job, input: R) -> (Answer, R) {
     let Ok(output) = BufWriter::with_capacity(rt.alloc(), OUTPUT_BYTES, io::writer(rt)) else {
-        return Err(ToolFault::Memory);
+        return (Err(ToolFault::Memory), input);
     };
     let mut reader = Watched::new(Told::new(rt, input, may_tell(rt, job)));
     let mut writer = Watched::new(output);
     let answer = perform(rt.alloc(), job, &mut reader, &mut writer);
-    reader.into_inner().clear();
-    finish(answer, &mut writer)
+    let input = reader.into_inner().end();
+    (finish(answer, &mut writer), input)
 }
 
 /// Prints on standard error what is wrong with `text`, the text of a sketch: `fault` with its line,
@@ -101,8 +106,46 @@ fn complain_of_sketch(rt: &HostRuntime, text: &[u8], fault: TextFault) {
     complain(rt, ToolFault::Text(fault));
 }
 
+/// Returns what is known of the lines before a line that isn't read, by `rule`: nothing that was
+/// not printed, if each torn run is printed.
+fn known_before(rule: LogRule) -> Option<&'static str> {
+    match rule {
+        LogRule::Halves => Some("no line before it tears a picture"),
+        LogRule::Moments => Some("no run that ended before it is torn"),
+        LogRule::AllMoments => None,
+    }
+}
+
+/// Prints on standard error why the log of which `kept` has the last bytes isn't judged by `rule`:
+/// its line `number` with what is wrong there, and what is known of the lines before it. With a
+/// `base`, its lines `wrote` have addresses of the processor.
+fn complain_of_log<R>(
+    rt: &HostRuntime,
+    kept: &Kept<R>,
+    number: usize,
+    rule: LogRule,
+    base: Option<u16>,
+) {
+    let fault = TextFault::Syntax(number);
+    let Some(unread) = UnreadLog::of(kept.bytes(), number, base) else {
+        return complain(rt, ToolFault::Text(fault));
+    };
+    let line = unread.line();
+    let _ = eprintln!(rt; "dvg: {fault}: {line}\ndvg: {unread}");
+    if kept.has_ended() && unread.is_unended() {
+        let _ = eprintln!(rt; "dvg: {UNENDED}");
+    }
+    let before = number.saturating_sub(1);
+    match known_before(rule) {
+        Some(known) if before > 0 => {
+            let _ = eprintln!(rt; "dvg: {known}; head -n {before} keeps these lines, to count them");
+        }
+        _ => {}
+    }
+}
+
 /// Prints on standard error what came of a job, `answer`, where there is something to print.
-fn say(rt: &HostRuntime, answer: &Result<Done<Global>, ToolFault>) {
+fn say(rt: &HostRuntime, answer: &Answer) {
     match answer {
         Ok(Done::Refused(refusal)) => {
             let _ = eprintln!(rt; "dvg: {refusal}");
@@ -117,8 +160,21 @@ fn say(rt: &HostRuntime, answer: &Result<Done<Global>, ToolFault>) {
 
 /// Does `job`, and prints what came of it. Returns the exit status.
 fn do_job(rt: &HostRuntime, job: Job) -> u8 {
-    let answer = run(rt, job, rt.stdin());
+    let (answer, _) = run(rt, job, rt.stdin());
     say(rt, &answer);
+    status(&answer)
+}
+
+/// Does `job`, which judges a log by `rule`, and prints what came of it. With a `base`, lines
+/// `wrote` have addresses of the processor. Returns the exit status.
+fn do_torn(rt: &HostRuntime, job: Job, rule: LogRule, base: Option<u16>) -> u8 {
+    let (answer, kept) = run(rt, job, Kept::new(rt.alloc(), rt.stdin()));
+    match &answer {
+        Err(ToolFault::Text(TextFault::Syntax(number))) => {
+            complain_of_log(rt, &kept, *number, rule, base);
+        }
+        _ => say(rt, &answer),
+    }
     status(&answer)
 }
 
@@ -133,7 +189,7 @@ fn do_sketch(rt: &HostRuntime, job: Job) -> u8 {
             return status::<Global>(&Err(fault));
         }
     };
-    let answer = run(rt, job, text.as_slice());
+    let (answer, _) = run(rt, job, text.as_slice());
     match &answer {
         Err(ToolFault::Text(fault)) => complain_of_sketch(rt, text.as_slice(), *fault),
         _ => say(rt, &answer),
@@ -145,6 +201,7 @@ fn do_sketch(rt: &HostRuntime, job: Job) -> u8 {
 fn do_arguments(rt: &HostRuntime, arguments: &[String]) -> u8 {
     match asked(rt, arguments) {
         Ok(job @ (Job::Render { .. } | Job::RenderCheck | Job::Lay { .. })) => do_sketch(rt, job),
+        Ok(job @ Job::Torn { rule, base }) => do_torn(rt, job, rule, base),
         Ok(job) => do_job(rt, job),
         Err(error) => answer_arguments(rt, &error),
     }

@@ -3,7 +3,7 @@ use crate::asking::Answers;
 use crate::choosing::line_of;
 use crate::explained::{Explained, LineText};
 use crate::faults::advice_for;
-use crate::forms::{EVENTS, FULL, LOG_LINES, Openings, form_in, form_of, operations};
+use crate::forms::{EVENTS, FULL, Openings, form_in, form_of, operations};
 use crate::frames::RefusedFrame;
 use crate::hints::{begins_operation, hint_of, plain_hint};
 use crate::kind::Kind;
@@ -12,6 +12,7 @@ use crate::looks::{file_look, text_look};
 use crate::raw::{MOST_WORD_BYTES, is_text};
 use crate::sketch_line::explain_line;
 use crate::text::Text;
+use crate::unread_log::{UNENDED, logged_for};
 use dvg_blame::{Blamed, Reason, Refusal};
 use dvg_dump::{LARGE_DUMP_BYTES, SMALL_DUMP_BYTES};
 use dvg_mem::{LARGE_ROM_BYTES, MEMORY_BYTES};
@@ -164,7 +165,7 @@ impl<A: Allocator + Copy> Examined<'_, A> {
             }
             (TextFault::Full(_), Kind::Trace) => tell_expected(out, FULL),
             (_, Kind::Trace) => self.expect_event(alloc, out, number),
-            (_, Kind::Log) => expect_logged(out, word_at(self.line(number).1, 0)),
+            (_, Kind::Log) => tell_expected(out, logged_for(word_at(self.line(number).1, 0))),
             _ => self.expect_row(out, number),
         }
     }
@@ -177,10 +178,7 @@ impl<A: Allocator + Copy> Examined<'_, A> {
             tell_hint(out, plain_hint(line))?;
         }
         if self.kind != Kind::Other && is_unended(self.text, number) {
-            write!(
-                out,
-                "it is the last line, and has no line end: is the input cut?\n"
-            )?;
+            write!(out, "{UNENDED}\n")?;
         }
         Ok(())
     }
@@ -315,20 +313,6 @@ fn expect_operation<A: Allocator>(out: &mut Text<A>, word: &[u8]) -> fmt::Result
             "expected an operation or end: a line that begins with {}, end or #\n",
             Openings {
                 forms: operations()
-            }
-        ),
-        form => tell_expected(out, form),
-    }
-}
-
-// Tells what was expected of a line of a log that begins with `word`.
-fn expect_logged<A: Allocator>(out: &mut Text<A>, word: &[u8]) -> fmt::Result {
-    match form_in(LOG_LINES.as_slice(), word) {
-        "" => write!(
-            out,
-            "expected a line that begins with {} or #\n",
-            Openings {
-                forms: LOG_LINES.as_slice()
             }
         ),
         form => tell_expected(out, form),

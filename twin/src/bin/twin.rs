@@ -91,7 +91,9 @@ impl From<TextFault> for Fault {
 impl From<LogFault> for Fault {
     fn from(fault: LogFault) -> Fault {
         match fault {
-            LogFault::Syntax(line) => Fault::Syntax(line),
+            LogFault::Syntax(line, text) => {
+                Fault::Refused(format!("{}: {text}", Fault::Syntax(line)))
+            }
             LogFault::Reader => Fault::Reader,
             LogFault::Writer => Fault::Writer,
         }

@@ -65,11 +65,12 @@ impl<'a, R> Told<'a, R> {
         self.since = Some(now);
     }
 
-    /// Clears the line, if there is one.
-    pub fn clear(&self) {
+    /// Clears the line, if there is one. Returns the reader that was told of.
+    pub fn end(self) -> R {
         if self.stands {
             let _ = eprint!(self.rt; "{CLEARING}");
         }
+        self.stream
     }
 }
 

@@ -290,8 +290,9 @@ at the end `in all: R runs, H halted, T torn`, or what is said where none is tor
 It stops at a read that contradicts the log: something unlogged wrote that byte.
 At a fault the lines before it are written.
 
-Fault: `syntax at line N`. The status is 0 for `not torn` and `whole`, and 1 for
-all else that is said of a log.
+Fault: `syntax at line N`. After the number stands the text of the line, and further
+lines tell what was expected and what is known of the lines before it. The status is
+0 for `not torn` and `whole`, and 1 for all else that is said of a log.
 
 Example:
   $ printf 'started\\nfetched 000 E201\\nwrote 402 90\\n' | dvg torn

@@ -24,8 +24,10 @@ mod raw;
 mod sketch_line;
 mod telling;
 mod text;
+mod unread_log;
 
 pub use engine::explain;
 pub use explained::{Explained, LineText};
 pub use kind::{Finding, Kind};
 pub use sketch_line::explain_line;
+pub use unread_log::{UNENDED, UnreadLog};

@@ -202,6 +202,11 @@ impl<T, A: Allocator> Vec<T, A> {
         self.items.pop()
     }
 
+    /// Takes the elements away but the first of them, this many.
+    pub fn truncate(&mut self, length: usize) {
+        self.items.truncate(length);
+    }
+
     /// Takes the elements away.
     pub fn clear(&mut self) {
         self.items.clear();
