@@ -89,6 +89,12 @@ extern "C" {
 #define DVG_MUST_USE
 #endif
 
+/* How the calls are defined that this header has the bodies of. Whoever compiles it is given them
+ * `static`; each is in both libraries, too, for who binds names: plain/calls.c. */
+#ifndef DVG_INLINE
+#define DVG_INLINE static inline
+#endif
+
 /* A device. Only pointers to it are of use. */
 typedef struct dvg dvg;
 
@@ -333,7 +339,7 @@ typedef struct dvg_held {
 /* The answer that a number is: the kind in bits 0 to 7, the address in bits 8 to 23, and the value
  * in bits 24 to 39. Bit 60 says whether a byte is wanted next, and its address stands in bits 40 to
  * 55. Mask what you take of a number: bits that say nothing today may say something one day. */
-static inline dvg_answer dvg_answer_of(uint64_t number)
+DVG_INLINE dvg_answer dvg_answer_of(uint64_t number)
 {
     dvg_answer answer;
     answer.kind = (dvg_kind)(number & 0xFF);
@@ -345,39 +351,39 @@ static inline dvg_answer dvg_answer_of(uint64_t number)
 
 /* The device that a call below was handed. A null pointer ends the program by assert, if that is
  * on: NDEBUG turns it off, and then nothing looks. */
-static inline dvg *dvg_there(dvg *device)
+DVG_INLINE dvg *dvg_there(dvg *device)
 {
     assert(device != NULL && "a call of dvg.h was handed no device: dvg_new makes one");
     return device;
 }
 
 /* The same of what a call below reads or writes: of bytes, a move, or what a generator holds. */
-static inline void dvg_need(const void *place)
+DVG_INLINE void dvg_need(const void *place)
 {
     assert(place != NULL && "a call of dvg.h was handed a null pointer for what it needs");
     (void)place;
 }
 
 /* One request, with its answer taken apart. Of requests for strokes the answer is no such thing. */
-static inline dvg_answer dvg_ask(dvg *device, uint64_t request)
+DVG_INLINE dvg_answer dvg_ask(dvg *device, uint64_t request)
 {
     return dvg_answer_of(dvg_turn(dvg_there(device), request));
 }
 
 /* The fault that a draft was refused for. */
-static inline dvg_fault dvg_fault_of(dvg_answer answer)
+DVG_INLINE dvg_fault dvg_fault_of(dvg_answer answer)
 {
     return answer.kind == DVG_REFUSED ? (dvg_fault)(answer.value & 0xF) : DVG_FAULT_NONE;
 }
 
 /* Whether the place of that fault is a word of the ROM. */
-static inline bool dvg_in_rom(dvg_answer answer)
+DVG_INLINE bool dvg_in_rom(dvg_answer answer)
 {
     return answer.kind == DVG_REFUSED && (answer.value & 0x100) != 0;
 }
 
 /* Why a run broke. */
-static inline dvg_break dvg_break_of(dvg_answer answer)
+DVG_INLINE dvg_break dvg_break_of(dvg_answer answer)
 {
     return answer.kind == DVG_BROKE ? (dvg_break)(answer.value & 0x3) : DVG_BREAK_NONE;
 }
@@ -388,7 +394,7 @@ static inline dvg_break dvg_break_of(dvg_answer answer)
  * where it has it. A number that is none has a text, too: none of these answers a null pointer. The
  * texts stay as long as the program runs. */
 
-static inline const char *dvg_kind_text(dvg_kind kind)
+DVG_INLINE const char *dvg_kind_text(dvg_kind kind)
 {
     switch (kind) {
     case DVG_OFFERED: return "offered";
@@ -436,7 +442,7 @@ static inline const char *dvg_kind_text(dvg_kind kind)
     return "no kind";
 }
 
-static inline const char *dvg_fault_text(dvg_fault fault)
+DVG_INLINE const char *dvg_fault_text(dvg_fault fault)
 {
     switch (fault) {
     case DVG_FAULT_NONE: return "none";
@@ -453,7 +459,7 @@ static inline const char *dvg_fault_text(dvg_fault fault)
     return "no fault";
 }
 
-static inline const char *dvg_break_text(dvg_break why)
+DVG_INLINE const char *dvg_break_text(dvg_break why)
 {
     switch (why) {
     case DVG_BREAK_NONE: return "none";
@@ -468,7 +474,7 @@ static inline const char *dvg_break_text(dvg_break why)
 
 /* Stages a byte this many times, after the bytes that are staged. DVG_STAGED; DVG_FULL;
  * DVG_NO_MEMORY. */
-static inline dvg_answer dvg_stage_byte(dvg *device, uint8_t byte, uint16_t count)
+DVG_INLINE dvg_answer dvg_stage_byte(dvg *device, uint8_t byte, uint16_t count)
 {
     return dvg_ask(device, DVG_REQUEST_STAGE | (uint64_t)byte << 16 | (uint64_t)count << 24);
 }
@@ -476,7 +482,7 @@ static inline dvg_answer dvg_stage_byte(dvg *device, uint8_t byte, uint16_t coun
 /* Stages bytes, by one request for each run of equal ones. `bytes` may be null where there are
  * none. DVG_STAGED. DVG_FULL or DVG_NO_MEMORY: what was staged before is still staged, and some of
  * the first of these bytes may be, too. */
-static inline dvg_answer dvg_stage_bytes(dvg *device, const uint8_t *bytes, size_t count)
+DVG_INLINE dvg_answer dvg_stage_bytes(dvg *device, const uint8_t *bytes, size_t count)
 {
     dvg_answer answer = dvg_stage_byte(device, 0, 0);
     size_t first = 0;
@@ -495,7 +501,7 @@ static inline dvg_answer dvg_stage_bytes(dvg *device, const uint8_t *bytes, size
 }
 
 /* Takes the staged bytes away, with their memory. DVG_CLEARED. */
-static inline dvg_answer dvg_unstage(dvg *device)
+DVG_INLINE dvg_answer dvg_unstage(dvg *device)
 {
     return dvg_ask(device, DVG_REQUEST_UNSTAGE);
 }
@@ -503,7 +509,7 @@ static inline dvg_answer dvg_unstage(dvg *device)
 /* Stages the 2,048 bytes of a RAM, or as many zeros where `ram` is null, in place of what is
  * staged. DVG_STAGED. DVG_NO_MEMORY: what was staged before is gone, and some of the first of these
  * bytes may be staged. */
-static inline dvg_answer dvg_stage_ram(dvg *device, const uint8_t *ram)
+DVG_INLINE dvg_answer dvg_stage_ram(dvg *device, const uint8_t *ram)
 {
     dvg_unstage(device);
     if (ram == NULL) {
@@ -513,14 +519,14 @@ static inline dvg_answer dvg_stage_ram(dvg *device, const uint8_t *ram)
 }
 
 /* Whether a ROM may have this many bytes. */
-static inline bool dvg_is_rom_length(size_t length)
+DVG_INLINE bool dvg_is_rom_length(size_t length)
 {
     return length == DVG_ROM_BYTES || length == DVG_LARGE_ROM_BYTES;
 }
 
 /* Stages a ROM after what is staged. As dvg_stage_bytes; DVG_WRONG_SIZE: that is no length of one,
  * and `rom` isn't looked at. */
-static inline dvg_answer dvg_stage_rom(dvg *device, const uint8_t *rom, size_t rom_length)
+DVG_INLINE dvg_answer dvg_stage_rom(dvg *device, const uint8_t *rom, size_t rom_length)
 {
     if (!dvg_is_rom_length(rom_length)) {
         dvg_there(device);
@@ -530,7 +536,7 @@ static inline dvg_answer dvg_stage_rom(dvg *device, const uint8_t *rom, size_t r
 }
 
 /* Asks for this, for which bytes were staged with this answer, and takes them away. */
-static inline dvg_answer dvg_ask_staged(dvg *device, dvg_answer staged, uint64_t request)
+DVG_INLINE dvg_answer dvg_ask_staged(dvg *device, dvg_answer staged, uint64_t request)
 {
     if (staged.kind == DVG_STAGED) {
         staged = dvg_ask(device, request);
@@ -550,8 +556,8 @@ static inline dvg_answer dvg_ask_staged(dvg *device, dvg_answer staged, uint64_t
  * ROM of the 2,048 or 4,096 bytes at `rom`. Nothing is copied but here: the caller keeps both.
  * `rom` may be null where the length is 0. DVG_OPENED; DVG_WRONG_SIZE: that is no length of a ROM;
  * DVG_NO_MEMORY. */
-static inline dvg_answer dvg_open_world(dvg *device, const uint8_t *ram, const uint8_t *rom,
-                                        size_t rom_length)
+DVG_INLINE dvg_answer dvg_open_world(dvg *device, const uint8_t *ram, const uint8_t *rom,
+                                     size_t rom_length)
 {
     dvg_answer staged = dvg_stage_ram(device, ram);
     if (staged.kind == DVG_STAGED) {
@@ -562,7 +568,7 @@ static inline dvg_answer dvg_open_world(dvg *device, const uint8_t *ram, const u
 
 /* Opens a driver alone, just reset. Its drafts are checked over a ROM of the 2,048 or 4,096 bytes
  * at `rom`. Answers as dvg_open_world. */
-static inline dvg_answer dvg_open_driver(dvg *device, const uint8_t *rom, size_t rom_length)
+DVG_INLINE dvg_answer dvg_open_driver(dvg *device, const uint8_t *rom, size_t rom_length)
 {
     dvg_answer staged;
     dvg_unstage(device);
@@ -571,7 +577,7 @@ static inline dvg_answer dvg_open_driver(dvg *device, const uint8_t *rom, size_t
 }
 
 /* Opens a generator alone, halted, with the beam at 0, 0 and scale 0. DVG_OPENED. */
-static inline dvg_answer dvg_open_generator(dvg *device)
+DVG_INLINE dvg_answer dvg_open_generator(dvg *device)
 {
     return dvg_ask(device, DVG_REQUEST_OPEN_GENERATOR);
 }
@@ -581,20 +587,20 @@ static inline dvg_answer dvg_open_generator(dvg *device)
  * returned to last, or saved before; at first all four are 000. A start and a reset leave them. So
  * no call and no return breaks a run. All else is as of dvg_open_generator, but dvg_held_by has 4
  * `returns`. DVG_OPENED. */
-static inline dvg_answer dvg_open_wrapping(dvg *device)
+DVG_INLINE dvg_answer dvg_open_wrapping(dvg *device)
 {
     return dvg_ask(device, DVG_REQUEST_OPEN_WRAPPING);
 }
 
 /* Opens a judge of moments, which was told nothing. DVG_OPENED; DVG_NO_MEMORY. */
-static inline dvg_answer dvg_open_judge(dvg *device)
+DVG_INLINE dvg_answer dvg_open_judge(dvg *device)
 {
     return dvg_ask(device, DVG_REQUEST_OPEN_JUDGE);
 }
 
 /* Shuts what is open, and gives its memory back, with the draft, the staged bytes and the strokes:
  * the device is as dvg_new made it. DVG_CLOSED. */
-static inline dvg_answer dvg_shut(dvg *device)
+DVG_INLINE dvg_answer dvg_shut(dvg *device)
 {
     return dvg_ask(device, DVG_REQUEST_SHUT);
 }
@@ -607,8 +613,8 @@ static inline dvg_answer dvg_shut(dvg *device)
 
 /* An operation by its number and fields. Fields that don't fit into their bits are those of no
  * operation. */
-static inline dvg_answer dvg_push(dvg *device, bool fits, uint8_t kind, int scale, int z, int x,
-                                  int y)
+DVG_INLINE dvg_answer dvg_push(dvg *device, bool fits, uint8_t kind, int scale, int z, int x,
+                               int y)
 {
     bool known = fits && scale >= 0 && scale <= 0xFF && z >= 0 && z <= 0xFF;
     uint64_t request = DVG_REQUEST_PUSH;
@@ -621,17 +627,17 @@ static inline dvg_answer dvg_push(dvg *device, bool fits, uint8_t kind, int scal
 }
 
 /* Whether a number fits into 16 bits, with a sign or without one. */
-static inline bool dvg_fits_signed(int number)
+DVG_INLINE bool dvg_fits_signed(int number)
 {
     return number >= -0x8000 && number <= 0x7FFF;
 }
-static inline bool dvg_fits(int number)
+DVG_INLINE bool dvg_fits(int number)
 {
     return number >= 0 && number <= 0xFFFF;
 }
 
 /* Takes the operations of the draft away. DVG_CLEARED. */
-static inline dvg_answer dvg_clear(dvg *device)
+DVG_INLINE dvg_answer dvg_clear(dvg *device)
 {
     return dvg_ask(device, DVG_REQUEST_CLEAR);
 }
@@ -639,55 +645,55 @@ static inline dvg_answer dvg_clear(dvg *device)
 /* A VCTR, two words: moves the beam by dx and dy, -1,023 to 1,023, times two to the power of s, in
  * 1/512 of a screen unit, and draws with intensity z, 1 to 15, or nothing, 0. Here s is the sum of
  * this scale, 0 to 9, and the global one, modulo 16; where it is over 9, nothing moves. */
-static inline dvg_answer dvg_vctr(dvg *device, int scale, int dx, int dy, int z)
+DVG_INLINE dvg_answer dvg_vctr(dvg *device, int scale, int dx, int dy, int z)
 {
     return dvg_push(device, dvg_fits_signed(dx) && dvg_fits_signed(dy), 0, scale, z, dx, dy);
 }
 
 /* An SVEC, one word: the same, but dx and dy are -3 to 3 and count 256 times as much, and this
  * scale is 2 to 5. */
-static inline dvg_answer dvg_svec(dvg *device, int scale, int dx, int dy, int z)
+DVG_INLINE dvg_answer dvg_svec(dvg *device, int scale, int dx, int dy, int z)
 {
     return dvg_push(device, dvg_fits_signed(dx) && dvg_fits_signed(dy), 1, scale, z, dx, dy);
 }
 
 /* A LABS, two words: puts the beam at x, y, 0 to 4,095 screen units, and sets the global scale, 0
  * to 15. */
-static inline dvg_answer dvg_labs(dvg *device, int x, int y, int scale)
+DVG_INLINE dvg_answer dvg_labs(dvg *device, int x, int y, int scale)
 {
     return dvg_push(device, dvg_fits(x) && dvg_fits(y), 2, scale, 0, x, y);
 }
 
 /* A call of, and a jump to, the operation of this number, 0 to 65,535, which may be added later;
  * one word. */
-static inline dvg_answer dvg_call(dvg *device, int operation)
+DVG_INLINE dvg_answer dvg_call(dvg *device, int operation)
 {
     return dvg_push(device, dvg_fits(operation), 3, 0, 0, operation, 0);
 }
-static inline dvg_answer dvg_jump(dvg *device, int operation)
+DVG_INLINE dvg_answer dvg_jump(dvg *device, int operation)
 {
     return dvg_push(device, dvg_fits(operation), 4, 0, 0, operation, 0);
 }
 
 /* A call of, and a jump to, a word of the ROM, by its word address, 000 to FFF (hexadecimal); one
  * word. */
-static inline dvg_answer dvg_call_rom(dvg *device, int address)
+DVG_INLINE dvg_answer dvg_call_rom(dvg *device, int address)
 {
     return dvg_push(device, dvg_fits(address), 5, 0, 0, address, 0);
 }
-static inline dvg_answer dvg_jump_rom(dvg *device, int address)
+DVG_INLINE dvg_answer dvg_jump_rom(dvg *device, int address)
 {
     return dvg_push(device, dvg_fits(address), 6, 0, 0, address, 0);
 }
 
 /* A return from the newest call; one word. */
-static inline dvg_answer dvg_return(dvg *device)
+DVG_INLINE dvg_answer dvg_return(dvg *device)
 {
     return dvg_push(device, true, 7, 0, 0, 0, 0);
 }
 
 /* The end of the run; one word. */
-static inline dvg_answer dvg_halt(dvg *device)
+DVG_INLINE dvg_answer dvg_halt(dvg *device)
 {
     return dvg_push(device, true, 8, 0, 0, 0, 0);
 }
@@ -711,20 +717,20 @@ static inline dvg_answer dvg_halt(dvg *device)
  *     a reset of both, and drops a strobe that was on its way. */
 
 /* Of a world or a driver: offers the draft. DVG_OFFERED; DVG_REFUSED; DVG_BUSY. */
-static inline dvg_answer dvg_offer(dvg *device)
+DVG_INLINE dvg_answer dvg_offer(dvg *device)
 {
     return dvg_ask(device, DVG_REQUEST_OFFER);
 }
 
 /* Of a world or a driver: asks to have the published frame drawn again. DVG_ASKED;
  * DVG_NOTHING_PUBLISHED; DVG_BUSY. */
-static inline dvg_answer dvg_redraw(dvg *device)
+DVG_INLINE dvg_answer dvg_redraw(dvg *device)
 {
     return dvg_ask(device, DVG_REQUEST_REDRAW);
 }
 
 /* Of a world: the driver does one action. DVG_PEEK; DVG_WROTE; DVG_READ; DVG_SENT; DVG_IDLE. */
-static inline dvg_answer dvg_tick(dvg *device)
+DVG_INLINE dvg_answer dvg_tick(dvg *device)
 {
     return dvg_ask(device, DVG_REQUEST_TICK);
 }
@@ -732,7 +738,7 @@ static inline dvg_answer dvg_tick(dvg *device)
 /* Of a driver: the same, where `halted` is whether the generator is halted, and byte1 byte 001 of
  * the RAM. What DVG_WROTE says is to be written by the caller, before the next tick and the next
  * fetch, and what DVG_SENT says is the caller's to send. */
-static inline dvg_answer dvg_driver_tick(dvg *device, bool halted, uint8_t byte1)
+DVG_INLINE dvg_answer dvg_driver_tick(dvg *device, bool halted, uint8_t byte1)
 {
     return dvg_ask(device, DVG_REQUEST_TICK | (uint64_t)halted << 8 | (uint64_t)byte1 << 16);
 }
@@ -748,7 +754,7 @@ static inline dvg_answer dvg_driver_tick(dvg *device, bool halted, uint8_t byte1
  *         answer = dvg_generator_fetch(device, memory[answer.next]);
  *     }
  */
-static inline dvg_answer dvg_strobe(dvg *device)
+DVG_INLINE dvg_answer dvg_strobe(dvg *device)
 {
     return dvg_ask(device, DVG_REQUEST_STROBE);
 }
@@ -756,7 +762,7 @@ static inline dvg_answer dvg_strobe(dvg *device)
 /* Of a world: the generator fetches a byte, the low byte of a word and then its high byte. DVG_LOW;
  * DVG_FETCHED; DVG_DONE; DVG_STILL; DVG_NO_MEMORY. DVG_BROKE, only after a restore of bytes that no
  * world over this ROM saved: then the run is over. */
-static inline dvg_answer dvg_fetch(dvg *device)
+DVG_INLINE dvg_answer dvg_fetch(dvg *device)
 {
     return dvg_ask(device, DVG_REQUEST_FETCH);
 }
@@ -764,7 +770,7 @@ static inline dvg_answer dvg_fetch(dvg *device)
 /* Of a world: lets it go on until a run ends. Each step is a tick, the strobe that this sent, and a
  * fetch; there are `most` of them at most. Answers the last fetch: DVG_DONE; DVG_BROKE;
  * DVG_NO_MEMORY; of another kind, where no run ended within these steps. */
-static inline dvg_answer dvg_run_to_halt(dvg *device, uint32_t most)
+DVG_INLINE dvg_answer dvg_run_to_halt(dvg *device, uint32_t most)
 {
     dvg_answer answer = dvg_answer_of(DVG_STILL);
     dvg_there(device);
@@ -780,7 +786,7 @@ static inline dvg_answer dvg_run_to_halt(dvg *device, uint32_t most)
 
 /* Of a generator: which byte it wants. DVG_WANTED; DVG_STILL: it is halted, which is the HALT flag.
  * The answer to a strobe, or to the byte before, has said it already. */
-static inline dvg_answer dvg_wants(dvg *device)
+DVG_INLINE dvg_answer dvg_wants(dvg *device)
 {
     return dvg_ask(device, DVG_REQUEST_WANTS);
 }
@@ -788,13 +794,13 @@ static inline dvg_answer dvg_wants(dvg *device)
 /* Of a generator: it is handed the byte that it wants. Answers as dvg_fetch, and DVG_BROKE where
  * the byte ends a word that breaks the run. After DVG_NO_MEMORY the same byte is still wanted,
  * though `next` is -1. */
-static inline dvg_answer dvg_generator_fetch(dvg *device, uint8_t byte)
+DVG_INLINE dvg_answer dvg_generator_fetch(dvg *device, uint8_t byte)
 {
     return dvg_ask(device, DVG_REQUEST_FETCH | (uint64_t)byte << 16);
 }
 
 /* Of a generator: no memory answers at the address that it wants. DVG_BROKE; DVG_STILL. */
-static inline dvg_answer dvg_generator_hole(dvg *device)
+DVG_INLINE dvg_answer dvg_generator_hole(dvg *device)
 {
     return dvg_ask(device, DVG_REQUEST_FETCH | 0x100);
 }
@@ -804,7 +810,7 @@ static inline dvg_answer dvg_generator_hole(dvg *device)
  * DVG_MOVES, as soon as the byte ends its instruction. DVG_NOTHING: the byte makes no move, as a
  * low byte, a first word, and a HALT, JSRL, RTSL or JMPL don't, or the generator is halted; *move
  * is as it was. */
-static inline dvg_answer dvg_generator_move(dvg *device, uint8_t byte, dvg_move *move)
+DVG_INLINE dvg_answer dvg_generator_move(dvg *device, uint8_t byte, dvg_move *move)
 {
     dvg_answer answer = dvg_ask(device, DVG_REQUEST_MOVE | (uint64_t)byte << 16);
     uint64_t from, to;
@@ -828,7 +834,7 @@ static inline dvg_answer dvg_generator_move(dvg *device, uint8_t byte, dvg_move 
  * it: a half away from zero. Counters of twelve bits that are loaded by each LABS with x1 / 512 and
  * y1 / 512, and that count these units of each other move, modulo 4,096, have the beam's position
  * in whole units. */
-static inline int dvg_units(uint32_t from, uint32_t to)
+DVG_INLINE int dvg_units(uint32_t from, uint32_t to)
 {
     uint32_t ahead = (to - from) & 0x1FFFFF;
     return ahead < 0x100000 ? (int)((ahead + 256) / 512) : -(int)((0x200000 - ahead + 256) / 512);
@@ -836,7 +842,7 @@ static inline int dvg_units(uint32_t from, uint32_t to)
 
 /* Of a generator, alone or in a world: writes what it holds to *held, its beam among that, and
  * answers DVG_HOLDS. */
-static inline dvg_answer dvg_held_by(dvg *device, dvg_held *held)
+DVG_INLINE dvg_answer dvg_held_by(dvg *device, dvg_held *held)
 {
     dvg_answer answer = dvg_ask(device, DVG_REQUEST_HOLDS);
     uint64_t beam;
@@ -857,7 +863,7 @@ static inline dvg_answer dvg_held_by(dvg *device, dvg_held *held)
 
 /* Of a generator, alone or in a world: whether a run is open. To ask it is no event. False where
  * neither is open. */
-static inline bool dvg_run_is_open(dvg *device)
+DVG_INLINE bool dvg_run_is_open(dvg *device)
 {
     uint64_t fields = dvg_turn(dvg_there(device), DVG_REQUEST_STATE);
     return (fields & 0xFF) == DVG_STATE && (fields >> 60 & 1) != 0;
@@ -865,21 +871,21 @@ static inline bool dvg_run_is_open(dvg *device)
 
 /* Of a generator, alone or in a world: its return address of this number; 0 is the newest one's, to
  * which RTSL leads. DVG_RETURNS_TO; DVG_NOTHING. */
-static inline dvg_answer dvg_return_to(dvg *device, uint8_t number)
+DVG_INLINE dvg_answer dvg_return_to(dvg *device, uint8_t number)
 {
     return dvg_ask(device, DVG_REQUEST_RETURN_TO | (uint64_t)number << 8);
 }
 
 /* Of a world: the byte that its RAM holds at this byte address. DVG_BYTE; DVG_NOTHING, where the
  * address is above 2,047. */
-static inline dvg_answer dvg_ram_byte(dvg *device, uint16_t address)
+DVG_INLINE dvg_answer dvg_ram_byte(dvg *device, uint16_t address)
 {
     return dvg_ask(device, DVG_REQUEST_BYTE | (uint64_t)address << 8);
 }
 
 /* Of a world: writes the 2,048 bytes of its RAM to `ram`, and answers DVG_BYTE. Where no world is
  * open, `ram` is as it was. */
-static inline dvg_answer dvg_ram(dvg *device, uint8_t *ram)
+DVG_INLINE dvg_answer dvg_ram(dvg *device, uint8_t *ram)
 {
     dvg_answer answer = dvg_ram_byte(device, 0);
     dvg_need(ram);
@@ -891,14 +897,14 @@ static inline dvg_answer dvg_ram(dvg *device, uint8_t *ram)
 }
 
 /* Of a world or a generator: a reset of the generator alone, which ends its run. DVG_CLEARED. */
-static inline dvg_answer dvg_reset_generator(dvg *device)
+DVG_INLINE dvg_answer dvg_reset_generator(dvg *device)
 {
     return dvg_ask(device, DVG_REQUEST_RESET_GENERATOR);
 }
 
 /* Of a world or a driver: a reset of the processor alone, which is one of the driver. DVG_CLEARED.
  */
-static inline dvg_answer dvg_reset_processor(dvg *device)
+DVG_INLINE dvg_answer dvg_reset_processor(dvg *device)
 {
     return dvg_ask(device, DVG_REQUEST_RESET_PROCESSOR);
 }
@@ -906,7 +912,7 @@ static inline dvg_answer dvg_reset_processor(dvg *device)
 /* Of a world: a reset of the whole system, after which the RAM holds the 2,048 bytes at `ram`, or
  * zeros where that is null. DVG_CLEARED. DVG_NO_MEMORY: the bytes could not be staged, and the
  * world is as it was. Whatever the answer, no byte is staged then, also none that was before. */
-static inline dvg_answer dvg_reset_all(dvg *device, const uint8_t *ram)
+DVG_INLINE dvg_answer dvg_reset_all(dvg *device, const uint8_t *ram)
 {
     return dvg_ask_staged(device, dvg_stage_ram(device, ram), DVG_REQUEST_RESET_ALL);
 }
@@ -1021,14 +1027,14 @@ typedef enum dvg_saved_fault {
 } dvg_saved_fault;
 
 /* The fault that bytes were refused for, by the answer of dvg_restore or dvg_restore_over. */
-static inline dvg_saved_fault dvg_saved_fault_of(dvg_answer answer)
+DVG_INLINE dvg_saved_fault dvg_saved_fault_of(dvg_answer answer)
 {
     return answer.kind == DVG_NO_STATE ? (dvg_saved_fault)(answer.value & 0x7)
                                        : DVG_SAVED_FAULT_NONE;
 }
 
 /* The name of a fault, as of those above. */
-static inline const char *dvg_saved_fault_text(dvg_saved_fault fault)
+DVG_INLINE const char *dvg_saved_fault_text(dvg_saved_fault fault)
 {
     switch (fault) {
     case DVG_SAVED_FAULT_NONE: return "none";
@@ -1045,7 +1051,7 @@ static inline const char *dvg_saved_fault_text(dvg_saved_fault fault)
  * (http://www.isthe.com/chongo/tech/comp/fnv). By that of the 2,048 or 4,096 bytes of a ROM a saved
  * state names it. Two that differ in a single byte have different ones. It doesn't stop whoever
  * changes bytes on purpose. `bytes` may be null where there are none. */
-static inline uint64_t dvg_digest(const uint8_t *bytes, size_t size)
+DVG_INLINE uint64_t dvg_digest(const uint8_t *bytes, size_t size)
 {
     uint64_t digest = UINT64_C(0xCBF29CE484222325);
     size_t at;
@@ -1059,21 +1065,21 @@ static inline uint64_t dvg_digest(const uint8_t *bytes, size_t size)
 }
 
 /* The first number of a saved state of version 1, after which this many come. */
-static inline uint64_t dvg_saved_head(dvg_saved what, uint64_t count)
+DVG_INLINE uint64_t dvg_saved_head(dvg_saved what, uint64_t count)
 {
     return (uint64_t)'D' | (uint64_t)'V' << 8 | (uint64_t)what << 16
            | (uint64_t)DVG_SAVED_VERSION << 24 | count << 32;
 }
 
 /* The same of version 2. */
-static inline uint64_t dvg_saved_head_over(dvg_saved what, uint64_t count)
+DVG_INLINE uint64_t dvg_saved_head_over(dvg_saved what, uint64_t count)
 {
     uint64_t later = DVG_SAVED_OVER_VERSION - DVG_SAVED_VERSION;
     return dvg_saved_head(what, count) + (later << 24);
 }
 
 /* Writes a number as 8 bytes, the low byte first, if these end within `size`. */
-static inline void dvg_saved_put(uint8_t *bytes, size_t size, size_t at, uint64_t number)
+DVG_INLINE void dvg_saved_put(uint8_t *bytes, size_t size, size_t at, uint64_t number)
 {
     size_t i;
     for (i = 0; i < 8 && at + 8 <= size; i++) {
@@ -1082,7 +1088,7 @@ static inline void dvg_saved_put(uint8_t *bytes, size_t size, size_t at, uint64_
 }
 
 /* The number that 8 bytes are, the low byte first. */
-static inline uint64_t dvg_saved_number(const uint8_t *bytes)
+DVG_INLINE uint64_t dvg_saved_number(const uint8_t *bytes)
 {
     uint64_t number = 0;
     size_t i;
@@ -1093,20 +1099,20 @@ static inline uint64_t dvg_saved_number(const uint8_t *bytes)
 }
 
 /* Where the parts of the generator begin in a saved state. */
-static inline size_t dvg_saved_parts(dvg_saved what)
+DVG_INLINE size_t dvg_saved_parts(dvg_saved what)
 {
     return what == DVG_SAVED_WORLD ? 8 + DVG_RAM_BYTES : 8;
 }
 
 /* Where the numbers of a saved state end that both versions have. */
-static inline size_t dvg_saved_end(const uint8_t *bytes, size_t size)
+DVG_INLINE size_t dvg_saved_end(const uint8_t *bytes, size_t size)
 {
     return bytes[3] == DVG_SAVED_OVER_VERSION ? size - DVG_SAVED_OVER_BYTES : size;
 }
 
 /* Why these are no saved state, by their length, their version, and but for version 1 their sum:
  * DVG_SAVED_FAULT_BROKEN; DVG_SAVED_FAULT_OTHER_VERSION; else DVG_SAVED_FAULT_NONE. */
-static inline dvg_saved_fault dvg_saved_sum_fault(const uint8_t *bytes, size_t size)
+DVG_INLINE dvg_saved_fault dvg_saved_sum_fault(const uint8_t *bytes, size_t size)
 {
     if (size < 16 || size % 8 != 0 || (uint64_t)size >> 35 != 0) {
         return DVG_SAVED_FAULT_BROKEN;
@@ -1126,8 +1132,8 @@ static inline dvg_saved_fault dvg_saved_sum_fault(const uint8_t *bytes, size_t s
 }
 
 /* The same, by their first number, too. Writes to *what of what they are the state, if of any. */
-static inline dvg_saved_fault dvg_saved_head_fault(const uint8_t *bytes, size_t size,
-                                                   dvg_saved *what)
+DVG_INLINE dvg_saved_fault dvg_saved_head_fault(const uint8_t *bytes, size_t size,
+                                                dvg_saved *what)
 {
     dvg_saved_fault fault = dvg_saved_sum_fault(bytes, size);
     uint64_t head;
@@ -1151,7 +1157,7 @@ static inline dvg_saved_fault dvg_saved_head_fault(const uint8_t *bytes, size_t 
 /* Of what these may be the saved state, by their first number, the kind of the first part, and of
  * version 2 their sum. Of another version, which is the byte bytes[3], they are DVG_SAVED_NOTHING.
  */
-static inline dvg_saved dvg_saved_as(const uint8_t *bytes, size_t size)
+DVG_INLINE dvg_saved dvg_saved_as(const uint8_t *bytes, size_t size)
 {
     dvg_saved what;
     size_t parts;
@@ -1168,7 +1174,7 @@ static inline dvg_saved dvg_saved_as(const uint8_t *bytes, size_t size)
 
 /* Why dvg_restore_over refuses these bytes before it asks the device; DVG_SAVED_FAULT_NONE: it asks
  * it. The digest of the ROM is as there. */
-static inline dvg_saved_fault dvg_saved_fault_over(uint64_t rom, const uint8_t *bytes, size_t size)
+DVG_INLINE dvg_saved_fault dvg_saved_fault_over(uint64_t rom, const uint8_t *bytes, size_t size)
 {
     dvg_saved what;
     dvg_saved_fault fault = dvg_saved_head_fault(bytes, size, &what);
@@ -1185,8 +1191,8 @@ static inline dvg_saved_fault dvg_saved_fault_over(uint64_t rom, const uint8_t *
 
 /* Writes the answers to this request, numbered from 0, from byte `at` on, as long as their lowest
  * byte is `code`. Returns where they end. */
-static inline size_t dvg_save_answers(dvg *device, uint64_t request, uint64_t code, uint8_t *bytes,
-                                      size_t size, size_t at)
+DVG_INLINE size_t dvg_save_answers(dvg *device, uint64_t request, uint64_t code, uint8_t *bytes,
+                                   size_t size, size_t at)
 {
     uint64_t number = 0;
     uint64_t answer = dvg_turn(dvg_there(device), request);
@@ -1205,7 +1211,7 @@ static inline size_t dvg_save_answers(dvg *device, uint64_t request, uint64_t co
  * far. Where `size` is less, ask again with as much room: what was written is no whole state.
  * `bytes` may be null where `size` is 0. What is saved stays as it is. Returns 0 where nothing is
  * open, or a driver alone or a judge. */
-static inline size_t dvg_save(dvg *device, uint8_t *bytes, size_t size)
+DVG_INLINE size_t dvg_save(dvg *device, uint8_t *bytes, size_t size)
 {
     uint64_t driver = dvg_turn(dvg_there(device), DVG_REQUEST_DRIVER);
     bool is_world = (driver & 0xFF) == DVG_DRIVER;
@@ -1235,7 +1241,7 @@ static inline size_t dvg_save(dvg *device, uint8_t *bytes, size_t size)
 /* The same in version 2: 16 bytes more, which are a digest and the sum. `rom` is the dvg_digest of
  * the ROM over which the world was opened, or 0, which names none; of a generator it doesn't count,
  * and 0 is written. Use this one, unless who reads the bytes was built before it. */
-static inline size_t dvg_save_over(dvg *device, uint64_t rom, uint8_t *bytes, size_t size)
+DVG_INLINE size_t dvg_save_over(dvg *device, uint64_t rom, uint8_t *bytes, size_t size)
 {
     size_t end = dvg_save(device, bytes, size);
     size_t whole = end + DVG_SAVED_OVER_BYTES;
@@ -1256,8 +1262,8 @@ static inline size_t dvg_save_over(dvg *device, uint64_t rom, uint8_t *bytes, si
 /* Tells the numbers from byte `at` to byte `end`: parts of a generator's state, and after them, of
  * a world, operations of the frame that it writes. DVG_NO_MEMORY; DVG_NO_STATE: one doesn't suit;
  * else of another kind. */
-static inline dvg_answer dvg_tell_saved(dvg *device, dvg_saved what, const uint8_t *bytes,
-                                        size_t at, size_t end)
+DVG_INLINE dvg_answer dvg_tell_saved(dvg *device, dvg_saved what, const uint8_t *bytes,
+                                     size_t at, size_t end)
 {
     dvg_answer answer = dvg_answer_of(DVG_CLEARED);
     uint64_t code = DVG_REQUEST_TELL_STATE;
@@ -1279,7 +1285,7 @@ static inline dvg_answer dvg_tell_saved(dvg *device, dvg_saved what, const uint8
 
 /* As dvg_restore_over, of bytes that may be the saved state of a world: in version 1, or in version
  * 2 without the digest and the sum. */
-static inline dvg_answer dvg_restore_world(dvg *device, const uint8_t *bytes, size_t size)
+DVG_INLINE dvg_answer dvg_restore_world(dvg *device, const uint8_t *bytes, size_t size)
 {
     uint64_t driver = dvg_saved_number(bytes + (size - 8));
     dvg_answer staged, told = dvg_answer_of(DVG_NO_STATE);
@@ -1319,8 +1325,8 @@ static inline dvg_answer dvg_restore_world(dvg *device, const uint8_t *bytes, si
  * Whatever the answer, what was told of a state by DVG_REQUEST_TELL_STATE may be forgotten. Where a
  * world is open and the bytes are those of one, no byte is staged then, also none that was before,
  * and the draft is the frame in them, or a beginning of it: dvg_clear begins the next one. */
-DVG_MUST_USE static inline dvg_answer dvg_restore_over(dvg *device, uint64_t rom,
-                                                       const uint8_t *bytes, size_t size)
+DVG_MUST_USE DVG_INLINE dvg_answer dvg_restore_over(dvg *device, uint64_t rom,
+                                                    const uint8_t *bytes, size_t size)
 {
     dvg_saved_fault fault = dvg_saved_fault_over(rom, bytes, size);
     dvg_answer answer = dvg_answer_of(DVG_NO_STATE);
@@ -1352,7 +1358,7 @@ DVG_MUST_USE static inline dvg_answer dvg_restore_over(dvg *device, uint64_t rom
 }
 
 /* The same, where no ROM is named: `rom` is 0. */
-DVG_MUST_USE static inline dvg_answer dvg_restore(dvg *device, const uint8_t *bytes, size_t size)
+DVG_MUST_USE DVG_INLINE dvg_answer dvg_restore(dvg *device, const uint8_t *bytes, size_t size)
 {
     return dvg_restore_over(device, 0, bytes, size);
 }
@@ -1377,8 +1383,8 @@ DVG_MUST_USE static inline dvg_answer dvg_restore(dvg *device, const uint8_t *by
 /* A line by its kind, with its address and its value, as a world answers an event. A kind that says
  * nothing of memory or of a run is passed over, but for DVG_CLEARED, which doesn't say what was
  * reset: that and what is no kind of an event's answer is DVG_UNKNOWN. */
-static inline dvg_answer dvg_judge_line(dvg *device, dvg_kind kind, uint16_t address,
-                                        uint16_t value)
+DVG_INLINE dvg_answer dvg_judge_line(dvg *device, dvg_kind kind, uint16_t address,
+                                     uint16_t value)
 {
     uint64_t line = (uint64_t)kind | (uint64_t)address << 8 | (uint64_t)value << 24;
     return dvg_ask(device, DVG_REQUEST_TELL | line << 8);
@@ -1386,43 +1392,43 @@ static inline dvg_answer dvg_judge_line(dvg *device, dvg_kind kind, uint16_t add
 
 /* A line that is the answer of a world or of an end alone to an event. Of a reset ask for the reset
  * instead. */
-static inline dvg_answer dvg_judge_answer(dvg *device, dvg_answer answer)
+DVG_INLINE dvg_answer dvg_judge_answer(dvg *device, dvg_answer answer)
 {
     return dvg_judge_line(device, answer.kind, answer.address, answer.value);
 }
 
 /* A strobe began a run. */
-static inline dvg_answer dvg_judge_started(dvg *device)
+DVG_INLINE dvg_answer dvg_judge_started(dvg *device)
 {
     return dvg_judge_line(device, DVG_STARTED, 0, 0);
 }
 
 /* A byte was written, at a byte address. Outside the RAM, from 0x800 on, that changes nothing. */
-static inline dvg_answer dvg_judge_wrote(dvg *device, uint16_t address, uint8_t byte)
+DVG_INLINE dvg_answer dvg_judge_wrote(dvg *device, uint16_t address, uint8_t byte)
 {
     return dvg_judge_line(device, DVG_WROTE, address, byte);
 }
 
 /* The low byte of the word at a word address was fetched, and its high byte comes later. */
-static inline dvg_answer dvg_judge_low(dvg *device, uint16_t address, uint8_t byte)
+DVG_INLINE dvg_answer dvg_judge_low(dvg *device, uint16_t address, uint8_t byte)
 {
     return dvg_judge_line(device, DVG_LOW, address, byte);
 }
 
 /* The word at a word address was fetched, or its high byte after dvg_judge_low. The run goes on. */
-static inline dvg_answer dvg_judge_fetched(dvg *device, uint16_t address, uint16_t word)
+DVG_INLINE dvg_answer dvg_judge_fetched(dvg *device, uint16_t address, uint16_t word)
 {
     return dvg_judge_line(device, DVG_FETCHED, address, word);
 }
 
 /* The same, and the word is the HALT that ended the run. */
-static inline dvg_answer dvg_judge_done(dvg *device, uint16_t address, uint16_t word)
+DVG_INLINE dvg_answer dvg_judge_done(dvg *device, uint16_t address, uint16_t word)
 {
     return dvg_judge_line(device, DVG_DONE, address, word);
 }
 
 /* The whole system was reset. The run is over, and what was told of memory is void. */
-static inline dvg_answer dvg_judge_reset(dvg *device)
+DVG_INLINE dvg_answer dvg_judge_reset(dvg *device)
 {
     return dvg_ask(device, DVG_REQUEST_RESET_ALL);
 }
@@ -1430,13 +1436,13 @@ static inline dvg_answer dvg_judge_reset(dvg *device)
 /* --- Strokes --- */
 
 /* How many strokes the newest run drew that came to a HALT, since something was opened. */
-static inline uint64_t dvg_strokes(dvg *device)
+DVG_INLINE uint64_t dvg_strokes(dvg *device)
 {
     return dvg_turn(dvg_there(device), DVG_REQUEST_STROKES);
 }
 
 /* The stroke of this number, in the order drawn, from 0. Where there is none, all is 0. */
-static inline dvg_stroke dvg_stroke_at(dvg *device, uint64_t number)
+DVG_INLINE dvg_stroke dvg_stroke_at(dvg *device, uint64_t number)
 {
     uint64_t place = number >> 56 == 0 ? number << 8 : UINT64_MAX << 8;
     uint64_t from = dvg_turn(dvg_there(device), DVG_REQUEST_STROKE_FROM | place);
@@ -1455,7 +1461,7 @@ static inline dvg_stroke dvg_stroke_at(dvg *device, uint64_t number)
 typedef void (*dvg_stroke_function)(void *context, dvg_stroke stroke);
 
 /* The stroke of which these two parts of a state tell where it begins and ends. */
-static inline dvg_stroke dvg_stroke_of(uint64_t begin, uint64_t end)
+DVG_INLINE dvg_stroke dvg_stroke_of(uint64_t begin, uint64_t end)
 {
     dvg_stroke stroke;
     stroke.x0 = (uint32_t)(begin >> 16 & 0x3FFFFF);
@@ -1471,7 +1477,7 @@ static inline dvg_stroke dvg_stroke_of(uint64_t begin, uint64_t end)
  * was drawn since. So a run without an end takes no more memory than its strokes between two such
  * calls. The strokes of the newest finished run go, too, and what was told of a state. Returns how
  * many strokes it took. Where they are none, as where no run is open, nothing changes. */
-static inline uint64_t dvg_take_strokes(dvg *device, dvg_stroke_function on_stroke, void *context)
+DVG_INLINE uint64_t dvg_take_strokes(dvg *device, dvg_stroke_function on_stroke, void *context)
 {
     bool is_world = dvg_ask(device, DVG_REQUEST_DRIVER).kind == DVG_DRIVER;
     bool wraps = (dvg_ask(device, DVG_REQUEST_HOLDS).value & 0x40) != 0;
@@ -1502,8 +1508,8 @@ static inline uint64_t dvg_take_strokes(dvg *device, dvg_stroke_function on_stro
 /* Of a generator: it is handed the byte at `next`, as an answer tells that, of a RAM of 2,048 bytes
  * and a ROM of 2,048 or 4,096, as dvg_generator_fetch_from has them; or a hole, where no memory
  * answers. */
-static inline dvg_answer dvg_hand_from(dvg *device, int32_t next, const uint8_t *ram,
-                                       const uint8_t *rom, size_t rom_length)
+DVG_INLINE dvg_answer dvg_hand_from(dvg *device, int32_t next, const uint8_t *ram,
+                                    const uint8_t *rom, size_t rom_length)
 {
     size_t byte = (size_t)next;
     dvg_need(ram);
@@ -1522,8 +1528,8 @@ static inline dvg_answer dvg_hand_from(dvg *device, int32_t next, const uint8_t 
  * they begin at 0x800 where it has 2,048 bytes, and at 0x400 where it has 4,096. Elsewhere no
  * memory answers. Answers as dvg_generator_fetch; DVG_WRONG_SIZE: that is no length of a ROM, and
  * nothing was asked. */
-static inline dvg_answer dvg_generator_fetch_from(dvg *device, const uint8_t *ram,
-                                                  const uint8_t *rom, size_t rom_length)
+DVG_INLINE dvg_answer dvg_generator_fetch_from(dvg *device, const uint8_t *ram,
+                                               const uint8_t *rom, size_t rom_length)
 {
     dvg_answer wanted;
     if (!dvg_is_rom_length(rom_length)) {
@@ -1560,9 +1566,9 @@ typedef struct dvg_drawn {
  *   DVG_NO_MEMORY    there was no memory for a stroke. No stroke is handed out
  *   DVG_WRONG_SIZE   that is no length of a ROM. Nothing was asked, and what was open stays
  */
-static inline dvg_drawn dvg_draw(dvg *device, const uint8_t *ram, const uint8_t *rom,
-                                 size_t rom_length, uint32_t most_words,
-                                 dvg_stroke_function on_stroke, void *context)
+DVG_INLINE dvg_drawn dvg_draw(dvg *device, const uint8_t *ram, const uint8_t *rom,
+                              size_t rom_length, uint32_t most_words,
+                              dvg_stroke_function on_stroke, void *context)
 {
     dvg_drawn drawn;
     uint64_t number;

@@ -21,9 +21,10 @@
 //! 3. It puts in: the lines of `HEAD` at the head of a crate; `PRELUDE` in a file that names one of
 //!    its words; a `use` of the `MACROS` that a file calls; `Clone` and `Debug` at each type of
 //!    `COPIED` that derives them not, as Rattle has no copy that takes memory without a refusal;
-//!    `Hash` where `Eq` is derived; what `KEPT` has of serde at each of its types; `must_use` at
-//!    each public function that may refuse by an `Option`, or by a `bool` and is one of `REFUSING`;
-//!    and `BESIDE` at the end of a library that has a file `rust.rs`, by hand, beside its sources.
+//!    `Hash` where `Eq` is derived; what `KEPT` has of serde at each of its types;
+//!    `non_exhaustive` at each of `GROWING`; `must_use` at each public function that may refuse by
+//!    an `Option`, or by a `bool` and is one of `REFUSING`; and `BESIDE` at the end of a library
+//!    that has a file `rust.rs`, by hand, beside its sources.
 //!
 //! All else stays as it is, letter by letter, with its comments.
 use std::collections::BTreeSet;
@@ -113,7 +114,7 @@ const SERDE: &str =
 /// The types that serde writes and reads, and by which other type it does: that is checked when it
 /// is read. One in `crate::rust` is read alone, and has the form of the type itself. Where none is
 /// named, each value of the type is one.
-const KEPT: [(&str, &str); 22] = [
+const KEPT: [(&str, &str); 25] = [
     ("enum Action", "crate::rust::ActionForm"),
     ("enum Area", ""),
     ("struct Beam", "crate::rust::BeamForm"),
@@ -122,10 +123,12 @@ const KEPT: [(&str, &str); 22] = [
     ("struct Counters", "crate::rust::CountersForm"),
     ("struct DraftFull", ""),
     ("enum DriverFault", ""),
+    ("enum DriverStateFault", ""),
     ("enum Entry", "crate::rust::EntryForm<S>"),
     ("enum Event", ""),
     ("enum FrameFault", "crate::rust::FrameFaultForm"),
     ("enum GenFault", ""),
+    ("enum GeneratorStateFault", ""),
     ("enum Half", ""),
     ("enum Instr", ""),
     ("enum Listed", ""),
@@ -136,7 +139,18 @@ const KEPT: [(&str, &str); 22] = [
     ("struct OutOfMemory", ""),
     ("enum Place", "crate::rust::PlaceForm"),
     ("struct Stroke", "crate::rust::StrokeForm"),
+    ("enum WorldStateFault", ""),
 ];
+
+/// The types to which a later version may add a variant.
+const GROWING: [&str; 3] = [
+    "enum DriverStateFault",
+    "enum GeneratorStateFault",
+    "enum WorldStateFault",
+];
+
+/// What stands above one of them.
+const NON_EXHAUSTIVE: &str = "#[non_exhaustive]\n";
 
 /// How public functions begin that refuse by `false`.
 const REFUSING: [&str; 2] = [
@@ -558,7 +572,7 @@ impl<'a> Eraser<'a> {
     }
 
     /// A struct or an enum. One of `COPIED` derives `Clone` and `Debug`, too, and one of `KEPT`
-    /// what serde has.
+    /// what serde has; one of `GROWING` is `non_exhaustive`.
     fn structure(&mut self, end: usize) {
         let name = after_blanks(self.text, end);
         let after = self.text[name..]
@@ -566,7 +580,8 @@ impl<'a> Eraser<'a> {
             .take_while(|byte| is_of_word(**byte));
         let head = self.slice(self.at, name + after.count());
         let derived = std::mem::take(&mut self.derived);
-        let lines = copied(head, derived) + &kept(head);
+        let grows = if GROWING.contains(&head) { NON_EXHAUSTIVE } else { "" };
+        let lines = copied(head, derived) + &kept(head) + grows;
         let end_of_last = self.out.iter().rposition(|byte| *byte == b'\n');
         let start = end_of_last.map_or(0, |k| k + 1);
         self.out.splice(start..start, lines.into_bytes());
@@ -1325,6 +1340,10 @@ mod tests {
         leaves(
             "#[derive(Debug)]\npub enum Area {\n}\n",
             &format!("#[derive(Debug)]\n{SERDE}pub enum Area {{\n}}\n"),
+        );
+        leaves(
+            "pub enum WorldStateFault {\n}\n",
+            &format!("{SERDE}#[non_exhaustive]\npub enum WorldStateFault {{\n}}\n"),
         );
         let by = "serde(try_from = \"crate::rust::StrokeForm\")";
         let by = format!("#[cfg_attr(feature = \"serde\", {by})]\n");

@@ -5,8 +5,9 @@ use std::process::ExitCode;
 use gerbilargent::alloc::{Box, Vec};
 use gerbilargent::{
     Action, Area, Beam, Code, CodeFault, Counters, Draft, DraftFull, DriverFault, DriverState,
-    Entry, Event, Flat, FrameFault, GenFault, GeneratorState, Global, Half, Image, Instr, Listed,
-    MemFault, Move, Op, OpKind, OutOfMemory, Phase, Place, Rom, Stroke, World, WorldState,
+    DriverStateFault, Entry, Event, Flat, FrameFault, GenFault, GeneratorState,
+    GeneratorStateFault, Global, Half, Image, Instr, Listed, MemFault, Move, Op, OpKind,
+    OutOfMemory, Phase, Place, Rom, StateFault, Stroke, World, WorldState, WorldStateFault,
 };
 use serde::Serialize;
 use serde::de::DeserializeOwned;
@@ -478,6 +479,16 @@ fn test_rest(counts: &mut Counts) {
     counts.expect_form(MemFault::Size, r#""Size""#);
     counts.expect_form(DriverFault::NothingPublished, r#""NothingPublished""#);
     counts.expect_form(FrameFault::Loops, r#""Loops""#);
+    counts.expect_form(StateFault::OtherRom, r#""OtherRom""#);
+    counts.expect_form(
+        WorldStateFault::Generator(GeneratorStateFault::Stroke),
+        r#"{"Generator":"Stroke"}"#,
+    );
+    counts.expect_form(
+        WorldStateFault::Driver(DriverStateFault::Frame(FrameFault::Target(9))),
+        r#"{"Driver":{"Frame":{"Target":9}}}"#,
+    );
+    counts.expect_refused::<WorldStateFault>(r#"{"Driver":{"Frame":{"Target":511}}}"#, "below 511");
     counts.expect_form(DraftFull, "null");
     counts.expect_form(OutOfMemory, "null");
 }

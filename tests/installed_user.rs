@@ -8,8 +8,9 @@ use gerbilargent::{
     Action, BadCode, BadOp, Checker, Code, CodeFault, Draft, DraftFull, Driver, DriverFault,
     DriverState, DriverStateFault, Entry, Event, Flat, FrameFault, GenFault, Generator,
     GeneratorRefused, GeneratorState, GeneratorStateFault, Global, Image, Instr, Judge, MemFault,
-    MomentJudge, Op, OpKind, OutOfMemory, Phase, Place, Rom, StateFault, Stopped, Stroke, World,
-    WorldRefused, WorldState, WorldStateFault, WrappingGenerator, check, digest, dump, read, steps,
+    MomentJudge, Op, OpKind, OutOfMemory, Phase, Place, Rom, StateFault, Step, Stopped, Stroke,
+    World, WorldRefused, WorldState, WorldStateFault, WrappingGenerator, check, decode, digest,
+    dump, read, steps,
 };
 
 /// All names of the crate at once leave std's as they are, and so does the prelude.
@@ -216,25 +217,91 @@ fn run_to_halt() -> Result<(), Box<dyn Error>> {
     Ok(())
 }
 
-/// The strokes of a run without an end are taken out of it, and it goes on as one that keeps them.
+/// The words of a picture, as bytes, and of a run without an end: a vector from word 0 on, and a
+/// jump back to it.
+const ENDING: [u8; 10] = [0x90, 0xA1, 0x00, 0x02, 0x64, 0x90, 0x64, 0x74, 0x00, 0xB0];
+const ENDLESS: [u8; 6] = [0x64, 0x90, 0x64, 0x74, 0x00, 0xE0];
+
+/// The strokes of a run without an end are taken out of it, and it goes on as one that keeps them,
+/// also where its stack wraps.
 fn take_strokes() -> Result<(), Box<dyn Error>> {
     let (mut taking, mut keeping) = (Generator::new(Global), Generator::new(Global));
-    let mut taken = std::vec::Vec::new();
+    let (mut wrapping, mut taken) = (WrappingGenerator::new(Global), std::vec::Vec::new());
     taking.start();
     keeping.start();
+    wrapping.start();
     for turn in 0..20 {
-        // A vector from word 0 on, and a jump back to it.
-        for byte in [0x64, 0x90, 0x64, 0x74, 0x00, 0xE0] {
-            assert_eq!(taking.feed(Some(byte))?, keeping.feed(Some(byte))?);
+        for byte in ENDLESS {
+            let step = keeping.feed(Some(byte))?;
+            assert!(taking.feed(Some(byte))? == step && wrapping.feed(Some(byte))? == step);
         }
         if turn % 3 == 2 {
             assert_eq!(taking.strokes().len(), 3);
-            taken.extend(taking.take_strokes());
+            let drawn = taking.take_strokes();
+            assert_eq!(wrapping.take_strokes(), drawn);
+            taken.extend(drawn);
         }
         assert!(taking.strokes().len() < 3 && taking.state() == keeping.state());
+        assert_eq!(wrapping.generator().strokes(), taking.strokes());
     }
     taken.extend(taking.take_strokes());
     assert!(taken == keeping.strokes() && taken.len() == 20 && !taking.halted());
+    Ok(())
+}
+
+/// A generator alone goes on to its HALT or its break, and within so many words where it has none:
+/// as one that is handed each byte.
+fn run_generator_to_halt() -> Result<(), Box<dyn Error>> {
+    let ending = |at: u16| ENDING.get(usize::from(at)).copied();
+    for most in 0..8 {
+        let (mut one, mut wrapping) = (Generator::new(Global), WrappingGenerator::new(Global));
+        assert_eq!(one.run_to_halt(most, ending)?, None); // It is halted.
+        one.start();
+        wrapping.start();
+        let step = one.run_to_halt(most, ending)?;
+        let wanted = [None, Some(Step::Word), Some(Step::Done)];
+        assert_eq!(step, wanted[usize::from(most > 0) + usize::from(most > 4)]);
+        assert!(one.halted() == (most > 4) && wrapping.run_to_halt(most, ending)? == step);
+        let other = wrapping.generator();
+        assert!(one.picture() == other.picture() && one.wants() == other.wants());
+    }
+    let (mut one, mut fetched) = (Generator::new(Global), 0);
+    one.start();
+    let step = one.run_to_halt(1000, |at| {
+        fetched += 1;
+        ENDLESS.get(usize::from(at)).copied()
+    })?;
+    assert_eq!((step, fetched, one.take_strokes().len()), (Some(Step::Word), 2000, 333));
+    one.start();
+    let broken = one.run_to_halt(9, |at| [0x64, 0x90].get(usize::from(at)).copied())?;
+    assert!(broken == Some(Step::Broke(GenFault::Hole)) && one.halted());
+    Ok(())
+}
+
+/// What has a text: each operation of a draft, which a reader reads again, an instruction, a stroke.
+fn texts() -> Result<(), Box<dyn Error>> {
+    let text = "labs 4095 0 15\nvctr 9 -1023 1023 15\nsvec 5 3 -3 0\ncallrom FFF\njumprom 00A\n\
+        call 65535\njump 5\nreturn\nhalt\n";
+    let draft: Draft = text.parse::<read::DraftText>()?.into();
+    assert!(draft.to_string() == text && draft.op(8).to_string() == "halt");
+    let ops = draft.into_iter().copied();
+    assert_eq!(ops.clone().collect::<Result<Draft, DraftFull>>()?, draft);
+    let many = ops.cycle();
+    assert_eq!(many.clone().take(511).collect::<Result<Draft, DraftFull>>()?.len(), 511);
+    assert_eq!(many.take(512).collect::<Result<Draft, DraftFull>>(), Err(DraftFull));
+    let wrong = "halt\nlabs 1\n".parse::<read::DraftText>().map(Draft::from);
+    assert_eq!(wrong, Err(read::TextFault::Syntax(2)));
+    let words = [0xAFFF, 0xF000, 0x97FF, 0xF7FF, 0xFA3F, 0xCABC, 0xE00D, 0xD000, 0xB000];
+    let (mut rest, mut listed) = (&words[..], std::vec::Vec::new());
+    while !rest.is_empty() {
+        let (code, count) = decode(rest)?;
+        listed.push(code.to_string());
+        rest = &rest[count..];
+    }
+    let wanted = "LABS 0 4095 15,VCTR 9 -1023 -1023 15,SVEC 5 -3 2 3,JSRL ABC,JMPL 00D,RTSL,HALT";
+    assert_eq!(listed.join(","), wanted);
+    let stroke = Stroke { x0: 2_097_151, y0: 0, x1: 12, y1: 345, z: 15 };
+    assert_eq!(stroke.to_string(), "2097151 0 12 345 15");
     Ok(())
 }
 
@@ -402,6 +469,8 @@ fn main() -> Result<(), Box<dyn Error>> {
     save()?;
     run_to_halt()?;
     take_strokes()?;
+    run_generator_to_halt()?;
+    texts()?;
     save_driver()?;
     refuse_states()?;
     assert!(all_names::draws_nothing()?.is_empty());

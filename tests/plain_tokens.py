@@ -69,7 +69,11 @@ KEPT = """
     enum Area, enum CodeFault, struct DraftFull, enum DriverFault, enum Event, enum GenFault,
     enum Half, enum Instr, enum Listed, enum MemFault, enum OpKind, struct OutOfMemory
 """
-KEPT = {tuple(item.split()) for item in KEPT.split(",")} | CHECKED.keys() | LOOKED_AT.keys()
+# The types to which a later version may add a variant, which serde writes and reads, too.
+GROWING = "enum DriverStateFault, enum GeneratorStateFault, enum WorldStateFault"
+GROWING = {tuple(item.split()) for item in GROWING.split(",")}
+KEPT = {tuple(item.split()) for item in KEPT.split(",")}
+KEPT |= CHECKED.keys() | LOOKED_AT.keys() | GROWING
 # How public functions begin that refuse by `false`.
 MUST_USE = words("#[must_use]")
 REFUSING = [words(head) for head in (
@@ -159,6 +163,7 @@ class Source:
         lines += SERDE if head in KEPT else ""
         lines += BY.format(CHECKED[head]) if head in CHECKED else ""
         lines += READ_BY.format(LOOKED_AT[head]) if head in LOOKED_AT else ""
+        lines += "#[non_exhaustive]" if head in GROWING else ""
         visibility = len(self.left) - len(self.visibility())
         self.left[visibility:visibility] = words(lines)
         self.left.append(self.tokens[self.at])

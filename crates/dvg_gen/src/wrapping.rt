@@ -118,6 +118,15 @@ impl<A: Allocator + Copy> WrappingGenerator<A> {
         self.generator.take_picture()
     }
 
+    /// Takes out the strokes that the open run drew so far, as `Generator::take_strokes` does.
+    pub fn take_strokes(&mut self) -> Vec<Stroke, A>
+        ensures taken { result.items ≡ self.old.machine.strokes }
+        ensures left { self.new
+            ≡ record self.old { machine = record self.old.machine { strokes = [] } } }
+    {
+        self.generator.take_strokes()
+    }
+
     /// Returns all that the generator keeps but its strokes and its picture. The return addresses
     /// are the four registers, the newest last.
     pub fn state(&self) -> GeneratorState

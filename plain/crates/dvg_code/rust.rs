@@ -1,7 +1,8 @@
-//! What Rust's users have beside the sources: conversions, and the digest of saved states. By hand;
-//! tested, not proved.
+//! What Rust's users have beside the sources: conversions, instructions as texts, and the digest of
+//! saved states. By hand; tested, not proved.
 use crate::code::Code;
 use crate::instr::Instr;
+use core::fmt::{self, Display, Formatter};
 use thiserror::Error;
 
 /// A field of an instruction is out of its range.
@@ -21,6 +22,28 @@ impl TryFrom<Instr> for Code {
 impl From<Code> for Instr {
     fn from(code: Code) -> Instr {
         code.instr()
+    }
+}
+
+/// As `dvg list` has it behind its address.
+impl Display for Instr {
+    fn fmt(&self, f: &mut Formatter<'_>) -> fmt::Result {
+        match *self {
+            Instr::Vctr { scale, dx, dy, z } => write!(f, "VCTR {scale} {dx} {dy} {z}"),
+            Instr::Svec { scale, dx, dy, z } => write!(f, "SVEC {scale} {dx} {dy} {z}"),
+            Instr::Labs { x, y, scale } => write!(f, "LABS {x} {y} {scale}"),
+            Instr::Jsrl(address) => write!(f, "JSRL {address:03X}"),
+            Instr::Jmpl(address) => write!(f, "JMPL {address:03X}"),
+            Instr::Rtsl => f.write_str("RTSL"),
+            Instr::Halt => f.write_str("HALT"),
+        }
+    }
+}
+
+/// As its instruction.
+impl Display for Code {
+    fn fmt(&self, f: &mut Formatter<'_>) -> fmt::Result {
+        Display::fmt(&self.instr(), f)
     }
 }
 

@@ -1,9 +1,12 @@
-//! What Rust's users have beside the sources: conversions, defaults, drafts as serde writes and reads
-//! them, and what it reads of faults and places, looked at. By hand; tested, not proved.
+//! What Rust's users have beside the sources: conversions, defaults, drafts as texts and as serde
+//! writes and reads them, and what it reads of faults and places, looked at. By hand; tested, not
+//! proved.
 use crate::checking::Checker;
 use crate::draft::{Draft, DraftFull};
 use crate::op::{Op, OpKind};
+use core::fmt::{self, Display, Formatter};
 use core::slice;
+use dvg_code::Instr;
 use thiserror::Error;
 
 /// No draft may hold this: it draws another instruction than a VCTR, an SVEC or a LABS, or names an
@@ -42,6 +45,42 @@ impl TryFrom<&[Op]> for Draft {
         let mut draft = Draft::new();
         draft.try_extend_from_slice(ops)?;
         Ok(draft)
+    }
+}
+
+/// A draft of these operations. `DraftFull` where they are more than 511.
+impl FromIterator<Op> for Result<Draft, DraftFull> {
+    fn from_iter<I: IntoIterator<Item = Op>>(ops: I) -> Result<Draft, DraftFull> {
+        let mut draft = Draft::new();
+        ops.into_iter().try_for_each(|op| draft.push(op).map(|_| ()))?;
+        Ok(draft)
+    }
+}
+
+/// As its line in a draft.
+impl Display for Op {
+    fn fmt(&self, f: &mut Formatter<'_>) -> fmt::Result {
+        match self.kind() {
+            OpKind::Draw(code) => match code.instr() {
+                Instr::Vctr { scale, dx, dy, z } => write!(f, "vctr {scale} {dx} {dy} {z}"),
+                Instr::Svec { scale, dx, dy, z } => write!(f, "svec {scale} {dx} {dy} {z}"),
+                Instr::Labs { x, y, scale } => write!(f, "labs {x} {y} {scale}"),
+                _ => unreachable!("no operation draws by another instruction"),
+            },
+            OpKind::CallRom(address) => write!(f, "callrom {address:03X}"),
+            OpKind::JumpRom(address) => write!(f, "jumprom {address:03X}"),
+            OpKind::Call(op) => write!(f, "call {op}"),
+            OpKind::Jump(op) => write!(f, "jump {op}"),
+            OpKind::Return => f.write_str("return"),
+            OpKind::Halt => f.write_str("halt"),
+        }
+    }
+}
+
+/// As a text that `dvg check` reads: a line for each operation.
+impl Display for Draft {
+    fn fmt(&self, f: &mut Formatter<'_>) -> fmt::Result {
+        self.into_iter().try_for_each(|op| writeln!(f, "{op}"))
     }
 }
 

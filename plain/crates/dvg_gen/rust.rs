@@ -1,9 +1,12 @@
-//! What Rust's users have beside the sources: defaults, a refusal as an error, a saved state as bytes
-//! and why bytes are none, what serde reads and writes of a state, and reads of strokes, moves, the
-//! beam and counters, looked at. By hand; tested, not proved.
+//! What Rust's users have beside the sources: defaults, a refusal as an error, a stroke as a text, a
+//! run to its end, a saved state as bytes and why bytes are none, what serde reads and writes of a
+//! state, and reads of strokes, moves, the beam and counters, looked at. By hand; tested, not
+//! proved.
 use crate::generator::Generator;
 use crate::state::{GeneratorRefused, GeneratorState};
 use crate::stroke::Stroke;
+use crate::taken::Step;
+use crate::wrapping::WrappingGenerator;
 use arrayvec::ArrayVec;
 use core::error::Error as Fault;
 use core::fmt::{self, Debug, Display, Formatter};
@@ -14,6 +17,7 @@ use thiserror::Error;
 
 /// Why bytes aren't restored.
 #[derive(Clone, Copy, Debug, PartialEq, Eq, Hash, Error)]
+#[cfg_attr(feature = "serde", derive(serde::Serialize, serde::Deserialize))]
 #[non_exhaustive]
 pub enum StateFault {
     /// They are no saved state, or one that was cut or changed.
@@ -120,6 +124,61 @@ impl<A: Allocator> Display for GeneratorRefused<A> {
 }
 
 impl<A: Allocator + Debug> Fault for GeneratorRefused<A> {}
+
+/// As `dvg play` writes it: from x0, y0 to x1, y1, and its intensity.
+impl Display for Stroke {
+    fn fmt(&self, f: &mut Formatter<'_>) -> fmt::Result {
+        let Stroke { x0, y0, x1, y1, z } = self;
+        write!(f, "{x0} {y0} {x1} {y1} {z}")
+    }
+}
+
+impl<A: Allocator + Copy> Generator<A> {
+    /// Lets the open run go on until it ends, `most_words` words at most. `byte_at` returns the byte
+    /// at an address: twice that of its word, and 1 more for the high one; `None` where no memory
+    /// answers. Returns the last step: `Done`, `Broke`, or another one if the run didn't end within
+    /// these words; `None` if no run is open, or for no word. Returns `OutOfMemory` where a step is
+    /// refused memory: the same byte is still wanted.
+    pub fn run_to_halt(
+        &mut self,
+        most_words: u32,
+        byte_at: impl FnMut(u16) -> Option<u8>,
+    ) -> Result<Option<Step>, OutOfMemory> {
+        run_to_halt(self, |it| it, Generator::feed, most_words, byte_at)
+    }
+}
+
+impl<A: Allocator + Copy> WrappingGenerator<A> {
+    /// As `Generator::run_to_halt`.
+    pub fn run_to_halt(
+        &mut self,
+        most_words: u32,
+        byte_at: impl FnMut(u16) -> Option<u8>,
+    ) -> Result<Option<Step>, OutOfMemory> {
+        run_to_halt(self, |it| it.generator(), WrappingGenerator::feed, most_words, byte_at)
+    }
+}
+
+/// Lets `it`, which has this generator and is fed so, go on as `Generator::run_to_halt` does.
+fn run_to_halt<T, A: Allocator + Copy>(
+    it: &mut T,
+    generator: impl Fn(&T) -> &Generator<A>,
+    feed: impl Fn(&mut T, Option<u8>) -> Result<Step, OutOfMemory>,
+    most_words: u32,
+    mut byte_at: impl FnMut(u16) -> Option<u8>,
+) -> Result<Option<Step>, OutOfMemory> {
+    let (mut last, mut words) = (None, 0);
+    while words < most_words {
+        let Some(address) = generator(it).wants() else {
+            break;
+        };
+        let byte = byte_at(2 * address + u16::from(generator(it).wants_high()));
+        let step = feed(it, byte)?;
+        words += u32::from(step != Step::Low);
+        last = Some(step);
+    }
+    Ok(last)
+}
 
 /// The number of the request that tells a part of a state: the lowest byte of each part.
 const TELLS: u64 = 35;

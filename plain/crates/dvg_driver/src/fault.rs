@@ -16,6 +16,8 @@ pub enum DriverFault {
 
 /// Why a driver isn't resumed: which parts of the state don't fit together, over its ROM.
 #[derive(Clone, Copy, Debug, PartialEq, Eq, Error, Hash)]
+#[cfg_attr(feature = "serde", derive(serde::Serialize, serde::Deserialize))]
+#[non_exhaustive]
 pub enum DriverStateFault {
     /// It has flipped and can't have in its phase, or the other way round.
     #[error("whether the driver has flipped doesn't fit what it does")]

@@ -62,6 +62,8 @@ impl GeneratorState {
 
 /// Why a generator isn't resumed.
 #[derive(Clone, Copy, Debug, PartialEq, Eq, Error, Hash)]
+#[cfg_attr(feature = "serde", derive(serde::Serialize, serde::Deserialize))]
+#[non_exhaustive]
 pub enum GeneratorStateFault {
     /// No generator of this kind can be in that state.
     #[error("no generator can be in that state")]

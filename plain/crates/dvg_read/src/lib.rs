@@ -29,3 +29,6 @@ pub use rom_line::{RomWords, put_word, read_rom_parts};
 pub use rom_text::fill_with_returns;
 pub use text_lines::{TextLines, is_passed};
 pub use trace_text::{TraceText, read_trace};
+
+#[path = "../rust.rs"]
+mod rust;

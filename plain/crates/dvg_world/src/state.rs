@@ -26,6 +26,8 @@ pub struct WorldState<A: Allocator = Global> {
 
 /// Why a world isn't resumed: which parts of the state don't fit, over its ROM.
 #[derive(Clone, Copy, Debug, PartialEq, Eq, Error, Hash)]
+#[cfg_attr(feature = "serde", derive(serde::Serialize, serde::Deserialize))]
+#[non_exhaustive]
 pub enum WorldStateFault {
     /// No generator goes on in its state, with the strokes.
     #[error("the generator isn't resumed: {0}")]
